@@ -1,12 +1,12 @@
 // SPDX-License-Identifier: MIT OR Apache-2.0
 //! Replies in registers.
 ghost use Rattle.std.specs.Prelude.{◌≡◌};
-ghost use Rattle.ffa_model.specs.Bits.{word_of_two};
+ghost use Rattle.ffa_model.specs.Bits.{bits, word_of_two};
 ghost use Rattle.ffa_model.specs.Calls.{code_number, encode};
 ghost use Rattle.ffa_model.specs.declared.call.Reply.{Reply};
 
 use ffa_model::function::{FFA_ERROR, FFA_MEM_RETRIEVE_RESP, FFA_SUCCESS};
-use ffa_model::{DirectMessage, EndpointId, ErrorCode, Reply};
+use ffa_model::{DirectMessage, EndpointId, ErrorCode, Handle, Reply};
 
 // FF-A's number of a code, as 32 bits of two's complement (DEN0077A, 11.2).
 fn code_number(code: ErrorCode) -> u32
@@ -27,6 +27,46 @@ fn success(results: [u32; 6]) -> [u64; 8]
 {
     let [w2, w3, w4, w5, w6, w7] = results.map(u64::from);
     [u64::from(FFA_SUCCESS), 0, w2, w3, w4, w5, w6, w7]
+}
+
+// The low half of a word.
+fn low_word(word: u64) -> u64
+    ensures { result ≡ bits 31 0 word }
+{
+    word % 0x1_0000_0000
+}
+
+// The high half of a word.
+fn high_word(word: u64) -> u64
+    ensures { result ≡ bits 63 32 word }
+{
+    word / 0x1_0000_0000
+}
+
+// The registers of FFA_SUCCESS with a handle.
+fn sent(handle: Handle) -> [u64; 8]
+    ensures { result ≡ encode (Reply.Sent handle) }
+{
+    let (low, high) = (low_word(handle.0), high_word(handle.0));
+    [u64::from(FFA_SUCCESS), 0, low, high, 0, 0, 0, 0]
+}
+
+// The registers of FFA_SUCCESS with bitmaps of pending notifications.
+fn pending(partitions: u64, normal_world: u64, manager: u64) -> [u64; 8]
+    ensures { result ≡ encode (Reply.Pending partitions normal_world manager) }
+{
+    let (w2, w3) = (low_word(partitions), high_word(partitions));
+    let (w4, w5) = (low_word(normal_world), high_word(normal_world));
+    [
+        u64::from(FFA_SUCCESS),
+        0,
+        w2,
+        w3,
+        w4,
+        w5,
+        low_word(manager),
+        0,
+    ]
 }
 
 // The registers of a direct message, as its receiver sees it.
@@ -65,6 +105,12 @@ pub fn encode(reply: &Reply) -> [u64; 8]
             [u64::from(FFA_ERROR), 0, w2, 0, 0, 0, 0, 0]
         }
         Reply::Success(results) => success(results),
+        Reply::Sent(handle) => sent(handle),
+        Reply::Pending {
+            partitions,
+            normal_world,
+            manager,
+        } => pending(partitions, normal_world, manager),
         Reply::Passed(message) => passed(&message),
         Reply::Scheduled {
             function,

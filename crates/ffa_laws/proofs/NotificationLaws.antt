@@ -11,9 +11,9 @@ use Rattle.std.proofs.lemmas.Bool.{cases_Bool, and_parts, eq-eqb, eqb-true, fals
 use Rattle.std.proofs.lemmas.Bool.Decides.{nat_tests}
 use Rattle.std.proofs.lemmas.List.{set-get_or}
 use Rattle.ffa_model.specs.declared.call.Reply.{Reply}
-use Rattle.ffa_model.specs.declared.call.Reply.TheVariants.{Success}
+use Rattle.ffa_model.specs.declared.call.Reply.TheVariants as replies
 use Rattle.ffa_model.specs.declared.call.NotificationBits.{NotificationBits}
-use Rattle.ffa_model.specs.Bits.{bits, bits_of, is_set, word_where}
+use Rattle.ffa_model.specs.Bits.{bits_of, is_set, word_where}
 use Rattle.ffa_model.specs.Lists.{listed, map_at}
 use Rattle.ffa_model.specs.Identifiers.{identifier}
 use Rattle.ffa_model.specs.State.{State, is_known, is_known_among}
@@ -214,14 +214,9 @@ module _ (s : State) (steady : IsSteady s) where
 
   abbrev reply_by : ℕ → (ℕ → ℕ → Bool) → Reply
   reply_by flags p =
-      Success (
-      bits 31 0 (cond (is_set partition_class flags) (word_where 64 (p partition_class)) 0)
-      ∷ bits 63 32 (cond (is_set partition_class flags) (word_where 64 (p partition_class)) 0)
-      ∷ bits 31 0 (cond (is_set normal_class flags) (word_where 64 (p normal_class)) 0)
-      ∷ bits 63 32 (cond (is_set normal_class flags) (word_where 64 (p normal_class)) 0)
-      ∷ bits 31 0 (cond (is_set manager_class flags) (word_where 64 (p manager_class)) 0)
-      ∷ 0
-      ∷ [])
+      replies.Pending (cond (is_set partition_class flags) (word_where 64 (p partition_class)) 0)
+      (cond (is_set normal_class flags) (word_where 64 (p normal_class)) 0)
+      (cond (is_set manager_class flags) (word_where 64 (p manager_class)) 0)
 
   pub own-get : (receiver context flags : ℕ) → IsOwn s (notification_get v receiver context flags) (notification_get s receiver context flags)
   own-get receiver context flags = (

@@ -4,6 +4,7 @@ use Rattle.std.specs.Prelude.{◌≡◌, ◌≢◌, ℕ, ◌==◌, true, false, 
 use Rattle.std.specs.List.{list_all}
 use Rattle.ffa_model.specs.declared.operation.Op.{Op}
 use Rattle.ffa_model.specs.declared.operation.Op.TheVariants.{Call, Load, Store, Fetch}
+use Rattle.ffa_model.specs.Numbers.{Identifier}
 use Rattle.ffa_model.specs.Rights.{is_within, may_store}
 use Rattle.ffa_model.specs.SoundState.{IsSoundState}
 use Rattle.ffa_model.specs.State.{State, owner_of, is_known}
@@ -20,26 +21,28 @@ use Rattle.ffa_laws.specs.Silence.{AreBare, AreMet, AreNews, may_be_told, may_ch
 use Rattle.ffa_laws.specs.Writers.{is_filled_by, is_reclaimed_by}
 
 -- what an operation of e, which doesn't run, tells f: a call nothing, and an access what it tells where e runs
-abbrev pub events_elsewhere : ℕ → State → ℕ → Op → List Event
+abbrev pub events_elsewhere : Identifier → State → Identifier → Op → List Event
 events_elsewhere f s e (Call x) = []
 events_elsewhere f s e (Load addr size) = events f (as_run_by e s) (Load addr size)
 events_elsewhere f s e (Store addr size value) = events f (as_run_by e s) (Store addr size value)
 events_elsewhere f s e (Fetch addr) = events f (as_run_by e s) (Fetch addr)
 
 -- what an operation of e tells f
-abbrev pub events_as : ℕ → State → ℕ → Op → List Event
+abbrev pub events_as : Identifier → State → Identifier → Op → List Event
 events_as f s e op = if s.runner == e then events f s op else events_elsewhere f s e op
 
 -- One operation of e: what another endpoint learns is in its events, and e's outcome and its view afterwards depend on its
 -- view before alone, which says who runs.
 pub record OneStepAs (s : State) (e : ℕ) (op : Op) : Type 0 where
-  pub others : (f : ℕ) → is_known s f ≡ true → e ≢ f → view f (step_as s e op).state ≡ apply_all f (view f s) (events_as f s e op)
+  pub others : (f : ℕ) → is_known s f ≡ true → e ≢ f
+      → view f (step_as s e op).state ≡ apply_all f (view f s) (events_as f s e op)
   pub outcome : (t : State) → IsSteady t → view e t ≡ view e s → (step_as t e op).outcome ≡ (step_as s e op).outcome
-  pub own : (t : State) → IsSteady t → view e t ≡ view e s → view e (step_as t e op).state ≡ view e (step_as s e op).state
+  pub own : (t : State) → IsSteady t → view e t ≡ view e s
+      → view e (step_as t e op).state ≡ view e (step_as s e op).state
 
 -- The bytes of a page that its owner has alone stay while another endpoint acts, but for a message of the runner into the
 -- owner's RX.
-abbrev pub IntegrityAs : State → ℕ → Op → Type 0
+abbrev pub IntegrityAs : State → Identifier → Op → Type 0
 IntegrityAs s e op =
     (f p : ℕ) → owner_of s p ≡ f → handle_at s p ≡ None → e ≢ f
     → (s.runner == e && is_indirect_message op && fills_rx_page s f p) ≡ false
@@ -51,12 +54,14 @@ IntegrityAs s e op =
 pub record OwnAccessAs (s : State) (e : ℕ) (op : Op) : Type 0 where
   pub elsewhere : s.runner ≢ e → (f p : ℕ) → access (step_as s e op).state f p ≡ access s f p
   pub others : (f p : ℕ) → e ≢ f → access (step_as s e op).state f p ≡ access s f p
-  pub grows : (p : ℕ) → is_call gives_access op ≡ false → is_within (access (step_as s e op).state e p) (access s e p) ≡ true
-  pub shrinks : (p : ℕ) → is_call takes_access op ≡ false → is_within (access s e p) (access (step_as s e op).state e p) ≡ true
+  pub grows : (p : ℕ) → is_call gives_access op ≡ false
+      → is_within (access (step_as s e op).state e p) (access s e p) ≡ true
+  pub shrinks : (p : ℕ) → is_call takes_access op ≡ false
+      → is_within (access s e p) (access (step_as s e op).state e p) ≡ true
 
 -- The bytes of a page stay where e may not write to it before, but for what a call of the runner may write besides: a page
 -- that it reclaims and may write to after, and its receiver's RX.
-abbrev pub OnlyWritersAs : State → ℕ → Op → Type 0
+abbrev pub OnlyWritersAs : State → Identifier → Op → Type 0
 OnlyWritersAs s e op =
     (p : ℕ) → may_store (access s e p) ≡ false
     → (s.runner == e && is_reclaimed_by op s p) ≡ false → (s.runner == e && is_filled_by op s p) ≡ false
@@ -66,7 +71,8 @@ OnlyWritersAs s e op =
 -- told changes its view, is about something in it, and goes into it whole, as it is of a step.
 pub record SilenceAs (s : State) (e : ℕ) (op : Op) : Type 0 where
   pub rows : (f : ℕ) → list_all (may_be_told op) (events_as f s e op) ≡ true
-  pub public : (s.runner == e && is_call may_change_public op) ≡ false → public_part (step_as s e op).state ≡ public_part s
+  pub public : (s.runner == e && is_call may_change_public op) ≡ false
+      → public_part (step_as s e op).state ≡ public_part s
   pub news : (f : ℕ) → is_known s f ≡ true → e ≢ f → AreNews f (view f s) (events_as f s e op)
   pub meets : IsSoundState s → (f : ℕ) → is_known s f ≡ true → e ≢ f → AreMet f (view f s) (events_as f s e op)
   pub bare : (f : ℕ) → is_known s f ≡ true → e ≢ f → AreBare f (view f s) (events_as f s e op)
@@ -75,7 +81,8 @@ pub record SilenceAs (s : State) (e : ℕ) (op : Op) : Type 0 where
 -- read the same, if what becomes readable to it is the same, or if it may give no access. And what another endpoint can read
 -- changes by what is told to it readably alone. This is of states in which nobody is offered what it sent itself.
 pub record ConfidentialAs (s : State) (e : ℕ) (op : Op) : Type 0 where
-  pub outcome : (t : State) → IsSteady t → readable e t ≡ readable e s → (step_as t e op).outcome ≡ (step_as s e op).outcome
+  pub outcome : (t : State) → IsSteady t → readable e t ≡ readable e s
+      → (step_as t e op).outcome ≡ (step_as s e op).outcome
   pub own :
       (t : State) → IsSteady t → readable e t ≡ readable e s
       → revealed e t (step_as t e op).state ≡ revealed e s (step_as s e op).state

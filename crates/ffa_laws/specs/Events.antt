@@ -21,6 +21,7 @@ use Rattle.ffa_model.specs.declared.operation.Outcome.{Outcome}
 use Rattle.ffa_model.specs.declared.operation.Outcome.TheVariants.{Regs}
 use Rattle.ffa_model.specs.declared.call.Call as calls
 use Rattle.ffa_model.specs.declared.call.Call.TheVariants.{MsgWait, Yield, Run, DirectRequest, DirectResponse, MemDonate, MemLend, MemShare, MemRetrieve, MemRelinquish, MemReclaim, BitmapDestroy, NotificationBind, NotificationUnbind, NotificationSet, MsgSend2}
+use Rattle.ffa_model.specs.Numbers.{HandleNumber, Identifier}
 use Rattle.ffa_model.specs.Bits.{bits_of}
 use Rattle.ffa_model.specs.Lists.{listed, map_at}
 use Rattle.ffa_model.specs.Registers.{decode}
@@ -42,7 +43,7 @@ use Rattle.ffa_laws.specs.View.{involves, is_near, kept}
 
 -- what everyone may know: who runs, each status and work, and of mapped buffers how many pages they have and whether RX is full
 pub record PublicPart : Type 0 where
-  pub runner : ℕ
+  pub runner : Identifier
   pub statuses : List Status
   pub works : List (Option Work)
   pub buffers : List (Option (ℕ × Bool))
@@ -91,28 +92,28 @@ named_pages s ranges = map_at (λ p page. kept (names s ranges p) page) s.pages
 abbrev pub pages_with : State → List Range → List (Option Page) → List (Option Page)
 pages_with v ranges pages = map_at (λ p page. if names v ranges p then slice_index_or pages p None else page) v.pages
 
-abbrev pub with_opened : State → ℕ → Transaction → List (Option Page) → State
+abbrev pub with_opened : State → HandleNumber → Transaction → List (Option Page) → State
 with_opened v h t pages =
     record v { pages = pages_with v t.ranges pages; transactions = map_of.insert v.transactions h t }
 
 -- an endpoint holds a right, or nothing
-abbrev pub with_held : Transaction → ℕ → Option Rights → Transaction
+abbrev pub with_held : Transaction → Identifier → Option Rights → Transaction
 with_held t f None = not_holding t f
 with_held t f (Some right) = holding t f right
 
-abbrev pub with_holder : State → ℕ → ℕ → Option Rights → Option Transaction → State
+abbrev pub with_holder : State → HandleNumber → Identifier → Option Rights → Option Transaction → State
 with_holder v h f right None = v
 with_holder v h f right (Some t) = with_open v (with_transaction (open_of v) h (with_held t f right))
 
 -- a transaction and its pages leave
-abbrev pub without : State → ℕ → State
+abbrev pub without : State → HandleNumber → State
 without v h =
     record v {
       pages = changed_pages v (named_ranges (transaction_of v h)) (λ page. None);
       transactions = map_of.remove v.transactions h;
     }
 
-abbrev pub apply : ℕ → State → Event → State
+abbrev pub apply : Identifier → State → Event → State
 apply e v (Wrote address bytes) = stored v address bytes
 apply e v (Message x) = v
 apply e v (Filled bytes) = record v { pages = filled_pages v.pages bytes (buffers_of v e) }
@@ -125,7 +126,7 @@ apply e v (Zeroed h) = with_pages v (named_ranges (transaction_of v h)) zeroed_p
 apply e v (Closed h) = without v h
 apply e v (Public values) = with_public v values
 
-abbrev pub apply_all : ℕ → State → List Event → State
+abbrev pub apply_all : Identifier → State → List Event → State
 apply_all e v [] = v
 apply_all e v (event ∷ events) = apply_all e (apply e v event) events
 
@@ -141,70 +142,70 @@ where_passed None events = events
 where_passed (Some failure) events = []
 
 -- a store into a page that e knows
-abbrev pub writes : ℕ → State → ℕ → List ℕ → List Event
+abbrev pub writes : Identifier → State → ℕ → List ℕ → List Event
 writes e s address bytes = where_true (is_near e s ((address - s.ram_base) / 4096)) (Wrote address bytes ∷ [])
 
 -- a call after which e runs
-abbrev pub switches : ℕ → Service → List Event
-switches e c = where_true (c.state.runner == e) (Message (encode c.reply) ∷ [])
+abbrev pub switches : Identifier → Service → List Event
+switches e service = where_true (service.state.runner == e) (Message (encode service.reply) ∷ [])
 
 -- an indirect message to e
-abbrev pub delivers : ℕ → State → List ℕ → List Event
+abbrev pub delivers : Identifier → State → List ℕ → List Event
 delivers e s tx =
     where_true ((header_in tx).receiver == e)
     (Filled (message_in tx) ∷ where_true (has_bitmaps_in (notifications_of s) e) (Pending manager_class message_bits ∷ []))
 
 -- a send to e, with the pages after it
-abbrev pub opens : ℕ → State → Kind → Option SendRecord → List Event
+abbrev pub opens : Identifier → State → Kind → Option SendRecord → List Event
 opens e s kind None = []
 opens e s kind (Some r) =
     where_true (is_receiver e (transaction_from kind r))
     (Opened (next_handle (open_of s) s.runner) (transaction_from kind r) (named_pages (memory_sent s kind (Some r)) r.ranges) ∷ [])
 
 -- the runner takes what e sent
-abbrev pub taking : Kind → ℕ → ℕ → Rights → Event
+abbrev pub taking : Kind → HandleNumber → Identifier → Rights → Event
 taking Donate h f right = Closed h
 taking Lend h f right = Held h f (Some right)
 taking Share h f right = Held h f (Some right)
 
-abbrev pub takes_from : ℕ → State → RetrieveDesc → Option Transaction → List Event
+abbrev pub takes_from : Identifier → State → RetrieveDesc → Option Transaction → List Event
 takes_from e s d None = []
 takes_from e s d (Some t) =
     where_true (t.sender == e) (taking t.kind d.handle s.runner (right_for (own_rights_of s) t s.runner d) ∷ [])
 
-abbrev pub takes : ℕ → State → Option RetrieveDesc → List Event
+abbrev pub takes : Identifier → State → Option RetrieveDesc → List Event
 takes e s None = []
 takes e s (Some d) = takes_from e s d (transaction_of s d.handle)
 
 -- the runner gives up what e sent, and zeroes what e sent or is offered
-abbrev pub releases : ℕ → State → Option RelinquishDesc → List Event
+abbrev pub releases : Identifier → State → Option RelinquishDesc → List Event
 releases e s None = []
 releases e s (Some d) =
     where_true (is_from e (transaction_of s d.handle)) (Held d.handle s.runner None ∷ [])
     ++ where_true (d.zero && involves e (transaction_of s d.handle)) (Zeroed d.handle ∷ [])
 
 -- the runner ends what e was offered
-abbrev pub closes : ℕ → State → ℕ → List Event
+abbrev pub closes : Identifier → State → HandleNumber → List Event
 closes e s h = where_true (is_offered e (transaction_of s h)) (Closed h ∷ [])
 
 -- the receiver binds bits to e, of which some were bound to it before
-abbrev pub binds : ℕ → State → ℕ → ℕ → List ℕ → List Event
+abbrev pub binds : Identifier → State → Identifier → Identifier → List ℕ → List Event
 binds e s receiver sender ks =
     where_true (sender == e)
     (map (λ k. Bound receiver (class_of e) k) (filter (λ k. not (is_bound (notifications_of s) receiver (class_of e) k e)) ks))
 
 -- the receiver takes bits away from e that it has
-abbrev pub unbinds : ℕ → State → ℕ → ℕ → List ℕ → List Event
+abbrev pub unbinds : Identifier → State → Identifier → Identifier → List ℕ → List Event
 unbinds e s receiver sender ks =
     where_true (sender == e)
     (map (λ k. Unbound receiver (class_of e) k) (filter (λ k. is_bound (notifications_of s) receiver (class_of e) k e) ks))
 
 -- the runner makes bits of e pending
-abbrev pub sets : ℕ → State → ℕ → List ℕ → List Event
+abbrev pub sets : Identifier → State → Identifier → List ℕ → List Event
 sets e s receiver ks = where_true (receiver == e) (Pending (class_of s.runner) ks ∷ [])
 
 -- what a call that nothing refuses tells e besides the public part; those that are not listed tell nothing
-abbrev pub told_by : ℕ → State → calls.Call → List Event
+abbrev pub told_by : Identifier → State → calls.Call → List Event
 told_by e s MsgWait = switches e (msg_wait s)
 told_by e s Yield = switches e (yield_now s)
 told_by e s (Run target context) = switches e (run_partition s target.0 context)
@@ -244,12 +245,12 @@ abbrev pub public_change : State → State → List Event
 public_change s next = if is_same_public (public_part s) (public_part next) then [] else Public (public_part next) ∷ []
 
 -- what a call of another endpoint tells e
-abbrev pub call_events : ℕ → State → calls.Call → List Event
+abbrev pub call_events : Identifier → State → calls.Call → List Event
 call_events e s call =
     where_passed (first_failure (service s call).guards) (told_by e s call) ++ public_change s (serve s call).state
 
 -- what an operation of another endpoint tells e
-abbrev pub events : ℕ → State → Op → List Event
+abbrev pub events : Identifier → State → Op → List Event
 events e s (Call x) = call_events e s (decode x)
 events e s (Load addr size) = []
 events e s (Store addr size value) =
@@ -263,22 +264,22 @@ pub data Item : Type 0 where
   Told : (event : Event) → Item
 
 -- e's own operations and the events towards e, in order
-abbrev pub items : ℕ → State → List Op → List Item
+abbrev pub items : Identifier → State → List Op → List Item
 items e s [] = []
 items e s (op ∷ ops) =
     (if s.runner == e then Own op ∷ [] else map (λ event. Told event) (events e s op)) ++ items e (step s op).state ops
 
 -- the registers of a message to e
-abbrev pub message : ℕ → Event → List Outcome
+abbrev pub message : Identifier → Event → List Outcome
 message e (Message x) = Regs (record { 0 = e }) x ∷ []
 message e event = []
 
-abbrev pub messages : ℕ → List Event → List Outcome
+abbrev pub messages : Identifier → List Event → List Outcome
 messages e [] = []
 messages e (event ∷ events) = message e event ++ messages e events
 
 -- the outcomes of e's operations, and the registers by which another's operation made e run
-abbrev pub seen : ℕ → State → List Op → List Outcome
+abbrev pub seen : Identifier → State → List Op → List Outcome
 seen e s [] = []
 seen e s (op ∷ ops) =
     (if s.runner == e then (step s op).outcome ∷ [] else messages e (events e s op)) ++ seen e (step s op).state ops

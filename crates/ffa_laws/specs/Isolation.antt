@@ -2,6 +2,7 @@
 -- The laws over the small machine: isolation, rights that never grow, integrity.
 use Rattle.std.specs.Prelude.{◌≡◌, ◌≢◌, ℕ, ◌==◌, Bool, true, false, ◌&&◌, List, [], ◌∷◌, ◌++◌, Option, None, is_none, is_some, if◌then◌else◌}
 use Rattle.std.specs.Option.{option_map_or}
+use Rattle.ffa_model.specs.Numbers.{Identifier, PageIndex}
 use Rattle.ffa_model.specs.Lists.{is_in_run}
 use Rattle.ffa_model.specs.Transactions.{own_right_of}
 use Rattle.ffa_model.specs.declared.operation.Op.{Op}
@@ -27,15 +28,20 @@ use Rattle.ffa_laws.specs.Events.{apply_all, call_events, events, items, seen}
 -- One call: what another endpoint learns is in its events, and the runner's outcome and its view afterwards depend on its
 -- view before alone.
 pub record OneCall (s : State) (call : calls.Call) : Type 0 where
-  pub others : (e : ℕ) → is_known s e ≡ true → s.runner ≢ e → view e (serve s call).state ≡ apply_all e (view e s) (call_events e s call)
-  pub outcome : (t : State) → IsSteady t → view s.runner t ≡ view s.runner s → (serve t call).outcome ≡ (serve s call).outcome
-  pub own : (t : State) → IsSteady t → view s.runner t ≡ view s.runner s → view s.runner (serve t call).state ≡ view s.runner (serve s call).state
+  pub others : (e : ℕ) → is_known s e ≡ true → s.runner ≢ e
+      → view e (serve s call).state ≡ apply_all e (view e s) (call_events e s call)
+  pub outcome : (t : State) → IsSteady t → view s.runner t ≡ view s.runner s
+      → (serve t call).outcome ≡ (serve s call).outcome
+  pub own : (t : State) → IsSteady t → view s.runner t ≡ view s.runner s
+      → view s.runner (serve t call).state ≡ view s.runner (serve s call).state
 
 -- one operation, alike
 pub record OneStep (s : State) (op : Op) : Type 0 where
-  pub others : (e : ℕ) → is_known s e ≡ true → s.runner ≢ e → view e (step s op).state ≡ apply_all e (view e s) (events e s op)
+  pub others : (e : ℕ) → is_known s e ≡ true → s.runner ≢ e
+      → view e (step s op).state ≡ apply_all e (view e s) (events e s op)
   pub outcome : (t : State) → IsSteady t → view s.runner t ≡ view s.runner s → (step t op).outcome ≡ (step s op).outcome
-  pub own : (t : State) → IsSteady t → view s.runner t ≡ view s.runner s → view s.runner (step t op).state ≡ view s.runner (step s op).state
+  pub own : (t : State) → IsSteady t → view s.runner t ≡ view s.runner s
+      → view s.runner (step t op).state ≡ view s.runner (step s op).state
 
 -- who runs after an outcome
 abbrev pub runner_after : ℕ → Outcome → ℕ
@@ -45,10 +51,11 @@ runner_after r Done = r
 runner_after r (Fault fault) = r
 
 -- of the outcomes of a run that r begins, those of e's operations and those that make e run
-abbrev pub shown_to : ℕ → ℕ → List Outcome → List Outcome
+abbrev pub shown_to : Identifier → ℕ → List Outcome → List Outcome
 shown_to e r [] = []
 shown_to e r (outcome ∷ rest) =
-    (if r == e then outcome ∷ [] else if runner_after r outcome == e then outcome ∷ [] else []) ++ shown_to e (runner_after r outcome) rest
+    (if r == e then outcome ∷ [] else if runner_after r outcome == e then outcome ∷ [] else [])
+    ++ shown_to e (runner_after r outcome) rest
 
 -- what e sees of a run is in the outcomes that the run fills in
 abbrev pub Shown : State → List Op → Type 0
@@ -58,7 +65,8 @@ Shown s ops = (e : ℕ) → shown_to e s.runner (outcomes s ops) ≡ seen e s op
 -- it alone
 abbrev pub Isolated : State → List Op → Type 0
 Isolated s ops =
-    (e : ℕ) (t : State) (others : List Op) → is_known s e ≡ true → IsSteady t → view e t ≡ view e s → items e t others ≡ items e s ops
+    (e : ℕ) (t : State) (others : List Op) → is_known s e ≡ true → IsSteady t → view e t ≡ view e s
+    → items e t others ≡ items e s ops
     → (seen e t others ≡ seen e s ops) × (view e (state_after t others) ≡ view e (state_after s ops))
 
 -- RIGHTS THAT NEVER GROW
@@ -71,7 +79,8 @@ pub record NeverGrow (s t : State) : Type 0 where
   pub own_right : (p : ℕ) → is_within (own_right_of t p) (own_right_of s p) ≡ true
   pub within : (e p : ℕ) → is_within (access t e p) (own_right_of t p) ≡ true
   pub manager : (p : ℕ) → page_at s p ≡ None → page_at t p ≡ None
-  pub alone : (e f p : ℕ) → e ≢ f → is_some (access t e p) ≡ true → is_some (access t f p) ≡ true → is_joint_at (transaction_at t p) ≡ true
+  pub alone : (e f p : ℕ) → e ≢ f → is_some (access t e p) ≡ true → is_some (access t f p) ≡ true
+      → is_joint_at (transaction_at t p) ≡ true
 
 -- INTEGRITY
 
@@ -87,12 +96,12 @@ is_indirect_message (Store addr size value) = false
 is_indirect_message (Fetch addr) = false
 
 -- whether e has mapped buffers, and this page is one of those of its RX
-abbrev pub is_rx : State → ℕ → ℕ → Bool
+abbrev pub is_rx : State → Identifier → PageIndex → Bool
 is_rx s e p = option_map_or (λ (b : Buffers). is_in_run b.rx b.pages p) (buffers_of s e) false
 
 -- whether an indirect message of the runner isn't refused, and this page is one of those of its receiver's RX, where the
 -- receiver is e
-abbrev pub fills_rx_page : State → ℕ → ℕ → Bool
+abbrev pub fills_rx_page : State → Identifier → PageIndex → Bool
 fills_rx_page s e p =
     is_none (first_failure (msg_send2 s).guards) && ((header_in (tx_bytes s s.runner)).receiver == e && is_rx s e p)
 

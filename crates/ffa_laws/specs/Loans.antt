@@ -9,6 +9,7 @@ use Rattle.ffa_model.specs.declared.call.Call.TheVariants.{MemRelinquish}
 use Rattle.ffa_model.specs.declared.descriptor.RelinquishDesc.{RelinquishDesc}
 use Rattle.ffa_model.specs.declared.operation.Op.{Op}
 use Rattle.ffa_model.specs.declared.operation.Op.TheVariants.{Call, Load, Store, Fetch}
+use Rattle.ffa_model.specs.Numbers.{HandleNumber, Identifier, PageIndex}
 use Rattle.ffa_model.specs.State.{State, transaction_of}
 use Rattle.ffa_model.specs.Access.{is_held_by, is_naming, is_offered}
 use Rattle.ffa_model.specs.Calls.{first_failure}
@@ -20,13 +21,13 @@ use Rattle.ffa_laws.specs.Events.{seen}
 use Rattle.ffa_laws.specs.Readable.{blank, readable, readings}
 
 -- a page that the open transaction of a handle names
-abbrev pub is_page_of : State → ℕ → ℕ → Bool
+abbrev pub is_page_of : State → HandleNumber → PageIndex → Bool
 is_page_of s h p = is_naming s p (transaction_of s h)
 
 -- A LOAN THAT IS ZEROED
 
 -- a load, a fetch, or a store into a page of the transaction; an address outside RAM is in no page
-abbrev pub is_in_loan : State → ℕ → Op → Bool
+abbrev pub is_in_loan : State → HandleNumber → Op → Bool
 is_in_loan s h (Call x) = false
 is_in_loan s h (Load addr size) = true
 is_in_loan s h (Store addr size value) = option_map_or (is_page_of s h) (page_of_address s addr) false
@@ -69,7 +70,7 @@ pub record IsWaiting (e h : ℕ) (s : State) : Type 0 where
   pub unheld : is_held_by e (transaction_of s h) ≡ false
 
 -- it waits at first, and after each of the operations
-abbrev pub IsSealed : ℕ → ℕ → State → List Op → Type 0
+abbrev pub IsSealed : Identifier → HandleNumber → State → List Op → Type 0
 IsSealed e h s [] = IsWaiting e h s
 IsSealed e h s (op ∷ ops) = IsWaiting e h s × IsSealed e h (step s op).state ops
 

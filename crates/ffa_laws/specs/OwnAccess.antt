@@ -40,5 +40,7 @@ AreApart s = (h : ℕ) (t : Transaction) → transaction_of s h ≡ Some t → i
 -- them by taking it.
 pub record OwnAccess (s : State) (op : Op) : Type 0 where
   pub others : (e p : ℕ) → s.runner ≢ e → access (step s op).state e p ≡ access s e p
-  pub grows : (p : ℕ) → is_call gives_access op ≡ false → is_within (access (step s op).state s.runner p) (access s s.runner p) ≡ true
-  pub shrinks : (p : ℕ) → is_call takes_access op ≡ false → is_within (access s s.runner p) (access (step s op).state s.runner p) ≡ true
+  pub grows : (p : ℕ) → is_call gives_access op ≡ false
+      → is_within (access (step s op).state s.runner p) (access s s.runner p) ≡ true
+  pub shrinks : (p : ℕ) → is_call takes_access op ≡ false
+      → is_within (access s s.runner p) (access (step s op).state s.runner p) ≡ true

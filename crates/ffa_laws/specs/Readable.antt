@@ -4,6 +4,7 @@
 use Rattle.std.specs.Prelude.{◌≡◌, ◌≢◌, ◌==◌, ℕ, ◌/◌, ◌-◌, Bool, true, false, not, ◌&&◌, List, [], ◌∷◌, ◌++◌, Option, is_none, map as each, if◌then◌else◌}
 use Rattle.std.specs.Option.{option_map}
 use Rattle.ffa_model.specs.declared.operation.Op.{Op}
+use Rattle.ffa_model.specs.Numbers.{Identifier, PageIndex}
 use Rattle.ffa_model.specs.Lists.{map_at}
 use Rattle.ffa_model.specs.State.{State, Page, is_known, transaction_of}
 use Rattle.ffa_model.specs.Access.{access, is_held_by}
@@ -26,25 +27,26 @@ blanked hides pages = map_at (λ p page. blank_where (hides p) page) pages
 abbrev pub blank : (ℕ → Bool) → State → State
 blank hides s = record s { pages = blanked hides s.pages }
 
-abbrev pub is_unreadable : State → ℕ → ℕ → Bool
+abbrev pub is_unreadable : State → Identifier → PageIndex → Bool
 is_unreadable s e p = is_none (access s e p)
 
-abbrev pub readable : ℕ → State → State
+abbrev pub readable : Identifier → State → State
 readable e s = blank (is_unreadable s e) (view e s)
 
 -- the pages, with their bytes, that e can read in the later state and couldn't in the earlier one
-abbrev pub revealed : ℕ → State → State → List (Option Page)
+abbrev pub revealed : Identifier → State → State → List (Option Page)
 revealed e s t = map_at (λ p page. kept (is_unreadable s e p && not (is_unreadable t e p)) page) t.pages
 
 -- of what another's operation tells e, what it can read: no write into a page that it can't read, no zeros of a transaction
 -- that it doesn't hold, and of the pages of one that is opened no bytes
-abbrev pub readably : ℕ → State → Event → List Event
-readably e s (Wrote address bytes) = where_true (not (is_unreadable s e ((address - s.ram_base) / 4096))) (Wrote address bytes ∷ [])
+abbrev pub readably : Identifier → State → Event → List Event
+readably e s (Wrote address bytes) =
+    where_true (not (is_unreadable s e ((address - s.ram_base) / 4096))) (Wrote address bytes ∷ [])
 readably e s (Opened h t pages) = Opened h t (blanked (is_unreadable s e) pages) ∷ []
 readably e s (Zeroed h) = where_true (is_held_by e (transaction_of s h)) (Zeroed h ∷ [])
 readably e s event = event ∷ []
 
-abbrev pub all_readably : ℕ → State → List Event → List Event
+abbrev pub all_readably : Identifier → State → List Event → List Event
 all_readably e s [] = []
 all_readably e s (event ∷ events) = readably e s event ++ all_readably e s events
 
@@ -54,13 +56,15 @@ all_readably e s (event ∷ events) = readably e s event ++ all_readably e s eve
 -- operation of another endpoint changes what e can read by what is told to it readably alone. All this is of states s
 -- in which nobody is offered what it sent itself.
 pub record Confidential (s : State) (op : Op) : Type 0 where
-  pub outcome : (t : State) → IsSteady t → readable s.runner t ≡ readable s.runner s → (step t op).outcome ≡ (step s op).outcome
+  pub outcome : (t : State) → IsSteady t → readable s.runner t ≡ readable s.runner s
+      → (step t op).outcome ≡ (step s op).outcome
   pub own :
       (t : State) → IsSteady t → readable s.runner t ≡ readable s.runner s
       → revealed s.runner t (step t op).state ≡ revealed s.runner s (step s op).state
       → readable s.runner (step t op).state ≡ readable s.runner (step s op).state
   pub quiet :
-      (t : State) → IsSteady t → AreApart t → readable s.runner t ≡ readable s.runner s → is_call gives_access op ≡ false
+      (t : State) → IsSteady t → AreApart t → readable s.runner t ≡ readable s.runner s
+      → is_call gives_access op ≡ false
       → readable s.runner (step t op).state ≡ readable s.runner (step s op).state
   pub others :
       (e : ℕ) → is_known s e ≡ true → s.runner ≢ e
@@ -73,7 +77,7 @@ pub data Reading : Type 0 where
   Did : (op : Op) (shown : List (Option Page)) → Reading
   Heard : (event : Event) → Reading
 
-abbrev pub readings : ℕ → State → List Op → List Reading
+abbrev pub readings : Identifier → State → List Op → List Reading
 readings e s [] = []
 readings e s (op ∷ ops) =
     (if s.runner == e then Did op (revealed e s (step s op).state) ∷ [] else each Heard (all_readably e s (events e s op))) ++ readings e (step s op).state ops
@@ -82,5 +86,6 @@ readings e s (op ∷ ops) =
 -- depend on what it can read at the start and on these readings alone.
 abbrev pub RunConfidential : State → List Op → Type 0
 RunConfidential s ops =
-    (e : ℕ) (t : State) (others : List Op) → is_known s e ≡ true → IsSteady t → AreApart t → readable e t ≡ readable e s → readings e t others ≡ readings e s ops
+    (e : ℕ) (t : State) (others : List Op) → is_known s e ≡ true → IsSteady t → AreApart t → readable e t ≡ readable e s
+    → readings e t others ≡ readings e s ops
     → (seen e t others ≡ seen e s ops) × (readable e (state_after t others) ≡ readable e (state_after s ops))

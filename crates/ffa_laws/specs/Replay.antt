@@ -3,6 +3,7 @@
 use Rattle.std.specs.Prelude.{◌≡◌, ℕ, true, List, [], ◌∷◌, ◌++◌}
 use Rattle.ffa_model.specs.declared.operation.Op.{Op}
 use Rattle.ffa_model.specs.declared.operation.Outcome.{Outcome}
+use Rattle.ffa_model.specs.Numbers.{Identifier}
 use Rattle.ffa_model.specs.State.{State, is_known}
 use Rattle.ffa_model.specs.Step.{state_after, step}
 use Rattle.ffa_laws.specs.View.{view}
@@ -17,13 +18,13 @@ abbrev pub seeing : List Outcome → Lived → Lived
 seeing outcomes after = record after { seen = outcomes ++ after.seen }
 
 -- Items done on a view in turn: an operation of e's own is a step of the view itself, and an event is applied to it.
-abbrev pub replay : ℕ → State → List Item → Lived
+abbrev pub replay : Identifier → State → List Item → Lived
 replay e v [] = record { seen = []; view = v }
 replay e v (Own op ∷ rest) = seeing ((step v op).outcome ∷ []) (replay e (step v op).state rest)
 replay e v (Told event ∷ rest) = seeing (message e event) (replay e (apply e v event) rest)
 
 -- what e sees of a run that begins in s, and its view of the state after it
-abbrev pub lived : ℕ → State → List Op → Lived
+abbrev pub lived : Identifier → State → List Op → Lived
 lived e s ops = record { seen = seen e s ops; view = view e (state_after s ops) }
 
 -- A run is to an endpoint its items, replayed on its view: nothing else of the state and of the operations counts.

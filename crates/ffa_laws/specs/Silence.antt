@@ -7,6 +7,7 @@ use Rattle.ffa_model.specs.declared.operation.Op.{Op}
 use Rattle.ffa_model.specs.declared.operation.Op.TheVariants.{Call, Store}
 use Rattle.ffa_model.specs.declared.call.Call as calls
 use Rattle.ffa_model.specs.declared.call.Call.TheVariants.{RxRelease, RxtxMap, RxtxUnmap, PartitionInfoGet, MsgWait, Yield, Run, DirectRequest, DirectResponse, MemDonate, MemLend, MemShare, MemRetrieve, MemRelinquish, MemReclaim, BitmapDestroy, NotificationBind, NotificationUnbind, NotificationSet, MsgSend2}
+use Rattle.ffa_model.specs.Numbers.{Identifier}
 use Rattle.ffa_model.specs.Bits.{bits_of}
 use Rattle.ffa_model.specs.State.{State, buffers_of, is_known, page_at, transaction_of}
 use Rattle.ffa_model.specs.Buffers.{room_of}
@@ -74,13 +75,13 @@ may_repeat (Zeroed h) = true
 may_repeat event = false
 
 -- events that are told to e one after another, from a view on: each that may not repeat changes the view that it meets
-abbrev pub AreNews : ℕ → State → List Event → Type 0
+abbrev pub AreNews : Identifier → State → List Event → Type 0
 AreNews e v [] = Unit {0}
 AreNews e v (event ∷ later) = (may_repeat event ≡ false → apply e v event ≢ v) × AreNews e (apply e v event) later
 
 -- Whether what an event is about stands in the view of e: the page of a write, e's own buffers, its bitmaps, and the
 -- transaction whose pages are zeroed.
-abbrev pub is_met : ℕ → State → Event → Bool
+abbrev pub is_met : Identifier → State → Event → Bool
 is_met e v (Wrote address bytes) = is_some (page_at v ((address - v.ram_base) / 4096))
 is_met e v (Filled bytes) = is_some (buffers_of v e)
 is_met e v (Pending class bits) = has_bitmaps_in (notifications_of v) e
@@ -88,7 +89,7 @@ is_met e v (Zeroed h) = is_some (transaction_of v h)
 is_met e v event = true
 
 -- events that are told to e one after another, from a view on: each meets in its view what it is about
-abbrev pub AreMet : ℕ → State → List Event → Type 0
+abbrev pub AreMet : Identifier → State → List Event → Type 0
 AreMet e v [] = Unit {0}
 AreMet e v (event ∷ later) = (is_met e v event ≡ true) × AreMet e (apply e v event) later
 
@@ -98,7 +99,7 @@ AreMet e v (event ∷ later) = (is_met e v event ≡ true) × AreMet e (apply e 
 -- name, and the public part is the view's. Of a bit that is bound or unbound, a holder, and a transaction that is closed nothing
 -- is left out where they change the view (`AreNews`), and the one whose pages are zeroed stands in the view (`AreMet`). A message
 -- changes nothing: its registers are the operation's outcome (`Shown`, of a run of this operation alone).
-abbrev pub IsBare : ℕ → State → Event → Type 0
+abbrev pub IsBare : Identifier → State → Event → Type 0
 IsBare e v (Wrote address bytes) = (v.ram_base ≤ address) × (bytes ≢ [])
 IsBare e v (Filled bytes) = length bytes ≤ room_of (buffers_of v e)
 IsBare e v (Pending class bits) = (bits ≢ []) × ((word : ℕ) × (bits ≡ bits_of word))
@@ -107,7 +108,7 @@ IsBare e v (Public values) = values ≡ public_part v
 IsBare e v event = Unit {0}
 
 -- events that are told to e one after another, from a view on: all that each says goes into the view
-abbrev pub AreBare : ℕ → State → List Event → Type 0
+abbrev pub AreBare : Identifier → State → List Event → Type 0
 AreBare e v [] = Unit {0}
 AreBare e v (event ∷ later) = IsBare e (apply e v event) event × AreBare e (apply e v event) later
 

@@ -3,6 +3,7 @@
 use Rattle.std.specs.Prelude.{◌≡◌, ◌≢◌, ℕ, ◌≤◌, ◌<◌, Bool, true, ◌&&◌, ◌||◌, nat_le, List, length, Some, None, slice_index_or}
 use Rattle.std.specs.FinSet as finite_set
 use Rattle.ffa_model.specs.declared.limits.TheConstants.{MOST_ENDPOINTS, MOST_SENDS}
+use Rattle.ffa_model.specs.Numbers.{Identifier}
 use Rattle.ffa_model.specs.Lists.{is_in_run}
 use Rattle.ffa_model.specs.Transactions.{own_right_of, own_rights_of, ceiling, handle_of}
 use Rattle.ffa_model.specs.declared.rights.Kind.TheVariants.{Donate}
@@ -23,9 +24,12 @@ is_joint t = is_share t.kind || (is_lend t.kind && nat_le 2 (length t.receivers)
 pub record IsSteadyTransaction (s : State) (t : Transaction) : Type 0 where
   pub owned : (p : ℕ) → names s t.ranges p ≡ true → owner_of s p ≡ t.sender
   pub receiver : (e : ℕ) (right : Rights) → held_by t e ≡ Some right → is_receiver e t ≡ true
-  pub within : (p e : ℕ) (right : Rights) → names s t.ranges p ≡ true → held_by t e ≡ Some right → is_within (Some right) (own_right_of s p) ≡ true
-  pub alone : (e f : ℕ) (one other : Rights) → e ≢ f → held_by t e ≡ Some one → held_by t f ≡ Some other → is_joint t ≡ true
-  pub ceilings : (p e : ℕ) → names s t.ranges p ≡ true → is_within (Some (ceiling (own_rights_of s) t e)) (own_right_of s p) ≡ true
+  pub within : (p e : ℕ) (right : Rights) → names s t.ranges p ≡ true → held_by t e ≡ Some right
+      → is_within (Some right) (own_right_of s p) ≡ true
+  pub alone : (e f : ℕ) (one other : Rights) → e ≢ f → held_by t e ≡ Some one → held_by t f ≡ Some other
+      → is_joint t ≡ true
+  pub ceilings : (p e : ℕ) → names s t.ranges p ≡ true
+      → is_within (Some (ceiling (own_rights_of s) t e)) (own_right_of s p) ≡ true
   pub taker : (e f : ℕ) → t.kind ≡ Donate → is_receiver e t ≡ true → is_receiver f t ≡ true → e ≡ f
 
 -- a page that its owner has alone: no open transaction names it
@@ -40,9 +44,9 @@ pub record AreSteadyBuffers (s : State) (e : ℕ) (b : Buffers) : Type 0 where
 
 -- a bit that is bound is of the class of its sender
 pub record IsSteadyBinding (entry : List ℕ) : Type 0 where
-  pub receiver : ℕ
+  pub receiver : Identifier
   pub bit : ℕ
-  pub sender : ℕ
+  pub sender : Identifier
   pub is : entry ≡ binding receiver (class_of sender) bit sender
   pub in_word : bit < 64
 

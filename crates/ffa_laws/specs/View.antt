@@ -5,6 +5,7 @@ use Rattle.std.specs.Ordering.{nat_cmp}
 use Rattle.std.specs.Option.{option_map}
 use Rattle.std.specs.FinMap as map
 use Rattle.std.specs.FinSet as finite_set
+use Rattle.ffa_model.specs.Numbers.{Identifier, PageIndex}
 use Rattle.ffa_model.specs.Lists.{map_at}
 use Rattle.ffa_model.specs.Identifiers.{identifier}
 use Rattle.ffa_model.specs.State.{State, Transaction, Buffers, owner_of, transaction_of}
@@ -12,11 +13,11 @@ use Rattle.ffa_model.specs.Access.{is_from, is_offered, transaction_at}
 use Rattle.ffa_model.specs.Notifications.{receiver_of_entry, sender_of_entry}
 
 -- whether e sent a transaction, or is offered it
-abbrev pub involves : ℕ → Option Transaction → Bool
+abbrev pub involves : Identifier → Option Transaction → Bool
 involves e t = is_from e t || is_offered e t
 
 -- a page that e owns, or that a transaction of e's or offered to e names; in a sound state one transaction names it at most
-abbrev pub is_near : ℕ → State → ℕ → Bool
+abbrev pub is_near : Identifier → State → PageIndex → Bool
 is_near e s p = owner_of s p == e || involves e (transaction_at s p)
 
 abbrev pub kept : {X : Type 0} → Bool → Option X → Option X
@@ -27,10 +28,10 @@ abbrev pub map_values : {X Y : Type 0} → (X → Y) → map.FinMap nat_cmp X �
 map_values f m = map.from_entries (each (λ entry. (entry.0, f entry.1)) (map.entries m))
 
 -- who isn't the sender knows of the holders itself alone
-abbrev pub seen_by : ℕ → Transaction → Transaction
+abbrev pub seen_by : Identifier → Transaction → Transaction
 seen_by e t = record t { held = if t.sender == e then t.held else map.retain_keys t.held (λ f. f == e) }
 
-abbrev pub transactions_of : ℕ → State → map.FinMap nat_cmp Transaction
+abbrev pub transactions_of : Identifier → State → map.FinMap nat_cmp Transaction
 transactions_of e s = map_values (seen_by e) (map.retain_keys s.transactions (λ h. involves e (transaction_of s h)))
 
 -- of another's buffers whether they are mapped, how many pages they have, and whether RX is full; their pages are named by
@@ -38,13 +39,13 @@ transactions_of e s = map_values (seen_by e) (map.retain_keys s.transactions (λ
 abbrev pub hidden : ℕ → Option Buffers → Option Buffers
 hidden past b = option_map (λ (q : Buffers). record { tx = past; rx = past; pages = q.pages; full = q.full }) b
 
-abbrev pub buffers_seen : ℕ → ℕ → ℕ → Option Buffers → Option Buffers
+abbrev pub buffers_seen : Identifier → ℕ → ℕ → Option Buffers → Option Buffers
 buffers_seen e past i b = if identifier i == e then b else hidden past b
 
 -- The constants are public, and so are who runs, each status and work, and of each endpoint's buffers whether they are
 -- mapped, how many pages they have, and whether RX is full. Of the sends and of who has bitmaps e knows its own element;
 -- of the bits that are bound, those that it receives or sends; of those that are pending, its own.
-abbrev pub view : ℕ → State → State
+abbrev pub view : Identifier → State → State
 view e s =
     record {
       ram_base = s.ram_base;

@@ -4,6 +4,7 @@ use Rattle.std.specs.Prelude.{◌≡◌, ℕ, Bool, true, false, ◌&&◌}
 use Rattle.ffa_model.specs.declared.operation.Op.{Op}
 use Rattle.ffa_model.specs.declared.call.Call as calls
 use Rattle.ffa_model.specs.declared.call.Call.TheVariants.{MemReclaim}
+use Rattle.ffa_model.specs.Numbers.{PageIndex}
 use Rattle.ffa_model.specs.Rights.{may_store}
 use Rattle.ffa_model.specs.State.{State}
 use Rattle.ffa_model.specs.Access.{access}
@@ -14,7 +15,7 @@ use Rattle.ffa_laws.specs.Isolation.{fills_rx_page, is_indirect_message}
 use Rattle.ffa_laws.specs.OwnAccess.{is_call}
 
 -- whether an operation is an indirect message that isn't refused, and this page is one of those of its receiver's RX
-abbrev pub is_filled_by : Op → State → ℕ → Bool
+abbrev pub is_filled_by : Op → State → PageIndex → Bool
 is_filled_by op s p = is_indirect_message op && fills_rx_page s (header_in (tx_bytes s s.runner)).receiver p
 
 -- whether a call is FFA_MEM_RECLAIM
@@ -23,7 +24,7 @@ is_reclaim (MemReclaim handle flags) = true
 is_reclaim call = false
 
 -- whether an operation is a reclaim after which the runner may write to this page, which it may zero then
-abbrev pub is_reclaimed_by : Op → State → ℕ → Bool
+abbrev pub is_reclaimed_by : Op → State → PageIndex → Bool
 is_reclaimed_by op s p = is_call is_reclaim op && may_store (access (step s op).state s.runner p)
 
 -- A page keeps its bytes over an operation where the runner may not write to it before, but for a page that the runner

@@ -34,7 +34,8 @@ size_in ram buffers e = (header_in (sent_in ram buffers e)).offset + (header_in 
 abbrev pub AreEndsApart : List Party → Ram → List (Option Buffers) → ℕ → Type 0
 AreEndsApart parties ram buffers e =
     first_failure (send2_guards parties buffers e (header_in (sent_in ram buffers e))) ≡ None
-    → (from to : Buffers) → buffers_in buffers e ≡ Some from → buffers_in buffers (receiver_in ram buffers e) ≡ Some to → IsBeside from to
+    → (from to : Buffers) → buffers_in buffers e ≡ Some from → buffers_in buffers (receiver_in ram buffers e) ≡ Some to
+    → IsBeside from to
 
 -- a header that the code has read
 abbrev pub header_of : Header → MessageHeader

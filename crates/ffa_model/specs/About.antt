@@ -14,6 +14,7 @@ use Rattle.ffa_model.specs.declared.rights.Kind.TheVariants.{Share, Lend, Donate
 use Rattle.ffa_model.specs.declared.transaction.Range.{Range}
 use Rattle.ffa_model.specs.declared.why.About.{About}
 use Rattle.ffa_model.specs.declared.why.About.TheVariants.{Page}
+use Rattle.ffa_model.specs.Numbers.{Identifier, PageIndex}
 use Rattle.ffa_model.specs.AboutContents.{about_contents}
 use Rattle.ffa_model.specs.AboutRegisters.{about_registers}
 use Rattle.ffa_model.specs.Buffers.{Candidates, candidates, is_run_address, is_usable, page_number}
@@ -28,37 +29,45 @@ use Rattle.ffa_model.specs.State.{State, Buffers, Transaction, transaction_of}
 use Rattle.ffa_model.specs.Transactions.{OwnRights, handle_of, own_rights_of, pages_in}
 
 -- the first of some pages that fails a test
-abbrev pub numbered : ℕ → PageNo
+abbrev pub numbered : PageIndex → PageNo
 numbered p = record { 0 = p }
 
 abbrev pub first_failing : (ℕ → Bool) → List ℕ → Option PageNo
 first_failing test pages = option_map numbered (find (λ p. not (test p)) pages)
 
 -- FFA_RXTX_MAP by e: of the n pages from an address on, where they are in RAM, the first that can't be a buffer's
-abbrev pub unusable_from : ℕ → Candidates → ℕ → ℕ → Option PageNo
+abbrev pub unusable_from : Identifier → Candidates → ℕ → ℕ → Option PageNo
 unusable_from e ram n address =
-    if is_run_address ram n address then first_failing (λ p. is_usable e (ram.page p)) (run (page_number ram.base address) n) else None
+    if is_run_address ram n address
+    then first_failing (λ p. is_usable e (ram.page p)) (run (page_number ram.base address) n)
+    else None
 
-abbrev pub failing_map : ℕ → Candidates → ℕ → ℕ → ℕ → Refusal → Option PageNo
+abbrev pub failing_map : Identifier → Candidates → ℕ → ℕ → ℕ → Refusal → Option PageNo
 failing_map e ram tx rx pages TxUnusable = unusable_from e ram pages tx
 failing_map e ram tx rx pages RxUnusable = unusable_from e ram pages rx
 failing_map e ram tx rx pages refusal = None
 
 -- FFA_MEM_DONATE, FFA_MEM_LEND and FFA_MEM_SHARE by e: whether a page passes a check of pages, as each does one of something else
-abbrev pub passes : ℕ → Candidates → OwnRights → List (Option Buffers) → SendRecord → Refusal → ℕ → Bool
-passes e ram own_rights buffers r PageUnsendable p = is_sendable e ram buffers p
-passes e ram own_rights buffers r GrantTooMuch p = are_grants_within own_rights r.receivers p
-passes e ram own_rights buffers r ZerosUnwritable p = may_store (own_rights.right p)
-passes e ram own_rights buffers r refusal p = true
+abbrev pub passes : Identifier → Candidates → OwnRights → List (Option Buffers) → SendRecord → Refusal → PageIndex
+    → Bool
+passes e ram own_rights buffers send PageUnsendable p = is_sendable e ram buffers p
+passes e ram own_rights buffers send GrantTooMuch p = are_grants_within own_rights send.receivers p
+passes e ram own_rights buffers send ZerosUnwritable p = may_store (own_rights.right p)
+passes e ram own_rights buffers send refusal p = true
 
 -- the least page of RAM that the ranges name and that doesn't
-abbrev pub failing_offer : ℕ → Candidates → OwnRights → List (Option Buffers) → Refusal → SendRecord → Option PageNo
-failing_offer e ram own_rights buffers refusal r = first_failing (passes e ram own_rights buffers r refusal) (pages_in own_rights r.ranges)
+abbrev pub failing_offer : Identifier → Candidates → OwnRights → List (Option Buffers) → Refusal → SendRecord
+    → Option PageNo
+failing_offer e ram own_rights buffers refusal send =
+    first_failing (passes e ram own_rights buffers send refusal) (pages_in own_rights send.ranges)
 
 -- of a descriptor that stands whole in TX
-abbrev pub failing_send : ℕ → Candidates → OwnRights → List (Option Buffers) → Transfer → Option SendRecord → Refusal → Option PageNo
-failing_send e ram own_rights buffers x r refusal =
-    if is_none (first_refusal (after_transfer buffers e x [])) then option_and_then (failing_offer e ram own_rights buffers refusal) r else None
+abbrev pub failing_send : Identifier → Candidates → OwnRights → List (Option Buffers) → Transfer → Option SendRecord
+    → Refusal → Option PageNo
+failing_send e ram own_rights buffers transfer send refusal =
+    if is_none (first_refusal (after_transfer buffers e transfer []))
+    then option_and_then (failing_offer e ram own_rights buffers refusal) send
+    else None
 
 -- FFA_MEM_RECLAIM: the least page of RAM that the transaction names and that its owner may not write
 abbrev pub first_unwritable : OwnRights → List Range → Option PageNo
@@ -70,13 +79,14 @@ failing_reclaim own_rights t refusal = None
 
 -- ON A STATE
 abbrev pub failing_sent : State → Kind → Transfer → Refusal → Option PageNo
-failing_sent s kind x refusal = failing_send s.runner (candidates s) (own_rights_of s) s.buffers x (send_read s kind x.total) refusal
+failing_sent s kind transfer refusal =
+    failing_send s.runner (candidates s) (own_rights_of s) s.buffers transfer (send_read s kind transfer.total) refusal
 
 abbrev pub failing_page : State → Call → Refusal → Option PageNo
 failing_page s (RxtxMap tx rx pages) refusal = failing_map s.runner (candidates s) tx rx pages refusal
-failing_page s (MemDonate x) refusal = failing_sent s Donate x refusal
-failing_page s (MemLend x) refusal = failing_sent s Lend x refusal
-failing_page s (MemShare x) refusal = failing_sent s Share x refusal
+failing_page s (MemDonate transfer) refusal = failing_sent s Donate transfer refusal
+failing_page s (MemLend transfer) refusal = failing_sent s Lend transfer refusal
+failing_page s (MemShare transfer) refusal = failing_sent s Share transfer refusal
 failing_page s (MemReclaim handle flags) refusal = failing_reclaim (own_rights_of s) (transaction_of s handle.0) refusal
 failing_page s call refusal = None
 
@@ -89,4 +99,5 @@ about_pages s call refusal = option_map (about_page s) (failing_page s call refu
 
 -- what the check of a call is about, whose function's number is this
 abbrev pub about : State → ℕ → Call → Refusal → Option About
-about s w0 call refusal = option_or (about_registers w0 call refusal) (option_or (about_contents s call refusal) (about_pages s call refusal))
+about s w0 call refusal =
+    option_or (about_registers w0 call refusal) (option_or (about_contents s call refusal) (about_pages s call refusal))

@@ -17,6 +17,7 @@ use Rattle.ffa_model.specs.declared.rights.Kind.TheVariants.{Share, Lend, Donate
 use Rattle.ffa_model.specs.declared.transaction.Receiver.{Receiver}
 use Rattle.ffa_model.specs.declared.why.About.{About}
 use Rattle.ffa_model.specs.declared.why.About.TheVariants.{Endpoint, Handle, Bit, Field}
+use Rattle.ffa_model.specs.Numbers.{Identifier}
 use Rattle.ffa_model.specs.AboutRegisters.{at_endpoint}
 use Rattle.ffa_model.specs.Bits.{bits_of}
 use Rattle.ffa_model.specs.Calls.{first_refusal}
@@ -49,7 +50,8 @@ about_message (Some own) m refusal = about_ends m refusal
 
 -- A DESCRIPTOR: where the bytes are none, the first condition that they break, with its field
 abbrev pub about_field : Versioned → Flaw → About
-about_field b flaw = Field flaw (flaw_place b flaw) (field_value b.bytes (flaw_place b flaw))
+about_field descriptor flaw =
+    Field flaw (flaw_place descriptor flaw) (field_value descriptor.bytes (flaw_place descriptor flaw))
 
 abbrev pub if_malformed : Refusal → About → Option About
 if_malformed DescriptorMalformed its = Some its
@@ -57,16 +59,16 @@ if_malformed refusal its = None
 
 -- and where they are one, what it names. Of a send the sender, or the first receiver that isn't among so many endpoints
 abbrev pub is_known_receiver : ℕ → Receiver → Bool
-is_known_receiver endpoints r = is_known_among endpoints r.endpoint.0
+is_known_receiver endpoints receiver = is_known_among endpoints receiver.endpoint.0
 
 abbrev pub unknown_receiver : ℕ → List Receiver → Option About
 unknown_receiver endpoints receivers =
     option_map (λ (r : Receiver). Endpoint r.endpoint) (find (λ r. not (is_known_receiver endpoints r)) receivers)
 
 abbrev pub named_by_send : ℕ → SendRecord → Refusal → Option About
-named_by_send endpoints r SenderIsAnother = at_endpoint r.sender
-named_by_send endpoints r ReceiverUnknown = unknown_receiver endpoints r.receivers
-named_by_send endpoints r refusal = None
+named_by_send endpoints send SenderIsAnother = at_endpoint send.sender
+named_by_send endpoints send ReceiverUnknown = unknown_receiver endpoints send.receivers
+named_by_send endpoints send refusal = None
 
 abbrev pub named_by_retrieve : RetrieveDesc → Refusal → Option About
 named_by_retrieve d HandleUnknown = Some (Handle d.handle)
@@ -87,25 +89,26 @@ named_by_relinquish d refusal = None
 
 -- either, by the first condition that the bytes break, if they do
 abbrev pub about_bytes : Versioned → Option Flaw → Option About → Refusal → Option About
-about_bytes b (Some flaw) named refusal = if_malformed refusal (about_field b flaw)
-about_bytes b None named refusal = named
+about_bytes descriptor (Some flaw) named refusal = if_malformed refusal (about_field descriptor flaw)
+about_bytes descriptor None named refusal = named
 
 abbrev pub about_send : Kind → ℕ → Versioned → Refusal → Option About
-about_send kind endpoints b refusal =
-    about_bytes b (send_flaw kind b) (option_and_then (λ r. named_by_send endpoints r refusal) (send_of kind b)) refusal
+about_send kind endpoints descriptor refusal =
+    about_bytes descriptor (send_flaw kind descriptor) (option_and_then (λ r. named_by_send endpoints r refusal) (send_of kind descriptor)) refusal
 
-abbrev pub about_retrieve : ℕ → Versioned → Refusal → Option About
-about_retrieve e b refusal =
-    about_bytes b (retrieve_flaw e b) (option_and_then (λ d. named_by_retrieve d refusal) (retrieve_of e b)) refusal
+abbrev pub about_retrieve : Identifier → Versioned → Refusal → Option About
+about_retrieve e descriptor refusal =
+    about_bytes descriptor (retrieve_flaw e descriptor) (option_and_then (λ d. named_by_retrieve d refusal) (retrieve_of e descriptor)) refusal
 
 -- a relinquish has one form in both versions
 abbrev pub about_relinquish : List ℕ → Refusal → Option About
-about_relinquish b refusal =
-    about_bytes (in_version V1_1 b) (relinquish_flaw b) (option_and_then (λ d. named_by_relinquish d refusal) (relinquish_of b)) refusal
+about_relinquish bytes refusal =
+    about_bytes (in_version V1_1 bytes) (relinquish_flaw bytes) (option_and_then (λ d. named_by_relinquish d refusal) (relinquish_of bytes)) refusal
 
 -- where a descriptor stands whole in the TX of e
-abbrev pub where_whole : List (Option Buffers) → ℕ → Transfer → Option About → Option About
-where_whole buffers e x its = if is_none (first_refusal (after_transfer buffers e x [])) then its else None
+abbrev pub where_whole : List (Option Buffers) → Identifier → Transfer → Option About → Option About
+where_whole buffers e transfer its =
+    if is_none (first_refusal (after_transfer buffers e transfer [])) then its else None
 
 -- and a relinquish, where there is a TX
 abbrev pub where_mapped : Option Buffers → Option About → Option About
@@ -117,22 +120,22 @@ abbrev pub first_bit : (ℕ → Bool) → ℕ → Option About
 first_bit test bitmap = option_map (λ k. Bit k) (find (λ k. not (test k)) (bits_of bitmap))
 
 -- by a caller e among so many endpoints, where the other endpoint is one
-abbrev pub about_bind : ℕ → Notifications → ℕ → ℕ → ℕ → Refusal → Option About
+abbrev pub about_bind : ℕ → Notifications → Identifier → Identifier → ℕ → Refusal → Option About
 about_bind endpoints n e sender bitmap BitsTaken =
     if is_known_among endpoints sender then first_bit (is_bindable endpoints n e sender) bitmap else None
 about_bind endpoints n e sender bitmap refusal = None
 
-abbrev pub about_unbind : ℕ → Notifications → ℕ → ℕ → ℕ → Refusal → Option About
+abbrev pub about_unbind : ℕ → Notifications → Identifier → Identifier → ℕ → Refusal → Option About
 about_unbind endpoints n e sender bitmap BitsNotTheSenders =
     if is_known_among endpoints sender then first_bit (is_unbindable n e sender) bitmap else None
 about_unbind endpoints n e sender bitmap refusal = None
 
-abbrev pub about_set : ℕ → Notifications → ℕ → ℕ → ℕ → Refusal → Option About
+abbrev pub about_set : ℕ → Notifications → Identifier → Identifier → ℕ → Refusal → Option About
 about_set endpoints n e receiver bitmap BitsNotTheCallers =
     if is_known_among endpoints receiver then first_bit (λ k. is_bound n receiver (class_of e) k e) bitmap else None
 about_set endpoints n e receiver bitmap refusal = None
 
-abbrev pub about_bits : ℕ → Notifications → ℕ → Call → Refusal → Option About
+abbrev pub about_bits : ℕ → Notifications → Identifier → Call → Refusal → Option About
 about_bits endpoints n e (NotificationBind its) refusal = about_bind endpoints n e its.sender.0 its.bitmap refusal
 about_bits endpoints n e (NotificationUnbind its) refusal = about_unbind endpoints n e its.sender.0 its.bitmap refusal
 about_bits endpoints n e (NotificationSet its) refusal = about_set endpoints n e its.receiver.0 its.bitmap refusal
@@ -140,19 +143,20 @@ about_bits endpoints n e call refusal = None
 
 -- ON A STATE
 abbrev pub about_sent : State → Kind → Transfer → Refusal → Option About
-about_sent s kind x refusal = where_whole s.buffers s.runner x (about_send kind (length s.parties) (descriptor_in s x.total) refusal)
+about_sent s kind transfer refusal = where_whole s.buffers s.runner transfer (about_send kind (length s.parties) (descriptor_in s transfer.total) refusal)
 
 abbrev pub about_retrieved : State → Transfer → Refusal → Option About
-about_retrieved s x refusal = where_whole s.buffers s.runner x (about_retrieve s.runner (descriptor_in s x.total) refusal)
+about_retrieved s transfer refusal =
+    where_whole s.buffers s.runner transfer (about_retrieve s.runner (descriptor_in s transfer.total) refusal)
 
 abbrev pub about_relinquished : State → Refusal → Option About
 about_relinquished s refusal = where_mapped (buffers_of s s.runner) (about_relinquish (tx_bytes s s.runner) refusal)
 
 abbrev pub about_contents : State → Call → Refusal → Option About
 about_contents s MsgSend2 refusal = about_message (buffers_of s s.runner) (header_in (tx_bytes s s.runner)) refusal
-about_contents s (MemDonate x) refusal = about_sent s Donate x refusal
-about_contents s (MemLend x) refusal = about_sent s Lend x refusal
-about_contents s (MemShare x) refusal = about_sent s Share x refusal
-about_contents s (MemRetrieve x) refusal = about_retrieved s x refusal
+about_contents s (MemDonate transfer) refusal = about_sent s Donate transfer refusal
+about_contents s (MemLend transfer) refusal = about_sent s Lend transfer refusal
+about_contents s (MemShare transfer) refusal = about_sent s Share transfer refusal
+about_contents s (MemRetrieve transfer) refusal = about_retrieved s transfer refusal
 about_contents s MemRelinquish refusal = about_relinquished s refusal
 about_contents s call refusal = about_bits (length s.parties) (notifications_of s) s.runner call refusal

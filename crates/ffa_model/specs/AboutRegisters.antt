@@ -13,13 +13,14 @@ use Rattle.ffa_model.specs.declared.refusal.Refusal.TheVariants.{FlagsReserved, 
 use Rattle.ffa_model.specs.declared.transaction.Handle as handles
 use Rattle.ffa_model.specs.declared.why.About.{About}
 use Rattle.ffa_model.specs.declared.why.About.TheVariants.{Endpoint, Handle, Register}
+use Rattle.ffa_model.specs.Numbers.{Identifier}
 use Rattle.ffa_model.specs.Bits.{word_of_two}
 
 -- the register with this number, which has this value; and an endpoint
 abbrev pub in_register : ℕ → ℕ → Option About
 in_register number value = Some (Register number value)
 
-abbrev pub at_endpoint : ℕ → Option About
+abbrev pub at_endpoint : Identifier → Option About
 at_endpoint e = Some (Endpoint (record { 0 = e }))
 
 -- FFA_RXTX_MAP
@@ -61,11 +62,11 @@ registers_of_response message refusal = None
 
 -- a call whose descriptor stands in TX
 abbrev pub registers_of_transfer : Transfer → Refusal → Option About
-registers_of_transfer x Fragmented = in_register 2 x.fragment
-registers_of_transfer x DescriptorTooLong = in_register 1 x.total
-registers_of_transfer x BufferAddressGiven = in_register 3 x.address
-registers_of_transfer x BufferPagesGiven = in_register 4 x.pages
-registers_of_transfer x refusal = None
+registers_of_transfer transfer Fragmented = in_register 2 transfer.fragment
+registers_of_transfer transfer DescriptorTooLong = in_register 1 transfer.total
+registers_of_transfer transfer BufferAddressGiven = in_register 3 transfer.address
+registers_of_transfer transfer BufferPagesGiven = in_register 4 transfer.pages
+registers_of_transfer transfer refusal = None
 
 -- FFA_MEM_RECLAIM
 abbrev pub registers_of_reclaim : handles.Handle → ℕ → Refusal → Option About
@@ -115,7 +116,8 @@ registers_of_notification (BitmapDestroy endpoint) refusal = registers_of_destro
 registers_of_notification (NotificationBind its) refusal = registers_of_bind its refusal
 registers_of_notification (NotificationUnbind its) refusal = registers_of_bind its refusal
 registers_of_notification (NotificationSet its) refusal = registers_of_set its refusal
-registers_of_notification (NotificationGet receiver context flags) refusal = registers_of_get receiver context flags refusal
+registers_of_notification (NotificationGet receiver context flags) refusal =
+    registers_of_get receiver context flags refusal
 registers_of_notification call refusal = None
 
 -- each call, whose function's number stands in w0: other checks are not about what a register tells by itself
@@ -126,10 +128,10 @@ about_registers w0 (RxtxUnmap endpoint) refusal = registers_of_unmap endpoint re
 about_registers w0 (Run target context) refusal = registers_of_run target context refusal
 about_registers w0 (DirectRequest message) refusal = registers_of_request message refusal
 about_registers w0 (DirectResponse message) refusal = registers_of_response message refusal
-about_registers w0 (MemDonate x) refusal = registers_of_transfer x refusal
-about_registers w0 (MemLend x) refusal = registers_of_transfer x refusal
-about_registers w0 (MemShare x) refusal = registers_of_transfer x refusal
-about_registers w0 (MemRetrieve x) refusal = registers_of_transfer x refusal
+about_registers w0 (MemDonate transfer) refusal = registers_of_transfer transfer refusal
+about_registers w0 (MemLend transfer) refusal = registers_of_transfer transfer refusal
+about_registers w0 (MemShare transfer) refusal = registers_of_transfer transfer refusal
+about_registers w0 (MemRetrieve transfer) refusal = registers_of_transfer transfer refusal
 about_registers w0 (MemReclaim handle flags) refusal = registers_of_reclaim handle flags refusal
 about_registers w0 Unknown refusal = in_register 0 w0
 about_registers w0 call refusal = registers_of_notification call refusal

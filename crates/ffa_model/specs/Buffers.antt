@@ -7,6 +7,7 @@ use Rattle.ffa_model.specs.declared.limits.TheConstants.{MOST_BUFFER_PAGES}
 use Rattle.ffa_model.specs.declared.refusal.Refusal.{Refusal}
 use Rattle.ffa_model.specs.declared.refusal.Refusal.TheVariants.{BuffersMapped, BufferPageCount, TxMisplaced, RxMisplaced, BuffersOverlap, TxUnusable, RxUnusable, EndpointNotZero, BuffersMissing, RxEmpty}
 use Rattle.ffa_model.specs.declared.rights.Rights.{Rights}
+use Rattle.ffa_model.specs.Numbers.{Identifier, PageIndex}
 use Rattle.ffa_model.specs.Identifiers.{place}
 use Rattle.ffa_model.specs.Lists.{run}
 use Rattle.ffa_model.specs.Manifest.{is_from_to}
@@ -17,22 +18,23 @@ use Rattle.ffa_model.specs.Memory.{written_run}
 use Rattle.ffa_model.specs.Calls.{Service, success}
 
 -- the buffers of e in a list by endpoint, and the list in which e has these, or none
-abbrev pub buffers_in : List (Option Buffers) → ℕ → Option Buffers
+abbrev pub buffers_in : List (Option Buffers) → Identifier → Option Buffers
 buffers_in list e = slice_index_or list (place e) None
 
-abbrev pub buffers_with : List (Option Buffers) → ℕ → Option Buffers → List (Option Buffers)
-buffers_with list e b = slice_set list (place e) b
+abbrev pub buffers_with : List (Option Buffers) → Identifier → Option Buffers → List (Option Buffers)
+buffers_with list e buffers = slice_set list (place e) buffers
 
 -- RX of e is full, or empty
-abbrev pub buffers_with_rx : List (Option Buffers) → ℕ → Bool → List (Option Buffers)
-buffers_with_rx list e full = buffers_with list e (option_map (λ (b : Buffers). record b { full = full }) (buffers_in list e))
+abbrev pub buffers_with_rx : List (Option Buffers) → Identifier → Bool → List (Option Buffers)
+buffers_with_rx list e full =
+    buffers_with list e (option_map (λ (buffers : Buffers). record buffers { full = full }) (buffers_in list e))
 
 abbrev pub is_full : Option Buffers → Bool
 is_full own = option_map_or (λ (b : Buffers). b.full) own false
 
 -- what decides whether a page may be a buffer: its owner, the owner's right, and whether an open transaction names it
 pub record Candidate : Type 0 where
-  pub owner : ℕ
+  pub owner : Identifier
   pub own_right : Rights
   pub named : Bool
 
@@ -48,19 +50,20 @@ page_number base address = (address - base) / 4096
 
 -- whether an address is that of the first of n pages in a row, all in RAM
 abbrev pub is_run_address : Candidates → ℕ → ℕ → Bool
-is_run_address ram n address = (address % 4096 == 0 && nat_le ram.base address) && nat_le (page_number ram.base address + n) ram.count
+is_run_address ram n address =
+    (address % 4096 == 0 && nat_le ram.base address) && nat_le (page_number ram.base address + n) ram.count
 
 -- whether two runs of n pages have no page in common
 abbrev pub are_runs_apart : ℕ → ℕ → ℕ → Bool
 are_runs_apart n first other = nat_le (first + n) other || nat_le (other + n) first
 
 -- a page of e alone, in no open transaction, with own right rw
-abbrev pub is_usable : ℕ → Option Candidate → Bool
+abbrev pub is_usable : Identifier → Option Candidate → Bool
 is_usable e None = false
 is_usable e (Some page) = (page.owner == e && not page.named) && may_write page.own_right.level
 
 -- e may have a buffer in the n pages from an address on
-abbrev pub are_usable_at : ℕ → Candidates → ℕ → ℕ → Bool
+abbrev pub are_usable_at : Identifier → Candidates → ℕ → ℕ → Bool
 are_usable_at e ram n address = list_all (λ p. is_usable e (ram.page p)) (run (page_number ram.base address) n)
 
 -- how many bytes TX has, and RX
@@ -68,7 +71,7 @@ abbrev pub room_of : Option Buffers → ℕ
 room_of own = option_map_or (λ (b : Buffers). 4096 * b.pages) own 0
 
 -- the checks of each call, in order, for an endpoint e with these buffers of its own
-abbrev pub map_guards : ℕ → Option Buffers → Candidates → ℕ → ℕ → ℕ → List (Bool × Refusal)
+abbrev pub map_guards : Identifier → Option Buffers → Candidates → ℕ → ℕ → ℕ → List (Bool × Refusal)
 map_guards e own ram tx rx pages =
     (is_none own, BuffersMapped)
     ∷ (is_from_to 1 MOST_BUFFER_PAGES pages, BufferPageCount)
@@ -87,29 +90,30 @@ release_guards own = (is_full own, RxEmpty) ∷ []
 
 -- the buffers of this many pages each from these addresses on, with RX empty
 abbrev pub new_buffers : ℕ → ℕ → ℕ → ℕ → Buffers
-new_buffers base tx rx pages = record { tx = page_number base tx; rx = page_number base rx; pages = pages; full = false }
+new_buffers base tx rx pages =
+    record { tx = page_number base tx; rx = page_number base rx; pages = pages; full = false }
 
 -- ON A STATE
-abbrev pub candidate_at : State → ℕ → Option Candidate
+abbrev pub candidate_at : State → PageIndex → Option Candidate
 candidate_at s p =
     option_map (λ (page : Page). record { owner = page.owner; own_right = page.own_right; named = is_some (handle_at s p) }) (page_at s p)
 
 abbrev pub candidates : State → Candidates
 candidates s = record { base = s.ram_base; count = length s.pages; page = candidate_at s }
 
-abbrev pub with_buffers : State → ℕ → Option Buffers → State
-with_buffers s e b = record s { buffers = buffers_with s.buffers e b }
+abbrev pub with_buffers : State → Identifier → Option Buffers → State
+with_buffers s e own = record s { buffers = buffers_with s.buffers e own }
 
-abbrev pub with_rx : State → ℕ → Bool → State
+abbrev pub with_rx : State → Identifier → Bool → State
 with_rx s e full = record s { buffers = buffers_with_rx s.buffers e full }
 
 -- the pages, where these bytes stand in RX from its start, and its other bytes stay
 abbrev pub filled_pages : List (Option Page) → List ℕ → Option Buffers → List (Option Page)
 filled_pages pages bytes None = pages
-filled_pages pages bytes (Some b) = written_run b.pages pages b.rx bytes
+filled_pages pages bytes (Some buffers) = written_run buffers.pages pages buffers.rx bytes
 
 -- so they stand in RX of e, which is full
-abbrev pub filled : State → ℕ → List ℕ → State
+abbrev pub filled : State → Identifier → List ℕ → State
 filled s e bytes =
     record s { pages = filled_pages s.pages bytes (buffers_of s e); buffers = buffers_with_rx s.buffers e true }
 
@@ -126,4 +130,5 @@ rxtx_unmap s endpoint =
     record { guards = unmap_guards (buffers_of s s.runner) endpoint; state = with_buffers s s.runner None; reply = success 0 0 }
 
 abbrev pub rx_release : State → Service
-rx_release s = record { guards = release_guards (buffers_of s s.runner); state = with_rx s s.runner false; reply = success 0 0 }
+rx_release s =
+    record { guards = release_guards (buffers_of s s.runner); state = with_rx s s.runner false; reply = success 0 0 }

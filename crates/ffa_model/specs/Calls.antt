@@ -1,15 +1,15 @@
 -- SPDX-License-Identifier: MIT OR Apache-2.0
 -- The form of each call: guards in order, and what changes where none fails.
-use Rattle.std.specs.Prelude.{ℕ, Bool, List, [], ◌∷◌, Option, Some, None, if◌then◌else◌, replicate}
+use Rattle.std.specs.Prelude.{ℕ, Bool, List, [], ◌∷◌, ◌++◌, Option, Some, None, if◌then◌else◌, replicate}
 use Rattle.ffa_model.specs.declared.operation.ErrorCode.{ErrorCode}
 use Rattle.ffa_model.specs.declared.operation.ErrorCode.TheVariants.{NotSupported, InvalidParameters, NoMemory, Busy, Denied}
 use Rattle.ffa_model.specs.declared.operation.Outcome.{Outcome}
 use Rattle.ffa_model.specs.declared.operation.Outcome.TheVariants.{Regs}
 use Rattle.ffa_model.specs.declared.call.Reply.{Reply}
-use Rattle.ffa_model.specs.declared.call.Reply.TheVariants.{Version, Error, Success, Passed, Scheduled, Retrieved}
+use Rattle.ffa_model.specs.declared.call.Reply.TheVariants.{Version, Error, Success, Sent, Pending, Passed, Scheduled, Retrieved}
 use Rattle.ffa_model.specs.declared.function.TheConstants.{FFA_ERROR, FFA_SUCCESS, FFA_MEM_RETRIEVE_RESP}
 use Rattle.ffa_model.specs.declared.refusal.Refusal.{Refusal}
-use Rattle.ffa_model.specs.Bits.{word_of_two}
+use Rattle.ffa_model.specs.Bits.{bits, word_of_two}
 use Rattle.ffa_model.specs.State.{State}
 use Rattle.ffa_model.specs.RefusalCodes.{code_of}
 
@@ -31,11 +31,19 @@ code_number NoMemory = 0xFFFFFFFD
 code_number Busy = 0xFFFFFFFC
 code_number Denied = 0xFFFFFFFA
 
--- the eight registers of a reply: w1 names two endpoints, or an endpoint and its execution context
+-- a word in two registers
+abbrev pub halves : ℕ → List ℕ
+halves word = bits 31 0 word ∷ bits 63 32 word ∷ []
+
+-- The eight registers of a reply. w1 names two endpoints, or an endpoint and its execution context. Of the manager's notifications w6
+-- has the lowest 32, of which bit 0 alone is ever set, and there is no hypervisor whose w7 would hold
 abbrev pub encode : Reply → List ℕ
 encode (Version version) = version ∷ replicate 7 0
 encode (Error code) = FFA_ERROR ∷ 0 ∷ code_number code ∷ replicate 5 0
 encode (Success results) = FFA_SUCCESS ∷ 0 ∷ results
+encode (Sent handle) = FFA_SUCCESS ∷ 0 ∷ halves handle.0 ++ replicate 4 0
+encode (Pending partitions normal_world manager) =
+    FFA_SUCCESS ∷ 0 ∷ halves partitions ++ halves normal_world ++ bits 31 0 manager ∷ 0 ∷ []
 encode (Passed message) = message.function ∷ word_of_two message.sender.0 message.receiver.0 ∷ 0 ∷ message.payload
 encode (Scheduled function partition) = function ∷ word_of_two partition.0 0 ∷ replicate 6 0
 encode (Retrieved size) = FFA_MEM_RETRIEVE_RESP ∷ size ∷ size ∷ replicate 5 0
@@ -68,4 +76,4 @@ answered None old new reply = replied new reply
 answered (Some code) old new reply = replied old (Error code)
 
 abbrev pub served : State → Service → Stepped
-served s c = answered (first_failure c.guards) s c.state c.reply
+served s service = answered (first_failure service.guards) s service.state service.reply

@@ -5,6 +5,7 @@ use Rattle.std.specs.Prelude.{◌≡◌, ◌≤◌, ◌<◌, ◌⊎◌, ℕ, zer
 use Rattle.ffa_model.specs.declared.limits.TheConstants.{MOST_ENDPOINTS}
 use Rattle.ffa_model.specs.declared.certificate.CertRun.{CertRun}
 use Rattle.ffa_model.specs.declared.rights.Rights.{Rights}
+use Rattle.ffa_model.specs.Numbers.{PageIndex}
 use Rattle.ffa_model.specs.Access.{access, handle_at}
 use Rattle.ffa_model.specs.Alike.{is_alike}
 use Rattle.ffa_model.specs.Identifiers.{identifier}
@@ -19,11 +20,11 @@ is_same_handle (Some a) None = false
 is_same_handle (Some a) (Some b) = a == b
 
 -- two pages that are alike and stand in one open transaction or in none
-unfoldable pub are_as_one : State → ℕ → ℕ → Bool
+unfoldable pub are_as_one : State → PageIndex → PageIndex → Bool
 are_as_one s p q = is_alike s p q && is_same_handle (handle_at s p) (handle_at s q)
 
 -- the access to a page by the endpoints' places, with nothing past the last endpoint
-abbrev pub access_by_place : State → ℕ → ℕ → Option Rights
+abbrev pub access_by_place : State → PageIndex → ℕ → Option Rights
 access_by_place s p place = if nat_lt place (length s.parties) then access s (identifier place) p else None
 
 -- the longest run from a page on: its pages are as one with the first, and the page behind it isn't, or is outside RAM
@@ -40,11 +41,11 @@ pub record IsRun (s : State) (from : ℕ) (run : CertRun) : Type 0 where
 -- THE SAME, computed page by page
 
 -- the last page of the run that goes on from page p, behind which there are n pages
-abbrev pub last_from : State → ℕ → ℕ → ℕ
+abbrev pub last_from : State → PageIndex → ℕ → ℕ
 last_from s p zero = p
 last_from s p (suc n) = if are_as_one s p (p + 1) then last_from s (p + 1) n else p
 
-unfoldable pub run_from : State → ℕ → CertRun
+unfoldable pub run_from : State → PageIndex → CertRun
 run_from s p = record {
   first = record { 0 = p };
   last = record { 0 = last_from s p (length s.pages - (p + 1)) };
@@ -56,7 +57,7 @@ run_from s p = record {
 -- ALL RUNS
 
 -- the runs one behind the other from page p on, of which there are n at most
-abbrev pub runs_from : State → ℕ → ℕ → List CertRun
+abbrev pub runs_from : State → PageIndex → ℕ → List CertRun
 runs_from s p zero = []
 runs_from s p (suc n) =
     if nat_lt p (length s.pages) then run_from s p ∷ runs_from s ((run_from s p).last.0 + 1) n else []

@@ -11,16 +11,16 @@ use Rattle.ffa_model.specs.declared.rights.Kind.TheVariants.{Share, Lend, Donate
 
 -- numbers in bytes, by their place, the low byte first
 abbrev pub byte : List ℕ → ℕ → ℕ
-byte b at = slice_index b at
+byte bytes at = slice_index bytes at
 
 unfoldable pub u16_at : List ℕ → ℕ → ℕ
-u16_at b at = little_from at 2 b
+u16_at bytes at = little_from at 2 bytes
 
 unfoldable pub u32_at : List ℕ → ℕ → ℕ
-u32_at b at = little_from at 4 b
+u32_at bytes at = little_from at 4 bytes
 
 unfoldable pub u64_at : List ℕ → ℕ → ℕ
-u64_at b at = little_from at 8 b
+u64_at bytes at = little_from at 8 bytes
 
 -- bytes, and the version of the endpoint that writes or reads them
 pub record Versioned : Type 0 where
@@ -37,20 +37,20 @@ header_size Compact = 32
 header_size V1_1 = 48
 
 abbrev pub sender_field : Versioned → ℕ
-sender_field b = u16_at b.bytes 0
+sender_field descriptor = u16_at descriptor.bytes 0
 
 -- in the compact form one byte, and a reserved one behind it that is 0
 abbrev pub attributes_field : Versioned → ℕ
-attributes_field b = u16_at b.bytes 2
+attributes_field descriptor = u16_at descriptor.bytes 2
 
 abbrev pub flags_field : Versioned → ℕ
-flags_field b = u32_at b.bytes 4
+flags_field descriptor = u32_at descriptor.bytes 4
 
 abbrev pub handle_field : Versioned → ℕ
-handle_field b = u64_at b.bytes 8
+handle_field descriptor = u64_at descriptor.bytes 8
 
 abbrev pub tag_field : Versioned → ℕ
-tag_field b = u64_at b.bytes 16
+tag_field descriptor = u64_at descriptor.bytes 16
 
 -- what stands at 24: the size of an access descriptor, 16, where the header tells it; else 0, which is reserved
 abbrev pub told_access_size : Version → ℕ
@@ -58,7 +58,7 @@ told_access_size Compact = 0
 told_access_size V1_1 = 16
 
 abbrev pub receiver_count : Versioned → ℕ
-receiver_count b = u32_at b.bytes 28
+receiver_count descriptor = u32_at descriptor.bytes 28
 
 -- where the access descriptors begin
 abbrev pub array_in : Version → List ℕ → ℕ
@@ -66,14 +66,14 @@ array_in Compact bytes = 32
 array_in V1_1 bytes = u32_at bytes 32
 
 abbrev pub array_place : Versioned → ℕ
-array_place b = array_in b.version b.bytes
+array_place descriptor = array_in descriptor.version descriptor.bytes
 
 -- the place of access descriptor i
 abbrev pub access_place : Versioned → ℕ → ℕ
-access_place b i = array_place b + 16 * i
+access_place descriptor i = array_place descriptor + 16 * i
 
 abbrev pub array_end : Versioned → ℕ
-array_end b = access_place b (receiver_count b)
+array_end descriptor = access_place descriptor (receiver_count descriptor)
 
 -- the bytes behind the array's place, which are reserved
 abbrev pub is_rest_zero : Version → List ℕ → Bool
@@ -81,51 +81,51 @@ is_rest_zero Compact bytes = true
 is_rest_zero V1_1 bytes = (u32_at bytes 36 == 0) && (u64_at bytes 40 == 0)
 
 -- access descriptors of 16 bytes stand behind the header, and all lie inside the bytes
-pub record IsHeader (b : Versioned) : Type 0 where
-  pub whole : header_size b.version ≤ length b.bytes
-  pub told : u32_at b.bytes 24 ≡ told_access_size b.version
-  pub aligned : array_place b % 16 ≡ 0
-  pub behind : header_size b.version ≤ array_place b
-  pub inside : array_end b ≤ length b.bytes
-  pub reserved : is_rest_zero b.version b.bytes ≡ true
+pub record IsHeader (descriptor : Versioned) : Type 0 where
+  pub whole : header_size descriptor.version ≤ length descriptor.bytes
+  pub told : u32_at descriptor.bytes 24 ≡ told_access_size descriptor.version
+  pub aligned : array_place descriptor % 16 ≡ 0
+  pub behind : header_size descriptor.version ≤ array_place descriptor
+  pub inside : array_end descriptor ≤ length descriptor.bytes
+  pub reserved : is_rest_zero descriptor.version descriptor.bytes ≡ true
 
 abbrev pub is_header : Versioned → Bool
-is_header b =
-    nat_le (header_size b.version) (length b.bytes)
-    && (u32_at b.bytes 24 == told_access_size b.version)
-    && (array_place b % 16 == 0)
-    && nat_le (header_size b.version) (array_place b)
-    && nat_le (array_end b) (length b.bytes)
-    && is_rest_zero b.version b.bytes
+is_header descriptor =
+    nat_le (header_size descriptor.version) (length descriptor.bytes)
+    && (u32_at descriptor.bytes 24 == told_access_size descriptor.version)
+    && (array_place descriptor % 16 == 0)
+    && nat_le (header_size descriptor.version) (array_place descriptor)
+    && nat_le (array_end descriptor) (length descriptor.bytes)
+    && is_rest_zero descriptor.version descriptor.bytes
 
 -- AN ACCESS DESCRIPTOR, by its place
 abbrev pub endpoint_field : List ℕ → ℕ → ℕ
-endpoint_field b at = u16_at b at
+endpoint_field bytes at = u16_at bytes at
 
 abbrev pub permissions_field : List ℕ → ℕ → ℕ
-permissions_field b at = byte b (at + 2)
+permissions_field bytes at = byte bytes (at + 2)
 
 abbrev pub access_flags_field : List ℕ → ℕ → ℕ
-access_flags_field b at = byte b (at + 3)
+access_flags_field bytes at = byte bytes (at + 3)
 
 abbrev pub composite_field : List ℕ → ℕ → ℕ
-composite_field b at = u32_at b (at + 4)
+composite_field bytes at = u32_at bytes (at + 4)
 
 abbrev pub access_reserved_field : List ℕ → ℕ → ℕ
-access_reserved_field b at = u64_at b (at + 8)
+access_reserved_field bytes at = u64_at bytes (at + 8)
 
 -- THE COMPOSITE: its place as the first access descriptor tells it, how many ranges it has, and the place of range i
 abbrev pub composite_place : Versioned → ℕ
-composite_place b = composite_field b.bytes (array_place b)
+composite_place descriptor = composite_field descriptor.bytes (array_place descriptor)
 
 abbrev pub total_field : Versioned → ℕ
-total_field b = u32_at b.bytes (composite_place b)
+total_field descriptor = u32_at descriptor.bytes (composite_place descriptor)
 
 abbrev pub range_count : Versioned → ℕ
-range_count b = u32_at b.bytes (composite_place b + 4)
+range_count descriptor = u32_at descriptor.bytes (composite_place descriptor + 4)
 
 abbrev pub range_place : Versioned → ℕ → ℕ
-range_place b i = composite_place b + 16 + 16 * i
+range_place descriptor i = composite_place descriptor + 16 + 16 * i
 
 -- CODES
 -- data permission: 00 not specified, 01 read only, 10 read and write

@@ -7,32 +7,33 @@ use Rattle.ffa_model.specs.declared.operation.ErrorCode.TheVariants.{Busy}
 use Rattle.ffa_model.specs.declared.operation.Outcome.{Outcome}
 use Rattle.ffa_model.specs.declared.operation.Outcome.TheVariants.{Regs}
 use Rattle.ffa_model.specs.declared.call.Reply.TheVariants.{Error}
+use Rattle.ffa_model.specs.Numbers.{Identifier}
 use Rattle.ffa_model.specs.State.{State}
 use Rattle.ffa_model.specs.Calls.{Stepped, encode}
 use Rattle.ffa_model.specs.Memory.{load, store, fetch}
 use Rattle.ffa_model.specs.Step.{step}
 
 -- the state in which e runs in place of the runner
-abbrev pub as_run_by : ℕ → State → State
+abbrev pub as_run_by : Identifier → State → State
 as_run_by e s = record s { runner = e }
 
 -- who doesn't run is answered BUSY, and nothing changes
-abbrev pub busy : ℕ → State → Stepped
+abbrev pub busy : Identifier → State → Stepped
 busy e s = record { state = s; outcome = Regs (record { 0 = e }) (encode (Error Busy)) }
 
 -- what was done where another runs, with the runner put back
 abbrev pub with_runner : ℕ → Stepped → Stepped
-with_runner r done = record done { state = as_run_by r done.state }
+with_runner runner done = record done { state = as_run_by runner done.state }
 
 -- an operation of an endpoint that doesn't run: no call is served, and it has access where it would have it if it ran
-abbrev pub step_elsewhere : State → ℕ → Op → Stepped
+abbrev pub step_elsewhere : State → Identifier → Op → Stepped
 step_elsewhere s e (Call x) = busy e s
 step_elsewhere s e (Load addr size) = with_runner s.runner (load (as_run_by e s) addr size)
 step_elsewhere s e (Store addr size value) = with_runner s.runner (store (as_run_by e s) addr size value)
 step_elsewhere s e (Fetch addr) = with_runner s.runner (fetch (as_run_by e s) addr)
 
 -- one operation of e
-abbrev pub step_as : State → ℕ → Op → Stepped
+abbrev pub step_as : State → Identifier → Op → Stepped
 step_as s e op = if s.runner == e then step s op else step_elsewhere s e op
 
 -- the outcomes of a list of operations, each of the endpoint beside it, and the state after them

@@ -9,6 +9,7 @@ use Rattle.ffa_model.specs.declared.endpoint.Region.{Region}
 use Rattle.ffa_model.specs.declared.endpoint.Endpoint.{Endpoint}
 use Rattle.ffa_model.specs.declared.schedule.Status.{Status}
 use Rattle.ffa_model.specs.declared.schedule.Status.TheVariants.{Running, Waiting}
+use Rattle.ffa_model.specs.Numbers.{PageIndex}
 use Rattle.ffa_model.specs.Bits.{is_set}
 use Rattle.ffa_model.specs.Lists.{listed}
 use Rattle.ffa_model.specs.Regions.{has_page, owned_regions}
@@ -18,7 +19,7 @@ abbrev pub party_of : Endpoint → Party
 party_of e = record { version = e.version; uuid = e.uuid; properties = e.properties.0 }
 
 -- a page of a region belongs to the region's endpoint, with the region's right as base; all others are the manager's
-abbrev pub page_with_bytes : ℕ → List Endpoint → ℕ → List ℕ → Option Page
+abbrev pub page_with_bytes : ℕ → List Endpoint → PageIndex → List ℕ → Option Page
 page_with_bytes base es p bytes =
     option_map (λ (x : ℕ × Region). record { owner = x.0; own_right = x.1.rights; bytes = bytes })
     (find (λ (x : ℕ × Region). has_page base p x.1) (owned_regions es))
@@ -30,7 +31,7 @@ first_status (suc i) = Waiting
 
 -- a partition that receives notifications has bitmaps from boot
 abbrev pub has_first_bitmaps : ℕ × Endpoint → Bool
-has_first_bitmaps x = not (x.0 == 0) && is_set 3 x.1.properties.0
+has_first_bitmaps endpoint = not (endpoint.0 == 0) && is_set 3 endpoint.1.properties.0
 
 -- all bytes are 0, nothing is open, sent, mapped, bound or pending
 unfoldable pub first : ℕ → ℕ → List Endpoint → State

@@ -31,96 +31,96 @@ first_of (suc n) flaw = option_or (flaw 0) (first_of n (λ i. flaw (suc i)))
 
 -- OF A HEADER
 unfoldable pub header_flaw : Versioned → Option Flaw
-header_flaw b =
-    first_broken ((nat_le (header_size b.version) (length b.bytes), Header Short)
-    ∷ (u32_at b.bytes 24 == told_access_size b.version, Header AccessSize)
-    ∷ (array_place b % 16 == 0, Header ArrayUnaligned)
-    ∷ (nat_le (header_size b.version) (array_place b), Header ArrayInHeader)
-    ∷ (nat_le (array_end b) (length b.bytes), Header ArrayOutside)
-    ∷ (is_rest_zero b.version b.bytes, Header HeaderReserved)
+header_flaw descriptor =
+    first_broken ((nat_le (header_size descriptor.version) (length descriptor.bytes), Header Short)
+    ∷ (u32_at descriptor.bytes 24 == told_access_size descriptor.version, Header AccessSize)
+    ∷ (array_place descriptor % 16 == 0, Header ArrayUnaligned)
+    ∷ (nat_le (header_size descriptor.version) (array_place descriptor), Header ArrayInHeader)
+    ∷ (nat_le (array_end descriptor) (length descriptor.bytes), Header ArrayOutside)
+    ∷ (is_rest_zero descriptor.version descriptor.bytes, Header HeaderReserved)
     ∷ [])
 
 -- OF A SEND of this kind, behind its header: the header's fields, the access descriptors one by one, the composite, its ranges
 -- one by one, and their sum
 unfoldable pub send_header_flaw : Kind → Versioned → Option Flaw
-send_header_flaw kind b =
-    first_broken ((attributes_field b == attributes_of kind (receiver_count b), Send Attributes)
-    ∷ (nat_le (flags_field b) (most_flags kind), Send Flags)
-    ∷ (handle_field b == 0, Send Handle)
-    ∷ (nat_le 1 (receiver_count b), Send NoReceiver)
-    ∷ (nat_le (receiver_count b) (most_receivers kind), Send ManyReceivers)
+send_header_flaw kind descriptor =
+    first_broken ((attributes_field descriptor == attributes_of kind (receiver_count descriptor), Send Attributes)
+    ∷ (nat_le (flags_field descriptor) (most_flags kind), Send Flags)
+    ∷ (handle_field descriptor == 0, Send Handle)
+    ∷ (nat_le 1 (receiver_count descriptor), Send NoReceiver)
+    ∷ (nat_le (receiver_count descriptor) (most_receivers kind), Send ManyReceivers)
     ∷ [])
 
 -- access descriptor i
 unfoldable pub access_flaw : Kind → Versioned → ℕ → Option Flaw
-access_flaw kind b i =
-    first_broken ((is_grant kind (permissions_field b.bytes (access_place b i)), Access i Permissions)
-    ∷ (access_flags_field b.bytes (access_place b i) == 0, Access i AccessFlags)
-    ∷ (composite_field b.bytes (access_place b i) == composite_place b, Access i OtherComposite)
-    ∷ (access_reserved_field b.bytes (access_place b i) == 0, Access i AccessReserved)
-    ∷ (not (endpoint_field b.bytes (access_place b i) == sender_field b), Access i ReceiverIsSender)
-    ∷ (not (is_named (endpoint_field b.bytes (access_place b i)) (receivers_in b i)), Access i ReceiverTwice)
+access_flaw kind descriptor i =
+    first_broken ((is_grant kind (permissions_field descriptor.bytes (access_place descriptor i)), Access i Permissions)
+    ∷ (access_flags_field descriptor.bytes (access_place descriptor i) == 0, Access i AccessFlags)
+    ∷ (composite_field descriptor.bytes (access_place descriptor i) == composite_place descriptor, Access i OtherComposite)
+    ∷ (access_reserved_field descriptor.bytes (access_place descriptor i) == 0, Access i AccessReserved)
+    ∷ (not (endpoint_field descriptor.bytes (access_place descriptor i) == sender_field descriptor), Access i ReceiverIsSender)
+    ∷ (not (is_named (endpoint_field descriptor.bytes (access_place descriptor i)) (receivers_in descriptor i)), Access i ReceiverTwice)
     ∷ [])
 
 unfoldable pub composite_flaw : Versioned → Option Flaw
-composite_flaw b =
-    first_broken ((nat_le (range_place b 0) (length b.bytes), Composite Outside)
-    ∷ (composite_place b % 16 == 0, Composite Unaligned)
-    ∷ (nat_le (array_end b) (composite_place b), Composite InArray)
-    ∷ (nat_le 1 (range_count b), Composite NoRange)
-    ∷ (nat_le (range_count b) MOST_RANGES, Composite ManyRanges)
-    ∷ (u64_at b.bytes (composite_place b + 8) == 0, Composite CompositeReserved)
-    ∷ (nat_le (range_place b (range_count b)) (length b.bytes), Composite RangesOutside)
+composite_flaw descriptor =
+    first_broken ((nat_le (range_place descriptor 0) (length descriptor.bytes), Composite Outside)
+    ∷ (composite_place descriptor % 16 == 0, Composite Unaligned)
+    ∷ (nat_le (array_end descriptor) (composite_place descriptor), Composite InArray)
+    ∷ (nat_le 1 (range_count descriptor), Composite NoRange)
+    ∷ (nat_le (range_count descriptor) MOST_RANGES, Composite ManyRanges)
+    ∷ (u64_at descriptor.bytes (composite_place descriptor + 8) == 0, Composite CompositeReserved)
+    ∷ (nat_le (range_place descriptor (range_count descriptor)) (length descriptor.bytes), Composite RangesOutside)
     ∷ [])
 
 -- range i
 unfoldable pub range_flaw : Versioned → ℕ → Option Flaw
-range_flaw b i =
-    first_broken ((nat_le 1 (range_in b i).pages, Range i Empty)
-    ∷ ((range_in b i).address % 4096 == 0, Range i RangeUnaligned)
-    ∷ (nat_le (range_end (range_in b i)) (2 ^ 48), Range i TooHigh)
-    ∷ (u32_at b.bytes (range_place b i + 12) == 0, Range i RangeReserved)
-    ∷ (list_all (are_apart (range_in b i)) (ranges_in b i), Range i Overlap)
+range_flaw descriptor i =
+    first_broken ((nat_le 1 (range_in descriptor i).pages, Range i Empty)
+    ∷ ((range_in descriptor i).address % 4096 == 0, Range i RangeUnaligned)
+    ∷ (nat_le (range_end (range_in descriptor i)) (2 ^ 48), Range i TooHigh)
+    ∷ (u32_at descriptor.bytes (range_place descriptor i + 12) == 0, Range i RangeReserved)
+    ∷ (list_all (are_apart (range_in descriptor i)) (ranges_in descriptor i), Range i Overlap)
     ∷ [])
 
 unfoldable pub total_flaw : Versioned → Option Flaw
-total_flaw b = first_broken ((page_total (ranges_in b (range_count b)) == total_field b, Composite Total) ∷ [])
+total_flaw descriptor = first_broken ((page_total (ranges_in descriptor (range_count descriptor)) == total_field descriptor, Composite Total) ∷ [])
 
 -- the first condition of a send descriptor of this kind that the bytes break
 unfoldable pub send_flaw : Kind → Versioned → Option Flaw
-send_flaw kind b =
-    option_or (header_flaw b)
-    (option_or (send_header_flaw kind b)
-    (option_or (first_of (receiver_count b) (access_flaw kind b))
-    (option_or (composite_flaw b)
-    (option_or (first_of (range_count b) (range_flaw b)) (total_flaw b)))))
+send_flaw kind descriptor =
+    option_or (header_flaw descriptor)
+    (option_or (send_header_flaw kind descriptor)
+    (option_or (first_of (receiver_count descriptor) (access_flaw kind descriptor))
+    (option_or (composite_flaw descriptor)
+    (option_or (first_of (range_count descriptor) (range_flaw descriptor)) (total_flaw descriptor)))))
 
 -- OF A RETRIEVE for this endpoint: the header's fields, and the one access descriptor
 unfoldable pub asked_header_flaw : Versioned → Option Flaw
-asked_header_flaw b =
-    first_broken (((attributes_field b == 0) || (attributes_field b == normal_memory), Retrieve AskedAttributes)
-    ∷ (flags_field b == 8 * bits 4 3 (flags_field b), Retrieve AskedFlags)
-    ∷ (receiver_count b == 1, Retrieve AccessCount)
+asked_header_flaw descriptor =
+    first_broken (((attributes_field descriptor == 0) || (attributes_field descriptor == normal_memory), Retrieve AskedAttributes)
+    ∷ (flags_field descriptor == 8 * bits 4 3 (flags_field descriptor), Retrieve AskedFlags)
+    ∷ (receiver_count descriptor == 1, Retrieve AccessCount)
     ∷ [])
 
 unfoldable pub asked_access_flaw : ℕ → Versioned → Option Flaw
-asked_access_flaw endpoint b =
-    first_broken ((endpoint_field b.bytes (array_place b) == endpoint, Retrieve ReceiverIsAnother)
-    ∷ (not (bits 1 0 (asked_permissions b) == 3), Retrieve DataPermission)
-    ∷ (not (bits 3 2 (asked_permissions b) == 3), Retrieve InstructionPermission)
-    ∷ (bits 7 4 (asked_permissions b) == 0, Retrieve PermissionsReserved)
-    ∷ (access_flags_field b.bytes (array_place b) == 0, Retrieve AskedAccessFlags)
-    ∷ (composite_field b.bytes (array_place b) == 0, Retrieve CompositeTold)
-    ∷ (access_reserved_field b.bytes (array_place b) == 0, Retrieve AskedAccessReserved)
+asked_access_flaw endpoint descriptor =
+    first_broken ((endpoint_field descriptor.bytes (array_place descriptor) == endpoint, Retrieve ReceiverIsAnother)
+    ∷ (not (bits 1 0 (asked_permissions descriptor) == 3), Retrieve DataPermission)
+    ∷ (not (bits 3 2 (asked_permissions descriptor) == 3), Retrieve InstructionPermission)
+    ∷ (bits 7 4 (asked_permissions descriptor) == 0, Retrieve PermissionsReserved)
+    ∷ (access_flags_field descriptor.bytes (array_place descriptor) == 0, Retrieve AskedAccessFlags)
+    ∷ (composite_field descriptor.bytes (array_place descriptor) == 0, Retrieve CompositeTold)
+    ∷ (access_reserved_field descriptor.bytes (array_place descriptor) == 0, Retrieve AskedAccessReserved)
     ∷ [])
 
 unfoldable pub retrieve_flaw : ℕ → Versioned → Option Flaw
-retrieve_flaw endpoint b = option_or (header_flaw b) (option_or (asked_header_flaw b) (asked_access_flaw endpoint b))
+retrieve_flaw endpoint descriptor = option_or (header_flaw descriptor) (option_or (asked_header_flaw descriptor) (asked_access_flaw endpoint descriptor))
 
 -- OF A RELINQUISH
 unfoldable pub relinquish_flaw : List ℕ → Option Flaw
-relinquish_flaw b =
-    first_broken ((nat_le 18 (length b), Relinquish RelinquishShort)
-    ∷ (nat_le (u32_at b 8) 1, Relinquish RelinquishFlags)
-    ∷ (u32_at b 12 == 1, Relinquish EndpointCount)
+relinquish_flaw bytes =
+    first_broken ((nat_le 18 (length bytes), Relinquish RelinquishShort)
+    ∷ (nat_le (u32_at bytes 8) 1, Relinquish RelinquishFlags)
+    ∷ (u32_at bytes 12 == 1, Relinquish EndpointCount)
     ∷ [])

@@ -35,10 +35,10 @@ told_array_in Compact bytes = 32
 told_array_in V1_1 bytes = told_place bytes 32
 
 abbrev pub told_array : Versioned → ℕ
-told_array b = told_array_in b.version b.bytes
+told_array descriptor = told_array_in descriptor.version descriptor.bytes
 
 abbrev pub told_composite : Versioned → ℕ
-told_composite b = told_place b.bytes (told_array b + 4)
+told_composite descriptor = told_place descriptor.bytes (told_array descriptor + 4)
 
 -- how many access descriptors there are, and in version 1.1, in the next bytes, where they begin
 abbrev pub array_field : Version → FieldPlace
@@ -110,13 +110,13 @@ relinquish_flaw_place EndpointCount = field 12 4
 
 -- the field of which the broken condition speaks
 abbrev pub flaw_place : Versioned → Flaw → FieldPlace
-flaw_place b (Header flaw) = header_flaw_place b.version flaw
-flaw_place b (Send flaw) = send_flaw_place flaw
-flaw_place b (Access i flaw) = access_flaw_place (told_array b + 16 * i) flaw
-flaw_place b (Composite flaw) = composite_flaw_place (told_array b) (told_composite b) flaw
-flaw_place b (Range i flaw) = range_flaw_place (told_composite b + 16 + 16 * i) flaw
-flaw_place b (Retrieve flaw) = retrieve_flaw_place (told_array b) flaw
-flaw_place b (Relinquish flaw) = relinquish_flaw_place flaw
+flaw_place descriptor (Header flaw) = header_flaw_place descriptor.version flaw
+flaw_place descriptor (Send flaw) = send_flaw_place flaw
+flaw_place descriptor (Access i flaw) = access_flaw_place (told_array descriptor + 16 * i) flaw
+flaw_place descriptor (Composite flaw) = composite_flaw_place (told_array descriptor) (told_composite descriptor) flaw
+flaw_place descriptor (Range i flaw) = range_flaw_place (told_composite descriptor + 16 + 16 * i) flaw
+flaw_place descriptor (Retrieve flaw) = retrieve_flaw_place (told_array descriptor) flaw
+flaw_place descriptor (Relinquish flaw) = relinquish_flaw_place flaw
 
 -- the number of 1, 2, 4 or 8 bytes at a place
 abbrev pub number_of_size : List ℕ → ℕ → ℕ → Option ℕ
@@ -129,4 +129,5 @@ number_of_size bytes at size =
 
 -- what stands in a field, where it has so many bytes and all are there
 abbrev pub field_value : List ℕ → FieldPlace → Option ℕ
-field_value bytes place = if nat_le (place.first + place.size) (length bytes) then number_of_size bytes place.first place.size else None
+field_value bytes place =
+    if nat_le (place.first + place.size) (length bytes) then number_of_size bytes place.first place.size else None

@@ -26,86 +26,92 @@ use Rattle.ffa_model.specs.RetrieveDescriptor.{asked_permissions}
 
 -- `IsHeader`
 abbrev pub HeaderBreaks : Versioned → HeaderFlaw → Type 0
-HeaderBreaks b Short = length b.bytes < header_size b.version
-HeaderBreaks b AccessSize = u32_at b.bytes 24 ≢ told_access_size b.version
-HeaderBreaks b ArrayUnaligned = array_place b % 16 ≢ 0
-HeaderBreaks b ArrayInHeader = array_place b < header_size b.version
-HeaderBreaks b ArrayOutside = length b.bytes < array_end b
-HeaderBreaks b HeaderReserved = is_rest_zero b.version b.bytes ≡ false
+HeaderBreaks descriptor Short = length descriptor.bytes < header_size descriptor.version
+HeaderBreaks descriptor AccessSize = u32_at descriptor.bytes 24 ≢ told_access_size descriptor.version
+HeaderBreaks descriptor ArrayUnaligned = array_place descriptor % 16 ≢ 0
+HeaderBreaks descriptor ArrayInHeader = array_place descriptor < header_size descriptor.version
+HeaderBreaks descriptor ArrayOutside = length descriptor.bytes < array_end descriptor
+HeaderBreaks descriptor HeaderReserved = is_rest_zero descriptor.version descriptor.bytes ≡ false
 
 -- `Send`, of the header's fields
 abbrev pub SendHeaderBreaks : Kind → Versioned → SendFlaw → Type 0
-SendHeaderBreaks kind b Attributes = attributes_field b ≢ attributes_of kind (receiver_count b)
-SendHeaderBreaks kind b Flags = most_flags kind < flags_field b
-SendHeaderBreaks kind b Handle = handle_field b ≢ 0
-SendHeaderBreaks kind b NoReceiver = receiver_count b < 1
-SendHeaderBreaks kind b ManyReceivers = most_receivers kind < receiver_count b
+SendHeaderBreaks kind descriptor Attributes =
+    attributes_field descriptor ≢ attributes_of kind (receiver_count descriptor)
+SendHeaderBreaks kind descriptor Flags = most_flags kind < flags_field descriptor
+SendHeaderBreaks kind descriptor Handle = handle_field descriptor ≢ 0
+SendHeaderBreaks kind descriptor NoReceiver = receiver_count descriptor < 1
+SendHeaderBreaks kind descriptor ManyReceivers = most_receivers kind < receiver_count descriptor
 
 -- `IsAccess` and `distinct`, of access descriptor i
 abbrev pub AccessBreaks : Kind → Versioned → ℕ → AccessFlaw → Type 0
-AccessBreaks kind b i Permissions = IsGrant kind (permissions_field b.bytes (access_place b i)) → ⊥
-AccessBreaks kind b i AccessFlags = access_flags_field b.bytes (access_place b i) ≢ 0
-AccessBreaks kind b i OtherComposite = composite_field b.bytes (access_place b i) ≢ composite_place b
-AccessBreaks kind b i AccessReserved = access_reserved_field b.bytes (access_place b i) ≢ 0
-AccessBreaks kind b i ReceiverIsSender = endpoint_field b.bytes (access_place b i) ≡ sender_field b
-AccessBreaks kind b i ReceiverTwice =
-    (j : ℕ) × (j < i) × (endpoint_field b.bytes (access_place b j) ≡ endpoint_field b.bytes (access_place b i))
+AccessBreaks kind descriptor i Permissions =
+    IsGrant kind (permissions_field descriptor.bytes (access_place descriptor i)) → ⊥
+AccessBreaks kind descriptor i AccessFlags = access_flags_field descriptor.bytes (access_place descriptor i) ≢ 0
+AccessBreaks kind descriptor i OtherComposite =
+    composite_field descriptor.bytes (access_place descriptor i) ≢ composite_place descriptor
+AccessBreaks kind descriptor i AccessReserved = access_reserved_field descriptor.bytes (access_place descriptor i) ≢ 0
+AccessBreaks kind descriptor i ReceiverIsSender =
+    endpoint_field descriptor.bytes (access_place descriptor i) ≡ sender_field descriptor
+AccessBreaks kind descriptor i ReceiverTwice =
+    (j : ℕ) × (j < i) × (endpoint_field descriptor.bytes (access_place descriptor j) ≡ endpoint_field descriptor.bytes (access_place descriptor i))
 
 -- `IsComposite` and `total`. Of `inside` there are two: the composite itself, and its ranges
 abbrev pub CompositeBreaks : Versioned → CompositeFlaw → Type 0
-CompositeBreaks b Outside = length b.bytes < range_place b 0
-CompositeBreaks b Unaligned = composite_place b % 16 ≢ 0
-CompositeBreaks b InArray = composite_place b < array_end b
-CompositeBreaks b NoRange = range_count b < 1
-CompositeBreaks b ManyRanges = MOST_RANGES < range_count b
-CompositeBreaks b CompositeReserved = u64_at b.bytes (composite_place b + 8) ≢ 0
-CompositeBreaks b RangesOutside = length b.bytes < range_place b (range_count b)
-CompositeBreaks b Total = page_total (ranges_in b (range_count b)) ≢ total_field b
+CompositeBreaks descriptor Outside = length descriptor.bytes < range_place descriptor 0
+CompositeBreaks descriptor Unaligned = composite_place descriptor % 16 ≢ 0
+CompositeBreaks descriptor InArray = composite_place descriptor < array_end descriptor
+CompositeBreaks descriptor NoRange = range_count descriptor < 1
+CompositeBreaks descriptor ManyRanges = MOST_RANGES < range_count descriptor
+CompositeBreaks descriptor CompositeReserved = u64_at descriptor.bytes (composite_place descriptor + 8) ≢ 0
+CompositeBreaks descriptor RangesOutside = length descriptor.bytes < range_place descriptor (range_count descriptor)
+CompositeBreaks descriptor Total = page_total (ranges_in descriptor (range_count descriptor)) ≢ total_field descriptor
 
 -- `IsRange` and `apart`, of range i
 abbrev pub RangeBreaks : Versioned → ℕ → RangeFlaw → Type 0
-RangeBreaks b i Empty = (range_in b i).pages < 1
-RangeBreaks b i RangeUnaligned = (range_in b i).address % 4096 ≢ 0
-RangeBreaks b i TooHigh = 2 ^ 48 < range_end (range_in b i)
-RangeBreaks b i RangeReserved = u32_at b.bytes (range_place b i + 12) ≢ 0
-RangeBreaks b i Overlap = (j : ℕ) × (j < i) × (AreApart (range_in b i) (range_in b j) → ⊥)
+RangeBreaks descriptor i Empty = (range_in descriptor i).pages < 1
+RangeBreaks descriptor i RangeUnaligned = (range_in descriptor i).address % 4096 ≢ 0
+RangeBreaks descriptor i TooHigh = 2 ^ 48 < range_end (range_in descriptor i)
+RangeBreaks descriptor i RangeReserved = u32_at descriptor.bytes (range_place descriptor i + 12) ≢ 0
+RangeBreaks descriptor i Overlap = (j : ℕ) × (j < i) × (AreApart (range_in descriptor i) (range_in descriptor j) → ⊥)
 
 -- The bytes break this condition of a send descriptor of this kind
 abbrev pub SendBreaks : Kind → Versioned → Flaw → Type 0
-SendBreaks kind b (Header flaw) = HeaderBreaks b flaw
-SendBreaks kind b (Send flaw) = SendHeaderBreaks kind b flaw
-SendBreaks kind b (Access i flaw) = (i < receiver_count b) × AccessBreaks kind b i flaw
-SendBreaks kind b (Composite flaw) = CompositeBreaks b flaw
-SendBreaks kind b (Range i flaw) = (i < range_count b) × RangeBreaks b i flaw
-SendBreaks kind b (Retrieve flaw) = ⊥
-SendBreaks kind b (Relinquish flaw) = ⊥
+SendBreaks kind descriptor (Header flaw) = HeaderBreaks descriptor flaw
+SendBreaks kind descriptor (Send flaw) = SendHeaderBreaks kind descriptor flaw
+SendBreaks kind descriptor (Access i flaw) = (i < receiver_count descriptor) × AccessBreaks kind descriptor i flaw
+SendBreaks kind descriptor (Composite flaw) = CompositeBreaks descriptor flaw
+SendBreaks kind descriptor (Range i flaw) = (i < range_count descriptor) × RangeBreaks descriptor i flaw
+SendBreaks kind descriptor (Retrieve flaw) = ⊥
+SendBreaks kind descriptor (Relinquish flaw) = ⊥
 
 -- `Retrieve`, behind the header
 abbrev pub AskedBreaks : ℕ → Versioned → RetrieveFlaw → Type 0
-AskedBreaks endpoint b AskedAttributes = (attributes_field b ≢ 0) × (attributes_field b ≢ normal_memory)
-AskedBreaks endpoint b AskedFlags = flags_field b ≢ 8 * bits 4 3 (flags_field b)
-AskedBreaks endpoint b AccessCount = receiver_count b ≢ 1
-AskedBreaks endpoint b ReceiverIsAnother = endpoint_field b.bytes (array_place b) ≢ endpoint
-AskedBreaks endpoint b DataPermission = bits 1 0 (asked_permissions b) ≡ 3
-AskedBreaks endpoint b InstructionPermission = bits 3 2 (asked_permissions b) ≡ 3
-AskedBreaks endpoint b PermissionsReserved = bits 7 4 (asked_permissions b) ≢ 0
-AskedBreaks endpoint b AskedAccessFlags = access_flags_field b.bytes (array_place b) ≢ 0
-AskedBreaks endpoint b CompositeTold = composite_field b.bytes (array_place b) ≢ 0
-AskedBreaks endpoint b AskedAccessReserved = access_reserved_field b.bytes (array_place b) ≢ 0
+AskedBreaks endpoint descriptor AskedAttributes =
+    (attributes_field descriptor ≢ 0) × (attributes_field descriptor ≢ normal_memory)
+AskedBreaks endpoint descriptor AskedFlags = flags_field descriptor ≢ 8 * bits 4 3 (flags_field descriptor)
+AskedBreaks endpoint descriptor AccessCount = receiver_count descriptor ≢ 1
+AskedBreaks endpoint descriptor ReceiverIsAnother = endpoint_field descriptor.bytes (array_place descriptor) ≢ endpoint
+AskedBreaks endpoint descriptor DataPermission = bits 1 0 (asked_permissions descriptor) ≡ 3
+AskedBreaks endpoint descriptor InstructionPermission = bits 3 2 (asked_permissions descriptor) ≡ 3
+AskedBreaks endpoint descriptor PermissionsReserved = bits 7 4 (asked_permissions descriptor) ≢ 0
+AskedBreaks endpoint descriptor AskedAccessFlags = access_flags_field descriptor.bytes (array_place descriptor) ≢ 0
+AskedBreaks endpoint descriptor CompositeTold = composite_field descriptor.bytes (array_place descriptor) ≢ 0
+AskedBreaks endpoint descriptor AskedAccessReserved =
+    access_reserved_field descriptor.bytes (array_place descriptor) ≢ 0
 
 -- The bytes break this condition of a retrieve descriptor for this endpoint
 abbrev pub RetrieveBreaks : ℕ → Versioned → Flaw → Type 0
-RetrieveBreaks endpoint b (Header flaw) = HeaderBreaks b flaw
-RetrieveBreaks endpoint b (Retrieve flaw) = AskedBreaks endpoint b flaw
-RetrieveBreaks endpoint b flaw = ⊥
+RetrieveBreaks endpoint descriptor (Header flaw) = HeaderBreaks descriptor flaw
+RetrieveBreaks endpoint descriptor (Retrieve flaw) = AskedBreaks endpoint descriptor flaw
+RetrieveBreaks endpoint descriptor flaw = ⊥
 
 -- `Relinquish`
 abbrev pub ReturnBreaks : List ℕ → RelinquishFlaw → Type 0
-ReturnBreaks b RelinquishShort = length b < 18
-ReturnBreaks b RelinquishFlags = 1 < u32_at b 8
-ReturnBreaks b EndpointCount = u32_at b 12 ≢ 1
+ReturnBreaks bytes RelinquishShort = length bytes < 18
+ReturnBreaks bytes RelinquishFlags = 1 < u32_at bytes 8
+ReturnBreaks bytes EndpointCount = u32_at bytes 12 ≢ 1
 
 -- The bytes break this condition of a relinquish descriptor
 abbrev pub RelinquishBreaks : List ℕ → Flaw → Type 0
-RelinquishBreaks b (Relinquish flaw) = ReturnBreaks b flaw
-RelinquishBreaks b flaw = ⊥
+RelinquishBreaks bytes (Relinquish flaw) = ReturnBreaks bytes flaw
+RelinquishBreaks bytes flaw = ⊥

@@ -26,6 +26,7 @@ pub mod Setup
 pub mod RunStates
 pub mod Sound
 pub mod Notifications
+pub mod Numbers
 pub mod Messages
 pub mod Agreement
 pub mod Alike

@@ -9,6 +9,7 @@ use Rattle.ffa_model.specs.declared.endpoint.EndpointId.{EndpointId}
 use Rattle.ffa_model.specs.declared.schedule.Status.{Status}
 use Rattle.ffa_model.specs.declared.schedule.Status.TheVariants.{Running, Waiting, Yielded, Blocked}
 use Rattle.ffa_model.specs.declared.schedule.Work.{Work}
+use Rattle.ffa_model.specs.Numbers.{PageIndex}
 use Rattle.ffa_model.specs.Identifiers.{place}
 use Rattle.ffa_model.specs.Lists.{listed}
 use Rattle.ffa_model.specs.State.{is_partition_among}
@@ -26,10 +27,10 @@ abbrev pub last_link : List ℕ → ℕ
 last_link links = link_at links (length links - 1)
 
 -- whether a link has its place in the manifest at p
-abbrev pub has_link_at : List ℕ → ℕ → Bool
+abbrev pub has_link_at : List ℕ → PageIndex → Bool
 has_link_at links p = list_any (λ link. place link == p) links
 
-abbrev pub work_at : List (Option Work) → ℕ → Option Work
+abbrev pub work_at : List (Option Work) → PageIndex → Option Work
 work_at works p = slice_index_or works p None
 
 -- who stands outside of the chain has yielded its work, or has none and waits
@@ -37,7 +38,7 @@ abbrev pub status_outside : Option Work → Status
 status_outside None = Waiting
 status_outside (Some work) = Yielded
 
-abbrev pub status_at : List ℕ → List (Option Work) → ℕ → Status
+abbrev pub status_at : List ℕ → List (Option Work) → PageIndex → Status
 status_at links works p =
     if place (last_link links) == p then Running
     else if has_link_at links p then Blocked
@@ -56,6 +57,7 @@ pub record IsChain (links : List ℕ) (works : List (Option Work)) : Type 0 wher
   pub first : link_at links 0 ≡ 0
   pub no_work : work_at works 0 ≡ None
   pub partitions : (k : ℕ) → suc k < length links → is_partition_among (length works) (link_at links (suc k)) ≡ true
-  pub origins : (k : ℕ) → suc k < length links → origin (work_at works (place (link_at links (suc k)))) ≡ Some (link_at links k)
+  pub origins : (k : ℕ) → suc k < length links
+      → origin (work_at works (place (link_at links (suc k)))) ≡ Some (link_at links k)
   pub once : (i j : ℕ) → i < j → j < length links → place (link_at links i) ≢ place (link_at links j)
   pub outside : (p : ℕ) → has_link_at links p ≡ false → (work_at works p ≡ None) ⊎ (origin (work_at works p) ≡ Some 0)

@@ -47,13 +47,13 @@ are_identified (e ∷ es) = is_normal_world e && list_all is_partition es
 
 -- whole pages, at least one, behind the table pages and in RAM
 abbrev pub is_placed : ℕ → ℕ → ℕ → Region → Bool
-is_placed base blocks count r =
-    ((r.base % 4096 == 0 && nat_le 1 r.pages) && nat_le (tables_end base blocks count) r.base)
-    && nat_le (r.base + 4096 * r.pages) (ram_end base blocks)
+is_placed base blocks count region =
+    ((region.base % 4096 == 0 && nat_le 1 region.pages) && nat_le (tables_end base blocks count) region.base)
+    && nat_le (region.base + 4096 * region.pages) (ram_end base blocks)
 
 -- the regions have no page in common
 abbrev pub is_apart : Region → Region → Bool
-is_apart r q = nat_le (r.base + 4096 * r.pages) q.base || nat_le (q.base + 4096 * q.pages) r.base
+is_apart region q = nat_le (region.base + 4096 * region.pages) q.base || nat_le (q.base + 4096 * q.pages) region.base
 
 abbrev pub are_apart : List Region → Bool
 are_apart [] = true

@@ -12,6 +12,7 @@ use Rattle.ffa_model.specs.declared.operation.FaultKind.{FaultKind}
 use Rattle.ffa_model.specs.declared.operation.FaultKind.TheVariants.{Translation, Permission, Alignment}
 use Rattle.ffa_model.specs.declared.operation.Outcome.{Outcome}
 use Rattle.ffa_model.specs.declared.operation.Outcome.TheVariants.{Data, Done, Fault}
+use Rattle.ffa_model.specs.Numbers.{Identifier, PageIndex}
 use Rattle.ffa_model.specs.Lists.{map_at, run}
 use Rattle.ffa_model.specs.Rights.{may_store, may_fetch}
 use Rattle.ffa_model.specs.Ram.{number_in, with_bytes}
@@ -25,7 +26,7 @@ size_of B2 = 2
 size_of B4 = 4
 size_of B8 = 8
 
-abbrev pub page_bytes : State → ℕ → List ℕ
+abbrev pub page_bytes : State → PageIndex → List ℕ
 page_bytes s p = option_map_or (λ (page : Page). page.bytes) (page_at s p) []
 
 -- the bytes of n pages in a row
@@ -36,15 +37,16 @@ run_bytes s first n = flat_map (page_bytes s) (run first n)
 abbrev pub page_with : ℕ → List ℕ → Option Page → Option Page
 page_with at bytes page = option_map (λ (q : Page). record q { bytes = with_bytes q.bytes at bytes }) page
 
-abbrev pub written_pages : List (Option Page) → ℕ → ℕ → List ℕ → List (Option Page)
+abbrev pub written_pages : List (Option Page) → PageIndex → ℕ → List ℕ → List (Option Page)
 written_pages pages p at bytes = slice_set pages p (page_with at bytes (slice_index_or pages p None))
 
 -- bytes stand in n pages in a row, 4096 in each
 abbrev pub written_run : ℕ → List (Option Page) → ℕ → List ℕ → List (Option Page)
 written_run zero pages first bytes = pages
-written_run (suc n) pages first bytes = written_run n (written_pages pages first 0 (take 4096 bytes)) (first + 1) (drop 4096 bytes)
+written_run (suc n) pages first bytes =
+    written_run n (written_pages pages first 0 (take 4096 bytes)) (first + 1) (drop 4096 bytes)
 
-abbrev pub written : State → ℕ → ℕ → List ℕ → State
+abbrev pub written : State → PageIndex → ℕ → List ℕ → State
 written s p at bytes = record s { pages = written_pages s.pages p at bytes }
 
 -- the pages that the ranges name are changed
@@ -62,17 +64,20 @@ abbrev pub zeroed_if : Bool → State → List Range → State
 zeroed_if asked s ranges = record s { pages = if asked then changed_pages s ranges zeroed_page else s.pages }
 
 -- the page of an address below 2 ^ 32; `page_at` has none past RAM's end
-abbrev pub page_of_address : State → ℕ → Option ℕ
-page_of_address s address = if nat_le s.ram_base address && nat_lt address (2 ^ 32) then Some ((address - s.ram_base) / 4096) else None
+abbrev pub page_of_address : State → ℕ → Option PageIndex
+page_of_address s address =
+    if nat_le s.ram_base address && nat_lt address (2 ^ 32) then Some ((address - s.ram_base) / 4096) else None
 
 -- the right of an endpoint to the byte at an address
-abbrev pub access_at : State → ℕ → ℕ → Option Rights
+abbrev pub access_at : State → Identifier → ℕ → Option Rights
 access_at s e address = option_and_then (access s e) (page_of_address s address)
 
 -- the fault of an access, if there is one
 abbrev pub fault_of : Bool → Option Rights → (Option Rights → Bool) → Option FaultKind
 fault_of aligned right allowed =
-    if aligned then (if is_some right then (if allowed right then None else Some Permission) else Some Translation) else Some Alignment
+    if aligned
+    then (if is_some right then (if allowed right then None else Some Permission) else Some Translation)
+    else Some Alignment
 
 -- an access that ended in this fault, or in none: a fault changes nothing
 abbrev pub accessed : Option FaultKind → State → State → Outcome → Stepped

@@ -11,6 +11,7 @@ use Rattle.ffa_model.specs.declared.rights.Rights.{Rights}
 use Rattle.ffa_model.specs.declared.rights.Kind.{Kind}
 use Rattle.ffa_model.specs.declared.rights.Kind.TheVariants.{Share, Lend, Donate}
 use Rattle.ffa_model.specs.declared.transaction.Range.{Range}
+use Rattle.ffa_model.specs.Numbers.{HandleNumber, Identifier}
 use Rattle.ffa_model.specs.Rights.{is_at_most, is_donate, is_same_kind}
 use Rattle.ffa_model.specs.State.{State, Page, Transaction, transaction_of, version_of}
 use Rattle.ffa_model.specs.Access.{is_receiver, held_by}
@@ -28,7 +29,7 @@ abbrev pub asked_right : Rights → RetrieveDesc → Rights
 asked_right most d = record { level = unwrap_or d.level most.level; exec = d.exec }
 
 -- the right that e gets
-abbrev pub right_for : OwnRights → Transaction → ℕ → RetrieveDesc → Rights
+abbrev pub right_for : OwnRights → Transaction → Identifier → RetrieveDesc → Rights
 right_for own_rights t e d = asked_right (ceiling own_rights t e) d
 
 -- a kind that isn't specified is any
@@ -37,7 +38,7 @@ is_kind_right kind None = true
 is_kind_right kind (Some k) = is_same_kind kind k
 
 -- the checks of the transaction that is asked for, in order, for an e whose RX is full or not
-abbrev pub holding_guards : OwnRights → Bool → ℕ → RetrieveDesc → Option Transaction → List (Bool × Refusal)
+abbrev pub holding_guards : OwnRights → Bool → Identifier → RetrieveDesc → Option Transaction → List (Bool × Refusal)
 holding_guards own_rights full e d None = (false, HandleUnknown) ∷ []
 holding_guards own_rights full e d (Some t) =
     (is_receiver e t, NotReceiver)
@@ -49,23 +50,23 @@ holding_guards own_rights full e d (Some t) =
     ∷ (not full, RxFull)
     ∷ []
 
-abbrev pub asking_guards : Scene → ℕ → Option RetrieveDesc → List (Bool × Refusal)
-asking_guards c e None = (false, DescriptorMalformed) ∷ []
-asking_guards c e (Some d) =
-    holding_guards c.own_rights (is_full (buffers_in c.buffers e)) e d (map.get c.open_transactions.transactions d.handle)
+abbrev pub asking_guards : Scene → Identifier → Option RetrieveDesc → List (Bool × Refusal)
+asking_guards scene e None = (false, DescriptorMalformed) ∷ []
+asking_guards scene e (Some d) =
+    holding_guards scene.own_rights (is_full (buffers_in scene.buffers e)) e d (map.get scene.open_transactions.transactions d.handle)
 
 -- the checks of a retrieve by e in order, with what the descriptor says, or None where the bytes are none
-abbrev pub retrieve_guards : Scene → ℕ → Transfer → Option RetrieveDesc → List (Bool × Refusal)
-retrieve_guards c e x d = after_transfer c.buffers e x (asking_guards c e d)
+abbrev pub retrieve_guards : Scene → Identifier → Transfer → Option RetrieveDesc → List (Bool × Refusal)
+retrieve_guards scene e transfer d = after_transfer scene.buffers e transfer (asking_guards scene e d)
 
 -- what is open after e has retrieved the transaction of a handle: e holds the right, and of a donate nothing is open
-abbrev pub taken_in : Kind → OpenTransactions → ℕ → Transaction → ℕ → Rights → OpenTransactions
+abbrev pub taken_in : Kind → OpenTransactions → HandleNumber → Transaction → Identifier → Rights → OpenTransactions
 taken_in Donate o h t e right = closed o h
 taken_in Lend o h t e right = with_transaction o h (holding t e right)
 taken_in Share o h t e right = with_transaction o h (holding t e right)
 
 -- what e is told of what it now holds
-abbrev pub response_to : ℕ → Transaction → ℕ → Rights → ResponseRecord
+abbrev pub response_to : HandleNumber → Transaction → Identifier → Rights → ResponseRecord
 response_to h t e right =
     record {
       sender = t.sender;
@@ -80,19 +81,21 @@ response_to h t e right =
 
 -- ON A STATE
 -- the pages of a donate are e's own, with this right
-abbrev pub donated_page : ℕ → Rights → Option Page → Option Page
+abbrev pub donated_page : Identifier → Rights → Option Page → Option Page
 donated_page e right page = option_map (λ (q : Page). record q { owner = e; own_right = right }) page
 
-abbrev pub donated_if : Bool → State → List Range → ℕ → Rights → State
+abbrev pub donated_if : Bool → State → List Range → Identifier → Rights → State
 donated_if donated s ranges e right =
     record s { pages = if donated then changed_pages s ranges (donated_page e right) else s.pages }
 
-abbrev pub with_retrieved : State → ℕ → Transaction → ℕ → Rights → State
-with_retrieved s h t e right = with_open (donated_if (is_donate t.kind) s t.ranges e right) (taken_in t.kind (open_of s) h t e right)
+abbrev pub with_retrieved : State → HandleNumber → Transaction → Identifier → Rights → State
+with_retrieved s h t e right =
+    with_open (donated_if (is_donate t.kind) s t.ranges e right) (taken_in t.kind (open_of s) h t e right)
 
 -- and RX holds the response
-abbrev pub retrieved_right : State → ℕ → Transaction → ℕ → Rights → State
-retrieved_right s h t e right = filled (with_retrieved s h t e right) e (response_bytes (version_of s e) (response_to h t e right))
+abbrev pub retrieved_right : State → HandleNumber → Transaction → Identifier → Rights → State
+retrieved_right s h t e right =
+    filled (with_retrieved s h t e right) e (response_bytes (version_of s e) (response_to h t e right))
 
 abbrev pub retrieved_from : State → RetrieveDesc → Option Transaction → State
 retrieved_from s d None = s
@@ -105,16 +108,17 @@ retrieved s (Some d) = retrieved_from s d (transaction_of s d.handle)
 -- the length of the response
 abbrev pub response_length : State → Option RetrieveDesc → ℕ
 response_length s None = 0
-response_length s (Some d) = option_map_or (λ (t : Transaction). response_size (version_of s s.runner) t.ranges) (transaction_of s d.handle) 0
+response_length s (Some d) =
+    option_map_or (λ (t : Transaction). response_size (version_of s s.runner) t.ranges) (transaction_of s d.handle) 0
 
 -- what the first bytes of the runner's TX say
 abbrev pub retrieve_read : State → ℕ → Option RetrieveDesc
 retrieve_read s total = retrieve_of s.runner (descriptor_in s total)
 
 abbrev pub memory_retrieve : State → Transfer → Service
-memory_retrieve s x =
+memory_retrieve s transfer =
     record {
-      guards = retrieve_guards (scene_of s) s.runner x (retrieve_read s x.total);
-      state = retrieved s (retrieve_read s x.total);
-      reply = Retrieved (response_length s (retrieve_read s x.total));
+      guards = retrieve_guards (scene_of s) s.runner transfer (retrieve_read s transfer.total);
+      state = retrieved s (retrieve_read s transfer.total);
+      reply = Retrieved (response_length s (retrieve_read s transfer.total));
     }

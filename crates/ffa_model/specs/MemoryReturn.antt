@@ -9,6 +9,7 @@ use Rattle.ffa_model.specs.declared.refusal.Refusal.TheVariants.{EndpointIsAnoth
 use Rattle.ffa_model.specs.declared.descriptor.RelinquishDesc.{RelinquishDesc}
 use Rattle.ffa_model.specs.declared.transaction.Range.{Range}
 use Rattle.ffa_model.specs.declared.transaction.Receiver.{Receiver}
+use Rattle.ffa_model.specs.Numbers.{HandleNumber, Identifier}
 use Rattle.ffa_model.specs.Bits.{is_set}
 use Rattle.ffa_model.specs.Rights.{is_lend, may_store}
 use Rattle.ffa_model.specs.State.{State, Transaction, Buffers, transaction_of, buffers_of}
@@ -22,12 +23,12 @@ use Rattle.ffa_model.specs.Calls.{Service, success}
 -- FFA_MEM_RELINQUISH
 
 -- whether e may zero the pages: it holds a lend, and may write to them
-abbrev pub is_zeroable : ℕ → Option Transaction → Bool
+abbrev pub is_zeroable : Identifier → Option Transaction → Bool
 is_zeroable e None = false
 is_zeroable e (Some t) = is_lend t.kind && may_store (held_by t e)
 
 -- the checks of the transaction that e gives up, in order
-abbrev pub holder_guards : ℕ → RelinquishDesc → Option Transaction → List (Bool × Refusal)
+abbrev pub holder_guards : Identifier → RelinquishDesc → Option Transaction → List (Bool × Refusal)
 holder_guards e d t =
     (d.endpoint.0 == e, EndpointIsAnother)
     ∷ (is_offered e t, NotOffered)
@@ -35,12 +36,13 @@ holder_guards e d t =
     ∷ (not d.zero || is_zeroable e t, ZerosNotAllowed)
     ∷ []
 
-abbrev pub returned_guards : OpenTransactions → ℕ → Option RelinquishDesc → List (Bool × Refusal)
+abbrev pub returned_guards : OpenTransactions → Identifier → Option RelinquishDesc → List (Bool × Refusal)
 returned_guards open_transactions e None = (false, DescriptorMalformed) ∷ []
 returned_guards open_transactions e (Some d) = holder_guards e d (map.get open_transactions.transactions d.handle)
 
 -- the checks of an e with these buffers in order, with what the descriptor says, or None where the bytes are none
-abbrev pub relinquish_guards : Option Buffers → OpenTransactions → ℕ → Option RelinquishDesc → List (Bool × Refusal)
+abbrev pub relinquish_guards : Option Buffers → OpenTransactions → Identifier → Option RelinquishDesc
+    → List (Bool × Refusal)
 relinquish_guards own open_transactions e d = (is_some own, BuffersMissing) ∷ returned_guards open_transactions e d
 
 abbrev pub relinquished_from : State → RelinquishDesc → Option Transaction → State
@@ -76,7 +78,7 @@ named_ranges None = []
 named_ranges (Some t) = t.ranges
 
 -- the checks of a reclaim by e in order, of the transaction of the handle, if it is open
-abbrev pub reclaim_guards : OwnRights → ℕ → ℕ → Option Transaction → List (Bool × Refusal)
+abbrev pub reclaim_guards : OwnRights → Identifier → ℕ → Option Transaction → List (Bool × Refusal)
 reclaim_guards own_rights e flags t =
     (nat_le flags 1, FlagsReserved)
     ∷ (is_from e t, NotTheSenders)
@@ -84,10 +86,10 @@ reclaim_guards own_rights e flags t =
     ∷ (not (is_set 0 flags) || are_writable own_rights (named_ranges t), ZerosUnwritable)
     ∷ []
 
-abbrev pub reclaimed : State → ℕ → Bool → State
+abbrev pub reclaimed : State → HandleNumber → Bool → State
 reclaimed s h zero = zeroed_if zero (with_open s (closed (open_of s) h)) (named_ranges (transaction_of s h))
 
-abbrev pub memory_reclaim : State → ℕ → ℕ → Service
+abbrev pub memory_reclaim : State → HandleNumber → ℕ → Service
 memory_reclaim s handle flags =
     record {
       guards = reclaim_guards (own_rights_of s) s.runner flags (transaction_of s handle);

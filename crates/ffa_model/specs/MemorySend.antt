@@ -8,12 +8,13 @@ use Rattle.ffa_model.specs.declared.limits.TheConstants.{MOST_OPEN, MOST_SENDS}
 use Rattle.ffa_model.specs.declared.refusal.Refusal.{Refusal}
 use Rattle.ffa_model.specs.declared.refusal.Refusal.TheVariants.{DescriptorMalformed, SenderIsAnother, ReceiverUnknown, RangeOutside, PageUnsendable, GrantTooMuch, ZerosUnwritable, TransactionsFull, HandlesUsedUp, BuffersMissing, Fragmented, DescriptorTooLong, BufferAddressGiven, BufferPagesGiven}
 use Rattle.ffa_model.specs.declared.call.Reply.{Reply}
+use Rattle.ffa_model.specs.declared.call.Reply.TheVariants.{Sent}
 use Rattle.ffa_model.specs.declared.rights.Data.{Data}
 use Rattle.ffa_model.specs.declared.rights.Kind.{Kind}
 use Rattle.ffa_model.specs.declared.rights.Rights.{Rights}
 use Rattle.ffa_model.specs.declared.transaction.Range.{Range}
 use Rattle.ffa_model.specs.declared.transaction.Receiver.{Receiver}
-use Rattle.ffa_model.specs.Bits.{bits}
+use Rattle.ffa_model.specs.Numbers.{HandleNumber, Identifier, PageIndex}
 use Rattle.ffa_model.specs.Lists.{is_in_run}
 use Rattle.ffa_model.specs.Rights.{is_data_at_most}
 use Rattle.ffa_model.specs.State.{State, Transaction, Buffers, is_known_among, version_of}
@@ -24,25 +25,26 @@ use Rattle.ffa_model.specs.DescriptorPlaces.{Versioned, in_version}
 use Rattle.ffa_model.specs.SendDescriptor.{SendRecord, send_of, range_end}
 use Rattle.ffa_model.specs.declared.call.Transfer.{Transfer}
 use Rattle.ffa_model.specs.Transactions.{OwnRights, OpenTransactions, Scene, sends_of, next_handle, open_count, opened, pages_in, are_writable, open_of, scene_of, with_open}
-use Rattle.ffa_model.specs.Calls.{Service, success}
+use Rattle.ffa_model.specs.Calls.{Service}
 
 abbrev pub are_known : ℕ → List Receiver → Bool
 are_known endpoints receivers = list_all (λ (r : Receiver). is_known_among endpoints r.endpoint.0) receivers
 
 -- a range that lies in RAM
 abbrev pub is_inside : OwnRights → Range → Bool
-is_inside own_rights r = nat_le own_rights.ram_base r.address && nat_le (range_end r) (own_rights.ram_base + 4096 * own_rights.pages)
+is_inside own_rights range =
+    nat_le own_rights.ram_base range.address && nat_le (range_end range) (own_rights.ram_base + 4096 * own_rights.pages)
 
 -- a page that e owns, and that no open transaction names
-abbrev pub is_own : ℕ → Option Candidate → Bool
+abbrev pub is_own : Identifier → Option Candidate → Bool
 is_own e None = false
 is_own e (Some page) = page.owner == e && not page.named
 
 -- whether someone has a buffer in a page
-abbrev pub is_buffer : List (Option Buffers) → ℕ → Bool
+abbrev pub is_buffer : List (Option Buffers) → PageIndex → Bool
 is_buffer buffers p = list_any (λ b. option_map_or (λ (x : Buffers). is_in_run x.tx x.pages p || is_in_run x.rx x.pages p) b false) buffers
 
-abbrev pub is_sendable : ℕ → Candidates → List (Option Buffers) → ℕ → Bool
+abbrev pub is_sendable : Identifier → Candidates → List (Option Buffers) → PageIndex → Bool
 is_sendable e ram buffers p = is_own e (ram.page p) && not (is_buffer buffers p)
 
 -- a page whose own data right is at least the grant
@@ -51,63 +53,69 @@ is_grantable None right = true
 is_grantable (Some level) None = false
 is_grantable (Some level) (Some right) = is_data_at_most level right.level
 
-abbrev pub are_grants_within : OwnRights → List Receiver → ℕ → Bool
-are_grants_within own_rights receivers p = list_all (λ (r : Receiver). is_grantable r.grant (own_rights.right p)) receivers
+abbrev pub are_grants_within : OwnRights → List Receiver → PageIndex → Bool
+are_grants_within own_rights receivers p =
+    list_all (λ (r : Receiver). is_grantable r.grant (own_rights.right p)) receivers
 
 -- the checks of a descriptor's registers, in order, and then others: all of it stands in the first bytes of TX
-abbrev pub after_transfer : List (Option Buffers) → ℕ → Transfer → List (Bool × Refusal) → List (Bool × Refusal)
-after_transfer buffers e x rest =
+abbrev pub after_transfer : List (Option Buffers) → Identifier → Transfer → List (Bool × Refusal)
+    → List (Bool × Refusal)
+after_transfer buffers e transfer rest =
     (is_some (buffers_in buffers e), BuffersMissing)
-    ∷ (x.total == x.fragment, Fragmented)
-    ∷ (nat_le x.total (room_of (buffers_in buffers e)), DescriptorTooLong)
-    ∷ (x.address == 0, BufferAddressGiven)
-    ∷ (x.pages == 0, BufferPagesGiven)
+    ∷ (transfer.total == transfer.fragment, Fragmented)
+    ∷ (nat_le transfer.total (room_of (buffers_in buffers e)), DescriptorTooLong)
+    ∷ (transfer.address == 0, BufferAddressGiven)
+    ∷ (transfer.pages == 0, BufferPagesGiven)
     ∷ rest
 
 -- the checks of what a send descriptor says, in order, and then others
-abbrev pub after_offer : ℕ → Candidates → OwnRights → List (Option Buffers) → ℕ → SendRecord → List (Bool × Refusal) → List (Bool × Refusal)
-after_offer endpoints ram own_rights buffers e r rest =
-    (r.sender == e, SenderIsAnother)
-    ∷ (are_known endpoints r.receivers, ReceiverUnknown)
-    ∷ (list_all (is_inside own_rights) r.ranges, RangeOutside)
-    ∷ (list_all (is_sendable e ram buffers) (pages_in own_rights r.ranges), PageUnsendable)
-    ∷ (list_all (are_grants_within own_rights r.receivers) (pages_in own_rights r.ranges), GrantTooMuch)
-    ∷ (not r.zero || are_writable own_rights r.ranges, ZerosUnwritable)
+abbrev pub after_offer : ℕ → Candidates → OwnRights → List (Option Buffers) → Identifier → SendRecord
+    → List (Bool × Refusal) → List (Bool × Refusal)
+after_offer endpoints ram own_rights buffers e send rest =
+    (send.sender == e, SenderIsAnother)
+    ∷ (are_known endpoints send.receivers, ReceiverUnknown)
+    ∷ (list_all (is_inside own_rights) send.ranges, RangeOutside)
+    ∷ (list_all (is_sendable e ram buffers) (pages_in own_rights send.ranges), PageUnsendable)
+    ∷ (list_all (are_grants_within own_rights send.receivers) (pages_in own_rights send.ranges), GrantTooMuch)
+    ∷ (not send.zero || are_writable own_rights send.ranges, ZerosUnwritable)
     ∷ rest
 
 -- the checks of room for one more transaction
-abbrev pub room_guards : OpenTransactions → ℕ → List (Bool × Refusal)
-room_guards open_transactions e = (nat_lt (open_count open_transactions e) MOST_OPEN, TransactionsFull) ∷ (nat_lt (sends_of open_transactions e) MOST_SENDS, HandlesUsedUp) ∷ []
+abbrev pub room_guards : OpenTransactions → Identifier → List (Bool × Refusal)
+room_guards open_transactions e =
+    (nat_lt (open_count open_transactions e) MOST_OPEN, TransactionsFull)
+    ∷ (nat_lt (sends_of open_transactions e) MOST_SENDS, HandlesUsedUp) ∷ []
 
 -- the checks of what is offered, or None where the bytes are no descriptor
-abbrev pub offer_guards : Scene → ℕ → Option SendRecord → List (Bool × Refusal)
-offer_guards c e None = (false, DescriptorMalformed) ∷ []
-offer_guards c e (Some r) = after_offer c.endpoints c.ram c.own_rights c.buffers e r (room_guards c.open_transactions e)
+abbrev pub offer_guards : Scene → Identifier → Option SendRecord → List (Bool × Refusal)
+offer_guards scene e None = (false, DescriptorMalformed) ∷ []
+offer_guards scene e (Some send) =
+    after_offer scene.endpoints scene.ram scene.own_rights scene.buffers e send (room_guards scene.open_transactions e)
 
 -- the checks of a send by e in order, with what the descriptor says
-abbrev pub send_guards : Scene → ℕ → Transfer → Option SendRecord → List (Bool × Refusal)
-send_guards c e x r = after_transfer c.buffers e x (offer_guards c e r)
+abbrev pub send_guards : Scene → Identifier → Transfer → Option SendRecord → List (Bool × Refusal)
+send_guards scene e transfer send = after_transfer scene.buffers e transfer (offer_guards scene e send)
 
 -- the transaction that a send opens: nobody holds it
 abbrev pub transaction_from : Kind → SendRecord → Transaction
-transaction_from kind r =
+transaction_from kind send =
     record {
       kind = kind;
-      sender = r.sender;
-      tag = r.tag;
-      zero = r.zero;
-      ranges = r.ranges;
-      receivers = r.receivers;
+      sender = send.sender;
+      tag = send.tag;
+      zero = send.zero;
+      ranges = send.ranges;
+      receivers = send.receivers;
       held = map.empty;
     }
 
 -- what is open after a send by e
-abbrev pub offered_in : OpenTransactions → ℕ → Kind → SendRecord → OpenTransactions
-offered_in o e kind r = opened o (next_handle o e) (transaction_from kind r)
+abbrev pub offered_in : OpenTransactions → Identifier → Kind → SendRecord → OpenTransactions
+offered_in o e kind send = opened o (next_handle o e) (transaction_from kind send)
 
 -- the handle's low half in w2, and its high half in w3
-abbrev pub handle_reply : ℕ → Reply
-handle_reply h = success (bits 31 0 h) (bits 63 32 h)
+abbrev pub handle_reply : HandleNumber → Reply
+handle_reply h = Sent (record { 0 = h })
 
 -- ON A STATE
 -- the first bytes of the runner's TX, in its version
@@ -120,13 +128,13 @@ send_read s kind total = send_of kind (descriptor_in s total)
 
 abbrev pub memory_sent : State → Kind → Option SendRecord → State
 memory_sent s kind None = s
-memory_sent s kind (Some r) =
-    zeroed_if r.zero (with_open s (offered_in (open_of s) s.runner kind r)) r.ranges
+memory_sent s kind (Some send) =
+    zeroed_if send.zero (with_open s (offered_in (open_of s) s.runner kind send)) send.ranges
 
 abbrev pub memory_send : State → Kind → Transfer → Service
-memory_send s kind x =
+memory_send s kind transfer =
     record {
-      guards = send_guards (scene_of s) s.runner x (send_read s kind x.total);
-      state = memory_sent s kind (send_read s kind x.total);
+      guards = send_guards (scene_of s) s.runner transfer (send_read s kind transfer.total);
+      state = memory_sent s kind (send_read s kind transfer.total);
       reply = handle_reply (next_handle (open_of s) s.runner);
     }

@@ -5,6 +5,7 @@ use Rattle.std.specs.Prelude.{ℕ, ◌+◌, ◌==◌, Bool, not, nat_le, List, [
 use Rattle.std.specs.Option.{option_map_or}
 use Rattle.ffa_model.specs.declared.refusal.Refusal.{Refusal}
 use Rattle.ffa_model.specs.declared.refusal.Refusal.TheVariants.{BuffersMissing, FlagsReserved, HeaderReserved, SenderIsAnother, ReceiverUnknown, ReceiverIsCaller, MessageInHeader, MessageEmpty, MessageTooLong, MessagesUnsent, MessagesUnreceived, ReceiverBuffersMissing, ReceiverRxFull, ReceiverRxSmall}
+use Rattle.ffa_model.specs.Numbers.{Identifier}
 use Rattle.ffa_model.specs.State.{State, Party, Buffers, buffers_of, is_known_among, has_property}
 use Rattle.ffa_model.specs.Ram.{number_in}
 use Rattle.ffa_model.specs.Memory.{run_bytes}
@@ -17,8 +18,8 @@ pub record MessageHeader : Type 0 where
   pub flags : ℕ
   pub reserved : ℕ
   pub offset : ℕ
-  pub receiver : ℕ
-  pub sender : ℕ
+  pub receiver : Identifier
+  pub sender : Identifier
   pub size : ℕ
 
 abbrev pub header_in : List ℕ → MessageHeader
@@ -33,7 +34,7 @@ header_in tx =
     }
 
 -- the checks of FFA_MSG_SEND2 in order, for a caller among these endpoints and their buffers
-abbrev pub send2_guards : List Party → List (Option Buffers) → ℕ → MessageHeader → List (Bool × Refusal)
+abbrev pub send2_guards : List Party → List (Option Buffers) → Identifier → MessageHeader → List (Bool × Refusal)
 send2_guards parties buffers caller m =
     (is_some (buffers_in buffers caller), BuffersMissing)
     ∷ (m.flags == 0, FlagsReserved)
@@ -56,10 +57,10 @@ abbrev pub message_in : List ℕ → List ℕ
 message_in tx = take ((header_in tx).offset + (header_in tx).size) tx
 
 -- ON A STATE
-abbrev pub tx_bytes : State → ℕ → List ℕ
+abbrev pub tx_bytes : State → Identifier → List ℕ
 tx_bytes s e = option_map_or (λ (b : Buffers). run_bytes s b.tx b.pages) (buffers_of s e) []
 
-abbrev pub delivered : State → ℕ → List ℕ → State
+abbrev pub delivered : State → Identifier → List ℕ → State
 delivered s receiver message =
     with_notifications (filled s receiver message) (with_framework_bit (notifications_of s) receiver)
 

@@ -9,8 +9,9 @@ use Rattle.ffa_model.specs.declared.refusal.Refusal.{Refusal}
 use Rattle.ffa_model.specs.declared.refusal.Refusal.TheVariants.{NotNormalWorld, EndpointNotNormalWorld, ContextCount, BitmapsExist, BitmapsMissing, BitsPending, ReceiverIsAnother, SenderUnknown, SenderIsCaller, FlagsReserved, BitsNone, BitsTaken, BitsNotTheSenders, SenderIsAnother, ReceiverUnknown, ReceiverIsCaller, BitsNotTheCallers, ContextUnknown, ClassesUnknown}
 use Rattle.ffa_model.specs.declared.call.NotificationBits.{NotificationBits}
 use Rattle.ffa_model.specs.declared.call.Reply.{Reply}
-use Rattle.ffa_model.specs.declared.call.Reply.TheVariants.{Success}
-use Rattle.ffa_model.specs.Bits.{bits, bits_of, is_set, word_where}
+use Rattle.ffa_model.specs.declared.call.Reply.TheVariants.{Pending}
+use Rattle.ffa_model.specs.Numbers.{Bit, Class, Identifier}
+use Rattle.ffa_model.specs.Bits.{bits_of, is_set, word_where}
 use Rattle.ffa_model.specs.Identifiers.{identifier, place}
 use Rattle.ffa_model.specs.Lists.{listed}
 use Rattle.ffa_model.specs.State.{State, is_known_among}
@@ -24,71 +25,71 @@ pub record Notifications : Type 0 where
 
 -- The classes of a receiver's bits, by who sets them: a partition, the normal world, or the manager. The flags of
 -- FFA_NOTIFICATION_GET ask for class k by bit k
-abbrev pub partition_class : ℕ
+abbrev pub partition_class : Class
 partition_class = 0
 
-abbrev pub normal_class : ℕ
+abbrev pub normal_class : Class
 normal_class = 1
 
-abbrev pub manager_class : ℕ
+abbrev pub manager_class : Class
 manager_class = 2
 
-abbrev pub class_of : ℕ → ℕ
+abbrev pub class_of : Identifier → Class
 class_of sender = if sender == 0 then normal_class else partition_class
 
 -- An entry of `bound` lists the receiver, the class, the bit from 0 to 63, and the sender; one of `pending` lists the
 -- first three of these
-abbrev pub binding : ℕ → ℕ → ℕ → ℕ → List ℕ
+abbrev pub binding : Identifier → Class → Bit → Identifier → List ℕ
 binding receiver class bit sender = receiver ∷ class ∷ bit ∷ sender ∷ []
 
-abbrev pub receiver_bit : ℕ → ℕ → ℕ → List ℕ
+abbrev pub receiver_bit : Identifier → Class → Bit → List ℕ
 receiver_bit receiver class bit = receiver ∷ class ∷ bit ∷ []
 
-abbrev pub receiver_of_entry : List ℕ → ℕ
+abbrev pub receiver_of_entry : List ℕ → Identifier
 receiver_of_entry entry = slice_index entry 0
 
-abbrev pub class_of_entry : List ℕ → ℕ
+abbrev pub class_of_entry : List ℕ → Class
 class_of_entry entry = slice_index entry 1
 
-abbrev pub sender_of_entry : List ℕ → ℕ
+abbrev pub sender_of_entry : List ℕ → Identifier
 sender_of_entry entry = slice_index entry 3
 
-abbrev pub has_bitmaps_in : Notifications → ℕ → Bool
+abbrev pub has_bitmaps_in : Notifications → Identifier → Bool
 has_bitmaps_in n e = slice_index_or n.bitmaps (place e) false
 
-abbrev pub is_bound : Notifications → ℕ → ℕ → ℕ → ℕ → Bool
+abbrev pub is_bound : Notifications → Identifier → Class → Bit → Identifier → Bool
 is_bound n receiver class bit sender = finite_set.contains n.bound (binding receiver class bit sender)
 
-abbrev pub is_pending : Notifications → ℕ → ℕ → ℕ → Bool
+abbrev pub is_pending : Notifications → Identifier → Class → Bit → Bool
 is_pending n receiver class bit = finite_set.contains n.pending (receiver_bit receiver class bit)
 
 -- whether another of these endpoints has the bit
-abbrev pub is_bound_to_another : ℕ → Notifications → ℕ → ℕ → ℕ → ℕ → Bool
+abbrev pub is_bound_to_another : ℕ → Notifications → Identifier → Class → Bit → Identifier → Bool
 is_bound_to_another endpoints n receiver class bit sender =
     list_any (λ f. not (f == sender) && is_bound n receiver class bit f) (listed endpoints identifier)
 
 -- the bitmap of a receiver's pending bits of a class
-abbrev pub pending_word : Notifications → ℕ → ℕ → ℕ
+abbrev pub pending_word : Notifications → Identifier → Class → ℕ
 pending_word n receiver class = word_where 64 (is_pending n receiver class)
 
 -- whether any bit of a receiver is pending
-abbrev pub has_pending : Notifications → ℕ → Bool
+abbrev pub has_pending : Notifications → Identifier → Bool
 has_pending n receiver =
     list_any (λ class. list_any (is_pending n receiver class) (listed 64 (λ k. k))) (partition_class ∷ normal_class ∷ manager_class ∷ [])
 
 -- CHANGES
 -- the sender has these bits of the receiver, or has them no more
-abbrev pub bindings : ℕ → ℕ → List ℕ → finite_set.FinSet (slice_cmp nat_cmp)
+abbrev pub bindings : Identifier → Identifier → List ℕ → finite_set.FinSet (slice_cmp nat_cmp)
 bindings receiver sender ks = finite_set.from_list (map (λ k. binding receiver (class_of sender) k sender) ks)
 
-abbrev pub with_bound : Notifications → ℕ → ℕ → List ℕ → Notifications
+abbrev pub with_bound : Notifications → Identifier → Identifier → List ℕ → Notifications
 with_bound n receiver sender ks = record n { bound = finite_set.union n.bound (bindings receiver sender ks) }
 
-abbrev pub without_bound : Notifications → ℕ → ℕ → List ℕ → Notifications
+abbrev pub without_bound : Notifications → Identifier → Identifier → List ℕ → Notifications
 without_bound n receiver sender ks = record n { bound = finite_set.difference n.bound (bindings receiver sender ks) }
 
 -- these bits of a receiver's class are pending, where it has bitmaps
-abbrev pub with_pending : Notifications → ℕ → ℕ → List ℕ → Notifications
+abbrev pub with_pending : Notifications → Identifier → Class → List ℕ → Notifications
 with_pending n receiver class ks =
     record n {
       pending =
@@ -98,15 +99,15 @@ with_pending n receiver class ks =
     }
 
 -- the classes of a receiver that the flags ask for have no pending bit
-abbrev pub without_pending : Notifications → ℕ → ℕ → Notifications
+abbrev pub without_pending : Notifications → Identifier → ℕ → Notifications
 without_pending n receiver flags =
     record n { pending = finite_set.retain n.pending (λ x. not (receiver_of_entry x == receiver && is_set (class_of_entry x) flags)) }
 
-abbrev pub with_bitmaps : Notifications → ℕ → Notifications
+abbrev pub with_bitmaps : Notifications → Identifier → Notifications
 with_bitmaps n e = record n { bitmaps = slice_set n.bitmaps (place e) true }
 
 -- the bindings of a receiver's bits go with its bitmaps
-abbrev pub without_bitmaps : Notifications → ℕ → Notifications
+abbrev pub without_bitmaps : Notifications → Identifier → Notifications
 without_bitmaps n e =
     record n { bitmaps = slice_set n.bitmaps (place e) false; bound = finite_set.retain n.bound (λ x. not (receiver_of_entry x == e)) }
 
@@ -114,13 +115,13 @@ without_bitmaps n e =
 abbrev pub message_bits : List ℕ
 message_bits = 0 ∷ []
 
-abbrev pub with_framework_bit : Notifications → ℕ → Notifications
+abbrev pub with_framework_bit : Notifications → Identifier → Notifications
 with_framework_bit n receiver = with_pending n receiver manager_class message_bits
 
 -- the checks of each call in order, by a caller among this many endpoints
 
 -- FFA_NOTIFICATION_BITMAP_CREATE, for an endpoint with so many execution contexts
-abbrev pub create_guards : Notifications → ℕ → ℕ → ℕ → List (Bool × Refusal)
+abbrev pub create_guards : Notifications → Identifier → ℕ → ℕ → List (Bool × Refusal)
 create_guards n caller endpoint contexts =
     (caller == 0, NotNormalWorld)
     ∷ (endpoint == 0, EndpointNotNormalWorld)
@@ -129,7 +130,7 @@ create_guards n caller endpoint contexts =
     ∷ []
 
 -- FFA_NOTIFICATION_BITMAP_DESTROY
-abbrev pub destroy_guards : Notifications → ℕ → ℕ → List (Bool × Refusal)
+abbrev pub destroy_guards : Notifications → Identifier → ℕ → List (Bool × Refusal)
 destroy_guards n caller endpoint =
     (caller == 0, NotNormalWorld)
     ∷ (endpoint == 0, EndpointNotNormalWorld)
@@ -138,7 +139,8 @@ destroy_guards n caller endpoint =
     ∷ []
 
 -- FFA_NOTIFICATION_BIND and FFA_NOTIFICATION_UNBIND alike, and then others
-abbrev pub sender_guards : ℕ → Notifications → ℕ → NotificationBits → List (Bool × Refusal) → List (Bool × Refusal)
+abbrev pub sender_guards : ℕ → Notifications → Identifier → NotificationBits → List (Bool × Refusal)
+    → List (Bool × Refusal)
 sender_guards endpoints n caller its rest =
     (its.receiver.0 == caller, ReceiverIsAnother)
     ∷ (is_known_among endpoints its.sender.0, SenderUnknown)
@@ -149,27 +151,28 @@ sender_guards endpoints n caller its rest =
     ∷ rest
 
 -- FFA_NOTIFICATION_BIND
-abbrev pub is_bindable : ℕ → Notifications → ℕ → ℕ → ℕ → Bool
+abbrev pub is_bindable : ℕ → Notifications → Identifier → Identifier → Bit → Bool
 is_bindable endpoints n receiver sender bit =
-    not (is_bound_to_another endpoints n receiver (class_of sender) bit sender) && not (is_pending n receiver (class_of sender) bit)
+    not (is_bound_to_another endpoints n receiver (class_of sender) bit sender)
+    && not (is_pending n receiver (class_of sender) bit)
 
-abbrev pub bind_guards : ℕ → Notifications → ℕ → NotificationBits → List (Bool × Refusal)
+abbrev pub bind_guards : ℕ → Notifications → Identifier → NotificationBits → List (Bool × Refusal)
 bind_guards endpoints n caller its =
     sender_guards endpoints n caller its
     ((list_all (is_bindable endpoints n caller its.sender.0) (bits_of its.bitmap), BitsTaken) ∷ [])
 
 -- FFA_NOTIFICATION_UNBIND
-abbrev pub is_unbindable : Notifications → ℕ → ℕ → ℕ → Bool
+abbrev pub is_unbindable : Notifications → Identifier → Identifier → Bit → Bool
 is_unbindable n receiver sender bit =
     is_bound n receiver (class_of sender) bit sender && not (is_pending n receiver (class_of sender) bit)
 
-abbrev pub unbind_guards : ℕ → Notifications → ℕ → NotificationBits → List (Bool × Refusal)
+abbrev pub unbind_guards : ℕ → Notifications → Identifier → NotificationBits → List (Bool × Refusal)
 unbind_guards endpoints n caller its =
     sender_guards endpoints n caller its
     ((list_all (is_unbindable n caller its.sender.0) (bits_of its.bitmap), BitsNotTheSenders) ∷ [])
 
 -- FFA_NOTIFICATION_SET: the flag that delays the schedule receiver interrupt has no effect
-abbrev pub set_guards : ℕ → Notifications → ℕ → NotificationBits → List (Bool × Refusal)
+abbrev pub set_guards : ℕ → Notifications → Identifier → NotificationBits → List (Bool × Refusal)
 set_guards endpoints n caller its =
     (its.sender.0 == caller, SenderIsAnother)
     ∷ (is_known_among endpoints its.receiver.0, ReceiverUnknown)
@@ -180,7 +183,7 @@ set_guards endpoints n caller its =
     ∷ []
 
 -- FFA_NOTIFICATION_GET, of a receiver in one of its execution contexts
-abbrev pub get_guards : Notifications → ℕ → ℕ → ℕ → ℕ → List (Bool × Refusal)
+abbrev pub get_guards : Notifications → Identifier → Identifier → ℕ → ℕ → List (Bool × Refusal)
 get_guards n caller receiver context flags =
     (receiver == caller, ReceiverIsAnother)
     ∷ (context == 0, ContextUnknown)
@@ -189,20 +192,14 @@ get_guards n caller receiver context flags =
     ∷ []
 
 -- the pending bits of a class, where the flags ask for it
-abbrev pub asked_word : Notifications → ℕ → ℕ → ℕ → ℕ
+abbrev pub asked_word : Notifications → Identifier → ℕ → Class → ℕ
 asked_word n receiver flags class = if is_set class flags then pending_word n receiver class else 0
 
--- a word's low half stands before its high half; of the manager's bits w6 holds the lowest 32, of which bit 0 alone is ever
--- set, and there is no hypervisor whose bits w7 would hold
-abbrev pub get_reply : Notifications → ℕ → ℕ → Reply
+-- the pending bits of a receiver, by class
+abbrev pub get_reply : Notifications → Identifier → ℕ → Reply
 get_reply n receiver flags =
-    Success (bits 31 0 (asked_word n receiver flags partition_class)
-    ∷ bits 63 32 (asked_word n receiver flags partition_class)
-    ∷ bits 31 0 (asked_word n receiver flags normal_class)
-    ∷ bits 63 32 (asked_word n receiver flags normal_class)
-    ∷ bits 31 0 (asked_word n receiver flags manager_class)
-    ∷ 0
-    ∷ [])
+    Pending (asked_word n receiver flags partition_class) (asked_word n receiver flags normal_class)
+    (asked_word n receiver flags manager_class)
 
 -- ON A STATE
 abbrev pub notifications_of : State → Notifications
@@ -251,7 +248,7 @@ notification_set s its =
       reply = success 0 0;
     }
 
-abbrev pub notification_get : State → ℕ → ℕ → ℕ → Service
+abbrev pub notification_get : State → Identifier → ℕ → ℕ → Service
 notification_get s receiver context flags =
     record {
       guards = get_guards (notifications_of s) s.runner receiver context flags;

@@ -10,7 +10,7 @@ use Rattle.ffa_model.specs.declared.function.TheConstants.{FFA_ERROR}
 use Rattle.ffa_model.specs.Calls.{encode}
 
 abbrev pub is_refusal : Outcome → Bool
-is_refusal (Regs runner x) = slice_index x 0 == FFA_ERROR
+is_refusal (Regs runner registers) = slice_index registers 0 == FFA_ERROR
 is_refusal (Data value) = false
 is_refusal Done = false
 is_refusal (Fault fault) = true

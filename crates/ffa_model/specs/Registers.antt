@@ -119,10 +119,10 @@ abbrev pub is_function : ℕ → Bool
 is_function w0 = is_some (function_of w0)
 
 abbrev pub called : List ℕ → Option Function → Call
-called x None = Unknown
-called x (Some f) =
-    f.call (λ i. low (slice_index x i)) (λ i. if low (slice_index x 0) == f.function then low (slice_index x i) else slice_index x i)
+called registers None = Unknown
+called registers (Some function) =
+    function.call (λ i. low (slice_index registers i)) (λ i. if low (slice_index registers 0) == function.function then low (slice_index registers i) else slice_index registers i)
 
 -- the call in the eight registers
 unfoldable pub decode : List ℕ → Call
-decode x = called x (function_of (low (slice_index x 0)))
+decode registers = called registers (function_of (low (slice_index registers 0)))

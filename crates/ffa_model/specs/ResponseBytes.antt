@@ -9,12 +9,13 @@ use Rattle.ffa_model.specs.declared.rights.Kind.{Kind}
 use Rattle.ffa_model.specs.declared.rights.Rights.{Rights}
 use Rattle.ffa_model.specs.declared.transaction.Range.{Range}
 use Rattle.ffa_model.specs.declared.descriptor.Response.{Response}
+use Rattle.ffa_model.specs.Numbers.{Identifier}
 use Rattle.ffa_model.specs.DescriptorPlaces.{header_size, told_access_size, data_code, exec_code, kind_code, normal_memory}
 use Rattle.ffa_model.specs.SendDescriptor.{page_total}
 
 -- what a response tells
 pub record ResponseRecord : Type 0 where
-  pub sender : ℕ
+  pub sender : Identifier
   pub kind : Kind
   pub zero : Bool
   pub handle : ℕ
@@ -24,16 +25,16 @@ pub record ResponseRecord : Type 0 where
   pub ranges : List Range
 
 abbrev pub response_record : Response → ResponseRecord
-response_record r =
+response_record response =
     record {
-      sender = r.sender.0;
-      kind = r.kind;
-      zero = r.zero;
-      handle = r.handle;
-      tag = r.tag;
-      endpoint = r.endpoint.0;
-      rights = r.rights;
-      ranges = r.ranges.items;
+      sender = response.sender.0;
+      kind = response.kind;
+      zero = response.zero;
+      handle = response.handle;
+      tag = response.tag;
+      endpoint = response.endpoint.0;
+      rights = response.rights;
+      ranges = response.ranges.items;
     }
 
 -- n bytes of a number, the low byte first
@@ -51,32 +52,34 @@ rest_bytes V1_1 = le 4 48 ++ le 4 0 ++ le 8 0
 
 -- the header: one access descriptor of 16 bytes follows it. Its fields are those of DescriptorPlaces
 abbrev pub header_bytes : Version → ResponseRecord → List ℕ
-header_bytes version r =
-    le 2 r.sender
+header_bytes version response =
+    le 2 response.sender
     ++ le 2 normal_memory
-    ++ le 4 (flags_of r.kind r.zero)
-    ++ le 8 r.handle
-    ++ le 8 r.tag
+    ++ le 4 (flags_of response.kind response.zero)
+    ++ le 8 response.handle
+    ++ le 8 response.tag
     ++ le 4 (told_access_size version)
     ++ le 4 1
     ++ rest_bytes version
 
 -- the right now held: data in bits 1:0, instructions in bits 3:2
 abbrev pub permissions_of : Rights → ℕ
-permissions_of r = data_code (Some r.level) + 4 * exec_code r.exec
+permissions_of right = data_code (Some right.level) + 4 * exec_code right.exec
 
 -- the access descriptor, with the composite right behind it
 abbrev pub access_bytes : Version → ResponseRecord → List ℕ
-access_bytes version r = le 2 r.endpoint ++ permissions_of r.rights ∷ 0 ∷ [] ++ le 4 (header_size version + 16) ++ le 8 0
+access_bytes version response =
+    le 2 response.endpoint ++ permissions_of response.rights ∷ 0 ∷ [] ++ le 4 (header_size version + 16) ++ le 8 0
 
 abbrev pub composite_bytes : List Range → List ℕ
 composite_bytes ranges = le 4 (page_total ranges) ++ le 4 (length ranges) ++ le 8 0
 
 abbrev pub range_bytes : Range → List ℕ
-range_bytes r = le 8 r.address ++ le 4 r.pages ++ le 4 0
+range_bytes range = le 8 range.address ++ le 4 range.pages ++ le 4 0
 
 unfoldable pub response_bytes : Version → ResponseRecord → List ℕ
-response_bytes version r = header_bytes version r ++ access_bytes version r ++ composite_bytes r.ranges ++ flat_map range_bytes r.ranges
+response_bytes version r =
+    header_bytes version r ++ access_bytes version r ++ composite_bytes r.ranges ++ flat_map range_bytes r.ranges
 
 -- how many they are
 abbrev pub response_size : Version → List Range → ℕ

@@ -13,11 +13,11 @@ may_write Rw = true
 
 abbrev pub may_store : Option Rights → Bool
 may_store None = false
-may_store (Some r) = may_write r.level
+may_store (Some right) = may_write right.level
 
 abbrev pub may_fetch : Option Rights → Bool
 may_fetch None = false
-may_fetch (Some r) = r.exec
+may_fetch (Some right) = right.exec
 
 abbrev pub is_share : Kind → Bool
 is_share Share = true

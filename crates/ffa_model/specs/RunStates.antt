@@ -12,6 +12,7 @@ use Rattle.ffa_model.specs.declared.call.DirectMessage.{DirectMessage}
 use Rattle.ffa_model.specs.declared.call.Reply.TheVariants.{Passed, Scheduled}
 use Rattle.ffa_model.specs.declared.endpoint.EndpointId.{EndpointId}
 use Rattle.ffa_model.specs.declared.function.TheConstants.{FFA_RUN, FFA_MSG_WAIT, FFA_YIELD}
+use Rattle.ffa_model.specs.Numbers.{Identifier}
 use Rattle.ffa_model.specs.Identifiers.{place}
 use Rattle.ffa_model.specs.Lists.{listed}
 use Rattle.ffa_model.specs.First.{first_status}
@@ -21,19 +22,20 @@ use Rattle.ffa_model.specs.Calls.{Service, success}
 
 -- the run states of all endpoints
 pub record Schedule : Type 0 where
-  pub runner : ℕ
+  pub runner : Identifier
   pub statuses : List Status  -- by endpoint
   pub works : List (Option Work)  -- by endpoint
 
-abbrev pub status_in : Schedule → ℕ → Status
+abbrev pub status_in : Schedule → Identifier → Status
 status_in schedule e = slice_index_or schedule.statuses (place e) Waiting
 
-abbrev pub work_in : Schedule → ℕ → Option Work
+abbrev pub work_in : Schedule → Identifier → Option Work
 work_in schedule e = slice_index_or schedule.works (place e) None
 
 -- the normal world runs, and each of its partitions waits
 abbrev pub first_schedule : ℕ → Schedule
-first_schedule endpoints = record { runner = 0; statuses = listed endpoints first_status; works = replicate endpoints None }
+first_schedule endpoints =
+    record { runner = 0; statuses = listed endpoints first_status; works = replicate endpoints None }
 
 abbrev pub is_waiting : Status → Bool
 is_waiting Running = false
@@ -61,36 +63,37 @@ is_run (Some Run) = true
 is_run (Some (Request by)) = false
 
 -- the endpoint whose request the work answers
-abbrev pub requester : Option Work → Option ℕ
+abbrev pub requester : Option Work → Option Identifier
 requester None = None
 requester (Some Run) = None
 requester (Some (Request by)) = Some by.0
 
-abbrev pub is_endpoint : ℕ → Option ℕ → Bool
+abbrev pub is_endpoint : Identifier → Option ℕ → Bool
 is_endpoint e None = false
 is_endpoint e (Some by) = by == e
 
 -- the changes of run states
-abbrev pub with_status : Schedule → ℕ → Status → Schedule
+abbrev pub with_status : Schedule → Identifier → Status → Schedule
 with_status schedule e status = record schedule { statuses = slice_set schedule.statuses (place e) status }
 
-abbrev pub with_work : Schedule → ℕ → Option Work → Schedule
+abbrev pub with_work : Schedule → Identifier → Option Work → Schedule
 with_work schedule e work = record schedule { works = slice_set schedule.works (place e) work }
 
 -- the runner stops in this status, and e runs
-abbrev pub switched : Schedule → Status → ℕ → Schedule
+abbrev pub switched : Schedule → Status → Identifier → Schedule
 switched schedule status e = record (with_status (with_status schedule schedule.runner status) e Running) { runner = e }
 
 -- the runner is blocked for the receiver, which answers its request
-abbrev pub requested : Schedule → ℕ → Schedule
-requested schedule receiver = with_work (switched schedule Blocked receiver) receiver (Some (Request (record { 0 = schedule.runner })))
+abbrev pub requested : Schedule → Identifier → Schedule
+requested schedule receiver =
+    with_work (switched schedule Blocked receiver) receiver (Some (Request (record { 0 = schedule.runner })))
 
 -- the runner waits without work, and e runs
-abbrev pub finished : Schedule → ℕ → Schedule
+abbrev pub finished : Schedule → Identifier → Schedule
 finished schedule e = with_work (switched schedule Waiting e) schedule.runner None
 
 -- a waiting target gets work, and a yielded one keeps its own; no other is asked for, since a guard refuses it
-abbrev pub given_cycles : Schedule → ℕ → Status → Schedule
+abbrev pub given_cycles : Schedule → Identifier → Status → Schedule
 given_cycles schedule e Waiting = with_work (switched schedule Blocked e) e (Some Run)
 given_cycles schedule e Yielded = switched schedule Blocked e
 given_cycles schedule e Running = schedule
@@ -112,7 +115,7 @@ request_guards parties schedule message =
     ∷ []
 
 -- whether a message goes from the runner to the endpoint whose request it answers
-abbrev pub is_answer : ℕ → DirectMessage → Option ℕ → Bool
+abbrev pub is_answer : Identifier → DirectMessage → Option ℕ → Bool
 is_answer runner message None = false
 is_answer runner message (Some by) = message.sender.0 == runner && message.receiver.0 == by
 
@@ -125,7 +128,7 @@ response_guards schedule message =
     ∷ []
 
 -- FFA_RUN among this many endpoints, of a target in one of its execution contexts
-abbrev pub run_guards : ℕ → Schedule → ℕ → ℕ → List (Bool × Refusal)
+abbrev pub run_guards : ℕ → Schedule → Identifier → ℕ → List (Bool × Refusal)
 run_guards endpoints schedule target context =
     (schedule.runner == 0, NotNormalWorld)
     ∷ (is_partition_among endpoints target, TargetUnknown)
@@ -142,21 +145,21 @@ abbrev pub yield_guards : Schedule → List (Bool × Refusal)
 yield_guards schedule = (is_run (work_in schedule schedule.runner) || is_endpoint 0 (requester (work_in schedule schedule.runner)), NobodyToYieldTo) ∷ []
 
 -- what the endpoint that runs next sees of a partition that is given cycles, or that gives them back
-abbrev pub scheduled : ℕ → ℕ → Reply
+abbrev pub scheduled : ℕ → Identifier → Reply
 scheduled function partition = Scheduled function (record { 0 = partition })
 
 -- a partition that waited sees FFA_RUN, and one that had yielded that its FFA_YIELD is done; no other is asked for, since a
 -- guard refuses it
-abbrev pub run_reply : ℕ → Status → Reply
+abbrev pub run_reply : Identifier → Status → Reply
 run_reply target Waiting = scheduled FFA_RUN target
 run_reply target Yielded = success 0 0
 run_reply target Running = success 0 0
 run_reply target Blocked = success 0 0
 
-abbrev pub wait_reply : ℕ → Reply
+abbrev pub wait_reply : Identifier → Reply
 wait_reply runner = scheduled FFA_MSG_WAIT runner
 
-abbrev pub yield_reply : ℕ → Reply
+abbrev pub yield_reply : Identifier → Reply
 yield_reply runner = scheduled FFA_YIELD runner
 
 -- ON A STATE
@@ -183,7 +186,7 @@ direct_response s message =
       reply = Passed message;
     }
 
-abbrev pub run_partition : State → ℕ → ℕ → Service
+abbrev pub run_partition : State → Identifier → ℕ → Service
 run_partition s target context =
     record {
       guards = run_guards (length s.parties) (schedule_of s) target context;

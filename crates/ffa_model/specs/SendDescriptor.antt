@@ -8,12 +8,13 @@ use Rattle.ffa_model.specs.declared.rights.Kind.TheVariants.{Share, Lend, Donate
 use Rattle.ffa_model.specs.declared.transaction.Range.{Range}
 use Rattle.ffa_model.specs.declared.transaction.Receiver.{Receiver}
 use Rattle.ffa_model.specs.declared.descriptor.SendDesc.{SendDesc}
+use Rattle.ffa_model.specs.Numbers.{Identifier}
 use Rattle.ffa_model.specs.Lists.{listed}
 use Rattle.ffa_model.specs.DescriptorPlaces.{Versioned, u32_at, u64_at, sender_field, attributes_field, flags_field, handle_field, tag_field, receiver_count, access_place, array_end, IsHeader, is_header, endpoint_field, permissions_field, access_flags_field, composite_field, access_reserved_field, composite_place, total_field, range_count, range_place, data_of, normal_memory}
 
 -- what a send descriptor says
 pub record SendRecord : Type 0 where
-  pub sender : ℕ
+  pub sender : Identifier
   pub zero : Bool
   pub tag : ℕ
   pub receivers : List Receiver
@@ -25,26 +26,27 @@ send_record d =
 
 -- whom the access descriptor at a place names, and which range stands at a place
 abbrev pub receiver_at : List ℕ → ℕ → Receiver
-receiver_at b at = record { endpoint = record { 0 = endpoint_field b at }; grant = data_of (permissions_field b at) }
+receiver_at bytes at =
+    record { endpoint = record { 0 = endpoint_field bytes at }; grant = data_of (permissions_field bytes at) }
 
 abbrev pub range_at : List ℕ → ℕ → Range
-range_at b at = record { address = u64_at b at; pages = u32_at b (at + 8) }
+range_at bytes at = record { address = u64_at bytes at; pages = u32_at bytes (at + 8) }
 
 -- receiver i and range i, and the first n of them
 abbrev pub receiver_in : Versioned → ℕ → Receiver
-receiver_in b i = receiver_at b.bytes (access_place b i)
+receiver_in descriptor i = receiver_at descriptor.bytes (access_place descriptor i)
 
 abbrev pub range_in : Versioned → ℕ → Range
-range_in b i = range_at b.bytes (range_place b i)
+range_in descriptor i = range_at descriptor.bytes (range_place descriptor i)
 
 abbrev pub receivers_in : Versioned → ℕ → List Receiver
-receivers_in b n = listed n (receiver_in b)
+receivers_in descriptor n = listed n (receiver_in descriptor)
 
 abbrev pub ranges_in : Versioned → ℕ → List Range
-ranges_in b n = listed n (range_in b)
+ranges_in descriptor n = listed n (range_in descriptor)
 
 abbrev pub range_end : Range → ℕ
-range_end r = r.address + 4096 * r.pages
+range_end range = range.address + 4096 * range.pages
 
 abbrev pub page_total : List Range → ℕ
 page_total ranges = sum_by (λ (r : Range). r.pages) ranges
@@ -73,53 +75,53 @@ IsGrant Lend permissions = (permissions ≡ 1) ⊎ (permissions ≡ 2)
 IsGrant Donate permissions = permissions ≡ 0
 
 -- the access descriptor at a place tells the one composite, and names another endpoint than the sender
-pub record IsAccess (kind : Kind) (b : Versioned) (at : ℕ) : Type 0 where
-  pub permissions : IsGrant kind (permissions_field b.bytes at)
-  pub flags : access_flags_field b.bytes at ≡ 0
-  pub composite : composite_field b.bytes at ≡ composite_place b
-  pub reserved : access_reserved_field b.bytes at ≡ 0
-  pub other : endpoint_field b.bytes at ≢ sender_field b
+pub record IsAccess (kind : Kind) (descriptor : Versioned) (at : ℕ) : Type 0 where
+  pub permissions : IsGrant kind (permissions_field descriptor.bytes at)
+  pub flags : access_flags_field descriptor.bytes at ≡ 0
+  pub composite : composite_field descriptor.bytes at ≡ composite_place descriptor
+  pub reserved : access_reserved_field descriptor.bytes at ≡ 0
+  pub other : endpoint_field descriptor.bytes at ≢ sender_field descriptor
 
 -- the composite stands behind the access descriptors, and inside the bytes with its ranges
-pub record IsComposite (b : Versioned) : Type 0 where
-  pub aligned : composite_place b % 16 ≡ 0
-  pub behind : array_end b ≤ composite_place b
-  pub least : 1 ≤ range_count b
-  pub most : range_count b ≤ MOST_RANGES
-  pub reserved : u64_at b.bytes (composite_place b + 8) ≡ 0
-  pub inside : range_place b (range_count b) ≤ length b.bytes
+pub record IsComposite (descriptor : Versioned) : Type 0 where
+  pub aligned : composite_place descriptor % 16 ≡ 0
+  pub behind : array_end descriptor ≤ composite_place descriptor
+  pub least : 1 ≤ range_count descriptor
+  pub most : range_count descriptor ≤ MOST_RANGES
+  pub reserved : u64_at descriptor.bytes (composite_place descriptor + 8) ≡ 0
+  pub inside : range_place descriptor (range_count descriptor) ≤ length descriptor.bytes
 
 -- the range at a place has whole pages, at least one, and ends at or below 2 ^ 48
-pub record IsRange (b : List ℕ) (at : ℕ) : Type 0 where
-  pub least : 1 ≤ (range_at b at).pages
-  pub aligned : (range_at b at).address % 4096 ≡ 0
-  pub below : range_end (range_at b at) ≤ 2 ^ 48
-  pub reserved : u32_at b (at + 12) ≡ 0
+pub record IsRange (bytes : List ℕ) (at : ℕ) : Type 0 where
+  pub least : 1 ≤ (range_at bytes at).pages
+  pub aligned : (range_at bytes at).address % 4096 ≡ 0
+  pub below : range_end (range_at bytes at) ≤ 2 ^ 48
+  pub reserved : u32_at bytes (at + 12) ≡ 0
 
 abbrev pub AreApart : Range → Range → Type 0
-AreApart r q = (range_end r ≤ q.address) ⊎ (range_end q ≤ r.address)
+AreApart range q = (range_end range ≤ q.address) ⊎ (range_end q ≤ range.address)
 
 -- The bytes are a send descriptor of this kind, and say this. All other bytes are free
-pub record Send (kind : Kind) (b : Versioned) (r : SendRecord) : Type 0 where
-  pub header : IsHeader b
-  pub attributes : attributes_field b ≡ attributes_of kind (receiver_count b)
-  pub flags : flags_field b ≤ most_flags kind
-  pub handle : handle_field b ≡ 0
-  pub least : 1 ≤ receiver_count b
-  pub most : receiver_count b ≤ most_receivers kind
-  pub accesses : (i : ℕ) → i < receiver_count b → IsAccess kind b (access_place b i)
+pub record Send (kind : Kind) (descriptor : Versioned) (send : SendRecord) : Type 0 where
+  pub header : IsHeader descriptor
+  pub attributes : attributes_field descriptor ≡ attributes_of kind (receiver_count descriptor)
+  pub flags : flags_field descriptor ≤ most_flags kind
+  pub handle : handle_field descriptor ≡ 0
+  pub least : 1 ≤ receiver_count descriptor
+  pub most : receiver_count descriptor ≤ most_receivers kind
+  pub accesses : (i : ℕ) → i < receiver_count descriptor → IsAccess kind descriptor (access_place descriptor i)
   pub distinct :
-      (i j : ℕ) → j < i → i < receiver_count b → endpoint_field b.bytes (access_place b j) ≢ endpoint_field b.bytes (access_place b i)
-  pub composite : IsComposite b
-  pub each : (i : ℕ) → i < range_count b → IsRange b.bytes (range_place b i)
+      (i j : ℕ) → j < i → i < receiver_count descriptor → endpoint_field descriptor.bytes (access_place descriptor j) ≢ endpoint_field descriptor.bytes (access_place descriptor i)
+  pub composite : IsComposite descriptor
+  pub each : (i : ℕ) → i < range_count descriptor → IsRange descriptor.bytes (range_place descriptor i)
   pub apart :
-      (i j : ℕ) → j < i → i < range_count b → AreApart (range_in b i) (range_in b j)
-  pub total : page_total (ranges_in b (range_count b)) ≡ total_field b
-  pub sender : r.sender ≡ sender_field b
-  pub zero : r.zero ≡ (flags_field b == 1)
-  pub tag : r.tag ≡ tag_field b
-  pub receivers : r.receivers ≡ receivers_in b (receiver_count b)
-  pub ranges : r.ranges ≡ ranges_in b (range_count b)
+      (i j : ℕ) → j < i → i < range_count descriptor → AreApart (range_in descriptor i) (range_in descriptor j)
+  pub total : page_total (ranges_in descriptor (range_count descriptor)) ≡ total_field descriptor
+  pub sender : send.sender ≡ sender_field descriptor
+  pub zero : send.zero ≡ (flags_field descriptor == 1)
+  pub tag : send.tag ≡ tag_field descriptor
+  pub receivers : send.receivers ≡ receivers_in descriptor (receiver_count descriptor)
+  pub ranges : send.ranges ≡ ranges_in descriptor (range_count descriptor)
 
 -- THE SAME, computed: what the fields say, and whether all conditions hold
 
@@ -129,79 +131,82 @@ is_grant Lend permissions = (permissions == 1) || (permissions == 2)
 is_grant Donate permissions = permissions == 0
 
 abbrev pub is_access : Kind → Versioned → ℕ → Bool
-is_access kind b at =
-    is_grant kind (permissions_field b.bytes at)
-    && (access_flags_field b.bytes at == 0)
-    && (composite_field b.bytes at == composite_place b)
-    && (access_reserved_field b.bytes at == 0)
-    && not (endpoint_field b.bytes at == sender_field b)
+is_access kind descriptor at =
+    is_grant kind (permissions_field descriptor.bytes at)
+    && (access_flags_field descriptor.bytes at == 0)
+    && (composite_field descriptor.bytes at == composite_place descriptor)
+    && (access_reserved_field descriptor.bytes at == 0)
+    && not (endpoint_field descriptor.bytes at == sender_field descriptor)
 
 abbrev pub is_named : ℕ → List Receiver → Bool
 is_named endpoint receivers = list_any (λ (r : Receiver). r.endpoint.0 == endpoint) receivers
 
 -- access descriptor i is one, and names nobody that an earlier one names
 abbrev pub is_access_beside : Kind → Versioned → ℕ → Bool
-is_access_beside kind b i =
-    is_access kind b (access_place b i) && not (is_named (endpoint_field b.bytes (access_place b i)) (receivers_in b i))
+is_access_beside kind descriptor i =
+    is_access kind descriptor (access_place descriptor i)
+    && not (is_named (endpoint_field descriptor.bytes (access_place descriptor i)) (receivers_in descriptor i))
 
 abbrev pub is_composite : Versioned → Bool
-is_composite b =
-    (composite_place b % 16 == 0)
-    && nat_le (array_end b) (composite_place b)
-    && nat_le 1 (range_count b)
-    && nat_le (range_count b) MOST_RANGES
-    && (u64_at b.bytes (composite_place b + 8) == 0)
-    && nat_le (range_place b (range_count b)) (length b.bytes)
+is_composite descriptor =
+    (composite_place descriptor % 16 == 0)
+    && nat_le (array_end descriptor) (composite_place descriptor)
+    && nat_le 1 (range_count descriptor)
+    && nat_le (range_count descriptor) MOST_RANGES
+    && (u64_at descriptor.bytes (composite_place descriptor + 8) == 0)
+    && nat_le (range_place descriptor (range_count descriptor)) (length descriptor.bytes)
 
 abbrev pub is_range : List ℕ → ℕ → Bool
-is_range b at =
-    nat_le 1 (range_at b at).pages
-    && ((range_at b at).address % 4096 == 0)
-    && nat_le (range_end (range_at b at)) (2 ^ 48)
-    && (u32_at b (at + 12) == 0)
+is_range bytes at =
+    nat_le 1 (range_at bytes at).pages
+    && ((range_at bytes at).address % 4096 == 0)
+    && nat_le (range_end (range_at bytes at)) (2 ^ 48)
+    && (u32_at bytes (at + 12) == 0)
 
 abbrev pub are_apart : Range → Range → Bool
-are_apart r q = nat_le (range_end r) q.address || nat_le (range_end q) r.address
+are_apart range q = nat_le (range_end range) q.address || nat_le (range_end q) range.address
 
 -- range i is one, and has no page of an earlier one
 abbrev pub is_range_beside : Versioned → ℕ → Bool
-is_range_beside b i =
-    is_range b.bytes (range_place b i) && list_all (are_apart (range_in b i)) (ranges_in b i)
+is_range_beside descriptor i =
+    is_range descriptor.bytes (range_place descriptor i)
+    && list_all (are_apart (range_in descriptor i)) (ranges_in descriptor i)
 
 -- whether a test holds at each of the first n indexes
 abbrev pub holds_at_each : (ℕ → Bool) → ℕ → Bool
 holds_at_each test n = list_all (λ (t : Bool). t) (listed n test)
 
 unfoldable pub is_send_header : Kind → Versioned → Bool
-is_send_header kind b =
-    (attributes_field b == attributes_of kind (receiver_count b))
-    && nat_le (flags_field b) (most_flags kind)
-    && (handle_field b == 0)
-    && nat_le 1 (receiver_count b)
-    && nat_le (receiver_count b) (most_receivers kind)
+is_send_header kind descriptor =
+    (attributes_field descriptor == attributes_of kind (receiver_count descriptor))
+    && nat_le (flags_field descriptor) (most_flags kind)
+    && (handle_field descriptor == 0)
+    && nat_le 1 (receiver_count descriptor)
+    && nat_le (receiver_count descriptor) (most_receivers kind)
 
 -- the lists of a send whose counts are good
 unfoldable pub is_send_body : Kind → Versioned → Bool
-is_send_body kind b =
-    holds_at_each (is_access_beside kind b) (receiver_count b)
-    && holds_at_each (is_range_beside b) (range_count b)
-    && (page_total (ranges_in b (range_count b)) == total_field b)
+is_send_body kind descriptor =
+    holds_at_each (is_access_beside kind descriptor) (receiver_count descriptor)
+    && holds_at_each (is_range_beside descriptor) (range_count descriptor)
+    && (page_total (ranges_in descriptor (range_count descriptor)) == total_field descriptor)
 
 abbrev pub send_in : Versioned → SendRecord
-send_in b =
+send_in descriptor =
     record {
-      sender = sender_field b;
-      zero = flags_field b == 1;
-      tag = tag_field b;
-      receivers = receivers_in b (receiver_count b);
-      ranges = ranges_in b (range_count b);
+      sender = sender_field descriptor;
+      zero = flags_field descriptor == 1;
+      tag = tag_field descriptor;
+      receivers = receivers_in descriptor (receiver_count descriptor);
+      ranges = ranges_in descriptor (range_count descriptor);
     }
 
 -- the counts are judged before a list is
 abbrev pub send_counted : Bool → Kind → Versioned → Option SendRecord
-send_counted false kind b = None
-send_counted true kind b = if is_send_body kind b then Some (send_in b) else None
+send_counted false kind descriptor = None
+send_counted true kind descriptor = if is_send_body kind descriptor then Some (send_in descriptor) else None
 
 -- what a send descriptor of this kind says, if the bytes are one
 unfoldable pub send_of : Kind → Versioned → Option SendRecord
-send_of kind b = send_counted (is_header b && is_send_header kind b && is_composite b) kind b
+send_of kind descriptor =
+    send_counted (is_header descriptor && is_send_header kind descriptor && is_composite descriptor) kind descriptor

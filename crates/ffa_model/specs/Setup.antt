@@ -20,7 +20,8 @@ use Rattle.ffa_model.specs.Buffers.{filled, is_full}
 use Rattle.ffa_model.specs.Calls.{Service, replying, success}
 
 abbrev pub version_reply : ℕ → Reply
-version_reply version = if not (is_set 31 version) && bits 30 16 version == 1 then Version 0x10001 else Version 0xFFFFFFFF
+version_reply version =
+    if not (is_set 31 version) && bits 30 16 version == 1 then Version 0x10001 else Version 0xFFFFFFFF
 
 abbrev pub features_reply : ℕ → Reply
 features_reply function = if is_function function then success 0 0 else Error NotSupported
@@ -53,7 +54,8 @@ selected parties uuid = filter (is_selected uuid) (enumerate_from 0 parties)
 -- properties of messages alone; else bit 8 says that it is AArch64, and the UUID answers the Nil UUID alone
 abbrev pub properties_info : versions.Version → List ℕ → Party → List ℕ
 properties_info Compact uuid party = little_bytes 4 (bits 2 0 party.properties)
-properties_info V1_1 uuid party = little_bytes 4 (party.properties + 0x100) ++ (if is_nil uuid then party.uuid else replicate 16 0)
+properties_info V1_1 uuid party =
+    little_bytes 4 (party.properties + 0x100) ++ (if is_nil uuid then party.uuid else replicate 16 0)
 
 abbrev pub info_of : versions.Version → List ℕ → ℕ × Party → List ℕ
 info_of version uuid p = little_bytes 2 (identifier p.0) ++ little_bytes 2 1 ++ properties_info version uuid p.1
@@ -81,7 +83,8 @@ info_guards s uuid flags =
     ∷ []
 
 abbrev pub informed : State → List ℕ → ℕ → State
-informed s uuid flags = if is_count_alone flags then s else filled s s.runner (info_bytes (version_of s s.runner) s.parties uuid)
+informed s uuid flags =
+    if is_count_alone flags then s else filled s s.runner (info_bytes (version_of s s.runner) s.parties uuid)
 
 abbrev pub info_get : State → List ℕ → ℕ → Service
 info_get s words flags =

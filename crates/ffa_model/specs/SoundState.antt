@@ -6,6 +6,7 @@ use Rattle.std.specs.FinSet as finite_set
 use Rattle.ffa_model.specs.declared.limits.TheConstants.{MOST_BLOCKS, MOST_BUFFER_PAGES, MOST_ENDPOINTS, MOST_OPEN, MOST_RANGES, MOST_SENDS}
 use Rattle.ffa_model.specs.declared.rights.Rights.{Rights}
 use Rattle.ffa_model.specs.declared.rights.Kind.TheVariants.{Donate}
+use Rattle.ffa_model.specs.Numbers.{Identifier}
 use Rattle.ffa_model.specs.Lists.{is_in_run}
 use Rattle.ffa_model.specs.Manifest.{is_from_to, is_ram_base}
 use Rattle.ffa_model.specs.Rights.{is_at_most}
@@ -23,7 +24,7 @@ use Rattle.ffa_model.specs.Notifications.{binding, class_of, has_bitmaps_in, is_
 abbrev pub are_bytes : List ℕ → Type 0
 are_bytes numbers = list_all (λ b. nat_lt b 256) numbers ≡ true
 
-abbrev pub IsKnown : State → ℕ → Type 0
+abbrev pub IsKnown : State → Identifier → Type 0
 IsKnown s e = is_known s e ≡ true
 
 -- what the manifest says of an endpoint
@@ -51,7 +52,8 @@ pub record IsSoundTransaction (s : State) (h : ℕ) (t : Transaction) : Type 0 w
   pub zeroed : t.zero ≡ true → are_writable (own_rights_of s) t.ranges ≡ true
   -- a holder is a receiver, and holds at most its ceiling; nobody holds a donate
   pub holder : (e : ℕ) (right : Rights) → held_by t e ≡ Some right → is_receiver e t ≡ true
-  pub within : (e : ℕ) (right : Rights) → held_by t e ≡ Some right → is_at_most right (ceiling (own_rights_of s) t e) ≡ true
+  pub within : (e : ℕ) (right : Rights) → held_by t e ≡ Some right
+      → is_at_most right (ceiling (own_rights_of s) t e) ≡ true
   pub donate : (e : ℕ) → t.kind ≡ Donate → held_by t e ≡ None
   -- its receivers are endpoints; how many receivers and ranges it may have, and that its tag is a word
   pub receivers : are_known (length s.parties) t.receivers ≡ true
@@ -62,17 +64,17 @@ pub record IsSoundTransaction (s : State) (h : ℕ) (t : Transaction) : Type 0 w
   pub tag : t.tag < 2 ^ 64
 
 -- two runs of pages of the endpoint alone, in no open transaction, with own right rw
-pub record IsSoundBuffers (s : State) (e : ℕ) (b : Buffers) : Type 0 where
-  pub count : is_from_to 1 MOST_BUFFER_PAGES b.pages ≡ true
-  pub tx : (p : ℕ) → is_in_run b.tx b.pages p ≡ true → is_usable e (candidate_at s p) ≡ true
-  pub rx : (p : ℕ) → is_in_run b.rx b.pages p ≡ true → is_usable e (candidate_at s p) ≡ true
-  pub apart : are_runs_apart b.pages b.tx b.rx ≡ true
+pub record IsSoundBuffers (s : State) (e : ℕ) (buffers : Buffers) : Type 0 where
+  pub count : is_from_to 1 MOST_BUFFER_PAGES buffers.pages ≡ true
+  pub tx : (p : ℕ) → is_in_run buffers.tx buffers.pages p ≡ true → is_usable e (candidate_at s p) ≡ true
+  pub rx : (p : ℕ) → is_in_run buffers.rx buffers.pages p ≡ true → is_usable e (candidate_at s p) ≡ true
+  pub apart : are_runs_apart buffers.pages buffers.tx buffers.rx ≡ true
 
 -- a bit that is bound: to nobody else, in its sender's class, and where the receiver has bitmaps
 pub record IsSoundBinding (s : State) (entry : List ℕ) : Type 0 where
-  pub receiver : ℕ
+  pub receiver : Identifier
   pub bit : ℕ
-  pub sender : ℕ
+  pub sender : Identifier
   pub is : entry ≡ binding receiver (class_of sender) bit sender
   pub to_known : IsKnown s receiver
   pub from_known : IsKnown s sender
@@ -83,7 +85,7 @@ pub record IsSoundBinding (s : State) (entry : List ℕ) : Type 0 where
 
 -- a bit that is pending: one of a partition or of the normal world is bound
 pub record IsSoundPending (s : State) (entry : List ℕ) : Type 0 where
-  pub receiver : ℕ
+  pub receiver : Identifier
   pub class : ℕ
   pub bit : ℕ
   pub is : entry ≡ receiver_bit receiver class bit

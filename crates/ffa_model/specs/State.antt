@@ -14,6 +14,7 @@ use Rattle.ffa_model.specs.declared.transaction.Range.{Range}
 use Rattle.ffa_model.specs.declared.transaction.Receiver.{Receiver}
 use Rattle.ffa_model.specs.declared.schedule.Status.{Status}
 use Rattle.ffa_model.specs.declared.schedule.Work.{Work}
+use Rattle.ffa_model.specs.Numbers.{Bit, HandleNumber, Identifier, PageIndex}
 use Rattle.ffa_model.specs.Bits.{is_set}
 use Rattle.ffa_model.specs.Identifiers.{manager, identifier, place}
 use Rattle.ffa_model.specs.Lists.{listed}
@@ -26,14 +27,14 @@ pub record Party : Type 0 where
 
 -- a page that an endpoint owns
 pub record Page : Type 0 where
-  pub owner : ℕ
+  pub owner : Identifier
   pub own_right : Rights
   pub bytes : List ℕ
 
 -- a memory management transaction that is open
 pub record Transaction : Type 0 where
   pub kind : Kind
-  pub sender : ℕ
+  pub sender : Identifier
   pub tag : ℕ
   pub zero : Bool
   pub ranges : List Range
@@ -55,7 +56,7 @@ pub record State : Type 0 where
   pub transactions : map.FinMap nat_cmp Transaction  -- by handle
   pub sent : List ℕ  -- by endpoint, how many sends it has made
   pub buffers : List (Option Buffers)  -- by endpoint
-  pub runner : ℕ
+  pub runner : Identifier
   pub statuses : List Status  -- by endpoint
   pub works : List (Option Work)  -- by endpoint
   pub bitmaps : List Bool  -- by endpoint, whether it has notification bitmaps
@@ -66,44 +67,44 @@ abbrev pub identifiers : State → List ℕ
 identifiers s = listed (length s.parties) identifier
 
 -- whether e names a partition, or an endpoint, of this many endpoints
-abbrev pub is_partition_among : ℕ → ℕ → Bool
+abbrev pub is_partition_among : ℕ → Identifier → Bool
 is_partition_among n e = nat_lt 0x8000 e && nat_lt (place e) n
 
-abbrev pub is_known_among : ℕ → ℕ → Bool
+abbrev pub is_known_among : ℕ → Identifier → Bool
 is_known_among n e = e == 0 || is_partition_among n e
 
-abbrev pub is_known : State → ℕ → Bool
+abbrev pub is_known : State → Identifier → Bool
 is_known s e = is_known_among (length s.parties) e
 
 -- the property word of e, and whether a bit of it is set
-abbrev pub properties_among : List Party → ℕ → ℕ
+abbrev pub properties_among : List Party → Identifier → ℕ
 properties_among parties e = option_map_or (λ (p : Party). p.properties) (slice_get parties (place e)) 0
 
 -- the form in which e writes and reads descriptors
-abbrev pub version_among : List Party → ℕ → Version
+abbrev pub version_among : List Party → Identifier → Version
 version_among parties e = option_map_or (λ (p : Party). p.version) (slice_get parties (place e)) V1_1
 
-abbrev pub version_of : State → ℕ → Version
+abbrev pub version_of : State → Identifier → Version
 version_of s e = version_among s.parties e
 
-abbrev pub has_property : List Party → ℕ → ℕ → Bool
+abbrev pub has_property : List Party → Identifier → Bit → Bool
 has_property parties e bit = is_set bit (properties_among parties e)
 
-abbrev pub page_at : State → ℕ → Option Page
+abbrev pub page_at : State → PageIndex → Option Page
 page_at s p = slice_index_or s.pages p None
 
 -- the owner of a page, which is the manager where it is no endpoint's
-abbrev pub owner_of : State → ℕ → ℕ
+abbrev pub owner_of : State → PageIndex → Identifier
 owner_of s p = option_map_or (λ (page : Page). page.owner) (page_at s p) manager
 
-abbrev pub address_of : State → ℕ → ℕ
+abbrev pub address_of : State → PageIndex → ℕ
 address_of s p = s.ram_base + 4096 * p
 
-abbrev pub transaction_of : State → ℕ → Option Transaction
+abbrev pub transaction_of : State → HandleNumber → Option Transaction
 transaction_of s h = map.get s.transactions h
 
-abbrev pub sent_by : State → ℕ → ℕ
+abbrev pub sent_by : State → Identifier → ℕ
 sent_by s e = slice_index s.sent (place e)
 
-abbrev pub buffers_of : State → ℕ → Option Buffers
+abbrev pub buffers_of : State → Identifier → Option Buffers
 buffers_of s e = slice_index_or s.buffers (place e) None

@@ -13,6 +13,7 @@ use Rattle.ffa_model.specs.declared.rights.Kind.{Kind}
 use Rattle.ffa_model.specs.declared.rights.Kind.TheVariants.{Share, Lend, Donate}
 use Rattle.ffa_model.specs.declared.transaction.Range.{Range}
 use Rattle.ffa_model.specs.declared.transaction.Receiver.{Receiver}
+use Rattle.ffa_model.specs.Numbers.{HandleNumber, Identifier, PageIndex}
 use Rattle.ffa_model.specs.Bits.{word_of_halves}
 use Rattle.ffa_model.specs.Identifiers.{place}
 use Rattle.ffa_model.specs.Lists.{listed}
@@ -44,43 +45,44 @@ pub record Scene : Type 0 where
 
 -- HANDLES
 -- the sender in the high half, and in the low half which of its sends it is, counted from 1
-abbrev pub handle_of : ℕ → ℕ → ℕ
+abbrev pub handle_of : Identifier → ℕ → HandleNumber
 handle_of e number = word_of_halves number e
 
-abbrev pub sends_of : OpenTransactions → ℕ → ℕ
+abbrev pub sends_of : OpenTransactions → Identifier → ℕ
 sends_of o e = slice_index o.sent (place e)
 
-abbrev pub next_handle : OpenTransactions → ℕ → ℕ
+abbrev pub next_handle : OpenTransactions → Identifier → HandleNumber
 next_handle o e = handle_of e (sends_of o e + 1)
 
 -- how many open transactions e has sent
-abbrev pub open_count : OpenTransactions → ℕ → ℕ
+abbrev pub open_count : OpenTransactions → Identifier → ℕ
 open_count o e = length (filter (λ (t : Transaction). t.sender == e) (map.values o.transactions))
 
 -- CHANGES
 -- e holds this right, or holds nothing
-abbrev pub holding : Transaction → ℕ → Rights → Transaction
+abbrev pub holding : Transaction → Identifier → Rights → Transaction
 holding t e right = record t { held = map.insert t.held e right }
 
-abbrev pub not_holding : Transaction → ℕ → Transaction
+abbrev pub not_holding : Transaction → Identifier → Transaction
 not_holding t e = record t { held = map.remove t.held e }
 
 -- its sender has made one send more, which is open
-abbrev pub opened : OpenTransactions → ℕ → Transaction → OpenTransactions
+abbrev pub opened : OpenTransactions → HandleNumber → Transaction → OpenTransactions
 opened o h t =
     record o { transactions = map.insert o.transactions h t; sent = slice_set o.sent (place t.sender) (sends_of o t.sender + 1) }
 
 -- the transaction of a handle is this one, or is open no more
-abbrev pub with_transaction : OpenTransactions → ℕ → Transaction → OpenTransactions
+abbrev pub with_transaction : OpenTransactions → HandleNumber → Transaction → OpenTransactions
 with_transaction o h t = record o { transactions = map.insert o.transactions h t }
 
-abbrev pub closed : OpenTransactions → ℕ → OpenTransactions
+abbrev pub closed : OpenTransactions → HandleNumber → OpenTransactions
 closed o h = record o { transactions = map.remove o.transactions h }
 
 -- CEILINGS
 -- the pages of RAM that the ranges name
 abbrev pub pages_in : OwnRights → List Range → List ℕ
-pages_in own_rights ranges = filter (λ p. covers ranges (own_rights.ram_base + 4096 * p)) (listed own_rights.pages (λ p. p))
+pages_in own_rights ranges =
+    filter (λ p. covers ranges (own_rights.ram_base + 4096 * p)) (listed own_rights.pages (λ p. p))
 
 -- whether all pages that the ranges name have own right rw, and whether all have execution
 abbrev pub are_writable : OwnRights → List Range → Bool
@@ -90,18 +92,20 @@ abbrev pub are_executable : OwnRights → List Range → Bool
 are_executable own_rights ranges = list_all (λ p. may_fetch (own_rights.right p)) (pages_in own_rights ranges)
 
 -- the data right that e is granted: ro where nothing is, but a send descriptor grants each receiver of a share or a lend one
-abbrev pub grant_to : Transaction → ℕ → Data
-grant_to t e = unwrap_or (option_and_then (λ (r : Receiver). r.grant) (find (λ (r : Receiver). r.endpoint.0 == e) t.receivers)) Ro
+abbrev pub grant_to : Transaction → Identifier → Data
+grant_to t e =
+    unwrap_or (option_and_then (λ (r : Receiver). r.grant) (find (λ (r : Receiver). r.endpoint.0 == e) t.receivers)) Ro
 
 -- the most that e may hold: what all pages have in a donate; else the grant, and a lend to one may be executed where all
 -- pages may
-abbrev pub ceiling_in : Kind → OwnRights → Transaction → ℕ → Rights
+abbrev pub ceiling_in : Kind → OwnRights → Transaction → Identifier → Rights
 ceiling_in Donate own_rights t e =
     record { level = if are_writable own_rights t.ranges then Rw else Ro; exec = are_executable own_rights t.ranges }
-ceiling_in Lend own_rights t e = record { level = grant_to t e; exec = length t.receivers == 1 && are_executable own_rights t.ranges }
+ceiling_in Lend own_rights t e =
+    record { level = grant_to t e; exec = length t.receivers == 1 && are_executable own_rights t.ranges }
 ceiling_in Share own_rights t e = record { level = grant_to t e; exec = false }
 
-abbrev pub ceiling : OwnRights → Transaction → ℕ → Rights
+abbrev pub ceiling : OwnRights → Transaction → Identifier → Rights
 ceiling own_rights t e = ceiling_in t.kind own_rights t e
 
 -- ON A STATE
@@ -111,7 +115,7 @@ open_of s = record { transactions = s.transactions; sent = s.sent }
 abbrev pub with_open : State → OpenTransactions → State
 with_open s o = record s { transactions = o.transactions; sent = o.sent }
 
-abbrev pub own_right_of : State → ℕ → Option Rights
+abbrev pub own_right_of : State → PageIndex → Option Rights
 own_right_of s p = option_map (λ (page : Page). page.own_right) (page_at s p)
 
 abbrev pub own_rights_of : State → OwnRights

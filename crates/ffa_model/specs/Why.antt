@@ -13,6 +13,7 @@ use Rattle.ffa_model.specs.declared.why.Grant.{Grant}
 use Rattle.ffa_model.specs.declared.why.Grant.TheVariants.{Own, Shared, Held}
 use Rattle.ffa_model.specs.declared.why.Why.{Why}
 use Rattle.ffa_model.specs.declared.why.Why.TheVariants.{Refused, Fault}
+use Rattle.ffa_model.specs.Numbers.{Identifier, PageIndex}
 use Rattle.ffa_model.specs.About.{about}
 use Rattle.ffa_model.specs.Access.{access, handle_at, is_held_by, transaction_at}
 use Rattle.ffa_model.specs.Calls.{first_refusal, replied}
@@ -44,9 +45,9 @@ outcome_of s (Fault kind obstacle) = outcomes.Fault kind
 
 -- by what e has its access to a page, if it has one: it holds the open transaction in which the page stands, or shares its
 -- own page by it, or has its own page, which stands in none
-abbrev pub grant_by : ℕ → Option ℕ → Option Transaction → Grant
+abbrev pub grant_by : Identifier → Option ℕ → Option Transaction → Grant
 grant_by e None t = Own
 grant_by e (Some handle) t = if is_held_by e t then Held handle else Shared handle
 
-abbrev pub granted : State → ℕ → ℕ → Option Grant
+abbrev pub granted : State → Identifier → PageIndex → Option Grant
 granted s e p = if is_some (access s e p) then Some (grant_by e (handle_at s p) (transaction_at s p)) else None

@@ -137,6 +137,15 @@ pub enum Reply {
     Error(ErrorCode),
     /// FFA_SUCCESS, with w2 to w7.
     Success([u32; 6]),
+    /// FFA_SUCCESS of FFA_MEM_DONATE, FFA_MEM_LEND or FFA_MEM_SHARE.
+    Sent(Handle),
+    /// FFA_SUCCESS of FFA_NOTIFICATION_GET: the bitmaps of the notifications that partitions, the normal world and the manager
+    /// made pending.
+    Pending {
+        partitions: u64,
+        normal_world: u64,
+        manager: u64,
+    },
     /// A direct message, as its receiver sees it.
     Passed(DirectMessage),
     /// FFA_RUN, FFA_MSG_WAIT or FFA_YIELD, as the endpoint that runs next sees it: the partition that is given cycles, or that

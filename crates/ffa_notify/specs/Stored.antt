@@ -41,11 +41,13 @@ has_binding words x =
     is_set (slice_index x 2) (slice_index words (MOST_ENDPOINTS * place (receiver_of_entry x) + place (sender_of_entry x)))
 
 abbrev pub has_pending_bit : List ℕ → List ℕ → Bool
-has_pending_bit words x = is_set (slice_index x 2) (slice_index words (3 * place (receiver_of_entry x) + class_of_entry x))
+has_pending_bit words x =
+    is_set (slice_index x 2) (slice_index words (3 * place (receiver_of_entry x) + class_of_entry x))
 
 -- what a function gives at all indexes below three numbers
 unfoldable pub entries : (ℕ → ℕ → ℕ → List ℕ) → ℕ → ℕ → ℕ → List (List ℕ)
-entries f l m n = flat_map (λ i. flat_map (λ j. map (f i j) (listed n (λ k. k))) (listed m (λ j. j))) (listed l (λ i. i))
+entries f l m n =
+    flat_map (λ i. flat_map (λ j. map (f i j) (listed n (λ k. k))) (listed m (λ j. j))) (listed l (λ i. i))
 
 -- the sets of the words of n endpoints
 unfoldable pub bound_in : ℕ → List ℕ → finite_set.FinSet (slice_cmp nat_cmp)

@@ -10,7 +10,6 @@ ghost use Rattle.ffa_notify.specs.Stored.{class_number};
 
 use crate::bitmaps::Bitmaps;
 use crate::class::Class;
-use crate::words::{high_word, low_word};
 use ffa_model::{EndpointId, Reply};
 
 impl Bitmaps {
@@ -96,14 +95,11 @@ impl Bitmaps {
         let partitions = self.asked_word(receiver, flags, Class::Partitions);
         let normal_world = self.asked_word(receiver, flags, Class::NormalWorld);
         let manager = self.asked_word(receiver, flags, Class::Manager);
-        Reply::Success([
-            low_word(partitions),
-            high_word(partitions),
-            low_word(normal_world),
-            high_word(normal_world),
-            low_word(manager),
-            0,
-        ])
+        Reply::Pending {
+            partitions,
+            normal_world,
+            manager,
+        }
     }
 
     // The pending bits of a receiver's class, where the flags ask for it.

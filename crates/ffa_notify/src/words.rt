@@ -2,7 +2,6 @@
 //! Words of bits.
 ghost use Rattle.std.specs.Prelude.{◌≡◌, ℕ, ◌+◌, ◌≤◌, nat_lt, not, length, slice_index, if◌then◌else◌};
 ghost use Rattle.std.specs.List.{list_all};
-ghost use Rattle.ffa_model.specs.Bits.{bits};
 ghost use Rattle.ffa_notify.specs.Stored.{is_asked};
 
 use ffa_model::MOST_ENDPOINTS;
@@ -38,18 +37,4 @@ pub(crate) fn clear_asked(words: &mut [u64], first: usize, flags: u32)
             words[first + class] = 0;
         }
     }
-}
-
-// The low half of a word.
-pub(crate) fn low_word(word: u64) -> u32
-    ensures { result ≡ bits 31 0 word }
-{
-    (word % 0x1_0000_0000) as u32
-}
-
-// The high half of a word.
-pub(crate) fn high_word(word: u64) -> u32
-    ensures { result ≡ bits 63 32 word }
-{
-    (word / 0x1_0000_0000) as u32
 }

@@ -107,4 +107,5 @@ abbrev pub AreDoneReading : Snapshot → List Op → List Outcome → Snapshot �
 AreDoneReading old [] told new = (told ≡ []) × (new ≡ old)
 AreDoneReading old (op ∷ ops) told new =
     (next : Snapshot) × (outcome : Outcome) × (rest : List Outcome)
-    × (told ≡ outcome ∷ rest) × IsDoneReading (pages_read old.state op) old op outcome next × AreDoneReading next ops rest new
+    × (told ≡ outcome ∷ rest) × IsDoneReading (pages_read old.state op) old op outcome next
+    × AreDoneReading next ops rest new

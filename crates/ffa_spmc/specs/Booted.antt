@@ -14,7 +14,8 @@ pub record IsBooted (m : Manifest) (s : State) (ram : Ram) : Type 0 where
   pub state : s ≡ first m.ram_base.0 m.ram_blocks m.endpoints.items
   pub agrees : Agrees ram s
   -- pages behind the tables are zeros
-  pub cleared : (p : ℕ) → length s.parties * table_pages m.ram_blocks ≤ p → p < length ram.pages → page_of ram p ≡ replicate 4096 0
+  pub cleared : (p : ℕ) → length s.parties * table_pages m.ram_blocks ≤ p → p < length ram.pages
+      → page_of ram p ≡ replicate 4096 0
   pub sound : IsSoundState s
 
 -- the same where the pages of regions keep the bytes of the RAM that was given

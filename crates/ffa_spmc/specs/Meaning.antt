@@ -86,7 +86,8 @@ pub record AreOpenTransactions (m : Manifest) (pages : List (Option Entry)) (slo
   pub apart :
       (i j : ℕ) (x y : ℕ × Transaction) → pool_slot slots i ≡ Some x → pool_slot slots j ≡ Some y → x.0 ≡ y.0 → i ≡ j
   pub offered : (k h : ℕ) (t : Transaction) → pool_slot slots k ≡ Some (h, t) → IsOffered m t
-  pub marks : (p k : ℕ) → p < length pages → (slot_at pages p ≡ Some k) ↔ (slot_names m.ram_base.0 p (pool_slot slots k) ≡ true)
+  pub marks : (p k : ℕ) → p < length pages
+      → (slot_at pages p ≡ Some k) ↔ (slot_names m.ram_base.0 p (pool_slot slots k) ≡ true)
 
 -- the tables give the access of the state, which is sound; what built tables give is noted once and for all
 pub record IsManager (x : Parts) : Type 0 where

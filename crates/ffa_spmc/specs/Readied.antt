@@ -17,7 +17,9 @@ first_owner m p = owner_in m.ram_base.0 m.endpoints.items p
 pub record IsReadyFor (m : Manifest) (ram : Ram) : Type 0 where
   pub base : ram.base ≡ m.ram_base.0
   pub size : length ram.pages ≡ 512 * m.ram_blocks
-  pub whole : (p : ℕ) → p < length ram.pages → first_owner m p ≢ manager → (length (page_of ram p) ≡ 4096) × are_bytes (page_of ram p)
+  pub whole : (p : ℕ) → p < length ram.pages → first_owner m p ≢ manager
+      → (length (page_of ram p) ≡ 4096) × are_bytes (page_of ram p)
   pub cleared :
-      (p : ℕ) → length m.endpoints.items * table_pages m.ram_blocks ≤ p → p < length ram.pages → first_owner m p ≡ manager
+      (p : ℕ) → length m.endpoints.items * table_pages m.ram_blocks ≤ p → p < length ram.pages
+      → first_owner m p ≡ manager
       → page_of ram p ≡ replicate 4096 0

@@ -4,7 +4,7 @@ ghost use Rattle.std.specs.Prelude.{◌≡◌};
 ghost use Rattle.ffa_model.specs.MemorySend.{handle_reply};
 ghost use Rattle.ffa_spmc.specs.Replies.{done_or_error, reply_or_error};
 
-use ffa_model::{ErrorCode, Reply};
+use ffa_model::{ErrorCode, Handle, Reply};
 
 /// The reply to a call that answers no more than that it is done.
 pub(crate) const DONE: Reply = Reply::Success([0; 6]);
@@ -29,11 +29,9 @@ pub(crate) fn reply_or_error(answer: Result<Reply, ErrorCode>) -> Reply
     }
 }
 
-// The reply to a send that was done: the halves of the handle, the low one first.
+// The reply to a send that was done.
 pub(crate) fn handle_reply(handle: u64) -> Reply
     ensures { result ≡ handle_reply handle }
 {
-    let low = (handle % (1 << 32)) as u32;
-    let high = (handle >> 32) as u32;
-    Reply::Success([low, high, 0, 0, 0, 0])
+    Reply::Sent(Handle(handle))
 }
