@@ -2,13 +2,13 @@
 //! Calls and replies in the eight registers (DEN0028, 2; DEN0077A, 11).
 #![tactic(auto)]
 
-mod about;
 mod call;
 mod names;
+mod reasons;
 mod reply;
 
-pub use about::about_registers;
 pub use call::{decode, is_function, is_read_whole, low};
 pub use ffa_model::{Call, Reply};
 pub use names::{call_name, error_name};
+pub use reasons::about_registers;
 pub use reply::encode;

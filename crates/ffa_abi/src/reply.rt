@@ -22,7 +22,7 @@ fn code_number(code: ErrorCode) -> u32
 }
 
 // The registers of FFA_SUCCESS, with w2 to w7.
-fn success(results: [u32; 6]) -> [u64; 8]
+fn success_registers(results: [u32; 6]) -> [u64; 8]
     ensures { result ≡ encode (Reply.Success results) }
 {
     let [w2, w3, w4, w5, w6, w7] = results.map(u64::from);
@@ -44,7 +44,7 @@ fn high_word(word: u64) -> u64
 }
 
 // The registers of FFA_SUCCESS with a handle.
-fn sent(handle: Handle) -> [u64; 8]
+fn handle_registers(handle: Handle) -> [u64; 8]
     ensures { result ≡ encode (Reply.Sent handle) }
 {
     let (low, high) = (low_word(handle.0), high_word(handle.0));
@@ -52,7 +52,7 @@ fn sent(handle: Handle) -> [u64; 8]
 }
 
 // The registers of FFA_SUCCESS with bitmaps of pending notifications.
-fn pending(partitions: u64, normal_world: u64, manager: u64) -> [u64; 8]
+fn pending_registers(partitions: u64, normal_world: u64, manager: u64) -> [u64; 8]
     ensures { result ≡ encode (Reply.Pending partitions normal_world manager) }
 {
     let (w2, w3) = (low_word(partitions), high_word(partitions));
@@ -70,7 +70,7 @@ fn pending(partitions: u64, normal_world: u64, manager: u64) -> [u64; 8]
 }
 
 // The registers of a direct message, as its receiver sees it.
-fn passed(message: &DirectMessage) -> [u64; 8]
+fn message_registers(message: &DirectMessage) -> [u64; 8]
     ensures { result ≡ encode (Reply.Passed message.now) }
 {
     let w0 = u64::from(message.function);
@@ -80,7 +80,7 @@ fn passed(message: &DirectMessage) -> [u64; 8]
 }
 
 // The registers that tell of a partition which is given cycles, or gives them back: it and its execution context 0 in w1.
-fn scheduled(function: u32, partition: EndpointId) -> [u64; 8]
+fn cycles_registers(function: u32, partition: EndpointId) -> [u64; 8]
     ensures { result ≡ encode (Reply.Scheduled function partition) }
 {
     let w1 = u64::from(word_of_two(partition.0, 0));
@@ -104,18 +104,18 @@ pub fn encode(reply: &Reply) -> [u64; 8]
             let w2 = u64::from(code_number(code));
             [u64::from(FFA_ERROR), 0, w2, 0, 0, 0, 0, 0]
         }
-        Reply::Success(results) => success(results),
-        Reply::Sent(handle) => sent(handle),
+        Reply::Success(results) => success_registers(results),
+        Reply::Sent(handle) => handle_registers(handle),
         Reply::Pending {
             partitions,
             normal_world,
             manager,
-        } => pending(partitions, normal_world, manager),
-        Reply::Passed(message) => passed(&message),
+        } => pending_registers(partitions, normal_world, manager),
+        Reply::Passed(message) => message_registers(&message),
         Reply::Scheduled {
             function,
             partition,
-        } => scheduled(function, partition),
+        } => cycles_registers(function, partition),
         Reply::Retrieved(size) => {
             let size = u64::from(size);
             [u64::from(FFA_MEM_RETRIEVE_RESP), size, size, 0, 0, 0, 0, 0]

@@ -1,5 +1,5 @@
--- SPDX-License-Identifier: MIT OR Apache-2.0 What stands in RAM between two steps of a call on memory, and what
--- is settled at its end, by the layout of the tables.
+-- SPDX-License-Identifier: MIT OR Apache-2.0
+-- What stands in RAM between two steps of a call on memory, and what is settled at its end, by the layout of the tables.
 use Rattle.std.specs.Prelude.{List, Option}
 use Rattle.arrayvec.specs.ArrayVec.{array_vec_len}
 use Rattle.ffa_model.specs.Ram.{Ram}

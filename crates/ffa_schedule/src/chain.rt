@@ -114,7 +114,7 @@ impl Chain {
         match self.work(target) {
             None => {
                 self.start(target, Work::Run);
-                Ok(scheduled(FFA_RUN, target))
+                Ok(reply_with(FFA_RUN, target))
             }
             Some(work) => {
                 self.start(target, work);
@@ -139,7 +139,7 @@ impl Chain {
         let runner = self.runner();
         self.check_wait()?;
         self.stop(None);
-        Ok(scheduled(FFA_MSG_WAIT, runner))
+        Ok(reply_with(FFA_MSG_WAIT, runner))
     }
 
     /// FFA_YIELD (DEN0077A, 8.2): the runner has yielded and keeps its work, and the normal world, for which it works,
@@ -158,7 +158,7 @@ impl Chain {
         let runner = self.runner();
         let work = self.check_yield()?;
         self.stop(Some(work));
-        Ok(scheduled(FFA_YIELD, runner))
+        Ok(reply_with(FFA_YIELD, runner))
     }
 
     /// A direct request of the runner (DEN0077A, 15): it is blocked, and the receiver works for it and runs.
@@ -224,7 +224,7 @@ fn status_outside(work: Option<Work>) -> Status
 }
 
 // What the endpoint that runs next is told of a partition which is given cycles, or gives them back.
-fn scheduled(function: u32, partition: EndpointId) -> Reply
+fn reply_with(function: u32, partition: EndpointId) -> Reply
     ensures { result ≡ scheduled function partition.0 }
 {
     Reply::Scheduled {

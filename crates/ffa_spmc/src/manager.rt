@@ -20,12 +20,10 @@ ghost use Rattle.ffa_spmc.specs.Storages.{IsRoomFor};
 ghost use Rattle.ffa_spmc.specs.Moments.{AreMoments};
 ghost use Rattle.ffa_spmc.specs.Unowned.{KeepsUnowned};
 
-mod abouts;
 mod accesses;
 mod buffers;
 mod certificates;
 mod clearing;
-mod contents;
 mod forgetting;
 mod memory;
 mod messages;

@@ -1,6 +1,7 @@
 // SPDX-License-Identifier: MIT OR Apache-2.0
 //! Why an operation of the runner is refused, and by what an endpoint has its access. A call is asked by the check that it
-//! makes itself, and an access walks the tables. Nothing is changed, and no memory is taken.
+//! makes itself, and an access walks the tables. Nothing is changed, and no memory is taken. No call asks this: who audits what calls do
+//! can skip this module and those in it.
 ghost use Rattle.std.specs.Prelude.{◌≡◌, ◌<◌, length, nat_lt};
 ghost use Rattle.ffa_model.specs.Access.{is_held_by, transaction_at};
 ghost use Rattle.ffa_model.specs.Buffers.{rx_release, rxtx_map, rxtx_unmap};
@@ -16,6 +17,9 @@ ghost use Rattle.ffa_model.specs.RunStates.{direct_request, direct_response, msg
 ghost use Rattle.ffa_model.specs.Step.{service};
 ghost use Rattle.ffa_model.specs.Why.{granted};
 ghost use Rattle.ffa_spmc.specs.Replies.{fault_in};
+
+mod abouts;
+mod contents;
 
 use super::Manager;
 use crate::storage::Store;

@@ -7,7 +7,7 @@ ghost use Rattle.ffa_model.specs.Messages.{header_in, tx_bytes};
 ghost use Rattle.ffa_model.specs.Notifications.{notifications_of};
 ghost use Rattle.ffa_model.specs.State.{buffers_of};
 
-use super::Manager;
+use crate::manager::Manager;
 use crate::storage::Store;
 use ffa_memshare::DescriptorCall;
 use ffa_model::{About, Call, Home, Kind, Refusal, Transfer};

@@ -7,7 +7,7 @@ ghost use Rattle.ffa_model.specs.Obstacles.{unless_own};
 ghost use Rattle.ffa_model.specs.State.{transaction_of};
 ghost use Rattle.ffa_model.specs.Transactions.{own_rights_of};
 
-use super::Manager;
+use crate::manager::Manager;
 use crate::storage::Store;
 use ffa_memshare::DescriptorCall;
 use ffa_model::{About, Call, Handle, Home, Kind, Obstacle, PageNo, Refusal, Transfer};

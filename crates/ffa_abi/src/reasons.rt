@@ -1,5 +1,6 @@
 // SPDX-License-Identifier: MIT OR Apache-2.0
-//! What a check that fails is about, where the call's registers tell it (DEN0077A, 11 to 16).
+//! What a check that fails is about, where the call's registers tell it (DEN0077A, 11 to 16). Only who asks why a call was refused asks
+//! this: no call does.
 ghost use Rattle.std.specs.Prelude.{◌≡◌};
 ghost use Rattle.ffa_model.specs.AboutRegisters.{about_registers, in_register, registers_of_bind, registers_of_create, registers_of_destroy, registers_of_get, registers_of_map, registers_of_reclaim, registers_of_request, registers_of_response, registers_of_run, registers_of_set, registers_of_transfer, registers_of_unmap};
 ghost use Rattle.ffa_model.specs.Bits.{word_of_two};
