@@ -19,8 +19,10 @@ ghost use Rattle.ffa_laws.specs.Steady.{IsSteady};
 pub fn one_step_as()
     ensures runner { (s : State) (op : Op) → step_as s s.runner op ≡ step s op }
     ensures step { (s : State) (e : ℕ) (op : Op) → IsSteady s → is_known s e ≡ true → OneStepAs s e op }
-    ensures never_grow { (s : State) (e : ℕ) (op : Op) → IsSteady s → is_known s e ≡ true → NeverGrow s (step_as s e op).state }
-    ensures steady { (s : State) (e : ℕ) (op : Op) → IsSteady s → is_known s e ≡ true → IsSteady (step_as s e op).state }
+    ensures never_grow { (s : State) (e : ℕ) (op : Op) → IsSteady s → is_known s e ≡ true
+        → NeverGrow s (step_as s e op).state }
+    ensures steady { (s : State) (e : ℕ) (op : Op) → IsSteady s → is_known s e ≡ true
+        → IsSteady (step_as s e op).state }
     ensures sound { (s : State) (e : ℕ) (op : Op) → IsSoundState s → IsSoundState (step_as s e op).state }
 {}
 
@@ -56,7 +58,9 @@ pub fn silence_as()
 /// sound stays so.
 pub fn isolated_as()
     ensures isolated { (s : State) (ops : List (ℕ × Op)) → IsSteady s → are_known s ops ≡ true → IsolatedAs s ops }
-    ensures never_grow { (s : State) (ops : List (ℕ × Op)) → IsSteady s → are_known s ops ≡ true → NeverGrow s (state_after_as s ops) }
-    ensures steady { (s : State) (ops : List (ℕ × Op)) → IsSteady s → are_known s ops ≡ true → IsSteady (state_after_as s ops) }
+    ensures never_grow { (s : State) (ops : List (ℕ × Op)) → IsSteady s → are_known s ops ≡ true
+        → NeverGrow s (state_after_as s ops) }
+    ensures steady { (s : State) (ops : List (ℕ × Op)) → IsSteady s → are_known s ops ≡ true
+        → IsSteady (state_after_as s ops) }
     ensures sound { (s : State) (ops : List (ℕ × Op)) → IsSoundState s → IsSoundState (state_after_as s ops) }
 {}

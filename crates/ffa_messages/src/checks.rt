@@ -29,9 +29,11 @@ pub fn check_direct_req(
     manifest: &Manifest,
     message: &DirectMessage,
 ) -> Result<EndpointId, Refusal>
-    ensures refusal { result_err result ≡ first_refusal (request_guards (map party_of manifest.now.endpoints.items) chain.now message.now) }
+    ensures refusal { result_err result
+        ≡ first_refusal (request_guards (map party_of manifest.now.endpoints.items) chain.now message.now) }
     ensures receiver { IfOk result (λ receiver. receiver.0 ≡ message.now.receiver.0) }
-    ensures partition { IfOk result (λ receiver. is_partition_among (length manifest.now.endpoints.items) receiver.0 ≡ true) }
+    ensures partition { IfOk result (λ receiver. is_partition_among (length manifest.now.endpoints.items) receiver.0
+        ≡ true) }
     ensures waiting { IfOk result (λ receiver. is_waiting (status_in chain.now receiver.0) ≡ true) }
     ensures sound { IsSound chain.now }
 {
@@ -115,7 +117,9 @@ pub struct IndirectMessage {
 impl MessageHeader {
     // The checks of a message by itself, in the TX of a caller that has room for so many bytes there.
     fn check(&self, manifest: &Manifest, caller: EndpointId, room: usize) -> Result<(), Refusal>
-        ensures refusal { result_err result ≡ first_refusal (header_guards (map party_of manifest.now.endpoints.items) caller.0 room (header_of self.now)) }
+        ensures refusal { result_err result
+            ≡ first_refusal
+            (header_guards (map party_of manifest.now.endpoints.items) caller.0 room (header_of self.now)) }
         ensures fits { OnOk result (self.now.offset + self.now.size ≤ room) }
         ensures known { OnOk result (is_known_among (length manifest.now.endpoints.items) self.now.receiver.0 ≡ true) }
     {
@@ -153,9 +157,12 @@ impl MessageHeader {
         manifest: &Manifest,
         caller: EndpointId,
     ) -> Result<(), Refusal>
-        ensures refusal { result_err result ≡ first_refusal (ends_guards (map party_of manifest.now.endpoints.items) buffers.now caller.0 (header_of self.now)) }
+        ensures refusal { result_err result
+            ≡ first_refusal
+            (ends_guards (map party_of manifest.now.endpoints.items) buffers.now caller.0 (header_of self.now)) }
         ensures buffers { OnOk result (is_some (buffers_in buffers.now self.now.receiver.0) ≡ true) }
-        ensures room { OnOk result (self.now.offset + self.now.size ≤ room_of (buffers_in buffers.now self.now.receiver.0)) }
+        ensures room { OnOk result (self.now.offset + self.now.size
+            ≤ room_of (buffers_in buffers.now self.now.receiver.0)) }
     {
         if !has_indirect_messages(manifest, caller) {
             return Err(Refusal::MessagesUnsent);
@@ -185,7 +192,10 @@ pub fn check_send2<M: PhysMem>(
     caller: EndpointId,
 ) -> Result<IndirectMessage, Refusal>
     requires { AreInRam (length (M.ram ram.now).pages) buffers.now }
-    ensures refusal { result_err result ≡ first_refusal (send2_guards (map party_of manifest.now.endpoints.items) buffers.now caller.0 (header_in (sent_in (M.ram ram.now) buffers.now caller.0))) }
+    ensures refusal { result_err result
+        ≡ first_refusal
+        (send2_guards (map party_of manifest.now.endpoints.items) buffers.now caller.0
+        (header_in (sent_in (M.ram ram.now) buffers.now caller.0))) }
     ensures from { IfOk result (λ message. Some (buffers_of message.from) ≡ buffers_in buffers.now caller.0) }
     ensures receiver { IfOk result (λ message. message.receiver.0 ≡ receiver_in (M.ram ram.now) buffers.now caller.0) }
     ensures size { IfOk result (λ message. message.size ≡ size_in (M.ram ram.now) buffers.now caller.0) }

@@ -25,7 +25,8 @@ pub fn direct_req(
     message: &DirectMessage,
 ) -> Result<Reply, ErrorCode>
     requires endpoints { length chain.old.works ≡ length manifest.now.endpoints.items }
-    ensures refusal { result_err result ≡ first_failure (request_guards (map party_of manifest.now.endpoints.items) chain.old message.now) }
+    ensures refusal { result_err result
+        ≡ first_failure (request_guards (map party_of manifest.now.endpoints.items) chain.old message.now) }
     ensures reply { IfOk result (λ reply. reply ≡ Reply.Passed message.now) }
     ensures kept { OnErr result (chain.new ≡ chain.old) }
     ensures changed { OnOk result (chain.new ≡ requested chain.old message.now.receiver.0) }

@@ -91,14 +91,21 @@ pub fn send2<M: PhysMem>(
     requires known { is_known_among (length buffers.old) caller.0 ≡ true }
     requires pages { AreInRam (length (M.ram ram.old).pages) buffers.old }
     requires apart { AreEndsApart (map party_of manifest.now.endpoints.items) (M.ram ram.old) buffers.old caller.0 }
-    ensures refusal { result_err result ≡ first_failure (send2_guards (map party_of manifest.now.endpoints.items) buffers.old caller.0 (header_in (sent_in (M.ram ram.old) buffers.old caller.0))) }
+    ensures refusal { result_err result
+        ≡ first_failure
+        (send2_guards (map party_of manifest.now.endpoints.items) buffers.old caller.0
+        (header_in (sent_in (M.ram ram.old) buffers.old caller.0))) }
     ensures receiver { IfOk result (λ receiver. receiver.0 ≡ receiver_in (M.ram ram.old) buffers.old caller.0) }
     ensures kept_ram { OnErr result (M.ram ram.new ≡ M.ram ram.old) }
     ensures kept_past { OnErr result (M.past ram.new ≡ M.past ram.old) }
     ensures kept { OnErr result (buffers.new ≡ buffers.old) }
-    ensures ram { OnOk result (M.ram ram.new ≡ with_rx_bytes (M.ram ram.old) (buffers_in buffers.old (receiver_in (M.ram ram.old) buffers.old caller.0)) (message_in (sent_in (M.ram ram.old) buffers.old caller.0))) }
-    ensures full { OnOk result (buffers.new ≡ buffers_with_rx buffers.old (receiver_in (M.ram ram.old) buffers.old caller.0) true) }
-    ensures steps { Only (M.past ram.old) (M.past ram.new) (λ _ s. IsRxWriting (M.ram ram.old) (buffers_in buffers.old (receiver_in (M.ram ram.old) buffers.old caller.0)) s) }
+    ensures ram { OnOk result (M.ram ram.new
+        ≡ with_rx_bytes (M.ram ram.old) (buffers_in buffers.old (receiver_in (M.ram ram.old) buffers.old caller.0))
+        (message_in (sent_in (M.ram ram.old) buffers.old caller.0))) }
+    ensures full { OnOk result (buffers.new
+        ≡ buffers_with_rx buffers.old (receiver_in (M.ram ram.old) buffers.old caller.0) true) }
+    ensures steps { Only (M.past ram.old) (M.past ram.new) (λ _ s.
+        IsRxWriting (M.ram ram.old) (buffers_in buffers.old (receiver_in (M.ram ram.old) buffers.old caller.0)) s) }
 {
     let message = check_send2(ram, buffers, manifest, caller)?;
     deliver(ram, buffers, &message.from, message.receiver, message.size);
@@ -127,9 +134,12 @@ fn deliver<M: PhysMem>(
     requires to { IsSomeAnd (buffers_in buffers.old receiver.0) (λ b. IsInRam (length (M.ram ram.old).pages) b) }
     requires room { size ≤ room_of (buffers_in buffers.old receiver.0) }
     requires apart { IsSomeAnd (buffers_in buffers.old receiver.0) (λ b. IsBeside (buffers_of from.now) b) }
-    ensures ram { M.ram ram.new ≡ with_rx_bytes (M.ram ram.old) (buffers_in buffers.old receiver.0) (take size (run_in (M.ram ram.old) from.now.tx.0 from.now.pages)) }
+    ensures ram { M.ram ram.new
+        ≡ with_rx_bytes (M.ram ram.old) (buffers_in buffers.old receiver.0)
+        (take size (run_in (M.ram ram.old) from.now.tx.0 from.now.pages)) }
     ensures full { buffers.new ≡ buffers_with_rx buffers.old receiver.0 true }
-    ensures steps { Only (M.past ram.old) (M.past ram.new) (λ _ s. IsRxWriting (M.ram ram.old) (buffers_in buffers.old receiver.0) s) }
+    ensures steps { Only (M.past ram.old) (M.past ram.new) (λ _ s.
+        IsRxWriting (M.ram ram.old) (buffers_in buffers.old receiver.0) s) }
 {
     match buffers.of(receiver) {
         Some(to) => {
@@ -147,8 +157,11 @@ fn copy_run<M: PhysMem>(ram: &mut M, from: &Mapped, to: &Mapped, size: usize)
     requires fits { size ≤ 4096 * from.now.pages }
     requires room { size ≤ 4096 * to.now.pages }
     requires apart { IsBeside (buffers_of from.now) (buffers_of to.now) }
-    ensures ram { M.ram ram.new ≡ with_run to.now.pages (M.ram ram.old) to.now.rx.0 (take size (run_in (M.ram ram.old) from.now.tx.0 from.now.pages)) }
-    ensures steps { Only (M.past ram.old) (M.past ram.new) (λ _ s. IsWriting (M.ram ram.old) (is_in_run to.now.rx.0 to.now.pages) s) }
+    ensures ram { M.ram ram.new
+        ≡ with_run to.now.pages (M.ram ram.old) to.now.rx.0
+        (take size (run_in (M.ram ram.old) from.now.tx.0 from.now.pages)) }
+    ensures steps { Only (M.past ram.old) (M.past ram.new) (λ _ s.
+        IsWriting (M.ram ram.old) (is_in_run to.now.rx.0 to.now.pages) s) }
 {
     // Proof step: the number of pages fits a u32.
     let _ = ram.pages();

@@ -37,7 +37,8 @@ pub fn about_message<M: PhysMem>(
     refusal: Refusal,
 ) -> Option<About>
     requires { AreInRam (length (M.ram ram.now).pages) buffers.now }
-    ensures { result ≡ about_message (buffers_in buffers.now caller.0) (header_in (sent_in (M.ram ram.now) buffers.now caller.0)) refusal }
+    ensures { result ≡ about_message (buffers_in buffers.now caller.0)
+        (header_in (sent_in (M.ram ram.now) buffers.now caller.0)) refusal }
 {
     match buffers.of(caller) {
         Some(from) => read_header(ram, &from).about(refusal),

@@ -94,7 +94,8 @@ impl Flags for Properties {
 
     ghost exact = { ⊤ };
 
-    ghost table = { (codes "RECEIVES_DIRECT_REQUESTS", 1) ∷ (codes "SENDS_DIRECT_REQUESTS", 2) ∷ (codes "INDIRECT_MESSAGES", 4) ∷ (codes "RECEIVES_NOTIFICATIONS", 8) ∷ [] };
+    ghost table = { (codes "RECEIVES_DIRECT_REQUESTS", 1) ∷ (codes "SENDS_DIRECT_REQUESTS", 2)
+        ∷ (codes "INDIRECT_MESSAGES", 4) ∷ (codes "RECEIVES_NOTIFICATIONS", 8) ∷ [] };
 
     ghost set_of = { λ p. p.0 };
 

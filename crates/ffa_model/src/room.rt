@@ -30,7 +30,8 @@ pub trait Room<T> {
         ensures* writes_back { sem 𝓛 (Lends Self.row T.row self.entry result (with_item self.old place)) };
 
     /// Only that value changes.
-    ghost one_item: { (room : Self) (place : ℕ) (item : T) → items (with_item room place item) ≡ slice_set (items room) place item };
+    ghost one_item: { (room : Self) (place : ℕ) (item : T) → items (with_item room place item)
+        ≡ slice_set (items room) place item };
 }
 
 impl<T, const MOST: usize> Room<T> for ArrayVec<T, MOST> {

@@ -37,7 +37,8 @@ impl Model for Bitmaps {
 
     ghost use Rattle.ffa_notify.specs.Stored.{IsWords, notifications_in};
 
-    ghost view = { λ b. notifications_in (record { has = b.has.items; bound = b.bound.items; pending = b.pending.items }) };
+    ghost view = { λ b. notifications_in
+        (record { has = b.has.items; bound = b.bound.items; pending = b.pending.items }) };
 
     ghost invariant = { λ b. IsWords (record { has = b.has.items; bound = b.bound.items; pending = b.pending.items }) };
 }

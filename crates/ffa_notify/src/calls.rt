@@ -58,9 +58,11 @@ impl Bitmaps {
     /// or one is pending. An error changes nothing.
     pub fn bind(&mut self, caller: EndpointId, bits: &NotificationBits) -> Result<(), ErrorCode>
         requires { is_known_among (length self.old.bitmaps) caller.0 ≡ true }
-        ensures refusal { result_err result ≡ first_failure (bind_guards (length self.old.bitmaps) self.old caller.0 bits.now) }
+        ensures refusal { result_err result
+            ≡ first_failure (bind_guards (length self.old.bitmaps) self.old caller.0 bits.now) }
         ensures kept { OnErr result (self.new ≡ self.old) }
-        ensures bound { OnOk result (self.new ≡ with_bound self.old caller.0 bits.now.sender.0 (bits_of bits.now.bitmap)) }
+        ensures bound { OnOk result (self.new
+            ≡ with_bound self.old caller.0 bits.now.sender.0 (bits_of bits.now.bitmap)) }
     {
         self.check_bind(caller, bits)?;
         self.bind_bits(caller, bits.sender, bits.bitmap);
@@ -75,9 +77,11 @@ impl Bitmaps {
     /// may not set one of the bits, or one is pending. An error changes nothing.
     pub fn unbind(&mut self, caller: EndpointId, bits: &NotificationBits) -> Result<(), ErrorCode>
         requires { is_known_among (length self.old.bitmaps) caller.0 ≡ true }
-        ensures refusal { result_err result ≡ first_failure (unbind_guards (length self.old.bitmaps) self.old caller.0 bits.now) }
+        ensures refusal { result_err result
+            ≡ first_failure (unbind_guards (length self.old.bitmaps) self.old caller.0 bits.now) }
         ensures kept { OnErr result (self.new ≡ self.old) }
-        ensures unbound { OnOk result (self.new ≡ without_bound self.old caller.0 bits.now.sender.0 (bits_of bits.now.bitmap)) }
+        ensures unbound { OnOk result (self.new
+            ≡ without_bound self.old caller.0 bits.now.sender.0 (bits_of bits.now.bitmap)) }
     {
         self.check_unbind(caller, bits)?;
         self.unbind_bits(caller, bits.sender, bits.bitmap);
@@ -93,9 +97,11 @@ impl Bitmaps {
     /// one of the bits. An error changes nothing.
     pub fn set(&mut self, caller: EndpointId, bits: &NotificationBits) -> Result<(), ErrorCode>
         requires { is_known_among (length self.old.bitmaps) caller.0 ≡ true }
-        ensures refusal { result_err result ≡ first_failure (set_guards (length self.old.bitmaps) self.old caller.0 bits.now) }
+        ensures refusal { result_err result
+            ≡ first_failure (set_guards (length self.old.bitmaps) self.old caller.0 bits.now) }
         ensures kept { OnErr result (self.new ≡ self.old) }
-        ensures pending { OnOk result (self.new ≡ with_pending self.old bits.now.receiver.0 (class_of caller.0) (bits_of bits.now.bitmap)) }
+        ensures pending { OnOk result (self.new
+            ≡ with_pending self.old bits.now.receiver.0 (class_of caller.0) (bits_of bits.now.bitmap)) }
     {
         self.check_set(caller, bits)?;
         self.set_bits(bits.receiver, Class::of(caller), bits.bitmap);

@@ -71,7 +71,8 @@ impl Bitmaps {
     /// The first check of the call that fails.
     pub fn check_bind(&self, caller: EndpointId, bits: &NotificationBits) -> Result<(), Refusal>
         requires { is_known_among (length self.now.bitmaps) caller.0 ≡ true }
-        ensures refusal { result_err result ≡ first_refusal (bind_guards (length self.now.bitmaps) self.now caller.0 bits.now) }
+        ensures refusal { result_err result
+            ≡ first_refusal (bind_guards (length self.now.bitmaps) self.now caller.0 bits.now) }
         ensures known { OnOk result (is_known_among (length self.now.bitmaps) bits.now.sender.0 ≡ true) }
     {
         self.check_sender(caller, bits)?;
@@ -88,7 +89,8 @@ impl Bitmaps {
     /// The first check of the call that fails.
     pub fn check_unbind(&self, caller: EndpointId, bits: &NotificationBits) -> Result<(), Refusal>
         requires { is_known_among (length self.now.bitmaps) caller.0 ≡ true }
-        ensures refusal { result_err result ≡ first_refusal (unbind_guards (length self.now.bitmaps) self.now caller.0 bits.now) }
+        ensures refusal { result_err result
+            ≡ first_refusal (unbind_guards (length self.now.bitmaps) self.now caller.0 bits.now) }
         ensures known { OnOk result (is_known_among (length self.now.bitmaps) bits.now.sender.0 ≡ true) }
     {
         self.check_sender(caller, bits)?;
@@ -105,7 +107,8 @@ impl Bitmaps {
     /// The first check of the call that fails.
     pub fn check_set(&self, caller: EndpointId, bits: &NotificationBits) -> Result<(), Refusal>
         requires { is_known_among (length self.now.bitmaps) caller.0 ≡ true }
-        ensures refusal { result_err result ≡ first_refusal (set_guards (length self.now.bitmaps) self.now caller.0 bits.now) }
+        ensures refusal { result_err result
+            ≡ first_refusal (set_guards (length self.now.bitmaps) self.now caller.0 bits.now) }
         ensures known { OnOk result (is_known_among (length self.now.bitmaps) bits.now.receiver.0 ≡ true) }
     {
         if bits.sender != caller {

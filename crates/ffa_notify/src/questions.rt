@@ -17,7 +17,8 @@ impl Bitmaps {
     pub(crate) fn is_bindable(&self, receiver: EndpointId, sender: EndpointId, bitmap: u64) -> bool
         requires receiver { is_known_among (length self.now.bitmaps) receiver.0 ≡ true }
         requires sender { is_known_among (length self.now.bitmaps) sender.0 ≡ true }
-        ensures { result ≡ list_all (is_bindable (length self.now.bitmaps) self.now receiver.0 sender.0) (bits_of bitmap) }
+        ensures { result ≡ list_all (is_bindable (length self.now.bitmaps) self.now receiver.0 sender.0)
+            (bits_of bitmap) }
     {
         bitmap & self.not_bindable(receiver, sender) == 0
     }
@@ -26,7 +27,8 @@ impl Bitmaps {
     pub(crate) fn not_bindable(&self, receiver: EndpointId, sender: EndpointId) -> u64
         requires receiver { is_known_among (length self.now.bitmaps) receiver.0 ≡ true }
         requires sender { is_known_among (length self.now.bitmaps) sender.0 ≡ true }
-        ensures { (k : ℕ) → k < 64 → is_set k result ≡ not (is_bindable (length self.now.bitmaps) self.now receiver.0 sender.0 k) }
+        ensures { (k : ℕ) → k < 64 → is_set k result
+            ≡ not (is_bindable (length self.now.bitmaps) self.now receiver.0 sender.0 k) }
     {
         let taken = self.bound_to_others(receiver, sender);
         let pending = self.pending(receiver, Class::of(sender));
@@ -62,7 +64,8 @@ impl Bitmaps {
     pub(crate) fn is_settable(&self, receiver: EndpointId, sender: EndpointId, bitmap: u64) -> bool
         requires receiver { is_known_among (length self.now.bitmaps) receiver.0 ≡ true }
         requires sender { is_known_among (length self.now.bitmaps) sender.0 ≡ true }
-        ensures { result ≡ list_all (λ k. is_bound self.now receiver.0 (class_of sender.0) k sender.0) (bits_of bitmap) }
+        ensures { result ≡ list_all (λ k. is_bound self.now receiver.0 (class_of sender.0) k sender.0)
+            (bits_of bitmap) }
     {
         bitmap & self.not_settable(receiver, sender) == 0
     }
@@ -71,7 +74,8 @@ impl Bitmaps {
     pub(crate) fn not_settable(&self, receiver: EndpointId, sender: EndpointId) -> u64
         requires receiver { is_known_among (length self.now.bitmaps) receiver.0 ≡ true }
         requires sender { is_known_among (length self.now.bitmaps) sender.0 ≡ true }
-        ensures { (k : ℕ) → k < 64 → is_set k result ≡ not (is_bound self.now receiver.0 (class_of sender.0) k sender.0) }
+        ensures { (k : ℕ) → k < 64 → is_set k result
+            ≡ not (is_bound self.now receiver.0 (class_of sender.0) k sender.0) }
     {
         !self.bound_to(receiver, sender)
     }
@@ -117,7 +121,8 @@ impl Bitmaps {
     // The bits of a receiver, in a sender's class, that others may set.
     fn bound_to_others(&self, receiver: EndpointId, sender: EndpointId) -> u64
         requires { is_known_among (length self.now.bitmaps) receiver.0 ≡ true }
-        ensures { (k : ℕ) → k < 64 → is_set k result ≡ is_bound_to_another (length self.now.bitmaps) self.now receiver.0 (class_of sender.0) k sender.0 }
+        ensures { (k : ℕ) → k < 64 → is_set k result
+            ≡ is_bound_to_another (length self.now.bitmaps) self.now receiver.0 (class_of sender.0) k sender.0 }
     {
         let mut bits = 0;
         for place in 0..self.endpoints() {
@@ -130,7 +135,8 @@ impl Bitmaps {
     fn bound_to_other(&self, receiver: EndpointId, sender: EndpointId, other: EndpointId) -> u64
         requires receiver { is_known_among (length self.now.bitmaps) receiver.0 ≡ true }
         requires other { is_known_among (length self.now.bitmaps) other.0 ≡ true }
-        ensures { (k : ℕ) → k < 64 → is_set k result ≡ (not (other.0 == sender.0) && is_bound self.now receiver.0 (class_of sender.0) k other.0) }
+        ensures { (k : ℕ) → k < 64 → is_set k result
+            ≡ (not (other.0 == sender.0) && is_bound self.now receiver.0 (class_of sender.0) k other.0) }
     {
         // Proof step: the invariant, by which each endpoint has its words.
         let _ = &self.has;

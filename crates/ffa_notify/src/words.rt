@@ -19,7 +19,8 @@ pub(crate) const MOST_PENDING: usize = CLASSES * MOST_ENDPOINTS;
 pub(crate) fn clear_front(words: &mut [u64])
     requires { MOST_ENDPOINTS ≤ length words.old }
     ensures count { length words.new ≡ length words.old }
-    ensures cleared { (k : ℕ) → slice_index words.new k ≡ (if nat_lt k MOST_ENDPOINTS then 0 else slice_index words.old k) }
+    ensures cleared { (k : ℕ) → slice_index words.new k
+        ≡ (if nat_lt k MOST_ENDPOINTS then 0 else slice_index words.old k) }
 {
     for sender in 0..MOST_ENDPOINTS {
         words[sender] = 0;
@@ -30,7 +31,8 @@ pub(crate) fn clear_front(words: &mut [u64])
 pub(crate) fn clear_asked(words: &mut [u64], first: usize, flags: u32)
     requires { first + 3 ≤ length words.old }
     ensures count { length words.new ≡ length words.old }
-    ensures cleared { (k : ℕ) → slice_index words.new k ≡ (if is_asked first 3 flags k then 0 else slice_index words.old k) }
+    ensures cleared { (k : ℕ) → slice_index words.new k
+        ≡ (if is_asked first 3 flags k then 0 else slice_index words.old k) }
 {
     for class in 0..CLASSES {
         if flags >> class & 1 == 1 {

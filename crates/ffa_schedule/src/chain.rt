@@ -104,7 +104,8 @@ impl Chain {
     /// partition, or the execution context isn't 0; `Busy` where the target neither waits nor has yielded, though
     /// there is no such partition while the normal world runs. An error changes nothing.
     pub fn run(&mut self, target: EndpointId, context: u16) -> Result<Reply, ErrorCode>
-        ensures refusal { result_err result ≡ first_failure (run_guards (length self.old.works) self.old target.0 context) }
+        ensures refusal { result_err result
+            ≡ first_failure (run_guards (length self.old.works) self.old target.0 context) }
         ensures reply { IfOk result (λ reply. reply ≡ run_reply target.0 (status_in self.old target.0)) }
         ensures kept { OnErr result (self.new ≡ self.old) }
         ensures changed { OnOk result (self.new ≡ given_cycles self.old target.0 (status_in self.old target.0)) }
@@ -175,7 +176,8 @@ impl Chain {
     /// The direct response of the runner (DEN0077A, 15): it waits, and the endpoint whose request it answers runs.
     pub fn respond(&mut self)
         requires answers { is_some (requester (work_in self.old self.old.runner)) ≡ true }
-        ensures changed { IsSomeAnd (requester (work_in self.old self.old.runner)) (λ by. self.new ≡ finished self.old by) }
+        ensures changed { IsSomeAnd (requester (work_in self.old self.old.runner)) (λ by.
+            self.new ≡ finished self.old by) }
         ensures sound { IsSound self.new }
     {
         self.stop(None);
@@ -184,7 +186,8 @@ impl Chain {
     // The runner is blocked, and a partition that stands outside has this work for it and runs.
     fn start(&mut self, partition: EndpointId, work: Work)
         requires partition { is_partition_among (length self.old.works) partition.0 ≡ true }
-        requires outside { (is_waiting (status_in self.old partition.0) || is_yielded (status_in self.old partition.0)) ≡ true }
+        requires outside { (is_waiting (status_in self.old partition.0)
+            || is_yielded (status_in self.old partition.0)) ≡ true }
         requires origin { origin (Some work) ≡ Some self.old.runner }
         ensures changed { self.new ≡ with_work (switched self.old Blocked partition.0) partition.0 (Some work) }
         ensures sound { IsSound self.new }
@@ -197,7 +200,8 @@ impl Chain {
     fn stop(&mut self, work: Option<Work>)
         requires partition { is_some (origin (work_in self.old self.old.runner)) ≡ true }
         requires origin { (work ≡ None) ⊎ (origin work ≡ Some 0) }
-        ensures changed { IsSomeAnd (origin (work_in self.old self.old.runner)) (λ by. self.new ≡ with_work (switched self.old (status_outside work) by) self.old.runner work) }
+        ensures changed { IsSomeAnd (origin (work_in self.old self.old.runner)) (λ by.
+            self.new ≡ with_work (switched self.old (status_outside work) by) self.old.runner work) }
         ensures sound { IsSound self.new }
     {
         if let Some(runner) = self.links.pop() {

@@ -13,7 +13,8 @@ use ffa_model::{EndpointId, Refusal, Status, Work};
 impl Chain {
     /// The checks of FFA_RUN in order: the first that fails.
     pub fn check_run(&self, target: EndpointId, context: u16) -> Result<(), Refusal>
-        ensures refusal { result_err result ≡ first_refusal (run_guards (length self.now.works) self.now target.0 context) }
+        ensures refusal { result_err result
+            ≡ first_refusal (run_guards (length self.now.works) self.now target.0 context) }
         ensures sound { IsSound self.now }
     {
         if self.runner() != EndpointId::NORMAL_WORLD {

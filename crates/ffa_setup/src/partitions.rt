@@ -69,7 +69,8 @@ pub fn count(manifest: &Manifest, uuid: [u32; 4]) -> u32
 
 /// Whether a UUID in four registers may be asked for: the Nil UUID may, and else that of a partition.
 pub fn is_recognized(manifest: &Manifest, uuid: [u32; 4]) -> bool
-    ensures { result ≡ (model.is_nil (uuid_bytes uuid) || is_any (selected (map party_of manifest.now.endpoints.items) (uuid_bytes uuid))) }
+    ensures { result ≡ (model.is_nil (uuid_bytes uuid)
+        || is_any (selected (map party_of manifest.now.endpoints.items) (uuid_bytes uuid))) }
 {
     is_nil(uuid) || count(manifest, uuid) != 0
 }

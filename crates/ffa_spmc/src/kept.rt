@@ -40,7 +40,9 @@ impl<S: Store> Kept<S> {
     pub fn first(manifest: &Manifest, storage: Storage<S>) -> Kept<S>
         requires { IsRoomFor manifest.now storage }
         ensures records { AreFirstRecords manifest.now (S.Records.value result.records) }
-        ensures pages { result.pages ≡ listed (512 * manifest.now.ram_blocks) (first_entry manifest.now.ram_base.0 manifest.now.endpoints.items) }
+        ensures pages { result.pages
+            ≡ listed (512 * manifest.now.ram_blocks)
+            (first_entry manifest.now.ram_base.0 manifest.now.endpoints.items) }
         ensures slots { result.pool.slots ≡ replicate (MOST_OPEN * length manifest.now.endpoints.items) None }
         ensures sent { result.pool.sent ≡ replicate (length manifest.now.endpoints.items) 0 }
         ensures buffers { result.buffers ≡ replicate (length manifest.now.endpoints.items) None }

@@ -61,9 +61,21 @@ impl<M: PhysMem + Drop, T: Translations + Drop, S: Store> Model for Machine<M, T
 
     ghost use Rattle.ffa_spmc.specs.Cached.{AreWalks};
 
-    ghost view = { λ m. record { state = m.manager.state; ram = m.manager.ram; held = T.entries m.cache; past = m.manager.past; told = m.news } };
+    ghost view = { λ m. record {
+      state = m.manager.state;
+      ram = m.manager.ram;
+      held = T.entries m.cache;
+      past = m.manager.past;
+      told = m.news;
+    } };
 
-    ghost invariant = { λ m. AreWalks (record { state = m.manager.state; ram = m.manager.ram; held = T.entries m.cache; past = m.manager.past; told = m.news }) };
+    ghost invariant = { λ m. AreWalks (record {
+      state = m.manager.state;
+      ram = m.manager.ram;
+      held = T.entries m.cache;
+      past = m.manager.past;
+      told = m.news;
+    }) };
 }
 
 // Fills all pages with zeros.

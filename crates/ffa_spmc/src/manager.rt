@@ -62,9 +62,20 @@ impl<M: PhysMem + Drop, S: Store> Model for Manager<M, S> {
     ghost use Rattle.ffa_spmc.specs.KeptParts.{kept_parts};
     ghost use Rattle.ffa_spmc.specs.Meaning.{Parts, state_of, IsManager};
 
-    ghost view = { λ m. let x : Parts = record { ram = M.ram m.ram; manifest = (S.Records.value m.kept.records).manifest; kept = kept_parts S.Records.value m.kept } in record { state = state_of x; ram = x.ram; past = M.past m.ram } };
+    ghost view = { λ m.
+        let x : Parts = record {
+          ram = M.ram m.ram;
+          manifest = (S.Records.value m.kept.records).manifest;
+          kept = kept_parts S.Records.value m.kept;
+        } in
+        record { state = state_of x; ram = x.ram; past = M.past m.ram } };
 
-    ghost invariant = { λ m. IsManager (record { ram = M.ram m.ram; manifest = (S.Records.value m.kept.records).manifest; kept = kept_parts S.Records.value m.kept }) };
+    ghost invariant = { λ m.
+        IsManager (record {
+          ram = M.ram m.ram;
+          manifest = (S.Records.value m.kept.records).manifest;
+          kept = kept_parts S.Records.value m.kept;
+        }) };
 }
 
 impl<M: PhysMem + Drop, S: Store> Manager<M, S> {
@@ -215,7 +226,8 @@ impl<M: PhysMem + Drop, S: Store> Manager<M, S> {
     #[inline(always)]
     fn reply<T: Translations>(&mut self, call: Call, cache: &mut T, news: &mut News) -> Reply
         requires { passes_no_error call ≡ true }
-        ensures { IsAnswered self.old self.new (T.entries cache.old) (T.entries cache.new) news.old news.new (service self.old.state call) result }
+        ensures { IsAnswered self.old self.new (T.entries cache.old) (T.entries cache.new) news.old news.new
+            (service self.old.state call) result }
     {
         match call {
             Call::Version { version } => ffa_setup::version(version),

@@ -54,7 +54,8 @@ impl<M: PhysMem + Drop, T: Translations + Drop, S: Store> Machine<M, T, S> {
     fn walk(&self, endpoint: EndpointId, addr: u64) -> Walked
         requires { is_known self.now.state endpoint.0 ≡ true }
         ensures answer { result.answer ≡ walk_of self.now.ram self.now.state endpoint.0 addr }
-        ensures missed { option_map (λ (page : PageNo). page.0) result.missed ≡ missed_page (run_by endpoint.0 self.now) addr }
+        ensures missed { option_map (λ (page : PageNo). page.0) result.missed
+            ≡ missed_page (run_by endpoint.0 self.now) addr }
     {
         // Proof step: the state is sound, and the tables give its access.
         self.manager.holds();
@@ -79,7 +80,8 @@ impl<M: PhysMem + Drop, T: Translations + Drop, S: Store> Machine<M, T, S> {
     fn fill(&mut self, endpoint: EndpointId, addr: u64, walked: &Walked, outcome: &Outcome)
         requires known { is_known self.old.state endpoint.0 ≡ true }
         requires answer { walked.now.answer ≡ walk_of self.old.ram self.old.state endpoint.0 addr }
-        requires missed { option_map (λ (page : PageNo). page.0) walked.now.missed ≡ missed_page (run_by endpoint.0 self.old) addr }
+        requires missed { option_map (λ (page : PageNo). page.0) walked.now.missed
+            ≡ missed_page (run_by endpoint.0 self.old) addr }
         ensures state { self.new.state ≡ self.old.state }
         ensures ram { self.new.ram ≡ self.old.ram }
         ensures past { self.new.past ≡ self.old.past }

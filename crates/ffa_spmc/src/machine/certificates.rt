@@ -56,7 +56,9 @@ impl<M: PhysMem + Drop, T: Translations + Drop, S: Store> Machine<M, T, S> {
     }
 
     fn has_same_accesses(&self, page: PageNo, other: PageNo) -> bool
-        ensures { result ≡ list_all (λ e. is_same_right (access self.now.state e page.0) (access self.now.state e other.0)) (identifiers self.now.state) }
+        ensures { result ≡ list_all (λ e.
+            is_same_right (access self.now.state e page.0) (access self.now.state e other.0))
+            (identifiers self.now.state) }
     {
         for place in 0..self.endpoints() {
             let endpoint = EndpointId::at(place);

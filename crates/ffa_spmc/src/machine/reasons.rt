@@ -23,7 +23,8 @@ impl<M: PhysMem + Drop, T: Translations + Drop, S: Store> Machine<M, T, S> {
         // There is a reason just where the operation is refused, and it says what the runner sees: FFA_ERROR with the code of
         // the check, or the fault.
         ensures refused { is_some result ≡ is_refusal (step self.now.state op.now).outcome }
-        ensures outcome { IfSome result (λ reason. (step self.now.state op.now).outcome ≡ outcome_of self.now.state reason) }
+        ensures outcome { IfSome result (λ reason. (step self.now.state op.now).outcome
+            ≡ outcome_of self.now.state reason) }
     {
         self.reason(op)
     }

@@ -88,7 +88,8 @@ impl<M: PhysMem + Drop, S: Store> Manager<M, S> {
         ensures state { self.new.state ≡ informed self.old.state (uuid_bytes uuid) flags }
         ensures unowned { KeepsUnowned self.old.state self.old.ram self.new.ram }
         ensures moments { AreMoments self.old.state self.old.ram self.new.ram self.old.past self.new.past }
-        ensures reply { result ≡ success (length (selected self.old.state.parties (uuid_bytes uuid))) (if is_count_alone flags then 0 else told_info_size (version_of self.old.state self.old.state.runner)) }
+        ensures reply { result ≡ success (length (selected self.old.state.parties (uuid_bytes uuid)))
+            (if is_count_alone flags then 0 else told_info_size (version_of self.old.state self.old.state.runner)) }
     {
         let records = self.kept.records.get();
         let count = ffa_setup::count(&records.manifest, uuid);

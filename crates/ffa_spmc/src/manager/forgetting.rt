@@ -42,7 +42,8 @@ pub(super) fn forget<T: Translations>(cache: &mut T, base: Address, changed: &Op
     requires { IfSome changed.now (λ c. ArePlaced base.0 most_pages c.ranges) }
     ensures unchanged { changed.now ≡ None → T.entries cache.new ≡ T.entries cache.old }
     ensures forgotten { (s : State) → s.ram_base ≡ base.0 → (e p : ℕ) →
-        lookup (T.entries cache.new) e p ≡ (if is_of s changed.now e p then None else lookup (T.entries cache.old) e p) }
+        lookup (T.entries cache.new) e p
+            ≡ (if is_of s changed.now e p then None else lookup (T.entries cache.old) e p) }
 {
     if let Some(changed) = changed
         && let Some(endpoint) = changed.endpoint

@@ -27,7 +27,8 @@ impl<M: PhysMem + Drop, S: Store> Manager<M, S> {
         cache: &mut T,
         news: &mut News,
     ) -> Reply
-        ensures { IsAnswered self.old self.new (T.entries cache.old) (T.entries cache.new) news.old news.new (memory_send self.old.state kind transfer) result }
+        ensures { IsAnswered self.old self.new (T.entries cache.old) (T.entries cache.new) news.old news.new
+            (memory_send self.old.state kind transfer) result }
     {
         // Proof step: the state is sound.
         self.holds();
@@ -69,7 +70,8 @@ impl<M: PhysMem + Drop, S: Store> Manager<M, S> {
         cache: &mut T,
         news: &mut News,
     ) -> Reply
-        ensures { IsAnswered self.old self.new (T.entries cache.old) (T.entries cache.new) news.old news.new (memory_retrieve self.old.state transfer) result }
+        ensures { IsAnswered self.old self.new (T.entries cache.old) (T.entries cache.new) news.old news.new
+            (memory_retrieve self.old.state transfer) result }
     {
         // Proof step: the state is sound.
         self.holds();
@@ -105,7 +107,8 @@ impl<M: PhysMem + Drop, S: Store> Manager<M, S> {
     // FFA_MEM_RELINQUISH of the runner.
     #[inline(never)]
     pub(super) fn relinquish<T: Translations>(&mut self, cache: &mut T, news: &mut News) -> Reply
-        ensures { IsAnswered self.old self.new (T.entries cache.old) (T.entries cache.new) news.old news.new (memory_relinquish self.old.state) result }
+        ensures { IsAnswered self.old self.new (T.entries cache.old) (T.entries cache.new) news.old news.new
+            (memory_relinquish self.old.state) result }
     {
         // Proof step: the state is sound.
         self.holds();
@@ -144,7 +147,8 @@ impl<M: PhysMem + Drop, S: Store> Manager<M, S> {
         cache: &mut T,
         news: &mut News,
     ) -> Reply
-        ensures { IsAnswered self.old self.new (T.entries cache.old) (T.entries cache.new) news.old news.new (memory_reclaim self.old.state handle.0 flags) result }
+        ensures { IsAnswered self.old self.new (T.entries cache.old) (T.entries cache.new) news.old news.new
+            (memory_reclaim self.old.state handle.0 flags) result }
     {
         // Proof step: the state is sound.
         self.holds();

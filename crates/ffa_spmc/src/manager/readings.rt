@@ -71,7 +71,8 @@ fn observe_in<M: PhysMem>(ram: &mut M, run: Run)
     requires { run.first.0 + run.count ≤ length (M.ram ram.old).pages }
     ensures beside { IsBeside (M.ram ram.old) (M.ram ram.new) (is_in run) }
     ensures whole { (p : ℕ) → length (page_of (M.ram ram.new) p) ≡ length (page_of (M.ram ram.old) p) }
-    ensures steps { One (M.past ram.old) (M.past ram.new) (λ s. IsReading (M.ram ram.old) (M.ram ram.new) run.first.0 run.count true s) }
+    ensures steps { One (M.past ram.old) (M.past ram.new) (λ s.
+        IsReading (M.ram ram.old) (M.ram ram.new) run.first.0 run.count true s) }
     ensures bytes { (p : ℕ) → is_in run p ≡ true → are_bytes (page_of (M.ram ram.new) p) }
 {
     ram.observe(run.first, run.count);
@@ -83,7 +84,8 @@ fn release_in<M: PhysMem>(ram: &mut M, run: Run)
     requires { run.first.0 + run.count ≤ length (M.ram ram.old).pages }
     ensures beside { IsBeside (M.ram ram.old) (M.ram ram.new) (is_in run) }
     ensures whole { (p : ℕ) → length (page_of (M.ram ram.new) p) ≡ length (page_of (M.ram ram.old) p) }
-    ensures steps { One (M.past ram.old) (M.past ram.new) (λ s. IsReading (M.ram ram.old) (M.ram ram.new) run.first.0 run.count false s) }
+    ensures steps { One (M.past ram.old) (M.past ram.new) (λ s.
+        IsReading (M.ram ram.old) (M.ram ram.new) run.first.0 run.count false s) }
     ensures bytes { (p : ℕ) → is_in run p ≡ true → are_bytes (page_of (M.ram ram.new) p) }
 {
     ram.release(run.first, run.count);
@@ -117,7 +119,8 @@ impl<M: PhysMem + Drop, S: Store> Manager<M, S> {
         requires behind { pages_of_tables self.old.state ≤ run.first.0 }
         ensures state { AreBeside self.old.state self.new.state (is_in run) }
         ensures ram { IsBeside self.old.ram self.new.ram (is_in run) }
-        ensures step { One self.old.past self.new.past (λ s. IsReading self.old.ram self.new.ram run.first.0 run.count true s) }
+        ensures step { One self.old.past self.new.past (λ s.
+            IsReading self.old.ram self.new.ram run.first.0 run.count true s) }
     {
         observe_in(&mut self.ram, run);
     }
@@ -128,7 +131,8 @@ impl<M: PhysMem + Drop, S: Store> Manager<M, S> {
         requires behind { pages_of_tables self.old.state ≤ run.first.0 }
         ensures state { AreBeside self.old.state self.new.state (is_in run) }
         ensures ram { IsBeside self.old.ram self.new.ram (is_in run) }
-        ensures step { One self.old.past self.new.past (λ s. IsReading self.old.ram self.new.ram run.first.0 run.count false s) }
+        ensures step { One self.old.past self.new.past (λ s.
+            IsReading self.old.ram self.new.ram run.first.0 run.count false s) }
     {
         release_in(&mut self.ram, run);
     }

@@ -76,7 +76,8 @@ impl<M: PhysMem + Drop, S: Store> Manager<M, S> {
 
     // Of FFA_MEM_RECLAIM.
     fn failing_reclaim(&self, handle: Handle, refusal: Refusal) -> Option<PageNo>
-        ensures { result ≡ failing_reclaim (own_rights_of self.now.state) (transaction_of self.now.state handle.0) refusal }
+        ensures { result ≡ failing_reclaim (own_rights_of self.now.state)
+            (transaction_of self.now.state handle.0) refusal }
     {
         let base = self.kept.records.get().manifest.ram_base;
         ffa_memshare::failing_reclaim(&self.kept.pool, &self.kept.pages, base, handle.0, refusal)

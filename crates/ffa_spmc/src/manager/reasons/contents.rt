@@ -34,7 +34,8 @@ impl<M: PhysMem + Drop, S: Store> Manager<M, S> {
 
     // Of FFA_MSG_SEND2.
     fn about_message(&self, refusal: Refusal) -> Option<About>
-        ensures { result ≡ about_message (buffers_of self.now.state self.now.state.runner) (header_in (tx_bytes self.now.state self.now.state.runner)) refusal }
+        ensures { result ≡ about_message (buffers_of self.now.state self.now.state.runner)
+            (header_in (tx_bytes self.now.state self.now.state.runner)) refusal }
     {
         let runner = self.kept.chain.runner();
         ffa_messages::about_message(&self.ram, &self.kept.buffers, runner, refusal)
@@ -72,7 +73,8 @@ impl<M: PhysMem + Drop, S: Store> Manager<M, S> {
 
     // Of FFA_NOTIFICATION_BIND, FFA_NOTIFICATION_UNBIND or FFA_NOTIFICATION_SET.
     fn about_bits(&self, call: &Call, refusal: Refusal) -> Option<About>
-        ensures { result ≡ about_bits (length self.now.state.parties) (notifications_of self.now.state) self.now.state.runner call.now refusal }
+        ensures { result ≡ about_bits (length self.now.state.parties)
+            (notifications_of self.now.state) self.now.state.runner call.now refusal }
     {
         let runner = self.kept.chain.runner();
         let records = self.kept.records.get();
