@@ -17,7 +17,7 @@ use Rattle.play_syntax.specs.declared.output.PlayError.{PlayError}
 use Rattle.play_syntax.specs.declared.output.PlayError.TheVariants.{Read, Write, NoMemory, BadLine}
 use Rattle.play_forms.specs.Asking.{Asked, unasked_by}
 use Rattle.play_forms.specs.Followed.{Followed}
-use Rattle.play_forms.specs.Guards.{AreMet, Breaks, GuardedIn, IsFound, IsMet, IsUnasked, Leaves, are_silent, asked, asked_by, guard_of, prints, speaks}
+use Rattle.play_forms.specs.Guards.{AreMet, Breaks, GuardedIn, IsFound, IsMet, IsUnasked, Leaves, are_silent, wants_among, wants_of, guard_of, prints, speaks}
 use Rattle.play_forms.specs.Reading.{TakesLine}
 use Rattle.play_forms.specs.Steps.{PrintsLine}
 use Rattle.play_forms.specs.declared.form.Form.{Form}
@@ -78,10 +78,10 @@ same_last (c ∷ front) line back (d ∷ front₂) line₂ back₂ same loud sil
 same_rest : (start : State) (lines : List (List ℕ)) (rest other : List ℕ) → Leaves start lines rest → Leaves start lines other → rest ≡ other
 same_rest start lines rest other a b =
     let last = same_last a.before a.last a.behind b.before b.last b.behind (sym a.whole ∙ b.whole) a.loud a.silent b.loud b.silent in
-    let texts : joined (asked a.behind) ++ rest ≡ joined (asked a.behind) ++ other =
+    let texts : joined (wants_among a.behind) ++ rest ≡ joined (wants_among a.behind) ++ other =
     sym a.said ∙ ap (λ f. text_of (after_all start f) a.last) last.0 ∙ ap (λ l. text_of (after_all start b.before) l) last.1 ∙ b.said
-    ∙ ap (λ ls. joined (asked ls) ++ other) (sym last.2) in
-    append_cancel_left (joined (asked a.behind)) rest other texts
+    ∙ ap (λ ls. joined (wants_among ls) ++ other) (sym last.2) in
+    append_cancel_left (joined (wants_among a.behind)) rest other texts
 
 -- GUARDS THAT ARE MET
 
@@ -141,13 +141,13 @@ nothing_behind [] back none = none
 nothing_behind (c ∷ front) back none = absurd (omega (arith, ap length none))
 
 -- what a guard that is met takes off
-taken_off : (s : State) (guard : Option (Asks × List ℕ)) (old new found : List ℕ) → Asked s guard old new found (Ok None) → old ≡ joined (asked_by guard) ++ new
+taken_off : (s : State) (guard : Option (Asks × List ℕ)) (old new found : List ℕ) → Asked s guard old new found (Ok None) → old ≡ joined (wants_of guard) ++ new
 taken_off s None old new found is = sym is
 taken_off s (Some (Printed, wants)) old new found is = is ∙ sym (append_assoc wants (feed ∷ []) new)
 taken_off s (Some (Runner, wants)) old new found is = sym is.1
 
 -- a line that doesn't print
-unasked_silent : (start : State) (lines : List (List ℕ)) (line old new : List ℕ) → prints line ≡ false → old ≡ joined (asked_by (guard_of line)) ++ new
+unasked_silent : (start : State) (lines : List (List ℕ)) (line old new : List ℕ) → prints line ≡ false → old ≡ joined (wants_of (guard_of line)) ++ new
     → IsUnasked start lines old → IsUnasked start (lines ++ line ∷ []) new
 unasked_silent start lines line old new quiet taken (inl leaves) = inl (record {
   before = leaves.before;
@@ -157,15 +157,15 @@ unasked_silent start lines line old new quiet taken (inl leaves) = inl (record {
   loud = leaves.loud;
   silent = list_all-append (λ l. not (prints l)) leaves.behind (line ∷ []) ∙ and_from _ _ leaves.silent (and_from _ _ (ap not quiet) refl);
   said =
-      let front = joined (asked leaves.behind) in
-      let own = asked_by (guard_of line) in
-      let more : asked (leaves.behind ++ line ∷ []) ≡ asked leaves.behind ++ own =
-      flat_map-append (λ l. asked_by (guard_of l)) leaves.behind (line ∷ []) ∙ ap (λ ls. asked leaves.behind ++ ls) (append-nil own) in
+      let front = joined (wants_among leaves.behind) in
+      let own = wants_of (guard_of line) in
+      let more : wants_among (leaves.behind ++ line ∷ []) ≡ wants_among leaves.behind ++ own =
+      flat_map-append (λ l. wants_of (guard_of l)) leaves.behind (line ∷ []) ∙ ap (λ ls. wants_among leaves.behind ++ ls) (append-nil own) in
       leaves.said ∙ ap (λ t. front ++ t) taken ∙ sym (append_assoc front (joined own) new)
-      ∙ ap (λ t. t ++ new) (sym (joined-append (asked leaves.behind) own) ∙ ap joined (sym more));
+      ∙ ap (λ t. t ++ new) (sym (joined-append (wants_among leaves.behind) own) ∙ ap joined (sym more));
 })
 unasked_silent start lines line old new quiet taken (inr (silent, none)) =
-    inr (list_all-append (λ l. not (prints l)) lines (line ∷ []) ∙ and_from _ _ silent (and_from _ _ (ap not quiet) refl), nothing_behind (joined (asked_by (guard_of line))) new (sym taken ∙ none))
+    inr (list_all-append (λ l. not (prints l)) lines (line ∷ []) ∙ and_from _ _ silent (and_from _ _ (ap not quiet) refl), nothing_behind (joined (wants_of (guard_of line))) new (sym taken ∙ none))
 
 pub unasked_more : (start mid : State) (lines : List (List ℕ)) → mid ≡ after_all start lines → (line : List ℕ) (meant : Line) (old between new found : List ℕ) → Some meant ≡ line_of line
     → IsUnasked start lines old → Asked mid (guard_of line) old between found (Ok None) → new ≡ unasked_by mid meant between → IsUnasked start (lines ++ line ∷ []) new

@@ -18,25 +18,25 @@ use Rattle.play_forms.specs.Followed.{Followed, EndsBadly, FailsToWrite}
 -- A GUARD
 
 -- one space at the front of a guard's text is none of it
-abbrev pub unspaced : List ℕ → List ℕ
-unspaced text = if starts_with nat_eq text (codes " ") then drop 1 text else text
+abbrev pub without_space : List ℕ → List ℕ
+without_space text = if starts_with nat_eq text (codes " ") then drop 1 text else text
 
 -- what a line asks, and the text that it wants, if it is a guard
 abbrev pub guard_of : List ℕ → Option (Asks × List ℕ)
 guard_of line =
-    if starts_with nat_eq line (codes "#=") then Some (Printed, unspaced (drop 2 line))
-    else if starts_with nat_eq line (codes "#@") then Some (Runner, unspaced (drop 2 line))
+    if starts_with nat_eq line (codes "#=") then Some (Printed, without_space (drop 2 line))
+    else if starts_with nat_eq line (codes "#@") then Some (Runner, without_space (drop 2 line))
     else None
 
 -- the printed lines that a guard asks for: one, or none
-abbrev pub asked_by : Option (Asks × List ℕ) → List (List ℕ)
-asked_by None = []
-asked_by (Some (Printed, text)) = text ∷ []
-asked_by (Some (Runner, text)) = []
+abbrev pub wants_of : Option (Asks × List ℕ) → List (List ℕ)
+wants_of None = []
+wants_of (Some (Printed, text)) = text ∷ []
+wants_of (Some (Runner, text)) = []
 
 -- those that the guards among these lines ask for
-abbrev pub asked : List (List ℕ) → List (List ℕ)
-asked lines = flat_map (λ line. asked_by (guard_of line)) lines
+abbrev pub wants_among : List (List ℕ) → List (List ℕ)
+wants_among lines = flat_map (λ line. wants_of (guard_of line)) lines
 
 -- WHAT IS UNASKED
 
@@ -61,7 +61,7 @@ pub record Leaves (start : State) (lines : List (List ℕ)) (rest : List ℕ) : 
   pub whole : lines ≡ before ++ last ∷ behind
   pub loud : prints last ≡ true
   pub silent : are_silent behind ≡ true
-  pub said : text_of (after_all start before) last ≡ joined (asked behind) ++ rest
+  pub said : text_of (after_all start before) last ≡ joined (wants_among behind) ++ rest
 
 -- what no guard among these lines has asked for: that rest, or nothing where none of them prints
 abbrev pub IsUnasked : State → List (List ℕ) → List ℕ → Type 0

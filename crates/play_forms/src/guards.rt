@@ -6,7 +6,7 @@ ghost use Rattle.play_syntax.specs.TraceLines.{feed};
 ghost use Rattle.play_syntax.specs.Lines.{meant};
 ghost use Rattle.play_syntax.specs.TraceText.{hex};
 ghost use Rattle.play_forms.specs.Asking.{Asked, AsksPrinted, AsksRunner, unasked_by};
-ghost use Rattle.play_forms.specs.Guards.{GuardedIn, first_line, guard_of, unspaced};
+ghost use Rattle.play_forms.specs.Guards.{GuardedIn, first_line, guard_of, without_space};
 ghost use Rattle.play_forms.specs.Steps.{PrintsLine};
 
 use crate::form::{Form, make_texts};
@@ -48,7 +48,7 @@ pub fn guard_text(line: &[u8]) -> Option<(Asks, &[u8])>
 }
 
 fn without_space(text: &[u8]) -> &[u8]
-    ensures { result.now ≡ unspaced text.now }
+    ensures { result.now ≡ without_space text.now }
 {
     match text {
         [b' ', text @ ..] => text,

@@ -132,10 +132,10 @@ pub fn checks(call: &Call) -> &'static [Refusal]
     ensures listed { result.now ≡ checks call.now }
     ensures guards { (s : State) → AreListed s call.now }
 {
-    listed(call)
+    check_list(call)
 }
 
-fn listed(call: &Call) -> &'static [Refusal]
+fn check_list(call: &Call) -> &'static [Refusal]
     ensures { result.now ≡ checks call.now }
 {
     match call {

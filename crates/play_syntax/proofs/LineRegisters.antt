@@ -50,7 +50,8 @@ numbers_of-push (v ∷ ws) w =
     ap (λ ns. option_and_then (λ m. option_map (λ ms. m ∷ ms) ns) (number_of v)) (numbers_of-push ws w)
     ∙ first_of_all (number_of v) (numbers_of ws) (number_of w)
 
-numbers_more : (ws : List (List ℕ)) (w : List ℕ) (ns : List ℕ) (n : ℕ) → numbers_of ws ≡ Some ns → Some n ≡ number_of w → numbers_of (ws ++ w ∷ []) ≡ Some (ns ++ n ∷ [])
+-- a word more that is a number
+pub numbers_more : (ws : List (List ℕ)) (w : List ℕ) (ns : List ℕ) (n : ℕ) → numbers_of ws ≡ Some ns → Some n ≡ number_of w → numbers_of (ws ++ w ∷ []) ≡ Some (ns ++ n ∷ [])
 numbers_more ws w ns n h e = numbers_of-push ws w ∙ rw (h, ← e) refl
 
 -- a word that is no number

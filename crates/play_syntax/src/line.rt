@@ -131,7 +131,7 @@ pub fn store(words: &[u8]) -> Option<(u64, Size, u64)>
 {
     match read_front(words) {
         Front::More(addr, rest) => {
-            let (size, value) = stored(rest)?;
+            let (size, value) = size_and_value(rest)?;
             Some((addr, size, value))
         }
         Front::Last(_) | Front::Other => None,
@@ -140,7 +140,7 @@ pub fn store(words: &[u8]) -> Option<(u64, Size, u64)>
 
 // The value that all bytes write, and its size by its digits.
 #[inline(always)]
-fn stored(word: &[u8]) -> Option<(Size, u64)>
+fn size_and_value(word: &[u8]) -> Option<(Size, u64)>
     ensures { IsStored word.now result }
 {
     let size = size_written(word)?;

@@ -16,8 +16,8 @@ pub const CAPACITY: usize = 32 * (MOST_ENDPOINTS + 1);
 pub type Text = ArrayVec<u8, CAPACITY>;
 
 /// Appends a word as it stands.
-pub fn push_word(text: &mut Text, word: &[u8])
-    requires { array_vec_len text.old + length word.now ≤ CAPACITY }
+pub fn push_word<const N: usize>(text: &mut ArrayVec<u8, N>, word: &[u8])
+    requires { array_vec_len text.old + length word.now ≤ N }
     ensures items { text.new.items ≡ text.old.items ++ word.now }
     ensures len { array_vec_len text.new ≡ array_vec_len text.old + length word.now }
 {
@@ -25,9 +25,9 @@ pub fn push_word(text: &mut Text, word: &[u8])
 }
 
 /// Appends a space and the lowest `digits` hexadecimal digits of a number.
-pub fn push_hex(text: &mut Text, digits: u32, value: u64)
+pub fn push_hex<const N: usize>(text: &mut ArrayVec<u8, N>, digits: u32, value: u64)
     requires digits { digits ≤ 16 }
-    requires room { array_vec_len text.old + digits < CAPACITY }
+    requires room { array_vec_len text.old + digits < N }
     ensures items { text.new.items ≡ text.old.items ++ spaced (hex digits value) }
     ensures len { array_vec_len text.new ≡ array_vec_len text.old + 1 + digits }
 {
@@ -36,9 +36,9 @@ pub fn push_hex(text: &mut Text, digits: u32, value: u64)
 }
 
 /// Appends the lowest `digits` hexadecimal digits of a number.
-pub fn push_digits(text: &mut Text, digits: u32, value: u64)
+pub fn push_digits<const N: usize>(text: &mut ArrayVec<u8, N>, digits: u32, value: u64)
     requires digits { digits ≤ 16 }
-    requires room { array_vec_len text.old + digits ≤ CAPACITY }
+    requires room { array_vec_len text.old + digits ≤ N }
     ensures items { text.new.items ≡ text.old.items ++ hex digits value }
     ensures len { array_vec_len text.new ≡ array_vec_len text.old + digits }
 {

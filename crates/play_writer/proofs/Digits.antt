@@ -1,6 +1,6 @@
 -- SPDX-License-Identifier: MIT OR Apache-2.0
 -- Hexadecimal digits are read as the number that was written.
-use Rattle.std.proofs.Common.{◌≡◌, ℕ, zero, suc, ◌+◌, ◌*◌, ◌/◌, ◌%◌, ◌^◌, ◌<◌, ◌≤◌, ◌-◌, true, length, fold, Some, option_map, sym, ap, ◌∙◌, arith, refl, pow-add}
+use Rattle.std.proofs.Common.{◌≡◌, ℕ, zero, suc, ◌+◌, ◌*◌, ◌/◌, ◌%◌, ◌^◌, ◌<◌, ◌≤◌, true, length, fold, Some, option_map, sym, ap, ◌∙◌, arith, refl, pow-add}
 use Rattle.std.specs.Prelude.{if◌then◌else◌, None}
 use Rattle.std.specs.List.{list_all}
 use Rattle.std.proofs.Math.Nat.{lt-mul-div-succ, mod-eq_of_lt, mod-lt, one-le-pow, pow-suc, pow-succ'}
@@ -45,12 +45,6 @@ hex_plain zero x = refl
 hex_plain (suc n) x = rw (digit_plain (x / 16 ^ n % 16) (mod-lt (x / 16 ^ n) (omega arith)), hex_plain n x) refl
 
 -- HOW A DIGIT IS FOUND
-
-pub digit_low : (d : ℕ) → d < 10 → 48 + d ≡ digit d
-digit_low d h = grind (arith, h)
-
-pub digit_high : (d : ℕ) → 10 ≤ d → 65 + (d - 10) ≡ digit d
-digit_high d h = grind (arith, h)
 
 -- a shift by four bits a place
 pub places_up : (n : ℕ) → 2 ^ (4 * n) ≡ 16 ^ n

@@ -1,6 +1,6 @@
 -- SPDX-License-Identifier: MIT OR Apache-2.0
 -- Lines are read as the operations for which they were put together.
-use Rattle.std.proofs.Common.{◌≡◌, ℕ, ◌*◌, ◌^◌, ◌<◌, ◌≤◌, true, List, [], ◌∷◌, ◌++◌, length, codes, Option, Some, None, option_map, option_and_then, sym, ap, ◌∙◌, arith, refl, append-nil, length-append}
+use Rattle.std.proofs.Common.{◌≡◌, ℕ, ◌*◌, ◌^◌, ◌<◌, ◌≤◌, true, List, [], ◌∷◌, ◌++◌, length, codes, Some, option_map, sym, ap, ◌∙◌, arith, refl, append-nil, length-append}
 use Rattle.std.specs.List.{list_all}
 use Rattle.std.proofs.lemmas.List.{flat_map_more}
 use Rattle.std.proofs.lemmas.List.Folds.{list_all-append}
@@ -12,6 +12,7 @@ use Rattle.ffa_model.specs.Manifest.{is_from_to}
 use Rattle.ffa_model.specs.Memory.{size_of}
 use Rattle.play_syntax.specs.TraceLines.{operate, number_of, numbers_of, registers_of, size_named, size_written, call_of, load_of, store_of, fetch_of, command_of, line_of, words_of}
 use Rattle.play_syntax.specs.TraceText.{hex, spaced}
+use Rattle.play_syntax.proofs.LineRegisters.{numbers_more}
 use Rattle.play_writer.specs.Script.{IsLineOf}
 use Rattle.play_writer.proofs.Digits.{hex_read, hex_plain}
 use Rattle.play_writer.proofs.Words.{is_plain, are_plain, line, words-line, single-line}
@@ -76,27 +77,6 @@ store_read n a size v some few fits low =
 
 -- THE REGISTERS OF A CALL
 
--- one more number, if each is one
-abbrev with_last : Option ℕ → Option (List ℕ) → Option (List ℕ)
-with_last n numbers = option_and_then (λ ns. option_map (λ m. ns ++ m ∷ []) n) numbers
-
-first_of_all : (first : Option ℕ) (middle : Option (List ℕ)) (last : Option ℕ)
-    → option_and_then (λ m. option_map (λ ns. m ∷ ns) (with_last last middle)) first ≡ with_last last (option_and_then (λ m. option_map (λ ns. m ∷ ns) middle) first)
-first_of_all None middle last = refl
-first_of_all (Some m) None last = refl
-first_of_all (Some m) (Some ns) None = refl
-first_of_all (Some m) (Some ns) (Some n) = refl
-
-only_last : (last : Option ℕ) → option_and_then (λ n. option_map (λ ns. n ∷ ns) (Some [])) last ≡ with_last last (Some [])
-only_last None = refl
-only_last (Some n) = refl
-
-numbers_of-push : (ws : List (List ℕ)) (w : List ℕ) → numbers_of (ws ++ w ∷ []) ≡ with_last (number_of w) (numbers_of ws)
-numbers_of-push [] w = only_last (number_of w)
-numbers_of-push (v ∷ ws) w =
-    ap (λ ns. option_and_then (λ m. option_map (λ ms. m ∷ ms) ns) (number_of v)) (numbers_of-push ws w)
-    ∙ first_of_all (number_of v) (numbers_of ws) (number_of w)
-
 -- a text that tells these registers
 pub record Told (text given : List ℕ) : Type 0 where
   pub words : List (List ℕ)
@@ -113,7 +93,7 @@ one_told text given n v told some few fits = record {
   words = told.words ++ hex n v ∷ [];
   whole = ap (λ l. l ++ spaced (hex n v)) told.whole ∙ line-push (codes "call") told.words (hex n v);
   plain = list_all-append (list_all is_plain) told.words (hex n v ∷ []) ∙ rw (told.plain, hex_plain n v) refl;
-  numbers = numbers_of-push told.words (hex n v) ∙ rw (told.numbers, hex_read n v some few fits) refl;
+  numbers = numbers_more told.words (hex n v) given v told.numbers (sym (hex_read n v some few fits));
   each = omega (arith, told.each, length-append told.words (hex n v ∷ []), length-append given (v ∷ []));
 }
 

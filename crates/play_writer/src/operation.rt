@@ -8,8 +8,9 @@ ghost use Rattle.ffa_model.specs.Memory.{size_of};
 ghost use Rattle.play_syntax.specs.TraceLines.{registers_of};
 ghost use Rattle.play_writer.specs.Script.{IsProper, IsLineOf, GrowsBy};
 
-use crate::line::{Line, digits_of, push_hex, push_word};
+use crate::line::{LineText, digits_of};
 use ffa_model::{Op, Size};
+use play_syntax::text::{push_hex, push_word};
 use std::alloc::{AllocError, Allocator};
 
 /// Puts the line of a trace that does this operation behind a text, with its LF. An address has 8 digits where they do,
@@ -20,13 +21,13 @@ pub fn put_operation<A: Allocator>(text: &mut Vec<u8, A>, op: &Op) -> Result<(),
     ensures written { OnOk result (GrowsBy op.now text.old.items text.new.items) }
     ensures kept { OnErr result (text.new.items ≡ text.old.items) }
 {
-    let mut line = Line::new();
+    let mut line = LineText::new();
     push_operation(&mut line, op);
     line.push(b'\n');
     text.extend_from_slice(line.as_slice())
 }
 
-fn push_operation(line: &mut Line, op: &Op)
+fn push_operation(line: &mut LineText, op: &Op)
     requires empty { line.old.items ≡ [] }
     requires proper { IsProper op.now }
     ensures line { IsLineOf line.new.items op.now }
@@ -40,7 +41,7 @@ fn push_operation(line: &mut Line, op: &Op)
     }
 }
 
-fn push_call(line: &mut Line, x: &[u64; 8])
+fn push_call(line: &mut LineText, x: &[u64; 8])
     requires { line.old.items ≡ [] }
     ensures line { IsLineOf line.new.items (Call x.now) }
     ensures len { array_vec_len line.new ≤ 140 }
@@ -64,7 +65,7 @@ fn registers_told(x: &[u64; 8]) -> usize
     count
 }
 
-fn push_load(line: &mut Line, addr: u64, size: Size)
+fn push_load(line: &mut LineText, addr: u64, size: Size)
     requires { line.old.items ≡ [] }
     ensures line { IsLineOf line.new.items (Load addr size) }
     ensures len { array_vec_len line.new ≤ 140 }
@@ -74,7 +75,7 @@ fn push_load(line: &mut Line, addr: u64, size: Size)
     push_hex(line, 1, byte_count(size) as u64);
 }
 
-fn push_store(line: &mut Line, addr: u64, size: Size, value: u64)
+fn push_store(line: &mut LineText, addr: u64, size: Size, value: u64)
     requires empty { line.old.items ≡ [] }
     requires fits { value < 256 ^ size_of size }
     ensures line { IsLineOf line.new.items (Store addr size value) }
@@ -85,7 +86,7 @@ fn push_store(line: &mut Line, addr: u64, size: Size, value: u64)
     push_hex(line, 2 * byte_count(size) as u32, value);
 }
 
-fn push_fetch(line: &mut Line, addr: u64)
+fn push_fetch(line: &mut LineText, addr: u64)
     requires { line.old.items ≡ [] }
     ensures line { IsLineOf line.new.items (Fetch addr) }
     ensures len { array_vec_len line.new ≤ 140 }

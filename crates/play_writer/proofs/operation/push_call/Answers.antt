@@ -13,7 +13,7 @@ loop-value-preserved c =
     let digits = c.digits_of.ensures in
     let more = one_told c.loop-value.line.items (take i xs) c.digits_of.result (get_or xs i 0) c.loop-value.invariant.told digits.some digits.few digits.enough in
     record {
-      told = subst (Told c.push_hex.new.line.items) (sym (take_more xs i 0 inside)) (subst (λ t. Told t (take i xs ++ get_or xs i 0 ∷ [])) (sym c.push_hex.ensures.items) more);
+      told = subst (Told c.push_hex.new.text.items) (sym (take_more xs i 0 inside)) (subst (λ t. Told t (take i xs ++ get_or xs i 0 ∷ [])) (sym c.push_hex.ensures.items) more);
       len = omega (arith, c.loop-value.invariant.len, c.push_hex.ensures.len, digits.few);
     }
 

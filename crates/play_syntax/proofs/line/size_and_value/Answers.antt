@@ -2,7 +2,7 @@
 use Rattle.std.proofs.Common.{sym, subst}
 use Rattle.play_syntax.specs.Parsed.{IsStored}
 use Rattle.play_syntax.proofs.LineCommands.{no_size_stored, none_stored}
-use Rattle.play_syntax.proofs.line.stored.Goals as goal
+use Rattle.play_syntax.proofs.line.size_and_value.Goals as goal
 
 pub returns-in_err-size : goal.returns-in_err-size
 returns-in_err-size c = subst (IsStored c.args.word.now) (sym c.from_residual.ensures) (no_size_stored c.args.word.now c.in_err-size.ensures)
