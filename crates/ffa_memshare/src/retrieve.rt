@@ -21,7 +21,7 @@ ghost use Rattle.ffa_memshare.specs.Shared.{IsHeld, IsShared};
 ghost use Rattle.ffa_memshare.specs.Steps.{EndsSettledFor, IsMomentFor};
 ghost use Rattle.ffa_memshare.specs.Stored.{open_in, pool_slot, view_of};
 
-use crate::changed::{News, Retrieved};
+use crate::changed::{Done, News, Value};
 use crate::descriptor_call::DescriptorCall;
 use crate::grants::NewRight;
 use crate::marks::{Mark, mark_all};
@@ -58,7 +58,7 @@ impl<O: Room<OpenSlot> + Drop> Pool<O> {
         caller: EndpointId,
         call: &DescriptorCall,
         news: &mut News,
-    ) -> Result<Retrieved, ErrorCode>
+    ) -> Result<Done, ErrorCode>
         requires shared { IsShared (memory_of (M.ram ram.old) layout.now pages.old) self.old.slots }
         requires caller { IsCaller (memory_of (M.ram ram.old) layout.now pages.old) buffers.old caller.0 }
         ensures refusal { let parts = memory_parts (M.ram ram.old) layout.now pages.old buffers.old self.old in
@@ -70,12 +70,12 @@ impl<O: Room<OpenSlot> + Drop> Pool<O> {
         ensures kept_ram { OnErr result (M.ram ram.new ≡ M.ram ram.old) }
         ensures kept_past { OnErr result (M.past ram.new ≡ M.past ram.old) }
         ensures kept_news { OnErr result (news.new ≡ news.old) }
-        ensures told { IfOk result (λ retrieved. news.new ≡ Some retrieved.changed) }
+        ensures told { IfOk result (λ done. news.new ≡ Some done.changed) }
         ensures full { OnOk result (buffers.new ≡ buffers_with_rx buffers.old caller.0 true) }
         ensures done { let before = memory_parts (M.ram ram.old) layout.now pages.old buffers.old self.old in
             let after = memory_parts (M.ram ram.new) layout.now pages.new buffers.new self.new in
             let bytes = descriptor_in (M.ram ram.old) buffers.old caller.0 call.now in
-            IfOk result (λ retrieved. IsRetrieved before after caller bytes retrieved.size retrieved.changed) }
+            IfOk result (IsRetrieved before after caller bytes) }
         ensures steps { let before = memory_parts (M.ram ram.old) layout.now pages.old buffers.old self.old in
             IsRxApartOfOpen before caller.0
             → Only (M.past ram.old) (M.past ram.new) (IsMomentFor layout.now (M.ram ram.old) (M.ram ram.new)) }
@@ -89,7 +89,8 @@ impl<O: Room<OpenSlot> + Drop> Pool<O> {
         let size = open.hand_over(ram, layout, pages, buffers, caller, version, found.right);
         let changed = news.told.tell(&open.ranges, Some(caller));
         self.take(pages, layout.base, found.slot, caller, found.right);
-        Ok(Retrieved { size, changed })
+        let value = Value::Size(size);
+        Ok(Done { value, changed })
     }
 
     // Notes that an endpoint holds the open transaction in a slot with this right. The pages of a donate are

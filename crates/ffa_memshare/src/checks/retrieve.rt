@@ -15,7 +15,7 @@ ghost use Rattle.ffa_memshare.specs.Memory.{memory_of, memory_parts};
 ghost use Rattle.ffa_memshare.specs.Named.{own_rights_in};
 ghost use Rattle.ffa_memshare.specs.Ranges.{ArePlaced};
 ghost use Rattle.ffa_memshare.specs.Scenes.{descriptor_in, scene_in};
-ghost use Rattle.ffa_memshare.specs.Shared.{AreInRam};
+ghost use Rattle.ffa_memshare.specs.Shared.{AreRangesInRam};
 
 use crate::descriptor_call::DescriptorCall;
 use crate::found::FoundRight;
@@ -45,7 +45,7 @@ impl<O: Room<OpenSlot> + Drop> Pool<O> {
         caller: EndpointId,
         call: &DescriptorCall,
     ) -> Result<FoundRight, Refusal>
-        requires placed { AreInRam self.now.slots layout.now.base.0 (length pages.now) }
+        requires placed { AreRangesInRam self.now.slots layout.now.base.0 (length pages.now) }
         requires caller { IsCaller (memory_of (M.ram ram.now) layout.now pages.now) buffers.now caller.0 }
         ensures refusal { let parts = memory_parts (M.ram ram.now) layout.now pages.now buffers.now self.now in
             let asked = retrieve_of caller.0 (descriptor_in (M.ram ram.now) buffers.now caller.0 call.now) in
@@ -74,7 +74,7 @@ impl OpenTransaction {
 
     // The data right that an endpoint is granted, if the transaction is offered to it: ro where none is named.
     #[tactic(auto, using(crate::proofs::Receivers::found_any))]
-    fn granted_to(&self, endpoint: EndpointId) -> Option<Data>
+    fn grant_to(&self, endpoint: EndpointId) -> Option<Data>
         ensures known { is_some result ≡ is_receiver endpoint.0 (view_of self.now) }
         ensures granted { IfSome result (λ granted. granted ≡ grant_to (view_of self.now) endpoint.0) }
     {
@@ -122,7 +122,7 @@ impl OpenTransaction {
         ensures right { let own_rights = own_rights_in pages.now base.0 in
             IfOk result (λ right. right ≡ right_for own_rights (view_of self.now) caller.0 asked.now) }
     {
-        let Some(granted) = self.granted_to(caller) else {
+        let Some(granted) = self.grant_to(caller) else {
             return Err(Refusal::NotReceiver);
         };
         if asked.sender != self.sender {
@@ -134,7 +134,7 @@ impl OpenTransaction {
         if !is_kind_right(self.kind, asked.kind) {
             return Err(Refusal::KindDiffers);
         }
-        if self.held(caller).is_some() {
+        if self.held_right(caller).is_some() {
             return Err(Refusal::AlreadyRetrieved);
         }
         let most = self.ceiling(pages, base, granted);
