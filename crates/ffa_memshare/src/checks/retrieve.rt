@@ -9,6 +9,7 @@ ghost use Rattle.ffa_model.specs.MemoryRetrieve.{asked_right, holding_guards, is
 ghost use Rattle.ffa_model.specs.RetrieveDescriptor.{retrieve_of};
 ghost use Rattle.ffa_model.specs.Rights.{is_at_most};
 ghost use Rattle.ffa_model.specs.Transactions.{ceiling, grant_to};
+ghost use Rattle.ffa_rxtx.specs.Stored.{buffers_of};
 ghost use Rattle.ffa_memshare.specs.Callers.{IsCaller};
 ghost use Rattle.ffa_memshare.specs.Found.{IsAskedFor};
 ghost use Rattle.ffa_memshare.specs.Memory.{memory_of, memory_parts};
@@ -50,22 +51,22 @@ impl<O: Room<OpenSlot> + Drop> Pool<O> {
         ensures refusal { let parts = memory_parts (M.ram ram.now) layout.now pages.now buffers.now self.now in
             let asked = retrieve_of caller.0 (descriptor_in (M.ram ram.now) buffers.now caller.0 call.now) in
             result_err result ≡ first_refusal (retrieve_guards (scene_in parts) caller.0 call.now.transfer asked) }
-        ensures buffers { OnOk result (is_some (buffers_in buffers.now caller.0) ≡ true) }
+        ensures own { IfOk result (λ found. Some (buffers_of found.own) ≡ buffers_in buffers.now caller.0) }
         ensures found { let own_rights = own_rights_in pages.now layout.now.base.0 in
             let bytes = descriptor_in (M.ram ram.now) buffers.now caller.0 call.now in
             IfOk result (IsAskedFor self.now.slots own_rights caller.0 bytes) }
     {
-        let bytes = call.descriptor(ram, buffers, caller)?;
-        let Ok(asked) = read_retrieve(&bytes, call.version, caller) else {
+        let found = call.descriptor(ram, buffers, caller)?;
+        let Ok(asked) = read_retrieve(&found.bytes, call.version, caller) else {
             return Err(Refusal::DescriptorMalformed);
         };
         let Some(slot) = self.find(asked.handle) else {
             return Err(Refusal::HandleUnknown);
         };
         let open = self.at(slot);
-        let is_full = buffers.is_full(caller);
-        let right = open.check_retrieve(pages, layout.base, is_full, caller, &asked)?;
-        Ok(FoundRight { slot, right })
+        let own = found.own;
+        let right = open.check_retrieve(pages, layout.base, own.is_full, caller, &asked)?;
+        Ok(FoundRight { slot, right, own })
     }
 }
 

@@ -68,8 +68,8 @@ impl<O: Room<OpenSlot> + Drop> Pool<O> {
         ensures few { OnOk result (sends_of (open_in self.now) caller.0 < MOST_SENDS) }
         ensures fits { IfOk result (λ slot. slot < MOST_SLOTS) }
     {
-        let bytes = call.descriptor(ram, buffers, caller)?;
-        let Ok(()) = read_send(&bytes, call.version, kind, &mut draft.offer) else {
+        let found = call.descriptor(ram, buffers, caller)?;
+        let Ok(()) = read_send(&found.bytes, call.version, kind, &mut draft.offer) else {
             return Err(Refusal::DescriptorMalformed);
         };
         let transaction = &mut draft.transaction;
