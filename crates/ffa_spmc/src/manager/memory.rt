@@ -1,6 +1,7 @@
 // SPDX-License-Identifier: MIT OR Apache-2.0
-//! The calls on memory. Each stands alone, so that other calls have no room for it, and has the cache forget whose access to
-//! which pages it changed, and tells it. What the pool does for it is inlined here, since its answer is large to hand on.
+//! The calls on memory. Each stands alone, so that other calls have no room for it, and has the cache forget whose
+//! access to which pages it changed, and tells it. What the pool does for it is inlined here, since its answer is large
+//! to hand on.
 ghost use Rattle.std.specs.Prelude.{◌≡◌};
 ghost use Rattle.std.specs.Option.{option_or};
 ghost use Rattle.ffa_model.specs.MemoryRetrieve.{memory_retrieve};
