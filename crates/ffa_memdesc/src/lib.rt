@@ -2,24 +2,33 @@
 //! Descriptors of memory transactions (DEN0077A, 5.11 and 16): read where they lie, and written where they are read.
 #![tactic(auto)]
 
-mod access;
+// What descriptors are read from and written into.
 mod bytes;
-mod header;
-mod laws;
-pub mod parts;
-mod place;
 pub mod put;
+
+// Their parts.
+mod access;
+mod header;
+pub mod parts;
 mod ranges;
 mod receivers;
+
+// The descriptors, with the conditions that refuse them.
 mod relinquish;
 mod respond;
 mod retrieve;
 mod send;
 
+// That they say one thing.
+mod laws;
+
+// Why bytes are no descriptor: for diagnostics alone.
+mod reasons;
+
 pub use bytes::Bytes;
 pub use ffa_model::{FieldPlace, Flaw, RelinquishDesc, Response, RetrieveDesc, SendDesc};
 pub use laws::{one_record, told_places};
-pub use place::{field_value, flaw_place};
+pub use reasons::{field_value, flaw_place};
 pub use relinquish::read_relinquish;
 pub use respond::write_response;
 pub use retrieve::read_retrieve;

@@ -7,7 +7,7 @@ use Rattle.ffa_model.specs.State.{Transaction}
 use Rattle.ffa_memshare.specs.declared.transaction.OpenTransaction.{OpenTransaction}
 use Rattle.ffa_memshare.specs.Memory.{Memory}
 use Rattle.ffa_memshare.specs.Ranges.{ArePlaced}
-use Rattle.ffa_memshare.specs.Shared.{AreInRam, IsShared}
+use Rattle.ffa_memshare.specs.Shared.{AreRangesInRam, IsShared}
 use Rattle.ffa_memshare.specs.Stored.{Slot, map_in, pool_slot, view_of}
 use Rattle.ffa_memshare.proofs.Reclaims.{one-handle}
 
@@ -29,6 +29,6 @@ module _ (slots : List Slot) (k h : ℕ) (it : OpenTransaction) (found : (t : Tr
   asked-open given = subst (λ (g : ℕ). finite.get (map_in slots) g ≡ Some (view_of it)) same-handle given
 
 -- the pages of what is open are in RAM
-pub shared-placed : {memory : Memory} {slots : List Slot} → IsShared memory slots → AreInRam slots memory.base (length memory.entries)
+pub shared-placed : {memory : Memory} {slots : List Slot} → IsShared memory slots → AreRangesInRam slots memory.base (length memory.entries)
 shared-placed {memory = memory} shared k h t at =
     subst (λ (count : ℕ). ArePlaced memory.base count t.ranges) (sym shared.room.size) (shared.each k h t at).placed

@@ -41,7 +41,7 @@ pub record IsOwnOffer (table : List (Option Entry)) (base e : ℕ) (r : SendReco
       (p : ℕ) → in_ranges base r.ranges p ≡ true → (x : Entry) × (entry_at table p ≡ Some x) × (x.owner ≡ e)
 
 -- these bytes describe an offer of e's own pages to others, and this is the transaction that it opens
-pub record IsOffered (table : List (Option Entry)) (base e : ℕ) (kind : Kind) (bytes : Versioned) (t : Transaction)
+pub record DescribesOffer (table : List (Option Entry)) (base e : ℕ) (kind : Kind) (bytes : Versioned) (t : Transaction)
     : Type 0 where
   pub offer : SendRecord
   pub described : send_of kind bytes ≡ Some offer

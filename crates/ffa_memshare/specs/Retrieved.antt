@@ -17,7 +17,8 @@ use Rattle.ffa_model.specs.RetrieveDescriptor.{retrieve_of}
 use Rattle.ffa_model.specs.State.{Buffers, Transaction}
 use Rattle.ffa_pages.specs.Entry.{Entry}
 use Rattle.ffa_rxtx.specs.Parts.{with_rx_bytes}
-use Rattle.ffa_memshare.specs.declared.changed.Changed.{Changed}
+use Rattle.ffa_memshare.specs.declared.changed.Done.{Done}
+use Rattle.ffa_memshare.specs.declared.changed.Value.TheVariants.{Size}
 use Rattle.ffa_memshare.specs.declared.marks.Mark.TheVariants.{Given}
 use Rattle.ffa_memshare.specs.Changed.{IsChanged}
 use Rattle.ffa_memshare.specs.Changes.{IsMarked, IsMoved}
@@ -50,13 +51,13 @@ pub record IsResponded (old : Memory) (after : Ram) (own : Option Buffers)
   pub answered : after ≡ with_rx_bytes granted own (response_bytes version told)
   pub bytes : size ≡ response_size version told.ranges
 
--- The parts after an endpoint has taken what these bytes ask for, the size of the response, and the access that
+-- The parts after an endpoint has taken what these bytes ask for, with the size of the response and the access that
 -- changed.
-pub record IsRetrieved (old new : MemoryParts) (e : EndpointId) (bytes : Versioned) (size : ℕ) (changed : Changed)
-    : Type 0 where
+pub record IsRetrieved (old new : MemoryParts) (e : EndpointId) (bytes : Versioned) (done : Done) : Type 0 where
   pub asked : RetrieveDesc
   pub transaction : Transaction
   pub right : Rights
+  pub size : ℕ
   pub described : retrieve_of e.0 bytes ≡ Some asked
   pub was : transaction_in old.pool.slots asked.handle ≡ Some transaction
   pub is : right ≡ right_for (own_rights_in old.memory.entries old.memory.base) transaction e.0 asked
@@ -69,4 +70,5 @@ pub record IsRetrieved (old new : MemoryParts) (e : EndpointId) (bytes : Version
   pub answer :
       IsResponded old.memory new.memory.ram (buffers_in old.buffers e.0) bytes.version
       (response_to asked.handle transaction e.0 right) size
-  pub access : IsChanged changed transaction.ranges (Some e)
+  pub value : done.value ≡ Size size
+  pub access : IsChanged done.changed transaction.ranges (Some e)

@@ -17,19 +17,21 @@ pub struct Changed {
     pub endpoint: Option<EndpointId>,
 }
 
-/// What a send answers.
-#[derive(Drop)]
-pub struct Sent {
+/// What the caller of a call on memory is told, beside that it is done.
+#[derive(Clone, Copy, PartialEq, Eq)]
+pub enum Value {
+    /// Nothing more.
+    Nothing,
     /// The handle of the transaction that is open now.
-    pub handle: u64,
-    pub changed: Changed,
+    Handle(u64),
+    /// How many bytes the response in the caller's RX has.
+    Size(u32),
 }
 
-/// What a retrieve answers.
+/// What a call on memory answers that was done.
 #[derive(Drop)]
-pub struct Retrieved {
-    /// How many bytes the answer in the caller's RX has.
-    pub size: u32,
+pub struct Done {
+    pub value: Value,
     pub changed: Changed,
 }
 
@@ -75,7 +77,7 @@ impl Told {
         self.ranges.fill(ranges);
         self.endpoint = endpoint;
         Changed {
-            ranges: ranges.copied(),
+            ranges: ranges.copy(),
             endpoint,
         }
     }
@@ -90,7 +92,7 @@ impl Told {
         }
         self.is_told = false;
         Some(Changed {
-            ranges: self.ranges.copied(),
+            ranges: self.ranges.copy(),
             endpoint: self.endpoint,
         })
     }

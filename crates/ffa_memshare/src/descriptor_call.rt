@@ -1,18 +1,28 @@
 // SPDX-License-Identifier: MIT OR Apache-2.0
 //! Calls whose descriptor stands in TX.
-ghost use Rattle.std.specs.Prelude.{◌≡◌, length, [], OnOk, IfOk, Some, is_some, true};
+ghost use Rattle.std.specs.Prelude.{◌≡◌, length, [], IfOk, Some};
 ghost use Rattle.std.specs.Result.{result_err};
 ghost use Rattle.ffa_model.specs.MemorySend.{after_transfer};
 ghost use Rattle.ffa_model.specs.Buffers.{buffers_in};
 ghost use Rattle.ffa_model.specs.Calls.{first_refusal};
 ghost use Rattle.ffa_model.specs.State.{Buffers as Own};
 ghost use Rattle.ffa_rxtx.specs.Parts.{IsInRam};
+ghost use Rattle.ffa_rxtx.specs.Stored.{buffers_of};
 ghost use Rattle.ffa_memshare.specs.Scenes.{descriptor_in};
 
 use crate::page_run::PageRun;
 use ffa_model::{EndpointId, Refusal, Transfer, Version};
 use ffa_physmem::PhysMem;
-use ffa_rxtx::Buffers;
+use ffa_rxtx::{Buffers, Mapped};
+
+/// A descriptor that stands whole in its caller's TX.
+#[derive(Drop)]
+pub(crate) struct Descriptor<'m, M: PhysMem> {
+    /// Its bytes, where they lie.
+    pub(crate) bytes: PageRun<'m, M>,
+    /// The caller's buffers.
+    pub(crate) own: Mapped,
+}
 
 /// A call whose descriptor stands in TX.
 #[derive(Clone, Copy)]
@@ -26,27 +36,27 @@ pub struct DescriptorCall {
 impl DescriptorCall {
     ghost use Rattle.ffa_rxtx.specs.Parts.{IsInRam};
 
-    // The bytes of the caller's descriptor, where they lie in its TX, or why they don't stand whole in it.
+    // The caller's descriptor, or why it doesn't stand whole in TX.
     pub(crate) fn descriptor<'m, M: PhysMem>(
         &self,
         ram: &'m M,
         buffers: &Buffers,
         caller: EndpointId,
-    ) -> Result<PageRun<'m, M>, Refusal>
+    ) -> Result<Descriptor<'m, M>, Refusal>
         requires tx { (b : Own) → buffers_in buffers.now caller.0 ≡ Some b → IsInRam (length (M.ram ram.now).pages) b }
         ensures refusal { result_err result ≡ first_refusal (after_transfer buffers.now caller.0 self.now.transfer []) }
-        ensures buffers { OnOk result (is_some (buffers_in buffers.now caller.0) ≡ true) }
+        ensures own { IfOk result (λ found. Some (buffers_of found.own) ≡ buffers_in buffers.now caller.0) }
         ensures bytes { let descriptor = descriptor_in (M.ram ram.now) buffers.now caller.0 self.now in
-            IfOk result (λ bytes. bytes ≡ descriptor.bytes) }
+            IfOk result (λ found. found.bytes ≡ descriptor.bytes) }
     {
-        let Some(mapped) = buffers.of(caller) else {
+        let Some(own) = buffers.of(caller) else {
             return Err(Refusal::BuffersMissing);
         };
         let transfer = &self.transfer;
         if transfer.total != transfer.fragment {
             return Err(Refusal::Fragmented);
         }
-        if transfer.total as usize > mapped.room() {
+        if transfer.total as usize > own.room() {
             return Err(Refusal::DescriptorTooLong);
         }
         if transfer.address != 0 {
@@ -55,6 +65,7 @@ impl DescriptorCall {
         if transfer.pages != 0 {
             return Err(Refusal::BufferPagesGiven);
         }
-        Ok(PageRun::new(ram, mapped.tx, mapped.pages, transfer.total as usize))
+        let bytes = PageRun::new(ram, own.tx, own.pages, transfer.total as usize);
+        Ok(Descriptor { bytes, own })
     }
 }

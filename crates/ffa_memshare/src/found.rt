@@ -2,6 +2,7 @@
 //! What the checks of a call on memory find, for its effect.
 
 use ffa_model::Rights;
+use ffa_rxtx::Mapped;
 
 /// What a retrieve is done with.
 #[derive(Clone, Copy, PartialEq, Eq)]
@@ -10,6 +11,8 @@ pub struct FoundRight {
     pub slot: usize,
     /// The right that the caller gets.
     pub right: Rights,
+    /// The caller's buffers.
+    pub own: Mapped,
 }
 
 /// What a relinquish or a reclaim is done with.

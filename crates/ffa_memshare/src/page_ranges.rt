@@ -123,7 +123,7 @@ impl PageRanges {
     }
 
     /// The same ranges.
-    pub(crate) fn copied(&self) -> PageRanges
+    pub(crate) fn copy(&self) -> PageRanges
         ensures { result ≡ self.now }
     {
         let mut list = ArrayVec::new();

@@ -18,7 +18,7 @@ ghost use Rattle.ffa_memshare.specs.SlotChanges.{IsClosed};
 ghost use Rattle.ffa_memshare.specs.Steps.{EndsSettledFor, IsMomentFor};
 ghost use Rattle.ffa_memshare.specs.Stored.{open_in, transaction_in};
 
-use crate::changed::{Changed, News, changed_sender};
+use crate::changed::{Done, News, Value, changed_sender};
 use crate::marks::Mark;
 use crate::open_slot::OpenSlot;
 use crate::pool::Pool;
@@ -47,7 +47,7 @@ impl<O: Room<OpenSlot> + Drop> Pool<O> {
         handle: u64,
         flags: u32,
         news: &mut News,
-    ) -> Result<Changed, ErrorCode>
+    ) -> Result<Done, ErrorCode>
         requires { IsShared (memory_of (M.ram ram.old) layout.now pages.old) self.old.slots }
         ensures refusal { let own_rights = own_rights_in pages.old layout.now.base.0 in
             let transaction = transaction_in self.old.slots handle in
@@ -57,7 +57,8 @@ impl<O: Room<OpenSlot> + Drop> Pool<O> {
         ensures kept_ram { OnErr result (M.ram ram.new ≡ M.ram ram.old) }
         ensures kept_past { OnErr result (M.past ram.new ≡ M.past ram.old) }
         ensures kept_news { OnErr result (news.new ≡ news.old) }
-        ensures told { IfOk result (λ changed. news.new ≡ Some changed) }
+        ensures told { IfOk result (λ done. news.new ≡ Some done.changed) }
+        ensures nothing { IfOk result (λ done. done.value ≡ Value.Nothing) }
         ensures slot { OnOk result (IsClosed self.old self.new handle) }
         ensures open_transactions { OnOk result (open_in self.new ≡ closed (open_in self.old) handle) }
         ensures ram { let named = in_ranges layout.now.base.0 (named_ranges (transaction_in self.old.slots handle)) in
@@ -70,7 +71,7 @@ impl<O: Room<OpenSlot> + Drop> Pool<O> {
             OnOk result (IsMarked pages.old pages.new named (Mark.Named None)) }
         ensures changed { let transaction = transaction_in self.old.slots handle in
             let whose = changed_reclaimer transaction caller.0 in
-            IfOk result (λ changed. IsChanged changed (named_ranges transaction) whose) }
+            IfOk result (λ done. IsChanged done.changed (named_ranges transaction) whose) }
     {
         let found = self.check_reclaim(pages, layout.base, caller, handle, flags)?;
         let open = self.at(found.slot);
@@ -79,6 +80,7 @@ impl<O: Room<OpenSlot> + Drop> Pool<O> {
             .told
             .tell(&open.ranges, changed_sender(open.kind, caller));
         self.close(found.slot);
-        Ok(changed)
+        let value = Value::Nothing;
+        Ok(Done { value, changed })
     }
 }

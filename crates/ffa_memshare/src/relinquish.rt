@@ -15,7 +15,7 @@ ghost use Rattle.ffa_memshare.specs.Shared.{IsShared};
 ghost use Rattle.ffa_memshare.specs.Steps.{EndsSettledFor, IsMomentFor};
 ghost use Rattle.ffa_memshare.specs.Stored.{open_in};
 
-use crate::changed::{Changed, News};
+use crate::changed::{Done, News, Value};
 use crate::grants::NewRight;
 use crate::open_slot::OpenSlot;
 use crate::page_changes::change_pages;
@@ -46,7 +46,7 @@ impl<O: Room<OpenSlot> + Drop> Pool<O> {
         buffers: &Buffers,
         caller: EndpointId,
         news: &mut News,
-    ) -> Result<Changed, ErrorCode>
+    ) -> Result<Done, ErrorCode>
         requires shared { IsShared (memory_of (M.ram ram.old) layout.now pages.now) self.old.slots }
         requires caller { IsCaller (memory_of (M.ram ram.old) layout.now pages.now) buffers.now caller.0 }
         ensures refusal { let own = buffers_in buffers.now caller.0 in
@@ -56,11 +56,12 @@ impl<O: Room<OpenSlot> + Drop> Pool<O> {
         ensures kept_ram { OnErr result (M.ram ram.new ≡ M.ram ram.old) }
         ensures kept_past { OnErr result (M.past ram.new ≡ M.past ram.old) }
         ensures kept_news { OnErr result (news.new ≡ news.old) }
-        ensures told { IfOk result (λ changed. news.new ≡ Some changed) }
+        ensures told { IfOk result (λ done. news.new ≡ Some done.changed) }
+        ensures nothing { IfOk result (λ done. done.value ≡ Value.Nothing) }
         ensures done { let before = memory_parts (M.ram ram.old) layout.now pages.now buffers.now self.old in
             let after = memory_parts (M.ram ram.new) layout.now pages.now buffers.now self.new in
             let bytes = tx_in (M.ram ram.old) (buffers_in buffers.now caller.0) in
-            IfOk result (λ changed. IsRelinquished before after caller.0 bytes changed) }
+            IfOk result (λ done. IsRelinquished before after caller.0 bytes done.changed) }
         ensures steps { Only (M.past ram.old) (M.past ram.new)
             (IsMomentFor layout.now (M.ram ram.old) (M.ram ram.new)) }
         ensures ended { EndsSettledFor layout.now (M.ram ram.old) (M.ram ram.new) (M.past ram.new) }
@@ -72,6 +73,7 @@ impl<O: Room<OpenSlot> + Drop> Pool<O> {
         change_pages(ram, layout, pages, &open.ranges, index, nothing, found.zero);
         let changed = news.told.tell(&open.ranges, Some(caller));
         self.set_held(found.slot, caller, None);
-        Ok(changed)
+        let value = Value::Nothing;
+        Ok(Done { value, changed })
     }
 }

@@ -1,28 +1,31 @@
 // SPDX-License-Identifier: MIT OR Apache-2.0
 //! The response to a retrieve, where its caller reads it.
-ghost use Rattle.std.specs.Prelude.{◌≡◌, ◌<◌, ◌^◌, length, true, IsSomeAnd};
+ghost use Rattle.std.specs.Prelude.{◌≡◌, ◌<◌, ◌^◌, length, true, Some, IsSomeAnd};
 ghost use Rattle.ffa_model.specs.Buffers.{buffers_in, buffers_with_rx};
 ghost use Rattle.ffa_model.specs.ResponseBytes.{response_bytes, response_record, response_size};
 ghost use Rattle.ffa_model.specs.SendDescriptor.{page_total};
 ghost use Rattle.ffa_model.specs.State.{is_known_among};
 ghost use Rattle.ffa_physmem.specs.Moments.{Only};
 ghost use Rattle.ffa_rxtx.specs.Parts.{IsBesideRx, IsInRam, IsRxWriting, with_rx_bytes};
+ghost use Rattle.ffa_rxtx.specs.Stored.{buffers_of};
 
 use ffa_memdesc::write_response;
 use ffa_model::{EndpointId, Response, Version};
 use ffa_physmem::PhysMem;
-use ffa_rxtx::Buffers;
+use ffa_rxtx::{Buffers, Mapped};
 
-/// Writes a response in this version to the start of RX of an endpoint that has buffers, says that RX is
+/// Writes a response in this version to the start of RX of an endpoint with these buffers, says that RX is
 /// full, and answers how many bytes the response has. The other bytes of RX stay.
 pub fn respond<M: PhysMem>(
     ram: &mut M,
     buffers: &mut Buffers,
     endpoint: EndpointId,
+    own: Mapped,
     version: Version,
     response: &Response,
 ) -> u32
     requires known { is_known_among (length buffers.old) endpoint.0 ≡ true }
+    requires own { Some (buffers_of own) ≡ buffers_in buffers.old endpoint.0 }
     requires rx { IsSomeAnd (buffers_in buffers.old endpoint.0) (λ b. IsInRam (length (M.ram ram.old).pages) b) }
     requires total { page_total response.now.ranges.items < 2 ^ 32 }
     ensures size { result ≡ response_size version response.now.ranges.items }
@@ -33,14 +36,9 @@ pub fn respond<M: PhysMem>(
     ensures steps { let own = buffers_in buffers.old endpoint.0 in
         Only (M.past ram.old) (M.past ram.new) (λ _ s. IsRxWriting (M.ram ram.old) own s) }
 {
-    match buffers.of(endpoint) {
-        Some(mapped) => {
-            // Proof step: the ranges are `MOST_RANGES` at most.
-            let _ = response.ranges.as_slice();
-            let size = write_response(response, version, ram.page_mut(mapped.rx));
-            buffers.mark_full(endpoint);
-            size as u32
-        }
-        None => unreachable!(),
-    }
+    // Proof step: the ranges are `MOST_RANGES` at most.
+    let _ = response.ranges.as_slice();
+    let size = write_response(response, version, ram.page_mut(own.rx));
+    buffers.mark_full(endpoint);
+    size as u32
 }

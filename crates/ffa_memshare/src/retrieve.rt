@@ -12,6 +12,7 @@ ghost use Rattle.ffa_model.specs.RetrieveDescriptor.{retrieve_of};
 ghost use Rattle.ffa_model.specs.State.{Transaction};
 ghost use Rattle.ffa_pages.specs.Entry.{owner_at};
 ghost use Rattle.ffa_physmem.specs.Moments.{Only};
+ghost use Rattle.ffa_rxtx.specs.Stored.{buffers_of};
 ghost use Rattle.ffa_memshare.specs.Callers.{IsCaller, IsRxApart, IsRxApartOfOpen};
 ghost use Rattle.ffa_memshare.specs.Memory.{memory_of, memory_parts};
 ghost use Rattle.ffa_memshare.specs.Ranges.{ArePlaced, in_ranges};
@@ -21,8 +22,9 @@ ghost use Rattle.ffa_memshare.specs.Shared.{IsHeld, IsShared};
 ghost use Rattle.ffa_memshare.specs.Steps.{EndsSettledFor, IsMomentFor};
 ghost use Rattle.ffa_memshare.specs.Stored.{open_in, pool_slot, view_of};
 
-use crate::changed::{News, Retrieved};
+use crate::changed::{Done, News, Value};
 use crate::descriptor_call::DescriptorCall;
+use crate::found::FoundRight;
 use crate::grants::NewRight;
 use crate::marks::{Mark, mark_all};
 use crate::open_slot::OpenSlot;
@@ -58,7 +60,7 @@ impl<O: Room<OpenSlot> + Drop> Pool<O> {
         caller: EndpointId,
         call: &DescriptorCall,
         news: &mut News,
-    ) -> Result<Retrieved, ErrorCode>
+    ) -> Result<Done, ErrorCode>
         requires shared { IsShared (memory_of (M.ram ram.old) layout.now pages.old) self.old.slots }
         requires caller { IsCaller (memory_of (M.ram ram.old) layout.now pages.old) buffers.old caller.0 }
         ensures refusal { let parts = memory_parts (M.ram ram.old) layout.now pages.old buffers.old self.old in
@@ -70,12 +72,12 @@ impl<O: Room<OpenSlot> + Drop> Pool<O> {
         ensures kept_ram { OnErr result (M.ram ram.new ≡ M.ram ram.old) }
         ensures kept_past { OnErr result (M.past ram.new ≡ M.past ram.old) }
         ensures kept_news { OnErr result (news.new ≡ news.old) }
-        ensures told { IfOk result (λ retrieved. news.new ≡ Some retrieved.changed) }
+        ensures told { IfOk result (λ done. news.new ≡ Some done.changed) }
         ensures full { OnOk result (buffers.new ≡ buffers_with_rx buffers.old caller.0 true) }
         ensures done { let before = memory_parts (M.ram ram.old) layout.now pages.old buffers.old self.old in
             let after = memory_parts (M.ram ram.new) layout.now pages.new buffers.new self.new in
             let bytes = descriptor_in (M.ram ram.old) buffers.old caller.0 call.now in
-            IfOk result (λ retrieved. IsRetrieved before after caller bytes retrieved.size retrieved.changed) }
+            IfOk result (IsRetrieved before after caller bytes) }
         ensures steps { let before = memory_parts (M.ram ram.old) layout.now pages.old buffers.old self.old in
             IsRxApartOfOpen before caller.0
             → Only (M.past ram.old) (M.past ram.new) (IsMomentFor layout.now (M.ram ram.old) (M.ram ram.new)) }
@@ -86,10 +88,11 @@ impl<O: Room<OpenSlot> + Drop> Pool<O> {
         let found = self.check_retrieve(ram, layout, pages, buffers, caller, call)?;
         let open = self.at(found.slot);
         let version = call.version;
-        let size = open.hand_over(ram, layout, pages, buffers, caller, version, found.right);
+        let size = open.hand_over(ram, layout, pages, buffers, caller, version, &found);
         let changed = news.told.tell(&open.ranges, Some(caller));
         self.take(pages, layout.base, found.slot, caller, found.right);
-        Ok(Retrieved { size, changed })
+        let value = Value::Size(size);
+        Ok(Done { value, changed })
     }
 
     // Notes that an endpoint holds the open transaction in a slot with this right. The pages of a donate are
@@ -129,8 +132,8 @@ impl<O: Room<OpenSlot> + Drop> Pool<O> {
 }
 
 impl OpenTransaction {
-    // Gives an endpoint this right to the pages, and tells the endpoint so in its RX, in its version. RX is
-    // full then. It answers how many bytes that takes.
+    // Gives an endpoint the right that was found to the pages, and tells the endpoint so in its RX, in its
+    // version. RX is full then. It answers how many bytes that takes.
     fn hand_over<M: PhysMem, P: Room<KeptPage> + Drop>(
         &self,
         ram: &mut M,
@@ -139,13 +142,13 @@ impl OpenTransaction {
         buffers: &mut Buffers,
         caller: EndpointId,
         version: Version,
-        right: Rights,
+        found: &FoundRight,
     ) -> u32
         requires held { IsHeld (memory_of (M.ram ram.old) layout.now pages.now) (view_of self.now) }
         requires caller { IsCaller (memory_of (M.ram ram.old) layout.now pages.now) buffers.old caller.0 }
-        requires buffers { is_some (buffers_in buffers.old caller.0) ≡ true }
+        requires own { Some (buffers_of found.now.own) ≡ buffers_in buffers.old caller.0 }
         ensures answered { let before = memory_of (M.ram ram.old) layout.now pages.now in
-            let told = response_to self.now.handle (view_of self.now) caller.0 right in
+            let told = response_to self.now.handle (view_of self.now) caller.0 found.now.right in
             IsResponded before (M.ram ram.new) (buffers_in buffers.old caller.0) version told result }
         ensures full { buffers.new ≡ buffers_with_rx buffers.old caller.0 true }
         ensures steps { let before = memory_of (M.ram ram.old) layout.now pages.now in
@@ -158,10 +161,10 @@ impl OpenTransaction {
         // Proof step: the ranges are `MOST_RANGES` at most.
         let _ = self.ranges.len();
         let index = caller.place();
-        let to_caller = NewRight::Same(Some(right));
+        let to_caller = NewRight::Same(Some(found.right));
         change_pages(ram, layout, pages, &self.ranges, index, to_caller, false);
-        let response = self.response(caller, right);
-        respond(ram, buffers, caller, version, &response)
+        let response = self.response(caller, found.right);
+        respond(ram, buffers, caller, found.own, version, &response)
     }
 
     // What an endpoint is told that has this right to the pages.

@@ -18,7 +18,7 @@ ghost use Rattle.ffa_memshare.specs.Shared.{IsRoom};
 ghost use Rattle.ffa_memshare.specs.Steps.{EndsSettledFor, IsMomentFor};
 ghost use Rattle.ffa_memshare.specs.Stored.{open_in};
 
-use crate::changed::{News, Sent, changed_sender};
+use crate::changed::{Done, News, Value, changed_sender};
 use crate::descriptor_call::DescriptorCall;
 use crate::open_slot::OpenSlot;
 use crate::pool::Pool;
@@ -53,7 +53,7 @@ impl<O: Room<OpenSlot> + Drop> Pool<O> {
         kind: Kind,
         call: &DescriptorCall,
         news: &mut News,
-    ) -> Result<Sent, ErrorCode>
+    ) -> Result<Done, ErrorCode>
         requires room { IsRoom (memory_of (M.ram ram.old) layout.now pages.old) }
         requires caller { IsCaller (memory_of (M.ram ram.old) layout.now pages.old) buffers.now caller.0 }
         requires endpoints { length self.old.sent ≡ array_vec_len layout.now.regions }
@@ -67,12 +67,12 @@ impl<O: Room<OpenSlot> + Drop> Pool<O> {
         ensures kept_ram { OnErr result (M.ram ram.new ≡ M.ram ram.old) }
         ensures kept_past { OnErr result (M.past ram.new ≡ M.past ram.old) }
         ensures kept_news { OnErr result (news.new ≡ news.old) }
-        ensures told { IfOk result (λ sent. news.new ≡ Some sent.changed) }
-        ensures handle { IfOk result (λ sent. sent.handle ≡ next_handle (open_in self.old) caller.0) }
+        ensures told { IfOk result (λ done. news.new ≡ Some done.changed) }
+        ensures handle { IfOk result (λ done. done.value ≡ Value.Handle (next_handle (open_in self.old) caller.0)) }
         ensures sent { let before = memory_parts (M.ram ram.old) layout.now pages.old buffers.now self.old in
             let after = memory_parts (M.ram ram.new) layout.now pages.new buffers.now self.new in
             let bytes = descriptor_in (M.ram ram.old) buffers.now caller.0 call.now in
-            IfOk result (λ sent. IsSent before after caller.0 kind bytes sent.changed) }
+            IfOk result (λ done. IsSent before after caller.0 kind bytes done.changed) }
 
         // At each moment the walks of all endpoints at an address are those from before the call, or all are
         // those from behind.
@@ -89,6 +89,7 @@ impl<O: Room<OpenSlot> + Drop> Pool<O> {
             .told
             .tell(&transaction.ranges, changed_sender(kind, caller));
         self.open(slot, transaction);
-        Ok(Sent { handle, changed })
+        let value = Value::Handle(handle);
+        Ok(Done { value, changed })
     }
 }

@@ -47,7 +47,7 @@ pub struct OpenTransaction {
 }
 
 // The same receivers.
-fn copied(receivers: &ArrayVec<Receiver, MOST_RECEIVERS>) -> ArrayVec<Receiver, MOST_RECEIVERS>
+fn copy_of(receivers: &ArrayVec<Receiver, MOST_RECEIVERS>) -> ArrayVec<Receiver, MOST_RECEIVERS>
     ensures { result ≡ receivers.now }
 {
     let mut copy = ArrayVec::new();
@@ -87,7 +87,7 @@ impl OpenTransaction {
         self.sender = offer.sender;
         self.tag = offer.tag;
         self.zero = offer.zero;
-        self.receivers = copied(&offer.receivers);
+        self.receivers = copy_of(&offer.receivers);
         self.held = Holders::none();
     }
 
@@ -101,7 +101,7 @@ impl OpenTransaction {
         self.tag = other.tag;
         self.zero = other.zero;
         self.ranges.fill(&other.ranges);
-        self.receivers = copied(&other.receivers);
+        self.receivers = copy_of(&other.receivers);
         self.held.fill(&other.held);
     }
 
@@ -125,7 +125,7 @@ impl OpenTransaction {
     }
 
     // The right that an endpoint holds.
-    pub(crate) fn held(&self, endpoint: EndpointId) -> Option<Rights>
+    pub(crate) fn held_right(&self, endpoint: EndpointId) -> Option<Rights>
         ensures { result ≡ held_by (view_of self.now) endpoint.0 }
     {
         self.held.of(endpoint)
@@ -136,7 +136,7 @@ impl OpenTransaction {
         ensures { let transaction = view_of self.now in (page : Page) → page.own_right ≡ own_right
             → result ≡ right_by endpoint.0 page transaction (held_by transaction endpoint.0) }
     {
-        let held = self.held(endpoint);
+        let held = self.held_right(endpoint);
         if held.is_some() {
             return held;
         }

@@ -12,7 +12,9 @@ use Rattle.ffa_model.specs.Calls.{Service, answered, first_failure, first_refusa
 use Rattle.ffa_model.specs.RefusalCodes.{code_of}
 use Rattle.ffa_model.specs.State.{State}
 use Rattle.ffa_model.proofs.Guards.{failure-code}
-use Rattle.ffa_spmc.specs.Replies.{reply_of}
+use Rattle.ffa_memshare.specs.declared.changed.Done.{Done}
+use Rattle.ffa_memshare.specs.declared.changed.Value.TheVariants.{Nothing}
+use Rattle.ffa_spmc.specs.Replies.{reply_of, value_reply}
 
 -- facts of a refusal, or of what was done, joined
 pub refused-both : {X : Type 0} (r : Result X ErrorCode) {P Q R : Type 0} → (P → Q → R) → OnErr r P → OnErr r Q → OnErr r R
@@ -36,6 +38,10 @@ done-with (Err code) P so p = tt
 pub done-replies : {X : Type 0} (r : Result X ErrorCode) → IfOk r (λ done. success 0 0 ≡ success 0 0)
 done-replies (Ok done) = refl
 done-replies (Err code) = tt
+
+pub nothing-replies : (r : Result Done ErrorCode) → IfOk r (λ done. done.value ≡ Nothing) → IfOk r (λ done. value_reply done.value ≡ success 0 0)
+nothing-replies (Ok done) is = ap value_reply is
+nothing-replies (Err code) is = tt
 
 -- A call whose guards refuse it just where r does, and which leaves the state and the reply that r gives, is served.
 module _ {X : Type 0} (s new : State) (c : Service) (r : Result X ErrorCode) (told : X → Reply) where

@@ -31,7 +31,8 @@ use Rattle.ffa_laws.proofs.SendLaws.{IsOffer, offer}
 use Rattle.ffa_laws.proofs.SoundSends.{send-sound}
 use Rattle.ffa_pages.specs.Entry.{Entry, entry_at, slot_at}
 use Rattle.ffa_memshare.specs.declared.changed.Changed.{Changed}
-use Rattle.ffa_memshare.specs.declared.changed.Sent.{Sent}
+use Rattle.ffa_memshare.specs.declared.changed.Done.{Done}
+use Rattle.ffa_memshare.specs.declared.changed.Value.TheVariants.{Handle}
 use Rattle.ffa_memshare.specs.Changed.{changed_sender}
 use Rattle.ffa_memshare.specs.Changes.{IsMarked, IsMoved}
 use Rattle.ffa_memshare.specs.Grants.{new_right, with_rights}
@@ -42,7 +43,7 @@ use Rattle.ffa_memshare.specs.Stored.{Pooled, open_in, pool_slot}
 use Rattle.ffa_memshare.specs.declared.marks.Mark.TheVariants.{Named}
 use Rattle.ffa_spmc.specs.AccessChange.{IsAccessChange, is_whose}
 use Rattle.ffa_spmc.specs.Meaning.{AreOpenTransactions, IsManager, IsOffered, Parts, access_by_place, state_of}
-use Rattle.ffa_spmc.specs.Replies.{handle_or_error}
+use Rattle.ffa_spmc.specs.Replies.{value_or_error, value_reply}
 use Rattle.ffa_spmc.specs.Unowned.{KeepsUnowned}
 use Rattle.ffa_spmc.proofs.Answered.{answered-by, done-with, refused-so}
 use Rattle.ffa_spmc.proofs.Closes.{open-opened, slot-opened}
@@ -198,30 +199,30 @@ module _ (x : Parts) (machine : IsManager x) (e : ℕ) (at : e ≡ x.kept.chain.
         (λ f p lt kept. ap (λ (z : State). access z f p) state-from ∙ sent-kept s machine.sound f p lt kind r good.sender good.free (by-runner f p ∙ kept))
 
   -- the clauses of the pool's call
-  module _ (result : Result Sent ErrorCode)
+  module _ (result : Result Done ErrorCode)
       (refusal : result_err result ≡ first_failure (send_guards (scene_in (memory_parts_in x)) e a (send_of kind bytes)))
       (kept : OnErr result (pool ≡ x.kept.pool)) (kept_pages : OnErr result (pages ≡ x.kept.pages)) (kept_ram : OnErr result (ram ≡ x.ram))
-      (handle : IfOk result (λ sent. sent.handle ≡ next_handle (open_in x.kept.pool) e)) (done : IfOk result (λ sent. IsDone sent.changed)) where
+      (handle : IfOk result (λ done. done.value ≡ Handle (next_handle (open_in x.kept.pool) e))) (done : IfOk result (λ sent. IsDone sent.changed)) where
     refuses : result_err result ≡ first_failure guards
     refuses = refusal ∙ (λ i. first_failure (send_guards (scene-is x machine i) (at i) a (read-is i)))
 
     unchanged : OnErr result (after_offer ≡ x)
     unchanged = of result kept kept_pages kept_ram
       where
-        of : (r : Result Sent ErrorCode) → OnErr r (pool ≡ x.kept.pool) → OnErr r (pages ≡ x.kept.pages) → OnErr r (ram ≡ x.ram) → OnErr r (after_offer ≡ x)
+        of : (r : Result Done ErrorCode) → OnErr r (pool ≡ x.kept.pool) → OnErr r (pages ≡ x.kept.pages) → OnErr r (ram ≡ x.ram) → OnErr r (after_offer ≡ x)
         of (Ok given) a b c = tt
         of (Err code) same_pool same_pages same_ram = λ i. record x { ram = same_ram i; kept = record x.kept { pages = same_pages i; pool = same_pool i } }
 
-    told : IfOk result (λ sent. handle_reply sent.handle ≡ (memory_send s kind a).reply)
+    told : IfOk result (λ done. value_reply done.value ≡ (memory_send s kind a).reply)
     told = of result handle
       where
-        of : (r : Result Sent ErrorCode) → IfOk r (λ sent. sent.handle ≡ next_handle (open_in x.kept.pool) e) → IfOk r (λ sent. handle_reply sent.handle ≡ (memory_send s kind a).reply)
-        of (Ok sent) is = ap handle_reply (is ∙ ap (next_handle (open_of s)) at)
+        of : (r : Result Done ErrorCode) → IfOk r (λ done. done.value ≡ Handle (next_handle (open_in x.kept.pool) e)) → IfOk r (λ done. value_reply done.value ≡ (memory_send s kind a).reply)
+        of (Ok sent) is = ap value_reply is ∙ ap (λ (f : ℕ). handle_reply (next_handle (open_of s) f)) at
         of (Err code) is = tt
 
-    pub offer-served : replied (state_of after_offer) (handle_or_error result) ≡ served s (memory_send s kind a)
+    pub offer-served : replied (state_of after_offer) (value_or_error result) ≡ served s (memory_send s kind a)
     offer-served =
-        answered-by s (state_of after_offer) (memory_send s kind a) result (λ (sent : Sent). handle_reply sent.handle) refuses
+        answered-by s (state_of after_offer) (memory_send s kind a) result (λ (done : Done). value_reply done.value) refuses
         (refused-so result (λ is. ap state_of is) unchanged)
         (done-with result (λ sent. IsDone sent.changed) (λ sent none facts. state-sent sent.changed (sym none ∙ refuses) facts) done)
         told
@@ -229,21 +230,21 @@ module _ (x : Parts) (machine : IsManager x) (e : ℕ) (at : e ≡ x.kept.chain.
     pub offer-machine : IsManager after_offer
     offer-machine = of result refuses unchanged done
       where
-        of : (r : Result Sent ErrorCode) → result_err r ≡ first_failure guards → OnErr r (after_offer ≡ x) → IfOk r (λ sent. IsDone sent.changed) → IsManager after_offer
+        of : (r : Result Done ErrorCode) → result_err r ≡ first_failure guards → OnErr r (after_offer ≡ x) → IfOk r (λ sent. IsDone sent.changed) → IsManager after_offer
         of (Ok sent) passes same facts = machine-sent sent.changed passes facts
         of (Err code) fails same facts = subst IsManager (sym same) machine
 
     pub offer-unowned : KeepsUnowned s x.ram ram
     offer-unowned = of result refuses kept_ram done
       where
-        of : (r : Result Sent ErrorCode) → result_err r ≡ first_failure guards → OnErr r (ram ≡ x.ram) → IfOk r (λ sent. IsDone sent.changed) → KeepsUnowned s x.ram ram
+        of : (r : Result Done ErrorCode) → result_err r ≡ first_failure guards → OnErr r (ram ≡ x.ram) → IfOk r (λ sent. IsDone sent.changed) → KeepsUnowned s x.ram ram
         of (Ok sent) passes same facts = unowned-sent sent.changed passes facts
         of (Err code) fails same facts = unowned-same s x.ram ram same
 
-    pub offer-changes : IsAccessChange s (state_of after_offer) (option_map (λ (sent : Sent). sent.changed) (result_ok result))
+    pub offer-changes : IsAccessChange s (state_of after_offer) (option_map (λ (done : Done). done.changed) (result_ok result))
     offer-changes = of result refuses unchanged done
       where
-        of : (r : Result Sent ErrorCode) → result_err r ≡ first_failure guards → OnErr r (after_offer ≡ x) → IfOk r (λ sent. IsDone sent.changed)
-            → IsAccessChange s (state_of after_offer) (option_map (λ (sent : Sent). sent.changed) (result_ok r))
+        of : (r : Result Done ErrorCode) → result_err r ≡ first_failure guards → OnErr r (after_offer ≡ x) → IfOk r (λ sent. IsDone sent.changed)
+            → IsAccessChange s (state_of after_offer) (option_map (λ (done : Done). done.changed) (result_ok r))
         of (Ok sent) passes same facts = access-sent sent.changed passes facts
         of (Err code) fails same facts = none-changed s (state_of after_offer) (λ f p. ap (λ (y : Parts). access (state_of y) f p) same)

@@ -2,6 +2,7 @@
 -- FFA_MEM_RELINQUISH changes the state as the small machine's.
 use Rattle.std.proofs.Common.{◌≡◌, ◌∙◌, ℕ, ◌<◌, Bool, true, List, length, Some, None, Result, Ok, Err, refl, sym, ap, subst, inr}
 use Rattle.std.specs.Prelude.{◌==◌, ◌&&◌, IfOk, OnErr}
+use Rattle.std.specs.Option.{option_map}
 use Rattle.std.specs.Result.{result_err, result_ok}
 use Rattle.std.proofs.lemmas.Bool.{false≢true}
 use Rattle.arrayvec.specs.ArrayVec.{array_vec_len}
@@ -22,6 +23,8 @@ use Rattle.ffa_model.specs.Transactions.{not_holding, open_of, with_open, with_t
 use Rattle.ffa_model.proofs.Guards.{guard-passes}
 use Rattle.ffa_model.proofs.KeptCalls.{relinquished-sound}
 use Rattle.ffa_memshare.specs.declared.changed.Changed.{Changed}
+use Rattle.ffa_memshare.specs.declared.changed.Done.{Done}
+use Rattle.ffa_memshare.specs.declared.changed.Value.TheVariants.{Nothing}
 use Rattle.ffa_memshare.specs.Changes.{IsMoved}
 use Rattle.ffa_memshare.specs.Grants.{with_rights}
 use Rattle.ffa_memshare.specs.Ranges.{in_ranges}
@@ -30,9 +33,9 @@ use Rattle.ffa_memshare.specs.Stored.{Pooled, open_in}
 use Rattle.ffa_rxtx.specs.Parts.{tx_in}
 use Rattle.ffa_spmc.specs.AccessChange.{IsAccessChange}
 use Rattle.ffa_spmc.specs.Meaning.{AreOpenTransactions, IsManager, Parts, access_by_place, state_of}
-use Rattle.ffa_spmc.specs.Replies.{done_or_error}
+use Rattle.ffa_spmc.specs.Replies.{value_or_error, value_reply}
 use Rattle.ffa_spmc.specs.Unowned.{KeepsUnowned}
-use Rattle.ffa_spmc.proofs.Answered.{answered-by, done-replies, done-with, refused-so}
+use Rattle.ffa_spmc.proofs.Answered.{answered-by, nothing-replies, done-with, refused-so}
 use Rattle.ffa_spmc.proofs.Closes.{open-reheld}
 use Rattle.ffa_spmc.proofs.Granted.{relinquish-granted}
 use Rattle.ffa_spmc.proofs.AccessChanges.{access-changed, none-changed, relinquished-kept, relinquished-lost}
@@ -133,8 +136,9 @@ module _ (x : Parts) (machine : IsManager x) (e : ℕ) (at : e ≡ x.kept.chain.
         (λ f p lt kept. ap (λ (z : State). access z f p) state-from ∙ relinquished-kept s machine.sound f p lt d.handle t was d refl (by-runner f p ∙ kept))
 
   -- the clauses of the pool's call
-  module _ (r : Result Changed ErrorCode) (refusal : result_err r ≡ first_failure (relinquish_guards (buffers_in x.kept.buffers e) (open_in x.kept.pool) e (relinquish_of bytes)))
-      (kept : OnErr r (pool ≡ x.kept.pool)) (kept_ram : OnErr r (ram ≡ x.ram)) (done : IfOk r IsDone) where
+  module _ (r : Result Done ErrorCode) (refusal : result_err r ≡ first_failure (relinquish_guards (buffers_in x.kept.buffers e) (open_in x.kept.pool) e (relinquish_of bytes)))
+      (kept : OnErr r (pool ≡ x.kept.pool)) (kept_ram : OnErr r (ram ≡ x.ram))
+      (nothing : IfOk r (λ (d : Done). d.value ≡ Nothing)) (done : IfOk r (λ (d : Done). IsDone d.changed)) where
     refuses : result_err r ≡ first_failure guards
     refuses =
         refusal
@@ -143,34 +147,34 @@ module _ (x : Parts) (machine : IsManager x) (e : ℕ) (at : e ≡ x.kept.chain.
     unchanged : OnErr r (after_relinquish ≡ x)
     unchanged = of r kept kept_ram
       where
-        of : (r : Result Changed ErrorCode) → OnErr r (pool ≡ x.kept.pool) → OnErr r (ram ≡ x.ram) → OnErr r (after_relinquish ≡ x)
-        of (Ok changed) a b = tt
+        of : (r : Result Done ErrorCode) → OnErr r (pool ≡ x.kept.pool) → OnErr r (ram ≡ x.ram) → OnErr r (after_relinquish ≡ x)
+        of (Ok d) a b = tt
         of (Err code) same_pool same_ram = λ i. record x { ram = same_ram i; kept = record x.kept { pool = same_pool i } }
 
-    pub relinquish-served : replied (state_of after_relinquish) (done_or_error r) ≡ served s (memory_relinquish s)
+    pub relinquish-served : replied (state_of after_relinquish) (value_or_error r) ≡ served s (memory_relinquish s)
     relinquish-served =
-        answered-by s (state_of after_relinquish) (memory_relinquish s) r (λ done. success 0 0) refuses
+        answered-by s (state_of after_relinquish) (memory_relinquish s) r (λ (d : Done). value_reply d.value) refuses
         (refused-so r (λ is. ap state_of is) unchanged)
-        (done-with r IsDone (λ changed none facts. state-relinquished changed (sym none ∙ refuses) facts) done)
-        (done-replies r)
+        (done-with r (λ (d : Done). IsDone d.changed) (λ d none facts. state-relinquished d.changed (sym none ∙ refuses) facts) done)
+        (nothing-replies r nothing)
 
     pub relinquish-machine : IsManager after_relinquish
     relinquish-machine = of r refuses unchanged done
       where
-        of : (r : Result Changed ErrorCode) → result_err r ≡ first_failure guards → OnErr r (after_relinquish ≡ x) → IfOk r IsDone → IsManager after_relinquish
-        of (Ok changed) passes same facts = machine-relinquished changed passes facts
+        of : (r : Result Done ErrorCode) → result_err r ≡ first_failure guards → OnErr r (after_relinquish ≡ x) → IfOk r (λ (d : Done). IsDone d.changed) → IsManager after_relinquish
+        of (Ok d) passes same facts = machine-relinquished d.changed passes facts
         of (Err code) fails same facts = subst IsManager (sym same) machine
 
     pub relinquish-unowned : KeepsUnowned s x.ram ram
     relinquish-unowned = of r refuses kept_ram done
       where
-        of : (r : Result Changed ErrorCode) → result_err r ≡ first_failure guards → OnErr r (ram ≡ x.ram) → IfOk r IsDone → KeepsUnowned s x.ram ram
-        of (Ok changed) passes same facts = unowned-relinquished changed passes facts
+        of : (r : Result Done ErrorCode) → result_err r ≡ first_failure guards → OnErr r (ram ≡ x.ram) → IfOk r (λ (d : Done). IsDone d.changed) → KeepsUnowned s x.ram ram
+        of (Ok d) passes same facts = unowned-relinquished d.changed passes facts
         of (Err code) fails same facts = unowned-same s x.ram ram same
 
-    pub relinquish-changes : IsAccessChange s (state_of after_relinquish) (result_ok r)
+    pub relinquish-changes : IsAccessChange s (state_of after_relinquish) (option_map (λ (d : Done). d.changed) (result_ok r))
     relinquish-changes = of r refuses unchanged done
       where
-        of : (r : Result Changed ErrorCode) → result_err r ≡ first_failure guards → OnErr r (after_relinquish ≡ x) → IfOk r IsDone → IsAccessChange s (state_of after_relinquish) (result_ok r)
-        of (Ok changed) passes same facts = access-relinquished changed passes facts
+        of : (r : Result Done ErrorCode) → result_err r ≡ first_failure guards → OnErr r (after_relinquish ≡ x) → IfOk r (λ (d : Done). IsDone d.changed) → IsAccessChange s (state_of after_relinquish) (option_map (λ (d : Done). d.changed) (result_ok r))
+        of (Ok d) passes same facts = access-relinquished d.changed passes facts
         of (Err code) fails same facts = none-changed s (state_of after_relinquish) (λ f p. ap (λ (y : Parts). access (state_of y) f p) same)

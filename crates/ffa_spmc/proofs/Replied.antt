@@ -16,6 +16,9 @@ use Rattle.ffa_model.specs.Refusals.{is_error}
 use Rattle.ffa_model.specs.State.{Buffers, State}
 use Rattle.ffa_model.specs.Step.{service}
 use Rattle.ffa_memshare.specs.declared.changed.Changed.{Changed}
+use Rattle.ffa_memshare.specs.declared.changed.Done.{Done}
+use Rattle.ffa_memshare.specs.declared.changed.Value.{Value}
+use Rattle.ffa_memshare.specs.declared.changed.Value.TheVariants.{Nothing, Handle, Size}
 use Rattle.ffa_memshare.specs.Stored.{Pooled}
 use Rattle.ffa_pages.specs.Entry.{Entry}
 use Rattle.ffa_physmem.specs.Moments.{Step}
@@ -24,7 +27,7 @@ use Rattle.ffa_spmc.specs.declared.answer.Answer.{Answer}
 use Rattle.ffa_spmc.specs.AccessChange.{IsAccessChange}
 use Rattle.ffa_spmc.specs.Managed.{Managed}
 use Rattle.ffa_spmc.specs.Meaning.{Parts, state_of}
-use Rattle.ffa_spmc.specs.Replies.{done_or_error, reply_of, reply_or_error}
+use Rattle.ffa_spmc.specs.Replies.{done_or_error, reply_of, reply_or_error, value_or_error, value_reply}
 use Rattle.ffa_spmc.specs.Served.{IsAnswered, IsReplied, IsTold}
 use Rattle.ffa_spmc.specs.Moments.{AreMoments}
 use Rattle.ffa_spmc.specs.Unowned.{KeepsUnowned}
@@ -40,6 +43,15 @@ pub refused-told : {X P : Type 0} (told : X → Reply) (r : Result X ErrorCode) 
     → ((x : X) → is_error (told x) ≡ false) → OnErr r P → is_error reply ≡ true → P
 refused-told told (Ok x) reply is plain kept error = absurd (true≢false (sym error ∙ ap is_error is ∙ plain x))
 refused-told told (Err code) reply is plain kept error = kept
+
+-- a value is no error
+plain-value : (value : Value) → is_error (value_reply value) ≡ false
+plain-value Nothing = refl
+plain-value (Handle h) = refl
+plain-value (Size size) = refl
+
+pub refused-value : {P : Type 0} (r : Result Done ErrorCode) (reply : Reply) → reply ≡ value_or_error r → OnErr r P → is_error reply ≡ true → P
+refused-value r reply is kept = refused-told (λ (done : Done). value_reply done.value) r reply is (λ done. plain-value done.value) kept
 
 pub refused-done : {X P : Type 0} (r : Result X ErrorCode) (reply : Reply) → reply ≡ done_or_error r → OnErr r P → is_error reply ≡ true → P
 refused-done r reply is kept = refused-told (λ done. success 0 0) r reply is (λ done. refl) kept

@@ -39,7 +39,7 @@ use Rattle.ffa_model.proofs.KeptCalls.{taken-sound}
 use Rattle.ffa_laws.proofs.SoundOperations.{call-sound}
 use Rattle.ffa_pages.specs.Entry.{Entry}
 use Rattle.ffa_rxtx.specs.Parts.{candidates_in, with_rx_bytes}
-use Rattle.ffa_memshare.specs.declared.changed.Retrieved.{Retrieved as Taken}
+use Rattle.ffa_memshare.specs.declared.changed.Done.{Done}
 use Rattle.ffa_memshare.specs.Changes.{IsMoved}
 use Rattle.ffa_memshare.specs.Grants.{with_rights}
 use Rattle.ffa_memshare.specs.Named.{own_rights_in}
@@ -50,7 +50,7 @@ use Rattle.ffa_memshare.specs.SlotChanges.{IsClosed, IsHeldBy}
 use Rattle.ffa_memshare.specs.Stored.{Pooled, open_in, pool_slot}
 use Rattle.ffa_spmc.specs.AccessChange.{IsAccessChange}
 use Rattle.ffa_spmc.specs.Meaning.{AreOpenTransactions, HasTables, IsManager, IsOffered, Parts, access_by_place, state_of}
-use Rattle.ffa_spmc.specs.Replies.{retrieved_or_error}
+use Rattle.ffa_spmc.specs.Replies.{value_or_error, value_reply}
 use Rattle.ffa_spmc.specs.Unowned.{KeepsUnowned}
 use Rattle.ffa_spmc.proofs.Answered.{answered-by, passed-state, refused-so}
 use Rattle.ffa_spmc.proofs.Candidates.{candidates-are}
@@ -98,13 +98,13 @@ module _ (x : Parts) (machine : IsManager x) (e : EndpointId) (at : e.0 ≡ x.ke
   guards = (memory_retrieve s registers).guards
 
   -- what the pool has done
-  abbrev IsDone : Taken → Type 0
-  IsDone taken = IsRetrieved (memory_parts_in x) (memory_parts_in after_retrieve) e bytes taken.size taken.changed
+  abbrev IsDone : Done → Type 0
+  IsDone taken = IsRetrieved (memory_parts_in x) (memory_parts_in after_retrieve) e bytes taken
 
   descriptor-is : retrieve_of e.0 bytes ≡ retrieve_read s total
   descriptor-is = λ i. retrieve_of (at i) (in_version (spoken i) (take total (sent-is x machine e.0 at i)))
 
-  module _ (taken : Taken) (none : None ≡ first_failure guards) (done : IsDone taken) (full : buffers ≡ buffers_with_rx x.kept.buffers e.0 true) where
+  module _ (taken : Done) (none : None ≡ first_failure guards) (done : IsDone taken) (full : buffers ≡ buffers_with_rx x.kept.buffers e.0 true) where
     abbrev d : RetrieveDesc
     d = done.asked
 
@@ -248,9 +248,9 @@ module _ (x : Parts) (machine : IsManager x) (e : EndpointId) (at : e.0 ≡ x.ke
         (unowned-moved x machine done.answer.granted (place e.0) t.ranges (λ p. Some right) false moves (open-entered x machine d.handle t was))
         (unowned-filled x machine e.0 (runner-there x machine e.0 at) done.answer.granted answer))
 
-    pub length-retrieved : Retrieved taken.size ≡ (memory_retrieve s registers).reply
+    pub length-retrieved : value_reply taken.value ≡ (memory_retrieve s registers).reply
     length-retrieved =
-        ap Retrieved (done.answer.bytes ∙ ap (λ (v : Version). response_size v t.ranges) spoken
+        ap value_reply done.value ∙ ap Retrieved (done.answer.bytes ∙ ap (λ (v : Version). response_size v t.ranges) spoken
         ∙ sym (ap (response_length s) read ∙ ap (λ o. option_map_or (λ (u : Transaction). response_size (version_of s s.runner) u.ranges) o 0) was))
 
     -- of access
@@ -279,7 +279,7 @@ module _ (x : Parts) (machine : IsManager x) (e : EndpointId) (at : e.0 ≡ x.ke
         other same = false≢true (sym offered.other ∙ ap (λ (f : ℕ). is_receiver f t) same ∙ receiver)
 
   -- the clauses of the pool's call
-  module _ (r : Result Taken ErrorCode)
+  module _ (r : Result Done ErrorCode)
       (refusal : result_err r ≡ first_failure (retrieve_guards
       (scene_in (memory_parts_in x)) e.0 registers (retrieve_of e.0 bytes)))
       (kept : OnErr r (pool ≡ x.kept.pool)) (kept_pages : OnErr r (pages ≡ x.kept.pages)) (kept_buffers : OnErr r (buffers ≡ x.kept.buffers)) (kept_ram : OnErr r (ram ≡ x.ram))
@@ -290,49 +290,49 @@ module _ (x : Parts) (machine : IsManager x) (e : EndpointId) (at : e.0 ≡ x.ke
     unchanged : OnErr r (after_retrieve ≡ x)
     unchanged = of r kept kept_pages kept_buffers kept_ram
       where
-        of : (r : Result Taken ErrorCode) → OnErr r (pool ≡ x.kept.pool) → OnErr r (pages ≡ x.kept.pages) → OnErr r (buffers ≡ x.kept.buffers) → OnErr r (ram ≡ x.ram) → OnErr r (after_retrieve ≡ x)
+        of : (r : Result Done ErrorCode) → OnErr r (pool ≡ x.kept.pool) → OnErr r (pages ≡ x.kept.pages) → OnErr r (buffers ≡ x.kept.buffers) → OnErr r (ram ≡ x.ram) → OnErr r (after_retrieve ≡ x)
         of (Ok taken) a b c d = tt
         of (Err code) same_pool same_pages same_buffers same_ram = λ i. record x { ram = same_ram i; kept = record x.kept { pages = same_pages i; pool = same_pool i; buffers = same_buffers i } }
 
     state-done : OnOk r (state_of after_retrieve ≡ retrieved s (retrieve_read s total))
     state-done = of r refuses full done
       where
-        of : (r : Result Taken ErrorCode) → result_err r ≡ first_failure guards → OnOk r (buffers ≡ buffers_with_rx x.kept.buffers e.0 true) → IfOk r IsDone
+        of : (r : Result Done ErrorCode) → result_err r ≡ first_failure guards → OnOk r (buffers ≡ buffers_with_rx x.kept.buffers e.0 true) → IfOk r IsDone
             → OnOk r (state_of after_retrieve ≡ retrieved s (retrieve_read s total))
         of (Ok taken) none fills facts = state-retrieved taken none facts fills
         of (Err code) fails fills facts = tt
 
-    told : IfOk r (λ taken. Retrieved taken.size ≡ (memory_retrieve s registers).reply)
+    told : IfOk r (λ taken. value_reply taken.value ≡ (memory_retrieve s registers).reply)
     told = of r refuses full done
       where
-        of : (r : Result Taken ErrorCode) → result_err r ≡ first_failure guards → OnOk r (buffers ≡ buffers_with_rx x.kept.buffers e.0 true) → IfOk r IsDone
-            → IfOk r (λ taken. Retrieved taken.size ≡ (memory_retrieve s registers).reply)
+        of : (r : Result Done ErrorCode) → result_err r ≡ first_failure guards → OnOk r (buffers ≡ buffers_with_rx x.kept.buffers e.0 true) → IfOk r IsDone
+            → IfOk r (λ taken. value_reply taken.value ≡ (memory_retrieve s registers).reply)
         of (Ok taken) none fills facts = length-retrieved taken none facts fills
         of (Err code) fails fills facts = tt
 
-    pub retrieve-served : replied (state_of after_retrieve) (retrieved_or_error r) ≡ served s (memory_retrieve s registers)
+    pub retrieve-served : replied (state_of after_retrieve) (value_or_error r) ≡ served s (memory_retrieve s registers)
     retrieve-served =
-        answered-by s (state_of after_retrieve) (memory_retrieve s registers) r (λ (taken : Taken). Retrieved taken.size) refuses
+        answered-by s (state_of after_retrieve) (memory_retrieve s registers) r (λ (taken : Done). value_reply taken.value) refuses
         (refused-so r (λ is. ap state_of is) unchanged) state-done told
 
     pub retrieve-machine : IsManager after_retrieve
     retrieve-machine = of r refuses unchanged full done
       where
-        of : (r : Result Taken ErrorCode) → result_err r ≡ first_failure guards → OnErr r (after_retrieve ≡ x) → OnOk r (buffers ≡ buffers_with_rx x.kept.buffers e.0 true) → IfOk r IsDone → IsManager after_retrieve
+        of : (r : Result Done ErrorCode) → result_err r ≡ first_failure guards → OnErr r (after_retrieve ≡ x) → OnOk r (buffers ≡ buffers_with_rx x.kept.buffers e.0 true) → IfOk r IsDone → IsManager after_retrieve
         of (Ok taken) none same fills facts = machine-retrieved taken none facts fills
         of (Err code) fails same fills facts = subst IsManager (sym same) machine
 
     pub retrieve-unowned : KeepsUnowned s x.ram ram
     retrieve-unowned = of r refuses kept_ram full done
       where
-        of : (r : Result Taken ErrorCode) → result_err r ≡ first_failure guards → OnErr r (ram ≡ x.ram) → OnOk r (buffers ≡ buffers_with_rx x.kept.buffers e.0 true) → IfOk r IsDone → KeepsUnowned s x.ram ram
+        of : (r : Result Done ErrorCode) → result_err r ≡ first_failure guards → OnErr r (ram ≡ x.ram) → OnOk r (buffers ≡ buffers_with_rx x.kept.buffers e.0 true) → IfOk r IsDone → KeepsUnowned s x.ram ram
         of (Ok taken) none same fills facts = unowned-retrieved taken none facts fills
         of (Err code) fails same fills facts = unowned-same s x.ram ram same
 
-    pub retrieve-changes : IsAccessChange s (state_of after_retrieve) (option_map (λ (taken : Taken). taken.changed) (result_ok r))
+    pub retrieve-changes : IsAccessChange s (state_of after_retrieve) (option_map (λ (taken : Done). taken.changed) (result_ok r))
     retrieve-changes = of r refuses unchanged full done
       where
-        of : (r : Result Taken ErrorCode) → result_err r ≡ first_failure guards → OnErr r (after_retrieve ≡ x) → OnOk r (buffers ≡ buffers_with_rx x.kept.buffers e.0 true) → IfOk r IsDone
-            → IsAccessChange s (state_of after_retrieve) (option_map (λ (taken : Taken). taken.changed) (result_ok r))
+        of : (r : Result Done ErrorCode) → result_err r ≡ first_failure guards → OnErr r (after_retrieve ≡ x) → OnOk r (buffers ≡ buffers_with_rx x.kept.buffers e.0 true) → IfOk r IsDone
+            → IsAccessChange s (state_of after_retrieve) (option_map (λ (taken : Done). taken.changed) (result_ok r))
         of (Ok taken) none same fills facts = access-retrieved taken none facts fills
         of (Err code) fails same fills facts = none-changed s (state_of after_retrieve) (λ f p. ap (λ (y : Parts). access (state_of y) f p) same)

@@ -8,8 +8,9 @@ use Rattle.ffa_model.specs.declared.operation.ErrorCode.{ErrorCode}
 use Rattle.ffa_model.specs.declared.operation.FaultKind.{FaultKind}
 use Rattle.ffa_model.specs.declared.operation.Outcome.{Outcome}
 use Rattle.ffa_model.specs.declared.operation.Outcome.TheVariants.{Fault}
-use Rattle.ffa_memshare.specs.declared.changed.Retrieved.{Retrieved as Taken}
-use Rattle.ffa_memshare.specs.declared.changed.Sent.{Sent}
+use Rattle.ffa_memshare.specs.declared.changed.Done.{Done}
+use Rattle.ffa_memshare.specs.declared.changed.Value.{Value}
+use Rattle.ffa_memshare.specs.declared.changed.Value.TheVariants.{Nothing, Handle, Size}
 use Rattle.ffa_model.specs.Calls.{success}
 use Rattle.ffa_model.specs.MemorySend.{handle_reply}
 
@@ -24,13 +25,14 @@ done_or_error r = reply_of (λ done. success 0 0) r
 abbrev pub reply_or_error : Result Reply ErrorCode → Reply
 reply_or_error r = reply_of (λ reply. reply) r
 
--- the length of what RX holds then
-abbrev pub retrieved_or_error : Result Taken ErrorCode → Reply
-retrieved_or_error r = reply_of (λ (taken : Taken). Retrieved taken.size) r
+-- of a call on memory: nothing more, the handle of what was sent, or the length of what RX holds then
+abbrev pub value_reply : Value → Reply
+value_reply Nothing = success 0 0
+value_reply (Handle h) = handle_reply h
+value_reply (Size size) = Retrieved size
 
--- the handle of what was sent
-abbrev pub handle_or_error : Result Sent ErrorCode → Reply
-handle_or_error r = reply_of (λ (sent : Sent). handle_reply sent.handle) r
+abbrev pub value_or_error : Result Done ErrorCode → Reply
+value_or_error r = reply_of (λ (done : Done). value_reply done.value) r
 
 -- the fault that an access ended in, if it did
 abbrev pub fault_in : Outcome → Option FaultKind

@@ -3,13 +3,12 @@
 ghost use Rattle.std.specs.Prelude.{true, ◌≡◌, None};
 ghost use Rattle.std.specs.Option.{option_map};
 ghost use Rattle.std.specs.Result.{result_ok};
-ghost use Rattle.ffa_memshare.specs.declared.changed.Retrieved.{Retrieved as Taken};
-ghost use Rattle.ffa_memshare.specs.declared.changed.Sent.{Sent as Given};
+ghost use Rattle.ffa_memshare.specs.declared.changed.Done.{Done as Finished};
 ghost use Rattle.ffa_model.specs.Refusals.{is_error};
-ghost use Rattle.ffa_spmc.specs.Replies.{done_or_error, handle_or_error, retrieved_or_error};
+ghost use Rattle.ffa_spmc.specs.Replies.{value_or_error, value_reply};
 
 use crate::replies::{DONE, handle_reply};
-use ffa_memshare::{Changed, Retrieved, Sent};
+use ffa_memshare::{Changed, Done, Value};
 use ffa_model::{ErrorCode, Reply};
 
 /// What a call on memory answers.
@@ -21,59 +20,34 @@ pub(crate) struct Answer {
 }
 
 impl Answer {
-    // To a send: the handle, or the code for which it was refused.
-    pub(crate) fn sent(sent: Result<Sent, ErrorCode>) -> Answer
-        ensures reply { result.reply ≡ handle_or_error sent }
-        ensures changed { result.changed ≡ option_map (λ (x : Given). x.changed) (result_ok sent) }
+    // To a call that was done, or refused with a code, which changes nothing.
+    #[inline(always)]
+    pub(crate) fn of(done: Result<Done, ErrorCode>) -> Answer
+        ensures reply { result.reply ≡ value_or_error done }
+        ensures changed { result.changed ≡ option_map (λ (x : Finished). x.changed) (result_ok done) }
         ensures unchanged { is_error result.reply ≡ true → result.changed ≡ None }
     {
-        match sent {
-            Ok(Sent { handle, changed }) => Answer {
-                reply: handle_reply(handle),
+        match done {
+            Ok(Done { value, changed }) => Answer {
+                reply: value_reply(value),
                 changed: Some(changed),
             },
-            Err(code) => Answer::refused(code),
-        }
-    }
-
-    // To a retrieve: how many bytes RX holds then, or the code for which it was refused.
-    pub(crate) fn retrieved(retrieved: Result<Retrieved, ErrorCode>) -> Answer
-        ensures reply { result.reply ≡ retrieved_or_error retrieved }
-        ensures changed { result.changed ≡ option_map (λ (x : Taken). x.changed) (result_ok retrieved) }
-        ensures unchanged { is_error result.reply ≡ true → result.changed ≡ None }
-    {
-        match retrieved {
-            Ok(Retrieved { size, changed }) => Answer {
-                reply: Reply::Retrieved(size),
-                changed: Some(changed),
+            Err(code) => Answer {
+                reply: Reply::Error(code),
+                changed: None,
             },
-            Err(code) => Answer::refused(code),
         }
     }
+}
 
-    // To a relinquish or a reclaim: that it is done, or the code for which it was refused.
-    pub(crate) fn returned(changed: Result<Changed, ErrorCode>) -> Answer
-        ensures reply { result.reply ≡ done_or_error changed }
-        ensures changed { result.changed ≡ result_ok changed }
-        ensures unchanged { is_error result.reply ≡ true → result.changed ≡ None }
-    {
-        match changed {
-            Ok(changed) => Answer {
-                reply: DONE,
-                changed: Some(changed),
-            },
-            Err(code) => Answer::refused(code),
-        }
-    }
-
-    // To a call that is refused, which changes nothing.
-    fn refused(code: ErrorCode) -> Answer
-        ensures reply { result.reply ≡ Reply.Error code }
-        ensures changed { result.changed ≡ None }
-    {
-        Answer {
-            reply: Reply::Error(code),
-            changed: None,
-        }
+// The reply that tells a value.
+#[inline(always)]
+fn value_reply(value: Value) -> Reply
+    ensures { result ≡ value_reply value }
+{
+    match value {
+        Value::Nothing => DONE,
+        Value::Handle(handle) => handle_reply(handle),
+        Value::Size(size) => Reply::Retrieved(size),
     }
 }

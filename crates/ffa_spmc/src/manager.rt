@@ -12,7 +12,7 @@ ghost use Rattle.ffa_model.specs.Registers.{decode};
 ghost use Rattle.ffa_model.specs.State.{owner_of, version_of};
 ghost use Rattle.ffa_model.specs.Step.{serve, service};
 ghost use Rattle.ffa_memshare.specs.declared.changed.Changed.{Changed};
-ghost use Rattle.ffa_spmc.specs.Caching.{IsForgotten};
+ghost use Rattle.ffa_spmc.specs.Caching.{IsForgotten, most_pages};
 ghost use Rattle.ffa_spmc.specs.Booted.{IsBootedHeld};
 ghost use Rattle.ffa_spmc.specs.Readied.{IsReadyFor};
 ghost use Rattle.ffa_spmc.specs.Served.{IsAnswered};
@@ -144,9 +144,10 @@ impl<M: PhysMem + Drop, S: Store> Manager<M, S> {
         let _ = &self.kept;
     }
 
-    // The address of RAM's first page.
+    // The address of RAM's first page. RAM has no more pages than the largest.
     pub(crate) fn ram_base(&self) -> Address
-        ensures { result.0 ≡ self.now.state.ram_base }
+        ensures base { result.0 ≡ self.now.state.ram_base }
+        ensures few { length self.now.state.pages ≤ most_pages }
     {
         self.kept.records.get().manifest.ram_base
     }

@@ -7,7 +7,7 @@ ghost use Rattle.ffa_model.specs.MemoryReturn.{is_unheld, reclaim_guards};
 ghost use Rattle.ffa_model.specs.State.{Transaction};
 ghost use Rattle.ffa_memshare.specs.Named.{own_rights_in};
 ghost use Rattle.ffa_memshare.specs.Ranges.{ArePlaced};
-ghost use Rattle.ffa_memshare.specs.Shared.{AreInRam};
+ghost use Rattle.ffa_memshare.specs.Shared.{AreRangesInRam};
 ghost use Rattle.ffa_memshare.specs.Stored.{pool_slot, transaction_in};
 
 use crate::found::FoundReturn;
@@ -32,7 +32,7 @@ impl<O: Room<OpenSlot> + Drop> Pool<O> {
         handle: u64,
         flags: u32,
     ) -> Result<FoundReturn, Refusal>
-        requires { AreInRam self.now.slots base.0 (length pages.now) }
+        requires { AreRangesInRam self.now.slots base.0 (length pages.now) }
         ensures refusal { let own_rights = own_rights_in pages.now base.0 in
             let transaction = transaction_in self.now.slots handle in
             result_err result ≡ first_refusal (reclaim_guards own_rights caller.0 flags transaction) }
@@ -90,6 +90,6 @@ impl OpenTransaction {
         self.receivers
             .as_slice()
             .iter()
-            .all(|receiver| self.held(receiver.endpoint).is_none())
+            .all(|receiver| self.held_right(receiver.endpoint).is_none())
     }
 }

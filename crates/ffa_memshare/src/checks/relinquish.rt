@@ -73,7 +73,7 @@ impl OpenTransaction {
         if !self.is_receiver(caller) {
             return Err(Refusal::NotOffered);
         }
-        if self.held(caller).is_none() {
+        if self.held_right(caller).is_none() {
             return Err(Refusal::NotHeld);
         }
         if asked.zero && !self.is_zeroable(caller) {
@@ -86,7 +86,7 @@ impl OpenTransaction {
     fn is_zeroable(&self, endpoint: EndpointId) -> bool
         ensures { result ≡ is_zeroable endpoint.0 (Some (view_of self.now)) }
     {
-        match self.held(endpoint) {
+        match self.held_right(endpoint) {
             Some(right) => matches!(self.kind, Kind::Lend) && right.level == Data::Rw,
             None => false,
         }

@@ -9,13 +9,14 @@ ghost use Rattle.ffa_model.specs.MemoryRetrieve.{asked_right, holding_guards, is
 ghost use Rattle.ffa_model.specs.RetrieveDescriptor.{retrieve_of};
 ghost use Rattle.ffa_model.specs.Rights.{is_at_most};
 ghost use Rattle.ffa_model.specs.Transactions.{ceiling, grant_to};
+ghost use Rattle.ffa_rxtx.specs.Stored.{buffers_of};
 ghost use Rattle.ffa_memshare.specs.Callers.{IsCaller};
 ghost use Rattle.ffa_memshare.specs.Found.{IsAskedFor};
 ghost use Rattle.ffa_memshare.specs.Memory.{memory_of, memory_parts};
 ghost use Rattle.ffa_memshare.specs.Named.{own_rights_in};
 ghost use Rattle.ffa_memshare.specs.Ranges.{ArePlaced};
 ghost use Rattle.ffa_memshare.specs.Scenes.{descriptor_in, scene_in};
-ghost use Rattle.ffa_memshare.specs.Shared.{AreInRam};
+ghost use Rattle.ffa_memshare.specs.Shared.{AreRangesInRam};
 
 use crate::descriptor_call::DescriptorCall;
 use crate::found::FoundRight;
@@ -45,27 +46,27 @@ impl<O: Room<OpenSlot> + Drop> Pool<O> {
         caller: EndpointId,
         call: &DescriptorCall,
     ) -> Result<FoundRight, Refusal>
-        requires placed { AreInRam self.now.slots layout.now.base.0 (length pages.now) }
+        requires placed { AreRangesInRam self.now.slots layout.now.base.0 (length pages.now) }
         requires caller { IsCaller (memory_of (M.ram ram.now) layout.now pages.now) buffers.now caller.0 }
         ensures refusal { let parts = memory_parts (M.ram ram.now) layout.now pages.now buffers.now self.now in
             let asked = retrieve_of caller.0 (descriptor_in (M.ram ram.now) buffers.now caller.0 call.now) in
             result_err result ≡ first_refusal (retrieve_guards (scene_in parts) caller.0 call.now.transfer asked) }
-        ensures buffers { OnOk result (is_some (buffers_in buffers.now caller.0) ≡ true) }
+        ensures own { IfOk result (λ found. Some (buffers_of found.own) ≡ buffers_in buffers.now caller.0) }
         ensures found { let own_rights = own_rights_in pages.now layout.now.base.0 in
             let bytes = descriptor_in (M.ram ram.now) buffers.now caller.0 call.now in
             IfOk result (IsAskedFor self.now.slots own_rights caller.0 bytes) }
     {
-        let bytes = call.descriptor(ram, buffers, caller)?;
-        let Ok(asked) = read_retrieve(&bytes, call.version, caller) else {
+        let found = call.descriptor(ram, buffers, caller)?;
+        let Ok(asked) = read_retrieve(&found.bytes, call.version, caller) else {
             return Err(Refusal::DescriptorMalformed);
         };
         let Some(slot) = self.find(asked.handle) else {
             return Err(Refusal::HandleUnknown);
         };
         let open = self.at(slot);
-        let is_full = buffers.is_full(caller);
-        let right = open.check_retrieve(pages, layout.base, is_full, caller, &asked)?;
-        Ok(FoundRight { slot, right })
+        let own = found.own;
+        let right = open.check_retrieve(pages, layout.base, own.is_full, caller, &asked)?;
+        Ok(FoundRight { slot, right, own })
     }
 }
 
@@ -74,7 +75,7 @@ impl OpenTransaction {
 
     // The data right that an endpoint is granted, if the transaction is offered to it: ro where none is named.
     #[tactic(auto, using(crate::proofs::Receivers::found_any))]
-    fn granted_to(&self, endpoint: EndpointId) -> Option<Data>
+    fn grant_to(&self, endpoint: EndpointId) -> Option<Data>
         ensures known { is_some result ≡ is_receiver endpoint.0 (view_of self.now) }
         ensures granted { IfSome result (λ granted. granted ≡ grant_to (view_of self.now) endpoint.0) }
     {
@@ -122,7 +123,7 @@ impl OpenTransaction {
         ensures right { let own_rights = own_rights_in pages.now base.0 in
             IfOk result (λ right. right ≡ right_for own_rights (view_of self.now) caller.0 asked.now) }
     {
-        let Some(granted) = self.granted_to(caller) else {
+        let Some(granted) = self.grant_to(caller) else {
             return Err(Refusal::NotReceiver);
         };
         if asked.sender != self.sender {
@@ -134,7 +135,7 @@ impl OpenTransaction {
         if !is_kind_right(self.kind, asked.kind) {
             return Err(Refusal::KindDiffers);
         }
-        if self.held(caller).is_some() {
+        if self.held_right(caller).is_some() {
             return Err(Refusal::AlreadyRetrieved);
         }
         let most = self.ceiling(pages, base, granted);

@@ -15,7 +15,7 @@ ghost use Rattle.ffa_rxtx.specs.Parts.{candidate_in, candidates_in};
 ghost use Rattle.ffa_memshare.specs.Callers.{IsCaller};
 ghost use Rattle.ffa_memshare.specs.Memory.{memory_of, memory_parts};
 ghost use Rattle.ffa_memshare.specs.Named.{all_named, own_rights_in};
-ghost use Rattle.ffa_memshare.specs.Offers.{AreAligned, IsOffered, IsOwnOffer, grants_writes, write_guards};
+ghost use Rattle.ffa_memshare.specs.Offers.{AreAligned, DescribesOffer, IsOwnOffer, grants_writes, write_guards};
 ghost use Rattle.ffa_memshare.specs.Ranges.{ArePlaced, IsPlaced, in_range, in_ranges};
 ghost use Rattle.ffa_memshare.specs.Scenes.{descriptor_in, scene_in};
 ghost use Rattle.ffa_memshare.specs.SlotChanges.{IsFree};
@@ -63,13 +63,13 @@ impl<O: Room<OpenSlot> + Drop> Pool<O> {
         ensures handle { OnOk result (draft.new.transaction.handle ≡ next_handle (open_in self.now) caller.0) }
         ensures offered { let bytes = descriptor_in (M.ram ram.now) buffers.now caller.0 call.now in
             let opened = view_of draft.new.transaction in
-            OnOk result (IsOffered pages.now layout.now.base.0 caller.0 kind bytes opened) }
+            OnOk result (DescribesOffer pages.now layout.now.base.0 caller.0 kind bytes opened) }
         ensures free { IfOk result (IsFree self.now.slots (place caller.0)) }
         ensures few { OnOk result (sends_of (open_in self.now) caller.0 < MOST_SENDS) }
         ensures fits { IfOk result (λ slot. slot < MOST_SLOTS) }
     {
-        let bytes = call.descriptor(ram, buffers, caller)?;
-        let Ok(()) = read_send(&bytes, call.version, kind, &mut draft.offer) else {
+        let found = call.descriptor(ram, buffers, caller)?;
+        let Ok(()) = read_send(&found.bytes, call.version, kind, &mut draft.offer) else {
             return Err(Refusal::DescriptorMalformed);
         };
         let transaction = &mut draft.transaction;

@@ -36,13 +36,13 @@ pub fn about_send<M: PhysMem>(
     ensures { let bytes = descriptor_in (M.ram ram.now) buffers.now caller.0 call.now in
         result ≡ where_whole buffers.now caller.0 call.now.transfer (about_send kind endpoints bytes refusal) }
 {
-    let Ok(bytes) = call.descriptor(ram, buffers, caller) else {
+    let Ok(found) = call.descriptor(ram, buffers, caller) else {
         return None;
     };
     let mut offer = SendDesc::none();
-    match read_send(&bytes, call.version, kind, &mut offer) {
+    match read_send(&found.bytes, call.version, kind, &mut offer) {
         Ok(()) => named_by_send(&offer, endpoints, refusal),
-        Err(flaw) => about_flaw(&bytes, call.version, flaw, refusal),
+        Err(flaw) => about_flaw(&found.bytes, call.version, flaw, refusal),
     }
 }
 
@@ -59,12 +59,12 @@ pub fn about_retrieve<M: PhysMem>(
     ensures { let bytes = descriptor_in (M.ram ram.now) buffers.now caller.0 call.now in
         result ≡ where_whole buffers.now caller.0 call.now.transfer (about_retrieve caller.0 bytes refusal) }
 {
-    let Ok(bytes) = call.descriptor(ram, buffers, caller) else {
+    let Ok(found) = call.descriptor(ram, buffers, caller) else {
         return None;
     };
-    match read_retrieve(&bytes, call.version, caller) {
+    match read_retrieve(&found.bytes, call.version, caller) {
         Ok(asked) => named_by_retrieve(&asked, refusal),
-        Err(flaw) => about_flaw(&bytes, call.version, flaw, refusal),
+        Err(flaw) => about_flaw(&found.bytes, call.version, flaw, refusal),
     }
 }
 

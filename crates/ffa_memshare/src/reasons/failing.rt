@@ -49,11 +49,11 @@ pub fn failing_send<M: PhysMem, P: Room<KeptPage> + Drop>(
         let offer = send_of kind (descriptor_in (M.ram ram.now) buffers.now caller.0 call.now) in
         result ≡ failing_send caller.0 candidates own_rights buffers.now call.now.transfer offer refusal }
 {
-    let Ok(bytes) = call.descriptor(ram, buffers, caller) else {
+    let Ok(found) = call.descriptor(ram, buffers, caller) else {
         return None;
     };
     let mut offer = SendDesc::none();
-    if read_send(&bytes, call.version, kind, &mut offer).is_err() {
+    if read_send(&found.bytes, call.version, kind, &mut offer).is_err() {
         return None;
     }
     failing_offer(&offer, pages, base, buffers, caller, refusal)

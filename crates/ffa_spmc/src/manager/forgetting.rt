@@ -7,8 +7,9 @@ ghost use Rattle.ffa_spmc.specs.AccessChange.{is_of};
 ghost use Rattle.ffa_spmc.specs.Caching.{AreOut, most_pages};
 ghost use Rattle.ffa_tlb.specs.Lookups.{lookup};
 
-use ffa_memshare::{Changed, PageRanges, first_page};
-use ffa_model::{Address, EndpointId, PageNo, Range};
+use crate::answer::Answer;
+use ffa_memshare::{PageRanges, first_page};
+use ffa_model::{Address, EndpointId, PageNo, Range, Reply};
 use ffa_tlb::Translations;
 
 // Forgets what is held for an endpoint and the pages of a range in the RAM at an address.
@@ -37,17 +38,20 @@ fn forget_ranges<T: Translations>(
     }
 }
 
-// Forgets what is held for the endpoint and the pages to which its access changed.
-pub(super) fn forget<T: Translations>(cache: &mut T, base: Address, changed: &Option<Changed>)
-    requires { IfSome changed.now (λ c. ArePlaced base.0 most_pages c.ranges) }
-    ensures unchanged { changed.now ≡ None → T.entries cache.new ≡ T.entries cache.old }
-    ensures forgotten { (s : State) → s.ram_base ≡ base.0 → (e p : ℕ) →
-        lookup (T.entries cache.new) e p
-            ≡ (if is_of s changed.now e p then None else lookup (T.entries cache.old) e p) }
+// Forgets what is held for the endpoint and the pages to which its access changed, and gives the reply.
+#[inline(always)]
+pub(super) fn conclude<T: Translations>(cache: &mut T, base: Address, answer: &Answer) -> Reply
+    requires { IfSome answer.now.changed (λ c. ArePlaced base.0 most_pages c.ranges) }
+    ensures reply { result ≡ answer.now.reply }
+    ensures unchanged { answer.now.changed ≡ None → T.entries cache.new ≡ T.entries cache.old }
+    ensures forgotten { (s : State) → s.ram_base ≡ base.0 → (e p : ℕ)
+        → let held = lookup (T.entries cache.old) e p in
+        lookup (T.entries cache.new) e p ≡ (if is_of s answer.now.changed e p then None else held) }
 {
-    if let Some(changed) = changed
+    if let Some(changed) = &answer.changed
         && let Some(endpoint) = changed.endpoint
     {
         forget_ranges(cache, base, endpoint, &changed.ranges);
     }
+    answer.reply
 }

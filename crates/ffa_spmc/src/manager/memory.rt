@@ -1,6 +1,7 @@
 // SPDX-License-Identifier: MIT OR Apache-2.0
-//! The calls on memory. Each stands alone, so that other calls have no room for it, and has the cache forget whose access to
-//! which pages it changed, and tells it. What the pool does for it is inlined here, since its answer is large to hand on.
+//! The calls on memory. Each stands alone, so that other calls have no room for it, and has the cache forget whose
+//! access to which pages it changed, and tells it. What the pool does for it is inlined here, since its answer is large
+//! to hand on.
 ghost use Rattle.std.specs.Prelude.{◌≡◌};
 ghost use Rattle.std.specs.Option.{option_or};
 ghost use Rattle.ffa_model.specs.MemoryRetrieve.{memory_retrieve};
@@ -9,7 +10,7 @@ ghost use Rattle.ffa_model.specs.MemorySend.{memory_send};
 ghost use Rattle.ffa_spmc.specs.Served.{IsAnswered, IsTold};
 
 use super::Manager;
-use super::forgetting::forget;
+use super::forgetting::conclude;
 use crate::answer::Answer;
 use crate::storage::Store;
 use ffa_memshare::{DescriptorCall, News};
@@ -27,20 +28,18 @@ impl<M: PhysMem + Drop, S: Store> Manager<M, S> {
         cache: &mut T,
         news: &mut News,
     ) -> Reply
-        ensures { IsAnswered self.old self.new (T.entries cache.old) (T.entries cache.new) news.old news.new
-            (memory_send self.old.state kind transfer) result }
+        ensures { let held = T.entries cache.old in let kept = T.entries cache.new in
+            let call = memory_send self.old.state kind transfer in
+            IsAnswered self.old self.new held kept news.old news.new call result }
     {
-        // Proof step: the state is sound.
-        self.holds();
         let base = self.ram_base();
-        let answer = self.offered(kind, transfer, news);
-        forget(cache, base, &answer.changed);
-        answer.reply
+        let answer = self.pool_send(kind, transfer, news);
+        conclude(cache, base, &answer)
     }
 
     // The same, and whose access it changed.
     #[inline(always)]
-    fn offered(&mut self, kind: Kind, transfer: Transfer, news: &mut News) -> Answer
+    fn pool_send(&mut self, kind: Kind, transfer: Transfer, news: &mut News) -> Answer
         ensures done { IsTold self.old self.new (memory_send self.old.state kind transfer) result }
         ensures told { news.new ≡ option_or result.changed news.old }
     {
@@ -50,7 +49,7 @@ impl<M: PhysMem + Drop, S: Store> Manager<M, S> {
         let kept = &mut self.kept;
         let records = kept.records.get();
         let pool = &mut kept.pool;
-        Answer::sent(pool.send(
+        Answer::of(pool.send(
             &mut self.ram,
             &records.layout,
             &mut kept.pages,
@@ -70,20 +69,18 @@ impl<M: PhysMem + Drop, S: Store> Manager<M, S> {
         cache: &mut T,
         news: &mut News,
     ) -> Reply
-        ensures { IsAnswered self.old self.new (T.entries cache.old) (T.entries cache.new) news.old news.new
-            (memory_retrieve self.old.state transfer) result }
+        ensures { let held = T.entries cache.old in let kept = T.entries cache.new in
+            let call = memory_retrieve self.old.state transfer in
+            IsAnswered self.old self.new held kept news.old news.new call result }
     {
-        // Proof step: the state is sound.
-        self.holds();
         let base = self.ram_base();
-        let answer = self.retrieved(transfer, news);
-        forget(cache, base, &answer.changed);
-        answer.reply
+        let answer = self.pool_retrieve(transfer, news);
+        conclude(cache, base, &answer)
     }
 
     // The same, and whose access it changed.
     #[inline(always)]
-    fn retrieved(&mut self, transfer: Transfer, news: &mut News) -> Answer
+    fn pool_retrieve(&mut self, transfer: Transfer, news: &mut News) -> Answer
         ensures done { IsTold self.old self.new (memory_retrieve self.old.state transfer) result }
         ensures told { news.new ≡ option_or result.changed news.old }
     {
@@ -93,7 +90,7 @@ impl<M: PhysMem + Drop, S: Store> Manager<M, S> {
         let kept = &mut self.kept;
         let records = kept.records.get();
         let pool = &mut kept.pool;
-        Answer::retrieved(pool.retrieve(
+        Answer::of(pool.retrieve(
             &mut self.ram,
             &records.layout,
             &mut kept.pages,
@@ -107,20 +104,18 @@ impl<M: PhysMem + Drop, S: Store> Manager<M, S> {
     // FFA_MEM_RELINQUISH of the runner.
     #[inline(never)]
     pub(super) fn relinquish<T: Translations>(&mut self, cache: &mut T, news: &mut News) -> Reply
-        ensures { IsAnswered self.old self.new (T.entries cache.old) (T.entries cache.new) news.old news.new
-            (memory_relinquish self.old.state) result }
+        ensures { let held = T.entries cache.old in let kept = T.entries cache.new in
+            let call = memory_relinquish self.old.state in
+            IsAnswered self.old self.new held kept news.old news.new call result }
     {
-        // Proof step: the state is sound.
-        self.holds();
         let base = self.ram_base();
-        let answer = self.relinquished(news);
-        forget(cache, base, &answer.changed);
-        answer.reply
+        let answer = self.pool_relinquish(news);
+        conclude(cache, base, &answer)
     }
 
     // The same, and whose access it changed.
     #[inline(always)]
-    fn relinquished(&mut self, news: &mut News) -> Answer
+    fn pool_relinquish(&mut self, news: &mut News) -> Answer
         ensures done { IsTold self.old self.new (memory_relinquish self.old.state) result }
         ensures told { news.new ≡ option_or result.changed news.old }
     {
@@ -128,7 +123,7 @@ impl<M: PhysMem + Drop, S: Store> Manager<M, S> {
         let kept = &mut self.kept;
         let records = kept.records.get();
         let pool = &mut kept.pool;
-        Answer::returned(pool.relinquish(
+        Answer::of(pool.relinquish(
             &mut self.ram,
             &records.layout,
             &kept.pages,
@@ -147,20 +142,18 @@ impl<M: PhysMem + Drop, S: Store> Manager<M, S> {
         cache: &mut T,
         news: &mut News,
     ) -> Reply
-        ensures { IsAnswered self.old self.new (T.entries cache.old) (T.entries cache.new) news.old news.new
-            (memory_reclaim self.old.state handle.0 flags) result }
+        ensures { let held = T.entries cache.old in let kept = T.entries cache.new in
+            let call = memory_reclaim self.old.state handle.0 flags in
+            IsAnswered self.old self.new held kept news.old news.new call result }
     {
-        // Proof step: the state is sound.
-        self.holds();
         let base = self.ram_base();
-        let answer = self.reclaimed(handle, flags, news);
-        forget(cache, base, &answer.changed);
-        answer.reply
+        let answer = self.pool_reclaim(handle, flags, news);
+        conclude(cache, base, &answer)
     }
 
     // The same, and whose access it changed.
     #[inline(always)]
-    fn reclaimed(&mut self, handle: Handle, flags: u32, news: &mut News) -> Answer
+    fn pool_reclaim(&mut self, handle: Handle, flags: u32, news: &mut News) -> Answer
         ensures done { IsTold self.old self.new (memory_reclaim self.old.state handle.0 flags) result }
         ensures told { news.new ≡ option_or result.changed news.old }
     {
@@ -169,7 +162,7 @@ impl<M: PhysMem + Drop, S: Store> Manager<M, S> {
         let pages = &mut kept.pages;
         let records = kept.records.get();
         let pool = &mut kept.pool;
-        Answer::returned(pool.reclaim(
+        Answer::of(pool.reclaim(
             &mut self.ram,
             &records.layout,
             pages,

@@ -12,46 +12,46 @@ use Rattle.ffa_memshare.proofs.pool.Pool.check_send.Goals as goal
 
 pub check_offer-requires : goal.check_offer-requires
 check_offer-requires g c =
-    record { aligned = sent-aligned c.args.kind (in_version c.args.call.now.version c.in_ok-bytes.bytes) (send_record c.read_send.new.offer) c.in-Ok.ensures.found }
+    record { aligned = sent-aligned c.args.kind (in_version c.args.call.now.version c.in_ok-found.found.bytes) (send_record c.read_send.new.offer) c.in-Ok.ensures.found }
 
 pub room-requires-clause-known : goal.room-requires-clause-known
 room-requires-clause-known g c = known-named (array_vec_len c.args.layout.now.regions) c.args.caller.0 c.requires.caller.known
 
-pub returns-in_err-bytes-clause-refusal : goal.returns-in_err-bytes-clause-refusal
-returns-in_err-bytes-clause-refusal g c =
+pub returns-in_err-found-clause-refusal : goal.returns-in_err-found-clause-refusal
+returns-in_err-found-clause-refusal g c =
     let scene = scene_in (memory_parts (g.M.PhysMem.ram c.args.ram.now) c.args.layout.now c.args.pages.now c.args.buffers.now c.args.self.now) in
     let read = send_of c.args.kind (descriptor_in (g.M.PhysMem.ram c.args.ram.now) c.args.buffers.now c.args.caller.0 c.args.call.now) in
-    let refused : c.from_residual.result ≡ Err c.in_err-bytes.field-0.0 = search of_calls in
+    let refused : c.from_residual.result ≡ Err c.in_err-found.field-0.0 = search of_calls in
     rw refused
-    (send-transfer scene c.args.caller.0 c.args.call.now.transfer read c.in_err-bytes.field-0.0 c.in_err-bytes.ensures.refusal)
+    (send-transfer scene c.args.caller.0 c.args.call.now.transfer read c.in_err-found.field-0.0 c.in_err-found.ensures.refusal)
 
 pub returns-in_err-check_offer-clause-refusal : goal.returns-in_err-check_offer-clause-refusal
 returns-in_err-check_offer-clause-refusal g c =
     let scene = scene_in (memory_parts (g.M.PhysMem.ram c.args.ram.now) c.args.layout.now c.args.pages.now c.args.buffers.now c.args.self.now) in
     let read = send_of c.args.kind (descriptor_in (g.M.PhysMem.ram c.args.ram.now) c.args.buffers.now c.args.caller.0 c.args.call.now) in
     let is : read ≡ Some (send_record c.read_send.new.offer) =
-    sym (ap (λ b. send_of c.args.kind (in_version c.args.call.now.version b)) c.in_ok-bytes.ensures.bytes) ∙ sym c.in-Ok.ensures.computed in
+    sym (ap (λ b. send_of c.args.kind (in_version c.args.call.now.version b)) c.in_ok-found.ensures.bytes) ∙ sym c.in-Ok.ensures.computed in
     let refused : c.from_residual-in_err-check_offer.result ≡ Err c.in_err-check_offer.field-0.0 = search of_calls in
     rw refused
-    (send-offer scene c.args.caller.0 c.args.call.now.transfer read (send_record c.read_send.new.offer) c.in_ok-bytes.ensures.refusal is c.in_err-check_offer.field-0.0 c.in_err-check_offer.ensures.refusal)
+    (send-offer scene c.args.caller.0 c.args.call.now.transfer read (send_record c.read_send.new.offer) c.in_ok-found.ensures.refusal is c.in_err-check_offer.field-0.0 c.in_err-check_offer.ensures.refusal)
 
 pub returns-in_err-slot-clause-refusal : goal.returns-in_err-slot-clause-refusal
 returns-in_err-slot-clause-refusal g c =
     let scene = scene_in (memory_parts (g.M.PhysMem.ram c.args.ram.now) c.args.layout.now c.args.pages.now c.args.buffers.now c.args.self.now) in
     let read = send_of c.args.kind (descriptor_in (g.M.PhysMem.ram c.args.ram.now) c.args.buffers.now c.args.caller.0 c.args.call.now) in
     let is : read ≡ Some (send_record c.read_send.new.offer) =
-    sym (ap (λ b. send_of c.args.kind (in_version c.args.call.now.version b)) c.in_ok-bytes.ensures.bytes) ∙ sym c.in-Ok.ensures.computed in
+    sym (ap (λ b. send_of c.args.kind (in_version c.args.call.now.version b)) c.in_ok-found.ensures.bytes) ∙ sym c.in-Ok.ensures.computed in
     let refused : c.from_residual-in_err-slot.result ≡ Err c.in_err-slot.field-0.0 = search of_calls in
     rw refused
-    (send-room scene c.args.caller.0 c.args.call.now.transfer read (send_record c.read_send.new.offer) c.in_ok-bytes.ensures.refusal is c.in_ok-check_offer.ensures.refusal c.in_err-slot.ensures.refusal)
+    (send-room scene c.args.caller.0 c.args.call.now.transfer read (send_record c.read_send.new.offer) c.in_ok-found.ensures.refusal is c.in_ok-check_offer.ensures.refusal c.in_err-slot.ensures.refusal)
 
 pub returns-clause-refusal : goal.returns-clause-refusal
 returns-clause-refusal g c =
     let scene = scene_in (memory_parts (g.M.PhysMem.ram c.args.ram.now) c.args.layout.now c.args.pages.now c.args.buffers.now c.args.self.now) in
     let read = send_of c.args.kind (descriptor_in (g.M.PhysMem.ram c.args.ram.now) c.args.buffers.now c.args.caller.0 c.args.call.now) in
     let is : read ≡ Some (send_record c.read_send.new.offer) =
-    sym (ap (λ b. send_of c.args.kind (in_version c.args.call.now.version b)) c.in_ok-bytes.ensures.bytes) ∙ sym c.in-Ok.ensures.computed in
-    send-room scene c.args.caller.0 c.args.call.now.transfer read (send_record c.read_send.new.offer) c.in_ok-bytes.ensures.refusal is c.in_ok-check_offer.ensures.refusal c.in_ok-slot.ensures.refusal
+    sym (ap (λ b. send_of c.args.kind (in_version c.args.call.now.version b)) c.in_ok-found.ensures.bytes) ∙ sym c.in-Ok.ensures.computed in
+    send-room scene c.args.caller.0 c.args.call.now.transfer read (send_record c.read_send.new.offer) c.in_ok-found.ensures.refusal is c.in_ok-check_offer.ensures.refusal c.in_ok-slot.ensures.refusal
 
 pub returns-clause-offered : goal.returns-clause-offered
 returns-clause-offered g c =
@@ -60,10 +60,10 @@ returns-clause-offered g c =
     record {
       offer = offer;
       described =
-          sym (ap (λ b. send_of c.args.kind (in_version version b)) c.in_ok-bytes.ensures.bytes) ∙ sym c.in-Ok.ensures.computed;
+          sym (ap (λ b. send_of c.args.kind (in_version version b)) c.in_ok-found.ensures.bytes) ∙ sym c.in-Ok.ensures.computed;
       transaction = c.offer.ensures.offered c.in_ok-check_offer.ensures.ranges;
       own = c.in_ok-check_offer.ensures.offered;
-      other = sent-other c.args.kind (in_version version c.in_ok-bytes.bytes) offer c.in-Ok.ensures.found;
+      other = sent-other c.args.kind (in_version version c.in_ok-found.found.bytes) offer c.in-Ok.ensures.found;
     }
 
 pub returns-clause-handle : goal.returns-clause-handle

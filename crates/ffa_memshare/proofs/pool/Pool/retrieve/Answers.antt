@@ -58,6 +58,7 @@ returns-clause-done g c =
       asked = its.asked;
       transaction = view_of it;
       right = found.right;
+      size = c.hand_over-size.result;
       described = its.described;
       was = asked-open slots found.slot its.asked.handle it (its.transaction, its.slot) c.at-open.ensures.value c.at-open.ensures.open;
       is = its.right ∙ ap (λ (t : Transaction). right_for (own_rights_in c.args.pages.now l.base.0) t c.args.caller.0 its.asked) (sym same);
@@ -69,6 +70,7 @@ returns-clause-done g c =
           (buffers_in c.args.buffers.now c.args.caller.0) c.args.call.now.version (response_to h (view_of it) c.args.caller.0 found.right) c.hand_over-size.result)
           (same-handle slots found.slot its.asked.handle it (its.transaction, its.slot) c.at-open.ensures.value)
           c.hand_over-size.ensures.answered;
+      value = refl;
       access = c.tell-changed.ensures.changed;
     }
 

@@ -33,7 +33,7 @@ returns-clause-answered g c =
     record {
       granted = granted;
       moved =
-          subst (λ (k : ℕ). IsMoved old granted (array_vec_len l.regions) l.blocks k (in_ranges l.base.0 ranges) (λ p. Some c.args.right) false) c.place-index.ensures
+          subst (λ (k : ℕ). IsMoved old granted (array_vec_len l.regions) l.blocks k (in_ranges l.base.0 ranges) (λ p. Some c.args.found.now.right) false) c.place-index.ensures
           c.change_pages.ensures.moved;
       answered =
           c.respond.ensures.ram
@@ -50,7 +50,7 @@ returns-clause-steps g c rx_apart =
     let moved = c.change_pages.ensures.moved in
     let (access, built) = c.requires.held.room.built in
     let index = c.place-index.result in
-    then-responded memory granted new index (in_ranges l.base.0 c.args.self.now.ranges) (λ p. Some c.args.right) _ rx_apart access built moved.built moved.base c.respond.ensures.beside
+    then-responded memory granted new index (in_ranges l.base.0 c.args.self.now.ranges) (λ p. Some c.args.found.now.right) _ rx_apart access built moved.built moved.base c.respond.ensures.beside
     (g.M.PhysMem.past c.args.ram.now) _ _ (c.change_pages.ensures.steps (λ p at zero. absurd (false≢true zero))) c.respond.ensures.steps
 
 pub returns-clause-ended : goal.returns-clause-ended
@@ -59,5 +59,5 @@ returns-clause-ended g c rx_apart =
     let moved = c.change_pages.ensures.moved in
     let (access, built) = c.requires.held.room.built in
     responded-ends (memory_of (g.M.PhysMem.ram c.args.ram.now) l c.args.pages.now) (g.M.PhysMem.ram c.change_pages.new.ram) (g.M.PhysMem.ram c.respond.new.ram)
-    c.place-index.result (in_ranges l.base.0 c.args.self.now.ranges) (λ p. Some c.args.right) _ rx_apart access built moved.built moved.base c.respond.ensures.beside
+    c.place-index.result (in_ranges l.base.0 c.args.self.now.ranges) (λ p. Some c.args.found.now.right) _ rx_apart access built moved.built moved.base c.respond.ensures.beside
     (λ p at. refl) _

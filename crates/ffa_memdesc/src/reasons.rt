@@ -1,5 +1,6 @@
 // SPDX-License-Identifier: MIT OR Apache-2.0
-//! Where the field stands of which a broken condition speaks, and what stands there.
+//! Why bytes are no descriptor: where the field stands of which a broken condition speaks, and what stands there. This
+//! serves diagnostics alone. No descriptor is read by it, so who audits the core can skip it.
 
 ghost use Rattle.std.specs.Prelude.{◌≡◌, ◌+◌, ◌*◌, ◌^◌, ◌≤◌, length};
 ghost use Rattle.ffa_model.specs.DescriptorPlaces.{in_version};

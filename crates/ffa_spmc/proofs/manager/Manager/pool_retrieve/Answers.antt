@@ -7,19 +7,18 @@ use Rattle.ffa_model.specs.declared.call.Reply.{Reply}
 use Rattle.ffa_model.specs.Calls.{replied}
 use Rattle.ffa_model.specs.MemoryRetrieve.{memory_retrieve}
 use Rattle.ffa_memshare.specs.declared.changed.Changed.{Changed}
-use Rattle.ffa_memshare.specs.declared.changed.Retrieved.{Retrieved as Taken}
+use Rattle.ffa_memshare.specs.declared.changed.Done.{Done}
 use Rattle.ffa_spmc.specs.Meaning.{Parts, state_of}
 use Rattle.ffa_spmc.specs.Managed.{Managed}
 use Rattle.ffa_spmc.proofs.Fills.{caller-is, runner-there}
 use Rattle.ffa_spmc.proofs.Moments.{moments-of, rx-apart}
-use Rattle.ffa_spmc.proofs.Replied.{told-of, told-with, kept-buffers, refused-told}
+use Rattle.ffa_spmc.proofs.Replied.{told-of, told-with, kept-buffers, refused-value}
 use Rattle.ffa_model.specs.State.{State}
 use Rattle.ffa_memshare.specs.declared.descriptor_call.DescriptorCall.{DescriptorCall}
-use Rattle.ffa_model.specs.declared.call.Reply.TheVariants.{Retrieved}
 use Rattle.ffa_spmc.proofs.Inside.{machine-alike, parts_of, told-alike, view-alike, with_records}
 use Rattle.ffa_spmc.proofs.Pools.{pool-shared}
 use Rattle.ffa_spmc.proofs.Retrieves.{retrieve-changes, retrieve-machine, retrieve-served, retrieve-unowned}
-use Rattle.ffa_spmc.proofs.manager.Manager.retrieved.Goals as goal
+use Rattle.ffa_spmc.proofs.manager.Manager.pool_retrieve.Goals as goal
 
 pub retrieve-requires-clause-shared : goal.retrieve-requires-clause-shared
 retrieve-requires-clause-shared g c =
@@ -59,31 +58,31 @@ returns-clause-done g c =
     let apart = rx-apart x machine c.runner-runner.result.0 (runner-there x machine c.runner-runner.result.0 c.runner-runner.ensures.runner) in
     let y : Parts = record x { ram = g.M.PhysMem.ram c.retrieve.new.ram; kept = record x.kept { pages = c.retrieve.new.pages; pool = c.retrieve.new.self; buffers = c.retrieve.new.buffers } } in
     told-alike y c.get-records.ensures
-    (told-with x y c.args.self.now view (λ (s : State). memory_retrieve s c.args.transfer) c.retrieved.result (option_map (λ (taken : Taken). taken.changed) (result_ok c.retrieve.result))
+    (told-with x y c.args.self.now view (λ (s : State). memory_retrieve s c.args.transfer) c.of.result (option_map (λ (done : Done). done.changed) (result_ok c.retrieve.result))
     (g.M.PhysMem.past c.retrieve.new.ram)
-    (ap (λ (reply : Reply). replied (state_of y) reply) c.retrieved.ensures.reply
+    (ap (λ (reply : Reply). replied (state_of y) reply) c.of.ensures.reply
     ∙ retrieve-served x machine c.runner-runner.result c.runner-runner.ensures.runner its (c.version-version.ensures ∙ sym (ap (λ (seen : Managed). version_of seen.state seen.state.runner) view))
     (g.M.PhysMem.ram c.retrieve.new.ram) c.retrieve.new.pages c.retrieve.new.self c.retrieve.new.buffers
     c.retrieve.result c.retrieve.ensures.refusal c.retrieve.ensures.kept c.retrieve.ensures.kept_pages c.retrieve.ensures.kept_buffers c.retrieve.ensures.kept_ram
     c.retrieve.ensures.full c.retrieve.ensures.done)
-    (refused-told (λ (taken : Taken). Retrieved taken.size) c.retrieve.result c.retrieved.result.reply c.retrieved.ensures.reply (λ done. refl)
+    (refused-value c.retrieve.result c.of.result.reply c.of.ensures.reply
     (kept-buffers x c.retrieve.result (g.M.PhysMem.ram c.retrieve.new.ram) c.retrieve.new.pages c.retrieve.new.self c.retrieve.new.buffers
     c.retrieve.ensures.kept_ram c.retrieve.ensures.kept_pages c.retrieve.ensures.kept c.retrieve.ensures.kept_buffers))
-    (refused-told (λ (taken : Taken). Retrieved taken.size) c.retrieve.result c.retrieved.result.reply c.retrieved.ensures.reply (λ done. refl) c.retrieve.ensures.kept_past)
+    (refused-value c.retrieve.result c.of.result.reply c.of.ensures.reply c.retrieve.ensures.kept_past)
     (retrieve-unowned x machine c.runner-runner.result c.runner-runner.ensures.runner its (c.version-version.ensures ∙ sym (ap (λ (seen : Managed). version_of seen.state seen.state.runner) view))
     (g.M.PhysMem.ram c.retrieve.new.ram) c.retrieve.new.pages c.retrieve.new.self c.retrieve.new.buffers
     c.retrieve.result c.retrieve.ensures.refusal c.retrieve.ensures.kept c.retrieve.ensures.kept_pages c.retrieve.ensures.kept_buffers c.retrieve.ensures.kept_ram
     c.retrieve.ensures.full c.retrieve.ensures.done)
     (moments-of x machine (g.M.PhysMem.ram c.retrieve.new.ram) _ _
     (c.retrieve.ensures.steps apart) (c.retrieve.ensures.ended apart))
-    c.retrieved.ensures.changed
+    c.of.ensures.changed
     (retrieve-changes x machine c.runner-runner.result c.runner-runner.ensures.runner its (c.version-version.ensures ∙ sym (ap (λ (seen : Managed). version_of seen.state seen.state.runner) view))
     (g.M.PhysMem.ram c.retrieve.new.ram) c.retrieve.new.pages c.retrieve.new.self c.retrieve.new.buffers
     c.retrieve.result c.retrieve.ensures.refusal c.retrieve.ensures.kept c.retrieve.ensures.kept_pages c.retrieve.ensures.kept_buffers c.retrieve.ensures.kept_ram
     c.retrieve.ensures.full c.retrieve.ensures.done)
-    c.retrieved.ensures.unchanged)
+    c.of.ensures.unchanged)
 
 pub returns-clause-told : goal.returns-clause-told
 returns-clause-told g c =
-    told-of c.retrieve.result (λ (taken : Taken). taken.changed) c.args.news.now c.retrieve.new.news c.retrieve.ensures.kept_news c.retrieve.ensures.told
-    ∙ ap (λ (o : Option Changed). option_or o c.args.news.now) (sym c.retrieved.ensures.changed)
+    told-of c.retrieve.result (λ (done : Done). done.changed) c.args.news.now c.retrieve.new.news c.retrieve.ensures.kept_news c.retrieve.ensures.told
+    ∙ ap (λ (o : Option Changed). option_or o c.args.news.now) (sym c.of.ensures.changed)

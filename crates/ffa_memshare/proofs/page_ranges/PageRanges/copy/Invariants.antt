@@ -1,6 +1,6 @@
 -- SPDX-License-Identifier: MIT OR Apache-2.0
 use Rattle.std.proofs.Common.{◌≡◌, take}
-use Rattle.ffa_memshare.proofs.page_ranges.PageRanges.copied.Given as goal
+use Rattle.ffa_memshare.proofs.page_ranges.PageRanges.copy.Given as goal
 
 -- the ranges so far
 abbrev pub invariant-loop-range : goal.invariant-loop-range

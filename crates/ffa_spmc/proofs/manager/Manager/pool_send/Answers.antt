@@ -6,17 +6,16 @@ use Rattle.ffa_model.specs.State.{version_of}
 use Rattle.ffa_model.specs.declared.call.Reply.{Reply}
 use Rattle.ffa_model.specs.Calls.{replied}
 use Rattle.ffa_model.specs.MemorySend.{memory_send}
-use Rattle.ffa_memshare.specs.declared.changed.Sent.{Sent}
+use Rattle.ffa_memshare.specs.declared.changed.Done.{Done}
 use Rattle.ffa_spmc.specs.Meaning.{Parts, state_of}
 use Rattle.ffa_spmc.specs.Managed.{Managed}
 use Rattle.ffa_spmc.proofs.Fills.{caller-is}
-use Rattle.ffa_spmc.proofs.Replied.{told-with, kept-memory, refused-told}
+use Rattle.ffa_spmc.proofs.Replied.{told-with, kept-memory, refused-value}
 use Rattle.ffa_model.specs.State.{State}
-use Rattle.ffa_model.specs.MemorySend.{handle_reply}
 use Rattle.ffa_spmc.proofs.Inside.{machine-alike, parts_of, told-alike, view-alike, with_records}
 use Rattle.ffa_spmc.proofs.Moments.{moments-of}
 use Rattle.ffa_spmc.proofs.Offers.{offer-endpoints, offer-changes, offer-machine, offer-served, offer-unowned}
-use Rattle.ffa_spmc.proofs.manager.Manager.offered.Goals as goal
+use Rattle.ffa_spmc.proofs.manager.Manager.pool_send.Goals as goal
 
 pub send-requires-clause-caller : goal.send-requires-clause-caller
 send-requires-clause-caller g c =
@@ -52,22 +51,22 @@ returns-clause-done g c =
     let view = view-alike old (sym c.get-records.ensures) c.self.view_is in
     let y : Parts = record x { ram = g.M.PhysMem.ram c.send.new.ram; kept = record x.kept { pages = c.send.new.pages; pool = c.send.new.self } } in
     told-alike y c.get-records.ensures
-    (told-with x y c.args.self.now view (λ (s : State). memory_send s c.args.kind c.args.transfer) c.sent.result (option_map (λ (sent : Sent). sent.changed) (result_ok c.send.result))
+    (told-with x y c.args.self.now view (λ (s : State). memory_send s c.args.kind c.args.transfer) c.of.result (option_map (λ (done : Done). done.changed) (result_ok c.send.result))
     (g.M.PhysMem.past c.send.new.ram)
-    (ap (λ (reply : Reply). replied (state_of y) reply) c.sent.ensures.reply
+    (ap (λ (reply : Reply). replied (state_of y) reply) c.of.ensures.reply
     ∙ offer-served x machine c.runner-runner.result.0 c.runner-runner.ensures.runner c.args.kind (record { transfer = c.args.transfer; version = c.version-version.result }) (c.version-version.ensures ∙ sym (ap (λ (seen : Managed). version_of seen.state seen.state.runner) view))
     (g.M.PhysMem.ram c.send.new.ram) c.send.new.pages c.send.new.self
     c.send.result c.send.ensures.refusal c.send.ensures.kept c.send.ensures.kept_pages c.send.ensures.kept_ram c.send.ensures.handle c.send.ensures.sent)
-    (refused-told (λ (sent : Sent). handle_reply sent.handle) c.send.result c.sent.result.reply c.sent.ensures.reply (λ done. refl)
+    (refused-value c.send.result c.of.result.reply c.of.ensures.reply
     (kept-memory x c.send.result (g.M.PhysMem.ram c.send.new.ram) c.send.new.pages c.send.new.self
     c.send.ensures.kept_ram c.send.ensures.kept_pages c.send.ensures.kept))
-    (refused-told (λ (sent : Sent). handle_reply sent.handle) c.send.result c.sent.result.reply c.sent.ensures.reply (λ done. refl) c.send.ensures.kept_past)
+    (refused-value c.send.result c.of.result.reply c.of.ensures.reply c.send.ensures.kept_past)
     (offer-unowned x machine c.runner-runner.result.0 c.runner-runner.ensures.runner c.args.kind (record { transfer = c.args.transfer; version = c.version-version.result }) (c.version-version.ensures ∙ sym (ap (λ (seen : Managed). version_of seen.state seen.state.runner) view))
     (g.M.PhysMem.ram c.send.new.ram) c.send.new.pages c.send.new.self
     c.send.result c.send.ensures.refusal c.send.ensures.kept c.send.ensures.kept_pages c.send.ensures.kept_ram c.send.ensures.handle c.send.ensures.sent)
     (moments-of x machine (g.M.PhysMem.ram c.send.new.ram) _ _ c.send.ensures.steps c.send.ensures.ended)
-    c.sent.ensures.changed
+    c.of.ensures.changed
     (offer-changes x machine c.runner-runner.result.0 c.runner-runner.ensures.runner c.args.kind (record { transfer = c.args.transfer; version = c.version-version.result }) (c.version-version.ensures ∙ sym (ap (λ (seen : Managed). version_of seen.state seen.state.runner) view))
     (g.M.PhysMem.ram c.send.new.ram) c.send.new.pages c.send.new.self
     c.send.result c.send.ensures.refusal c.send.ensures.kept c.send.ensures.kept_pages c.send.ensures.kept_ram c.send.ensures.handle c.send.ensures.sent)
-    c.sent.ensures.unchanged)
+    c.of.ensures.unchanged)

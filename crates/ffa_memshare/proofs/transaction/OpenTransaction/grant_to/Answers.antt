@@ -3,7 +3,7 @@ use Rattle.std.proofs.Common.{◌∙◌, ap, rules}
 use Rattle.std.specs.Prelude.{◌==◌, is_some}
 use Rattle.ffa_model.specs.declared.transaction.Receiver.{Receiver}
 use Rattle.ffa_memshare.proofs.Receivers.{found_any}
-use Rattle.ffa_memshare.proofs.transaction.OpenTransaction.granted_to.Goals as goal
+use Rattle.ffa_memshare.proofs.transaction.OpenTransaction.grant_to.Goals as goal
 
 pub returns-in_err-receiver-clause-known : goal.returns-in_err-receiver-clause-known
 returns-in_err-receiver-clause-known c =
