@@ -22,7 +22,7 @@ use crate::changed::{Done, News, Value, changed_sender};
 use crate::marks::Mark;
 use crate::open_slot::OpenSlot;
 use crate::pool::Pool;
-use ffa_model::{EndpointId, ErrorCode, Room};
+use ffa_model::{EndpointId, ErrorCode, Handle, Room};
 use ffa_pages::{KeptPage, PageTable};
 use ffa_physmem::PhysMem;
 use ffa_stage2::Layout;
@@ -44,13 +44,13 @@ impl<O: Room<OpenSlot> + Drop> Pool<O> {
         layout: &Layout,
         pages: &mut PageTable<P>,
         caller: EndpointId,
-        handle: u64,
+        handle: Handle,
         flags: u32,
         news: &mut News,
     ) -> Result<Done, ErrorCode>
         requires { IsShared (memory_of (M.ram ram.old) layout.now pages.old) self.old.slots }
         ensures refusal { let own_rights = own_rights_in pages.old layout.now.base.0 in
-            let transaction = transaction_in self.old.slots handle in
+            let transaction = transaction_in self.old.slots handle.0 in
             result_err result ≡ first_failure (reclaim_guards own_rights caller.0 flags transaction) }
         ensures kept { OnErr result (self.new ≡ self.old) }
         ensures kept_pages { OnErr result (pages.new ≡ pages.old) }
@@ -59,17 +59,17 @@ impl<O: Room<OpenSlot> + Drop> Pool<O> {
         ensures kept_news { OnErr result (news.new ≡ news.old) }
         ensures told { IfOk result (λ done. news.new ≡ Some done.changed) }
         ensures nothing { IfOk result (λ done. done.value ≡ Value.Nothing) }
-        ensures slot { OnOk result (IsClosed self.old self.new handle) }
-        ensures open_transactions { OnOk result (open_in self.new ≡ closed (open_in self.old) handle) }
-        ensures ram { let named = in_ranges layout.now.base.0 (named_ranges (transaction_in self.old.slots handle)) in
+        ensures slot { OnOk result (IsClosed self.old self.new handle.0) }
+        ensures open_transactions { OnOk result (open_in self.new ≡ closed (open_in self.old) handle.0) }
+        ensures ram { let named = in_ranges layout.now.base.0 (named_ranges (transaction_in self.old.slots handle.0)) in
             let right = own_right_at pages.old in let zero = flags == 1 in
             OnOk result (IsMovedFor layout.now (M.ram ram.old) (M.ram ram.new) (place caller.0) named right zero) }
         ensures steps { Only (M.past ram.old) (M.past ram.new)
             (IsMomentFor layout.now (M.ram ram.old) (M.ram ram.new)) }
         ensures ended { EndsSettledFor layout.now (M.ram ram.old) (M.ram ram.new) (M.past ram.new) }
-        ensures pages { let named = in_ranges layout.now.base.0 (named_ranges (transaction_in self.old.slots handle)) in
+        ensures pages { let named = in_ranges layout.now.base.0 (named_ranges (transaction_in self.old.slots handle.0)) in
             OnOk result (IsMarked pages.old pages.new named (Mark.Named None)) }
-        ensures changed { let transaction = transaction_in self.old.slots handle in
+        ensures changed { let transaction = transaction_in self.old.slots handle.0 in
             let whose = changed_reclaimer transaction caller.0 in
             IfOk result (λ done. IsChanged done.changed (named_ranges transaction) whose) }
     {

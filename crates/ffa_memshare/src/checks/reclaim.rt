@@ -14,7 +14,7 @@ use crate::found::FoundReturn;
 use crate::open_slot::OpenSlot;
 use crate::pool::Pool;
 use crate::transaction::OpenTransaction;
-use ffa_model::{Address, EndpointId, Refusal, Room};
+use ffa_model::{Address, EndpointId, Handle, Refusal, Room};
 use ffa_pages::{KeptPage, PageTable};
 
 impl<O: Room<OpenSlot> + Drop> Pool<O> {
@@ -29,21 +29,21 @@ impl<O: Room<OpenSlot> + Drop> Pool<O> {
         pages: &PageTable<P>,
         base: Address,
         caller: EndpointId,
-        handle: u64,
+        handle: Handle,
         flags: u32,
     ) -> Result<FoundReturn, Refusal>
         requires { AreRangesInRam self.now.slots base.0 (length pages.now) }
         ensures refusal { let own_rights = own_rights_in pages.now base.0 in
-            let transaction = transaction_in self.now.slots handle in
+            let transaction = transaction_in self.now.slots handle.0 in
             result_err result ≡ first_refusal (reclaim_guards own_rights caller.0 flags transaction) }
         ensures slot { let slots = self.now.slots in
-            IfOk result (λ found. (t : Transaction) × (pool_slot slots found.slot ≡ Some (handle, t))) }
+            IfOk result (λ found. (t : Transaction) × (pool_slot slots found.slot ≡ Some (handle.0, t))) }
         ensures zero { IfOk result (λ found. found.zero ≡ (flags == 1)) }
     {
         if flags > 1 {
             return Err(Refusal::FlagsReserved);
         }
-        let Some(slot) = self.find(handle) else {
+        let Some(slot) = self.find(handle.0) else {
             return Err(Refusal::NotTheSenders);
         };
         let open = self.at(slot);

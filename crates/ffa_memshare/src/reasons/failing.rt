@@ -25,8 +25,8 @@ use crate::page_run::read_send;
 use crate::pool::Pool;
 use arrayvec::ArrayVec;
 use ffa_model::{
-    Address, Data, EndpointId, Kind, MOST_RANGES, PageNo, Range, Receiver, Refusal, Rights, Room,
-    SendDesc,
+    Address, Data, EndpointId, Handle, Kind, MOST_RANGES, PageNo, Range, Receiver, Refusal, Rights,
+    Room, SendDesc,
 };
 use ffa_pages::{KeptPage, PageTable};
 use ffa_physmem::PhysMem;
@@ -129,10 +129,10 @@ pub fn failing_reclaim<P: Room<KeptPage> + Drop, O: Room<OpenSlot> + Drop>(
     pool: &Pool<O>,
     pages: &PageTable<P>,
     base: Address,
-    handle: u64,
+    handle: Handle,
     refusal: Refusal,
 ) -> Option<PageNo>
-    ensures { let transaction = transaction_in pool.now.slots handle in
+    ensures { let transaction = transaction_in pool.now.slots handle.0 in
         result ≡ failing_reclaim (own_rights_in pages.now base.0) transaction refusal }
 {
     match refusal {
@@ -148,13 +148,13 @@ pub fn failing_reclaim<P: Room<KeptPage> + Drop, O: Room<OpenSlot> + Drop>(
 // Puts the ranges of the transaction with this handle into an empty list, if it is open.
 fn list_ranges<O: Room<OpenSlot> + Drop>(
     pool: &Pool<O>,
-    handle: u64,
+    handle: Handle,
     ranges: &mut ArrayVec<Range, MOST_RANGES>,
 )
     requires { ranges.old.items ≡ [] }
-    ensures { ranges.new.items ≡ named_ranges (transaction_in pool.now.slots handle) }
+    ensures { ranges.new.items ≡ named_ranges (transaction_in pool.now.slots handle.0) }
 {
-    if let Some(slot) = pool.find(handle) {
+    if let Some(slot) = pool.find(handle.0) {
         pool.at(slot).ranges.list_in(ranges);
     }
 }

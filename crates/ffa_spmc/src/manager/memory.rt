@@ -167,7 +167,7 @@ impl<M: PhysMem + Drop, S: Store> Manager<M, S> {
             &records.layout,
             pages,
             runner,
-            handle.0,
+            handle,
             flags,
             news,
         ))

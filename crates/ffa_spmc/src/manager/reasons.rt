@@ -204,7 +204,7 @@ impl<M: PhysMem + Drop, S: Store> Manager<M, S> {
         let base = kept.records.get().layout.base;
         let found = kept
             .pool
-            .check_reclaim(&kept.pages, base, runner, handle.0, flags);
+            .check_reclaim(&kept.pages, base, runner, handle, flags);
         found.err()
     }
 

@@ -80,7 +80,7 @@ impl<M: PhysMem + Drop, S: Store> Manager<M, S> {
             (transaction_of self.now.state handle.0) refusal }
     {
         let base = self.kept.records.get().manifest.ram_base;
-        ffa_memshare::failing_reclaim(&self.kept.pool, &self.kept.pages, base, handle.0, refusal)
+        ffa_memshare::failing_reclaim(&self.kept.pool, &self.kept.pages, base, handle, refusal)
     }
 
     // A page, with what stands in the runner's way there.

@@ -15,7 +15,7 @@ check_reclaim-requires-clause-placed g c = let it = c.at-open.result.now in c.re
 pub returns-in_err-check_reclaim-clause-refusal : goal.returns-in_err-check_reclaim-clause-refusal
 returns-in_err-check_reclaim-clause-refusal g c =
     let slots = c.args.self.now.slots in
-    let h = c.args.handle in
+    let h = c.args.handle.0 in
     let it = c.at-open.result.now in
     let get : finite.get (map_in slots) h ≡ Some (view_of it) = asked-open slots c.in-Some.slot h it c.in-Some.ensures.found c.at-open.ensures.value c.at-open.ensures.open in
     let refused : c.from_residual.result ≡ Err c.in_err-check_reclaim.field-0.0 = search of_calls in
@@ -26,7 +26,7 @@ returns-in_err-check_reclaim-clause-refusal g c =
 pub returns-clause-refusal : goal.returns-clause-refusal
 returns-clause-refusal g c =
     let slots = c.args.self.now.slots in
-    let h = c.args.handle in
+    let h = c.args.handle.0 in
     let it = c.at-open.result.now in
     let get : finite.get (map_in slots) h ≡ Some (view_of it) = asked-open slots c.in-Some.slot h it c.in-Some.ensures.found c.at-open.ensures.value c.at-open.ensures.open in
     c.in_ok-check_reclaim.ensures
