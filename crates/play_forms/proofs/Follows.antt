@@ -21,7 +21,7 @@ use Rattle.play_forms.proofs.CutOff.{cuts_printed}
 use Rattle.play_forms.specs.Reading.{IsBadLine, TakesLine}
 use Rattle.play_forms.specs.Steps.{LeavesOver, PrintsLine}
 use Rattle.play_reasons.specs.Reasons.{reason_if, told_line}
-use Rattle.play_forms.specs.declared.comparison.Difference.{Difference}
+use Rattle.play_forms.specs.declared.comparison.Mismatch.{Mismatch}
 use Rattle.play_forms.specs.declared.form.Form.{Form}
 use Rattle.play_reasons.specs.declared.reason.Reason.{Reason}
 
@@ -151,8 +151,8 @@ module _ (form : Form) (start mid : State) (had has : Option (List ℕ)) (lines 
 
   -- whether it does or not
   pub left_over_compared : (bytes expected more : List ℕ) (place : ℕ) (explain : Bool) → IsAtEnd has → expected ≡ text ++ more → place ≡ length text
-      → (difference : Option Difference) → LeavesOver more number place difference → Compared form start mid had explain expected bytes (Ok difference)
+      → (mismatch : Option Mismatch) → LeavesOver more number place mismatch → Compared form start mid had explain expected bytes (Ok mismatch)
   left_over_compared bytes expected more place explain at_end alike at None none =
       (has, lines, subst (Followed form start mid had has lines) (sym (alike ∙ ap (λ r. text ++ r) none ∙ append-nil text)) f, at_end)
-  left_over_compared bytes expected more place explain at_end alike at (Some difference) (some, is) =
+  left_over_compared bytes expected more place explain at_end alike at (Some mismatch) (some, is) =
       subst (DiffersAt form start mid had explain expected bytes) (sym is) (differs_at_end bytes expected more place explain at_end alike at some)

@@ -14,7 +14,7 @@ use Rattle.play_forms.proofs.Follows.{text_one}
 use Rattle.play_forms.specs.Followed.{Compared, DiffersAt, GoesOnOtherwise, NeverPrints}
 use Rattle.play_reasons.specs.Reasons.{told_line}
 use Rattle.play_forms.specs.Forms.{text_in, text_of_in}
-use Rattle.play_forms.specs.declared.comparison.Difference.{Difference}
+use Rattle.play_forms.specs.declared.comparison.Mismatch.{Mismatch}
 use Rattle.play_forms.specs.declared.form.Form.{Form}
 
 no_feed_first : (c : ℕ) (line : List ℕ) → has_no_feed (c ∷ line) ≡ true → c ≢ feed
@@ -85,20 +85,20 @@ module _ (form : Form) (start : State) (trace expected text more rest : List ℕ
       other rest_text (append_cancel_left text more (own ++ rest_text) (sym alike ∙ sym same ∙ printed))
 
 -- where a text differs, none of the lines that the bytes can be print what is expected
-pub never_prints : (form : Form) (start now : State) (had : Option (List ℕ)) (explain : Bool) (expected bytes : List ℕ) (difference : Difference) → DiffersAt form start now had explain expected bytes difference → NeverPrints form start had expected
-never_prints form start now None explain expected bytes difference d = tt
-never_prints form start now (Some trace) explain expected bytes difference d = λ others each told same. of d.left d.followed.read d.differs others each told same
+pub never_prints : (form : Form) (start now : State) (had : Option (List ℕ)) (explain : Bool) (expected bytes : List ℕ) (mismatch : Mismatch) → DiffersAt form start now had explain expected bytes mismatch → NeverPrints form start had expected
+never_prints form start now None explain expected bytes mismatch d = tt
+never_prints form start now (Some trace) explain expected bytes mismatch d = λ others each told same. of d.left d.followed.read d.differs others each told same
   where
-    of : (left : Option (List ℕ)) → Consumes (Some trace) left (joined d.lines) → GoesOnOtherwise form difference.number explain (told_line difference.reason) d.state now left bytes d.more
+    of : (left : Option (List ℕ)) → Consumes (Some trace) left (joined d.lines) → GoesOnOtherwise form mismatch.number explain (told_line mismatch.reason) d.state now left bytes d.more
         → (others : List (List ℕ)) → are_lines others ≡ true → trace ≡ joined others → text_in form 1 start others ≡ expected → ⊥
     of None read differs others each told same = absurd read
     of (Some rest) read (inr (none, stays, some)) others each told same =
         never_longer form start trace expected d.text d.more rest d.lines others d.followed.each read d.followed.said d.alike each told same none some
     of (Some rest) read (inl (None, next, good, moves, other, told_why)) others each told same = absurd next
     of (Some rest) read (inl (Some after_line, next, good, moves, other, told_why)) others each told same =
-        never_other form start trace expected d.text d.more rest d.lines others d.followed.each read d.followed.said d.alike each told same difference.number d.state bytes after_line d.number d.followed.state next good other
+        never_other form start trace expected d.text d.more rest d.lines others d.followed.each read d.followed.said d.alike each told same mismatch.number d.state bytes after_line d.number d.followed.state next good other
 
-pub compared_unequal : (form : Form) (start now : State) (had : Option (List ℕ)) (explain : Bool) (expected bytes : List ℕ) (difference : Option Difference) → Compared form start now had explain expected bytes (Ok difference)
-    → IfSome difference (λ _. NeverPrints form start had expected)
+pub compared_unequal : (form : Form) (start now : State) (had : Option (List ℕ)) (explain : Bool) (expected bytes : List ℕ) (mismatch : Option Mismatch) → Compared form start now had explain expected bytes (Ok mismatch)
+    → IfSome mismatch (λ _. NeverPrints form start had expected)
 compared_unequal form start now had explain expected bytes None d = tt
-compared_unequal form start now had explain expected bytes (Some difference) d = never_prints form start now had explain expected bytes difference d
+compared_unequal form start now had explain expected bytes (Some mismatch) d = never_prints form start now had explain expected bytes mismatch d

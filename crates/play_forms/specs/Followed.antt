@@ -9,7 +9,7 @@ use Rattle.play_syntax.specs.Output.{TookFront}
 use Rattle.play_syntax.specs.declared.output.PlayError.{PlayError}
 use Rattle.play_syntax.specs.declared.output.PlayError.TheVariants.{Read, Write, NoMemory, BadLine}
 use Rattle.play_forms.specs.declared.form.Form.{Form}
-use Rattle.play_forms.specs.declared.comparison.Difference.{Difference}
+use Rattle.play_forms.specs.declared.comparison.Mismatch.{Mismatch}
 use Rattle.play_forms.specs.Cut.{CutsTo}
 use Rattle.play_forms.specs.Forms.{text_in, text_of_in}
 use Rattle.play_reasons.specs.Reasons.{reason_of_bytes, told_line}
@@ -76,7 +76,7 @@ GoesOnOtherwise form number explain told state now left line more =
 
 -- the text of these lines begins what is expected, and then it goes on otherwise
 pub record DiffersAt (form : Form) (start now : State) (had : Option (List ℕ)) (explain : Bool)
-    (expected bytes : List ℕ) (difference : Difference) : Type 0 where
+    (expected bytes : List ℕ) (mismatch : Mismatch) : Type 0 where
   pub state : State
   pub left : Option (List ℕ)
   pub lines : List (List ℕ)
@@ -84,18 +84,18 @@ pub record DiffersAt (form : Form) (start now : State) (had : Option (List ℕ))
   pub more : List ℕ
   pub followed : Followed form start state had left lines text
   pub alike : expected ≡ text ++ more
-  pub number : difference.number ≡ 1 + length lines
-  pub place : difference.place ≡ length text
-  pub differs : GoesOnOtherwise form difference.number explain (told_line difference.reason) state now left bytes more
+  pub number : mismatch.number ≡ 1 + length lines
+  pub place : mismatch.place ≡ length text
+  pub differs : GoesOnOtherwise form mismatch.number explain (told_line mismatch.reason) state now left bytes more
 
 -- A comparison: the whole text is what is expected, or it differs, or a line is bad, or no more could be read. It
 -- writes nothing, and of what it leaves where there is no memory nothing is said.
 abbrev pub Compared : Form → State → State → Option (List ℕ) → Bool → List ℕ → List ℕ
-    → Result (Option Difference) PlayError → Type 0
+    → Result (Option Mismatch) PlayError → Type 0
 Compared form start now had explain expected bytes (Ok None) =
     (left : Option (List ℕ)) × (lines : List (List ℕ)) × Followed form start now had left lines expected × IsAtEnd left
-Compared form start now had explain expected bytes (Ok (Some difference)) =
-    DiffersAt form start now had explain expected bytes difference
+Compared form start now had explain expected bytes (Ok (Some mismatch)) =
+    DiffersAt form start now had explain expected bytes mismatch
 Compared form start now had explain expected bytes (Err (BadLine n)) =
     (text : List ℕ) × (more : List ℕ) × (expected ≡ text ++ more) × EndsBadly form start now had text bytes n
 Compared form start now had explain expected bytes (Err Read) =

@@ -13,7 +13,7 @@ use Rattle.play_syntax.specs.declared.output.PlayError.{PlayError}
 use Rattle.play_syntax.specs.declared.output.PlayError.TheVariants.{Read, Write, NoMemory, BadLine}
 use Rattle.play_reasons.specs.Reasons.{reason_if, told_line}
 use Rattle.play_reasons.specs.declared.reason.Reason.{Reason}
-use Rattle.play_forms.specs.declared.comparison.Difference.{Difference}
+use Rattle.play_forms.specs.declared.comparison.Mismatch.{Mismatch}
 use Rattle.play_forms.specs.declared.form.Form.{Form}
 use Rattle.play_forms.specs.Forms.{line_text_in, spoken_in, unnumbered_in}
 
@@ -77,7 +77,7 @@ Refuses old new number (Err Write) = ⊥
 -- OF A COMPARISON
 
 -- no line is left: the expected text ends, or it differs where it goes on
-abbrev pub LeavesOver : List ℕ → ℕ → ℕ → Option Difference → Type 0
+abbrev pub LeavesOver : List ℕ → ℕ → ℕ → Option Mismatch → Type 0
 LeavesOver rest number place None = rest ≡ []
-LeavesOver rest number place (Some difference) =
-    (1 ≤ length rest) × (difference ≡ record { number = number; place = place; reason = None })
+LeavesOver rest number place (Some mismatch) =
+    (1 ≤ length rest) × (mismatch ≡ record { number = number; place = place; reason = None })

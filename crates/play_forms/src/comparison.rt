@@ -17,7 +17,7 @@ use std::io::BufRead;
 
 /// Where a text first differs from what is expected.
 #[derive(Clone, Copy)]
-pub struct Difference {
+pub struct Mismatch {
     /// The number of the line whose text differs, counted from 1, or of the line behind the last, where the expected
     /// text goes on.
     pub number: u64,
@@ -42,7 +42,7 @@ pub fn compare<P: Playable, A: Allocator + Copy, R: BufRead>(
     expected: &[u8],
     bytes: &mut Vec<u8, A>,
     text: &mut Vec<u8, A>,
-) -> Result<Option<Difference>, PlayError>
+) -> Result<Option<Mismatch>, PlayError>
     ensures compared { let had = R.remaining reader.old in
         Compared plain player.old.state player.new.state had explain expected.now bytes.new.items result }
     ensures unequal { let had = R.remaining reader.old in
@@ -54,7 +54,7 @@ pub fn compare<P: Playable, A: Allocator + Copy, R: BufRead>(
         text.clear();
         let outcome = put_plain(player, alloc, &line, text)?;
         let Some(more) = rest.strip_prefix(text.as_slice()) else {
-            return Ok(Some(Difference {
+            return Ok(Some(Mismatch {
                 number,
                 place: expected.len() - rest.len(),
                 reason: reason_of(player, explain, &line, outcome),
@@ -66,13 +66,13 @@ pub fn compare<P: Playable, A: Allocator + Copy, R: BufRead>(
 }
 
 // The difference where no line is left: there is one if the expected text goes on.
-fn left_over(rest: &[u8], number: u64, place: usize) -> Option<Difference>
+fn left_over(rest: &[u8], number: u64, place: usize) -> Option<Mismatch>
     ensures { LeavesOver rest.now number place result }
 {
     if rest.is_empty() {
         return None;
     }
-    Some(Difference {
+    Some(Mismatch {
         number,
         place,
         reason: None,

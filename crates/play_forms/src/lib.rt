@@ -10,7 +10,7 @@ mod playing;
 mod read;
 mod reason;
 
-pub use comparison::{Difference, compare};
+pub use comparison::{Mismatch, compare};
 pub use form::{Form, make_text};
 pub use guards::{Asks, Breach, guard_text, play_guarded};
 pub use playing::play;

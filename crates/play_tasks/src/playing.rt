@@ -138,7 +138,7 @@ pub(crate) fn compare<'a, A: Allocator + Copy, P: Playable, R: Read + Drop, W: W
 // Tells `out` that the text of this line is another than is expected from there on, and answers so.
 fn tell_difference<A: Allocator, W: Write>(
     alloc: A,
-    place: play_forms::Difference,
+    place: play_forms::Mismatch,
     line: &[u8],
     expected: &[u8],
     text: &[u8],

@@ -3,7 +3,7 @@
 use crate::checks::{holds, same, same_at};
 use crate::machines::{FlatPlayer, booted};
 use ffa_model::{FaultKind, built_in};
-use play_forms::{Difference, Form, compare, next_line, play};
+use play_forms::{Form, Mismatch, compare, next_line, play};
 use play_player::Player;
 use play_reasons::line_fault;
 use play_syntax::{PlayError, text};
@@ -178,7 +178,7 @@ fn says_what_is_wrong_with_a_line(rt: HostRuntime) -> Result<(), Fail> {
 }
 
 // Where a play of the trace first differs from the expected text.
-fn compared(alloc: Global, expected: &[u8]) -> Result<Result<Option<Difference>, PlayError>, Fail> {
+fn compared(alloc: Global, expected: &[u8]) -> Result<Result<Option<Mismatch>, PlayError>, Fail> {
     compared_on(&mut player(alloc)?, alloc, expected)
 }
 
@@ -186,7 +186,7 @@ fn compared_on(
     player: &mut FlatPlayer,
     alloc: Global,
     expected: &[u8],
-) -> Result<Result<Option<Difference>, PlayError>, Fail> {
+) -> Result<Result<Option<Mismatch>, PlayError>, Fail> {
     let (mut bytes, mut text) = (Vec::new(alloc), Vec::new(alloc));
     let mut left = TRACE.as_bytes();
     Ok(compare(
@@ -210,11 +210,11 @@ fn differs_at(
 }
 
 // Where a comparison found a difference, of which no reason is told.
-fn place_of(found: Result<Option<Difference>, PlayError>) -> Option<(u64, usize)> {
+fn place_of(found: Result<Option<Mismatch>, PlayError>) -> Option<(u64, usize)> {
     match found {
         Ok(
             Some(
-                Difference {
+                Mismatch {
                     number,
                     place,
                     reason: None,
