@@ -50,8 +50,12 @@ normal_world_properties ms = do
   if is_set 0 n || is_set 3 n then Err Property else Ok n
 
 abbrev pub endpoint_of : versions.Version → List ℕ → ℕ → List Region → Endpoint
-endpoint_of version uuid properties regions =
-    record { version = version; uuid = uuid; properties = record { 0 = properties }; regions = record { items = regions } }
+endpoint_of version uuid properties regions = record {
+  version = version;
+  uuid = uuid;
+  properties = record { 0 = properties };
+  regions = record { items = regions };
+}
 
 -- the first table
 unfoldable pub normal_world : (Region → Bool) → Members → Result Endpoint ManifestError

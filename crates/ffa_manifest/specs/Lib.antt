@@ -1,7 +1,7 @@
 -- SPDX-License-Identifier: MIT OR Apache-2.0
 pub mod Reading
 pub mod Keys
-pub mod Place
+pub mod RegionSpace
 pub mod Regions
 pub mod Endpoints
 pub mod Document

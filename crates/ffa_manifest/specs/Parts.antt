@@ -51,10 +51,11 @@ endpoint_tests is_placed before e =
 -- the tests of a machine: RAM's place and size, the count of endpoints, and each endpoint whole before the next
 unfoldable pub tests_of : Parts → Tests
 tests_of parts =
+    let tests = endpoint_tests (is_placed parts.ram_base parts.ram_blocks (length parts.endpoints)) in
     (is_ram_base parts.ram_base, RamBase)
     ∷ (is_from_to 1 MOST_BLOCKS parts.ram_blocks, RamBlocks)
     ∷ (is_from_to 1 MOST_ENDPOINTS (length parts.endpoints), EndpointCount)
-    ∷ tests_of_each (endpoint_tests (is_placed parts.ram_base parts.ram_blocks (length parts.endpoints))) [] parts.endpoints
+    ∷ tests_of_each tests [] parts.endpoints
 
 unfoldable pub first_cause : Parts → Option ManifestError
 first_cause parts = first_failure (tests_of parts)

@@ -21,7 +21,8 @@ tested test e None = Err e
 tested test e (Some n) = if test n then Ok n else Err e
 
 -- what was read before, and then these items in order, each read in the light of what was read before it
-abbrev pub read_each : {A : Type 0} → (List A → Data → Result A ManifestError) → List A → Items → Result (List A) ManifestError
+abbrev pub read_each : {A : Type 0} → (List A → Data → Result A ManifestError) → List A → Items
+    → Result (List A) ManifestError
 read_each one before no_items = Ok before
 read_each one before (item d ds) = one before d >>= λ a. read_each one (before ++ a ∷ []) ds
 

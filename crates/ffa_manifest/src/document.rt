@@ -10,7 +10,7 @@ ghost use Rattle.ffa_manifest.specs.Endpoints.{endpoint_items as endpoint_items_
 use crate::endpoints::endpoints_from;
 use crate::error::ManifestError;
 use crate::keys::{integer_at, items_at, only_keys};
-use crate::place::{Place, is_ram_base};
+use crate::region_space::{RegionSpace, is_ram_base};
 use ffa_model::{Address, MOST_BLOCKS, MOST_ENDPOINTS, Manifest};
 use toml::{Table, Value};
 
@@ -68,11 +68,11 @@ pub(crate) fn machine(table: &Table) -> Result<Manifest, ManifestError>
     let ram_base = ram_base_at(table)?;
     let ram_blocks = ram_blocks_at(table)?;
     let values = endpoint_items(table)?;
-    let place = Place {
+    let space = RegionSpace {
         base: ram_base,
         blocks: ram_blocks,
         endpoints: values.len() as u32,
     };
-    let endpoints = endpoints_from(values, &place)?;
+    let endpoints = endpoints_from(values, &space)?;
     Ok(Manifest::of(Address(ram_base), ram_blocks, endpoints))
 }

@@ -4,13 +4,13 @@ ghost use Rattle.std.specs.Prelude.{◌≡◌, ◌≤◌, ◌||◌, length};
 ghost use Rattle.ffa_model.specs.Bits.{is_set};
 ghost use Rattle.toml.specs.View.{view, table_view, items_view};
 ghost use Rattle.ffa_manifest.specs.Reading.{Exact};
-ghost use Rattle.ffa_manifest.specs.Place.{is_in};
+ghost use Rattle.ffa_manifest.specs.RegionSpace.{is_in};
 ghost use Rattle.ffa_manifest.specs.Endpoints.{normal_world_keys as normal_world_keys_in, partition_keys as partition_keys_in, version_at as version_in, version_of as version_named, uuid_at as uuid_in, properties_at as properties_in, normal_world_properties as normal_world_properties_in, normal_world as normal_world_in, partition as partition_in, next_endpoint as next_in, endpoints_from as endpoints_in};
 
 use crate::error::ManifestError;
 use crate::identifier::identifier;
 use crate::keys::{integer_at, only_keys, text_at};
-use crate::place::Place;
+use crate::region_space::RegionSpace;
 use crate::regions::regions_at;
 use arrayvec::ArrayVec;
 use bitflags::Flags;
@@ -95,13 +95,13 @@ pub(crate) fn normal_world_properties(table: &Table) -> Result<Properties, Manif
 }
 
 #[tactic(auto, unfolding(crate::specs::Endpoints::normal_world))]
-fn normal_world(table: &Table, place: &Place) -> Result<Endpoint, ManifestError>
-    ensures { Exact (λ e. e) result (normal_world_in (is_in place.now) (table_view table.now)) }
+fn normal_world(table: &Table, space: &RegionSpace) -> Result<Endpoint, ManifestError>
+    ensures { Exact (λ e. e) result (normal_world_in (is_in space.now) (table_view table.now)) }
 {
     normal_world_keys(table)?;
     let version = version_at(table)?;
     let properties = normal_world_properties(table)?;
-    let regions = regions_at(table, place, &[])?;
+    let regions = regions_at(table, space, &[])?;
     Ok(Endpoint {
         version,
         uuid: [0; 16],
@@ -111,14 +111,18 @@ fn normal_world(table: &Table, place: &Place) -> Result<Endpoint, ManifestError>
 }
 
 #[tactic(auto, unfolding(crate::specs::Endpoints::partition))]
-fn partition(table: &Table, place: &Place, before: &[Endpoint]) -> Result<Endpoint, ManifestError>
-    ensures { Exact (λ e. e) result (partition_in (is_in place.now) before.now (table_view table.now)) }
+fn partition(
+    table: &Table,
+    space: &RegionSpace,
+    before: &[Endpoint],
+) -> Result<Endpoint, ManifestError>
+    ensures { Exact (λ e. e) result (partition_in (is_in space.now) before.now (table_view table.now)) }
 {
     partition_keys(table)?;
     let version = version_at(table)?;
     let uuid = uuid_at(table)?;
     let properties = properties_at(table)?;
-    let regions = regions_at(table, place, before)?;
+    let regions = regions_at(table, space, before)?;
     Ok(Endpoint {
         version,
         uuid,
@@ -130,19 +134,19 @@ fn partition(table: &Table, place: &Place, before: &[Endpoint]) -> Result<Endpoi
 #[tactic(auto, unfolding(crate::specs::Endpoints::next_endpoint))]
 pub(crate) fn next_endpoint(
     value: &Value,
-    place: &Place,
+    space: &RegionSpace,
     before: &[Endpoint],
 ) -> Result<Endpoint, ManifestError>
-    ensures { Exact (λ e. e) result (next_in (is_in place.now) before.now (view value.now)) }
+    ensures { Exact (λ e. e) result (next_in (is_in space.now) before.now (view value.now)) }
 {
     let table = match value.as_table() {
         None => return Err(ManifestError::WrongKind),
         Some(table) => table,
     };
     if before.is_empty() {
-        normal_world(table, place)
+        normal_world(table, space)
     } else {
-        partition(table, place, before)
+        partition(table, space, before)
     }
 }
 
@@ -150,14 +154,14 @@ pub(crate) fn next_endpoint(
 #[tactic(auto, unfolding(crate::specs::Endpoints::endpoints_from))]
 pub(crate) fn endpoints_from(
     values: &[Value],
-    place: &Place,
+    space: &RegionSpace,
 ) -> Result<ArrayVec<Endpoint, MOST_ENDPOINTS>, ManifestError>
     requires { length values.now ≤ MOST_ENDPOINTS }
-    ensures { Exact (λ es. es.items) result (endpoints_in (is_in place.now) (items_view values.now)) }
+    ensures { Exact (λ es. es.items) result (endpoints_in (is_in space.now) (items_view values.now)) }
 {
     let mut endpoints = ArrayVec::new();
     for value in values {
-        let endpoint = next_endpoint(value, place, endpoints.as_slice())?;
+        let endpoint = next_endpoint(value, space, endpoints.as_slice())?;
         endpoints.push(endpoint);
     }
     Ok(endpoints)

@@ -46,7 +46,7 @@ pub enum ManifestError {
     /// A region has a page of a region that was read before.
     #[error("M13 RegionOverlap")]
     RegionOverlap,
-    /// `version` isn't `1.1`.
+    /// `version` is neither `1.1` nor `compact`.
     #[error("M14 Version")]
     Version,
 }

@@ -12,14 +12,14 @@ mod identifier;
 mod keys;
 mod locate;
 mod parts;
-mod place;
 pub mod refusal;
+mod region_space;
 mod regions;
 
 pub use error::ManifestError;
 pub use ffa_model::Manifest;
 pub use parts::of_parts;
-pub use refusal::Refusal;
+pub use refusal::ManifestRefusal;
 use std::alloc::{AllocError, Global};
 
 /// Reads the text of a manifest: a machine's RAM, and its endpoints with their regions.
@@ -48,7 +48,7 @@ pub fn read(alloc: Global, text: &str) -> Result<Manifest, ManifestError>
 ///
 /// There is no memory.
 #[tactic(auto, unfolding(crate::specs::Document::machine_of))]
-pub fn explain(alloc: Global, text: &str) -> Result<Option<Refusal>, AllocError>
+pub fn explain(alloc: Global, text: &str) -> Result<Option<ManifestRefusal>, AllocError>
     ensures accepted { IfOk result (λ found. IsNone found ↔ IsOk (machine_of text.now)) }
     ensures refused { IfOk result (λ found. IfSome found (λ r. machine_of text.now ≡ Err r.cause)) }
 {
@@ -56,7 +56,7 @@ pub fn explain(alloc: Global, text: &str) -> Result<Option<Refusal>, AllocError>
         Ok(table) => table,
         Err(e) if e.is_memory() => return Err(AllocError),
         Err(e) => {
-            return Ok(Some(Refusal {
+            return Ok(Some(ManifestRefusal {
                 cause: ManifestError::Toml,
                 place: locate::in_text(alloc, &e)?,
             }));
@@ -64,7 +64,7 @@ pub fn explain(alloc: Global, text: &str) -> Result<Option<Refusal>, AllocError>
     };
     match document::machine(&table) {
         Ok(_) => Ok(None),
-        Err(cause) => Ok(Some(Refusal {
+        Err(cause) => Ok(Some(ManifestRefusal {
             cause,
             place: locate::in_top(alloc, &table)?,
         })),

@@ -2,7 +2,8 @@
 //! Where a document is refused.
 //!
 //! This is a second walk over its tables, by the functions that read them and in their order, up to the first that
-//! refuses: so no rule stands here. That it ends where the cause applies is shown by tests.
+//! refuses: they say which value that is, and what stands here is the words for what is wrong with it. That the walk
+//! ends where the cause applies is shown by tests.
 ghost use Rattle.std.specs.Prelude.{◌≤◌, length};
 
 use crate::document::{TOP_KEYS, endpoint_items, ram_base_at, ram_blocks_at, top_keys};
@@ -11,8 +12,8 @@ use crate::endpoints::{
     normal_world_properties, partition_keys, properties_at, uuid_at, version_at,
 };
 use crate::keys::is_among;
-use crate::place::Place;
 use crate::refusal::{Fault, Found, Location};
+use crate::region_space::RegionSpace;
 use crate::regions::{
     REGION_KEYS, base_at, next_region, pages_at, region, region_items, region_keys, regions_from,
     rights_at,
@@ -53,12 +54,12 @@ pub(crate) fn in_top(alloc: Global, table: &Table) -> Result<Location, AllocErro
             "no array, or too few or too many tables",
         )?,
         (Ok(base), Ok(blocks), Ok(values)) => {
-            let place = Place {
+            let space = RegionSpace {
                 base,
                 blocks,
                 endpoints: values.len() as u32,
             };
-            return in_endpoints(alloc, table, values, &place);
+            return in_endpoints(alloc, table, values, &space);
         }
     };
     Ok(Location {
@@ -73,16 +74,16 @@ fn in_endpoints(
     alloc: Global,
     table: &Table,
     values: &[Value],
-    place: &Place,
+    space: &RegionSpace,
 ) -> Result<Location, AllocError>
     requires { length values.now ≤ MOST_ENDPOINTS }
 {
     for (index, value) in values.iter().enumerate() {
-        let Ok(before) = endpoints_from(&values[..index], place) else {
+        let Ok(before) = endpoints_from(&values[..index], space) else {
             break;
         };
-        if next_endpoint(value, place, before.as_slice()).is_err() {
-            let (region, found) = in_endpoint(alloc, value, place, before.as_slice())?;
+        if next_endpoint(value, space, before.as_slice()).is_err() {
+            let (region, found) = in_endpoint(alloc, value, space, before.as_slice())?;
             return Ok(Location {
                 endpoint: Some(index + 1),
                 region,
@@ -106,7 +107,7 @@ fn in_endpoints(
 fn in_endpoint(
     alloc: Global,
     value: &Value,
-    place: &Place,
+    space: &RegionSpace,
     before: &[Endpoint],
 ) -> Result<(Option<usize>, Found), AllocError> {
     let Some(table) = value.as_table() else {
@@ -126,7 +127,7 @@ fn in_endpoint(
     } else if is_first && normal_world_properties(table).is_err() {
         at_key(alloc, table, "properties", "none of 0, 2, 4 and 6")?
     } else {
-        return in_regions(alloc, table, place, before);
+        return in_regions(alloc, table, space, before);
     };
     Ok((None, found))
 }
@@ -135,16 +136,16 @@ fn in_endpoint(
 fn in_regions(
     alloc: Global,
     table: &Table,
-    place: &Place,
+    space: &RegionSpace,
     before: &[Endpoint],
 ) -> Result<(Option<usize>, Found), AllocError> {
     if let Ok(values) = region_items(table) {
         for (index, value) in values.iter().enumerate() {
-            let Ok(own) = regions_from(&values[..index], place, before) else {
+            let Ok(own) = regions_from(&values[..index], space, before) else {
                 break;
             };
-            if next_region(value, place, before, own.as_slice()).is_err() {
-                return Ok((Some(index + 1), in_region(alloc, value, place)?));
+            if next_region(value, space, before, own.as_slice()).is_err() {
+                return Ok((Some(index + 1), in_region(alloc, value, space)?));
             }
         }
     }
@@ -160,7 +161,7 @@ fn in_regions(
 }
 
 // What is refused in a region.
-fn in_region(alloc: Global, value: &Value, place: &Place) -> Result<Found, AllocError> {
+fn in_region(alloc: Global, value: &Value, space: &RegionSpace) -> Result<Found, AllocError> {
     let Some(table) = value.as_table() else {
         return whole(alloc, value, "no table");
     };
@@ -177,7 +178,7 @@ fn in_region(alloc: Global, value: &Value, place: &Place) -> Result<Found, Alloc
             "rights",
             "none of \"ro\", \"rw\", \"rox\" and \"rwx\"",
         )
-    } else if region(table, place).is_err() {
+    } else if region(table, space).is_err() {
         whole(
             alloc,
             value,

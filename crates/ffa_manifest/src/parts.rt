@@ -4,12 +4,12 @@ ghost use Rattle.std.specs.Prelude.{true, ◌≡◌, ◌↔◌, ◌++◌, [], So
 ghost use Rattle.std.specs.Result.{result_err};
 ghost use Rattle.ffa_model.specs.Manifest.{is_accepted, is_nil as is_nil_in, regions_of};
 ghost use Rattle.ffa_manifest.specs.Document.{parts_of};
-ghost use Rattle.ffa_manifest.specs.Place.{is_in};
+ghost use Rattle.ffa_manifest.specs.RegionSpace.{is_in};
 ghost use Rattle.ffa_manifest.specs.Parts.{parts_from, first_cause, first_failure, tests_of_each, region_tests, endpoint_tests, are_properties_after, is_uuid_after};
 
 use crate::endpoints::receives;
 use crate::error::ManifestError;
-use crate::place::{Place, is_ram_base};
+use crate::region_space::{RegionSpace, is_ram_base};
 use crate::regions::{is_apart_from_all, is_free};
 use arrayvec::ArrayVec;
 use bitflags::Flags;
@@ -42,15 +42,16 @@ fn are_properties_after(before: &[Endpoint], properties: Properties) -> bool
 // A region's place, and whether a region of an endpoint before it or an own one before it has a page of it.
 #[tactic(auto, using(crate::proofs::Taken::is_free_of_both), unfolding(crate::specs::Parts::region_tests))]
 fn check_region(
-    place: &Place,
+    space: &RegionSpace,
     before: &[Endpoint],
     own: &[Region],
     region: &Region,
 ) -> Result<(), ManifestError>
-    ensures { result_err result ≡ first_failure (region_tests (is_in place.now) (regions_of before.now ++ own.now) region.now) }
+    ensures { let taken = regions_of before.now ++ own.now in
+        result_err result ≡ first_failure (region_tests (is_in space.now) taken region.now) }
 {
     let (base, pages) = (u64::from(region.base), u64::from(region.pages));
-    if place.region(base, pages, region.rights).is_none() {
+    if space.region(base, pages, region.rights).is_none() {
         return Err(ManifestError::RegionOutside);
     }
     if is_free(region, before) && is_apart_from_all(region, own) {
@@ -62,14 +63,15 @@ fn check_region(
 
 // The regions of an endpoint after these.
 fn check_regions(
-    place: &Place,
+    space: &RegionSpace,
     before: &[Endpoint],
     regions: &[Region],
 ) -> Result<(), ManifestError>
-    ensures { result_err result ≡ first_failure (tests_of_each (λ own r. region_tests (is_in place.now) (regions_of before.now ++ own) r) [] regions.now) }
+    ensures { result_err result ≡ first_failure
+        (tests_of_each (λ own r. region_tests (is_in space.now) (regions_of before.now ++ own) r) [] regions.now) }
 {
     for (index, region) in regions.iter().enumerate() {
-        check_region(place, before, &regions[..index], region)?;
+        check_region(space, before, &regions[..index], region)?;
     }
     Ok(())
 }
@@ -77,11 +79,11 @@ fn check_regions(
 // An endpoint after these.
 #[tactic(auto, unfolding(crate::specs::Parts::endpoint_tests))]
 fn check_endpoint(
-    place: &Place,
+    space: &RegionSpace,
     before: &[Endpoint],
     endpoint: &Endpoint,
 ) -> Result<(), ManifestError>
-    ensures { result_err result ≡ first_failure (endpoint_tests (is_in place.now) before.now endpoint.now) }
+    ensures { result_err result ≡ first_failure (endpoint_tests (is_in space.now) before.now endpoint.now) }
 {
     if !is_uuid_after(before, &endpoint.uuid) {
         return Err(ManifestError::Uuid);
@@ -92,14 +94,14 @@ fn check_endpoint(
     if endpoint.regions.is_empty() {
         return Err(ManifestError::RegionCount);
     }
-    check_regions(place, before, endpoint.regions.as_slice())
+    check_regions(space, before, endpoint.regions.as_slice())
 }
 
-fn check_endpoints(place: &Place, endpoints: &[Endpoint]) -> Result<(), ManifestError>
-    ensures { result_err result ≡ first_failure (tests_of_each (endpoint_tests (is_in place.now)) [] endpoints.now) }
+fn check_endpoints(space: &RegionSpace, endpoints: &[Endpoint]) -> Result<(), ManifestError>
+    ensures { result_err result ≡ first_failure (tests_of_each (endpoint_tests (is_in space.now)) [] endpoints.now) }
 {
     for (index, endpoint) in endpoints.iter().enumerate() {
-        check_endpoint(place, &endpoints[..index], endpoint)?;
+        check_endpoint(space, &endpoints[..index], endpoint)?;
     }
     Ok(())
 }
@@ -128,11 +130,11 @@ pub fn of_parts(
     if endpoints.is_empty() {
         return Err(ManifestError::EndpointCount);
     }
-    let place = Place {
+    let space = RegionSpace {
         base: ram_base,
         blocks: ram_blocks,
         endpoints: endpoints.len() as u32,
     };
-    check_endpoints(&place, endpoints.as_slice())?;
+    check_endpoints(&space, endpoints.as_slice())?;
     Ok(Manifest::of(Address(ram_base), ram_blocks, endpoints))
 }

@@ -7,7 +7,7 @@ use std::fmt;
 
 /// Why a manifest is refused, and where. It prints as one line.
 #[derive(Debug, Drop)]
-pub struct Refusal {
+pub struct ManifestRefusal {
     /// The first cause that applies, in the order in which the text is read.
     pub cause: ManifestError,
     /// Where it applies.
@@ -76,7 +76,7 @@ impl fmt::Display for Fault {
     }
 }
 
-impl fmt::Display for Refusal {
+impl fmt::Display for ManifestRefusal {
     fn fmt<W: fmt::Write>(&self, f: &mut fmt::Formatter<W>) -> fmt::Result {
         let found = &self.place.found;
         match (self.place.endpoint, self.place.region) {
@@ -89,7 +89,7 @@ impl fmt::Display for Refusal {
     }
 }
 
-impl std::error::Error for Refusal {}
+impl std::error::Error for ManifestRefusal {}
 
 impl fmt::Display for Found {
     fn fmt<W: fmt::Write>(&self, f: &mut fmt::Formatter<W>) -> fmt::Result {

@@ -7,12 +7,12 @@ ghost use Rattle.ffa_model.specs.Manifest.{is_apart, regions_of};
 ghost use Rattle.ffa_manifest.specs.Reading.{Exact};
 ghost use Rattle.ffa_manifest.specs.declared.error.ManifestError.TheVariants.{RegionCount};
 ghost use Rattle.ffa_manifest.specs.Keys.{items_at};
-ghost use Rattle.ffa_manifest.specs.Place.{is_in};
+ghost use Rattle.ffa_manifest.specs.RegionSpace.{is_in};
 ghost use Rattle.ffa_manifest.specs.Regions.{region_keys as keys_in, base_at as base_in, pages_at as pages_in, rights_named as rights_of_word, rights_at as rights_in, region as region_in, is_free as is_free_in, next_region as next_in, regions_from as regions_in, regions_at as regions_of_table};
 
 use crate::error::ManifestError;
 use crate::keys::{integer_at, items_at, only_keys, text_at};
-use crate::place::Place;
+use crate::region_space::RegionSpace;
 use arrayvec::ArrayVec;
 use ffa_model::{Data, Endpoint, MOST_REGIONS, Region, Rights};
 use toml::{Table, Value};
@@ -70,15 +70,15 @@ pub(crate) fn rights_at(table: &Table) -> Result<Rights, ManifestError>
 }
 
 #[tactic(auto, unfolding(crate::specs::Regions::region))]
-pub(crate) fn region(table: &Table, place: &Place) -> Result<Region, ManifestError>
-    ensures { Exact (λ r. r) result (region_in (is_in place.now) (table_view table.now)) }
+pub(crate) fn region(table: &Table, space: &RegionSpace) -> Result<Region, ManifestError>
+    ensures { Exact (λ r. r) result (region_in (is_in space.now) (table_view table.now)) }
 {
     region_keys(table)?;
     let base = base_at(table)?;
     let pages = pages_at(table)?;
     let rights = rights_at(table)?;
     match (base, pages) {
-        (Some(base), Some(pages)) => place
+        (Some(base), Some(pages)) => space
             .region(base, pages, rights)
             .ok_or(ManifestError::RegionOutside),
         _ => Err(ManifestError::RegionOutside),
@@ -109,17 +109,17 @@ pub(crate) fn is_free(region: &Region, endpoints: &[Endpoint]) -> bool
 #[tactic(auto, using(crate::proofs::Taken::is_free_of_both), unfolding(crate::specs::Regions::next_region))]
 pub(crate) fn next_region(
     value: &Value,
-    place: &Place,
+    space: &RegionSpace,
     endpoints: &[Endpoint],
     own: &[Region],
 ) -> Result<Region, ManifestError>
-    ensures { Exact (λ r. r) result (next_in (is_in place.now) (regions_of endpoints.now ++ own.now) (view value.now)) }
+    ensures { Exact (λ r. r) result (next_in (is_in space.now) (regions_of endpoints.now ++ own.now) (view value.now)) }
 {
     let table = match value.as_table() {
         None => return Err(ManifestError::WrongKind),
         Some(table) => table,
     };
-    let region = region(table, place)?;
+    let region = region(table, space)?;
     if is_free(&region, endpoints) && is_apart_from_all(&region, own) {
         Ok(region)
     } else {
@@ -130,15 +130,16 @@ pub(crate) fn next_region(
 #[tactic(auto, unfolding(crate::specs::Regions::regions_from))]
 pub(crate) fn regions_from(
     values: &[Value],
-    place: &Place,
+    space: &RegionSpace,
     endpoints: &[Endpoint],
 ) -> Result<ArrayVec<Region, MOST_REGIONS>, ManifestError>
     requires { length values.now ≤ MOST_REGIONS }
-    ensures { Exact (λ rs. rs.items) result (regions_in (is_in place.now) (regions_of endpoints.now) (items_view values.now)) }
+    ensures { let taken = regions_of endpoints.now in
+        Exact (λ rs. rs.items) result (regions_in (is_in space.now) taken (items_view values.now)) }
 {
     let mut own = ArrayVec::new();
     for value in values {
-        let region = next_region(value, place, endpoints, own.as_slice())?;
+        let region = next_region(value, space, endpoints, own.as_slice())?;
         own.push(region);
     }
     Ok(own)
@@ -146,7 +147,8 @@ pub(crate) fn regions_from(
 
 /// The items of the array `regions`.
 pub(crate) fn region_items(table: &Table) -> Result<&[Value], ManifestError>
-    ensures items { Exact (λ vs. items_view vs.now) result (items_at (codes "regions") MOST_REGIONS RegionCount (table_view table.now)) }
+    ensures items { let read = items_at (codes "regions") MOST_REGIONS RegionCount (table_view table.now) in
+        Exact (λ vs. items_view vs.now) result read }
     ensures few { IfOk result (λ vs. length vs.now ≤ MOST_REGIONS) }
 {
     items_at(table, "regions", MOST_REGIONS, ManifestError::RegionCount)
@@ -156,11 +158,12 @@ pub(crate) fn region_items(table: &Table) -> Result<&[Value], ManifestError>
 #[tactic(auto, unfolding(crate::specs::Regions::regions_at))]
 pub(crate) fn regions_at(
     table: &Table,
-    place: &Place,
+    space: &RegionSpace,
     endpoints: &[Endpoint],
 ) -> Result<ArrayVec<Region, MOST_REGIONS>, ManifestError>
-    ensures { Exact (λ rs. rs.items) result (regions_of_table (is_in place.now) (regions_of endpoints.now) (table_view table.now)) }
+    ensures { let taken = regions_of endpoints.now in
+        Exact (λ rs. rs.items) result (regions_of_table (is_in space.now) taken (table_view table.now)) }
 {
     let values = region_items(table)?;
-    regions_from(values, place, endpoints)
+    regions_from(values, space, endpoints)
 }

@@ -58,9 +58,9 @@ fn status(rt: &HostRuntime) -> Result<u8, AllocError> {
 fn carry_out(rt: &HostRuntime, request: &Request<'_>) -> Result<u8, AllocError> {
     let alloc = rt.alloc();
     let mut reason = None;
-    let manifest = unless_no_memory(whole(rt, request.manifest()), &mut reason)?;
-    let trace = unless_no_memory(opened(rt, request.trace()), &mut reason)?;
-    let expected = unless_no_memory(whole(rt, request.expected()), &mut reason)?;
+    let manifest = unless_no_memory(read_whole(rt, request.manifest()), &mut reason)?;
+    let trace = unless_no_memory(open(rt, request.trace()), &mut reason)?;
+    let expected = unless_no_memory(read_whole(rt, request.expected()), &mut reason)?;
     let files = Files {
         manifest: manifest.as_ref().map(|bytes| bytes.as_slice()),
         trace,
@@ -70,7 +70,7 @@ fn carry_out(rt: &HostRuntime, request: &Request<'_>) -> Result<u8, AllocError> 
     // With no room nothing is gathered: each write goes to standard output at once.
     let room = if request.answers_at_once() { 0 } else { OUTPUT };
     let mut out = BufWriter::with_capacity(alloc, room, rt.stdout()).map_err(|_| AllocError)?;
-    Ok(perform(alloc, request, files, &mut out, &mut rt.stderr()))
+    Ok(perform(alloc, alloc, request, files, &mut out, &mut rt.stderr()))
 }
 
 // What a trace is read from.
@@ -90,7 +90,7 @@ impl Read for Input {
 }
 
 // What reads the file at a path, where one is named.
-fn opened(rt: &HostRuntime, path: Option<&str>) -> io::Result<Option<Input>> {
+fn open(rt: &HostRuntime, path: Option<&str>) -> io::Result<Option<Input>> {
     match path {
         None => Ok(None),
         Some(STANDARD_INPUT) => Ok(Some(Input::Standard(rt.stdin()))),
@@ -99,7 +99,7 @@ fn opened(rt: &HostRuntime, path: Option<&str>) -> io::Result<Option<Input>> {
 }
 
 // The bytes of the file at a path, where one is named.
-fn whole(rt: &HostRuntime, path: Option<&str>) -> io::Result<Option<Vec<u8>>> {
+fn read_whole(rt: &HostRuntime, path: Option<&str>) -> io::Result<Option<Vec<u8>>> {
     match path {
         None => Ok(None),
         Some(STANDARD_INPUT) => {

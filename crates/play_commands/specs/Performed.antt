@@ -1,29 +1,34 @@
 -- SPDX-License-Identifier: MIT OR Apache-2.0
 -- What a command of the program leaves.
-use Rattle.std.specs.Prelude.{◌≡◌, ◌⊎◌, ℕ, Bool, true, false, List, codes, Option, Some, is_some, ⊤}
-use Rattle.std.specs.Io.KnownBytes.{Appends, Keeps}
+use Rattle.std.specs.Prelude.{◌≡◌, ◌⊎◌, ℕ, Bool, true, false, List, Option, Some, Result, IfErr, OnOk, is_some, ⊤}
+use Rattle.std.specs.Option.{option_and_then}
+use Rattle.std.specs.Io.KnownBytes.{Keeps}
 use Rattle.ffa_model.specs.State.{State}
 use Rattle.ffa_model.specs.First.{first}
 use Rattle.ffa_model.specs.Machines.{built_in_endpoints}
-use Rattle.play_syntax.specs.TraceText.{ended}
-use Rattle.ffa_manifest.specs.Document.{Parts}
+use Rattle.ffa_model.specs.declared.manifest.Manifest.{Manifest}
+use Rattle.ffa_manifest.specs.Document.{Parts, parts_of}
 use Rattle.play_writer.specs.declared.unfit.Unfit.{Unfit}
 use Rattle.play_transcript.specs.Traces.{Wrote}
 use Rattle.play_descriptor.specs.declared.fault.WordsFault.{WordsFault}
 use Rattle.play_forms.specs.Followed.{NeverPrints}
 use Rattle.play_forms.specs.Forms.{plain}
 use Rattle.play_report.specs.Descriptors.{IsMisread, IsSaid, IsUnfit}
-use Rattle.play_report.specs.Layouts.{layout_text}
-use Rattle.play_report.specs.Manifests.{Describes, IsAccepted, IsRefused}
+use Rattle.play_report.specs.Manifests.{Describes, IsAccepted, IsChecked, IsLaidOut, IsRefused, SomeCause, bytes_of}
 use Rattle.play_report.specs.declared.failure.Failure.{Failure}
 use Rattle.play_report.specs.declared.failure.Failure.TheVariants as failure
-use Rattle.play_tasks.specs.Plays.{IsCutShort, IsDrawn, IsPlayed, IsStopped, IsUndrawn, IsUnmet, PrintsExpected, form_of}
+use Rattle.play_tasks.specs.Plays.{IsCutShort, IsDrawn, IsPlayed, IsStopped, IsUndrawn, IsUnmet, PrintsExpected, Streams, form_of, streams_of}
 use Rattle.play_arguments.specs.Commands.{ask_of, manifest_of, trace_of}
 use Rattle.play_arguments.specs.declared.command_line.Request.{Request}
 use Rattle.play_arguments.specs.declared.command_line.Request.TheVariants as request
+use Rattle.play_commands.specs.declared.commands.Files.{Files}
 
 abbrev pub first_of : Parts → State
-first_of m = first m.ram_base m.ram_blocks m.endpoints
+first_of parts = first parts.ram_base parts.ram_blocks parts.endpoints
+
+-- the state in which the machine of a manifest starts
+abbrev pub start_of : Manifest → State
+start_of manifest = first_of (parts_of manifest)
 
 abbrev pub built_in_parts : Parts
 built_in_parts = record { ram_base = 0x40000000; ram_blocks = 1; endpoints = built_in_endpoints }
@@ -38,98 +43,120 @@ needs_manifest request = is_some (manifest_of (ask_of request))
 abbrev pub needs_trace : Request → Bool
 needs_trace request = is_some (trace_of (ask_of request))
 
--- A command was done, on whichever machine: `manifest` are the bytes of the manifest's file, if it could be read, `trace` those that the
--- trace's reader had, where known, `expected` those of the file of the expected text, if it could be read, and `held` and `holds` those that
--- the writer held before, and holds.
-abbrev pub IsDone : Request → (manifest trace expected held holds : Option (List ℕ)) → Type 0
-IsDone (request.Run m t o w s v) manifest trace expected held holds = (parts : Parts) × Describes manifest parts × IsPlayed s (form_of w) (first_of parts) trace held holds
-IsDone (request.Demo t o w s v) manifest trace expected held holds = IsPlayed s (form_of w) (first_of built_in_parts) trace held holds
-IsDone (request.Compare m t e o x v) manifest trace expected held holds =
-    (parts : Parts) × Describes manifest parts × PrintsExpected (first_of parts) trace expected × Keeps held holds
-IsDone (request.Check m v) manifest trace expected held holds = (parts : Parts) × Describes manifest parts × Appends held holds (ended (codes "accepted"))
-IsDone (request.Layout m v) manifest trace expected held holds = (parts : Parts) × Describes manifest parts × Appends held holds (layout_text parts)
-IsDone (request.Descriptor words) manifest trace expected held holds = IsSaid words held holds
-IsDone (request.Generate m s l c v) manifest trace expected held holds =
-    (parts : Parts) × Describes manifest parts × (c ≡ false → Wrote l held holds)
-IsDone (request.Picture m t e v) manifest trace expected held holds = (parts : Parts) × Describes manifest parts × IsDrawn trace
+-- what a command was given, and what it left
+pub record Ran : Type 0 where
+  pub manifest : Option (List ℕ)  -- the bytes of the manifest's file, if it could be read
+  pub is_open : Bool  -- the trace's file could be opened
+  pub expected : Option (List ℕ)  -- the bytes of the file of the expected text, if it could be read
+  pub streams : Streams  -- what the trace's reader had, and what the writer of the output held before, and holds
 
--- a command's play stopped at line n; the other parts are those of `IsDone`
-abbrev pub StopsAt : Request → (manifest trace expected held holds : Option (List ℕ)) → ℕ → Type 0
-StopsAt (request.Run m t o w s v) manifest trace expected held holds n =
-    (parts : Parts) × Describes manifest parts × IsStopped s (form_of w) (first_of parts) trace held holds n
-StopsAt (request.Demo t o w s v) manifest trace expected held holds n = IsStopped s (form_of w) (first_of built_in_parts) trace held holds n
-StopsAt (request.Compare m t e o x v) manifest trace expected held holds n =
-    (parts : Parts) × Describes manifest parts × IsCutShort (first_of parts) trace expected n × Keeps held holds
-StopsAt (request.Check m v) manifest trace expected held holds n = ⊥
-StopsAt (request.Layout m v) manifest trace expected held holds n = ⊥
-StopsAt (request.Descriptor words) manifest trace expected held holds n = ⊥
-StopsAt (request.Generate m s l c v) manifest trace expected held holds n = ⊥
-StopsAt (request.Picture m t e v) manifest trace expected held holds n = (parts : Parts) × Describes manifest parts × IsUndrawn trace held holds n
+-- of these files, with a writer as it was and is, by what is known of a reader and of a writer
+abbrev pub ran : {R W : Type 0} → (R → Option (List ℕ)) → Files R → (W → Option (List ℕ)) → (before after : W) → Ran
+ran remaining files contents before after = record {
+  manifest = bytes_of files.manifest;
+  is_open = is_some files.trace;
+  expected = bytes_of files.expected;
+  streams = streams_of (option_and_then remaining) files.trace contents before after;
+}
 
-abbrev pub SomeBadLine : Request → (manifest trace expected held holds : Option (List ℕ)) → Type 0
-SomeBadLine request manifest trace expected held holds = (n : ℕ) × StopsAt request manifest trace expected held holds n
+-- nothing was written
+abbrev pub IsQuiet : Ran → Type 0
+IsQuiet ran = Keeps ran.streams.held ran.streams.holds
+
+-- a trace of so many lines was made up for the manifest's machine, and written unless its calls were to be counted
+abbrev pub IsMade : ℕ → Bool → (manifest held holds : Option (List ℕ)) → Type 0
+IsMade lines count manifest held holds =
+    (parts : Parts) × Describes manifest parts × (count ≡ false → Wrote lines held holds)
+
+-- a command was done, on whichever machine
+abbrev pub IsDone : Request → Ran → Type 0
+IsDone (request.Run manifest trace machine text strict verbose) ran =
+    (parts : Parts) × Describes ran.manifest parts × IsPlayed strict (form_of text) (first_of parts) ran.streams
+IsDone (request.Demo trace machine text strict verbose) ran =
+    IsPlayed strict (form_of text) (first_of built_in_parts) ran.streams
+IsDone (request.Compare manifest trace expected machine explain verbose) ran =
+    (parts : Parts) × Describes ran.manifest parts
+    × PrintsExpected (first_of parts) ran.streams.trace ran.expected × IsQuiet ran
+IsDone (request.Check manifest verbose) ran = IsChecked ran.manifest ran.streams.held ran.streams.holds
+IsDone (request.Layout manifest verbose) ran = IsLaidOut ran.manifest ran.streams.held ran.streams.holds
+IsDone (request.Descriptor words) ran = IsSaid words ran.streams.held ran.streams.holds
+IsDone (request.Generate manifest seed lines count verbose) ran =
+    IsMade lines count ran.manifest ran.streams.held ran.streams.holds
+IsDone (request.Picture manifest trace every verbose) ran =
+    (parts : Parts) × Describes ran.manifest parts × IsDrawn ran.streams.trace
+
+-- a command's play stopped at line n
+abbrev pub StopsAt : Request → Ran → ℕ → Type 0
+StopsAt (request.Run manifest trace machine text strict verbose) ran n =
+    (parts : Parts) × Describes ran.manifest parts × IsStopped strict (form_of text) (first_of parts) ran.streams n
+StopsAt (request.Demo trace machine text strict verbose) ran n =
+    IsStopped strict (form_of text) (first_of built_in_parts) ran.streams n
+StopsAt (request.Compare manifest trace expected machine explain verbose) ran n =
+    (parts : Parts) × Describes ran.manifest parts
+    × IsCutShort (first_of parts) ran.streams.trace ran.expected n × IsQuiet ran
+StopsAt (request.Picture manifest trace every verbose) ran n =
+    (parts : Parts) × Describes ran.manifest parts × IsUndrawn ran.streams n
+StopsAt other ran n = ⊥
+
+-- a line of a trace that could be opened is bad
+abbrev pub SomeBadLine : Request → Ran → Type 0
+SomeBadLine request ran = (ran.is_open ≡ true) × ((n : ℕ) × StopsAt request ran n)
 
 -- a comparison found another text
-abbrev pub Differs : Request → (manifest trace expected : Option (List ℕ)) → Type 0
-Differs (request.Run m t o w s v) manifest trace expected = ⊥
-Differs (request.Demo t o w s v) manifest trace expected = ⊥
-Differs (request.Compare m t e o x v) manifest trace expected =
-    (parts : Parts) × Describes manifest parts × ((bytes : List ℕ) × (expected ≡ Some bytes) × NeverPrints plain (first_of parts) trace bytes)
-Differs (request.Check m v) manifest trace expected = ⊥
-Differs (request.Layout m v) manifest trace expected = ⊥
-Differs (request.Descriptor words) manifest trace expected = ⊥
-Differs (request.Generate m s l c v) manifest trace expected = ⊥
-Differs (request.Picture m t e v) manifest trace expected = ⊥
+abbrev pub Differs : Request → Ran → Type 0
+Differs (request.Compare manifest trace expected machine explain verbose) ran =
+    (parts : Parts) × Describes ran.manifest parts
+    × ((bytes : List ℕ) × (ran.expected ≡ Some bytes) × NeverPrints plain (first_of parts) ran.streams.trace bytes)
+Differs other ran = ⊥
 
 -- a play stopped at a guard that isn't met, in line n
-abbrev pub UnmetAt : Request → (manifest trace held holds : Option (List ℕ)) → ℕ → Type 0
-UnmetAt (request.Run m t o w s v) manifest trace held holds n =
-    (s ≡ true) × ((parts : Parts) × Describes manifest parts × IsUnmet (form_of w) (first_of parts) trace held holds n)
-UnmetAt (request.Demo t o w s v) manifest trace held holds n = (s ≡ true) × IsUnmet (form_of w) (first_of built_in_parts) trace held holds n
-UnmetAt (request.Compare m t e o x v) manifest trace held holds n = ⊥
-UnmetAt (request.Check m v) manifest trace held holds n = ⊥
-UnmetAt (request.Layout m v) manifest trace held holds n = ⊥
-UnmetAt (request.Descriptor words) manifest trace held holds n = ⊥
-UnmetAt (request.Generate m s l c v) manifest trace held holds n = ⊥
-UnmetAt (request.Picture m t e v) manifest trace held holds n = ⊥
+abbrev pub UnmetAt : Request → Ran → ℕ → Type 0
+UnmetAt (request.Run manifest trace machine text strict verbose) ran n =
+    (strict ≡ true)
+    × ((parts : Parts) × Describes ran.manifest parts × IsUnmet (form_of text) (first_of parts) ran.streams n)
+UnmetAt (request.Demo trace machine text strict verbose) ran n =
+    (strict ≡ true) × IsUnmet (form_of text) (first_of built_in_parts) ran.streams n
+UnmetAt other ran n = ⊥
 
-abbrev pub SomeUnmetGuard : Request → (manifest trace held holds : Option (List ℕ)) → Type 0
-SomeUnmetGuard request manifest trace held holds = (n : ℕ) × UnmetAt request manifest trace held holds n
+-- a guard of a trace that could be opened isn't met
+abbrev pub SomeUnmetGuard : Request → Ran → Type 0
+SomeUnmetGuard request ran = (ran.is_open ≡ true) × ((n : ℕ) × UnmetAt request ran n)
 
 -- the words of a descriptor say none, or no bytes say what they do
 abbrev pub IsUnsaid : Request → Type 0
-IsUnsaid (request.Descriptor words) = ((fault : WordsFault) × IsMisread words fault) ⊎ ((cause : Unfit) × IsUnfit words cause)
-IsUnsaid (request.Run m t o w s v) = ⊥
-IsUnsaid (request.Demo t o w s v) = ⊥
-IsUnsaid (request.Compare m t e o x v) = ⊥
-IsUnsaid (request.Check m v) = ⊥
-IsUnsaid (request.Layout m v) = ⊥
-IsUnsaid (request.Generate m s l c v) = ⊥
-IsUnsaid (request.Picture m t e v) = ⊥
+IsUnsaid (request.Descriptor words) =
+    ((fault : WordsFault) × IsMisread words fault) ⊎ ((cause : Unfit) × IsUnfit words cause)
+IsUnsaid other = ⊥
+
+-- the manifest is refused, and nothing was written
+abbrev pub SomeRefusal : Ran → Type 0
+SomeRefusal ran = SomeCause ran.manifest × IsQuiet ran
 
 -- WHAT PRIVATE FUNCTIONS PROMISE ONE ANOTHER: a reader, a writer and memory may always fail
 
--- a command fails: a manifest is refused for its own cause, and then nothing was written, or a play stops, or a text differs, or the output
--- can't be written, and then the manifest, where one is named, isn't refused
-abbrev pub FailsFor : Request → (manifest trace expected held holds : Option (List ℕ)) → Failure → Type 0
-FailsFor request manifest trace expected held holds (failure.Manifest cause) = (needs_manifest request ≡ true) × IsRefused manifest cause × Keeps held holds
-FailsFor request manifest trace expected held holds (failure.BadLine n fault) = StopsAt request manifest trace expected held holds n
-FailsFor request manifest trace expected held holds (failure.Read path) = ⊤
-FailsFor request manifest trace expected held holds failure.Write = needs_manifest request ≡ true → IsAccepted manifest
-FailsFor request manifest trace expected held holds failure.NoMemory = ⊤
-FailsFor request manifest trace expected held holds failure.Differs = Differs request manifest trace expected
-FailsFor request manifest trace expected held holds (failure.Unmet n) = UnmetAt request manifest trace held holds n
-FailsFor request manifest trace expected held holds (failure.Words fault) = IsUnsaid request × Keeps held holds
-FailsFor request manifest trace expected held holds (failure.Unfit cause) = IsUnsaid request × Keeps held holds
+-- a command fails: a manifest is refused for its own cause, and then nothing was written, or a play stops, or a text
+-- differs, or the output can't be written, and then the manifest, where one is named, isn't refused
+abbrev pub FailsFor : Request → Ran → Failure → Type 0
+FailsFor request ran (failure.Manifest cause) =
+    (needs_manifest request ≡ true) × IsRefused ran.manifest cause × IsQuiet ran
+FailsFor request ran (failure.BadLine n fault) = StopsAt request ran n
+FailsFor request ran (failure.Read path) = ⊤
+FailsFor request ran failure.Write = needs_manifest request ≡ true → IsAccepted ran.manifest
+FailsFor request ran failure.NoMemory = ⊤
+FailsFor request ran failure.Differs = Differs request ran
+FailsFor request ran (failure.Unmet n) = UnmetAt request ran n
+FailsFor request ran (failure.Words fault) = IsUnsaid request × IsQuiet ran
+FailsFor request ran (failure.Unfit cause) = IsUnsaid request × IsQuiet ran
 
--- a bad line, and a guard, stands in a trace that could be read
+-- a bad line, and a guard, stands in a trace that could be opened
 abbrev pub IsRead : Bool → Failure → Type 0
-IsRead could (failure.Manifest cause) = ⊤
-IsRead could (failure.BadLine n fault) = could ≡ true
-IsRead could (failure.Read path) = ⊤
-IsRead could failure.Write = ⊤
-IsRead could failure.NoMemory = ⊤
-IsRead could failure.Differs = ⊤
-IsRead could (failure.Unmet n) = could ≡ true
-IsRead could (failure.Words fault) = ⊤
-IsRead could (failure.Unfit cause) = ⊤
+IsRead is_open (failure.BadLine n fault) = is_open ≡ true
+IsRead is_open (failure.Unmet n) = is_open ≡ true
+IsRead is_open other = ⊤
+
+-- a command is done, or fails
+pub record Does (request : Request) (ran : Ran) (result : Result (Unit {0}) Failure) : Type 0 where
+  pub done : OnOk result (IsDone request ran)
+  pub opened : OnOk result (needs_trace request ≡ true → ran.is_open ≡ true)
+  pub failed : IfErr result (FailsFor request ran)
+  pub read : IfErr result (IsRead ran.is_open)

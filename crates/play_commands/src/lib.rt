@@ -1,9 +1,9 @@
 // SPDX-License-Identifier: MIT OR Apache-2.0
-//! What the program does with a command whose files were read: it reads the manifest, boots a machine, plays, compares, writes
-//! traces, and says what went wrong. It opens nothing: readers and writers are given.
+//! What the program does with a command whose files were read: it reads the manifest, boots a machine, plays, compares,
+//! writes traces, and says what went wrong. It opens nothing: readers and writers are given.
 #![tactic(auto)]
 
 mod commands;
 
-pub use commands::{Files, perform, perform_in};
+pub use commands::{Files, perform};
 pub use play_report::show;

@@ -12,10 +12,14 @@ use Rattle.play_descriptor.specs.declared.told.Told.{Told}
 use Rattle.play_report.specs.declared.failure.Failure.{Failure}
 use Rattle.play_report.specs.declared.failure.Failure.TheVariants as failure
 
--- the lines that write what these words say into TX, and make its call
+-- the lines were written that write what was told into TX, and make its call
+abbrev pub IsTold : Told → (held holds : Option (List ℕ)) → Type 0
+IsTold said held holds =
+    (text : List ℕ) × GrowsByDescriptor said.version said.descriptor said.tx.0 [] text × Appends held holds text
+
+-- these words tell it, and their lines were written
 abbrev pub IsSaid : DescriptorWords → (held holds : Option (List ℕ)) → Type 0
-IsSaid words held holds =
-    (said : Told) × (told (words_of words) ≡ Ok said) × ((text : List ℕ) × GrowsByDescriptor said.version said.descriptor said.tx.0 [] text × Appends held holds text)
+IsSaid words held holds = (said : Told) × (told (words_of words) ≡ Ok said) × IsTold said held holds
 
 -- the words can't be read, for this fault
 abbrev pub IsMisread : DescriptorWords → WordsFault → Type 0
@@ -25,15 +29,11 @@ IsMisread words fault = told (words_of words) ≡ Err fault
 abbrev pub IsUnfit : DescriptorWords → Unfit → Type 0
 IsUnfit words cause = (said : Told) × (told (words_of words) ≡ Ok said) × (unfit_of said.descriptor ≡ Some cause)
 
--- a descriptor isn't printed: its words say none, or no bytes say what they do, and then nothing was written, or the output can't be
--- written, or there is no memory
+-- a descriptor isn't printed: its words say none, or no bytes say what they do, and then nothing was written, or the
+-- output can't be written, or there is no memory
 abbrev pub FailsToSay : DescriptorWords → (held holds : Option (List ℕ)) → Failure → Type 0
 FailsToSay words held holds (failure.Words fault) = IsMisread words fault × Keeps held holds
 FailsToSay words held holds (failure.Unfit cause) = IsUnfit words cause × Keeps held holds
 FailsToSay words held holds failure.Write = ⊤
 FailsToSay words held holds failure.NoMemory = ⊤
-FailsToSay words held holds (failure.Manifest cause) = ⊥
-FailsToSay words held holds (failure.BadLine n fault) = ⊥
-FailsToSay words held holds (failure.Read path) = ⊥
-FailsToSay words held holds failure.Differs = ⊥
-FailsToSay words held holds (failure.Unmet n) = ⊥
+FailsToSay words held holds other = ⊥

@@ -23,25 +23,14 @@ status_of (failure.Unfit cause) = 64
 abbrev pub IsShort : Failure → Type 0
 IsShort failure.Write = ⊤
 IsShort failure.NoMemory = ⊤
-IsShort (failure.Manifest cause) = ⊥
-IsShort (failure.BadLine n fault) = ⊥
-IsShort (failure.Read path) = ⊥
-IsShort failure.Differs = ⊥
-IsShort (failure.Unmet n) = ⊥
-IsShort (failure.Words fault) = ⊥
-IsShort (failure.Unfit cause) = ⊥
+IsShort other = ⊥
 
 -- a difference was found, and was told, or wasn't since the output can't be written, or there is no memory
 abbrev pub IsDifference : Failure → Type 0
 IsDifference failure.Differs = ⊤
 IsDifference failure.Write = ⊤
 IsDifference failure.NoMemory = ⊤
-IsDifference (failure.Manifest cause) = ⊥
-IsDifference (failure.BadLine n fault) = ⊥
-IsDifference (failure.Read path) = ⊥
-IsDifference (failure.Unmet n) = ⊥
-IsDifference (failure.Words fault) = ⊥
-IsDifference (failure.Unfit cause) = ⊥
+IsDifference other = ⊥
 
 -- the failure that a play's error is, with what is wrong with a bad line; `unread` is that of a trace that can't be read
 abbrev pub failure_of : Failure → Option LineFault → PlayError → Failure

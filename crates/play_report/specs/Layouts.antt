@@ -10,7 +10,9 @@ use Rattle.ffa_manifest.specs.Document.{Parts}
 
 -- an endpoint by its place, and the addresses of its level 1, its level 2 and its first level 3 page
 unfoldable pub endpoint_line : ℕ → ℕ → List ℕ
-endpoint_line place root = ended (hex 4 (identifier place) ++ spaced (hex 8 root) ++ spaced (hex 8 (root + 4096)) ++ spaced (hex 8 (root + 8192)))
+endpoint_line place root =
+    ended
+    (hex 4 (identifier place) ++ spaced (hex 8 root) ++ spaced (hex 8 (root + 4096)) ++ spaced (hex 8 (root + 8192)))
 
 abbrev pub layout_line : Parts → ℕ → List ℕ
 layout_line m place = endpoint_line place (root_of m.ram_base m.ram_blocks place)

@@ -1,12 +1,19 @@
 -- SPDX-License-Identifier: MIT OR Apache-2.0
 -- Which bytes are a machine's manifest, and how commands fail that want one alone.
-use Rattle.std.specs.Prelude.{◌≡◌, ◌⊎◌, ℕ, List, IsUtf8, Option, None, Some, Ok, Err, ⊤}
-use Rattle.std.specs.Io.KnownBytes.{Keeps}
+use denote.Ref.{Bor}
+use Rattle.std.specs.Prelude.{◌≡◌, ◌⊎◌, ℕ, List, IsUtf8, Option, None, Some, Ok, Err, codes, option_map, ⊤}
+use Rattle.std.specs.Io.KnownBytes.{Appends, Keeps}
+use Rattle.play_syntax.specs.TraceText.{ended}
 use Rattle.ffa_manifest.specs.Document.{Parts, machine_of}
 use Rattle.ffa_manifest.specs.declared.error.ManifestError.{ManifestError}
 use Rattle.ffa_manifest.specs.declared.error.ManifestError.TheVariants.{Toml}
+use Rattle.play_report.specs.Layouts.{layout_text}
 use Rattle.play_report.specs.declared.failure.Failure.{Failure}
 use Rattle.play_report.specs.declared.failure.Failure.TheVariants as failure
+
+-- the bytes of a file, if it could be read
+abbrev pub bytes_of : Option (Bor (List ℕ)) → Option (List ℕ)
+bytes_of file = option_map (λ bytes. bytes.now) file
 
 -- the bytes of a file that could be read are the text of a machine's manifest
 abbrev pub Describes : Option (List ℕ) → Parts → Type 0
@@ -25,15 +32,19 @@ IsAccepted manifest = (parts : Parts) × Describes manifest parts
 abbrev pub SomeCause : Option (List ℕ) → Type 0
 SomeCause manifest = (cause : ManifestError) × IsRefused manifest cause
 
--- a command that plays no trace fails: its manifest is refused for its own cause, and then nothing was written, or the output can't be
--- written, and then the manifest isn't refused; a reader, a writer and memory may always fail
+-- it was written that the manifest is accepted, which it is
+abbrev pub IsChecked : (manifest held holds : Option (List ℕ)) → Type 0
+IsChecked manifest held holds = (parts : Parts) × Describes manifest parts × Appends held holds (ended (codes "accepted"))
+
+-- it was written where the tables of the manifest's machine stand
+abbrev pub IsLaidOut : (manifest held holds : Option (List ℕ)) → Type 0
+IsLaidOut manifest held holds = (parts : Parts) × Describes manifest parts × Appends held holds (layout_text parts)
+
+-- a command that plays no trace fails: its manifest is refused for its own cause, and then nothing was written, or the
+-- output can't be written, and then the manifest isn't refused; a reader, a writer and memory may always fail
 abbrev pub FailsUnplayed : (manifest held holds : Option (List ℕ)) → Failure → Type 0
 FailsUnplayed manifest held holds (failure.Manifest cause) = IsRefused manifest cause × Keeps held holds
-FailsUnplayed manifest held holds (failure.BadLine n fault) = ⊥
 FailsUnplayed manifest held holds (failure.Read path) = ⊤
 FailsUnplayed manifest held holds failure.Write = IsAccepted manifest
 FailsUnplayed manifest held holds failure.NoMemory = ⊤
-FailsUnplayed manifest held holds failure.Differs = ⊥
-FailsUnplayed manifest held holds (failure.Unmet n) = ⊥
-FailsUnplayed manifest held holds (failure.Words fault) = ⊥
-FailsUnplayed manifest held holds (failure.Unfit cause) = ⊥
+FailsUnplayed manifest held holds other = ⊥

@@ -58,13 +58,13 @@ impl<'a> Difference<'a> {
     fn print<A: Allocator, W: Write>(&self, alloc: A, out: &mut W) -> Result<(), Failure<'static>>
         ensures { IfErr result IsShort }
     {
-        let text = self.told(alloc)?;
+        let text = self.text(alloc)?;
         write(out, &text)
     }
 
     // The trace's line with its number, what is expected and what is found, and for registers which of them differ. Of a
     // text of several lines the first is told that differs. Last why the operation is refused, if that is told.
-    fn told<A: Allocator>(&self, alloc: A) -> Result<Vec<u8, A>, Failure<'static>>
+    fn text<A: Allocator>(&self, alloc: A) -> Result<Vec<u8, A>, Failure<'static>>
         ensures { IfErr result (λ failure. failure ≡ Failure.NoMemory) }
     {
         let mut text = Vec::new(alloc);

@@ -1,11 +1,8 @@
 // SPDX-License-Identifier: MIT OR Apache-2.0
 //! Commands that want a manifest alone, and the reading of one.
-ghost use Rattle.std.specs.Prelude.{codes, None, OnOk, IfErr, IfOk, option_map};
-ghost use Rattle.std.specs.Io.KnownBytes.{Appends};
-ghost use Rattle.play_syntax.specs.TraceText.{ended};
-ghost use Rattle.ffa_manifest.specs.Document.{Parts, parts_of};
-ghost use Rattle.play_report.specs.Layouts.{layout_text};
-ghost use Rattle.play_report.specs.Manifests.{Describes, FailsUnplayed};
+ghost use Rattle.std.specs.Prelude.{None, OnOk, IfErr, IfOk};
+ghost use Rattle.ffa_manifest.specs.Document.{parts_of};
+ghost use Rattle.play_report.specs.Manifests.{Describes, FailsUnplayed, IsChecked, IsLaidOut, bytes_of};
 
 use crate::failure::Failure;
 use crate::layout;
@@ -23,8 +20,8 @@ pub fn accept<'a, W: Write>(
     manifest: Option<&[u8]>,
     out: &mut W,
 ) -> Result<(), Failure<'a>>
-    ensures done { OnOk result ((parts : Parts) × Describes (option_map (λ bytes. bytes.now) manifest.entry) parts × Appends (W.contents out.old) (W.contents out.new) (ended (codes "accepted"))) }
-    ensures failed { IfErr result (FailsUnplayed (option_map (λ bytes. bytes.now) manifest.entry) (W.contents out.old) (W.contents out.new)) }
+    ensures done { OnOk result (IsChecked (bytes_of manifest.entry) (W.contents out.old) (W.contents out.new)) }
+    ensures failed { IfErr result (FailsUnplayed (bytes_of manifest.entry) (W.contents out.old) (W.contents out.new)) }
 {
     read_manifest(alloc, path, manifest)?;
     write(out, b"accepted\n")
@@ -37,8 +34,8 @@ pub fn lay_out<'a, W: Write>(
     manifest: Option<&[u8]>,
     out: &mut W,
 ) -> Result<(), Failure<'a>>
-    ensures done { OnOk result ((parts : Parts) × Describes (option_map (λ bytes. bytes.now) manifest.entry) parts × Appends (W.contents out.old) (W.contents out.new) (layout_text parts)) }
-    ensures failed { IfErr result (FailsUnplayed (option_map (λ bytes. bytes.now) manifest.entry) (W.contents out.old) (W.contents out.new)) }
+    ensures done { OnOk result (IsLaidOut (bytes_of manifest.entry) (W.contents out.old) (W.contents out.new)) }
+    ensures failed { IfErr result (FailsUnplayed (bytes_of manifest.entry) (W.contents out.old) (W.contents out.new)) }
 {
     let manifest = read_manifest(alloc, path, manifest)?;
     let mut text = Text::new();
@@ -52,8 +49,8 @@ pub fn read_manifest<'a>(
     path: &'a str,
     bytes: Option<&[u8]>,
 ) -> Result<Manifest, Failure<'a>>
-    ensures described { IfOk result (λ m. Describes (option_map (λ b. b.now) bytes.entry) (parts_of m)) }
-    ensures failed { IfErr result (FailsUnplayed (option_map (λ b. b.now) bytes.entry) None None) }
+    ensures described { IfOk result (λ m. Describes (bytes_of bytes.entry) (parts_of m)) }
+    ensures failed { IfErr result (FailsUnplayed (bytes_of bytes.entry) None None) }
 {
     let Some(bytes) = bytes else {
         return Err(Failure::Read(path));

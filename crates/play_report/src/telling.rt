@@ -1,13 +1,13 @@
 // SPDX-License-Identifier: MIT OR Apache-2.0
 //! What is told of a command that isn't done, and help.
-ghost use Rattle.std.specs.Prelude.{◌≡◌, ◌⊎◌, ◌↔◌, IfOk, IfSome, IsNone, IsOk, Some, is_some, option_map, true};
+ghost use Rattle.std.specs.Prelude.{◌≡◌, ◌⊎◌, ◌↔◌, IfOk, IfSome, IsNone, IsOk, Some, is_some, true};
 ghost use Rattle.std.specs.Io.KnownBytes.{Appends, Keeps};
 ghost use Rattle.ffa_manifest.specs.Document.{machine_of};
 ghost use Rattle.play_report.specs.Failures.{status_of};
-ghost use Rattle.play_report.specs.Manifests.{IsRefused, SomeCause};
+ghost use Rattle.play_report.specs.Manifests.{IsRefused, SomeCause, bytes_of};
 
 use crate::failure::Failure;
-use ffa_manifest::{ManifestError, Refusal};
+use ffa_manifest::{ManifestError, ManifestRefusal};
 use play_reasons::LineFault;
 use std::alloc::{AllocError, Global};
 use std::fmt::{self, Display};
@@ -50,7 +50,7 @@ pub fn tell<E: Write>(err: &mut E, failure: &Failure<'_>, told: &[u8]) -> u8
 #[derive(Drop)]
 pub enum More {
     /// Where the manifest is refused.
-    Place(Refusal),
+    Place(ManifestRefusal),
     /// Where the manifest is no text.
     Bytes(Utf8Error),
     /// What is wrong with the line.
@@ -83,7 +83,8 @@ pub fn more_of(
     manifest: Option<&[u8]>,
     reason: Option<ErrorKind>,
 ) -> Result<Option<More>, AllocError>
-    ensures { IfOk result (λ more. (cause : ManifestError) → verbose ≡ true → failure.now ≡ Failure.Manifest cause → IsRefused (option_map (λ bytes. bytes.now) manifest.entry) cause → is_some more ≡ true) }
+    ensures { IfOk result (λ more. (cause : ManifestError) → verbose ≡ true → failure.now ≡ Failure.Manifest cause
+        → IsRefused (bytes_of manifest.entry) cause → is_some more ≡ true) }
 {
     if !verbose {
         return Ok(None);

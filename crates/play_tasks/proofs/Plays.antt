@@ -24,11 +24,14 @@ use Rattle.play_drawing.specs.declared.row.Keep.{Keep}
 use Rattle.play_report.specs.Failures.{IsDifference, failure_of}
 use Rattle.play_report.specs.declared.failure.Failure.{Failure}
 use Rattle.play_report.specs.declared.failure.Failure.TheVariants.{Manifest, BadLine, Read, Write, NoMemory, Differs, Unmet, Words, Unfit}
-use Rattle.play_tasks.specs.Plays.{DiffersBy, EndsBadly, IsDoneBy, IsDrawn, IsPlayed, IsStopped, IsCutShort, IsUnmet, PrintsExpected, PrintsIn, StopsBy, UnmetBy, PlayFails}
+use Rattle.play_tasks.specs.Plays.{DiffersBy, EndsBadly, IsDoneBy, IsDrawn, IsPlayed, IsStopped, IsCutShort, IsUnmet, PrintsExpected, PrintsIn, StopsBy, Streams, UnmetBy, PlayFails}
 use Rattle.play_tasks.specs.declared.task.Task.{Task}
 use Rattle.play_tasks.specs.declared.task.Task.TheVariants.{Plain, Formed, Guarded, Compare, Drawn}
 
 -- BYTES THAT A READER HAD, AND THAT A WRITER HOLDS
+
+abbrev pub passed : (trace held holds : Option (List ℕ)) → Streams
+passed trace held holds = record { trace = trace; held = held; holds = holds }
 
 pub kept : (held : Option (List ℕ)) → Keeps held held
 kept None = tt
@@ -64,7 +67,7 @@ written_plainly : (start : State) (held holds : Option (List ℕ)) (lines : List
     → Appends held holds (text_in plain 1 start lines)
 written_plainly start held holds lines written = subst (Appends held holds) (sym (plain_text 1 start lines)) written
 
-pub played_whole : {X : Type 0} (x : X) (start now : State) (held holds had has : Option (List ℕ)) → Played start now held holds had has (Ok x) → IsPlayed false plain start had held holds
+pub played_whole : {X : Type 0} (x : X) (start now : State) (held holds had has : Option (List ℕ)) → Played start now held holds had has (Ok x) → IsPlayed false plain start (passed had held holds)
 played_whole x start now held holds had has (lines, did, consumed, ended, counted) = record {
   lines = lines;
   each = did.each;
@@ -87,7 +90,7 @@ ends_with : (has : Option (List ℕ)) (bytes : List ℕ) → IsAtEnd has → IsA
 ends_with None bytes ended = tt
 ends_with (Some ys) bytes ended = ap (λ l. bytes ++ l) ended ∙ append-nil bytes
 
-played_to : (start now : State) (held holds had has : Option (List ℕ)) (n : ℕ) → Played {X = Unit {0}} start now held holds had has (Err (play_error.BadLine n)) → IsStopped false plain start had held holds n
+played_to : (start now : State) (held holds had has : Option (List ℕ)) (n : ℕ) → Played {X = Unit {0}} start now held holds had has (Err (play_error.BadLine n)) → IsStopped false plain start (passed had held holds) n
 played_to start now held holds had has n (lines, bad, more, did, consumed, number, counted, single, inl ((next, more_is), wrong)) = (
   lines,
   record {
@@ -117,7 +120,7 @@ played_to start now held holds had has n (lines, bad, more, did, consumed, numbe
     )
 
 pub play_failed : (start now : State) (held holds had has : Option (List ℕ)) (path : Bor (List ℕ)) (fault : Option LineFault) (error : PlayError)
-    → Played {X = Unit {0}} start now held holds had has (Err error) → PlayFails Plain start had held holds (failure_of (Read path) fault error)
+    → Played {X = Unit {0}} start now held holds had has (Err error) → PlayFails Plain start (passed had held holds) (failure_of (Read path) fault error)
 play_failed start now held holds had has path fault play_error.Read (lines, more, did, consumed, counted, ended) =
     (lines, (did.each, (prepend_known more has, before_read had has (joined lines) more consumed)), written_plainly start held holds lines did.written, never_strict)
 play_failed start now held holds had has path fault play_error.Write p = tt
@@ -136,7 +139,7 @@ ends_badly form start now had said bytes n e = record {
   bad = e.bad;
 }
 
-pub formed_whole : {X : Type 0} (x : X) (form : Form) (start now : State) (held holds had : Option (List ℕ)) (bytes : List ℕ) → followed.PlayedIn form start now held holds had bytes (Ok x) → IsPlayed false form start had held holds
+pub formed_whole : {X : Type 0} (x : X) (form : Form) (start now : State) (held holds had : Option (List ℕ)) (bytes : List ℕ) → followed.PlayedIn form start now held holds had bytes (Ok x) → IsPlayed false form start (passed had held holds)
 formed_whole x form start now held holds had bytes (left, lines, said, f, ended, written) = record {
   lines = lines;
   each = f.each;
@@ -147,7 +150,7 @@ formed_whole x form start now held holds had bytes (left, lines, said, f, ended,
 
 pub formed_failed : (form : Form) (start now : State) (held holds had : Option (List ℕ)) (bytes : List ℕ) (path : Bor (List ℕ)) (fault : Option LineFault) (error : PlayError)
     → followed.PlayedIn {X = Unit {0}} form start now held holds had bytes (Err error)
-    → PlayFails (Formed form) start had held holds (failure_of (Read path) fault error)
+    → PlayFails (Formed form) start (passed had held holds) (failure_of (Read path) fault error)
 formed_failed form start now held holds had bytes path fault play_error.Read (left, lines, said, f, written) =
     (lines, (f.each, (left, f.read)), subst (Appends held holds) f.said written, never_strict)
 formed_failed form start now held holds had bytes path fault play_error.Write p = tt
@@ -165,14 +168,14 @@ pub drawn_whole : {A : Type 0} (picture : Picture A) (keep : Keep) (start now : 
 drawn_whole picture keep start now had bytes (left, lines, said, f, ended, is) = record { lines = lines; each = f.each; all = all_consumed had left (joined lines) f.read ended }
 
 pub drawn_failed : (A : Type 0) (keep : Keep) (start now : State) (held had : Option (List ℕ)) (bytes : List ℕ) (path : Bor (List ℕ)) (fault : Option LineFault) (error : PlayError)
-    → Pictured {A = A} keep start now had bytes (Err error) → PlayFails (Drawn keep) start had held held (failure_of (Read path) fault error)
+    → Pictured {A = A} keep start now had bytes (Err error) → PlayFails (Drawn keep) start (passed had held held) (failure_of (Read path) fault error)
 drawn_failed A keep start now held had bytes path fault play_error.Read p = kept held
 drawn_failed A keep start now held had bytes path fault play_error.Write p = absurd p
 drawn_failed A keep start now held had bytes path fault play_error.NoMemory p = tt
 drawn_failed A keep start now held had bytes path fault (play_error.BadLine n) (said, e) = (e.lines, ends_badly plain start now had said bytes n e, kept held)
 
 pub guarded_whole : (form : Form) (start now : State) (held holds had : Option (List ℕ)) (line found : List ℕ) → GuardedIn form start now held holds had line found (Ok None)
-    → IsPlayed true form start had held holds
+    → IsPlayed true form start (passed had held holds)
 guarded_whole form start now held holds had line found (left, lines, said, f, ended, written, met) = record {
   lines = lines;
   each = f.each;
@@ -182,7 +185,7 @@ guarded_whole form start now held holds had line found (left, lines, said, f, en
 }
 
 pub guarded_unmet : (form : Form) (start now : State) (held holds had : Option (List ℕ)) (line found : List ℕ) (breach : Breach)
-    → GuardedIn form start now held holds had line found (Ok (Some breach)) → IsUnmet form start had held holds breach.number
+    → GuardedIn form start now held holds had line found (Ok (Some breach)) → IsUnmet form start (passed had held holds) breach.number
 guarded_unmet form start now held holds had line found breach (said, b, written) = record {
   lines = b.lines;
   line = line;
@@ -198,14 +201,14 @@ guarded_unmet form start now held holds had line found breach (said, b, written)
   written = subst (Appends held holds) b.followed.said written;
 }
 
-pub breach_told : (form : Form) (start : State) (trace held holds : Option (List ℕ)) (n : ℕ) → IsUnmet form start trace held holds n → (failure : Failure) → (failure ≡ Unmet n) ⊎ (failure ≡ NoMemory)
-    → PlayFails (Guarded form) start trace held holds failure
-breach_told form start trace held holds n unmet failure (inl is) = subst (PlayFails (Guarded form) start trace held holds) (sym is) unmet
-breach_told form start trace held holds n unmet failure (inr is) = subst (PlayFails (Guarded form) start trace held holds) (sym is) tt
+pub breach_told : (form : Form) (start : State) (streams : Streams) (n : ℕ) → IsUnmet form start streams n → (failure : Failure)
+    → (failure ≡ Unmet n) ⊎ (failure ≡ NoMemory) → PlayFails (Guarded form) start streams failure
+breach_told form start streams n unmet failure (inl is) = subst (PlayFails (Guarded form) start streams) (sym is) unmet
+breach_told form start streams n unmet failure (inr is) = subst (PlayFails (Guarded form) start streams) (sym is) tt
 
 pub guarded_failed : (form : Form) (start now : State) (held holds had : Option (List ℕ)) (line found : List ℕ) (path : Bor (List ℕ)) (fault : Option LineFault) (error : PlayError)
     → GuardedIn form start now held holds had line found (Err error)
-    → PlayFails (Guarded form) start had held holds (failure_of (Read path) fault error)
+    → PlayFails (Guarded form) start (passed had held holds) (failure_of (Read path) fault error)
 guarded_failed form start now held holds had line found path fault play_error.Read (left, lines, said, f, written, met) =
     (lines, (f.each, (left, f.read)), subst (Appends held holds) f.said written, λ strict. met)
 guarded_failed form start now held holds had line found path fault play_error.Write p = tt
@@ -227,7 +230,7 @@ cut_short start now had explain expected bytes n (said, more, alike, e) =
     (e.lines, ends_badly plain start now had said bytes n e, (more, ap Some (alike ∙ ap (λ l. l ++ more) (e.followed.said ∙ plain_text 1 start e.lines))))
 
 pub compared_failed : (start now : State) (had held : Option (List ℕ)) (expected : Bor (List ℕ)) (explain : Bool) (bytes : List ℕ) (path : Bor (List ℕ)) (fault : Option LineFault) (error : PlayError)
-    → followed.Compared plain start now had explain expected.now bytes (Err error) → PlayFails (Compare expected explain) start had held held (failure_of (Read path) fault error)
+    → followed.Compared plain start now had explain expected.now bytes (Err error) → PlayFails (Compare expected explain) start (passed had held held) (failure_of (Read path) fault error)
 compared_failed start now had held expected explain bytes path fault play_error.Read (left, lines, said, more, alike, f) =
     ((lines, (f.each, (left, f.read)), (more, ap Some (alike ∙ ap (λ l. l ++ more) (f.said ∙ plain_text 1 start lines)))), kept held)
 compared_failed start now had held expected explain bytes path fault play_error.Write p = absurd p
@@ -235,48 +238,48 @@ compared_failed start now had held expected explain bytes path fault play_error.
 compared_failed start now had held expected explain bytes path fault (play_error.BadLine n) p = (cut_short start now had explain expected.now bytes n p, kept held)
 
 -- where a difference was found
-pub differing : (start : State) (had held holds : Option (List ℕ)) (expected : Bor (List ℕ)) (explain : Bool) → followed.NeverPrints plain start had expected.now → (failure : Failure) → IsDifference failure
-    → PlayFails (Compare expected explain) start had held holds failure
-differing start had held holds expected explain never_prints Differs any = never_prints
-differing start had held holds expected explain never_prints Write any = tt
-differing start had held holds expected explain never_prints NoMemory any = tt
-differing start had held holds expected explain never_prints (Manifest cause) never = absurd never
-differing start had held holds expected explain never_prints (BadLine n fault) never = absurd never
-differing start had held holds expected explain never_prints (Read path) never = absurd never
-differing start had held holds expected explain never_prints (Unmet n) never = absurd never
-differing start had held holds expected explain never_prints (Words fault) never = absurd never
-differing start had held holds expected explain never_prints (Unfit cause) never = absurd never
+pub differing : (start : State) (streams : Streams) (expected : Bor (List ℕ)) (explain : Bool) → followed.NeverPrints plain start streams.trace expected.now
+    → (failure : Failure) → IsDifference failure → PlayFails (Compare expected explain) start streams failure
+differing start streams expected explain never_prints Differs any = never_prints
+differing start streams expected explain never_prints Write any = tt
+differing start streams expected explain never_prints NoMemory any = tt
+differing start streams expected explain never_prints (Manifest cause) never = absurd never
+differing start streams expected explain never_prints (BadLine n fault) never = absurd never
+differing start streams expected explain never_prints (Read path) never = absurd never
+differing start streams expected explain never_prints (Unmet n) never = absurd never
+differing start streams expected explain never_prints (Words fault) never = absurd never
+differing start streams expected explain never_prints (Unfit cause) never = absurd never
 
 -- TASKS THAT PRINT
 
 -- what was printed by a task that prints in this form
-pub printed : (strict : Bool) (form : Form) (task : Task) → PrintsIn strict form task → (start : State) (trace held holds : Option (List ℕ)) → IsDoneBy task start trace held holds
-    → IsPlayed strict form start trace held holds
-printed strict form Plain (loose, same) start trace held holds done = rw (loose, same) done
-printed strict form (Formed own) (loose, same) start trace held holds done = rw (loose, same) done
-printed strict form (Guarded own) (is_strict, same) start trace held holds done = rw (is_strict, same) done
-printed strict form (Compare expected explain) never start trace held holds done = absurd never
-printed strict form (Drawn keep) never start trace held holds done = absurd never
+module _ (strict : Bool) (form : Form) where
+  pub printed : (task : Task) → PrintsIn strict form task → (start : State) (streams : Streams) → IsDoneBy task start streams → IsPlayed strict form start streams
+  printed Plain (loose, same) start streams done = rw (loose, same) done
+  printed (Formed own) (loose, same) start streams done = rw (loose, same) done
+  printed (Guarded own) (is_strict, same) start streams done = rw (is_strict, same) done
+  printed (Compare expected explain) never start streams done = absurd never
+  printed (Drawn keep) never start streams done = absurd never
 
-pub stopped : (strict : Bool) (form : Form) (task : Task) → PrintsIn strict form task → (start : State) (trace held holds : Option (List ℕ)) (n : ℕ) → StopsBy task start trace held holds n
-    → IsStopped strict form start trace held holds n
-stopped strict form Plain (loose, same) start trace held holds n stops = rw (loose, same) stops
-stopped strict form (Formed own) (loose, same) start trace held holds n stops = rw (loose, same) stops
-stopped strict form (Guarded own) (is_strict, same) start trace held holds n stops = rw (is_strict, same) stops
-stopped strict form (Compare expected explain) never start trace held holds n stops = absurd never
-stopped strict form (Drawn keep) never start trace held holds n stops = absurd never
+  pub stopped : (task : Task) → PrintsIn strict form task → (start : State) (streams : Streams) (n : ℕ) → StopsBy task start streams n
+      → IsStopped strict form start streams n
+  stopped Plain (loose, same) start streams n stops = rw (loose, same) stops
+  stopped (Formed own) (loose, same) start streams n stops = rw (loose, same) stops
+  stopped (Guarded own) (is_strict, same) start streams n stops = rw (is_strict, same) stops
+  stopped (Compare expected explain) never start streams n stops = absurd never
+  stopped (Drawn keep) never start streams n stops = absurd never
 
-pub breached : (strict : Bool) (form : Form) (task : Task) → PrintsIn strict form task → (start : State) (trace held holds : Option (List ℕ)) (n : ℕ) → UnmetBy task start trace held holds n
-    → (strict ≡ true) × IsUnmet form start trace held holds n
-breached strict form Plain prints start trace held holds n never = absurd never
-breached strict form (Formed own) prints start trace held holds n never = absurd never
-breached strict form (Guarded own) (is_strict, same) start trace held holds n unmet = (is_strict, rw same unmet)
-breached strict form (Compare expected explain) prints start trace held holds n never = absurd never
-breached strict form (Drawn keep) prints start trace held holds n never = absurd never
+  pub breached : (task : Task) → PrintsIn strict form task → (start : State) (streams : Streams) (n : ℕ) → UnmetBy task start streams n
+      → (strict ≡ true) × IsUnmet form start streams n
+  breached Plain prints start streams n never = absurd never
+  breached (Formed own) prints start streams n never = absurd never
+  breached (Guarded own) (is_strict, same) start streams n unmet = (is_strict, rw same unmet)
+  breached (Compare expected explain) prints start streams n never = absurd never
+  breached (Drawn keep) prints start streams n never = absurd never
 
-pub never_differs : {P : Type 0} (strict : Bool) (form : Form) (task : Task) → PrintsIn strict form task → (start : State) (trace : Option (List ℕ)) → DiffersBy task start trace → P
-never_differs strict form Plain prints start trace never = absurd never
-never_differs strict form (Formed own) prints start trace never = absurd never
-never_differs strict form (Guarded own) prints start trace never = absurd never
-never_differs strict form (Compare expected explain) never start trace differs = absurd never
-never_differs strict form (Drawn keep) never start trace differs = absurd never
+  pub never_differs : {P : Type 0} (task : Task) → PrintsIn strict form task → (start : State) (trace : Option (List ℕ)) → DiffersBy task start trace → P
+  never_differs Plain prints start trace never = absurd never
+  never_differs (Formed own) prints start trace never = absurd never
+  never_differs (Guarded own) prints start trace never = absurd never
+  never_differs (Compare expected explain) never start trace differs = absurd never
+  never_differs (Drawn keep) never start trace differs = absurd never

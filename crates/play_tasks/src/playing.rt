@@ -1,10 +1,10 @@
 // SPDX-License-Identifier: MIT OR Apache-2.0
 //! Plays of a trace: its text printed as the player prints it or in a form, or compared with a text that is expected, or its
 //! picture.
-ghost use Rattle.std.specs.Prelude.{◌≡◌, ◌⊎◌, OnOk, IfErr, IfOk};
+ghost use Rattle.std.specs.Prelude.{◌≡◌, ◌⊎◌, IfErr, IfOk};
 ghost use Rattle.std.specs.Io.Buffered.{reader_remaining};
 ghost use Rattle.play_report.specs.Failures.{IsDifference};
-ghost use Rattle.play_tasks.specs.Plays.{IsDoneBy, PlayFails};
+ghost use Rattle.play_tasks.specs.Plays.{Plays, streams_of};
 
 use crate::task::{Task, Trace};
 use ffa_playable::Playable;
@@ -23,8 +23,8 @@ pub(crate) fn play_plainly<'a, A: Allocator + Copy, P: Playable, R: Read + Drop,
     trace: Trace<'a, R>,
     out: &mut W,
 ) -> Result<(), Failure<'a>>
-    ensures played { OnOk result (IsDoneBy Task.Plain player.old.state (R.remaining trace.entry.reader) (W.contents out.old) (W.contents out.new)) }
-    ensures failed { IfErr result (PlayFails Task.Plain player.old.state (R.remaining trace.entry.reader) (W.contents out.old) (W.contents out.new)) }
+    ensures { let streams = streams_of R.remaining trace.entry.reader W.contents out.old out.new in
+        Plays Task.Plain player.old.state streams result }
 {
     let Trace { path, mut reader } = trace;
     match player.play_in(alloc, &mut reader, out) {
@@ -34,7 +34,7 @@ pub(crate) fn play_plainly<'a, A: Allocator + Copy, P: Playable, R: Read + Drop,
 }
 
 // A reader that is read line by line.
-fn buffered<A: Allocator, R: Read + Drop>(
+fn buffer<A: Allocator, R: Read + Drop>(
     alloc: A,
     reader: R,
 ) -> Result<BufReader<R, A>, Failure<'static>>
@@ -55,11 +55,11 @@ pub(crate) fn play_formed<'a, A: Allocator + Copy, P: Playable, R: Read + Drop, 
     trace: Trace<'a, R>,
     out: &mut W,
 ) -> Result<(), Failure<'a>>
-    ensures played { OnOk result (IsDoneBy (Task.Formed form) player.old.state (R.remaining trace.entry.reader) (W.contents out.old) (W.contents out.new)) }
-    ensures failed { IfErr result (PlayFails (Task.Formed form) player.old.state (R.remaining trace.entry.reader) (W.contents out.old) (W.contents out.new)) }
+    ensures { let streams = streams_of R.remaining trace.entry.reader W.contents out.old out.new in
+        Plays (Task.Formed form) player.old.state streams result }
 {
     let Trace { path, reader } = trace;
-    let mut reader = buffered(alloc, reader)?;
+    let mut reader = buffer(alloc, reader)?;
     let mut line = Vec::new(alloc);
     match play_forms::play(player, alloc, form, &mut reader, out, &mut line) {
         Ok(()) => Ok(()),
@@ -76,21 +76,21 @@ pub(crate) fn play_guarded<'a, A: Allocator + Copy, P: Playable, R: Read + Drop,
     out: &mut W,
     told: &mut Vec<u8, A>,
 ) -> Result<(), Failure<'a>>
-    ensures played { OnOk result (IsDoneBy (Task.Guarded form) player.old.state (R.remaining trace.entry.reader) (W.contents out.old) (W.contents out.new)) }
-    ensures failed { IfErr result (PlayFails (Task.Guarded form) player.old.state (R.remaining trace.entry.reader) (W.contents out.old) (W.contents out.new)) }
+    ensures { let streams = streams_of R.remaining trace.entry.reader W.contents out.old out.new in
+        Plays (Task.Guarded form) player.old.state streams result }
 {
     let Trace { path, reader } = trace;
-    let mut reader = buffered(alloc, reader)?;
+    let mut reader = buffer(alloc, reader)?;
     let (mut line, mut found) = (Vec::new(alloc), Vec::new(alloc));
     match play_forms::play_guarded(player, alloc, form, &mut reader, out, &mut line, &mut found) {
         Ok(None) => Ok(()),
-        Ok(Some(breach)) => Err(unmet(told, breach, &line, &found)),
+        Ok(Some(breach)) => Err(tell_breach(told, breach, &line, &found)),
         Err(error) => Err(Failure::of_line(path, error, &line)),
     }
 }
 
 // Says in `told` that the guard in this line isn't met, where this is found, and answers so.
-fn unmet<A: Allocator>(
+fn tell_breach<A: Allocator>(
     told: &mut Vec<u8, A>,
     breach: Breach,
     line: &[u8],
@@ -114,11 +114,11 @@ pub(crate) fn compare<'a, A: Allocator + Copy, P: Playable, R: Read + Drop, W: W
     trace: Trace<'a, R>,
     out: &mut W,
 ) -> Result<(), Failure<'a>>
-    ensures played { OnOk result (IsDoneBy (Task.Compare expected.entry explain) player.old.state (R.remaining trace.entry.reader) (W.contents out.old) (W.contents out.new)) }
-    ensures failed { IfErr result (PlayFails (Task.Compare expected.entry explain) player.old.state (R.remaining trace.entry.reader) (W.contents out.old) (W.contents out.new)) }
+    ensures { let streams = streams_of R.remaining trace.entry.reader W.contents out.old out.new in
+        Plays (Task.Compare expected.entry explain) player.old.state streams result }
 {
     let Trace { path, reader } = trace;
-    let mut reader = buffered(alloc, reader)?;
+    let mut reader = buffer(alloc, reader)?;
     let (mut line, mut text) = (Vec::new(alloc), Vec::new(alloc));
     match play_forms::compare(
         player,
@@ -165,11 +165,11 @@ pub(crate) fn draw<'a, A: Allocator + Copy, P: Playable, R: Read + Drop, W: Writ
     trace: Trace<'a, R>,
     out: &mut W,
 ) -> Result<(), Failure<'a>>
-    ensures played { OnOk result (IsDoneBy (Task.Drawn keep) player.old.state (R.remaining trace.entry.reader) (W.contents out.old) (W.contents out.new)) }
-    ensures failed { IfErr result (PlayFails (Task.Drawn keep) player.old.state (R.remaining trace.entry.reader) (W.contents out.old) (W.contents out.new)) }
+    ensures { let streams = streams_of R.remaining trace.entry.reader W.contents out.old out.new in
+        Plays (Task.Drawn keep) player.old.state streams result }
 {
     let Trace { path, reader } = trace;
-    let mut reader = buffered(alloc, reader)?;
+    let mut reader = buffer(alloc, reader)?;
     let mut line = Vec::new(alloc);
     match picture_of(player, alloc, keep, &mut reader, &mut line) {
         Ok(picture) => print_picture(&picture, out),

@@ -1,7 +1,6 @@
 // SPDX-License-Identifier: MIT OR Apache-2.0
 //! What becomes of the text of a trace.
-ghost use Rattle.std.specs.Prelude.{OnOk, IfErr};
-ghost use Rattle.play_tasks.specs.Plays.{IsDoneBy, PlayFails, PrintsIn, form_of};
+ghost use Rattle.play_tasks.specs.Plays.{Plays, PrintsIn, form_of, streams_of};
 
 use crate::playing::{compare, draw, play_formed, play_guarded, play_plainly};
 use ffa_playable::Playable;
@@ -66,8 +65,8 @@ pub fn do_task<'a, A: Allocator + Copy, P: Playable, R: Read + Drop, W: Write>(
     out: &mut W,
     told: &mut Vec<u8, A>,
 ) -> Result<(), Failure<'a>>
-    ensures played { OnOk result (IsDoneBy task.entry player.old.state (R.remaining trace.entry.reader) (W.contents out.old) (W.contents out.new)) }
-    ensures failed { IfErr result (PlayFails task.entry player.old.state (R.remaining trace.entry.reader) (W.contents out.old) (W.contents out.new)) }
+    ensures { let streams = streams_of R.remaining trace.entry.reader W.contents out.old out.new in
+        Plays task.entry player.old.state streams result }
 {
     match task {
         Task::Plain => play_plainly(player, alloc, trace, out),

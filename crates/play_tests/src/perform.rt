@@ -112,7 +112,7 @@ struct Ended {
 fn performed(alloc: Global, request: &Request<'_>, files: Files<'_, &[u8]>) -> Ended {
     let mut out = Vec::new(alloc);
     let mut err = Vec::new(alloc);
-    let status = perform(alloc, request, files, &mut out, &mut err);
+    let status = perform(alloc, alloc, request, files, &mut out, &mut err);
     Ended { status, out, err }
 }
 
@@ -390,7 +390,7 @@ fn tells(
         expected: None,
         reason: None,
     };
-    let ended = perform(alloc, request, files, &mut out, &mut err);
+    let ended = perform(alloc, alloc, request, files, &mut out, &mut err);
     assert_eq!(rt; ended, status);
     assert_eq!(rt; err.as_slice(), told.as_bytes());
 }

@@ -1,10 +1,10 @@
 // SPDX-License-Identifier: MIT OR Apache-2.0
 //! Traces that are made up.
-ghost use Rattle.std.specs.Prelude.{◌≡◌, false, IfErr, OnOk, option_map};
-ghost use Rattle.ffa_manifest.specs.Document.{Parts};
+ghost use Rattle.std.specs.Prelude.{IfErr, OnOk};
 ghost use Rattle.play_transcript.specs.Traces.{Wrote};
 ghost use Rattle.play_report.specs.Failures.{IsShort};
-ghost use Rattle.play_report.specs.Manifests.{Describes, FailsUnplayed};
+ghost use Rattle.play_report.specs.Manifests.{FailsUnplayed, bytes_of};
+ghost use Rattle.play_commands.specs.Performed.{IsMade};
 
 use ffa_model::Manifest;
 use play_generator::{Counts, GenerateError, generate};
@@ -12,8 +12,8 @@ use play_report::{Failure, print_counts, read_manifest};
 use std::alloc::{Allocator, Global};
 use std::io::{self, Write};
 
-/// Prints a trace of so many lines for the machine of a manifest, or, where that is asked for, how often each of its calls
-/// and accesses ended in which way.
+/// Prints a trace of so many lines for the machine of a manifest, or, where that is asked for, how often each of its
+/// calls and accesses ended in which way.
 pub(super) fn generate_trace<'a, A: Allocator + Copy, W: Write>(
     manifests: Global,
     alloc: A,
@@ -24,14 +24,15 @@ pub(super) fn generate_trace<'a, A: Allocator + Copy, W: Write>(
     count: bool,
     out: &mut W,
 ) -> Result<(), Failure<'a>>
-    ensures done { OnOk result ((parts : Parts) × Describes (option_map (λ bytes. bytes.now) manifest.entry) parts × (count ≡ false → Wrote lines (W.contents out.old) (W.contents out.new))) }
-    ensures failed { IfErr result (FailsUnplayed (option_map (λ bytes. bytes.now) manifest.entry) (W.contents out.old) (W.contents out.new)) }
+    ensures done { let given = bytes_of manifest.entry in
+        OnOk result (IsMade lines count given (W.contents out.old) (W.contents out.new)) }
+    ensures failed { IfErr result (FailsUnplayed (bytes_of manifest.entry) (W.contents out.old) (W.contents out.new)) }
 {
     let manifest = read_manifest(manifests, path, manifest)?;
     if count {
         print_outcomes(alloc, &manifest, seed, lines, out)
     } else {
-        match generated(alloc, &manifest, seed, lines, out) {
+        match write_trace(alloc, &manifest, seed, lines, out) {
             Ok(_) => Ok(()),
             Err(failure) => Err(failure),
         }
@@ -48,19 +49,19 @@ fn print_outcomes<A: Allocator + Copy, W: Write>(
 ) -> Result<(), Failure<'static>>
     ensures { IfErr result IsShort }
 {
-    let counts = generated(alloc, manifest, seed, lines, &mut io::sink())?;
+    let counts = write_trace(alloc, manifest, seed, lines, &mut io::sink())?;
     print_counts(alloc, &counts, out)
 }
 
 // Writes a trace for the machine of a manifest, and answers what came of it.
-fn generated<A: Allocator + Copy, W: Write>(
+fn write_trace<A: Allocator + Copy, W: Write>(
     alloc: A,
     manifest: &Manifest,
     seed: u64,
     lines: u64,
     out: &mut W,
 ) -> Result<Counts, Failure<'static>>
-    ensures generated { OnOk result (Wrote lines (W.contents out.old) (W.contents out.new)) }
+    ensures written { OnOk result (Wrote lines (W.contents out.old) (W.contents out.new)) }
     ensures failed { IfErr result IsShort }
 {
     match generate(alloc, manifest, seed, lines, out) {

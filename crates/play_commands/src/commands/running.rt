@@ -1,16 +1,13 @@
 // SPDX-License-Identifier: MIT OR Apache-2.0
 //! Commands that play a trace: what they name is read and opened, and then the trace is played.
-ghost use Rattle.std.specs.Prelude.{◌≡◌, ℕ, Bool, List, Option, true, None, Some, OnOk, IfErr, IfOk, is_some, option_map};
-ghost use Rattle.std.specs.Option.{option_and_then};
-ghost use Rattle.std.specs.Io.KnownBytes.{Keeps};
-ghost use Rattle.ffa_manifest.specs.Document.{Parts};
-ghost use Rattle.play_report.specs.Manifests.{Describes};
-ghost use Rattle.play_tasks.specs.Plays.{IsDrawn, IsPlayed, PrintsExpected, form_of};
-ghost use Rattle.play_commands.specs.Performed.{FailsFor, IsRead, built_in_parts, first_of};
+ghost use Rattle.std.specs.Prelude.{◌≡◌, Some, IfErr, IfOk};
+ghost use Rattle.play_commands.specs.Performed.{Does, ran};
+ghost use Rattle.play_commands.specs.Running.{compare_of, demo_of, picture_of, run_of};
 
-use super::playing::play;
+use super::Files;
+use super::playing::Play;
 use ffa_model::built_in;
-use play_arguments::{MachineOptions, Request, TextOptions};
+use play_arguments::{MachineOptions, TextOptions};
 use play_drawing::Keep;
 use play_report::{Failure, read_manifest};
 use play_tasks::{Task, Trace};
@@ -25,7 +22,9 @@ const PLAIN: MachineOptions = MachineOptions {
 
 /// How a trace is played whose text is printed.
 #[derive(Clone, Copy)]
-pub(super) struct Printing {
+pub(super) struct Printing<'a> {
+    /// The trace's path.
+    pub(super) trace: &'a str,
     pub(super) machine: MachineOptions,
     pub(super) text: TextOptions,
     /// Its guards are checked.
@@ -36,119 +35,150 @@ pub(super) struct Printing {
 
 /// How a trace is played whose text is compared.
 #[derive(Clone, Copy)]
-pub(super) struct Comparison<'a, 'b> {
-    pub(super) machine: MachineOptions,
+pub(super) struct Comparison<'a> {
+    /// The trace's path.
+    pub(super) trace: &'a str,
     /// The path of the expected text.
-    pub(super) path: &'a str,
-    /// The bytes of its file, or `None` where it can't be read.
-    pub(super) expected: Option<&'b [u8]>,
+    pub(super) expected: &'a str,
+    pub(super) machine: MachineOptions,
     /// Why the operation is refused at which it differs is to be told.
     pub(super) explain: bool,
+    /// More is to be said of a file that can't be read, and of a manifest that is refused.
+    pub(super) verbose: bool,
 }
 
-/// Plays a trace on the machine of a manifest, and prints its text.
+/// How a trace is played whose picture is printed.
+#[derive(Clone, Copy)]
+pub(super) struct Drawing<'a> {
+    /// The trace's path.
+    pub(super) trace: &'a str,
+    /// A row is drawn for each line whose number is a multiple of this one, or where it is 0 for each line that changes
+    /// the certificate.
+    pub(super) every: u64,
+    /// More is to be said of a file that can't be read, and of a manifest that is refused.
+    pub(super) verbose: bool,
+}
+
+/// Plays a trace on the machine of the manifest at this path, and prints its text.
 pub(super) fn run<'a, A: Allocator + Copy, R: Read + Drop, W: Write>(
     manifests: Global,
     alloc: A,
     path: &'a str,
-    manifest: Option<&[u8]>,
-    trace: Trace<'a, Option<R>>,
-    how: Printing,
+    how: Printing<'a>,
+    files: Files<'_, R>,
     out: &mut W,
     told: &mut Vec<u8, A>,
 ) -> Result<(), Failure<'a>>
-    ensures done { OnOk result ((parts : Parts) × Describes (option_map (λ bytes. bytes.now) manifest.entry) parts × IsPlayed how.strict (form_of how.text) (first_of parts) (option_and_then (λ reader. R.remaining reader) trace.entry.reader) (W.contents out.old) (W.contents out.new)) }
-    ensures read { OnOk result (is_some trace.entry.reader ≡ true) }
-    ensures failed { IfErr result (λ failure. (expected : Option (List ℕ)) → FailsFor (Request.Run path.entry trace.entry.path how.machine how.text how.strict how.verbose) (option_map (λ bytes. bytes.now) manifest.entry) (option_and_then (λ reader. R.remaining reader) trace.entry.reader) expected (W.contents out.old) (W.contents out.new) failure) }
-    ensures read_bad { IfErr result (IsRead (is_some trace.entry.reader)) }
+    ensures { Does (run_of path.entry how.entry) (ran R.remaining files.entry W.contents out.old out.new) result }
 {
+    let Files {
+        manifest,
+        trace,
+        ..
+    } = files;
     let manifest = read_manifest(manifests, path, manifest)?;
-    let trace = opened(trace)?;
+    let trace = open(how.trace, trace)?;
     let task = Task::to_print(how.text, how.strict, how.verbose);
-    play(alloc, &manifest, how.machine, task, trace, out, told)
+    let machine = how.machine;
+    let play = Play {
+        alloc,
+        machine,
+        task,
+        trace,
+    };
+    play.run(&manifest, out, told)
 }
 
 /// Plays a trace on the built-in machine, and prints its text.
 pub(super) fn demo<'a, A: Allocator + Copy, R: Read + Drop, W: Write>(
     alloc: A,
-    trace: Trace<'a, Option<R>>,
-    how: Printing,
+    how: Printing<'a>,
+    files: Files<'_, R>,
     out: &mut W,
     told: &mut Vec<u8, A>,
 ) -> Result<(), Failure<'a>>
-    ensures done { OnOk result (IsPlayed how.strict (form_of how.text) (first_of built_in_parts) (option_and_then (λ reader. R.remaining reader) trace.entry.reader) (W.contents out.old) (W.contents out.new)) }
-    ensures read { OnOk result (is_some trace.entry.reader ≡ true) }
-    ensures failed { IfErr result (λ failure. (manifest expected : Option (List ℕ)) → FailsFor (Request.Demo trace.entry.path how.machine how.text how.strict how.verbose) manifest (option_and_then (λ reader. R.remaining reader) trace.entry.reader) expected (W.contents out.old) (W.contents out.new) failure) }
-    ensures read_bad { IfErr result (IsRead (is_some trace.entry.reader)) }
+    ensures { Does (demo_of how.entry) (ran R.remaining files.entry W.contents out.old out.new) result }
 {
+    let Files { trace, .. } = files;
+    let trace = open(how.trace, trace)?;
     let task = Task::to_print(how.text, how.strict, how.verbose);
-    play(
+    let machine = how.machine;
+    let play = Play {
         alloc,
-        &built_in(),
-        how.machine,
+        machine,
         task,
-        opened(trace)?,
-        out,
-        told,
-    )
+        trace,
+    };
+    play.run(&built_in(), out, told)
 }
 
-/// Compares what a trace prints on the machine of a manifest with a text that is expected.
+/// Compares what a trace prints on the machine of the manifest at this path with a text that is expected.
 pub(super) fn compare<'a, A: Allocator + Copy, R: Read + Drop, W: Write>(
     manifests: Global,
     alloc: A,
     path: &'a str,
-    manifest: Option<&[u8]>,
-    trace: Trace<'a, Option<R>>,
-    how: Comparison<'a, '_>,
+    how: Comparison<'a>,
+    files: Files<'_, R>,
     out: &mut W,
     told: &mut Vec<u8, A>,
 ) -> Result<(), Failure<'a>>
-    ensures done { OnOk result ((parts : Parts) × Describes (option_map (λ bytes. bytes.now) manifest.entry) parts × PrintsExpected (first_of parts) (option_and_then (λ reader. R.remaining reader) trace.entry.reader) (option_map (λ bytes. bytes.now) how.entry.expected) × Keeps (W.contents out.old) (W.contents out.new)) }
-    ensures read { OnOk result (is_some trace.entry.reader ≡ true) }
-    ensures failed { IfErr result (λ failure. (verbose : Bool) → FailsFor (Request.Compare path.entry trace.entry.path how.entry.path how.entry.machine how.entry.explain verbose) (option_map (λ bytes. bytes.now) manifest.entry) (option_and_then (λ reader. R.remaining reader) trace.entry.reader) (option_map (λ bytes. bytes.now) how.entry.expected) (W.contents out.old) (W.contents out.new) failure) }
-    ensures read_bad { IfErr result (IsRead (is_some trace.entry.reader)) }
+    ensures { Does (compare_of path.entry how.entry) (ran R.remaining files.entry W.contents out.old out.new) result }
 {
-    let manifest = read_manifest(manifests, path, manifest)?;
-    let trace = opened(trace)?;
-    let Some(expected) = how.expected else {
-        return Err(Failure::Read(how.path));
-    };
-    let task = Task::Compare {
+    let Files {
+        manifest,
+        trace,
         expected,
-        explain: how.explain,
+        ..
+    } = files;
+    let manifest = read_manifest(manifests, path, manifest)?;
+    let trace = open(how.trace, trace)?;
+    let Some(expected) = expected else {
+        return Err(Failure::Read(how.expected));
     };
-    play(alloc, &manifest, how.machine, task, trace, out, told)
+    let (machine, explain) = (how.machine, how.explain);
+    let task = Task::Compare { expected, explain };
+    let play = Play {
+        alloc,
+        machine,
+        task,
+        trace,
+    };
+    play.run(&manifest, out, told)
 }
 
-/// Plays a trace on the machine of a manifest, and prints its picture.
+/// Plays a trace on the machine of the manifest at this path, and prints its picture.
 pub(super) fn draw<'a, A: Allocator + Copy, R: Read + Drop, W: Write>(
     manifests: Global,
     alloc: A,
     path: &'a str,
-    manifest: Option<&[u8]>,
-    trace: Trace<'a, Option<R>>,
-    every: u64,
+    how: Drawing<'a>,
+    files: Files<'_, R>,
     out: &mut W,
     told: &mut Vec<u8, A>,
 ) -> Result<(), Failure<'a>>
-    ensures done { OnOk result ((parts : Parts) × Describes (option_map (λ bytes. bytes.now) manifest.entry) parts × IsDrawn (option_and_then (λ reader. R.remaining reader) trace.entry.reader)) }
-    ensures read { OnOk result (is_some trace.entry.reader ≡ true) }
-    ensures failed { IfErr result (λ failure. (expected : Option (List ℕ)) (verbose : Bool) → FailsFor (Request.Picture path.entry trace.entry.path every verbose) (option_map (λ bytes. bytes.now) manifest.entry) (option_and_then (λ reader. R.remaining reader) trace.entry.reader) expected (W.contents out.old) (W.contents out.new) failure) }
-    ensures read_bad { IfErr result (IsRead (is_some trace.entry.reader)) }
+    ensures { Does (picture_of path.entry how.entry) (ran R.remaining files.entry W.contents out.old out.new) result }
 {
+    let Files {
+        manifest,
+        trace,
+        ..
+    } = files;
     let manifest = read_manifest(manifests, path, manifest)?;
-    let trace = opened(trace)?;
-    let keep = Keep::every(every);
-    play(alloc, &manifest, PLAIN, Task::Drawn(keep), trace, out, told)
+    let trace = open(how.trace, trace)?;
+    let play = Play {
+        alloc,
+        machine: PLAIN,
+        task: Task::Drawn(Keep::every(how.every)),
+        trace,
+    };
+    play.run(&manifest, out, told)
 }
 
-// The trace, if it could be opened.
-fn opened<'a, R: Read + Drop>(trace: Trace<'a, Option<R>>) -> Result<Trace<'a, R>, Failure<'a>>
-    ensures opened { IfOk result (λ opened. trace.entry.reader ≡ Some opened.reader) }
-    ensures unread { IfErr result (λ failure. failure ≡ Failure.Read trace.entry.path) }
+// The trace at this path, with what reads it, if it could be opened.
+fn open<'a, R: Read + Drop>(path: &'a str, reader: Option<R>) -> Result<Trace<'a, R>, Failure<'a>>
+    ensures opened { IfOk result (λ trace. reader ≡ Some trace.reader) }
+    ensures unread { IfErr result (λ failure. failure ≡ Failure.Read path.entry) }
 {
-    let Trace { path, reader } = trace;
     match reader {
         Some(reader) => Ok(Trace { path, reader }),
         None => Err(Failure::Read(path)),

@@ -2,12 +2,12 @@
 use Rattle.std.proofs.Common.{◌≡◌, List, [], ◌++◌, take, drop}
 use Rattle.ffa_model.specs.declared.endpoint.Region.{Region}
 use Rattle.ffa_model.specs.Manifest.{regions_of}
-use Rattle.ffa_manifest.specs.Place.{is_in}
+use Rattle.ffa_manifest.specs.RegionSpace.{is_in}
 use Rattle.ffa_manifest.specs.Parts.{Tests, first_failure, tests_of_each, region_tests}
 use Rattle.ffa_manifest.proofs.parts.check_regions.Given as goal
 
 -- the tests of the regions that are left, beside those so far, fail first where all tests do
 abbrev pub invariant-loop-index : goal.invariant-loop-index
 invariant-loop-index l =
-    let one : List Region → Region → Tests = λ own r. region_tests (is_in l.place) (regions_of l.before ++ own) r in
+    let one : List Region → Region → Tests = λ own r. region_tests (is_in l.space) (regions_of l.before ++ own) r in
     first_failure (tests_of_each one (take l.index l.regions) (drop l.index l.regions)) ≡ first_failure (tests_of_each one [] l.regions)

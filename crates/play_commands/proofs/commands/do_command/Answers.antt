@@ -1,45 +1,41 @@
 -- SPDX-License-Identifier: MIT OR Apache-2.0
-use Rattle.std.proofs.Common.{option_map, refl}
-use Rattle.std.specs.Option.{option_and_then}
-use Rattle.play_report.proofs.Results.{on_err, on_ok}
-use Rattle.play_commands.proofs.Performs.{unplayed, unplayed_read, unsaid}
+use Rattle.std.proofs.Common.{ap}
+use Rattle.std.specs.Prelude.{OnOk}
+use Rattle.play_commands.specs.Performed.{IsDone, needs_manifest, needs_trace, ran}
+use Rattle.play_commands.proofs.Performs.{describes, unplayed}
 use Rattle.play_commands.proofs.commands.do_command.Goals as goal
 
-pub returns-in-Run-clause-read : goal.returns-in-Run-clause-read
-returns-in-Run-clause-read g c = on_ok c.run.result (λ is needed. is) c.run.ensures.read
+pub returns-in-Run : goal.returns-in-Run
+returns-in-Run g c = rw c.in-Run.is c.run.ensures
 
-pub returns-in-Run-clause-failed : goal.returns-in-Run-clause-failed
-returns-in-Run-clause-failed g c =
-    let expected = option_map (λ bytes. bytes.now) c.args.expected in
-    rw c.in-Run.is (on_err c.run.result (λ failure fails. fails expected) c.run.ensures.failed)
+pub returns-in-Demo : goal.returns-in-Demo
+returns-in-Demo g c = rw c.in-Demo.is c.demo.ensures
 
-pub returns-in-Demo-clause-read : goal.returns-in-Demo-clause-read
-returns-in-Demo-clause-read g c = on_ok c.demo.result (λ is needed. is) c.demo.ensures.read
+pub returns-in-Compare : goal.returns-in-Compare
+returns-in-Compare g c = rw c.in-Compare.is c.compare.ensures
 
-pub returns-in-Demo-clause-failed : goal.returns-in-Demo-clause-failed
-returns-in-Demo-clause-failed g c =
-    let manifest = option_map (λ bytes. bytes.now) c.args.manifest in
-    let expected = option_map (λ bytes. bytes.now) c.args.expected in
-    rw c.in-Demo.is (on_err c.demo.result (λ failure fails. fails manifest expected) c.demo.ensures.failed)
+pub returns : goal.returns
+returns g c = rw c.in-Picture.is c.draw.ensures
 
-pub returns-in-Compare-clause-read : goal.returns-in-Compare-clause-read
-returns-in-Compare-clause-read g c = on_ok c.compare.result (λ is needed. is) c.compare.ensures.read
+pub returns-in-Check : goal.returns-in-Check
+returns-in-Check g c =
+    let given = ran g.R.Read.remaining c.args.files g.W.Write.contents c.args.out.now c.accept.new.out in
+    let done : OnOk c.accept.result (IsDone c.args.request.now given) = rw c.in-Check.is c.accept.ensures.done in
+    unplayed c.args.request.now (ap needs_manifest c.in-Check.is) (ap needs_trace c.in-Check.is) given c.accept.result done c.accept.ensures.failed
 
-pub returns-in-Compare-clause-failed : goal.returns-in-Compare-clause-failed
-returns-in-Compare-clause-failed g c = rw c.in-Compare.is (on_err c.compare.result (λ failure fails. fails c.in-Compare.verbose) c.compare.ensures.failed)
+pub returns-in-Layout : goal.returns-in-Layout
+returns-in-Layout g c =
+    let given = ran g.R.Read.remaining c.args.files g.W.Write.contents c.args.out.now c.lay_out.new.out in
+    let done : OnOk c.lay_out.result (IsDone c.args.request.now given) = rw c.in-Layout.is c.lay_out.ensures.done in
+    unplayed c.args.request.now (ap needs_manifest c.in-Layout.is) (ap needs_trace c.in-Layout.is) given c.lay_out.result done c.lay_out.ensures.failed
 
-pub returns-in-Picture-clause-read : goal.returns-in-Picture-clause-read
-returns-in-Picture-clause-read g c = on_ok c.draw.result (λ is needed. is) c.draw.ensures.read
+pub returns-in-Generate : goal.returns-in-Generate
+returns-in-Generate g c =
+    let given = ran g.R.Read.remaining c.args.files g.W.Write.contents c.args.out.now c.generate_trace.new.out in
+    let done : OnOk c.generate_trace.result (IsDone c.args.request.now given) = rw c.in-Generate.is c.generate_trace.ensures.done in
+    unplayed c.args.request.now (ap needs_manifest c.in-Generate.is) (ap needs_trace c.in-Generate.is) given c.generate_trace.result done c.generate_trace.ensures.failed
 
-pub returns-in-Picture-clause-failed : goal.returns-in-Picture-clause-failed
-returns-in-Picture-clause-failed g c =
-    let expected = option_map (λ bytes. bytes.now) c.args.expected in
-    rw c.in-Picture.is (on_err c.draw.result (λ failure fails. fails expected c.in-Picture.verbose) c.draw.ensures.failed)
-
-pub returns-in-Descriptor-clause-failed : goal.returns-in-Descriptor-clause-failed
-returns-in-Descriptor-clause-failed g c =
-    let manifest = option_map (λ bytes. bytes.now) c.args.manifest in
-    let trace = option_and_then (λ reader. g.R.Read.remaining reader) c.args.trace in
-    let expected = option_map (λ bytes. bytes.now) c.args.expected in
-    rw c.in-Descriptor.is
-    (on_err c.describe.result (unsaid c.in-Descriptor.words manifest trace expected (g.W.Write.contents c.args.out.now) (g.W.Write.contents c.describe.new.out)) c.describe.ensures.failed)
+pub returns-in-Descriptor : goal.returns-in-Descriptor
+returns-in-Descriptor g c =
+    let given = ran g.R.Read.remaining c.args.files g.W.Write.contents c.args.out.now c.describe.new.out in
+    rw c.in-Descriptor.is (describes c.in-Descriptor.words given c.describe.result c.describe.ensures.said c.describe.ensures.failed)

@@ -5,9 +5,11 @@ use Rattle.play_tasks.specs.declared.task.Task.TheVariants.{Plain}
 use Rattle.play_tasks.proofs.Plays.{played_whole, play_failed}
 use Rattle.play_tasks.proofs.playing.play_plainly.Goals as goal
 
-pub returns-in-Ok-clause-played : goal.returns-in-Ok-clause-played
-returns-in-Ok-clause-played g c = played_whole c.in-Ok.field-0 _ _ _ _ _ _ c.in-Ok.ensures
+pub returns-in-Ok : goal.returns-in-Ok
+returns-in-Ok g c = record { played = played_whole c.in-Ok.field-0 _ _ _ _ _ _ c.in-Ok.ensures; failed = tt }
 
-pub returns-clause-failed : goal.returns-clause-failed
-returns-clause-failed g c =
-    subst (PlayFails Plain _ _ _ _) (sym c.of_play.ensures) (play_failed _ _ _ _ _ _ c.args.trace.path None c.in-Err.error c.in-Err.ensures)
+pub returns : goal.returns
+returns g c = record {
+  played = tt;
+  failed = subst (PlayFails Plain _ _) (sym c.of_play.ensures) (play_failed _ _ _ _ _ _ c.args.trace.path None c.in-Err.error c.in-Err.ensures);
+}

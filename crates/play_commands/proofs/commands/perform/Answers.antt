@@ -1,13 +1,13 @@
 -- SPDX-License-Identifier: MIT OR Apache-2.0
 use Rattle.play_tasks.proofs.Plays.{kept}
 use Rattle.play_commands.proofs.Performs.{told_bad, told_unmet}
-use Rattle.play_commands.proofs.commands.perform_in.Goals as goal
+use Rattle.play_commands.proofs.commands.perform.Goals as goal
 
 pub returns-in-Ok-clause-quiet : goal.returns-in-Ok-clause-quiet
 returns-in-Ok-clause-quiet g c = λ done. kept (g.E.Write.contents c.args.err.now)
 
 pub returns-clause-bad : goal.returns-clause-bad
-returns-clause-bad g c = told_bad _ _ _ _ _ _ _ c.in-Err.failure c.tell-status.result c.tell-status.ensures c.in-Err.ensures.failed c.in-Err.ensures.read_bad
+returns-clause-bad g c = told_bad _ _ c.in-Err.failure c.tell-status.result c.tell-status.ensures c.in-Err.ensures.failed c.in-Err.ensures.read
 
 pub returns-clause-unmet : goal.returns-clause-unmet
-returns-clause-unmet g c = told_unmet _ _ _ _ _ _ _ c.in-Err.failure c.tell-status.result c.tell-status.ensures c.in-Err.ensures.failed c.in-Err.ensures.read_bad
+returns-clause-unmet g c = told_unmet _ _ c.in-Err.failure c.tell-status.result c.tell-status.ensures c.in-Err.ensures.failed c.in-Err.ensures.read

@@ -4,12 +4,12 @@
 use Rattle.std.specs.Prelude.{Bool, Option, Some, None, if◌then◌else◌}
 use Rattle.ffa_model.specs.declared.endpoint.Region.{Region}
 use Rattle.ffa_model.specs.Manifest.{is_placed}
-use Rattle.ffa_manifest.specs.declared.place.Place.{Place}
+use Rattle.ffa_manifest.specs.declared.region_space.RegionSpace.{RegionSpace}
 
 -- whole pages in RAM behind the table pages
-abbrev pub is_in : Place → Region → Bool
-is_in place = is_placed place.base place.blocks place.endpoints
+abbrev pub is_in : RegionSpace → Region → Bool
+is_in space = is_placed space.base space.blocks space.endpoints
 
 -- the region, where it's there
-abbrev pub placed : Place → Region → Option Region
-placed place region = if is_in place region then Some region else None
+abbrev pub placed : RegionSpace → Region → Option Region
+placed space region = if is_in space region then Some region else None

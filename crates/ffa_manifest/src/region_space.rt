@@ -16,7 +16,7 @@ pub(crate) fn is_ram_base(base: u64) -> bool
 
 /// A machine's RAM, of which the front holds the tables of its endpoints.
 #[derive(Clone, Copy)]
-pub(crate) struct Place {
+pub(crate) struct RegionSpace {
     /// The address of RAM's first byte.
     pub base: u32,
     /// RAM's size, in blocks of 2 MiB.
@@ -28,8 +28,8 @@ pub(crate) struct Place {
     ghost few: { endpoints ≤ MOST_ENDPOINTS },
 }
 
-impl Place {
-    ghost use Rattle.ffa_manifest.specs.Place.{placed};
+impl RegionSpace {
+    ghost use Rattle.ffa_manifest.specs.RegionSpace.{placed};
 
     /// The region of these numbers, where it's of whole pages, at least one, that all lie in RAM behind the table
     /// pages.
