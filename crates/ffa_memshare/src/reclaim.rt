@@ -61,13 +61,15 @@ impl<O: Room<OpenSlot> + Drop> Pool<O> {
         ensures nothing { IfOk result (λ done. done.value ≡ Value.Nothing) }
         ensures slot { OnOk result (IsClosed self.old self.new handle.0) }
         ensures open_transactions { OnOk result (open_in self.new ≡ closed (open_in self.old) handle.0) }
-        ensures ram { let named = in_ranges layout.now.base.0 (named_ranges (transaction_in self.old.slots handle.0)) in
+        ensures ram { let ranges = named_ranges (transaction_in self.old.slots handle.0) in
+            let named = in_ranges layout.now.base.0 ranges in
             let right = own_right_at pages.old in let zero = flags == 1 in
             OnOk result (IsMovedFor layout.now (M.ram ram.old) (M.ram ram.new) (place caller.0) named right zero) }
         ensures steps { Only (M.past ram.old) (M.past ram.new)
             (IsMomentFor layout.now (M.ram ram.old) (M.ram ram.new)) }
         ensures ended { EndsSettledFor layout.now (M.ram ram.old) (M.ram ram.new) (M.past ram.new) }
-        ensures pages { let named = in_ranges layout.now.base.0 (named_ranges (transaction_in self.old.slots handle.0)) in
+        ensures pages { let ranges = named_ranges (transaction_in self.old.slots handle.0) in
+            let named = in_ranges layout.now.base.0 ranges in
             OnOk result (IsMarked pages.old pages.new named (Mark.Named None)) }
         ensures changed { let transaction = transaction_in self.old.slots handle.0 in
             let whose = changed_reclaimer transaction caller.0 in

@@ -167,7 +167,8 @@ impl Bitmaps {
         ensures refused { IfErr result (λ refusal. (rest : List (Bool × Refusal)) →
             first_refusal (sender_guards (length self.now.bitmaps) self.now caller.0 bits.now rest) ≡ Some refusal) }
         ensures passed { OnOk result ((rest : List (Bool × Refusal)) →
-            first_refusal (sender_guards (length self.now.bitmaps) self.now caller.0 bits.now rest) ≡ first_refusal rest) }
+            first_refusal (sender_guards (length self.now.bitmaps) self.now caller.0 bits.now rest)
+            ≡ first_refusal rest) }
         ensures known { OnOk result (is_known_among (length self.now.bitmaps) bits.now.sender.0 ≡ true) }
     {
         if bits.receiver != caller {

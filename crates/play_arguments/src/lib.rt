@@ -31,7 +31,8 @@ pub fn request<'a>(alloc: Global, words: &'a [&'a str]) -> Result<Request<'a>, E
 
 // What the words of the program's command ask for.
 fn found<'a>(command: &mut Command<'a>, words: &'a [&'a str]) -> Result<Request<'a>, Error>
-    ensures asked { app_of command.old ≡ program → IfOk result (λ r. asked_by (map (λ w. w.now) words.entry.now) ≡ Some (ask_of r)) }
+    ensures asked { app_of command.old ≡ program
+        → IfOk result (λ r. asked_by (map (λ w. w.now) words.entry.now) ≡ Some (ask_of r)) }
     ensures refused { app_of command.old ≡ program → IfErr result (IsRefusedFor (map (λ w. w.now) words.entry.now)) }
 {
     match command.try_get_matches_from_mut(words) {

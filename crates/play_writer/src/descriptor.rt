@@ -124,7 +124,9 @@ fn put_called<A: Allocator>(
 ) -> Result<(), AllocError>
     requires aligned { tx.0 % 4096 ≡ 0 }
     requires inside { length bytes.now ≤ 4096 }
-    ensures written { OnOk result ((stores : List (List ℕ)) × (line : List ℕ) × (text.new.items ≡ text.old.items ++ joined (stores ++ line ∷ [])) × Stores tx.0 stores bytes.now × IsLineOf line (Call call.now)) }
+    ensures written { OnOk result ((stores : List (List ℕ)) × (line : List ℕ)
+        × (text.new.items ≡ text.old.items ++ joined (stores ++ line ∷ [])) × Stores tx.0 stores bytes.now
+        × IsLineOf line (Call call.now)) }
     ensures kept { OnErr result (text.new.items ≡ text.old.items) }
 {
     let before = text.len();

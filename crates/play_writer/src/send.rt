@@ -20,7 +20,15 @@ use ffa_model::{Data, EndpointId, Kind, Receiver, SendDesc, Version};
 
 /// What the header of a send says.
 fn heading_of(kind: Kind, sender: EndpointId, zero: bool, tag: u64, count: u32) -> Heading
-    ensures exact { result ≡ record { sender = sender; attributes = attributes_of kind count; flags = if zero then 1 else 0; handle = 0; tag = tag; count = count } }
+    ensures exact { result ≡ record {
+      sender = sender;
+      attributes = attributes_of kind count;
+      flags = if zero then 1
+          else 0;
+      handle = 0;
+      tag = tag;
+      count = count;
+    } }
     ensures sender_fits { sender.0 < 2 ^ 16 }
     ensures tag_fits { tag < 2 ^ 64 }
 {
@@ -48,7 +56,8 @@ fn grant_code(grant: Option<Data>) -> u8
 fn write_receivers(page: &mut [u8], at: usize, receivers: &[Receiver], composite: u32)
     requires { at + 16 * length receivers.now ≤ length page.old }
     ensures bytes { (old front : List ℕ) → Wrote old front at page.old
-        → Wrote old (front ++ flat_map (receiver_bytes composite) receivers.now) (at + 16 * length receivers.now) page.new }
+        → Wrote old (front ++ flat_map (receiver_bytes composite) receivers.now)
+        (at + 16 * length receivers.now) page.new }
     ensures fit { (k : ℕ) → k < length receivers.now → (d : Receiver) → (get_or receivers.now k d).endpoint.0 < 2 ^ 16 }
 {
     for i in 0..receivers.len() {

@@ -63,7 +63,8 @@ impl Shifting {
         word: usize,
         next: [u64; 2],
     ) -> Result<Shifting, Fail>
-        ensures { IfOk result (λ ram. ⟦<Shifting as PhysMem>⟧.ram ram ≡ zero_ram manifest.now.ram_base.0 (512 * manifest.now.ram_blocks)) }
+        ensures { IfOk result (λ ram. ⟦<Shifting as PhysMem>⟧.ram ram
+            ≡ zero_ram manifest.now.ram_base.0 (512 * manifest.now.ram_blocks)) }
     {
         let ram = FlatRam::new(alloc, manifest.ram_base, 512 * manifest.ram_blocks)?;
         Ok(Shifting {
@@ -77,8 +78,10 @@ impl Shifting {
     // Writes the next word, where its page is one of these.
     fn shift(&mut self, first: PageNo, count: u32)
         requires { first.0 + count ≤ length (⟦<FlatRam as PhysMem>⟧.ram self.old.ram).pages }
-        ensures beside { IsBeside (⟦<FlatRam as PhysMem>⟧.ram self.old.ram) (⟦<FlatRam as PhysMem>⟧.ram self.new.ram) (is_in_run first.0 count) }
-        ensures whole { (p : ℕ) → length (page_of (⟦<FlatRam as PhysMem>⟧.ram self.new.ram) p) ≡ length (page_of (⟦<FlatRam as PhysMem>⟧.ram self.old.ram) p) }
+        ensures beside { IsBeside (⟦<FlatRam as PhysMem>⟧.ram self.old.ram) (⟦<FlatRam as PhysMem>⟧.ram self.new.ram)
+            (is_in_run first.0 count) }
+        ensures whole { (p : ℕ) → length (page_of (⟦<FlatRam as PhysMem>⟧.ram self.new.ram) p)
+            ≡ length (page_of (⟦<FlatRam as PhysMem>⟧.ram self.old.ram) p) }
     {
         if self.taken < 2 && self.word < 512 && first.0 <= TX.0 && TX.0 - first.0 < count {
             // Proof step: the page is whole.

@@ -260,7 +260,8 @@ impl PhysMem for Watched {
 impl Watched {
     // RAM of zeros for a machine.
     fn new(alloc: Global, manifest: &Manifest) -> Result<Watched, Fail>
-        ensures { IfOk result (λ ram. ⟦<Watched as PhysMem>⟧.ram ram ≡ zero_ram manifest.now.ram_base.0 (512 * manifest.now.ram_blocks)) }
+        ensures { IfOk result (λ ram. ⟦<Watched as PhysMem>⟧.ram ram
+            ≡ zero_ram manifest.now.ram_base.0 (512 * manifest.now.ram_blocks)) }
     {
         let walks = walks_of(alloc, manifest)?;
         let ram = FlatRam::new(alloc, manifest.ram_base, 512 * manifest.ram_blocks)?;
