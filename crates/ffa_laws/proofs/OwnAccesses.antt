@@ -1,12 +1,11 @@
 -- SPDX-License-Identifier: MIT OR Apache-2.0
 -- Nobody's access changes but the runner's, and the runner's grows and shrinks only by certain calls.
-use Rattle.std.proofs.Common.{◌≡◌, ◌≢◌, ◌∙◌, ℕ, ◌-◌, ◌/◌, ◌%◌, Bool, true, false, cond, List, [], ◌∷◌, Option, Some, None, refl, sym, ap, subst}
-use Rattle.std.specs.Prelude.{◌==◌, ◌&&◌, ◌||◌, is_none}
-use Rattle.std.specs.List.{list_all, list_any}
+use Rattle.std.proofs.Common.{◌≡◌, ◌≢◌, ◌∙◌, ℕ, ◌-◌, ◌/◌, ◌%◌, Bool, true, false, cond, Option, Some, None, refl, sym, ap, subst}
+use Rattle.std.specs.Prelude.{◌==◌, ◌&&◌, is_none}
 use Rattle.std.specs.Option.{option_and_then, option_map_or}
 use Rattle.std.specs.FinMap as finite
 use Rattle.std.specs.Ordering.{nat_cmp}
-use Rattle.std.proofs.lemmas.Bool.{and_parts, eq-eqb, eqb-true, false≢true, ne_eqb, true≢false}
+use Rattle.std.proofs.lemmas.Bool.{eq-eqb, eqb-true, false≢true, ne_eqb, true≢false}
 use Rattle.byteorder.specs.Endian.{little_bytes}
 use Rattle.ffa_model.specs.declared.descriptor.RelinquishDesc.{RelinquishDesc}
 use Rattle.ffa_model.specs.declared.operation.Op.{Op}
@@ -17,7 +16,6 @@ use Rattle.ffa_model.specs.declared.call.Call.TheVariants.{PartitionInfoGet, Mem
 use Rattle.ffa_model.specs.declared.rights.Kind.{Kind}
 use Rattle.ffa_model.specs.declared.rights.Kind.TheVariants.{Share, Lend, Donate}
 use Rattle.ffa_model.specs.declared.rights.Rights.{Rights}
-use Rattle.ffa_model.specs.declared.transaction.Receiver.{Receiver}
 use Rattle.ffa_model.specs.Bits.{is_set}
 use Rattle.ffa_model.specs.Rights.{is_share, is_within}
 use Rattle.ffa_model.specs.SendDescriptor.{SendRecord}
@@ -38,6 +36,7 @@ use Rattle.ffa_model.specs.Transactions.{own_rights_of, closed, handle_of, holdi
 use Rattle.ffa_model.proofs.Accesses.{IsNamedOnce, access-closed, access-given, access-holding_beside, access-kept, access-released, access-released_beside, access-still, access-unchanged, access-zeroed, in-closed, named-in}
 use Rattle.ffa_model.proofs.CallAccesses.{access-filled, access-written}
 use Rattle.ffa_model.proofs.Guards.{guard-passes}
+use Rattle.ffa_model.proofs.Holders.{unheld-by}
 use Rattle.ffa_laws.specs.Steady.{IsSteady}
 use Rattle.ffa_laws.specs.OwnAccess.{AreApart, OwnAccess, gives_access, is_call, takes_access}
 use Rattle.ffa_laws.proofs.Form.{accessed-kept, served-kept}
@@ -107,25 +106,6 @@ sharers e (Some q) t unheld sender share own =
 pub ownerless : (e : ℕ) (page : Option Page) → (option_map_or (λ (q : Page). q.owner) page 0x8000 == e) ≡ false → right_of e page None ≡ None
 ownerless e None other = refl
 ownerless e (Some q) other = ap (λ b. cond b (Some q.own_right) None) other
-
--- nobody holds a transaction that no receiver holds
-unheld-by : (t : Transaction) (e : ℕ) → is_unheld (Some t) ≡ true → ((right : Rights) → held_by t e ≡ Some right → is_receiver e t ≡ true) → held_by t e ≡ None
-unheld-by t e unheld holder = of (held_by t e) refl
-  where
-    none : (rs : List Receiver) → list_all (λ (r : Receiver). is_none (held_by t r.endpoint.0)) rs ≡ true → list_any (λ (r : Receiver). r.endpoint.0 == e) rs ≡ true → is_none (held_by t e) ≡ true
-    none [] all any = absurd (false≢true any)
-    none (r ∷ rs) all any = let (its, rest) = and_parts _ _ all in by (r.endpoint.0 == e) refl its rest any (none rs)
-      where
-        by : (b : Bool) → (r.endpoint.0 == e) ≡ b → is_none (held_by t r.endpoint.0) ≡ true → list_all (λ (r : Receiver). is_none (held_by t r.endpoint.0)) rs ≡ true
-            → (b || list_any (λ (r : Receiver). r.endpoint.0 == e) rs) ≡ true
-            → (list_all (λ (r : Receiver). is_none (held_by t r.endpoint.0)) rs ≡ true → list_any (λ (r : Receiver). r.endpoint.0 == e) rs ≡ true → is_none (held_by t e) ≡ true)
-            → is_none (held_by t e) ≡ true
-        by true same its rest any next = ap (λ f. is_none (held_by t f)) (sym (eqb-true r.endpoint.0 e same)) ∙ its
-        by false same its rest any next = next rest any
-
-    of : (o : Option Rights) → held_by t e ≡ o → o ≡ None
-    of None is = refl
-    of (Some right) is = absurd (false≢true (sym (ap is_none is) ∙ none t.receivers unheld (holder right is)))
 
 is_none-None : (o : Option Rights) → is_none o ≡ true → o ≡ None
 is_none-None None is = refl

@@ -7,6 +7,7 @@ pub mod Places
 pub mod Named
 pub mod Guards
 pub mod Handles
+pub mod Holders
 pub mod Bitmaps
 pub mod Certificates
 pub mod Counts
