@@ -114,6 +114,8 @@ fi
 if has gcc; then stores native objdump "$to/test"; fi
 symbols=$(nm -u "$to/native.a" | sed -n 's/^ *U //p' | grep -v '^_R\|\$' | sort -u | tr '\n' ' ')
 echo "asked of the program: $symbols"
+others=$(nm -g --defined-only "$to/native.a" | awk 'NF == 3 && $3 !~ /^gorseplumb_/ { print $3 }')
+if [[ $others ]]; then echo "names of the archive that don't begin with gorseplumb_:" $others >&2; exit 1; fi
 
 if has aarch64-linux-gnu-gcc && has qemu-aarch64-static; then
     archive arm --target aarch64-unknown-linux-gnu
