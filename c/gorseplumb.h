@@ -7,6 +7,9 @@
  * here keeps the contract that stands beside its namesake in crates/ffa_c/src, and the proof reaches to there: that the
  * declarations below are those of the crate is tested, and not proved, and so is what is said of pieces of memory.
  *
+ * Every name begins with gorseplumb_ or GORSEPLUMB_: those of the standard, as of calls and error codes, aren't used,
+ * since firmware has headers with them.
+ *
  * What C owes, and nothing checks:
  *
  * - A pointer is not null, points to memory of its type that C may write, and no other parameter of the call points
@@ -149,8 +152,8 @@ struct gorseplumb_manifest {
     struct gorseplumb_endpoint endpoints[GORSEPLUMB_MOST_ENDPOINTS];
 };
 
-/* What boots, gorseplumb_free and functions of lists answer. Names of the standard, as those of calls and error codes,
- * aren't used, since firmware has headers with them. */
+/* What boots, gorseplumb_free and functions of lists answer. None is an error code of FF-A, which a call answers in its
+ * registers. */
 enum gorseplumb_answer {
     GORSEPLUMB_OK = 0,
     GORSEPLUMB_NO_MEMORY = 1, /* an allocation was refused */

@@ -1,6 +1,6 @@
 // SPDX-License-Identifier: MIT OR Apache-2.0
-//! The numbers that C is told, each by the name that C has for it behind `GORSEPLUMB_`. Names of the standard, as those
-//! of calls and of their errors, are others.
+//! The numbers that C is told, each by the name that C has for it behind `GORSEPLUMB_`. None is an error code of FF-A,
+//! which a call answers in its registers.
 
 /// It was done.
 pub const OK: u32 = 0;
