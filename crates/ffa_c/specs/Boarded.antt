@@ -4,8 +4,8 @@ use Rattle.std.specs.Prelude.{Bool, true, false, List, ℕ, Option, Some, refl}
 use Rattle.std.specs.Option.{option_map}
 use Rattle.std.specs.Coded.{Coded, code_by, coded_bool, coded×}
 use Rattle.ffa_spmc.specs.Snapshot.{Snapshot, coded_snapshot}
-use Rattle.ffa_c.specs.declared.kind.Kind.{Kind}
-use Rattle.ffa_c.specs.declared.kind.Kind.TheVariants.{Heap, Lent}
+use Rattle.ffa_c.specs.declared.kind.BoardMachine.{BoardMachine}
+use Rattle.ffa_c.specs.declared.kind.BoardMachine.TheVariants.{Heap, Lent}
 
 pub record Boarded : Type 0 where
   pub machine : Snapshot
@@ -16,7 +16,7 @@ coded_boarded =
     code_by (Snapshot × Bool) (coded× coded_snapshot coded_bool)
     (λ b. (b.machine, b.is_lent)) (λ p. record { machine = p.0; is_lent = p.1 }) (λ _. refl)
 
-abbrev pub boarded : Kind → Boarded
+abbrev pub boarded : BoardMachine → Boarded
 boarded (Heap machine) = record { machine = machine; is_lent = false }
 boarded (Lent machine) = record { machine = machine; is_lent = true }
 

@@ -12,8 +12,8 @@ use Rattle.ffa_manifest.specs.declared.error.ManifestError.{ManifestError}
 use Rattle.ffa_manifest.specs.declared.error.ManifestError.TheVariants as causes
 use Rattle.ffa_spmc.specs.Snapshot.{Snapshot}
 use Rattle.ffa_c.specs.Boarded.{Boarded}
-use Rattle.ffa_c.specs.declared.board.Bytes.{Bytes}
-use Rattle.ffa_c.specs.declared.board.Bytes.TheVariants.{Cleared, Kept}
+use Rattle.ffa_c.specs.declared.board.FirstBytes.{FirstBytes}
+use Rattle.ffa_c.specs.declared.board.FirstBytes.TheVariants.{Cleared, Kept}
 
 -- the number of a cause, as the manual gives it after the letter M
 abbrev pub cause_number : ManifestError → ℕ
@@ -52,7 +52,7 @@ pub record IsFirstHeld (pages : List (List ℕ)) (parts : Parts) (s : Snapshot) 
   pub sound : IsSoundState s.state
 
 -- by what a boot does with the bytes of lent pages
-abbrev pub IsFirstBy : Bytes → List (List ℕ) → Parts → Snapshot → Type 0
+abbrev pub IsFirstBy : FirstBytes → List (List ℕ) → Parts → Snapshot → Type 0
 IsFirstBy Cleared pages parts s = IsFirst parts s
 IsFirstBy Kept pages parts s = IsFirstHeld pages parts s
 

@@ -14,8 +14,8 @@ ghost use Rattle.ffa_c.specs.Elsewhere.{HasActed};
 
 use crate::codes::KIND_NO_ENDPOINT;
 use crate::kind::{
-    Kind, access_by, acted_by, done_among, done_by, endpoints_of, owner_by, page_in, pages_of,
-    runner_of,
+    BoardMachine, access_by, acted_by, done_among, done_by, endpoints_of, owner_by, page_in,
+    pages_of, runner_of,
 };
 use crate::outcome::COutcome;
 use ffa_lent::{Frames, LentRam};
@@ -29,7 +29,7 @@ use std::marker::Model;
 
 /// What a boot does with the bytes of pages that are lent.
 #[derive(Clone, Copy)]
-pub enum Bytes {
+pub enum FirstBytes {
     /// All pages behind the tables are zeros.
     Cleared,
     /// Pages of the manifest's regions keep theirs, and all others behind the tables are zeros.
@@ -39,7 +39,7 @@ pub enum Bytes {
 /// A machine with no cache, and with RAM of the heap or RAM that is lent. Contracts see the machine, and which it is.
 #[derive(Drop)]
 pub struct Board {
-    kind: Kind,
+    kind: BoardMachine,
 }
 
 impl Model for Board {
@@ -61,7 +61,7 @@ impl Board {
         ensures first { IsFirst (parts_of manifest.now) result.machine }
         ensures kind { result.is_lent ≡ false }
     {
-        let kind = Kind::Heap(Machine::boot_cleared_in(storage, manifest, ram, NoTlb));
+        let kind = BoardMachine::Heap(Machine::boot_cleared_in(storage, manifest, ram, NoTlb));
         Board { kind }
     }
 
@@ -71,7 +71,7 @@ impl Board {
         manifest: &Manifest,
         ram: LentRam,
         storage: Storage<Given<Global>>,
-        bytes: Bytes,
+        bytes: FirstBytes,
     ) -> Board
         requires storage { IsRoomFor manifest.now storage }
         requires base { (⟦<LentRam as PhysMem>⟧.ram ram).base ≡ manifest.now.ram_base.0 }
@@ -80,11 +80,11 @@ impl Board {
         ensures kind { result.is_lent ≡ true }
     {
         let machine = match bytes {
-            Bytes::Cleared => Machine::boot_in(storage, manifest, ram, NoTlb),
-            Bytes::Kept => Machine::boot_held_in(storage, manifest, ram, NoTlb),
+            FirstBytes::Cleared => Machine::boot_in(storage, manifest, ram, NoTlb),
+            FirstBytes::Kept => Machine::boot_held_in(storage, manifest, ram, NoTlb),
         };
         Board {
-            kind: Kind::Lent(machine),
+            kind: BoardMachine::Lent(machine),
         }
     }
 
@@ -92,7 +92,7 @@ impl Board {
     pub fn is_lent(&self) -> bool
         ensures { result ≡ self.now.is_lent }
     {
-        matches!(self.kind, Kind::Lent(_))
+        matches!(self.kind, BoardMachine::Lent(_))
     }
 
     /// Ends the machine: the pages that were lent, with the bytes that they had in the end, and the room for another
@@ -102,11 +102,11 @@ impl Board {
         ensures pages { result.0.pages ≡ self.machine.ram.pages }
     {
         match self.kind {
-            Kind::Lent(machine) => {
+            BoardMachine::Lent(machine) => {
                 let (ram, storage) = machine.into_parts();
                 (ram.into_frames(), storage)
             }
-            Kind::Heap(_) => unreachable!(),
+            BoardMachine::Heap(_) => unreachable!(),
         }
     }
 
@@ -116,8 +116,8 @@ impl Board {
         ensures kind { self.new.is_lent ≡ self.old.is_lent }
     {
         match &mut self.kind {
-            Kind::Heap(machine) => done_by(machine, op),
-            Kind::Lent(machine) => done_among(machine, op),
+            BoardMachine::Heap(machine) => done_by(machine, op),
+            BoardMachine::Lent(machine) => done_among(machine, op),
         }
     }
 
@@ -139,8 +139,8 @@ impl Board {
             return self.op(op);
         }
         match &mut self.kind {
-            Kind::Heap(machine) => acted_by(machine, endpoint, op),
-            Kind::Lent(machine) => acted_by(machine, endpoint, op),
+            BoardMachine::Heap(machine) => acted_by(machine, endpoint, op),
+            BoardMachine::Lent(machine) => acted_by(machine, endpoint, op),
         }
     }
 
@@ -150,8 +150,8 @@ impl Board {
         ensures rest { self.new ≡ with_all_told self.old }
     {
         match &mut self.kind {
-            Kind::Heap(machine) => machine.take_change(),
-            Kind::Lent(machine) => machine.take_change(),
+            BoardMachine::Heap(machine) => machine.take_change(),
+            BoardMachine::Lent(machine) => machine.take_change(),
         }
     }
 
@@ -160,8 +160,8 @@ impl Board {
         ensures { result ≡ self.now.machine.state.runner }
     {
         match &self.kind {
-            Kind::Heap(machine) => runner_of(machine),
-            Kind::Lent(machine) => runner_of(machine),
+            BoardMachine::Heap(machine) => runner_of(machine),
+            BoardMachine::Lent(machine) => runner_of(machine),
         }
     }
 
@@ -170,8 +170,8 @@ impl Board {
         ensures { result ≡ length self.now.machine.state.parties }
     {
         match &self.kind {
-            Kind::Heap(machine) => endpoints_of(machine),
-            Kind::Lent(machine) => endpoints_of(machine),
+            BoardMachine::Heap(machine) => endpoints_of(machine),
+            BoardMachine::Lent(machine) => endpoints_of(machine),
         }
     }
 
@@ -180,8 +180,8 @@ impl Board {
         ensures { result ≡ length self.now.machine.ram.pages }
     {
         match &self.kind {
-            Kind::Heap(machine) => pages_of(machine),
-            Kind::Lent(machine) => pages_of(machine),
+            BoardMachine::Heap(machine) => pages_of(machine),
+            BoardMachine::Lent(machine) => pages_of(machine),
         }
     }
 
@@ -190,8 +190,8 @@ impl Board {
         ensures { result ≡ owner_number self.now.machine page }
     {
         match &self.kind {
-            Kind::Heap(machine) => owner_by(machine, PageNo(page)),
-            Kind::Lent(machine) => owner_by(machine, PageNo(page)),
+            BoardMachine::Heap(machine) => owner_by(machine, PageNo(page)),
+            BoardMachine::Lent(machine) => owner_by(machine, PageNo(page)),
         }
     }
 
@@ -200,8 +200,8 @@ impl Board {
         ensures { result ≡ access_code (access self.now.machine.state endpoint page) }
     {
         match &self.kind {
-            Kind::Heap(machine) => access_by(machine, EndpointId(endpoint), PageNo(page)),
-            Kind::Lent(machine) => access_by(machine, EndpointId(endpoint), PageNo(page)),
+            BoardMachine::Heap(machine) => access_by(machine, EndpointId(endpoint), PageNo(page)),
+            BoardMachine::Lent(machine) => access_by(machine, EndpointId(endpoint), PageNo(page)),
         }
     }
 
@@ -210,8 +210,8 @@ impl Board {
         ensures { result ≡ has_pending (notifications_of self.now.machine.state) endpoint }
     {
         match &self.kind {
-            Kind::Heap(machine) => machine.has_pending(EndpointId(endpoint)),
-            Kind::Lent(machine) => machine.has_pending(EndpointId(endpoint)),
+            BoardMachine::Heap(machine) => machine.has_pending(EndpointId(endpoint)),
+            BoardMachine::Lent(machine) => machine.has_pending(EndpointId(endpoint)),
         }
     }
 
@@ -221,8 +221,8 @@ impl Board {
         ensures { result.now ≡ page_of self.now.machine.ram page }
     {
         match &self.kind {
-            Kind::Heap(machine) => page_in(machine, PageNo(page)),
-            Kind::Lent(machine) => page_in(machine, PageNo(page)),
+            BoardMachine::Heap(machine) => page_in(machine, PageNo(page)),
+            BoardMachine::Lent(machine) => page_in(machine, PageNo(page)),
         }
     }
 }

@@ -6,7 +6,7 @@ ghost use Rattle.ffa_c.specs.Booting.{Describes, HasBegun, HasBooted, HasBootedH
 ghost use Rattle.ffa_c.specs.Given.{Gives, IsGivenFor};
 ghost use Rattle.ffa_c.specs.Lending.{bytes_of, page_count, pages_of, ready_for};
 
-use crate::board::{Board, Bytes};
+use crate::board::{Board, FirstBytes};
 use crate::codes::{
     MANIFEST_ENDPOINT_COUNT, MANIFEST_MISSING_KEY, MANIFEST_PROPERTY, MANIFEST_RAM_BASE,
     MANIFEST_RAM_BLOCKS, MANIFEST_REGION_COUNT, MANIFEST_REGION_OUTSIDE, MANIFEST_REGION_OVERLAP,
@@ -94,7 +94,7 @@ pub extern "C" fn gorseplumb_boot_lent(
         NO_LIST
     } else {
         match manifest_of(alloc, text) {
-            Ok(manifest) => boot_lent(alloc, machine, lent, &manifest, Bytes::Cleared),
+            Ok(manifest) => boot_lent(alloc, machine, lent, &manifest, FirstBytes::Cleared),
             Err(cause) => number_of(cause),
         }
     }
@@ -126,7 +126,7 @@ pub extern "C" fn gorseplumb_boot_lent_manifest(
         NO_LIST
     } else {
         match manifest_given(given) {
-            Ok(manifest) => boot_lent(alloc, machine, lent, &manifest, Bytes::Cleared),
+            Ok(manifest) => boot_lent(alloc, machine, lent, &manifest, FirstBytes::Cleared),
             Err(cause) => number_of(cause),
         }
     }
@@ -159,7 +159,7 @@ pub extern "C" fn gorseplumb_boot_held(
         NO_LIST
     } else {
         match manifest_of(alloc, text) {
-            Ok(manifest) => boot_lent(alloc, machine, lent, &manifest, Bytes::Kept),
+            Ok(manifest) => boot_lent(alloc, machine, lent, &manifest, FirstBytes::Kept),
             Err(cause) => number_of(cause),
         }
     }
@@ -192,7 +192,7 @@ pub extern "C" fn gorseplumb_boot_held_manifest(
         NO_LIST
     } else {
         match manifest_given(given) {
-            Ok(manifest) => boot_lent(alloc, machine, lent, &manifest, Bytes::Kept),
+            Ok(manifest) => boot_lent(alloc, machine, lent, &manifest, FirstBytes::Kept),
             Err(cause) => number_of(cause),
         }
     }
@@ -267,7 +267,7 @@ fn boot_lent(
     machine: &mut CMachine,
     lent: &mut CLent,
     manifest: &Manifest,
-    bytes: Bytes,
+    bytes: FirstBytes,
 ) -> u32
     requires { machine.old.held.value ≡ None }
     ensures booted { let is_first = IsFirstBy bytes (bytes_of lent.old.held.value) in
@@ -294,7 +294,7 @@ fn boot_over(
     machine: &mut CMachine,
     list: &mut LentList,
     manifest: &Manifest,
-    bytes: Bytes,
+    bytes: FirstBytes,
 ) -> u32
     requires { machine.old.held.value ≡ None }
     ensures booted { result ≡ 0

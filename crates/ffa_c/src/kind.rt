@@ -18,7 +18,7 @@ use std::alloc::Global;
 
 /// A machine over RAM of the heap, or over RAM that is lent.
 #[derive(Drop)]
-pub enum Kind {
+pub enum BoardMachine {
     /// The RAM is one piece of the heap.
     Heap(Machine<FlatRam, NoTlb, Given<Global>>),
     /// The RAM is lent, page by page.

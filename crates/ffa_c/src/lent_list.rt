@@ -9,7 +9,7 @@ ghost use Rattle.ffa_c.specs.Booting.{HasBegun, IsFirstBy};
 ghost use Rattle.ffa_c.specs.LentPages.{empty};
 ghost use Rattle.ffa_c.specs.Readiness.{storage_pages};
 
-use crate::board::{Board, Bytes};
+use crate::board::{Board, FirstBytes};
 use crate::seat::Seat;
 use ffa_lent::{Frames, Lent, LentRam, Span};
 use ffa_model::{MOST_ENDPOINTS, MOST_PAGES, Manifest};
@@ -107,7 +107,7 @@ impl LentList {
         &mut self,
         alloc: Global,
         manifest: &Manifest,
-        bytes: Bytes,
+        bytes: FirstBytes,
     ) -> Result<Box<Seat>, AllocError>
         requires { length self.old.pages ≡ 512 * manifest.now.ram_blocks }
         ensures booted { IfOk result

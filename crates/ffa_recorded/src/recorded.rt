@@ -8,7 +8,7 @@ use std::alloc::Global;
 
 /// A page, and the bytes that it had.
 #[derive(Drop)]
-pub struct Held {
+pub struct PageBytes {
     page: PageNo,
     bytes: [u8; 4096],
 }
@@ -32,7 +32,7 @@ pub struct Reading {
 /// What was done.
 #[derive(Drop)]
 pub enum Noted {
-    Written(Held),
+    Written(PageBytes),
     Settled(Settling),
     Read(Reading),
 }
@@ -120,7 +120,7 @@ impl PhysMem for Recorded {
 
     fn write_word(&mut self, page: PageNo, index: usize, value: u64) {
         let bytes = *self.ram.page(page);
-        self.note(Noted::Written(Held { page, bytes }));
+        self.note(Noted::Written(PageBytes { page, bytes }));
         self.ram.write_word(page, index, value);
     }
 

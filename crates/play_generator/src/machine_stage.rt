@@ -7,14 +7,14 @@ use ffa_physmem::{FlatRam, NoMemory, PhysMem};
 use ffa_spmc::{Given, Machine, Storage};
 use ffa_tlb::NoTlb;
 use play_scenes::{PAGE, Stage};
-use play_transcript::{Counts, Entry, GenerateError, fitted, wanted};
+use play_transcript::{Counts, GenerateError, TraceEntry, fitted, wanted};
 use std::alloc::Allocator;
 
 /// A machine, the lines of a turn, and how often what came.
 #[derive(Drop)]
 pub struct MachineStage<A: Allocator + Copy> {
     machine: Machine<FlatRam<A>, NoTlb, Given<A>>,
-    entries: Vec<Entry, A>,
+    entries: Vec<TraceEntry, A>,
     room: u64,
     /// There was memory for each line of this turn.
     is_whole: bool,
@@ -66,7 +66,7 @@ impl<A: Allocator + Copy> MachineStage<A> {
     }
 
     // Adds a line, and answers whether it could. Where there is no memory for one, none is added in the rest of the turn.
-    fn add(&mut self, entry: Entry) -> bool {
+    fn add(&mut self, entry: TraceEntry) -> bool {
         if !self.is_whole || self.entries.len() as u64 >= self.room {
             return false;
         }
@@ -88,7 +88,7 @@ impl<A: Allocator + Copy> Stage for MachineStage<A> {
         self.is_whole = true;
     }
 
-    fn entries(&self) -> Result<&[Entry], GenerateError> {
+    fn entries(&self) -> Result<&[TraceEntry], GenerateError> {
         if self.is_whole {
             Ok(&self.entries)
         } else {
@@ -96,13 +96,13 @@ impl<A: Allocator + Copy> Stage for MachineStage<A> {
         }
     }
 
-    fn put(&mut self, entry: Entry) {
+    fn put(&mut self, entry: TraceEntry) {
         self.add(entry);
     }
 
     fn play(&mut self, op: &Op) -> Option<Outcome> {
         let op = fitted(op);
-        if !self.add(Entry::Operation(op)) {
+        if !self.add(TraceEntry::Operation(op)) {
             return None;
         }
         let outcome = operate(&mut self.machine, &op);

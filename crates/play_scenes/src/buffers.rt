@@ -1,16 +1,16 @@
 // SPDX-License-Identifier: MIT OR Apache-2.0
-//! Buffers that are mapped, unmapped and released.
+//! MappedBuffers that are mapped, unmapped and released.
 use crate::dice::Dice;
 use crate::generator::Generator;
 use crate::layout::PAGE;
-use crate::learning::Buffers;
+use crate::learning::MappedBuffers;
 use crate::stage::Stage;
 use ffa_model::MOST_BUFFER_PAGES;
 use ffa_model::function::{FFA_RX_RELEASE, FFA_RXTX_MAP, FFA_RXTX_UNMAP};
 
 impl<'m, S: Stage + Drop> Generator<'m, S> {
     /// The runner's buffers, which it maps where it has none. None where it can't.
-    pub fn need_buffers(&mut self) -> Option<Buffers> {
+    pub fn need_buffers(&mut self) -> Option<MappedBuffers> {
         if self.buffers().is_none() {
             let pages = if self.dice.one_in(4) { 2 } else { 1 };
             self.map(pages);

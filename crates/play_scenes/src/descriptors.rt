@@ -6,7 +6,7 @@ ghost use Rattle.play_scenes.specs.declared.descriptors.TheConstants.{WORDS};
 use crate::dice::Dice;
 use crate::flaws::PAGE_SIZE;
 use crate::generator::{Generator, registers};
-use crate::learning::Buffers;
+use crate::learning::MappedBuffers;
 use crate::stage::Stage;
 use byteorder::{ByteOrder, LittleEndian};
 use ffa_model::function::WIDE;
@@ -40,7 +40,7 @@ const TRANSFER_FLAWS: [TransferFlaw; 5] = [
 
 impl<'m, S: Stage + Drop> Generator<'m, S> {
     /// Stores the first bytes of a page into TX, but for the words that stand there.
-    pub fn write_tx(&mut self, buffers: Buffers, page: &[u8; PAGE_SIZE], count: u32) {
+    pub fn write_tx(&mut self, buffers: MappedBuffers, page: &[u8; PAGE_SIZE], count: u32) {
         for index in 0..WORDS {
             if 8 * index < count as usize {
                 let word = LittleEndian::read_u64(&page[8 * index..]);

@@ -1,7 +1,7 @@
 // SPDX-License-Identifier: MIT OR Apache-2.0
 //! The generator: what it plays on, and what it knows of the endpoints.
 use crate::dice::Dice;
-use crate::learning::{Buffers, Known};
+use crate::learning::{Known, MappedBuffers};
 use crate::offers::Offers;
 use crate::stage::Stage;
 use ffa_abi::decode;
@@ -83,7 +83,7 @@ impl<'m, S: Stage + Drop> Generator<'m, S> {
     }
 
     /// The runner's buffers, where it has some.
-    pub fn buffers(&self) -> Option<Buffers> {
+    pub fn buffers(&self) -> Option<MappedBuffers> {
         self.known_of(self.runner()).buffers
     }
 

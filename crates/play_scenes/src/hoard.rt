@@ -1,7 +1,7 @@
 // SPDX-License-Identifier: MIT OR Apache-2.0
 //! An endpoint that gathers pages until it can have as many open transactions as there may be, and asks for one more.
 use crate::generator::Generator;
-use crate::learning::Buffers;
+use crate::learning::MappedBuffers;
 use crate::offers::Wish;
 use crate::stage::Stage;
 use ffa_model::{EndpointId, Kind, MOST_ENDPOINTS, MOST_OPEN};
@@ -105,7 +105,7 @@ impl<'m, S: Stage + Drop> Generator<'m, S> {
         }
     }
 
-    fn send_all_to(&mut self, buffers: Buffers, to: EndpointId) {
+    fn send_all_to(&mut self, buffers: MappedBuffers, to: EndpointId) {
         for _ in 0..MOST_OPEN {
             self.send_free_page(buffers, Kind::Share, to);
         }
@@ -116,7 +116,7 @@ impl<'m, S: Stage + Drop> Generator<'m, S> {
     }
 
     // The runner sends a page that is free, where it has one.
-    fn send_free_page(&mut self, buffers: Buffers, kind: Kind, to: EndpointId) {
+    fn send_free_page(&mut self, buffers: MappedBuffers, kind: Kind, to: EndpointId) {
         if let Some(page) = self.free_page(self.runner()) {
             self.send_page(buffers, kind, to, page);
         }

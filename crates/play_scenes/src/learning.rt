@@ -7,14 +7,14 @@ use ffa_model::{Call, EndpointId, Work};
 
 /// An endpoint's buffers: the addresses of TX and RX, how many pages each has, and whether RX is full.
 #[derive(Clone, Copy)]
-pub struct Buffers {
+pub struct MappedBuffers {
     pub tx: u64,
     pub rx: u64,
     pub pages: u32,
     pub full: bool,
 }
 
-impl Buffers {
+impl MappedBuffers {
     /// Whether the page at an address is one of them.
     pub fn have_page(&self, address: u64) -> bool {
         let size = 4096 * u64::from(self.pages);
@@ -25,7 +25,7 @@ impl Buffers {
 /// What is known of an endpoint.
 #[derive(Clone, Copy, Default)]
 pub struct Known {
-    pub buffers: Option<Buffers>,
+    pub buffers: Option<MappedBuffers>,
     /// Its work, where it doesn't wait.
     pub work: Option<Work>,
     /// The bits of its own that it bound to another endpoint: the last ones, as a word, and to whom.
@@ -45,7 +45,7 @@ impl Known {
         match call {
             Call::RxtxMap { tx, rx, pages } => {
                 let full = false;
-                self.buffers = Some(Buffers {
+                self.buffers = Some(MappedBuffers {
                     tx,
                     rx,
                     pages,

@@ -4,7 +4,7 @@ use crate::dice::Dice;
 use crate::flaws::PAGE_SIZE;
 use crate::generator::Generator;
 use crate::layout::has_properties;
-use crate::learning::Buffers;
+use crate::learning::MappedBuffers;
 use crate::stage::Stage;
 use byteorder::{ByteOrder, LittleEndian};
 use ffa_model::function::*;
@@ -117,7 +117,7 @@ impl<'m, S: Stage + Drop> Generator<'m, S> {
     }
 
     // Writes a message into TX, and sends it.
-    fn send_message(&mut self, buffers: Buffers) {
+    fn send_message(&mut self, buffers: MappedBuffers) {
         let size = self.dice.message_size(buffers.pages);
         let receiver = self.message_receiver();
         let mut page = [0; PAGE_SIZE];

@@ -4,7 +4,7 @@ use crate::dice::Dice;
 use crate::flaws::PAGE_SIZE;
 use crate::generator::Generator;
 use crate::layout::version_of;
-use crate::learning::Buffers;
+use crate::learning::MappedBuffers;
 use crate::offers::{Offer, Wish};
 use crate::stage::Stage;
 use ffa_model::function::FFA_MEM_RETRIEVE_REQ;
@@ -132,7 +132,7 @@ impl<'m, S: Stage + Drop> Generator<'m, S> {
 
     fn retrieve_by(
         &mut self,
-        buffers: Buffers,
+        buffers: MappedBuffers,
         desc: &RetrieveDesc,
         kind: Kind,
         flaw: RetrieveFlaw,

@@ -3,7 +3,7 @@
 use crate::dice::Dice;
 use crate::flaws::PAGE_SIZE;
 use crate::generator::Generator;
-use crate::learning::Buffers;
+use crate::learning::MappedBuffers;
 use crate::offers::{Offer, Wish};
 use crate::stage::Stage;
 use ffa_model::function::{FFA_MEM_RECLAIM, FFA_MEM_RELINQUISH};
@@ -38,7 +38,7 @@ impl<'m, S: Stage + Drop> Generator<'m, S> {
         }
     }
 
-    fn give_up_by(&mut self, buffers: Buffers, offer: &Offer, turned: bool) {
+    fn give_up_by(&mut self, buffers: MappedBuffers, offer: &Offer, turned: bool) {
         let runner = self.runner();
         let desc = RelinquishDesc {
             handle: offer.handle,

@@ -2,7 +2,7 @@
 //! What an endpoint does in its turn.
 use crate::generator::Generator;
 use crate::stage::Stage;
-use play_transcript::{Entry, GenerateError, Turns};
+use play_transcript::{GenerateError, TraceEntry, Turns};
 
 /// A few operations that belong together.
 #[derive(Clone, Copy)]
@@ -126,13 +126,16 @@ impl<'m, S: Stage + Drop> Generator<'m, S> {
     // Mostly the table of accesses, which is read quicker than the certificate.
     fn play_show(&mut self) {
         let is_audit = self.dice.one_in(8);
-        self.stage
-            .put(if is_audit { Entry::Audit } else { Entry::Show });
+        self.stage.put(if is_audit {
+            TraceEntry::Audit
+        } else {
+            TraceEntry::Show
+        });
     }
 }
 
 impl<'m, S: Stage + Drop> Turns for Generator<'m, S> {
-    fn play_turn(&mut self, most: u64) -> Result<&[Entry], GenerateError> {
+    fn play_turn(&mut self, most: u64) -> Result<&[TraceEntry], GenerateError> {
         self.stage.begin(most);
         self.play_scenes();
         self.stage.entries()

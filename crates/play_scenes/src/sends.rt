@@ -4,7 +4,7 @@ use crate::dice::Dice;
 use crate::flaws::PAGE_SIZE;
 use crate::generator::Generator;
 use crate::layout::version_of;
-use crate::learning::Buffers;
+use crate::learning::MappedBuffers;
 use crate::offers::{MOST_PARTS, Offer, Taker};
 use crate::stage::Stage;
 use arrayvec::ArrayVec;
@@ -168,7 +168,7 @@ impl<'m, S: Stage + Drop> Generator<'m, S> {
     }
 
     /// A send of one page to one receiver.
-    pub fn send_page(&mut self, buffers: Buffers, kind: Kind, to: EndpointId, page: Range) {
+    pub fn send_page(&mut self, buffers: MappedBuffers, kind: Kind, to: EndpointId, page: Range) {
         let receivers = self.dice.one_receiver(kind, to);
         let parts = [page, Range::default(), Range::default()];
         self.send(
@@ -210,7 +210,7 @@ impl<'m, S: Stage + Drop> Generator<'m, S> {
     }
 
     // Writes a descriptor into TX, and sends it.
-    fn send(&mut self, buffers: Buffers, kind: Kind, choice: Choice, flaw: SendFlaw) {
+    fn send(&mut self, buffers: MappedBuffers, kind: Kind, choice: Choice, flaw: SendFlaw) {
         let parts = choice.parts;
         let desc = self.describe(kind, choice);
         let mut page = [0; PAGE_SIZE];

@@ -1,7 +1,7 @@
 // SPDX-License-Identifier: MIT OR Apache-2.0
 //! What a generator plays on, as it sees it: with no clauses, since nothing is proved of what comes of an operation.
 use ffa_model::{EndpointId, Op, Outcome, Rights};
-use play_transcript::{Entry, GenerateError};
+use play_transcript::{GenerateError, TraceEntry};
 
 /// A machine, and the lines of a turn that is played on it. Once a line can't be added, since the turn has all its lines or there
 /// is no memory for it, the turn is over: nothing more is added or played, which the stage keeps in mind until the next turn.
@@ -10,10 +10,10 @@ pub trait Stage {
     fn begin(&mut self, most: u64);
 
     /// The lines of this turn, where there was memory for each.
-    fn entries(&self) -> Result<&[Entry], GenerateError>;
+    fn entries(&self) -> Result<&[TraceEntry], GenerateError>;
 
     /// Adds a line, where there may be one more.
-    fn put(&mut self, entry: Entry);
+    fn put(&mut self, entry: TraceEntry);
 
     /// Plays an operation, adds its line, and answers what came of it. Nothing is played where no line can be added.
     fn play(&mut self, op: &Op) -> Option<Outcome>;

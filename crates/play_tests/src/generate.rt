@@ -7,7 +7,7 @@ use ffa_model::function::*;
 use ffa_model::{ErrorCode, FaultKind, Manifest, Op, Outcome, built_in, row_machine};
 use ffa_physmem::FlatRam;
 use ffa_spmc::Machine;
-use play_generator::{Access, Counts, generate};
+use play_generator::{AccessKind, Counts, generate};
 use play_player::Player;
 use play_syntax::Line;
 use std::alloc::Global;
@@ -57,13 +57,13 @@ const CALLS: [(u32, &[ErrorCode]); 26] = [
 ];
 
 // Each kind of access, and the faults in which it can end.
-const ACCESSES: [(Access, &[FaultKind]); 3] = [
+const ACCESSES: [(AccessKind, &[FaultKind]); 3] = [
     (
-        Access::Load,
+        AccessKind::Load,
         &[FaultKind::Alignment, FaultKind::Translation],
     ),
     (
-        Access::Store,
+        AccessKind::Store,
         &[
             FaultKind::Alignment,
             FaultKind::Translation,
@@ -71,7 +71,7 @@ const ACCESSES: [(Access, &[FaultKind]); 3] = [
         ],
     ),
     (
-        Access::Fetch,
+        AccessKind::Fetch,
         &[
             FaultKind::Alignment,
             FaultKind::Translation,

@@ -11,7 +11,7 @@ use Rattle.ffa_model.specs.declared.operation.Op.{Op}
 use Rattle.play_syntax.specs.TraceLines.{Line, operate, show, audit, skip, feed, has_no_feed, is_line, joined, line_of, command_of, words_of, show_of, audit_of}
 use Rattle.play_syntax.specs.TraceText.{ended}
 use Rattle.play_writer.specs.Script.{GrowsBy}
-use Rattle.play_transcript.specs.declared.entries.Entry.{Entry}
+use Rattle.play_transcript.specs.declared.entries.TraceEntry.{TraceEntry}
 use Rattle.play_transcript.specs.Traces.{Wrote}
 use Rattle.play_transcript.specs.Turned.{GrowsByLines, meant}
 
@@ -45,7 +45,7 @@ grows_more first more old mid new g h = record {
 }
 
 -- the line of one more entry
-pub grows_entry : (entries : List Entry) (count : ℕ) (d : Entry) (old mid new : List ℕ) → count < length entries → GrowsByLines (map meant (take count entries)) old mid
+pub grows_entry : (entries : List TraceEntry) (count : ℕ) (d : TraceEntry) (old mid new : List ℕ) → count < length entries → GrowsByLines (map meant (take count entries)) old mid
     → GrowsByLines (meant (get_or entries count d) ∷ []) mid new → GrowsByLines (map meant (take (count + 1) entries)) old new
 grows_entry entries count d old mid new inside g h =
     subst (λ said. GrowsByLines said old new) (sym (map_more meant entries count d inside)) (grows_more _ _ old mid new g h)

@@ -15,8 +15,8 @@ use Rattle.ffa_model.specs.declared.operation.Outcome.{Outcome}
 use Rattle.ffa_model.specs.declared.operation.Outcome.TheVariants.{Regs, Data, Done, Fault}
 use Rattle.ffa_model.specs.Calls.{code_number}
 use Rattle.ffa_model.specs.Registers.{low, functions, is_form_of}
-use Rattle.play_transcript.specs.declared.counts.Access.{Access}
-use Rattle.play_transcript.specs.declared.counts.Access.TheVariants.{Load as LoadAccess, Store as StoreAccess, Fetch as FetchAccess}
+use Rattle.play_transcript.specs.declared.counts.AccessKind.{AccessKind}
+use Rattle.play_transcript.specs.declared.counts.AccessKind.TheVariants.{Load as LoadAccess, Store as StoreAccess, Fetch as FetchAccess}
 
 -- ROWS
 
@@ -24,7 +24,7 @@ use Rattle.play_transcript.specs.declared.counts.Access.TheVariants.{Load as Loa
 unfoldable pub row_of : ℕ → ℕ
 row_of function = position_or_len (is_form_of function) functions
 
-abbrev pub row_of_access : Access → ℕ
+abbrev pub row_of_access : AccessKind → ℕ
 row_of_access LoadAccess = length functions + 1
 row_of_access StoreAccess = length functions + 2
 row_of_access FetchAccess = length functions + 3

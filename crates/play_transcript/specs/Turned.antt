@@ -3,18 +3,18 @@
 -- Which lines a turn has, and texts that grow by lines.
 use Rattle.std.specs.Prelude.{◌≡◌, ℕ, true, List, [], ◌∷◌, ◌++◌, map, Some}
 use Rattle.play_syntax.specs.TraceLines.{Line, operate, show, audit, skip, line_of, are_lines, joined}
-use Rattle.play_transcript.specs.declared.entries.Entry.{Entry}
-use Rattle.play_transcript.specs.declared.entries.Entry.TheVariants.{Operation, Show, Audit}
+use Rattle.play_transcript.specs.declared.entries.TraceEntry.{TraceEntry}
+use Rattle.play_transcript.specs.declared.entries.TraceEntry.TheVariants.{Operation, Show, Audit}
 use Rattle.play_transcript.specs.Traces.{fitted}
 
 -- the line of a trace that an entry is
-abbrev pub meant : Entry → Line
+abbrev pub meant : TraceEntry → Line
 meant (Operation op) = operate (fitted op)
 meant Show = show
 meant Audit = audit
 
 -- the lines of a turn that gave these: one that does nothing, where there are none
-abbrev pub turn_lines : List Entry → List Line
+abbrev pub turn_lines : List TraceEntry → List Line
 turn_lines [] = skip ∷ []
 turn_lines (entry ∷ entries) = map meant (entry ∷ entries)
 

@@ -55,7 +55,7 @@ const FAULTS: [FaultKind; 5] = [
     FaultKind::OutsideRam,
 ];
 
-const ACCESSES: [Access; 3] = [Access::Load, Access::Store, Access::Fetch];
+const ACCESSES: [AccessKind; 3] = [AccessKind::Load, AccessKind::Store, AccessKind::Fetch];
 
 /// The row of what is no call.
 const UNKNOWN: usize = 26;
@@ -71,7 +71,7 @@ const NO_VERSION: u64 = 0xFFFF_FFFF;
 
 /// A kind of access to memory.
 #[derive(Clone, Copy, PartialEq, Eq)]
-pub enum Access {
+pub enum AccessKind {
     Load,
     Store,
     Fetch,
@@ -123,14 +123,14 @@ fn row_of(function: u32) -> usize
 }
 
 // The row of an access.
-fn row_of_access(access: Access) -> usize
+fn row_of_access(access: AccessKind) -> usize
     ensures row { result ≡ row_of_access access }
     ensures few { result < 30 }
 {
     match access {
-        Access::Load => UNKNOWN + 1,
-        Access::Store => UNKNOWN + 2,
-        Access::Fetch => UNKNOWN + 3,
+        AccessKind::Load => UNKNOWN + 1,
+        AccessKind::Store => UNKNOWN + 2,
+        AccessKind::Fetch => UNKNOWN + 3,
     }
 }
 
@@ -140,9 +140,9 @@ fn row_of_operation(op: &Op) -> usize
 {
     match op {
         Op::Call(x) => row_of((x[0] % (1 << 32)) as u32),
-        Op::Load { .. } => row_of_access(Access::Load),
-        Op::Store { .. } => row_of_access(Access::Store),
-        Op::Fetch { .. } => row_of_access(Access::Fetch),
+        Op::Load { .. } => row_of_access(AccessKind::Load),
+        Op::Store { .. } => row_of_access(AccessKind::Store),
+        Op::Fetch { .. } => row_of_access(AccessKind::Fetch),
     }
 }
 
@@ -247,14 +247,14 @@ impl Counts {
     }
 
     /// How often such an access was done.
-    pub fn done(&self, access: Access) -> u64
+    pub fn done(&self, access: AccessKind) -> u64
         ensures { result ≡ slice_index self.now.cells (cell (row_of_access access) 0) }
     {
         self.cells[cell(row_of_access(access), 0)]
     }
 
     /// How often such an access ended in this fault.
-    pub fn faults(&self, access: Access, fault: FaultKind) -> u64
+    pub fn faults(&self, access: AccessKind, fault: FaultKind) -> u64
         ensures { result ≡ slice_index self.now.cells (cell (row_of_access access) (column_of_fault fault)) }
     {
         self.cells[cell(row_of_access(access), column_of_fault(fault))]
@@ -290,11 +290,11 @@ fn name_of_fault(fault: FaultKind) -> &'static str {
     }
 }
 
-fn name_of_access(access: Access) -> &'static str {
+fn name_of_access(access: AccessKind) -> &'static str {
     match access {
-        Access::Load => "load",
-        Access::Store => "store",
-        Access::Fetch => "fetch",
+        AccessKind::Load => "load",
+        AccessKind::Store => "store",
+        AccessKind::Fetch => "fetch",
     }
 }
 
@@ -317,7 +317,11 @@ impl Counts {
     }
 
     // A line of an access, alike.
-    fn put_access<W: fmt::Write>(&self, f: &mut fmt::Formatter<W>, access: Access) -> fmt::Result {
+    fn put_access<W: fmt::Write>(
+        &self,
+        f: &mut fmt::Formatter<W>,
+        access: AccessKind,
+    ) -> fmt::Result {
         write!(f, "{} {}", name_of_access(access), self.done(access))?;
         for fault in FAULTS {
             let count = self.faults(access, fault);

@@ -11,7 +11,7 @@ use std::alloc::{AllocError, Allocator};
 
 /// A line of a trace.
 #[derive(Clone, Copy)]
-pub enum Entry {
+pub enum TraceEntry {
     Operation(Op),
     Show,
     Audit,
@@ -46,7 +46,7 @@ fn lowest(value: u64, size: Size) -> u64
 /// Puts the lines of the first entries behind a text, as many as there may be, and answers how many those are.
 pub fn put_entries<A: Allocator>(
     text: &mut Vec<u8, A>,
-    entries: &[Entry],
+    entries: &[TraceEntry],
     most: u64,
 ) -> Result<u64, AllocError>
     ensures count { IfOk result (λ count. count ≡ min most (length entries.now)) }
@@ -63,12 +63,12 @@ pub fn put_entries<A: Allocator>(
 }
 
 // Puts a line behind a text.
-fn put_entry<A: Allocator>(text: &mut Vec<u8, A>, entry: &Entry) -> Result<(), AllocError>
+fn put_entry<A: Allocator>(text: &mut Vec<u8, A>, entry: &TraceEntry) -> Result<(), AllocError>
     ensures { OnOk result (GrowsByLines (meant entry.now ∷ []) text.old.items text.new.items) }
 {
     match entry {
-        Entry::Operation(op) => put_operation(text, &fitted(op)),
-        Entry::Show => text.extend_from_slice(b"show\n"),
-        Entry::Audit => text.extend_from_slice(b"audit\n"),
+        TraceEntry::Operation(op) => put_operation(text, &fitted(op)),
+        TraceEntry::Show => text.extend_from_slice(b"show\n"),
+        TraceEntry::Audit => text.extend_from_slice(b"audit\n"),
     }
 }

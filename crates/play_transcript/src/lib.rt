@@ -8,7 +8,7 @@ mod entries;
 mod turn;
 mod writing;
 
-pub use counts::{Access, Counts};
-pub use entries::{Entry, fitted};
+pub use counts::{AccessKind, Counts};
+pub use entries::{TraceEntry, fitted};
 pub use turn::wanted;
 pub use writing::{GenerateError, Turns, write_turns};

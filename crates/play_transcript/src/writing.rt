@@ -6,7 +6,7 @@ ghost use Rattle.play_syntax.specs.TraceLines.{skip};
 ghost use Rattle.play_transcript.specs.Traces.{Wrote};
 ghost use Rattle.play_transcript.specs.Turned.{GrowsByLines, turn_lines};
 
-use crate::entries::{Entry, put_entries};
+use crate::entries::{TraceEntry, put_entries};
 use std::alloc::Allocator;
 use std::io::Write;
 use thiserror::Error;
@@ -24,7 +24,7 @@ pub enum GenerateError {
 /// What gives the lines of a trace, a turn at a time.
 pub trait Turns {
     /// Plays a turn, and answers its lines, of which no more than so many are taken.
-    fn play_turn(&mut self, most: u64) -> Result<&[Entry], GenerateError>;
+    fn play_turn(&mut self, most: u64) -> Result<&[TraceEntry], GenerateError>;
 }
 
 /// Plays turns, and writes so many lines of a trace.
@@ -65,7 +65,7 @@ fn write_turn<P: Turns, A: Allocator, W: Write>(
 // Makes the text of a turn, of the first so many lines at most, and answers how many it has. A turn without lines says so.
 fn put_turn<A: Allocator>(
     text: &mut Vec<u8, A>,
-    entries: &[Entry],
+    entries: &[TraceEntry],
     most: u64,
 ) -> Result<u64, GenerateError>
     requires { 1 ≤ most }
