@@ -119,7 +119,8 @@ checks (NotificationUnbind its) =
     ∷ BitsNotTheSenders ∷ []
 checks (NotificationSet its) =
     SenderIsAnother ∷ ReceiverUnknown ∷ ReceiverIsCaller ∷ FlagsReserved ∷ BitsNone ∷ BitsNotTheCallers ∷ []
-checks (NotificationGet receiver context flags) = ReceiverIsAnother ∷ ContextUnknown ∷ ClassesUnknown ∷ BitmapsMissing ∷ []
+checks (NotificationGet receiver context flags) =
+    ReceiverIsAnother ∷ ContextUnknown ∷ ClassesUnknown ∷ BitmapsMissing ∷ []
 checks Unknown = FunctionUnknown ∷ []
 
 -- where a name stands among all, by which two names are told apart
