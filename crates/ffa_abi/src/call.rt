@@ -134,6 +134,7 @@ impl Registers {
     }
 
     // A direct message, in either form.
+    #[inline(always)]
     fn direct_message(&self) -> DirectMessage
         ensures { result ≡ message_of self.now.0 }
     {
@@ -147,6 +148,7 @@ impl Registers {
     }
 
     // What a direct message carries.
+    #[inline(always)]
     fn payload(&self) -> [u64; 5]
         ensures { result ≡ payload_of self.now.0 }
     {

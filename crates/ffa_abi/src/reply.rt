@@ -98,26 +98,26 @@ pub(crate) fn word_of_two(high: u16, low: u16) -> u32
 pub fn encode(reply: &Reply) -> [u64; 8]
     ensures { result ≡ encode reply.now }
 {
-    match *reply {
-        Reply::Version(version) => [u64::from(version), 0, 0, 0, 0, 0, 0, 0],
+    match reply {
+        Reply::Version(version) => [u64::from(*version), 0, 0, 0, 0, 0, 0, 0],
         Reply::Error(code) => {
-            let w2 = u64::from(code_number(code));
+            let w2 = u64::from(code_number(*code));
             [u64::from(FFA_ERROR), 0, w2, 0, 0, 0, 0, 0]
         }
-        Reply::Success(results) => success_registers(results),
-        Reply::Sent(handle) => handle_registers(handle),
+        Reply::Success(results) => success_registers(*results),
+        Reply::Sent(handle) => handle_registers(*handle),
         Reply::Pending {
             partitions,
             normal_world,
             manager,
-        } => pending_registers(partitions, normal_world, manager),
-        Reply::Passed(message) => message_registers(&message),
+        } => pending_registers(*partitions, *normal_world, *manager),
+        Reply::Passed(message) => message_registers(message),
         Reply::Scheduled {
             function,
             partition,
-        } => cycles_registers(function, partition),
+        } => cycles_registers(*function, *partition),
         Reply::Retrieved(size) => {
-            let size = u64::from(size);
+            let size = u64::from(*size);
             [u64::from(FFA_MEM_RETRIEVE_RESP), size, size, 0, 0, 0, 0, 0]
         }
     }

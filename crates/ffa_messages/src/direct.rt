@@ -19,6 +19,7 @@ use ffa_schedule::Chain;
 /// In this order: `InvalidParameters` where the message's sender isn't the runner, a flag is set, or the receiver is no
 /// endpoint or the runner itself; `Denied` where the receiver is the normal world, the runner doesn't send direct
 /// requests or the receiver doesn't receive them; `Busy` where the receiver doesn't wait. An error changes nothing.
+#[inline(always)]
 pub fn direct_req(
     chain: &mut Chain,
     manifest: &Manifest,
@@ -44,6 +45,7 @@ pub fn direct_req(
 ///
 /// In this order: `Denied` where the runner answers no request; `InvalidParameters` where the message's sender isn't the
 /// runner, its receiver isn't the endpoint that asked, or a flag is set. An error changes nothing.
+#[inline(always)]
 pub fn direct_resp(chain: &mut Chain, message: &DirectMessage) -> Result<Reply, ErrorCode>
     ensures refusal { result_err result ≡ first_failure (response_guards chain.old message.now) }
     ensures reply { IfOk result (λ reply. reply ≡ Reply.Passed message.now) }
@@ -57,6 +59,7 @@ pub fn direct_resp(chain: &mut Chain, message: &DirectMessage) -> Result<Reply, 
 }
 
 // What the receiver of a message sees.
+#[inline(always)]
 fn reply_of(message: &DirectMessage) -> Reply
     ensures { result ≡ Reply.Passed message.now }
 {
