@@ -1,5 +1,5 @@
 -- SPDX-License-Identifier: MIT OR Apache-2.0
-pub mod Boxes
+pub mod Pages
 pub mod Observed
 pub mod Steps
 pub mod BoxCalls

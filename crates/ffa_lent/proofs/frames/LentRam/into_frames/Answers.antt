@@ -2,7 +2,7 @@
 use Rattle.std.proofs.Common.{◌∙◌, sym, ap}
 use Rattle.ffa_model.specs.Ram.{Ram}
 use Rattle.ffa_physmem.specs.FrameRam.{ram_of as frame_ram}
-use Rattle.ffa_lent.proofs.Boxes.{unseen}
+use Rattle.ffa_lent.proofs.Pages.{unseen}
 use Rattle.ffa_lent.proofs.frames.LentRam.into_frames.Goals as goal
 
 pub returns-clause-pages : goal.returns-clause-pages

@@ -3,7 +3,7 @@ use Rattle.std.proofs.Common.{◌∙◌, List, ℕ, refl, ap}
 use Rattle.ffa_model.specs.Lists.{map_at}
 use Rattle.ffa_model.specs.Ram.{Ram}
 use Rattle.ffa_lent.specs.Listed.{Listed}
-use Rattle.ffa_lent.proofs.Boxes.{unseen}
+use Rattle.ffa_lent.proofs.Pages.{unseen}
 use Rattle.ffa_lent.proofs.Observed.{seen_by}
 use Rattle.ffa_lent.proofs.frames.LentRam.new.Goals as goal
 

@@ -2,7 +2,7 @@
 use Rattle.std.proofs.Common.{◌≡◌, ◌∙◌, ℕ, [], List, length, get_or, refl, ap, arith}
 use Rattle.std.specs.Vec.{with_items}
 use Rattle.std.proofs.lemmas.List.{with_items_is}
-use Rattle.ffa_lent.proofs.Boxes.{pages-seen, unchanged}
+use Rattle.ffa_lent.proofs.Pages.{pages-seen, unchanged}
 use Rattle.ffa_lent.proofs.frames.LentRamPhysMem.observe.Goals as goal
 
 pub copy_frames-requires-clause-within : goal.copy_frames-requires-clause-within

@@ -2,7 +2,7 @@
 use Rattle.std.proofs.Common.{◌∙◌, ◌<◌, length, [], get_or, sym, ap, arith}
 use Rattle.std.proofs.lemmas.Grind.{common_steps}
 use Rattle.std.proofs.lemmas.List.{get_or_read}
-use Rattle.ffa_lent.proofs.Boxes.{frame-inside, observed-at, observed-no, page_of-copy, page_of-frame}
+use Rattle.ffa_lent.proofs.Pages.{frame-inside, observed-at, observed-no, page_of-copy, page_of-frame}
 use Rattle.ffa_lent.proofs.frames.LentRamPhysMem.page.Goals as goal
 
 pub returns-in-Some-clause-value : goal.returns-in-Some-clause-value

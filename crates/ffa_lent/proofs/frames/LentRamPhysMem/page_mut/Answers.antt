@@ -1,7 +1,7 @@
 -- SPDX-License-Identifier: MIT OR Apache-2.0
 use Rattle.std.proofs.Common.{◌∙◌, ◌<◌, length, [], get_or, refl, sym, ap, arith}
 use Rattle.std.proofs.lemmas.List.{get_or_read}
-use Rattle.ffa_lent.proofs.Boxes.{frame-inside, observed-at, observed-no, page_of-copy, page_of-frame, with_copy-there, with_frame-there}
+use Rattle.ffa_lent.proofs.Pages.{frame-inside, observed-at, observed-no, page_of-copy, page_of-frame, with_copy-there, with_frame-there}
 use Rattle.ffa_lent.proofs.frames.LentRamPhysMem.page_mut.Goals as goal
 
 pub returns-in-Some : goal.returns-in-Some

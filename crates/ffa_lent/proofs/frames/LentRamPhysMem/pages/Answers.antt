@@ -1,6 +1,6 @@
 -- SPDX-License-Identifier: MIT OR Apache-2.0
 use Rattle.std.proofs.Common.{◌∙◌, sym}
-use Rattle.ffa_lent.proofs.Boxes.{pages-seen}
+use Rattle.ffa_lent.proofs.Pages.{pages-seen}
 use Rattle.ffa_lent.proofs.frames.LentRamPhysMem.pages.Goals as goal
 
 pub returns : goal.returns

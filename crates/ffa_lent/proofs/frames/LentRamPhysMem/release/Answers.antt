@@ -5,7 +5,7 @@ use Rattle.ffa_model.proofs.Accesses.{length-map_at}
 use Rattle.ffa_model.specs.Lists.{is_in_run}
 use Rattle.ffa_model.specs.Ram.{Ram, page_of}
 use Rattle.ffa_physmem.specs.FrameRam.{ram_of as frame_ram}
-use Rattle.ffa_lent.proofs.Boxes.{pages-seen}
+use Rattle.ffa_lent.proofs.Pages.{pages-seen}
 use Rattle.ffa_lent.proofs.Observed.{released-page, released-whole, seen_by}
 use Rattle.ffa_lent.proofs.frames.LentRamPhysMem.release.Goals as goal
 
