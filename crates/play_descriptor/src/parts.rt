@@ -21,7 +21,8 @@ pub(crate) fn cut(text: &str, mark: char) -> (&str, Option<&str>)
 /// The one part or the two of a word with at most one mark.
 pub(crate) fn one_or_two(word: &str, mark: char) -> Option<(&str, Option<&str>)>
     requires { mark < 128 }
-    ensures { option_map (λ p. (p.0.now, option_map (λ s. s.now) p.1)) result ≡ one_or_two (slice_split (λ c. c == mark) word.now) }
+    ensures { option_map (λ p. (p.0.now, option_map (λ s. s.now) p.1)) result
+        ≡ one_or_two (slice_split (λ c. c == mark) word.now) }
 {
     let (first, behind) = cut(word, mark);
     let Some(behind) = behind else {
