@@ -2,7 +2,7 @@
 //! Reads manifests: the description of a machine in TOML, accepted whole or refused by its first cause.
 #![tactic(auto)]
 
-ghost use Rattle.std.specs.Prelude.{◌≡◌, ◌≢◌, ◌↔◌, Ok, Err, IfOk, IfErr, IfSome, IsNone, IsOk};
+ghost use Rattle.std.specs.Prelude.{◌≡◌, ◌≢◌, Ok, Err, IfOk, IfErr};
 ghost use Rattle.ffa_manifest.specs.Document.{machine_of, parts_of};
 
 mod document;
@@ -38,33 +38,33 @@ pub fn read(alloc: Global, text: &str) -> Result<Manifest, ManifestError>
     }
 }
 
-/// Why a text is refused, and where: of a text that is accepted, nothing.
+/// Reads a text as `read` does, and of one that is refused finds where.
 ///
-/// The cause is the one that `read` answers. The place is where reading ends, with the key and the value that stand there.
-/// Endpoints and regions count from 1: endpoint 1 is the normal world. The clauses say nothing of the place, which tests
-/// show.
+/// The cause is the one that `read` answers. The place is where reading ends, with the key and the value that stand
+/// there. Endpoints and regions count from 1: endpoint 1 is the normal world. The clauses say nothing of the place, which
+/// tests show.
 ///
 /// # Errors
 ///
 /// There is no memory.
 #[tactic(auto, unfolding(crate::specs::Document::machine_of))]
-pub fn explain(alloc: Global, text: &str) -> Result<Option<ManifestRefusal>, AllocError>
-    ensures accepted { IfOk result (λ found. IsNone found ↔ IsOk (machine_of text.now)) }
-    ensures refused { IfOk result (λ found. IfSome found (λ r. machine_of text.now ≡ Err r.cause)) }
+pub fn explain(alloc: Global, text: &str) -> Result<Result<Manifest, ManifestRefusal>, AllocError>
+    ensures accepted { IfOk result (λ read. IfOk read (λ m. machine_of text.now ≡ Ok (parts_of m))) }
+    ensures refused { IfOk result (λ read. IfErr read (λ r. machine_of text.now ≡ Err r.cause)) }
 {
     let table = match toml::table_from_str(alloc, text) {
         Ok(table) => table,
         Err(e) if e.is_memory() => return Err(AllocError),
         Err(e) => {
-            return Ok(Some(ManifestRefusal {
+            return Ok(Err(ManifestRefusal {
                 cause: ManifestError::Toml,
                 place: locate::in_text(alloc, &e)?,
             }));
         }
     };
     match document::machine(&table) {
-        Ok(_) => Ok(None),
-        Err(cause) => Ok(Some(ManifestRefusal {
+        Ok(manifest) => Ok(Ok(manifest)),
+        Err(cause) => Ok(Err(ManifestRefusal {
             cause,
             place: locate::in_top(alloc, &table)?,
         })),

@@ -303,8 +303,8 @@ ram_blocks = 1 => ram_blocks 1 => TOML parse error at line 2 => ";
 // Where a text is refused, or nothing where it is accepted.
 fn place_in(alloc: Global, text: &str) -> Result<String, AllocError> {
     match explain(alloc, text)? {
-        None => Ok(String::new(alloc)),
-        Some(refusal) => format!(in alloc; "{refusal}"),
+        Ok(_) => Ok(String::new(alloc)),
+        Err(refusal) => format!(in alloc; "{refusal}"),
     }
 }
 

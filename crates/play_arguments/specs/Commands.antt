@@ -35,7 +35,8 @@ numbers = Unsigned 0 (2 ^ 64 - 1)
 
 -- such a number behind its name, and the one that stands for it where none is given
 abbrev pub number_rule : Text → Text → Rule
-number_rule id usual = record (new_rule id) { long = Some id; action = Some Set; parser = Some numbers; defaults = usual ∷ [] }
+number_rule id usual =
+    record (new_rule id) { long = Some id; action = Some Set; parser = Some numbers; defaults = usual ∷ [] }
 
 abbrev pub with_manifest : App → App
 with_manifest app = with_rule app (path_rule (codes "manifest"))
@@ -46,32 +47,38 @@ with_trace app = with_rule app (path_rule (codes "trace"))
 abbrev pub with_expected : App → App
 with_expected app = with_rule app (path_rule (codes "expected"))
 
+abbrev pub with_flag : Text → App → App
+with_flag id app = with_rule app (flag_rule id)
+
 -- how the machine is built: with RAM in frames, and with a cache of translations
 abbrev pub with_machine_flags : App → App
-with_machine_flags app = with_rule (with_rule app (flag_rule (codes "frames"))) (flag_rule (codes "tlb"))
+with_machine_flags app = with_flag (codes "tlb") (with_flag (codes "frames") app)
 
 abbrev pub with_explain : App → App
-with_explain app = with_rule app (flag_rule (codes "explain"))
+with_explain app = with_flag (codes "explain") app
 
 -- how the text is written: line by line, with numbers of lines, with names, and with the reasons of refusals
 abbrev pub with_text_flags : App → App
 with_text_flags app =
-    with_explain (with_rule (with_rule (with_rule app (flag_rule (codes "line-buffered"))) (flag_rule (codes "number"))) (flag_rule (codes "names")))
+    with_explain (with_flag (codes "names") (with_flag (codes "number") (with_flag (codes "line-buffered") app)))
 
 abbrev pub with_strict : App → App
-with_strict app = with_rule app (flag_rule (codes "strict"))
+with_strict app = with_flag (codes "strict") app
 
 abbrev pub with_verbose : App → App
-with_verbose app = with_rule app (flag_rule (codes "verbose"))
+with_verbose app = with_flag (codes "verbose") app
 
 unfoldable pub run_app : App
-run_app = with_verbose (with_strict (with_text_flags (with_machine_flags (with_trace (with_manifest (new_app (codes "run")))))))
+run_app =
+    with_verbose (with_strict (with_text_flags (with_machine_flags (with_trace (with_manifest (new_app (codes "run")))))))
 
 unfoldable pub demo_app : App
 demo_app = with_verbose (with_strict (with_text_flags (with_machine_flags (with_trace (new_app (codes "demo"))))))
 
 unfoldable pub compare_app : App
-compare_app = with_verbose (with_explain (with_machine_flags (with_expected (with_trace (with_manifest (new_app (codes "compare")))))))
+compare_app =
+    with_verbose
+    (with_explain (with_machine_flags (with_expected (with_trace (with_manifest (new_app (codes "compare")))))))
 
 unfoldable pub check_app : App
 check_app = with_verbose (with_manifest (new_app (codes "check")))
@@ -86,30 +93,38 @@ with_place app = with_rule (with_rule app (path_rule (codes "kind"))) (value_rul
 abbrev pub with_optional : Text → App → App
 with_optional id app = with_rule app (value_rule id false)
 
+abbrev pub with_pages : App → App
+with_pages app = with_optional (codes "pages") (with_optional (codes "to") (with_optional (codes "from") app))
+
 abbrev pub with_record : App → App
-with_record app =
-    with_optional (codes "of") (with_optional (codes "tag") (with_optional (codes "handle") (with_optional (codes "pages") (with_optional (codes "to") (with_optional (codes "from") app)))))
+with_record app = with_optional (codes "of") (with_optional (codes "tag") (with_optional (codes "handle") (with_pages app)))
 
 abbrev pub with_record_flags : App → App
-with_record_flags app = with_rule (with_rule app (flag_rule (codes "zero"))) (flag_rule (codes "compact"))
+with_record_flags app = with_flag (codes "compact") (with_flag (codes "zero") app)
 
 unfoldable pub descriptor_app : App
 descriptor_app = with_record_flags (with_record (with_place (new_app (codes "descriptor"))))
 
 -- which trace is generated, of how many lines, and whether it is counted
+abbrev pub with_number : Text → Text → App → App
+with_number id usual app = with_rule app (number_rule id usual)
+
 abbrev pub with_size : App → App
-with_size app = with_rule (with_rule app (number_rule (codes "seed") (codes "1"))) (number_rule (codes "lines") (codes "1000"))
+with_size app = with_number (codes "lines") (codes "1000") (with_number (codes "seed") (codes "1") app)
 
 unfoldable pub generate_app : App
-generate_app = with_verbose (with_rule (with_size (with_manifest (new_app (codes "generate")))) (flag_rule (codes "count")))
+generate_app = with_verbose (with_flag (codes "count") (with_size (with_manifest (new_app (codes "generate")))))
 
 -- which lines have a row
 unfoldable pub picture_app : App
-picture_app = with_verbose (with_rule (with_trace (with_manifest (new_app (codes "picture")))) (number_rule (codes "every") (codes "0")))
+picture_app =
+    with_verbose (with_number (codes "every") (codes "0") (with_trace (with_manifest (new_app (codes "picture")))))
 
 -- the program, which has a version and has to be given a command
 unfoldable pub bare : App
-bare = record (new_app (codes "ffaplay")) { top = record (new_app (codes "ffaplay")).top { subcommand_required = true; has_version = true } }
+bare =
+    let named = new_app (codes "ffaplay") in
+    record named { top = record named.top { subcommand_required = true; has_version = true } }
 
 -- the program with its commands
 abbrev pub with_plays : App → App
@@ -165,7 +180,8 @@ pub data Ask : Type 0 where
 abbrev pub ask_of : Request → Ask
 ask_of (Run manifest trace machine text strict verbose) = run manifest.now trace.now machine text strict verbose
 ask_of (Demo trace machine text strict verbose) = demo trace.now machine text strict verbose
-ask_of (Compare manifest trace expected machine explain verbose) = compare manifest.now trace.now expected.now machine explain verbose
+ask_of (Compare manifest trace expected machine explain verbose) =
+    compare manifest.now trace.now expected.now machine explain verbose
 ask_of (Check manifest verbose) = check manifest.now verbose
 ask_of (Layout manifest verbose) = layout manifest.now verbose
 ask_of (Descriptor words) = descriptor (words_of words)
@@ -174,39 +190,35 @@ ask_of (Picture manifest trace every verbose) = picture manifest.now trace.now e
 
 -- the path of the manifest that is asked for, that of the trace, and that of the expected text
 abbrev pub manifest_of : Ask → Option Text
-manifest_of (run m t o w s v) = Some m
-manifest_of (demo t o w s v) = None
-manifest_of (compare m t e o x v) = Some m
-manifest_of (check m v) = Some m
-manifest_of (layout m v) = Some m
-manifest_of (descriptor d) = None
-manifest_of (generate m s l c v) = Some m
-manifest_of (picture m t e v) = Some m
+manifest_of (run manifest trace machine text strict verbose) = Some manifest
+manifest_of (compare manifest trace expected machine explain verbose) = Some manifest
+manifest_of (check manifest verbose) = Some manifest
+manifest_of (layout manifest verbose) = Some manifest
+manifest_of (generate manifest seed lines count verbose) = Some manifest
+manifest_of (picture manifest trace every verbose) = Some manifest
+manifest_of _ = None
 
 abbrev pub trace_of : Ask → Option Text
-trace_of (run m t o w s v) = Some t
-trace_of (demo t o w s v) = Some t
-trace_of (compare m t e o x v) = Some t
-trace_of (check m v) = None
-trace_of (layout m v) = None
-trace_of (descriptor d) = None
-trace_of (generate m s l c v) = None
-trace_of (picture m t e v) = Some t
+trace_of (run manifest trace machine text strict verbose) = Some trace
+trace_of (demo trace machine text strict verbose) = Some trace
+trace_of (compare manifest trace expected machine explain verbose) = Some trace
+trace_of (picture manifest trace every verbose) = Some trace
+trace_of _ = None
 
 abbrev pub expected_of : Ask → Option Text
-expected_of (compare m t e o x v) = Some e
+expected_of (compare manifest trace expected machine explain verbose) = Some expected
 expected_of _ = None
 
 -- whether more is to be said of what is refused
 abbrev pub verbose_of : Ask → Bool
-verbose_of (run m t o w s v) = v
-verbose_of (demo t o w s v) = v
-verbose_of (compare m t e o x v) = v
-verbose_of (check m v) = v
-verbose_of (layout m v) = v
-verbose_of (descriptor d) = false
-verbose_of (generate m s l c v) = v
-verbose_of (picture m t e v) = v
+verbose_of (run manifest trace machine text strict verbose) = verbose
+verbose_of (demo trace machine text strict verbose) = verbose
+verbose_of (compare manifest trace expected machine explain verbose) = verbose
+verbose_of (check manifest verbose) = verbose
+verbose_of (layout manifest verbose) = verbose
+verbose_of (descriptor words) = false
+verbose_of (generate manifest seed lines count verbose) = verbose
+verbose_of (picture manifest trace every verbose) = verbose
 
 -- whether a path is given and is `-`, which stands for standard input
 unfoldable pub is_input : Option Text → Bool
@@ -214,14 +226,9 @@ is_input path = option_map_or (λ p. bytes_eq p (codes "-")) path false
 
 -- whether each text is to be written before more of the trace is read
 abbrev pub answers_at_once : Ask → Bool
-answers_at_once (run m t o w s v) = w.line_buffered || is_input (Some t)
-answers_at_once (demo t o w s v) = w.line_buffered || is_input (Some t)
-answers_at_once (compare m t e o x v) = false
-answers_at_once (check m v) = false
-answers_at_once (layout m v) = false
-answers_at_once (descriptor d) = false
-answers_at_once (generate m s l c v) = false
-answers_at_once (picture m t e v) = false
+answers_at_once (run manifest trace machine text strict verbose) = text.line_buffered || is_input (Some trace)
+answers_at_once (demo trace machine text strict verbose) = text.line_buffered || is_input (Some trace)
+answers_at_once _ = false
 
 -- standard input can be read once: at most one of the paths is `-`
 unfoldable pub reads_once : Ask → Bool
@@ -247,25 +254,43 @@ text_in rows = record {
   explain = is_given (codes "explain") rows;
 }
 
--- what the matches of a command name
-unfoldable pub named_run : List Row → Option Ask
-named_run rows =
-    option_and_then (λ m. option_and_then (λ t. Some (run m t (machine_in rows) (text_in rows) (is_given (codes "strict") rows) (is_given (codes "verbose") rows)))
-    (first_of (codes "trace") rows)) (first_of (codes "manifest") rows)
+-- what follows, where there is a value
+infixl 10 ◌>>=◌
+abbrev pub ◌>>=◌ : {A B : Type 0} → Option A → (A → Option B) → Option B
+value >>= next = option_and_then next value
 
-unfoldable pub named_demo : List Row → Option Ask
-named_demo rows = option_and_then (λ t. Some (demo t (machine_in rows) (text_in rows) (is_given (codes "strict") rows) (is_given (codes "verbose") rows))) (first_of (codes "trace") rows)
+-- the number that was given, or that stands for one that wasn't
+abbrev pub number_in : Text → List Row → Option ℕ
+number_in id rows = option_and_then number_of (first_of id rows)
 
-unfoldable pub named_compare : List Row → Option Ask
-named_compare rows =
-    option_and_then (λ m. option_and_then (λ t. option_and_then (λ e. Some (compare m t e (machine_in rows) (is_given (codes "explain") rows) (is_given (codes "verbose") rows)))
-    (first_of (codes "expected") rows)) (first_of (codes "trace") rows)) (first_of (codes "manifest") rows)
+-- what the matches of a command ask for
+unfoldable pub run_in : List Row → Option Ask
+run_in rows = do
+  manifest ← first_of (codes "manifest") rows
+  trace ← first_of (codes "trace") rows
+  Some (run manifest trace (machine_in rows) (text_in rows) (is_given (codes "strict") rows) (is_given (codes "verbose") rows))
 
-unfoldable pub named_check : List Row → Option Ask
-named_check rows = option_and_then (λ m. Some (check m (is_given (codes "verbose") rows))) (first_of (codes "manifest") rows)
+unfoldable pub demo_in : List Row → Option Ask
+demo_in rows = do
+  trace ← first_of (codes "trace") rows
+  Some (demo trace (machine_in rows) (text_in rows) (is_given (codes "strict") rows) (is_given (codes "verbose") rows))
 
-unfoldable pub named_layout : List Row → Option Ask
-named_layout rows = option_and_then (λ m. Some (layout m (is_given (codes "verbose") rows))) (first_of (codes "manifest") rows)
+unfoldable pub compare_in : List Row → Option Ask
+compare_in rows = do
+  manifest ← first_of (codes "manifest") rows
+  trace ← first_of (codes "trace") rows
+  expected ← first_of (codes "expected") rows
+  Some (compare manifest trace expected (machine_in rows) (is_given (codes "explain") rows) (is_given (codes "verbose") rows))
+
+unfoldable pub check_in : List Row → Option Ask
+check_in rows = do
+  manifest ← first_of (codes "manifest") rows
+  Some (check manifest (is_given (codes "verbose") rows))
+
+unfoldable pub layout_in : List Row → Option Ask
+layout_in rows = do
+  manifest ← first_of (codes "manifest") rows
+  Some (layout manifest (is_given (codes "verbose") rows))
 
 unfoldable pub words_in : List Row → (kind tx : Text) → Described
 words_in rows kind tx = record {
@@ -281,43 +306,48 @@ words_in rows kind tx = record {
   compact = is_given (codes "compact") rows;
 }
 
-unfoldable pub named_descriptor : List Row → Option Ask
-named_descriptor rows =
-    option_and_then (λ kind. option_and_then (λ tx. Some (descriptor (words_in rows kind tx)))
-    (first_of (codes "tx") rows)) (first_of (codes "kind") rows)
+unfoldable pub descriptor_in : List Row → Option Ask
+descriptor_in rows = do
+  kind ← first_of (codes "kind") rows
+  tx ← first_of (codes "tx") rows
+  Some (descriptor (words_in rows kind tx))
 
-unfoldable pub named_generate : List Row → Option Ask
-named_generate rows =
-    option_and_then (λ m. option_and_then (λ seed. option_and_then (λ lines. Some (generate m seed lines (is_given (codes "count") rows) (is_given (codes "verbose") rows)))
-    (option_and_then number_of (first_of (codes "lines") rows))) (option_and_then number_of (first_of (codes "seed") rows))) (first_of (codes "manifest") rows)
+unfoldable pub generate_in : List Row → Option Ask
+generate_in rows = do
+  manifest ← first_of (codes "manifest") rows
+  seed ← number_in (codes "seed") rows
+  lines ← number_in (codes "lines") rows
+  Some (generate manifest seed lines (is_given (codes "count") rows) (is_given (codes "verbose") rows))
 
-unfoldable pub named_picture : List Row → Option Ask
-named_picture rows =
-    option_and_then (λ m. option_and_then (λ t. option_and_then (λ every. Some (picture m t every (is_given (codes "verbose") rows)))
-    (option_and_then number_of (first_of (codes "every") rows))) (first_of (codes "trace") rows)) (first_of (codes "manifest") rows)
+unfoldable pub picture_in : List Row → Option Ask
+picture_in rows = do
+  manifest ← first_of (codes "manifest") rows
+  trace ← first_of (codes "trace") rows
+  every ← number_in (codes "every") rows
+  Some (picture manifest trace every (is_given (codes "verbose") rows))
 
-unfoldable pub named : Text → List Row → Option Ask
-named name rows =
-    if bytes_eq name (codes "run") then named_run rows
-    else if bytes_eq name (codes "demo") then named_demo rows
-    else if bytes_eq name (codes "compare") then named_compare rows
-    else if bytes_eq name (codes "check") then named_check rows
-    else if bytes_eq name (codes "layout") then named_layout rows
-    else if bytes_eq name (codes "descriptor") then named_descriptor rows
-    else if bytes_eq name (codes "generate") then named_generate rows
-    else if bytes_eq name (codes "picture") then named_picture rows
+unfoldable pub ask_in : Text → List Row → Option Ask
+ask_in name rows =
+    if bytes_eq name (codes "run") then run_in rows
+    else if bytes_eq name (codes "demo") then demo_in rows
+    else if bytes_eq name (codes "compare") then compare_in rows
+    else if bytes_eq name (codes "check") then check_in rows
+    else if bytes_eq name (codes "layout") then layout_in rows
+    else if bytes_eq name (codes "descriptor") then descriptor_in rows
+    else if bytes_eq name (codes "generate") then generate_in rows
+    else if bytes_eq name (codes "picture") then picture_in rows
     else None
 
--- what the command that was met names, by its name and its matches
-abbrev pub named_in : Option (Text × List Row) → Option Ask
-named_in met = option_and_then (λ p. named p.0 p.1) met
+-- what the command that was met asks for, by its name and its matches
+abbrev pub ask_met : Option (Text × List Row) → Option Ask
+ask_met met = option_and_then (λ command. ask_in command.0 command.1) met
 
 -- what is named is asked for, where standard input can be read as often as it names it
 abbrev pub asked_for : Ask → Option Ask
 asked_for ask = if reads_once ask then Some ask else None
 
 abbrev pub asked_in : Option (Text × List Row) → Option Ask
-asked_in met = option_and_then asked_for (named_in met)
+asked_in met = option_and_then asked_for (ask_met met)
 
 -- what the words ask for, by clap's matches of the program's commands on these words
 unfoldable pub asked_by : List Text → Option Ask

@@ -1,9 +1,8 @@
 // SPDX-License-Identifier: MIT OR Apache-2.0
 //! What the command line asks for.
 ghost use Rattle.std.specs.Prelude.{◌≡◌, option_map};
-ghost use Rattle.std.specs.Option.{option_and_then};
 ghost use Rattle.clap.specs.Words.{found_of, first_of, rows_of, subcommand_rows_of};
-ghost use Rattle.play_arguments.specs.Commands.{ask_of, words_of, manifest_of, trace_of, expected_of, verbose_of, answers_at_once, is_input, reads_once, asked_in, is_given, number_of, machine_in, text_in, words_in, named_in, named, named_run, named_demo, named_compare, named_check, named_layout, named_descriptor, named_generate, named_picture};
+ghost use Rattle.play_arguments.specs.Commands.{ask_of, words_of, manifest_of, trace_of, expected_of, verbose_of, answers_at_once, is_input, reads_once, asked_in, is_given, number_of, machine_in, text_in, words_in, ask_in, ask_met, number_in, run_in, demo_in, compare_in, check_in, layout_in, descriptor_in, generate_in, picture_in};
 
 use clap::ArgMatches;
 
@@ -237,8 +236,8 @@ fn read_number(text: &str) -> Option<u64>
 }
 
 // The number that was given, or that stands for one that wasn't.
-fn number_of(matches: &ArgMatches<'_>, id: &str) -> Option<u64>
-    ensures { result ≡ option_and_then number_of (first_of id.now (rows_of (found_of matches.now))) }
+fn number_in(matches: &ArgMatches<'_>, id: &str) -> Option<u64>
+    ensures { result ≡ number_in id.now (rows_of (found_of matches.now)) }
 {
     read_number(text_of(matches, id)?)
 }
@@ -265,9 +264,9 @@ fn text_in(matches: &ArgMatches<'_>) -> TextOptions
     }
 }
 
-#[tactic(auto, unfolding(crate::specs::Commands::named_run))]
-fn named_run<'a>(matches: &ArgMatches<'a>) -> Option<Request<'a>>
-    ensures { option_map ask_of result ≡ named_run (rows_of (found_of matches.now)) }
+#[tactic(auto, unfolding(crate::specs::Commands::run_in))]
+fn run_in<'a>(matches: &ArgMatches<'a>) -> Option<Request<'a>>
+    ensures { option_map ask_of result ≡ run_in (rows_of (found_of matches.now)) }
 {
     let manifest = text_of(matches, "manifest")?;
     let trace = text_of(matches, "trace")?;
@@ -281,9 +280,9 @@ fn named_run<'a>(matches: &ArgMatches<'a>) -> Option<Request<'a>>
     })
 }
 
-#[tactic(auto, unfolding(crate::specs::Commands::named_demo))]
-fn named_demo<'a>(matches: &ArgMatches<'a>) -> Option<Request<'a>>
-    ensures { option_map ask_of result ≡ named_demo (rows_of (found_of matches.now)) }
+#[tactic(auto, unfolding(crate::specs::Commands::demo_in))]
+fn demo_in<'a>(matches: &ArgMatches<'a>) -> Option<Request<'a>>
+    ensures { option_map ask_of result ≡ demo_in (rows_of (found_of matches.now)) }
 {
     let trace = text_of(matches, "trace")?;
     Some(Request::Demo {
@@ -295,9 +294,9 @@ fn named_demo<'a>(matches: &ArgMatches<'a>) -> Option<Request<'a>>
     })
 }
 
-#[tactic(auto, unfolding(crate::specs::Commands::named_compare))]
-fn named_compare<'a>(matches: &ArgMatches<'a>) -> Option<Request<'a>>
-    ensures { option_map ask_of result ≡ named_compare (rows_of (found_of matches.now)) }
+#[tactic(auto, unfolding(crate::specs::Commands::compare_in))]
+fn compare_in<'a>(matches: &ArgMatches<'a>) -> Option<Request<'a>>
+    ensures { option_map ask_of result ≡ compare_in (rows_of (found_of matches.now)) }
 {
     let manifest = text_of(matches, "manifest")?;
     let trace = text_of(matches, "trace")?;
@@ -312,18 +311,18 @@ fn named_compare<'a>(matches: &ArgMatches<'a>) -> Option<Request<'a>>
     })
 }
 
-#[tactic(auto, unfolding(crate::specs::Commands::named_check))]
-fn named_check<'a>(matches: &ArgMatches<'a>) -> Option<Request<'a>>
-    ensures { option_map ask_of result ≡ named_check (rows_of (found_of matches.now)) }
+#[tactic(auto, unfolding(crate::specs::Commands::check_in))]
+fn check_in<'a>(matches: &ArgMatches<'a>) -> Option<Request<'a>>
+    ensures { option_map ask_of result ≡ check_in (rows_of (found_of matches.now)) }
 {
     let manifest = text_of(matches, "manifest")?;
     let verbose = is_given(matches, "verbose");
     Some(Request::Check { manifest, verbose })
 }
 
-#[tactic(auto, unfolding(crate::specs::Commands::named_layout))]
-fn named_layout<'a>(matches: &ArgMatches<'a>) -> Option<Request<'a>>
-    ensures { option_map ask_of result ≡ named_layout (rows_of (found_of matches.now)) }
+#[tactic(auto, unfolding(crate::specs::Commands::layout_in))]
+fn layout_in<'a>(matches: &ArgMatches<'a>) -> Option<Request<'a>>
+    ensures { option_map ask_of result ≡ layout_in (rows_of (found_of matches.now)) }
 {
     let manifest = text_of(matches, "manifest")?;
     let verbose = is_given(matches, "verbose");
@@ -348,9 +347,9 @@ fn words_in<'a>(matches: &ArgMatches<'a>, kind: &'a str, tx: &'a str) -> Descrip
     }
 }
 
-#[tactic(auto, unfolding(crate::specs::Commands::named_descriptor))]
-fn named_descriptor<'a>(matches: &ArgMatches<'a>) -> Option<Request<'a>>
-    ensures { option_map ask_of result ≡ named_descriptor (rows_of (found_of matches.now)) }
+#[tactic(auto, unfolding(crate::specs::Commands::descriptor_in))]
+fn descriptor_in<'a>(matches: &ArgMatches<'a>) -> Option<Request<'a>>
+    ensures { option_map ask_of result ≡ descriptor_in (rows_of (found_of matches.now)) }
 {
     let kind = text_of(matches, "kind")?;
     let tx = text_of(matches, "tx")?;
@@ -358,13 +357,13 @@ fn named_descriptor<'a>(matches: &ArgMatches<'a>) -> Option<Request<'a>>
     Some(Request::Descriptor { words })
 }
 
-#[tactic(auto, unfolding(crate::specs::Commands::named_generate))]
-fn named_generate<'a>(matches: &ArgMatches<'a>) -> Option<Request<'a>>
-    ensures { option_map ask_of result ≡ named_generate (rows_of (found_of matches.now)) }
+#[tactic(auto, unfolding(crate::specs::Commands::generate_in))]
+fn generate_in<'a>(matches: &ArgMatches<'a>) -> Option<Request<'a>>
+    ensures { option_map ask_of result ≡ generate_in (rows_of (found_of matches.now)) }
 {
     let manifest = text_of(matches, "manifest")?;
-    let seed = number_of(matches, "seed")?;
-    let lines = number_of(matches, "lines")?;
+    let seed = number_in(matches, "seed")?;
+    let lines = number_in(matches, "lines")?;
     Some(Request::Generate {
         manifest,
         seed,
@@ -374,13 +373,13 @@ fn named_generate<'a>(matches: &ArgMatches<'a>) -> Option<Request<'a>>
     })
 }
 
-#[tactic(auto, unfolding(crate::specs::Commands::named_picture))]
-fn named_picture<'a>(matches: &ArgMatches<'a>) -> Option<Request<'a>>
-    ensures { option_map ask_of result ≡ named_picture (rows_of (found_of matches.now)) }
+#[tactic(auto, unfolding(crate::specs::Commands::picture_in))]
+fn picture_in<'a>(matches: &ArgMatches<'a>) -> Option<Request<'a>>
+    ensures { option_map ask_of result ≡ picture_in (rows_of (found_of matches.now)) }
 {
     let manifest = text_of(matches, "manifest")?;
     let trace = text_of(matches, "trace")?;
-    let every = number_of(matches, "every")?;
+    let every = number_in(matches, "every")?;
     Some(Request::Picture {
         manifest,
         trace,
@@ -389,42 +388,42 @@ fn named_picture<'a>(matches: &ArgMatches<'a>) -> Option<Request<'a>>
     })
 }
 
-#[tactic(auto, unfolding(crate::specs::Commands::named))]
-fn named<'a>(name: &str, matches: &ArgMatches<'a>) -> Option<Request<'a>>
-    ensures { option_map ask_of result ≡ named name.now (rows_of (found_of matches.now)) }
+#[tactic(auto, unfolding(crate::specs::Commands::ask_in))]
+fn request_in<'a>(name: &str, matches: &ArgMatches<'a>) -> Option<Request<'a>>
+    ensures { option_map ask_of result ≡ ask_in name.now (rows_of (found_of matches.now)) }
 {
     if name == "run" {
-        named_run(matches)
+        run_in(matches)
     } else if name == "demo" {
-        named_demo(matches)
+        demo_in(matches)
     } else if name == "compare" {
-        named_compare(matches)
+        compare_in(matches)
     } else if name == "check" {
-        named_check(matches)
+        check_in(matches)
     } else if name == "layout" {
-        named_layout(matches)
+        layout_in(matches)
     } else if name == "descriptor" {
-        named_descriptor(matches)
+        descriptor_in(matches)
     } else if name == "generate" {
-        named_generate(matches)
+        generate_in(matches)
     } else if name == "picture" {
-        named_picture(matches)
+        picture_in(matches)
     } else {
         None
     }
 }
 
 /// What the matches of the program's command line name, however often that reads standard input.
-pub(crate) fn named_by<'a>(matches: &ArgMatches<'a>) -> Option<Request<'a>>
-    ensures { option_map ask_of result ≡ named_in (subcommand_rows_of matches.now) }
+pub(crate) fn request_of<'a>(matches: &ArgMatches<'a>) -> Option<Request<'a>>
+    ensures { option_map ask_of result ≡ ask_met (subcommand_rows_of matches.now) }
 {
     let (name, inner) = matches.subcommand()?;
-    named(name, inner)
+    request_in(name, inner)
 }
 
-/// What the matches of the program's command line ask for.
-pub(crate) fn asked_by<'a>(matches: &ArgMatches<'a>) -> Option<Request<'a>>
+/// What the matches of the program's command line ask for, where that reads standard input once at most.
+pub(crate) fn fit_request_of<'a>(matches: &ArgMatches<'a>) -> Option<Request<'a>>
     ensures { option_map ask_of result ≡ asked_in (subcommand_rows_of matches.now) }
 {
-    named_by(matches).filter(|request| request.reads_once())
+    request_of(matches).filter(|request| request.reads_once())
 }

@@ -26,27 +26,30 @@ pub fn request<'a>(alloc: Global, words: &'a [&'a str]) -> Result<Request<'a>, E
     ensures refused { IfErr result (IsRefusedFor (map (λ w. w.now) words.entry.now)) }
 {
     let mut command = program::program(alloc)?;
-    found(&mut command, words)
+    match_words(&mut command, words)
 }
 
 // What the words of the program's command ask for.
-fn found<'a>(command: &mut Command<'a>, words: &'a [&'a str]) -> Result<Request<'a>, Error>
+fn match_words<'a>(command: &mut Command<'a>, words: &'a [&'a str]) -> Result<Request<'a>, Error>
     ensures asked { app_of command.old ≡ program
         → IfOk result (λ r. asked_by (map (λ w. w.now) words.entry.now) ≡ Some (ask_of r)) }
     ensures refused { app_of command.old ≡ program → IfErr result (IsRefusedFor (map (λ w. w.now) words.entry.now)) }
 {
     match command.try_get_matches_from_mut(words) {
         Err(error) => Err(error),
-        Ok(matches) => asked(command, &matches),
+        Ok(matches) => read_matches(command, &matches),
     }
 }
 
 // What the matches ask for. Where they ask for nothing, an error says so, or want of memory.
-fn asked<'a>(command: &mut Command<'_>, matches: &ArgMatches<'a>) -> Result<Request<'a>, Error>
+fn read_matches<'a>(
+    command: &mut Command<'_>,
+    matches: &ArgMatches<'a>,
+) -> Result<Request<'a>, Error>
     ensures asked { IfOk result (λ r. asked_in (subcommand_rows_of matches.now) ≡ Some (ask_of r)) }
     ensures nothing { OnErr result (asked_in (subcommand_rows_of matches.now) ≡ None) }
 {
-    match command_line::asked_by(matches) {
+    match command_line::fit_request_of(matches) {
         Some(request) => Ok(request),
         None => Err(refusal(command, matches)?),
     }
@@ -55,7 +58,7 @@ fn asked<'a>(command: &mut Command<'_>, matches: &ArgMatches<'a>) -> Result<Requ
 // What is wrong with words in which `clap` finds no fault, and which ask for nothing.
 fn refusal(command: &mut Command<'_>, matches: &ArgMatches<'_>) -> Result<Error, AllocError> {
     let twice = "'-' stands for standard input, which can be given once only";
-    match command_line::named_by(matches) {
+    match command_line::request_of(matches) {
         Some(_) => command.error(ErrorKind::ArgumentConflict, twice),
         None => command.error(ErrorKind::MissingSubcommand, "no command was given"),
     }

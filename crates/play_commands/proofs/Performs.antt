@@ -33,10 +33,6 @@ unread request needs ran quiet Write accepted = record { done = tt; opened = tt;
 unread request needs ran quiet NoMemory any = record { done = tt; opened = tt; failed = tt; read = tt }
 unread request needs ran quiet other never = absurd never
 
--- a file that can't be read
-pub unopened : (request : Request) (ran : Ran) (path : Bor (List ℕ)) → Does request ran (Err (Read path))
-unopened request ran path = record { done = tt; opened = tt; failed = tt; read = tt }
-
 pub unplayed : (request : Request) → needs_manifest request ≡ true → needs_trace request ≡ false → (ran : Ran) (result : Result (Unit {0}) Failure) → OnOk result (IsDone request ran)
     → IfErr result (FailsUnplayed ran.manifest ran.streams.held ran.streams.holds) → Does request ran result
 unplayed request needs untraced ran (Ok x) done fails = record { done = done; opened = λ needed. absurd cc; failed = tt; read = tt }

@@ -8,9 +8,9 @@ mod generating;
 mod playing;
 mod running;
 
-use generating::generate_trace;
+use generating::{Making, generate_trace};
 use play_arguments::Request;
-use play_report::{Failure, accept, describe, lay_out, more_of, tell, tell_more};
+use play_report::{Failure, Notes, accept, describe, lay_out, tell, tell_more};
 use running::{Comparison, Drawing, Printing, compare, demo, draw, run};
 use std::alloc::{Allocator, Global};
 use std::io::{ErrorKind, Read, Write};
@@ -59,17 +59,13 @@ pub fn perform<A: Allocator + Copy, R: Read + Drop, W: Write, E: Write>(
     ensures quiet { result ≡ 0 → Keeps (E.contents err.old) (E.contents err.new) }
     ensures status { (result ≤ 5) ⊎ (result ≡ 64) }
 {
-    let (manifest, reason) = (files.manifest, files.reason);
-    let mut told = Vec::new(alloc);
-    match do_request(manifests, alloc, request, files, out, &mut told) {
+    let reason = files.reason;
+    let mut notes = Notes::new(alloc, request.is_verbose());
+    match do_request(manifests, alloc, request, files, out, &mut notes) {
         Ok(()) => 0,
         Err(failure) => {
-            let verbose = request.is_verbose();
-            let Ok(more) = more_of(manifests, verbose, &failure, manifest, reason) else {
-                return tell(err, &Failure::NoMemory, &[]);
-            };
-            let status = tell(err, &failure, &told);
-            tell_more(err, &more);
+            let status = tell(err, &failure, &notes.guard);
+            tell_more(err, &notes.more_of(&failure, reason));
             status
         }
     }
@@ -83,14 +79,14 @@ fn do_request<'a, A: Allocator + Copy, R: Read + Drop, W: Write>(
     request: &Request<'a>,
     files: Files<'_, R>,
     out: &mut W,
-    told: &mut Vec<u8, A>,
+    notes: &mut Notes<A>,
 ) -> Result<(), Failure<'a>>
     ensures done { OnOk result (IsDone request.now (ran R.remaining files.entry W.contents out.old out.new)) }
     ensures opened { OnOk result (needs_trace request.now ≡ true → is_some files.entry.trace ≡ true) }
     ensures failed { IfErr result (FailsFor request.now (ran R.remaining files.entry W.contents out.old out.new)) }
     ensures read { IfErr result (IsRead (is_some files.entry.trace)) }
 {
-    let done = do_command(manifests, alloc, request, files, out, told);
+    let done = do_command(manifests, alloc, request, files, out, notes);
     let flushed = out.flush();
     match done {
         Ok(()) | Err(Failure::BadLine(..) | Failure::Differs | Failure::Unmet(_))
@@ -105,7 +101,7 @@ fn do_command<'a, A: Allocator + Copy, R: Read + Drop, W: Write>(
     request: &Request<'a>,
     files: Files<'_, R>,
     out: &mut W,
-    told: &mut Vec<u8, A>,
+    notes: &mut Notes<A>,
 ) -> Result<(), Failure<'a>>
     ensures { Does request.now (ran R.remaining files.entry W.contents out.old out.new) result }
 {
@@ -125,7 +121,7 @@ fn do_command<'a, A: Allocator + Copy, R: Read + Drop, W: Write>(
                 strict,
                 verbose,
             };
-            run(manifests, alloc, path, how, files, out, told)
+            run(manifests, alloc, path, how, files, out, notes)
         }
         Request::Demo {
             trace,
@@ -141,7 +137,7 @@ fn do_command<'a, A: Allocator + Copy, R: Read + Drop, W: Write>(
                 strict,
                 verbose,
             };
-            demo(alloc, how, files, out, told)
+            demo(alloc, how, files, out, notes)
         }
         Request::Compare {
             manifest: path,
@@ -158,10 +154,22 @@ fn do_command<'a, A: Allocator + Copy, R: Read + Drop, W: Write>(
                 explain,
                 verbose,
             };
-            compare(manifests, alloc, path, how, files, out, told)
+            compare(manifests, alloc, path, how, files, out, notes)
         }
-        Request::Check { manifest: path, .. } => accept(manifests, path, files.manifest, out),
-        Request::Layout { manifest: path, .. } => lay_out(manifests, path, files.manifest, out),
+        Request::Check { manifest: path, .. } => accept(
+            manifests,
+            path,
+            files.manifest,
+            out,
+            notes,
+        ),
+        Request::Layout { manifest: path, .. } => lay_out(
+            manifests,
+            path,
+            files.manifest,
+            out,
+            notes,
+        ),
         Request::Descriptor { words } => describe(alloc, &words, out),
         Request::Generate {
             manifest: path,
@@ -169,16 +177,10 @@ fn do_command<'a, A: Allocator + Copy, R: Read + Drop, W: Write>(
             lines,
             count,
             verbose: _,
-        } => generate_trace(
-            manifests,
-            alloc,
-            path,
-            files.manifest,
-            seed,
-            lines,
-            count,
-            out,
-        ),
+        } => {
+            let how = Making { seed, lines, count };
+            generate_trace(manifests, alloc, path, files.manifest, how, out, notes)
+        }
         Request::Picture {
             manifest: path,
             trace,
@@ -190,7 +192,7 @@ fn do_command<'a, A: Allocator + Copy, R: Read + Drop, W: Write>(
                 every,
                 verbose,
             };
-            draw(manifests, alloc, path, how, files, out, told)
+            draw(manifests, alloc, path, how, files, out, notes)
         }
     }
 }

@@ -53,11 +53,17 @@ page_count_of word = option_and_then (below (2 ^ 32)) (number_of word)
 
 -- the address of a page, below 2 ^ 32
 unfoldable pub tx_of : List ℕ → Option Address
-tx_of word = option_and_then (λ n. if nat_lt n (2 ^ 32) && (n % 4096 == 0) then Some (record { 0 = n }) else None) (number_of word)
+tx_of word =
+    option_and_then
+    (λ n. if nat_lt n (2 ^ 32) && (n % 4096 == 0) then Some (record { 0 = n }) else None)
+    (number_of word)
 
 -- `ADDRESS+PAGES`
 abbrev pub range_in : List ℕ × Option (List ℕ) → Option Range
-range_in (first, Some second) = option_and_then (λ a. option_map (λ n. record { address = a; pages = n }) (page_count_of second)) (number_of first)
+range_in (first, Some second) =
+    option_and_then
+    (λ address. option_map (λ pages. record { address = address; pages = pages }) (page_count_of second))
+    (number_of first)
 range_in (first, None) = None
 
 unfoldable pub range_of : List ℕ → Option Range
@@ -94,7 +100,10 @@ right_of word =
 -- `ENDPOINT` or `ENDPOINT:RIGHT`, of a send
 abbrev pub receiver_in : List ℕ × Option (List ℕ) → Option Receiver
 receiver_in (first, None) = option_map (λ e. record { endpoint = e; grant = None }) (identifier_of first)
-receiver_in (first, Some right) = option_and_then (λ e. option_map (λ g. record { endpoint = e; grant = Some g }) (grant_of right)) (identifier_of first)
+receiver_in (first, Some right) =
+    option_and_then
+    (λ endpoint. option_map (λ grant. record { endpoint = endpoint; grant = Some grant }) (grant_of right))
+    (identifier_of first)
 
 unfoldable pub receiver_of : List ℕ → Option Receiver
 receiver_of word = option_and_then receiver_in (one_or_two (slice_split (λ c. c == colon) word))
@@ -102,7 +111,10 @@ receiver_of word = option_and_then receiver_in (one_or_two (slice_split (λ c. c
 -- the same of a retrieve
 abbrev pub asker_in : List ℕ × Option (List ℕ) → Option Asker
 asker_in (first, None) = option_map (λ e. record { endpoint = e; level = None; exec = false }) (identifier_of first)
-asker_in (first, Some right) = option_and_then (λ e. option_map (λ r. record { endpoint = e; level = r.0; exec = r.1 }) (right_of right)) (identifier_of first)
+asker_in (first, Some right) =
+    option_and_then
+    (λ endpoint. option_map (λ r. record { endpoint = endpoint; level = r.0; exec = r.1 }) (right_of right))
+    (identifier_of first)
 
 unfoldable pub asker_of : List ℕ → Option Asker
 asker_of word = option_and_then asker_in (one_or_two (slice_split (λ c. c == colon) word))

@@ -36,13 +36,13 @@ Exact seen (Err e) read = read ≡ Err e
 -- WORDS
 
 -- a word that has no place
-abbrev pub unused : Word → Bool → Result (Unit {0}) WordsFault
-unused word true = Err (OutOfPlace word)
-unused word false = Ok tt
+abbrev pub refuse : Word → Bool → Result (Unit {0}) WordsFault
+refuse word true = Err (OutOfPlace word)
+refuse word false = Ok tt
 
--- a word that is needed
-abbrev pub needed : Word → Option (List ℕ) → Result (List ℕ) WordsFault
-needed word given = ok_or given (Missing word)
+-- a word that has to be given
+abbrev pub require : Word → Option (List ℕ) → Result (List ℕ) WordsFault
+require word given = ok_or given (Missing word)
 
 -- a word that has to be read where it is given, and what stands for it where it isn't
 abbrev pub read_or : {A : Type 0} → A → (List ℕ → Option A) → Word → Option (List ℕ) → Result A WordsFault
@@ -98,11 +98,11 @@ version_in d = if d.compact then Compact else V1_1
 -- a donate, a lend or a share
 unfoldable pub send_told : Kind → Described → Result Told WordsFault
 send_told kind d = do
-  no_handle ← unused words.Handle (is_some d.handle)
-  no_of ← unused words.Of (is_some d.of)
-  from ← needed words.From d.from
-  to ← needed words.To d.to
-  pages ← needed words.Pages d.pages
+  no_handle ← refuse words.Handle (is_some d.handle)
+  no_of ← refuse words.Of (is_some d.of)
+  from ← require words.From d.from
+  to ← require words.To d.to
+  pages ← require words.Pages d.pages
   tx ← tx_in d
   sender ← sender_in from
   receivers ← receivers_in to
@@ -110,17 +110,23 @@ send_told kind d = do
   tag ← tag_in d
   Ok (record {
     version = version_in d;
-    descriptor = Send kind (record { sender = sender; zero = d.zero; tag = tag; receivers = record { items = receivers }; ranges = record { items = ranges } });
+    descriptor = Send kind (record {
+      sender = sender;
+      zero = d.zero;
+      tag = tag;
+      receivers = record { items = receivers };
+      ranges = record { items = ranges };
+    });
     tx = tx;
   })
 
 unfoldable pub retrieve_told : Described → Result Told WordsFault
 retrieve_told d = do
-  no_pages ← unused words.Pages (is_some d.pages)
-  no_zero ← unused words.Zero d.zero
-  from ← needed words.From d.from
-  to ← needed words.To d.to
-  handle_word ← needed words.Handle d.handle
+  no_pages ← refuse words.Pages (is_some d.pages)
+  no_zero ← refuse words.Zero d.zero
+  from ← require words.From d.from
+  to ← require words.To d.to
+  handle_word ← require words.Handle d.handle
   tx ← tx_in d
   sender ← sender_in from
   asker ← asker_in to
@@ -129,18 +135,25 @@ retrieve_told d = do
   kind ← of_in d
   Ok (record {
     version = version_in d;
-    descriptor = Retrieve (record { sender = sender; handle = handle; tag = tag; kind = kind; level = asker.level; exec = asker.exec }) asker.endpoint;
+    descriptor = Retrieve (record {
+      sender = sender;
+      handle = handle;
+      tag = tag;
+      kind = kind;
+      level = asker.level;
+      exec = asker.exec;
+    }) asker.endpoint;
     tx = tx;
   })
 
 unfoldable pub relinquish_told : Described → Result Told WordsFault
 relinquish_told d = do
-  no_from ← unused words.From (is_some d.from)
-  no_pages ← unused words.Pages (is_some d.pages)
-  no_tag ← unused words.Tag (is_some d.tag)
-  no_of ← unused words.Of (is_some d.of)
-  to ← needed words.To d.to
-  handle_word ← needed words.Handle d.handle
+  no_from ← refuse words.From (is_some d.from)
+  no_pages ← refuse words.Pages (is_some d.pages)
+  no_tag ← refuse words.Tag (is_some d.tag)
+  no_of ← refuse words.Of (is_some d.of)
+  to ← require words.To d.to
+  handle_word ← require words.Handle d.handle
   tx ← tx_in d
   endpoint ← endpoint_in to
   handle ← handle_in handle_word

@@ -2,7 +2,7 @@
 //! What the words of a descriptor say.
 ghost use Rattle.std.specs.Prelude.{◌≡◌, ◌%◌, IfOk, option_map, is_some};
 ghost use Rattle.play_arguments.specs.Commands.{words_of};
-ghost use Rattle.play_descriptor.specs.Told.{Exact, asker_in, at_most, endpoint_in, handle_in, needed, of_in, ranges_in, receivers_in, relinquish_told, retrieve_told, send_told, sender_in, tag_in, told, tx_in, unused, version_in};
+ghost use Rattle.play_descriptor.specs.Told.{Exact, asker_in, at_most, endpoint_in, handle_in, require, of_in, ranges_in, receivers_in, relinquish_told, retrieve_told, send_told, sender_in, tag_in, told, tx_in, refuse, version_in};
 
 use crate::fault::{Word, WordsFault};
 use crate::members::{
@@ -52,11 +52,11 @@ fn send(kind: Kind, words: &DescriptorWords<'_>) -> Result<Told, WordsFault>
     ensures told { result ≡ send_told kind (words_of words.now) }
     ensures aligned { IfOk result (λ t. t.tx.0 % 4096 ≡ 0) }
 {
-    unused(Word::Handle, words.handle.is_some())?;
-    unused(Word::Of, words.of.is_some())?;
-    let from = needed(Word::From, words.from)?;
-    let to = needed(Word::To, words.to)?;
-    let pages = needed(Word::Pages, words.pages)?;
+    refuse(Word::Handle, words.handle.is_some())?;
+    refuse(Word::Of, words.of.is_some())?;
+    let from = require(Word::From, words.from)?;
+    let to = require(Word::To, words.to)?;
+    let pages = require(Word::Pages, words.pages)?;
     let tx = tx_in(words)?;
     let desc = SendDesc {
         sender: sender_in(from)?,
@@ -77,11 +77,11 @@ fn retrieve(words: &DescriptorWords<'_>) -> Result<Told, WordsFault>
     ensures told { result ≡ retrieve_told (words_of words.now) }
     ensures aligned { IfOk result (λ t. t.tx.0 % 4096 ≡ 0) }
 {
-    unused(Word::Pages, words.pages.is_some())?;
-    unused(Word::Zero, words.zero)?;
-    let from = needed(Word::From, words.from)?;
-    let to = needed(Word::To, words.to)?;
-    let handle = needed(Word::Handle, words.handle)?;
+    refuse(Word::Pages, words.pages.is_some())?;
+    refuse(Word::Zero, words.zero)?;
+    let from = require(Word::From, words.from)?;
+    let to = require(Word::To, words.to)?;
+    let handle = require(Word::Handle, words.handle)?;
     let tx = tx_in(words)?;
     let sender = sender_in(from)?;
     let asker = asker_in(to)?;
@@ -108,12 +108,12 @@ fn relinquish(words: &DescriptorWords<'_>) -> Result<Told, WordsFault>
     ensures told { result ≡ relinquish_told (words_of words.now) }
     ensures aligned { IfOk result (λ t. t.tx.0 % 4096 ≡ 0) }
 {
-    unused(Word::From, words.from.is_some())?;
-    unused(Word::Pages, words.pages.is_some())?;
-    unused(Word::Tag, words.tag.is_some())?;
-    unused(Word::Of, words.of.is_some())?;
-    let to = needed(Word::To, words.to)?;
-    let handle = needed(Word::Handle, words.handle)?;
+    refuse(Word::From, words.from.is_some())?;
+    refuse(Word::Pages, words.pages.is_some())?;
+    refuse(Word::Tag, words.tag.is_some())?;
+    refuse(Word::Of, words.of.is_some())?;
+    let to = require(Word::To, words.to)?;
+    let handle = require(Word::Handle, words.handle)?;
     let tx = tx_in(words)?;
     let endpoint = endpoint_in(to)?;
     let desc = RelinquishDesc {
@@ -128,8 +128,8 @@ fn relinquish(words: &DescriptorWords<'_>) -> Result<Told, WordsFault>
     })
 }
 
-fn unused(word: Word, is_given: bool) -> Result<(), WordsFault>
-    ensures { result ≡ unused word is_given }
+fn refuse(word: Word, is_given: bool) -> Result<(), WordsFault>
+    ensures { result ≡ refuse word is_given }
 {
     if is_given {
         Err(WordsFault::OutOfPlace(word))
@@ -138,8 +138,8 @@ fn unused(word: Word, is_given: bool) -> Result<(), WordsFault>
     }
 }
 
-fn needed<'a>(word: Word, given: Option<&'a str>) -> Result<&'a str, WordsFault>
-    ensures { Exact (λ s. s.now) result (needed word (option_map (λ s. s.now) given.entry)) }
+fn require<'a>(word: Word, given: Option<&'a str>) -> Result<&'a str, WordsFault>
+    ensures { Exact (λ s. s.now) result (require word (option_map (λ s. s.now) given.entry)) }
 {
     given.ok_or(WordsFault::Missing(word))
 }

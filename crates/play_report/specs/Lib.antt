@@ -3,3 +3,4 @@ pub mod Descriptors
 pub mod Failures
 pub mod Layouts
 pub mod Manifests
+pub mod Noted

@@ -32,6 +32,12 @@ IsAccepted manifest = (parts : Parts) × Describes manifest parts
 abbrev pub SomeCause : Option (List ℕ) → Type 0
 SomeCause manifest = (cause : ManifestError) × IsRefused manifest cause
 
+-- a text is refused for its own cause, or there is no memory
+abbrev pub FailsToRead : (text : List ℕ) → Failure → Type 0
+FailsToRead text (failure.Manifest cause) = machine_of text ≡ Err cause
+FailsToRead text failure.NoMemory = ⊤
+FailsToRead text other = ⊥
+
 -- it was written that the manifest is accepted, which it is
 abbrev pub IsChecked : (manifest held holds : Option (List ℕ)) → Type 0
 IsChecked manifest held holds = (parts : Parts) × Describes manifest parts × Appends held holds (ended (codes "accepted"))

@@ -2,7 +2,7 @@
 use Rattle.play_arguments.proofs.request.Goals as goal
 
 pub returns-clause-asked : goal.returns-clause-asked
-returns-clause-asked c = c.found.ensures.asked c.in_ok-command.ensures
+returns-clause-asked c = c.match_words.ensures.asked c.in_ok-command.ensures
 
 pub returns-clause-refused : goal.returns-clause-refused
-returns-clause-refused c = c.found.ensures.refused c.in_ok-command.ensures
+returns-clause-refused c = c.match_words.ensures.refused c.in_ok-command.ensures

@@ -8,9 +8,20 @@ ghost use Rattle.play_commands.specs.Performed.{IsMade};
 
 use ffa_model::Manifest;
 use play_generator::{Counts, GenerateError, generate};
-use play_report::{Failure, print_counts, read_manifest};
+use play_report::{Failure, Notes, print_counts, read_manifest};
 use std::alloc::{Allocator, Global};
 use std::io::{self, Write};
+
+/// Which trace is made up.
+#[derive(Clone, Copy)]
+pub(super) struct Making {
+    /// What it is drawn from.
+    pub(super) seed: u64,
+    /// How many lines it has.
+    pub(super) lines: u64,
+    /// Its calls and accesses are counted, and it isn't printed.
+    pub(super) count: bool,
+}
 
 /// Prints a trace of so many lines for the machine of a manifest, or, where that is asked for, how often each of its
 /// calls and accesses ended in which way.
@@ -19,20 +30,19 @@ pub(super) fn generate_trace<'a, A: Allocator + Copy, W: Write>(
     alloc: A,
     path: &'a str,
     manifest: Option<&[u8]>,
-    seed: u64,
-    lines: u64,
-    count: bool,
+    how: Making,
     out: &mut W,
+    notes: &mut Notes<A>,
 ) -> Result<(), Failure<'a>>
     ensures done { let given = bytes_of manifest.entry in
-        OnOk result (IsMade lines count given (W.contents out.old) (W.contents out.new)) }
+        OnOk result (IsMade how.lines how.count given (W.contents out.old) (W.contents out.new)) }
     ensures failed { IfErr result (FailsUnplayed (bytes_of manifest.entry) (W.contents out.old) (W.contents out.new)) }
 {
-    let manifest = read_manifest(manifests, path, manifest)?;
-    if count {
-        print_outcomes(alloc, &manifest, seed, lines, out)
+    let manifest = read_manifest(manifests, path, manifest, notes)?;
+    if how.count {
+        print_outcomes(alloc, &manifest, how.seed, how.lines, out)
     } else {
-        match write_trace(alloc, &manifest, seed, lines, out) {
+        match write_trace(alloc, &manifest, how.seed, how.lines, out) {
             Ok(_) => Ok(()),
             Err(failure) => Err(failure),
         }

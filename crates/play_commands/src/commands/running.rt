@@ -9,7 +9,7 @@ use super::playing::Play;
 use ffa_model::built_in;
 use play_arguments::{MachineOptions, TextOptions};
 use play_drawing::Keep;
-use play_report::{Failure, read_manifest};
+use play_report::{Failure, Notes, read_manifest};
 use play_tasks::{Task, Trace};
 use std::alloc::{Allocator, Global};
 use std::io::{Read, Write};
@@ -67,7 +67,7 @@ pub(super) fn run<'a, A: Allocator + Copy, R: Read + Drop, W: Write>(
     how: Printing<'a>,
     files: Files<'_, R>,
     out: &mut W,
-    told: &mut Vec<u8, A>,
+    notes: &mut Notes<A>,
 ) -> Result<(), Failure<'a>>
     ensures { Does (run_of path.entry how.entry) (ran R.remaining files.entry W.contents out.old out.new) result }
 {
@@ -76,7 +76,7 @@ pub(super) fn run<'a, A: Allocator + Copy, R: Read + Drop, W: Write>(
         trace,
         ..
     } = files;
-    let manifest = read_manifest(manifests, path, manifest)?;
+    let manifest = read_manifest(manifests, path, manifest, notes)?;
     let trace = open(how.trace, trace)?;
     let task = Task::to_print(how.text, how.strict, how.verbose);
     let machine = how.machine;
@@ -86,7 +86,7 @@ pub(super) fn run<'a, A: Allocator + Copy, R: Read + Drop, W: Write>(
         task,
         trace,
     };
-    play.run(&manifest, out, told)
+    play.run(&manifest, out, &mut notes.guard)
 }
 
 /// Plays a trace on the built-in machine, and prints its text.
@@ -95,7 +95,7 @@ pub(super) fn demo<'a, A: Allocator + Copy, R: Read + Drop, W: Write>(
     how: Printing<'a>,
     files: Files<'_, R>,
     out: &mut W,
-    told: &mut Vec<u8, A>,
+    notes: &mut Notes<A>,
 ) -> Result<(), Failure<'a>>
     ensures { Does (demo_of how.entry) (ran R.remaining files.entry W.contents out.old out.new) result }
 {
@@ -109,7 +109,7 @@ pub(super) fn demo<'a, A: Allocator + Copy, R: Read + Drop, W: Write>(
         task,
         trace,
     };
-    play.run(&built_in(), out, told)
+    play.run(&built_in(), out, &mut notes.guard)
 }
 
 /// Compares what a trace prints on the machine of the manifest at this path with a text that is expected.
@@ -120,7 +120,7 @@ pub(super) fn compare<'a, A: Allocator + Copy, R: Read + Drop, W: Write>(
     how: Comparison<'a>,
     files: Files<'_, R>,
     out: &mut W,
-    told: &mut Vec<u8, A>,
+    notes: &mut Notes<A>,
 ) -> Result<(), Failure<'a>>
     ensures { Does (compare_of path.entry how.entry) (ran R.remaining files.entry W.contents out.old out.new) result }
 {
@@ -130,7 +130,7 @@ pub(super) fn compare<'a, A: Allocator + Copy, R: Read + Drop, W: Write>(
         expected,
         ..
     } = files;
-    let manifest = read_manifest(manifests, path, manifest)?;
+    let manifest = read_manifest(manifests, path, manifest, notes)?;
     let trace = open(how.trace, trace)?;
     let Some(expected) = expected else {
         return Err(Failure::Read(how.expected));
@@ -143,7 +143,7 @@ pub(super) fn compare<'a, A: Allocator + Copy, R: Read + Drop, W: Write>(
         task,
         trace,
     };
-    play.run(&manifest, out, told)
+    play.run(&manifest, out, &mut notes.guard)
 }
 
 /// Plays a trace on the machine of the manifest at this path, and prints its picture.
@@ -154,7 +154,7 @@ pub(super) fn draw<'a, A: Allocator + Copy, R: Read + Drop, W: Write>(
     how: Drawing<'a>,
     files: Files<'_, R>,
     out: &mut W,
-    told: &mut Vec<u8, A>,
+    notes: &mut Notes<A>,
 ) -> Result<(), Failure<'a>>
     ensures { Does (picture_of path.entry how.entry) (ran R.remaining files.entry W.contents out.old out.new) result }
 {
@@ -163,7 +163,7 @@ pub(super) fn draw<'a, A: Allocator + Copy, R: Read + Drop, W: Write>(
         trace,
         ..
     } = files;
-    let manifest = read_manifest(manifests, path, manifest)?;
+    let manifest = read_manifest(manifests, path, manifest, notes)?;
     let trace = open(how.trace, trace)?;
     let play = Play {
         alloc,
@@ -171,7 +171,7 @@ pub(super) fn draw<'a, A: Allocator + Copy, R: Read + Drop, W: Write>(
         task: Task::Drawn(Keep::every(how.every)),
         trace,
     };
-    play.run(&manifest, out, told)
+    play.run(&manifest, out, &mut notes.guard)
 }
 
 // The trace at this path, with what reads it, if it could be opened.

@@ -6,8 +6,8 @@ use Rattle.play_commands.proofs.commands.perform.Goals as goal
 pub returns-in-Ok-clause-quiet : goal.returns-in-Ok-clause-quiet
 returns-in-Ok-clause-quiet g c = λ done. kept (g.E.Write.contents c.args.err.now)
 
-pub returns-clause-bad : goal.returns-clause-bad
-returns-clause-bad g c = told_bad _ _ c.in-Err.failure c.tell-status.result c.tell-status.ensures c.in-Err.ensures.failed c.in-Err.ensures.read
+pub returns-in-Err-clause-bad : goal.returns-in-Err-clause-bad
+returns-in-Err-clause-bad g c = told_bad _ _ c.in-Err.failure c.tell-status.result c.tell-status.ensures c.in-Err.ensures.failed c.in-Err.ensures.read
 
-pub returns-clause-unmet : goal.returns-clause-unmet
-returns-clause-unmet g c = told_unmet _ _ c.in-Err.failure c.tell-status.result c.tell-status.ensures c.in-Err.ensures.failed c.in-Err.ensures.read
+pub returns-in-Err-clause-unmet : goal.returns-in-Err-clause-unmet
+returns-in-Err-clause-unmet g c = told_unmet _ _ c.in-Err.failure c.tell-status.result c.tell-status.ensures c.in-Err.ensures.failed c.in-Err.ensures.read

@@ -6,7 +6,7 @@ use Rattle.play_report.specs.Manifests.{bytes_of}
 use Rattle.play_tasks.proofs.Plays.{kept, passed}
 use Rattle.play_commands.specs.Performed.{ran}
 use Rattle.play_commands.specs.Running.{run_of}
-use Rattle.play_commands.proofs.Performs.{run_does, unopened, unread}
+use Rattle.play_commands.proofs.Performs.{run_does, unread}
 use Rattle.play_commands.proofs.commands.running.run.Goals as goal
 
 pub returns-in_err-manifest : goal.returns-in_err-manifest

@@ -1,0 +1,76 @@
+// SPDX-License-Identifier: MIT OR Apache-2.0
+//! What is noted while a command is done, for what is told where it isn't.
+ghost use Rattle.std.specs.Prelude.{◌≡◌, is_some, true};
+
+use crate::failure::Failure;
+use ffa_manifest::{ManifestError, ManifestRefusal};
+use play_reasons::LineFault;
+use std::alloc::Allocator;
+use std::fmt::{self, Display};
+use std::io::ErrorKind;
+use std::str::Utf8Error;
+
+/// What more there is to say of why a command isn't done. It prints as one line.
+#[derive(Drop)]
+pub enum More {
+    /// Where the manifest is refused.
+    Place(ManifestRefusal),
+    /// Where the manifest is no text.
+    Bytes(Utf8Error),
+    /// What is wrong with the line.
+    Line(LineFault),
+    /// Why the file can't be read.
+    File(ErrorKind),
+}
+
+impl Display for More {
+    fn fmt<W: fmt::Write>(&self, f: &mut fmt::Formatter<W>) -> fmt::Result {
+        match self {
+            More::Place(refusal) => write!(f, "{refusal}"),
+            More::Bytes(error) => write!(f, "{error}"),
+            More::Line(fault) => write!(f, "{fault}"),
+            More::File(reason) => write!(f, "{reason}"),
+        }
+    }
+}
+
+/// What is noted while a command is done.
+#[derive(Drop)]
+pub struct Notes<A: Allocator> {
+    /// More is asked for than why a command isn't done.
+    pub verbose: bool,
+    /// What more there is to say of the manifest.
+    pub manifest: Option<More>,
+    /// Where a guard isn't met, what it wants and what there was: a line.
+    pub guard: Vec<u8, A>,
+}
+
+impl<A: Allocator> Notes<A> {
+    /// Nothing yet.
+    pub fn new(alloc: A, verbose: bool) -> Notes<A>
+        ensures { result.verbose ≡ verbose }
+    {
+        Notes {
+            verbose,
+            manifest: None,
+            guard: Vec::new(alloc),
+        }
+    }
+
+    /// What more there is to say of why a command isn't done, where that is asked for: where a manifest or a line is
+    /// refused, and why a file can't be read.
+    pub fn more_of(self, failure: &Failure<'_>, reason: Option<ErrorKind>) -> Option<More>
+        ensures { (cause : ManifestError) → self.verbose ≡ true → failure.now ≡ Failure.Manifest cause
+            → is_some self.manifest ≡ true → is_some result ≡ true }
+    {
+        if !self.verbose {
+            return None;
+        }
+        match (failure, reason) {
+            (Failure::Manifest(_), _) => self.manifest,
+            (Failure::BadLine(_, Some(fault)), _) => Some(More::Line(*fault)),
+            (Failure::Read(_), Some(reason)) => Some(More::File(reason)),
+            _ => None,
+        }
+    }
+}
