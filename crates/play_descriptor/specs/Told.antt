@@ -13,7 +13,7 @@ use Rattle.ffa_model.specs.declared.limits.TheConstants.{MOST_RANGES, MOST_RECEI
 use Rattle.ffa_model.specs.declared.rights.Kind.{Kind}
 use Rattle.ffa_model.specs.declared.transaction.Range.{Range}
 use Rattle.ffa_model.specs.declared.transaction.Receiver.{Receiver}
-use Rattle.play_writer.specs.declared.descriptor.Descriptor.TheVariants.{Send, Retrieve, Relinquish}
+use Rattle.play_writer.specs.declared.descriptor.DescriptorContents.TheVariants.{Send, Retrieve, Relinquish}
 use Rattle.play_descriptor.specs.Members.{asker_of, each, identifier_of, kind_of, members_of, range_of, receiver_of, tx_of}
 use Rattle.play_descriptor.specs.declared.fault.Word.{Word}
 use Rattle.play_descriptor.specs.declared.fault.Word.TheVariants as words

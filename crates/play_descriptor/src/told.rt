@@ -15,13 +15,13 @@ use ffa_model::{
     RetrieveDesc, SendDesc, Version,
 };
 use play_arguments::DescriptorWords;
-use play_writer::Descriptor;
+use play_writer::DescriptorContents;
 
 /// What words say: a descriptor, its form, and where TX stands.
 #[derive(Drop)]
 pub struct Told {
     pub version: Version,
-    pub descriptor: Descriptor,
+    pub descriptor: DescriptorContents,
     /// A multiple of 4096.
     pub tx: Address,
 }
@@ -67,7 +67,7 @@ fn send(kind: Kind, words: &DescriptorWords<'_>) -> Result<Told, WordsFault>
     };
     Ok(Told {
         version: version_in(words),
-        descriptor: Descriptor::Send { kind, desc },
+        descriptor: DescriptorContents::Send { kind, desc },
         tx,
     })
 }
@@ -95,7 +95,7 @@ fn retrieve(words: &DescriptorWords<'_>) -> Result<Told, WordsFault>
     };
     Ok(Told {
         version: version_in(words),
-        descriptor: Descriptor::Retrieve {
+        descriptor: DescriptorContents::Retrieve {
             desc,
             receiver: asker.endpoint,
         },
@@ -123,7 +123,7 @@ fn relinquish(words: &DescriptorWords<'_>) -> Result<Told, WordsFault>
     };
     Ok(Told {
         version: version_in(words),
-        descriptor: Descriptor::Relinquish(desc),
+        descriptor: DescriptorContents::Relinquish(desc),
         tx,
     })
 }

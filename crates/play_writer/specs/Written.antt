@@ -13,20 +13,20 @@ use Rattle.ffa_model.specs.SendDescriptor.{Send as IsSend, send_record}
 use Rattle.play_syntax.specs.TraceLines.{joined}
 use Rattle.play_writer.specs.declared.unfit.Unfit.{Unfit}
 use Rattle.play_writer.specs.Conditions.{conditions, first_broken}
-use Rattle.play_writer.specs.declared.descriptor.Descriptor.{Descriptor}
-use Rattle.play_writer.specs.declared.descriptor.Descriptor.TheVariants.{Send, Retrieve, Relinquish}
+use Rattle.play_writer.specs.declared.descriptor.DescriptorContents.{DescriptorContents}
+use Rattle.play_writer.specs.declared.descriptor.DescriptorContents.TheVariants.{Send, Retrieve, Relinquish}
 use Rattle.play_writer.specs.declared.descriptor.ScriptError.{ScriptError}
 use Rattle.play_writer.specs.declared.descriptor.ScriptError.TheVariants as error
 use Rattle.play_writer.specs.Script.{IsLineOf, Stores}
 
 -- bytes that a caller of this version says this with
-abbrev pub IsDescriptor : Version → Descriptor → List ℕ → Type 0
+abbrev pub IsDescriptor : Version → DescriptorContents → List ℕ → Type 0
 IsDescriptor version (Send kind desc) bytes = IsSend kind (in_version version bytes) (send_record desc)
 IsDescriptor version (Retrieve desc receiver) bytes = IsRetrieve receiver.0 (in_version version bytes) desc
 IsDescriptor version (Relinquish desc) bytes = IsRelinquish bytes desc
 
 -- why there are none
-abbrev pub unfit_of : Descriptor → Option Unfit
+abbrev pub unfit_of : DescriptorContents → Option Unfit
 unfit_of (Send kind desc) = first_broken (conditions kind (send_record desc))
 unfit_of (Retrieve desc receiver) = None
 unfit_of (Relinquish desc) = None
@@ -37,13 +37,13 @@ sends Lend = FFA_MEM_LEND
 sends Donate = FFA_MEM_DONATE
 
 -- the registers of the call with a descriptor of this length in TX
-abbrev pub call_with : Descriptor → ℕ → List ℕ
+abbrev pub call_with : DescriptorContents → ℕ → List ℕ
 call_with (Send kind desc) n = sends kind ∷ n ∷ n ∷ replicate 5 0
 call_with (Retrieve desc receiver) n = FFA_MEM_RETRIEVE_REQ ∷ n ∷ n ∷ replicate 5 0
 call_with (Relinquish desc) n = FFA_MEM_RELINQUISH ∷ replicate 7 0
 
 -- a text grew by lines that store a descriptor's bytes from an address on, and by the line of its call
-pub record GrowsByDescriptor (version : Version) (descriptor : Descriptor) (tx : ℕ) (old new : List ℕ) : Type 0 where
+pub record GrowsByDescriptor (version : Version) (descriptor : DescriptorContents) (tx : ℕ) (old new : List ℕ) : Type 0 where
   pub bytes : List ℕ
   pub stores : List (List ℕ)
   pub call : List ℕ

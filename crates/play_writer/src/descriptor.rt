@@ -22,7 +22,7 @@ use thiserror::Error;
 
 /// A descriptor of a memory transaction, and what it is for (DEN0077A, 5.11 and 16).
 #[derive(Drop)]
-pub enum Descriptor {
+pub enum DescriptorContents {
     /// For FFA_MEM_SHARE, FFA_MEM_LEND or FFA_MEM_DONATE, as the kind says.
     Send {
         kind: Kind,
@@ -54,7 +54,7 @@ pub enum ScriptError {
 pub fn put_descriptor<A: Allocator>(
     text: &mut Vec<u8, A>,
     version: Version,
-    descriptor: &Descriptor,
+    descriptor: &DescriptorContents,
     tx: Address,
 ) -> Result<(), ScriptError>
     requires { tx.0 % 4096 ≡ 0 }
@@ -77,7 +77,7 @@ pub fn put_descriptor<A: Allocator>(
 // Writes a descriptor from the page's first byte on, and answers how many bytes it has.
 fn write_descriptor(
     version: Version,
-    descriptor: &Descriptor,
+    descriptor: &DescriptorContents,
     page: &mut [u8; 4096],
 ) -> Result<u32, Unfit>
     ensures cause { result_err result ≡ unfit_of descriptor.now }
@@ -85,11 +85,11 @@ fn write_descriptor(
     ensures said { IfOk result (λ n. IsDescriptor version descriptor.now (take n page.new)) }
 {
     match descriptor {
-        Descriptor::Send { kind, desc } => write_send(version, *kind, desc, page),
-        Descriptor::Retrieve { desc, receiver } => {
+        DescriptorContents::Send { kind, desc } => write_send(version, *kind, desc, page),
+        DescriptorContents::Retrieve { desc, receiver } => {
             Ok(write_retrieve(version, desc, *receiver, page))
         }
-        Descriptor::Relinquish(desc) => Ok(write_relinquish(desc, page)),
+        DescriptorContents::Relinquish(desc) => Ok(write_relinquish(desc, page)),
     }
 }
 
@@ -104,13 +104,13 @@ fn function_of(kind: Kind) -> u32
 }
 
 // The registers of the call with a descriptor of this length in TX.
-fn call_with(descriptor: &Descriptor, length: u64) -> [u64; 8]
+fn call_with(descriptor: &DescriptorContents, length: u64) -> [u64; 8]
     ensures { result ≡ call_with descriptor.now length }
 {
     let (function, told) = match descriptor {
-        Descriptor::Send { kind, .. } => (function_of(*kind), length),
-        Descriptor::Retrieve { .. } => (FFA_MEM_RETRIEVE_REQ, length),
-        Descriptor::Relinquish(_) => (FFA_MEM_RELINQUISH, 0),
+        DescriptorContents::Send { kind, .. } => (function_of(*kind), length),
+        DescriptorContents::Retrieve { .. } => (FFA_MEM_RETRIEVE_REQ, length),
+        DescriptorContents::Relinquish(_) => (FFA_MEM_RELINQUISH, 0),
     };
     [u64::from(function), told, told, 0, 0, 0, 0, 0]
 }

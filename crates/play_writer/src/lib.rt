@@ -14,7 +14,7 @@ mod send;
 mod stores;
 mod unfit;
 
-pub use descriptor::{Descriptor, ScriptError, put_descriptor};
+pub use descriptor::{DescriptorContents, ScriptError, put_descriptor};
 pub use ffa_model::{RelinquishDesc, RetrieveDesc, SendDesc};
 pub use operation::put_operation;
 pub use relinquish::write_relinquish;
