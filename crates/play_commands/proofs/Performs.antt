@@ -1,6 +1,6 @@
 -- SPDX-License-Identifier: MIT OR Apache-2.0
 -- What a command leaves, from what its parts do.
-use Rattle.std.proofs.Common.{◌≡◌, Bor, Bool, true, false, List, ℕ, Option, None, Some, Result, Ok, Err, inl, inr, refl, arith}
+use Rattle.std.proofs.Common.{◌≡◌, Bor, true, false, List, ℕ, Option, None, Some, Result, Ok, Err, inl, inr, refl, arith}
 use Rattle.std.specs.Prelude.{IfErr, OnOk}
 use Rattle.ffa_manifest.specs.Document.{Parts}
 use Rattle.play_drawing.specs.declared.row.Keep.{Keep}
