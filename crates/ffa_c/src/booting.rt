@@ -238,7 +238,7 @@ fn boot_heap(alloc: Global, machine: &mut CMachine, manifest: &Manifest) -> u32
     ensures booted { result ≡ 0 → HasBooted (λ p. p ≡ parts_of manifest.now) false machine.new.held.value }
     ensures refused { result ≢ 0 → (result ≡ NO_MEMORY) × (machine.new ≡ machine.old) }
 {
-    match boxed(alloc, manifest) {
+    match box_seat(alloc, manifest) {
         Ok(seat) => {
             put(machine, seat);
             OK
@@ -249,7 +249,7 @@ fn boot_heap(alloc: Global, machine: &mut CMachine, manifest: &Manifest) -> u32
 
 // The machine of a manifest over RAM of the heap, in a seat of its own.
 #[inline(never)]
-pub(crate) fn boxed(alloc: Global, manifest: &Manifest) -> Result<Box<Seat>, NoMemory>
+pub(crate) fn box_seat(alloc: Global, manifest: &Manifest) -> Result<Box<Seat>, NoMemory>
     ensures { IfOk result (λ b. HasBooted (λ p. p ≡ parts_of manifest.now) false b.value) }
 {
     let ram = FlatRam::new(alloc, manifest.ram_base, 512 * manifest.ram_blocks)?;

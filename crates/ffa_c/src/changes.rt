@@ -84,7 +84,7 @@ fn tell(changed: &Option<Changed>, change: &mut CChange) -> bool
     {
         change.endpoint = u32::from(endpoint.0);
         change.range_count = changed.ranges.len() as u32;
-        change.ranges = listed(&changed.ranges);
+        change.ranges = list_ranges(&changed.ranges);
         true
     } else {
         false
@@ -92,7 +92,7 @@ fn tell(changed: &Option<Changed>, change: &mut CChange) -> bool
 }
 
 // The ranges from an array's front on, and behind them none.
-fn listed(ranges: &PageRanges) -> [CRange; MOST_RANGES]
+fn list_ranges(ranges: &PageRanges) -> [CRange; MOST_RANGES]
     ensures { StandIn result ranges.now }
 {
     let mut places = [CRange::none(); MOST_RANGES];

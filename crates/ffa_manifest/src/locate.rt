@@ -221,7 +221,7 @@ fn at_faulty_key(
         None => Ok(Found::MissingKey(key)),
         Some(value) => Ok(Found::Value {
             key,
-            value: shown(alloc, value)?,
+            value: text_of(alloc, value)?,
             fault,
         }),
     }
@@ -229,13 +229,13 @@ fn at_faulty_key(
 
 fn whole(alloc: Global, value: &Value, fault: &'static str) -> Result<Found, AllocError> {
     Ok(Found::Whole {
-        value: shown(alloc, value)?,
+        value: text_of(alloc, value)?,
         fault,
     })
 }
 
 // A value as TOML, on one line.
-fn shown(alloc: Global, value: &Value) -> Result<String, AllocError> {
+fn text_of(alloc: Global, value: &Value) -> Result<String, AllocError> {
     let text = InlineText::<SHOWN>::of(value);
     text.as_str().replace(alloc, "\n", "\\n")
 }

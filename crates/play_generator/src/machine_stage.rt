@@ -7,7 +7,7 @@ use ffa_physmem::{FlatRam, NoMemory, PhysMem};
 use ffa_spmc::{Given, Machine, Storage};
 use ffa_tlb::NoTlb;
 use play_scenes::{PAGE, Stage};
-use play_transcript::{Counts, GenerateError, TraceEntry, fitted, wanted};
+use play_transcript::{Counts, GenerateError, TraceEntry, actor_of, fit_store};
 use std::alloc::Allocator;
 
 /// A machine, the lines of a turn, and how often what came.
@@ -101,7 +101,7 @@ impl<A: Allocator + Copy> Stage for MachineStage<A> {
     }
 
     fn play(&mut self, op: &Op) -> Option<Outcome> {
-        let op = fitted(op);
+        let op = fit_store(op);
         if !self.add(TraceEntry::Operation(op)) {
             return None;
         }
@@ -110,8 +110,8 @@ impl<A: Allocator + Copy> Stage for MachineStage<A> {
         Some(outcome)
     }
 
-    fn wanted(&self, turn: u64) -> EndpointId {
-        wanted(turn, self.machine.endpoints())
+    fn actor_of(&self, turn: u64) -> EndpointId {
+        actor_of(turn, self.machine.endpoints())
     }
 
     fn runner(&self) -> EndpointId {

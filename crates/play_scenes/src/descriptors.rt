@@ -90,7 +90,7 @@ impl Dice {
                 let other = self.pick(&[0, 17, length.wrapping_sub(1), length.wrapping_sub(16)]);
                 [other, other, 0, 0]
             }
-            TransferFlaw::Fragment => [length, self.turned(length), 0, 0],
+            TransferFlaw::Fragment => [length, self.spoil(length), 0, 0],
             TransferFlaw::TooLong => {
                 let other = self.pick(&[4097, 8193, 16385, 0xFFFF_FFFF]);
                 [other, other, 0, 0]

@@ -107,7 +107,7 @@ fn write(page: &mut [u8; PAGE_SIZE], field: Field, value: u64) {
 
 impl Dice {
     /// Another number in the place of one.
-    pub fn turned(&mut self, value: u64) -> u64 {
+    pub fn spoil(&mut self, value: u64) -> u64 {
         let bit = 1 << self.below(16);
         let word = self.word();
         let other = u64::from(self.any_identifier().0);
@@ -133,7 +133,7 @@ impl Dice {
                 at: start.wrapping_add(field.at),
                 size: field.size,
             };
-            let value = self.turned(read(page, field));
+            let value = self.spoil(read(page, field));
             write(page, field, value);
         }
     }

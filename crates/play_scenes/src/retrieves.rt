@@ -180,7 +180,7 @@ impl Dice {
         let flaw = self.pick(&RETRIEVE_FLAWS);
         match flaw {
             RetrieveFlaw::Sender => desc.sender = EndpointId(desc.sender.0 ^ 1),
-            RetrieveFlaw::Tag => desc.tag = self.turned(desc.tag),
+            RetrieveFlaw::Tag => desc.tag = self.spoil(desc.tag),
             RetrieveFlaw::Kind => desc.kind = Some(another_kind(kind)),
             RetrieveFlaw::Right => {
                 desc.level = Some(Data::Rw);

@@ -84,7 +84,7 @@ const MOST_SCENES: u32 = 3;
 impl<'m, S: Stage + Drop> Generator<'m, S> {
     // The endpoint whose turn it is comes to run, and plays some scenes.
     fn play_scenes(&mut self) {
-        let actor = self.stage.wanted(self.turns);
+        let actor = self.stage.actor_of(self.turns);
         self.plan_hoard();
         self.turns = self.turns.wrapping_add(1);
         self.hand_over(actor);

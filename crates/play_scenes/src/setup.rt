@@ -87,7 +87,7 @@ impl Dice {
         let last = word_of(uuid, 12);
         let last = match self.below(3) {
             0 => return [0; 4],
-            1 => self.turned(last),
+            1 => self.spoil(last),
             _ => last,
         };
         [word_of(uuid, 0), word_of(uuid, 4), word_of(uuid, 8), last]

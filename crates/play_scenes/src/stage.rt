@@ -19,7 +19,7 @@ pub trait Stage {
     fn play(&mut self, op: &Op) -> Option<Outcome>;
 
     /// The endpoint whose turn it is.
-    fn wanted(&self, turn: u64) -> EndpointId;
+    fn actor_of(&self, turn: u64) -> EndpointId;
 
     /// The endpoint that runs.
     fn runner(&self) -> EndpointId;

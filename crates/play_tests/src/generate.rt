@@ -118,7 +118,7 @@ fn reaches_each_call_and_each_error(rt: HostRuntime) -> Result<(), Fail> {
     }
     assert!(rt; counts.refusals(FFA_ERROR, NOT_SUPPORTED) > 0);
     for (access, faults) in ACCESSES {
-        assert!(rt; counts.done(access) > 0, "{counts}");
+        assert!(rt; counts.count_done(access) > 0, "{counts}");
         for fault in faults {
             let came = counts.faults(access, *fault) > 0;
             assert!(rt; came, "{fault:?}\n{counts}");

@@ -247,7 +247,7 @@ impl Counts {
     }
 
     /// How often such an access was done.
-    pub fn done(&self, access: AccessKind) -> u64
+    pub fn count_done(&self, access: AccessKind) -> u64
         ensures { result ≡ slice_index self.now.cells (cell (row_of_access access) 0) }
     {
         self.cells[cell(row_of_access(access), 0)]
@@ -322,7 +322,7 @@ impl Counts {
         f: &mut fmt::Formatter<W>,
         access: AccessKind,
     ) -> fmt::Result {
-        write!(f, "{} {}", name_of_access(access), self.done(access))?;
+        write!(f, "{} {}", name_of_access(access), self.count_done(access))?;
         for fault in FAULTS {
             let count = self.faults(access, fault);
             if count > 0 {

@@ -18,7 +18,7 @@ pub enum TraceEntry {
 }
 
 /// The same operation, where a store has the lowest bytes of its value, as many as it moves.
-pub fn fitted(op: &Op) -> Op
+pub fn fit_store(op: &Op) -> Op
     ensures { result ≡ fitted op.now }
 {
     match *op {
@@ -67,7 +67,7 @@ fn put_entry<A: Allocator>(text: &mut Vec<u8, A>, entry: &TraceEntry) -> Result<
     ensures { OnOk result (GrowsByLines (meant entry.now ∷ []) text.old.items text.new.items) }
 {
     match entry {
-        TraceEntry::Operation(op) => put_operation(text, &fitted(op)),
+        TraceEntry::Operation(op) => put_operation(text, &fit_store(op)),
         TraceEntry::Show => text.extend_from_slice(b"show\n"),
         TraceEntry::Audit => text.extend_from_slice(b"audit\n"),
     }

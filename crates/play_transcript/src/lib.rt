@@ -9,6 +9,6 @@ mod turn;
 mod writing;
 
 pub use counts::{AccessKind, Counts};
-pub use entries::{TraceEntry, fitted};
-pub use turn::wanted;
+pub use entries::{TraceEntry, fit_store};
+pub use turn::actor_of;
 pub use writing::{GenerateError, Turns, write_turns};

@@ -7,7 +7,7 @@ ghost use Rattle.ffa_model.specs.Identifiers.{identifier};
 use ffa_model::EndpointId;
 
 /// The endpoint whose turn it is, on a machine with so many endpoints: in each round everybody has a turn.
-pub fn wanted(turn: u64, endpoints: usize) -> EndpointId
+pub fn actor_of(turn: u64, endpoints: usize) -> EndpointId
     requires some { 1 ≤ endpoints }
     requires few { endpoints ≤ MOST_ENDPOINTS }
     ensures { result.0 ≡ identifier (turn % endpoints) }

@@ -7,7 +7,7 @@ use Rattle.play_transcript.proofs.entries.put_entry.Goals as goal
 
 pub returns-in-Operation : goal.returns-in-Operation
 returns-in-Operation g c =
-    let grown = subst (λ op. OnOk c.put_operation.result (GrowsBy op c.args.text.now.items c.put_operation.new.text.items)) c.fitted.ensures c.put_operation.ensures.written in
+    let grown = subst (λ op. OnOk c.put_operation.result (GrowsBy op c.args.text.now.items c.put_operation.new.text.items)) c.fit_store.ensures c.put_operation.ensures.written in
     rw c.in-Operation.is (grown_operation _ _ _ _ grown)
 
 pub returns-in-Show : goal.returns-in-Show

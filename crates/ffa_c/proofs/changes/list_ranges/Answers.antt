@@ -8,7 +8,7 @@ use Rattle.std.proofs.lemmas.List.{get_or-replicate, get_or-set_other, get_or-se
 use Rattle.ffa_model.specs.declared.limits.TheConstants.{MOST_RANGES}
 use Rattle.ffa_c.specs.declared.changes.CRange.{CRange}
 use Rattle.ffa_c.specs.Changes.{no_range, range_told}
-use Rattle.ffa_c.proofs.changes.listed.Goals as goal
+use Rattle.ffa_c.proofs.changes.list_ranges.Goals as goal
 
 -- the same in each place
 everywhere : (n place : ℕ) (x : CRange) → x ≡ no_range → slice_index_or (replicate n x) place no_range ≡ no_range

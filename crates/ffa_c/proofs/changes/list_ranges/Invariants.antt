@@ -4,7 +4,7 @@ use Rattle.std.specs.Prelude.{length, nat_lt, slice_index_or, if◌then◌else�
 use Rattle.ffa_model.specs.declared.limits.TheConstants.{MOST_RANGES}
 use Rattle.ffa_model.specs.declared.transaction.Range.{Range}
 use Rattle.ffa_c.specs.Changes.{no_range, range_told}
-use Rattle.ffa_c.proofs.changes.listed.Given as goal
+use Rattle.ffa_c.proofs.changes.list_ranges.Given as goal
 
 -- the ranges so far, and none behind them
 abbrev pub invariant-loop-place : goal.invariant-loop-place
