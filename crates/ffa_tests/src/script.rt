@@ -8,7 +8,9 @@ use ffa_model::{
     Address, Data, EndpointId, Kind, Op, Range, Receiver, RelinquishDesc, RetrieveDesc, SendDesc,
     Size, Version,
 };
-use play_writer::{Descriptor, ScriptError, Unfit, put_descriptor, put_operation, put_stores};
+use play_writer::{
+    DescriptorContents, ScriptError, Unfit, put_descriptor, put_operation, put_stores,
+};
 use std::alloc::Global;
 use std::process::Abort;
 use std::test::Fail;
@@ -68,7 +70,7 @@ store 4003E010 8002
 call 84000076
 ";
 
-fn send(kind: Kind) -> Descriptor {
+fn send(kind: Kind) -> DescriptorContents {
     let mut receivers = ArrayVec::new();
     receivers.push(Receiver {
         endpoint: EndpointId(0x8002),
@@ -86,10 +88,10 @@ fn send(kind: Kind) -> Descriptor {
         receivers,
         ranges,
     };
-    Descriptor::Send { kind, desc }
+    DescriptorContents::Send { kind, desc }
 }
 
-fn retrieve() -> Descriptor {
+fn retrieve() -> DescriptorContents {
     let desc = RetrieveDesc {
         sender: EndpointId(0x8001),
         handle: 0x8001_0000_0001,
@@ -98,14 +100,14 @@ fn retrieve() -> Descriptor {
         level: None,
         exec: false,
     };
-    Descriptor::Retrieve {
+    DescriptorContents::Retrieve {
         desc,
         receiver: EndpointId(0x8002),
     }
 }
 
-fn relinquish() -> Descriptor {
-    Descriptor::Relinquish(RelinquishDesc {
+fn relinquish() -> DescriptorContents {
+    DescriptorContents::Relinquish(RelinquishDesc {
         handle: 0x8001_0000_0001,
         zero: false,
         endpoint: EndpointId(0x8002),
@@ -116,7 +118,7 @@ fn relinquish() -> Descriptor {
 fn is_written(
     rt: &impl Abort,
     alloc: Global,
-    descriptor: &Descriptor,
+    descriptor: &DescriptorContents,
     tx: u32,
     wanted: &str,
 ) -> Result<(), Fail>

@@ -4,23 +4,23 @@ use crate::checks::same_at;
 use crate::printed;
 use play_arguments::{Request, request};
 use play_descriptor::{Told, read_words};
-use play_writer::Descriptor;
+use play_writer::DescriptorContents;
 use std::alloc::{AllocError, Global};
 use std::process::Abort;
 use std::test::Fail;
 
 // What a descriptor is for, and what it says.
-fn said(alloc: Global, descriptor: &Descriptor) -> Result<String, AllocError> {
+fn said(alloc: Global, descriptor: &DescriptorContents) -> Result<String, AllocError> {
     match descriptor {
-        Descriptor::Send { kind, desc } => {
+        DescriptorContents::Send { kind, desc } => {
             let desc = printed::send(alloc, desc)?;
             format!(in alloc; "Send {{ kind: {kind:?}, desc: {desc} }}")
         }
-        Descriptor::Retrieve { desc, receiver } => {
+        DescriptorContents::Retrieve { desc, receiver } => {
             let desc = printed::retrieve(alloc, desc)?;
             format!(in alloc; "Retrieve {{ desc: {desc}, receiver: {receiver:?} }}")
         }
-        Descriptor::Relinquish(desc) => {
+        DescriptorContents::Relinquish(desc) => {
             let desc = printed::relinquish(alloc, desc)?;
             format!(in alloc; "Relinquish({desc})")
         }
