@@ -1,0 +1,198 @@
+// SPDX-License-Identifier: MIT OR Apache-2.0
+//! What may go wrong, by number, name and words.
+use core::fmt;
+
+/// An enum whose variants have the library's numbers, each with its words.
+macro_rules! codes {
+    ($(#[$about:meta])* pub enum $name:ident: $number:ty { $($code:literal $variant:ident $words:literal,)* }) => {
+        $(#[$about])*
+        #[derive(Clone, Copy, Debug, PartialEq, Eq, Hash)]
+        #[repr($number)]
+        pub enum $name {
+            $(#[doc = $words] $variant = $code,)*
+        }
+
+        impl $name {
+            /// All of them, in the order in which they are declared.
+            pub const ALL: &'static [$name] = &[$($name::$variant),*];
+
+            /// The one with this number, if there is one.
+            #[must_use]
+            pub const fn of(number: $number) -> Option<$name> {
+                match number {
+                    $($code => Some($name::$variant),)*
+                    _ => None,
+                }
+            }
+
+            /// Its number in the library's header.
+            #[must_use]
+            pub const fn number(self) -> $number {
+                self as $number
+            }
+
+            /// It in words.
+            #[must_use]
+            pub const fn words(self) -> &'static str {
+                match self {
+                    $($name::$variant => $words,)*
+                }
+            }
+        }
+    };
+}
+
+codes! {
+    /// Why an access is refused. The first three come in this order, and the last two never: each leaf of a table that
+    /// the machine writes has the access flag and points into RAM.
+    pub enum Fault: u32 {
+        1 Translation "translation",
+        2 Permission "permission",
+        3 Alignment "alignment",
+        4 AccessFlag "access-flag",
+        5 OutsideRam "outside-ram",
+    }
+}
+
+impl fmt::Display for Fault {
+    fn fmt(&self, to: &mut fmt::Formatter<'_>) -> fmt::Result {
+        write!(to, "{} fault", self.words())
+    }
+}
+
+codes! {
+    /// What FFA_ERROR tells in w2 (DEN0077A, 11.2). The library answers NOT_SUPPORTED, INVALID_PARAMETERS, NO_MEMORY,
+    /// BUSY and DENIED.
+    pub enum ErrorCode: i32 {
+        -1 NotSupported "NOT_SUPPORTED",
+        -2 InvalidParameters "INVALID_PARAMETERS",
+        -3 NoMemory "NO_MEMORY",
+        -4 Busy "BUSY",
+        -5 Interrupted "INTERRUPTED",
+        -6 Denied "DENIED",
+        -7 Retry "RETRY",
+        -8 Aborted "ABORTED",
+        -9 NoData "NO_DATA",
+    }
+}
+
+impl fmt::Display for ErrorCode {
+    fn fmt(&self, to: &mut fmt::Formatter<'_>) -> fmt::Result {
+        to.write_str(self.words())
+    }
+}
+
+codes! {
+    /// Why a manifest is refused: the first cause that applies, by its number in docs/FORMATS.md (M2 to M14).
+    pub enum Cause: u32 {
+        2 Toml "the text is no TOML, or no UTF-8",
+        3 UnknownKey "a table has a key that it may not have",
+        4 MissingKey "a table lacks a key",
+        5 WrongKind "a value is of another kind, or the rights are unknown",
+        6 RamBase "the base of RAM is no multiple of 64 MiB from 04000000 to FC000000",
+        7 RamBlocks "RAM has no block, or more than 32",
+        8 EndpointCount "there is no endpoint, or more than 8",
+        9 Uuid "a UUID can't be read, a partition's is zeros, or the normal world's isn't",
+        10 Property "the properties aren't 0 to 15, or the normal world is to receive",
+        11 RegionCount "an endpoint has no region, or more than 16",
+        12 RegionOutside "a region isn't whole pages in RAM behind the tables, or has none",
+        13 RegionOverlap "a region has a page of a region before it",
+        14 Version "a version is unknown",
+    }
+}
+
+impl fmt::Display for Cause {
+    fn fmt(&self, to: &mut fmt::Formatter<'_>) -> fmt::Result {
+        write!(to, "M{} {:?}: {}", self.number(), self, self.words())
+    }
+}
+
+/// Why there is no machine.
+#[derive(Clone, Copy, Debug, PartialEq, Eq, Hash)]
+pub enum BootError {
+    /// Memory was refused.
+    NoMemory,
+    /// The manifest describes no machine.
+    Refused(Cause),
+    /// The lent pages are more or fewer than the manifest's RAM has, 512 for each block.
+    WrongCount,
+}
+
+impl fmt::Display for BootError {
+    fn fmt(&self, to: &mut fmt::Formatter<'_>) -> fmt::Result {
+        match self {
+            BootError::NoMemory => to.write_str("there is no memory for a machine"),
+            BootError::Refused(cause) => write!(to, "the manifest is refused by {cause}"),
+            BootError::WrongCount => to.write_str("there are more or fewer pages than the manifest's RAM has"),
+        }
+    }
+}
+
+/// The machine has no such endpoint.
+#[derive(Clone, Copy, Debug, PartialEq, Eq, Hash)]
+pub struct NoEndpoint;
+
+impl fmt::Display for NoEndpoint {
+    fn fmt(&self, to: &mut fmt::Formatter<'_>) -> fmt::Result {
+        to.write_str("the machine has no such endpoint")
+    }
+}
+
+/// Why an access of an endpoint that is named isn't done.
+#[derive(Clone, Copy, Debug, PartialEq, Eq, Hash)]
+pub enum AccessError {
+    /// The machine has no such endpoint.
+    NoEndpoint,
+    /// It is refused.
+    Fault(Fault),
+}
+
+impl fmt::Display for AccessError {
+    fn fmt(&self, to: &mut fmt::Formatter<'_>) -> fmt::Result {
+        match self {
+            AccessError::NoEndpoint => NoEndpoint.fmt(to),
+            AccessError::Fault(fault) => fault.fmt(to),
+        }
+    }
+}
+
+impl From<NoEndpoint> for AccessError {
+    fn from(_: NoEndpoint) -> AccessError {
+        AccessError::NoEndpoint
+    }
+}
+
+impl From<Fault> for AccessError {
+    fn from(fault: Fault) -> AccessError {
+        AccessError::Fault(fault)
+    }
+}
+
+#[cfg(feature = "std")]
+mod errors {
+    use super::{AccessError, BootError, Cause, ErrorCode, Fault, NoEndpoint};
+    use std::error::Error;
+
+    impl Error for Fault {}
+    impl Error for ErrorCode {}
+    impl Error for Cause {}
+    impl Error for NoEndpoint {}
+
+    impl Error for BootError {
+        fn source(&self) -> Option<&(dyn Error + 'static)> {
+            match self {
+                BootError::Refused(cause) => Some(cause),
+                BootError::NoMemory | BootError::WrongCount => None,
+            }
+        }
+    }
+
+    impl Error for AccessError {
+        fn source(&self) -> Option<&(dyn Error + 'static)> {
+            match self {
+                AccessError::Fault(fault) => Some(fault),
+                AccessError::NoEndpoint => None,
+            }
+        }
+    }
+}

@@ -1,0 +1,160 @@
+// SPDX-License-Identifier: MIT OR Apache-2.0
+//! Gorseplumb: a proved partition manager core of FF-A 1.1, as a machine that does one operation at a time.
+//!
+//! The core is a static archive, which this crate links; what is proved of it is said in the repository's README.md,
+//! and the crate is tested, not proved.
+//!
+//! ```
+//! use gorseplumb::*;
+//!
+//! const RAM: u32 = 0x4000_0000;
+//! const MANIFEST: Manifest = Manifest::new(RAM, 1, &[
+//!     Endpoint::normal_world(
+//!         Version::V1_1,
+//!         Properties::SENDS_REQUESTS,
+//!         &[Region::new(RAM + 0x10000, 16, Rights::Rw)],
+//!     ),
+//!     Endpoint::partition(
+//!         0x00112233_4455_6677_8899_aabbccddeeff_u128.to_be_bytes(),
+//!         Version::V1_1,
+//!         Properties::ALL,
+//!         &[Region::new(RAM + 0x20000, 16, Rights::Rwx)],
+//!     ),
+//! ]);
+//!
+//! # fn main() -> Result<(), BootError> {
+//! let mut machine = Machine::boot(&MANIFEST)?;
+//! assert_eq!(machine.store(0x4001_0000, Size::B1, 42), Ok(()));
+//! assert_eq!(machine.load(0x4001_0000, Size::B1), Ok(42));
+//! assert_eq!(machine.load(0x4002_0000, Size::B1), Err(Fault::Translation)); // the partition's
+//!
+//! let answer = machine.call(&registers([0x8400_006D, 0x8001_0000])); // FFA_RUN of the partition
+//! assert_eq!(answer.runner(), Id(0x8001));
+//! let answer = machine.call(&registers([0x8400_007A])); // a call that isn't served
+//! assert_eq!(answer.error(), Some(ErrorCode::NotSupported));
+//! # Ok(()) }
+//! ```
+//!
+//! # What the types ask
+//!
+//! Lent pages can't be reached while a machine stands in them:
+//!
+//! ```compile_fail,E0502
+//! # use gorseplumb::*;
+//! # fn f(manifest: &Manifest, ram: &mut [Page]) -> Result<(), BootError> {
+//! let mut machine = Machine::boot_lent(manifest, ram)?;
+//! let byte = ram[16].0[0];
+//! machine.call(&registers([0x8400_0069]));
+//! # Ok(()) }
+//! ```
+//!
+//! They outlive it:
+//!
+//! ```compile_fail,E0597
+//! # use gorseplumb::*;
+//! # fn f(manifest: &Manifest) -> Result<(), BootError> {
+//! let machine = {
+//!     let mut ram = vec![Page::ZERO; 512];
+//!     Machine::boot_lent(manifest, &mut ram)?
+//! };
+//! machine.runner();
+//! # Ok(()) }
+//! ```
+//!
+//! A list has one machine at a time:
+//!
+//! ```compile_fail,E0499
+//! # use gorseplumb::*;
+//! # fn f(manifest: &Manifest, lent: &mut Lent) -> Result<(), BootError> {
+//! let first = lent.boot(manifest)?;
+//! let second = lent.boot(manifest)?;
+//! first.runner();
+//! # Ok(()) }
+//! ```
+//!
+//! No operation is done by who may only ask:
+//!
+//! ```compile_fail,E0596
+//! # use gorseplumb::*;
+//! fn ask(machine: &Machine) {
+//!     machine.runner();
+//!     let _ = machine.load(0x4001_0000, Size::B1);
+//! }
+//! ```
+//!
+//! No two threads have one machine:
+//!
+//! ```compile_fail,E0277
+//! # use gorseplumb::*;
+//! fn share<T: Sync>() {}
+//! share::<Machine>();
+//! ```
+//!
+//! A machine that has ended is gone:
+//!
+//! ```compile_fail,E0382
+//! # use gorseplumb::*;
+//! # fn f(machine: Machine) {
+//! machine.end();
+//! machine.runner();
+//! # }
+//! ```
+#![no_std]
+#![deny(missing_docs, unsafe_op_in_unsafe_fn)]
+
+#[cfg(feature = "heap")]
+extern crate alloc;
+#[cfg(feature = "std")]
+extern crate std;
+
+mod codes;
+#[cfg(feature = "heap")]
+mod heap;
+mod machine;
+mod manifest;
+mod operation;
+mod questions;
+mod ram;
+pub mod raw;
+mod settling;
+
+pub use codes::{AccessError, BootError, Cause, ErrorCode, Fault, NoEndpoint};
+pub use machine::{Change, Description, Machine, Range};
+pub use manifest::{
+    CountError, Endpoint, Manifest, Properties, Region, Rights, Version, MOST_BLOCKS, MOST_ENDPOINTS, MOST_REGIONS,
+};
+pub use operation::{registers, Answer, Registers, Size};
+pub use ram::{Heap, Lent, Page, Ram, PAGE_SIZE};
+#[doc(hidden)]
+pub use settling::settling;
+pub use settling::Settling;
+
+use core::fmt;
+
+/// The identifier of an endpoint, or of the manager.
+#[derive(Clone, Copy, Debug, PartialEq, Eq, PartialOrd, Ord, Hash)]
+pub struct Id(pub u16);
+
+impl Id {
+    /// The manifest's first endpoint.
+    pub const NORMAL_WORLD: Id = Id(0);
+
+    /// Who owns what no endpoint owns. It never runs.
+    pub const MANAGER: Id = Id(0x8000);
+
+    /// That of the endpoint at a place in the manifest, from 0.
+    #[must_use]
+    pub const fn at(place: u16) -> Id {
+        match place {
+            0 => Id::NORMAL_WORLD,
+            _ => Id(0x8000 + place),
+        }
+    }
+}
+
+/// The identifier in four digits, as a trace prints it.
+impl fmt::Display for Id {
+    fn fmt(&self, to: &mut fmt::Formatter<'_>) -> fmt::Result {
+        write!(to, "{:04X}", self.0)
+    }
+}

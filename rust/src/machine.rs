@@ -1,0 +1,322 @@
+// SPDX-License-Identifier: MIT OR Apache-2.0
+//! The machine: how it begins, what it does, and how it ends.
+use crate::codes::{AccessError, BootError, Cause, Fault, NoEndpoint};
+use crate::operation::{accessed, accessed_by, known, Answer, Registers, Size};
+use crate::ram::{Heap, Lent, Page, Ram};
+use crate::{raw, Id, Manifest};
+use core::cell::UnsafeCell;
+use core::fmt;
+use core::mem::ManuallyDrop;
+use core::ptr;
+
+mod sealed {
+    use crate::raw;
+
+    /// The library's boots, from one kind of description.
+    ///
+    /// # Safety
+    /// Each function is called with pointers that are valid and apart.
+    pub trait Description {
+        unsafe fn boot(&self, machine: *mut raw::Machine) -> u32;
+        unsafe fn boot_lent(&self, machine: *mut raw::Machine, lent: *mut raw::Lent) -> u32;
+        unsafe fn boot_held(&self, machine: *mut raw::Machine, lent: *mut raw::Lent) -> u32;
+    }
+}
+
+/// What a machine is booted from: a [`Manifest`] of numbers, or the text of one, as `str` or `[u8]`. A program that has
+/// no text links nothing that reads one.
+pub trait Description: sealed::Description {}
+
+impl<T: sealed::Description + ?Sized> Description for T {}
+
+// SAFETY, of all that follows: the text or the manifest is live, and as long as is said.
+impl sealed::Description for [u8] {
+    unsafe fn boot(&self, machine: *mut raw::Machine) -> u32 {
+        unsafe { raw::gorseplumb_boot(machine, self.as_ptr(), self.len()) }
+    }
+
+    unsafe fn boot_lent(&self, machine: *mut raw::Machine, lent: *mut raw::Lent) -> u32 {
+        unsafe { raw::gorseplumb_boot_lent(machine, lent, self.as_ptr(), self.len()) }
+    }
+
+    unsafe fn boot_held(&self, machine: *mut raw::Machine, lent: *mut raw::Lent) -> u32 {
+        unsafe { raw::gorseplumb_boot_held(machine, lent, self.as_ptr(), self.len()) }
+    }
+}
+
+impl sealed::Description for str {
+    unsafe fn boot(&self, machine: *mut raw::Machine) -> u32 {
+        unsafe { self.as_bytes().boot(machine) }
+    }
+
+    unsafe fn boot_lent(&self, machine: *mut raw::Machine, lent: *mut raw::Lent) -> u32 {
+        unsafe { self.as_bytes().boot_lent(machine, lent) }
+    }
+
+    unsafe fn boot_held(&self, machine: *mut raw::Machine, lent: *mut raw::Lent) -> u32 {
+        unsafe { self.as_bytes().boot_held(machine, lent) }
+    }
+}
+
+impl sealed::Description for Manifest {
+    unsafe fn boot(&self, machine: *mut raw::Machine) -> u32 {
+        unsafe { raw::gorseplumb_boot_manifest(machine, self.raw()) }
+    }
+
+    unsafe fn boot_lent(&self, machine: *mut raw::Machine, lent: *mut raw::Lent) -> u32 {
+        unsafe { raw::gorseplumb_boot_lent_manifest(machine, lent, self.raw()) }
+    }
+
+    unsafe fn boot_held(&self, machine: *mut raw::Machine, lent: *mut raw::Lent) -> u32 {
+        unsafe { raw::gorseplumb_boot_held_manifest(machine, lent, self.raw()) }
+    }
+}
+
+/// What the answer of a boot, or of a list, is here.
+pub(crate) fn booted(answer: u32) -> Result<(), BootError> {
+    match answer {
+        raw::OK => Ok(()),
+        raw::NO_MEMORY => Err(BootError::NoMemory),
+        raw::WRONG_COUNT => Err(BootError::WrongCount),
+        cause => Err(BootError::Refused(known(Cause::of(cause)))),
+    }
+}
+
+/// A machine, with RAM of its own on the heap (`Machine`), or in pages that are lent (`Machine<Lent<'_>>`).
+///
+/// There is always one: what has none is the error of a boot. It does one operation at a time, by `&mut self`, and is
+/// asked by `&self`. It may go to another thread, and is shared with none. When it is dropped its RAM goes back to the
+/// heap, or to whom it belongs.
+pub struct Machine<R: Ram = Heap> {
+    at: UnsafeCell<raw::Machine>,
+    ram: R,
+}
+
+// SAFETY: what the pointer leads to is the machine's alone, and the library has no other state. It asks for memory from
+// whichever thread has the machine, which a global allocator serves.
+unsafe impl<R: Ram + Send> Send for Machine<R> {}
+
+impl Machine {
+    /// The machine of a manifest in its first state, with RAM of the heap.
+    ///
+    /// # Errors
+    /// [`BootError::NoMemory`], or the cause for which the manifest is refused. Nothing has changed then.
+    pub fn boot<D: Description + ?Sized>(description: &D) -> Result<Machine, BootError> {
+        let mut at = raw::Machine::NONE;
+        // SAFETY: the struct is live, and holds no machine.
+        booted(unsafe { description.boot(&mut at) })?;
+        Ok(Machine { at: UnsafeCell::new(at), ram: Heap(raw::Lent::NONE) })
+    }
+}
+
+impl<'ram> Machine<Lent<'ram>> {
+    /// The machine of a manifest in its first state, in these pages, of which the first is RAM's first. All pages
+    /// behind the tables are zeros.
+    ///
+    /// # Errors
+    /// [`BootError::NoMemory`], a cause, or [`BootError::WrongCount`]. The pages keep their bytes then.
+    pub fn boot_lent<D>(description: &D, pages: &'ram mut [Page]) -> Result<Machine<Lent<'ram>>, BootError>
+    where
+        D: Description + ?Sized,
+    {
+        Machine::boot_in(description, Lent::new(pages)?)
+    }
+
+    /// The same, but pages of the manifest's regions keep the bytes that they are lent with, as an image of a
+    /// partition. All other pages behind the tables are zeros.
+    ///
+    /// # Errors
+    /// As [`Machine::boot_lent`].
+    pub fn boot_held<D>(description: &D, pages: &'ram mut [Page]) -> Result<Machine<Lent<'ram>>, BootError>
+    where
+        D: Description + ?Sized,
+    {
+        Machine::boot_held_in(description, Lent::new(pages)?)
+    }
+}
+
+impl<R: Ram> Machine<R> {
+    pub(crate) fn boot_in<D>(description: &D, mut ram: R) -> Result<Machine<R>, BootError>
+    where
+        D: Description + ?Sized,
+    {
+        let mut at = raw::Machine::NONE;
+        // SAFETY: the struct is live and holds no machine, and the list is another's.
+        booted(unsafe { description.boot_lent(&mut at, ram.list()) })?;
+        Ok(Machine { at: UnsafeCell::new(at), ram })
+    }
+
+    pub(crate) fn boot_held_in<D>(description: &D, mut ram: R) -> Result<Machine<R>, BootError>
+    where
+        D: Description + ?Sized,
+    {
+        let mut at = raw::Machine::NONE;
+        // SAFETY: as above.
+        booted(unsafe { description.boot_held(&mut at, ram.list()) })?;
+        Ok(Machine { at: UnsafeCell::new(at), ram })
+    }
+
+    /// A call of the endpoint that runs.
+    #[inline]
+    pub fn call(&mut self, registers: &Registers) -> Answer {
+        // SAFETY: the machine is borrowed for this one call, and eight registers are what C has in a struct.
+        Answer::of(unsafe { raw::gorseplumb_call(self.at.get(), of(registers)) })
+    }
+
+    /// A load of the endpoint that runs, the lowest byte first.
+    ///
+    /// # Errors
+    /// The fault by which it is refused. Nothing has changed then.
+    #[inline]
+    pub fn load(&mut self, address: u64, size: Size) -> Result<u64, Fault> {
+        // SAFETY: the machine is borrowed for this one call.
+        accessed(&unsafe { raw::gorseplumb_load(self.at.get(), address, size as u32) })
+    }
+
+    /// A store of the value's lowest bytes.
+    ///
+    /// # Errors
+    /// As [`Machine::load`].
+    #[inline]
+    pub fn store(&mut self, address: u64, size: Size, value: u64) -> Result<(), Fault> {
+        // SAFETY: as above.
+        accessed(&unsafe { raw::gorseplumb_store(self.at.get(), address, size as u32, value) }).map(drop)
+    }
+
+    /// A fetch of one instruction.
+    ///
+    /// # Errors
+    /// As [`Machine::load`].
+    #[inline]
+    pub fn fetch(&mut self, address: u64) -> Result<u32, Fault> {
+        // SAFETY: as above.
+        accessed(&unsafe { raw::gorseplumb_fetch(self.at.get(), address) }).map(|word| word as u32)
+    }
+
+    /// A call of any endpoint, whoever runs, as where another processor runs it. One that isn't the runner is answered
+    /// FFA_ERROR with BUSY, under its own name, and nothing changes.
+    ///
+    /// # Errors
+    /// [`NoEndpoint`].
+    #[inline]
+    pub fn call_as(&mut self, endpoint: Id, registers: &Registers) -> Result<Answer, NoEndpoint> {
+        // SAFETY: as above.
+        Answer::of_endpoint(unsafe { raw::gorseplumb_call_as(self.at.get(), endpoint.0, of(registers)) })
+    }
+
+    /// A load of any endpoint, by its own table.
+    ///
+    /// # Errors
+    /// [`AccessError::NoEndpoint`], or the fault by which it is refused. Nothing has changed then.
+    #[inline]
+    pub fn load_as(&mut self, endpoint: Id, address: u64, size: Size) -> Result<u64, AccessError> {
+        // SAFETY: as above.
+        accessed_by(&unsafe { raw::gorseplumb_load_as(self.at.get(), endpoint.0, address, size as u32) })
+    }
+
+    /// A store of any endpoint.
+    ///
+    /// # Errors
+    /// As [`Machine::load_as`].
+    #[inline]
+    pub fn store_as(&mut self, endpoint: Id, address: u64, size: Size, value: u64) -> Result<(), AccessError> {
+        // SAFETY: as above.
+        let outcome = unsafe { raw::gorseplumb_store_as(self.at.get(), endpoint.0, address, size as u32, value) };
+        accessed_by(&outcome).map(drop)
+    }
+
+    /// A fetch of any endpoint.
+    ///
+    /// # Errors
+    /// As [`Machine::load_as`].
+    #[inline]
+    pub fn fetch_as(&mut self, endpoint: Id, address: u64) -> Result<u32, AccessError> {
+        // SAFETY: as above.
+        accessed_by(&unsafe { raw::gorseplumb_fetch_as(self.at.get(), endpoint.0, address) }).map(|word| word as u32)
+    }
+
+    /// What the last call on memory that was done has changed of access, told once.
+    pub fn changed(&mut self) -> Option<Change> {
+        let mut change = Change::NONE;
+        // SAFETY: as above, and the change is live.
+        unsafe { raw::gorseplumb_changed(self.at.get(), &mut change.0) }.then_some(change)
+    }
+
+    /// Ends the machine, and gives back where its RAM is: of [`Lent`] pages the list, which has them all again.
+    pub fn end(self) -> R {
+        let mut machine = ManuallyDrop::new(self);
+        machine.free();
+        // SAFETY: the machine isn't dropped, and nobody uses what was taken out of it.
+        unsafe { ptr::read(&machine.ram) }
+    }
+
+    fn free(&mut self) {
+        // SAFETY: the machine is there and nobody else's, and the list is the one that its pages came from.
+        let answer = unsafe { raw::gorseplumb_free(self.at.get(), self.ram.list()) };
+        debug_assert_eq!(answer, raw::OK);
+    }
+
+    /// The machine, for a question.
+    pub(crate) fn asked(&self) -> *const raw::Machine {
+        self.at.get()
+    }
+}
+
+impl<R: Ram> Drop for Machine<R> {
+    fn drop(&mut self) {
+        self.free();
+    }
+}
+
+impl<R: Ram> fmt::Debug for Machine<R> {
+    fn fmt(&self, to: &mut fmt::Formatter<'_>) -> fmt::Result {
+        to.debug_struct("Machine").field("runner", &self.runner()).finish_non_exhaustive()
+    }
+}
+
+/// Pages in a row.
+#[derive(Clone, Copy, Debug, PartialEq, Eq, Hash)]
+pub struct Range {
+    /// The address of the first byte.
+    pub address: u64,
+    /// The bytes of all pages.
+    pub size: u64,
+}
+
+/// Whose access to which pages has changed. To each of them the endpoint had none before, or has none now.
+#[derive(Clone, PartialEq, Eq)]
+pub struct Change(raw::Change);
+
+impl Change {
+    const NONE: Change = Change(raw::Change {
+        endpoint: 0,
+        range_count: 0,
+        ranges: [raw::Range { address: 0, size: 0 }; raw::MOST_RANGES],
+    });
+
+    /// Whose access.
+    #[must_use]
+    pub fn endpoint(&self) -> Id {
+        Id(self.0.endpoint as u16)
+    }
+
+    /// To which pages.
+    pub fn ranges(&self) -> impl Iterator<Item = Range> + '_ {
+        let told = self.0.ranges.iter().take(self.0.range_count as usize);
+        told.map(|range| Range { address: range.address, size: range.size })
+    }
+}
+
+impl fmt::Debug for Change {
+    fn fmt(&self, to: &mut fmt::Formatter<'_>) -> fmt::Result {
+        write!(to, "{:?} ", self.endpoint())?;
+        to.debug_list().entries(self.ranges()).finish()
+    }
+}
+
+/// Registers as C has them: a struct of nothing but the array.
+#[inline]
+fn of(registers: &Registers) -> *const raw::Registers {
+    let registers: *const Registers = registers;
+    registers.cast()
+}

@@ -1,0 +1,252 @@
+// SPDX-License-Identifier: MIT OR Apache-2.0
+//! A manifest as numbers, which a program can have as a constant.
+use crate::raw;
+use core::fmt;
+use core::ops::BitOr;
+
+pub use crate::raw::{MOST_BLOCKS, MOST_ENDPOINTS, MOST_REGIONS};
+
+/// What an endpoint may do with a page.
+#[derive(Clone, Copy, Debug, PartialEq, Eq, Hash)]
+#[repr(u32)]
+pub enum Rights {
+    /// Load.
+    Ro = 1,
+    /// Load and store.
+    Rw = 3,
+    /// Load and fetch.
+    Rox = 5,
+    /// Load, store and fetch.
+    Rwx = 7,
+}
+
+impl Rights {
+    pub(crate) const fn of(number: u32) -> Option<Rights> {
+        match number {
+            1 => Some(Rights::Ro),
+            3 => Some(Rights::Rw),
+            5 => Some(Rights::Rox),
+            7 => Some(Rights::Rwx),
+            _ => None,
+        }
+    }
+}
+
+/// The rights as `show` prints them: `r--`, `rw-`, `r-x` or `rwx`.
+impl fmt::Display for Rights {
+    fn fmt(&self, to: &mut fmt::Formatter<'_>) -> fmt::Result {
+        to.write_str(match self {
+            Rights::Ro => "r--",
+            Rights::Rw => "rw-",
+            Rights::Rox => "r-x",
+            Rights::Rwx => "rwx",
+        })
+    }
+}
+
+/// Pages in a row that an endpoint owns from the start.
+#[derive(Clone, Copy, Debug, PartialEq, Eq)]
+#[repr(transparent)]
+pub struct Region(raw::Region);
+
+impl Region {
+    const NONE: Region = Region::new(0, 0, Rights::Ro);
+
+    /// So many pages from this address on.
+    #[must_use]
+    pub const fn new(base: u32, pages: u32, rights: Rights) -> Region {
+        Region(raw::Region { base, pages, rights: rights as u32 })
+    }
+}
+
+/// The form in which an endpoint writes and reads descriptors.
+#[derive(Clone, Copy, Debug, PartialEq, Eq, Hash)]
+#[repr(u32)]
+pub enum Version {
+    /// That of FF-A 1.1.
+    V1_1 = 0,
+    /// The compact form.
+    Compact = 1,
+}
+
+/// What an endpoint takes part in: some of four, joined by `|` or, in a constant, by [`Properties::and`].
+#[derive(Clone, Copy, Debug, PartialEq, Eq, Hash)]
+pub struct Properties(u32);
+
+impl Properties {
+    /// Nothing.
+    pub const NONE: Properties = Properties(0);
+    /// It receives direct requests, which the normal world may not.
+    pub const RECEIVES_REQUESTS: Properties = Properties(1);
+    /// It sends direct requests.
+    pub const SENDS_REQUESTS: Properties = Properties(2);
+    /// It sends and receives indirect messages.
+    pub const INDIRECT_MESSAGES: Properties = Properties(4);
+    /// It receives notifications, which the normal world may not by its manifest.
+    pub const NOTIFICATIONS: Properties = Properties(8);
+    /// All four.
+    pub const ALL: Properties = Properties(15);
+
+    /// These and others.
+    #[must_use]
+    pub const fn and(self, others: Properties) -> Properties {
+        Properties(self.0 | others.0)
+    }
+}
+
+impl BitOr for Properties {
+    type Output = Properties;
+
+    fn bitor(self, others: Properties) -> Properties {
+        self.and(others)
+    }
+}
+
+/// Why a manifest of numbers can't be written down.
+#[derive(Clone, Copy, Debug, PartialEq, Eq, Hash)]
+pub enum CountError {
+    /// RAM has no block, or more than [`MOST_BLOCKS`].
+    Blocks,
+    /// There is no endpoint, or there are more than [`MOST_ENDPOINTS`].
+    Endpoints,
+    /// An endpoint has no region, or more than [`MOST_REGIONS`].
+    Regions,
+}
+
+impl CountError {
+    const fn words(self) -> &'static str {
+        match self {
+            CountError::Blocks => "RAM has no block, or more than it may have",
+            CountError::Endpoints => "a machine has no endpoint, or more than it may have",
+            CountError::Regions => "an endpoint has no region, or more than it may have",
+        }
+    }
+}
+
+impl fmt::Display for CountError {
+    fn fmt(&self, to: &mut fmt::Formatter<'_>) -> fmt::Result {
+        to.write_str(self.words())
+    }
+}
+
+#[cfg(feature = "std")]
+impl std::error::Error for CountError {}
+
+/// An endpoint of a machine.
+#[derive(Clone, Copy, Debug, PartialEq, Eq)]
+#[repr(transparent)]
+pub struct Endpoint(raw::Endpoint);
+
+impl Endpoint {
+    const NONE: Endpoint = Endpoint(raw::Endpoint {
+        version: 0,
+        properties: 0,
+        uuid: [0; 16],
+        region_count: 0,
+        regions: [Region::NONE.0; MOST_REGIONS],
+    });
+
+    /// The first endpoint, whose UUID is zeros. Panics, which a constant tells when it is compiled, where there is no
+    /// region or more than [`MOST_REGIONS`].
+    ///
+    /// ```compile_fail
+    /// # use gorseplumb::*;
+    /// const OWNS_NOTHING: Endpoint = Endpoint::normal_world(Version::V1_1, Properties::NONE, &[]);
+    /// # let _ = OWNS_NOTHING;
+    /// ```
+    #[must_use]
+    pub const fn normal_world(version: Version, properties: Properties, regions: &[Region]) -> Endpoint {
+        Endpoint::partition([0; 16], version, properties, regions)
+    }
+
+    /// A partition with the sixteen bytes of its UUID. Panics as [`Endpoint::normal_world`] does.
+    #[must_use]
+    pub const fn partition(uuid: [u8; 16], version: Version, properties: Properties, regions: &[Region]) -> Endpoint {
+        match Endpoint::try_new(uuid, version, properties, regions) {
+            Ok(endpoint) => endpoint,
+            Err(_) => panic!("an endpoint has no region, or more than it may have"),
+        }
+    }
+
+    /// The same, but with an error in place of a panic, for counts that aren't known when the program is compiled.
+    ///
+    /// # Errors
+    /// [`CountError::Regions`].
+    pub const fn try_new(
+        uuid: [u8; 16],
+        version: Version,
+        properties: Properties,
+        regions: &[Region],
+    ) -> Result<Endpoint, CountError> {
+        if regions.is_empty() || regions.len() > MOST_REGIONS {
+            return Err(CountError::Regions);
+        }
+        let mut endpoint = Endpoint::NONE.0;
+        endpoint.version = version as u32;
+        endpoint.properties = properties.0;
+        endpoint.uuid = uuid;
+        endpoint.region_count = regions.len() as u32;
+        let mut place = 0;
+        while place < regions.len() {
+            endpoint.regions[place] = regions[place].0;
+            place += 1;
+        }
+        Ok(Endpoint(endpoint))
+    }
+}
+
+/// A manifest as numbers. Its counts are those that there may be; whether it describes a machine, a boot says.
+#[derive(Clone, Copy, Debug, PartialEq, Eq)]
+#[repr(transparent)]
+pub struct Manifest(raw::Manifest);
+
+impl Manifest {
+    /// So many blocks of 2 MiB from this address on, and these endpoints, the normal world first. Panics, which a
+    /// constant tells when it is compiled, where there is no block, more than [`MOST_BLOCKS`], no endpoint, or more
+    /// than [`MOST_ENDPOINTS`].
+    ///
+    /// ```compile_fail
+    /// # use gorseplumb::*;
+    /// const NOBODY: Manifest = Manifest::new(0x4000_0000, 1, &[]);
+    /// # let _ = NOBODY;
+    /// ```
+    #[must_use]
+    pub const fn new(ram_base: u32, ram_blocks: u32, endpoints: &[Endpoint]) -> Manifest {
+        match Manifest::try_new(ram_base, ram_blocks, endpoints) {
+            Ok(manifest) => manifest,
+            Err(CountError::Blocks) => panic!("RAM has no block, or more than it may have"),
+            Err(_) => panic!("a machine has no endpoint, or more than it may have"),
+        }
+    }
+
+    /// The same, but with an error in place of a panic, for counts that aren't known when the program is compiled.
+    ///
+    /// # Errors
+    /// [`CountError::Blocks`], and then [`CountError::Endpoints`].
+    pub const fn try_new(ram_base: u32, ram_blocks: u32, endpoints: &[Endpoint]) -> Result<Manifest, CountError> {
+        if ram_blocks == 0 || ram_blocks > MOST_BLOCKS {
+            return Err(CountError::Blocks);
+        }
+        if endpoints.is_empty() || endpoints.len() > MOST_ENDPOINTS {
+            return Err(CountError::Endpoints);
+        }
+        let mut all = [Endpoint::NONE.0; MOST_ENDPOINTS];
+        let mut place = 0;
+        while place < endpoints.len() {
+            all[place] = endpoints[place].0;
+            place += 1;
+        }
+        let endpoint_count = endpoints.len() as u32;
+        Ok(Manifest(raw::Manifest { ram_base, ram_blocks, endpoint_count, endpoints: all }))
+    }
+
+    /// How many pages its RAM has.
+    #[must_use]
+    pub const fn pages(&self) -> usize {
+        self.0.ram_blocks as usize * 512
+    }
+
+    pub(crate) const fn raw(&self) -> &raw::Manifest {
+        &self.0
+    }
+}

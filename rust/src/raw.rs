@@ -1,0 +1,284 @@
+// SPDX-License-Identifier: MIT OR Apache-2.0
+//! What `c/gorseplumb.h` declares, by the names that it has there without their first word. The rest of this crate is
+//! safe and stands on it; who calls these functions owes what the header says.
+//!
+//! Questions take `*const Machine`, as they change nothing.
+#![allow(missing_docs)]
+
+use core::ffi::c_void;
+
+/// The number of the declarations that stand here.
+pub const DECLARATIONS: u32 = 2;
+
+/// What a question answers where there is nothing to tell.
+pub const NOTHING: u32 = u32::MAX;
+
+macro_rules! owners {
+    ($($(#[$about:meta])* $name:ident),*) => {$(
+        $(#[$about])*
+        #[derive(Debug)]
+        #[repr(C)]
+        pub struct $name {
+            pub live: bool,
+            pub at: *mut c_void,
+        }
+
+        impl $name {
+            pub const NONE: $name = $name { live: false, at: core::ptr::null_mut() };
+        }
+    )*};
+}
+
+owners! {
+    /// A machine, or none.
+    Machine,
+    /// A list of pages that are lent, or none.
+    Lent,
+    /// A page's memory, or none.
+    Slot
+}
+
+/// Memory of pages that stand side by side, or of none.
+#[derive(Debug)]
+#[repr(C)]
+pub struct Span {
+    pub at: *mut c_void,
+    pub pages: usize,
+}
+
+#[derive(Clone, Copy, Debug, PartialEq, Eq)]
+#[repr(C)]
+pub struct Registers {
+    pub x: [u64; 8],
+}
+
+#[derive(Clone, Copy, Debug, PartialEq, Eq)]
+#[repr(C)]
+pub struct Outcome {
+    pub kind: u32,
+    pub runner: u32,
+    pub value: u64,
+    pub x: [u64; 8],
+}
+
+pub const KIND_REGISTERS: u32 = 0;
+pub const KIND_DATA: u32 = 1;
+pub const KIND_DONE: u32 = 2;
+pub const KIND_FAULT: u32 = 3;
+pub const KIND_NO_MACHINE: u32 = 4;
+pub const KIND_BAD_SIZE: u32 = 5;
+pub const KIND_NO_ENDPOINT: u32 = 6;
+
+pub const MOST_REGIONS: usize = 16;
+pub const MOST_ENDPOINTS: usize = 8;
+pub const MOST_BLOCKS: u32 = 32;
+pub const MOST_RANGES: usize = 64;
+
+#[derive(Clone, Copy, Debug, PartialEq, Eq)]
+#[repr(C)]
+pub struct Region {
+    pub base: u32,
+    pub pages: u32,
+    pub rights: u32,
+}
+
+#[derive(Clone, Copy, Debug, PartialEq, Eq)]
+#[repr(C)]
+pub struct Endpoint {
+    pub version: u32,
+    pub properties: u32,
+    pub uuid: [u8; 16],
+    pub region_count: u32,
+    pub regions: [Region; MOST_REGIONS],
+}
+
+#[derive(Clone, Copy, Debug, PartialEq, Eq)]
+#[repr(C)]
+pub struct Manifest {
+    pub ram_base: u32,
+    pub ram_blocks: u32,
+    pub endpoint_count: u32,
+    pub endpoints: [Endpoint; MOST_ENDPOINTS],
+}
+
+pub const OK: u32 = 0;
+pub const NO_MEMORY: u32 = 1;
+pub const OCCUPIED: u32 = 15;
+pub const NO_LIST: u32 = 16;
+pub const NO_PAGE: u32 = 17;
+pub const HAS_PAGES: u32 = 18;
+pub const NO_MACHINE: u32 = 19;
+pub const WRONG_COUNT: u32 = 20;
+pub const NOT_CERTIFIED: u32 = 21;
+pub const LENT: u32 = 22;
+
+#[derive(Clone, Copy, Debug, PartialEq, Eq)]
+#[repr(C)]
+pub struct Range {
+    pub address: u64,
+    pub size: u64,
+}
+
+#[derive(Clone, Copy, Debug, PartialEq, Eq)]
+#[repr(C)]
+pub struct Change {
+    pub endpoint: u32,
+    pub range_count: u32,
+    pub ranges: [Range; MOST_RANGES],
+}
+
+/// What the library writes to the descriptor [`SETTLES`].
+#[derive(Clone, Copy, Debug, PartialEq, Eq)]
+#[repr(C)]
+pub struct Settling {
+    pub endpoint: u64,
+    pub address: u64,
+    pub size: u64,
+}
+
+/// The descriptor to which the library writes what is to be settled.
+pub const SETTLES: i32 = -0xFFA;
+
+extern "C" {
+    pub fn gorseplumb_boot(machine: *mut Machine, text: *const u8, size: usize) -> u32;
+    pub fn gorseplumb_boot_manifest(machine: *mut Machine, manifest: *const Manifest) -> u32;
+    pub fn gorseplumb_boot_lent(machine: *mut Machine, lent: *mut Lent, text: *const u8, size: usize) -> u32;
+    pub fn gorseplumb_boot_lent_manifest(machine: *mut Machine, lent: *mut Lent, manifest: *const Manifest) -> u32;
+    pub fn gorseplumb_boot_held(machine: *mut Machine, lent: *mut Lent, text: *const u8, size: usize) -> u32;
+    pub fn gorseplumb_boot_held_manifest(machine: *mut Machine, lent: *mut Lent, manifest: *const Manifest) -> u32;
+
+    pub fn gorseplumb_call(machine: *mut Machine, registers: *const Registers) -> Outcome;
+    pub fn gorseplumb_load(machine: *mut Machine, address: u64, size: u32) -> Outcome;
+    pub fn gorseplumb_store(machine: *mut Machine, address: u64, size: u32, value: u64) -> Outcome;
+    pub fn gorseplumb_fetch(machine: *mut Machine, address: u64) -> Outcome;
+    pub fn gorseplumb_call_as(machine: *mut Machine, endpoint: u16, registers: *const Registers) -> Outcome;
+    pub fn gorseplumb_load_as(machine: *mut Machine, endpoint: u16, address: u64, size: u32) -> Outcome;
+    pub fn gorseplumb_store_as(machine: *mut Machine, endpoint: u16, address: u64, size: u32, value: u64) -> Outcome;
+    pub fn gorseplumb_fetch_as(machine: *mut Machine, endpoint: u16, address: u64) -> Outcome;
+    pub fn gorseplumb_changed(machine: *mut Machine, change: *mut Change) -> bool;
+
+    pub fn gorseplumb_runner(machine: *const Machine) -> u32;
+    pub fn gorseplumb_endpoints(machine: *const Machine) -> u32;
+    pub fn gorseplumb_owner(machine: *const Machine, page: u32) -> u32;
+    pub fn gorseplumb_access(machine: *const Machine, endpoint: u16, page: u32) -> u32;
+    pub fn gorseplumb_pending(machine: *const Machine, endpoint: u16) -> bool;
+    pub fn gorseplumb_read_page(machine: *const Machine, page: u32, bytes: *mut crate::Page) -> bool;
+
+    pub fn gorseplumb_free(machine: *mut Machine, lent: *mut Lent) -> u32;
+    pub fn gorseplumb_begin_lending(lent: *mut Lent, pages: u32) -> u32;
+    pub fn gorseplumb_lend(lent: *mut Lent, slot: *mut Slot) -> u32;
+    pub fn gorseplumb_lend_span(lent: *mut Lent, span: *mut Span) -> u32;
+    pub fn gorseplumb_take_back(lent: *mut Lent, slot: *mut Slot) -> u32;
+    pub fn gorseplumb_lent_pages(lent: *mut Lent) -> u64;
+    pub fn gorseplumb_end_lending(lent: *mut Lent) -> u32;
+}
+
+#[derive(Clone, Copy, Debug, PartialEq, Eq)]
+#[repr(C)]
+pub struct Grant {
+    pub kind: u32,
+    pub handle: u64,
+}
+
+pub const GRANT_NONE: u32 = 0;
+pub const GRANT_OWN: u32 = 1;
+pub const GRANT_SHARED: u32 = 2;
+pub const GRANT_HELD: u32 = 3;
+
+#[derive(Clone, Copy, Debug, PartialEq, Eq)]
+#[repr(C)]
+pub struct CertRun {
+    pub first: u32,
+    pub last: u32,
+    pub owner: u32,
+    pub has_handle: u32,
+    pub handle: u64,
+    pub access: [u32; MOST_ENDPOINTS],
+}
+
+pub const ABOUT_NOTHING: u32 = 0;
+pub const ABOUT_PAGE: u32 = 1;
+pub const ABOUT_ENDPOINT: u32 = 2;
+pub const ABOUT_HANDLE: u32 = 3;
+pub const ABOUT_REGISTER: u32 = 4;
+pub const ABOUT_BIT: u32 = 5;
+pub const ABOUT_FIELD: u32 = 6;
+
+pub const OBSTACLE_NONE: u32 = 0;
+pub const OBSTACLE_OUTSIDE_RAM: u32 = 1;
+pub const OBSTACLE_MANAGERS_PAGE: u32 = 2;
+pub const OBSTACLE_OWNED_BY: u32 = 3;
+pub const OBSTACLE_IN_TRANSACTION: u32 = 4;
+
+#[derive(Clone, Copy, Debug, Default, PartialEq, Eq)]
+#[repr(C)]
+pub struct Reason {
+    pub fault: u32,
+    pub check: u32,
+    pub error: i32,
+    pub about: u32,
+    pub page: u32,
+    pub endpoint: u32,
+    pub handle: u64,
+    pub number: u32,
+    pub flaw: u32,
+    pub has_value: u32,
+    pub obstacle: u32,
+    pub value: u64,
+    pub first: u64,
+    pub size: u64,
+    pub owner: u32,
+    pub transaction: u64,
+}
+
+#[derive(Clone, Copy, Debug, PartialEq, Eq)]
+#[repr(C)]
+pub struct Operation {
+    pub kind: u32,
+    pub size: u32,
+    pub address: u64,
+    pub value: u64,
+    pub x: [u64; 8],
+}
+
+pub const OPERATION_CALL: u32 = 0;
+pub const OPERATION_LOAD: u32 = 1;
+pub const OPERATION_STORE: u32 = 2;
+pub const OPERATION_FETCH: u32 = 3;
+
+extern "C" {
+    pub fn gorseplumb_declarations() -> u32;
+    pub fn gorseplumb_ram_base(machine: *const Machine) -> u32;
+    pub fn gorseplumb_ram_blocks(machine: *const Machine) -> u32;
+    pub fn gorseplumb_root(machine: *const Machine, endpoint: u16) -> u32;
+    pub fn gorseplumb_granted(machine: *const Machine, endpoint: u16, page: u32) -> Grant;
+    pub fn gorseplumb_cert_run(machine: *const Machine, page: u32, run: *mut CertRun) -> bool;
+    pub fn gorseplumb_audit(machine: *const Machine, runs: *const CertRun, count: usize) -> u32;
+    pub fn gorseplumb_audit_tables(
+        lent: *mut Lent,
+        base: u32,
+        roots: *const u32,
+        root_count: usize,
+        runs: *const CertRun,
+        count: usize,
+    ) -> u32;
+    pub fn gorseplumb_why_call(machine: *const Machine, registers: *const Registers, reason: *mut Reason) -> bool;
+    pub fn gorseplumb_why_load(machine: *const Machine, address: u64, size: u32, reason: *mut Reason) -> bool;
+    pub fn gorseplumb_why_store(machine: *const Machine, address: u64, size: u32, reason: *mut Reason) -> bool;
+    pub fn gorseplumb_why_fetch(machine: *const Machine, address: u64, reason: *mut Reason) -> bool;
+    pub fn gorseplumb_read_manifest(text: *const u8, size: usize, manifest: *mut Manifest) -> u32;
+    pub fn gorseplumb_end(machine: *mut Machine) -> u32;
+    pub fn gorseplumb_run(
+        machine: *mut Machine,
+        operations: *const Operation,
+        count: usize,
+        outcomes: *mut Outcome,
+        places: usize,
+    ) -> usize;
+    pub fn gorseplumb_call_name(function: u32) -> *const u8;
+    pub fn gorseplumb_error_name(code: i32) -> *const u8;
+    pub fn gorseplumb_check_name(check: u32) -> *const u8;
+    pub fn gorseplumb_check_number(function: u32, check: u32) -> u32;
+    pub fn gorseplumb_fault_name(fault: u32) -> *const u8;
+    pub fn gorseplumb_answer_name(answer: u32) -> *const u8;
+}

@@ -1,0 +1,96 @@
+// SPDX-License-Identifier: MIT OR Apache-2.0
+//! Plays lines of a trace on a machine, and says what the program would print of them. docs/FORMATS.md has the lines.
+#![allow(dead_code)] // each test takes a part of it
+
+pub mod machines;
+
+use gorseplumb::{registers, Fault, Id, Machine, Page, Ram, Rights, Size};
+use std::fmt::Write;
+use std::path::{Path, PathBuf};
+use std::{env, fs};
+
+/// Where RAM begins in each manifest of examples/ and of the tests.
+pub const RAM: u64 = 0x4000_0000;
+
+/// The text of a file of examples/.
+pub fn example(name: &str) -> String {
+    let path = top().join("examples").join(name);
+    fs::read_to_string(&path).unwrap_or_else(|why| panic!("{}: {why}", path.display()))
+}
+
+/// The top of the repository.
+pub fn top() -> PathBuf {
+    Path::new(env!("CARGO_MANIFEST_DIR")).parent().expect("the crate stands in the repository").into()
+}
+
+/// The program `ffaplay`: the one that FFAPLAY names, or the one that is built here.
+pub fn program() -> PathBuf {
+    env::var_os("FFAPLAY").map_or_else(|| top().join("crates/ffaplay/out/ffaplay"), PathBuf::from)
+}
+
+/// Pages of zeros, as many as so many blocks have.
+pub fn ram(blocks: usize) -> Vec<Page> {
+    vec![Page::ZERO; blocks * 512]
+}
+
+/// What the program prints of a trace.
+pub fn play<R: Ram>(machine: &mut Machine<R>, trace: &str) -> String {
+    trace.lines().map(|line| play_line(machine, line)).collect()
+}
+
+/// What the program prints of a line of a trace.
+pub fn play_line<R: Ram>(machine: &mut Machine<R>, line: &str) -> String {
+    let words: Vec<&str> = line.split(' ').collect();
+    let number = |place: usize| u64::from_str_radix(words[place], 16).unwrap_or_else(|why| panic!("{line}: {why}"));
+    let size = |bytes: usize| Size::of(bytes).unwrap_or_else(|| panic!("{line}: no size"));
+    match words[0] {
+        "" => String::new(),
+        word if word.starts_with('#') => String::new(),
+        "call" => {
+            let mut given = registers([]);
+            (1..words.len()).for_each(|place| given[place - 1] = number(place));
+            format!("regs {}\n", machine.call(&given))
+        }
+        "load" => data(machine.load(number(1), size(number(2) as usize)), number(2) as usize),
+        "store" => match machine.store(number(1), size(words[2].len() / 2), number(2)) {
+            Ok(()) => "done\n".into(),
+            Err(fault) => faulted(fault),
+        },
+        "fetch" => data(machine.fetch(number(1)).map(u64::from), 4),
+        "show" => show(machine),
+        _ => panic!("{line}: not a line of a trace"),
+    }
+}
+
+fn data(value: Result<u64, Fault>, bytes: usize) -> String {
+    match value {
+        Ok(value) => format!("data {value:0digits$X}\n", digits = 2 * bytes),
+        Err(fault) => faulted(fault),
+    }
+}
+
+fn faulted(fault: Fault) -> String {
+    format!("fault {}\n", fault.words())
+}
+
+/// Who owns a page, and what each endpoint may do with it.
+fn standing<R: Ram>(machine: &Machine<R>, page: u32) -> Option<(Id, Vec<Option<Rights>>)> {
+    let owner = machine.owner(page)?;
+    Some((owner, machine.endpoints().map(|endpoint| machine.access(endpoint, page)).collect()))
+}
+
+fn show<R: Ram>(machine: &Machine<R>) -> String {
+    let mut text = format!("runner {}\n", machine.runner());
+    let mut first = 0;
+    while let Some(common) = standing(machine, first) {
+        let behind = (first..).find(|page| standing(machine, *page).as_ref() != Some(&common)).expect("RAM ends");
+        let address = |page: u32| RAM + 4096 * u64::from(page);
+        write!(text, "pages {:08X} {:08X} {}", address(first), address(behind) - 1, common.0).expect("a text grows");
+        for rights in &common.1 {
+            text += &rights.map_or_else(|| " ---".into(), |rights| format!(" {rights}"));
+        }
+        text += "\n";
+        first = behind;
+    }
+    text
+}
