@@ -1,15 +1,17 @@
 // SPDX-License-Identifier: MIT OR Apache-2.0
-//! Finds the archive `libffa_c.a` and links it: in the folder GORSEPLUMB_LIB_DIR where that is set; else where `rt lib`
-//! leaves it in the repository that this crate stands in; else it has `c/archive` make it, over the libraries that are
-//! proved. The archive has one name for each target, so its processor is looked at.
+//! Finds the archive `libgorseplumb.a` and links it: in the folder GORSEPLUMB_LIB_DIR where that is set, else where
+//! `c/archive` leaves it in the repository that this crate stands in, `out/<target>`. Where GORSEPLUMB_MAKE is set it has
+//! `c/archive` make one that is missing, which may prove all crates below first. An archive of another processor is
+//! refused.
 use std::path::{Path, PathBuf};
 use std::process::{exit, Command};
 use std::{env, fs};
 
-const NAME: &str = "libffa_c.a";
+const NAME: &str = "libgorseplumb.a";
 
 fn main() {
     println!("cargo:rerun-if-env-changed=GORSEPLUMB_LIB_DIR");
+    println!("cargo:rerun-if-env-changed=GORSEPLUMB_MAKE");
     let archive = archive().and_then(for_this_target).unwrap_or_else(|why| {
         eprintln!("gorseplumb: {why}");
         exit(1)
@@ -17,67 +19,66 @@ fn main() {
     println!("cargo:rerun-if-changed={}", archive.display());
     let folder = archive.parent().expect("an archive stands in a folder");
     println!("cargo:rustc-link-search=native={}", folder.display());
-    println!("cargo:rustc-link-lib=static=ffa_c");
+    println!("cargo:rustc-link-lib=static=gorseplumb");
 }
 
 fn variable(name: &str) -> String {
     env::var(name).unwrap_or_else(|_| panic!("cargo sets {name}"))
 }
 
+/// Where the archive is.
 fn archive() -> Result<PathBuf, String> {
     if let Some(folder) = env::var_os("GORSEPLUMB_LIB_DIR") {
         let archive = Path::new(&folder).join(NAME);
-        let missing = || format!("there is no {}, and GORSEPLUMB_LIB_DIR names this folder", archive.display());
-        return if archive.is_file() { Ok(archive) } else { Err(missing()) };
+        let missing = format!("there is no {}; GORSEPLUMB_LIB_DIR names its folder", archive.display());
+        return if archive.is_file() { Ok(archive) } else { Err(missing) };
     }
     let here = PathBuf::from(variable("CARGO_MANIFEST_DIR"));
-    let top = here.parent().filter(|top| top.join("crates/ffa_c").is_dir()).ok_or_else(|| {
+    let top = here.parent().filter(|top| top.join("c/archive").is_file()).ok_or_else(|| {
         format!(
             "{} stands in no repository of Gorseplumb: set GORSEPLUMB_LIB_DIR to the folder of {NAME}",
             here.display()
         )
     })?;
-    let left = top.join("crates/ffa_c/out").join(NAME);
-    println!("cargo:rerun-if-changed={}", left.display());
-    if left.is_file() {
-        return Ok(left);
+    let archive = top.join("out").join(variable("TARGET")).join(NAME);
+    println!("cargo:rerun-if-changed={}", archive.display());
+    if !archive.is_file() {
+        make(top, &archive)?;
     }
-    made(top, &left)
+    Ok(archive)
 }
 
-/// The archive that `c/archive` makes where all below it is proved.
-fn made(top: &Path, left: &Path) -> Result<PathBuf, String> {
-    let made = PathBuf::from(variable("OUT_DIR")).join(NAME);
-    let target = variable("TARGET");
-    let said = Command::new(top.join("c/archive")).args(["--target", &target]).arg(&made).output();
-    let why = match said {
-        Ok(said) if said.status.success() && made.is_file() => return Ok(made),
-        Ok(said) => [said.stdout, said.stderr].concat(),
-        Err(why) => why.to_string().into_bytes(),
-    };
-    Err(format!(
-        "there is no {}, and c/archive made none:\n{}\nMake it by `cd crates/ffa_c && rt lib{}`, which proves what is \
-         missing, or set GORSEPLUMB_LIB_DIR to the folder of a {NAME}",
-        left.display(),
-        String::from_utf8_lossy(&why).trim_end(),
-        if target.starts_with("x86_64") { String::new() } else { format!(" --target {target}") },
-    ))
+/// Has the repository make the archive, if that is wanted.
+fn make(top: &Path, archive: &Path) -> Result<(), String> {
+    let missing = format!("there is no {}", archive.display());
+    let command = format!("c/archive --target {}", variable("TARGET"));
+    if env::var_os("GORSEPLUMB_MAKE").is_none() {
+        return Err(format!(
+            "{missing}: make it at the top of the repository by `{command}`, which proves what isn't proved (half an \
+             hour where nothing is), or set GORSEPLUMB_LIB_DIR to the folder of a {NAME}"
+        ));
+    }
+    let made = Command::new(top.join("c/archive")).args(["--target", &variable("TARGET")]).arg(archive).status();
+    match made {
+        Ok(status) if status.success() && archive.is_file() => Ok(()),
+        Ok(status) => Err(format!("{missing}, and `{command}` made none: {status}")),
+        Err(why) => Err(format!("{missing}, and `{command}` can't be run: {why}")),
+    }
 }
 
 /// The archive, if it is for the processor that is built for.
 fn for_this_target(archive: PathBuf) -> Result<PathBuf, String> {
     let bytes = fs::read(&archive).map_err(|why| format!("{}: {why}", archive.display()))?;
-    let has = processor(&bytes).ok_or_else(|| format!("{} has no ELF file", archive.display()))?;
+    let has = processor(&bytes).ok_or_else(|| format!("{} is no archive of ELF files", archive.display()))?;
     let wanted = variable("CARGO_CFG_TARGET_ARCH");
     if name_of(has) == wanted {
         return Ok(archive);
     }
-    let has = name_of(has);
     Err(format!(
-        "{} is for {has}, and {wanted} is built for: make the other by `cd crates/ffa_c && rt lib --target {}`, or set \
-         GORSEPLUMB_LIB_DIR to its folder",
+        "{} is for {}, and {wanted} is built for: `c/archive --target {}` makes that one",
         archive.display(),
-        variable("TARGET"),
+        name_of(has),
+        variable("TARGET")
     ))
 }
 
@@ -86,7 +87,7 @@ fn name_of(machine: u16) -> String {
     match machine {
         62 => "x86_64".into(),
         183 => "aarch64".into(),
-        other => format!("a processor with e_machine {other}"),
+        other => format!("another processor (e_machine {other})"),
     }
 }
 

@@ -41,6 +41,7 @@ macro_rules! codes {
         }
     };
 }
+pub(crate) use codes;
 
 codes! {
     /// Why an access is refused. The first three come in this order, and the last two never: each leaf of a table that
@@ -171,8 +172,11 @@ impl From<Fault> for AccessError {
 #[cfg(feature = "std")]
 mod errors {
     use super::{AccessError, BootError, Cause, ErrorCode, Fault, NoEndpoint};
+    use crate::checks::{Check, Flaw};
     use std::error::Error;
 
+    impl Error for Check {}
+    impl Error for Flaw {}
     impl Error for Fault {}
     impl Error for ErrorCode {}
     impl Error for Cause {}

@@ -107,6 +107,7 @@ extern crate alloc;
 #[cfg(feature = "std")]
 extern crate std;
 
+mod checks;
 mod codes;
 #[cfg(feature = "heap")]
 mod heap;
@@ -118,6 +119,7 @@ mod ram;
 pub mod raw;
 mod settling;
 
+pub use checks::{Check, Flaw};
 pub use codes::{AccessError, BootError, Cause, ErrorCode, Fault, NoEndpoint};
 pub use machine::{Change, Description, Machine, Range};
 pub use manifest::{

@@ -3,6 +3,7 @@
 #![allow(dead_code)] // each test takes a part of it
 
 pub mod machines;
+pub mod refusals;
 
 use gorseplumb::{registers, Fault, Id, Machine, Page, Ram, Rights, Size};
 use std::fmt::Write;

@@ -1,0 +1,133 @@
+// SPDX-License-Identifier: MIT OR Apache-2.0
+//! Each cause for which there is no machine, by the smallest change of a manifest that has it.
+mod common;
+
+use common::machines::{MACHINE, WORLD};
+use common::{example, ram, RAM};
+use gorseplumb::{
+    BootError, Cause, CountError, Endpoint, Lent, Machine, Manifest, Properties, Region, Rights, Version, MOST_BLOCKS,
+};
+
+/// Stands for all of the text from the first endpoint on.
+const ENDPOINTS: &str = "[[endpoint]] ..";
+
+/// The change of examples/machine.toml that has a cause: what stands there, and what takes its place. docs/FORMATS.md
+/// has the causes.
+fn change(cause: Cause) -> (&'static str, &'static str) {
+    match cause {
+        Cause::Toml => ("[[endpoint]]", "[[endpoint]"),
+        Cause::UnknownKey => ("ram_blocks", "blocks = 1\nram_blocks"),
+        Cause::MissingKey => ("ram_blocks = 1", ""),
+        Cause::WrongKind => ("\"rw\"", "\"wr\""),
+        Cause::RamBase => ("0x40000000", "0x40001000"),
+        Cause::RamBlocks => ("ram_blocks = 1", "ram_blocks = 33"),
+        Cause::EndpointCount => (ENDPOINTS, "endpoint = []\n"),
+        Cause::Uuid => ("00112233-4455-6677-8899-aabbccddeeff", "00000000-0000-0000-0000-000000000000"),
+        Cause::Property => ("properties = 6", "properties = 7"),
+        Cause::RegionCount => ("[{ base = 0x40010000, pages = 16, rights = \"rw\" }]", "[]"),
+        Cause::RegionOutside => ("0x40010000", "0x40008000"),
+        Cause::RegionOverlap => ("0x40020000", "0x4001F000"),
+        Cause::Version => ("\"1.1\"", "\"1.2\""),
+    }
+}
+
+/// The text of a manifest that has this cause.
+fn refused_text(cause: Cause) -> String {
+    let text = example("machine.toml");
+    let (mut old, new) = change(cause);
+    if old == ENDPOINTS {
+        old = &text[text.find("[[endpoint]]").unwrap()..];
+    }
+    assert!(text.contains(old), "{cause}");
+    text.replacen(old, new, 1)
+}
+
+/// Nothing boots from this, on RAM of the heap or in pages, which keep their bytes.
+fn refuses<D: gorseplumb::Description + ?Sized>(description: &D, cause: Cause) {
+    let refused = BootError::Refused(cause);
+    assert_eq!(Machine::boot(description).err(), Some(refused));
+    let mut pages = ram(1);
+    pages.iter_mut().for_each(|page| page.0.fill(0x5A));
+    assert_eq!(Machine::boot_lent(description, &mut pages).err(), Some(refused));
+    assert_eq!(Machine::boot_held(description, &mut pages).err(), Some(refused));
+    let mut lent = Lent::new(&mut pages).unwrap();
+    assert_eq!(lent.boot(description).err(), Some(refused));
+    assert_eq!(lent.boot_held(description).err(), Some(refused));
+    assert!(lent.boot(&MACHINE).is_ok(), "the list has its pages still");
+    drop(lent);
+    pages.iter_mut().for_each(|page| page.0.fill(0x5A));
+    assert_eq!(Machine::boot_lent(description, &mut pages).err(), Some(refused));
+    assert!(pages.iter().all(|page| page.0.iter().all(|byte| *byte == 0x5A)));
+}
+
+#[test]
+fn each_cause_of_a_text() {
+    assert_eq!(Cause::ALL.len(), 13);
+    for cause in Cause::ALL {
+        refuses(&*refused_text(*cause), *cause);
+    }
+    refuses(&b"\xFF"[..], Cause::Toml);
+    refuses("", Cause::MissingKey);
+}
+
+/// Numbers can say what only these causes refuse.
+#[test]
+fn each_cause_of_numbers() {
+    let base = RAM as u32;
+    let partition = |uuid: u8, region| Endpoint::partition([uuid; 16], Version::V1_1, Properties::ALL, &[region]);
+    let region = |at, pages| Region::new(base + at, pages, Rights::Rw);
+    let machine = |second| Manifest::new(base, 1, &[WORLD, second]);
+    refuses(&Manifest::new(base + 0x1000, 1, &[WORLD]), Cause::RamBase);
+    refuses(&Manifest::new(0, 1, &[WORLD]), Cause::RamBase);
+    refuses(&machine(partition(0, region(0x20000, 1))), Cause::Uuid);
+    refuses(&Manifest::new(base, 1, &[partition(1, region(0x20000, 1))]), Cause::Uuid);
+    let receives = Endpoint::normal_world(Version::V1_1, Properties::RECEIVES_REQUESTS, &[region(0x20000, 1)]);
+    refuses(&Manifest::new(base, 1, &[receives]), Cause::Property);
+    refuses(&machine(partition(1, region(0x20000, 0))), Cause::RegionOutside);
+    refuses(&machine(partition(1, region(0x20_0000, 1))), Cause::RegionOutside);
+    refuses(&machine(partition(1, region(0x1F000, 2))), Cause::RegionOverlap);
+}
+
+#[test]
+fn counts_that_numbers_cant_have() {
+    let region = Region::new(RAM as u32 + 0x20000, 1, Rights::Ro);
+    let endpoint = |regions: &[Region]| Endpoint::try_new([1; 16], Version::Compact, Properties::NONE, regions);
+    assert_eq!(endpoint(&[]), Err(CountError::Regions));
+    assert_eq!(endpoint(&[region; 17]), Err(CountError::Regions));
+    assert!(endpoint(&[region; 16]).is_ok());
+    let manifest = |blocks, endpoints: &[Endpoint]| Manifest::try_new(RAM as u32, blocks, endpoints).err();
+    assert_eq!(manifest(0, &[WORLD]), Some(CountError::Blocks));
+    assert_eq!(manifest(MOST_BLOCKS + 1, &[WORLD]), Some(CountError::Blocks));
+    assert_eq!(manifest(1, &[]), Some(CountError::Endpoints));
+    assert_eq!(manifest(1, &[WORLD; 9]), Some(CountError::Endpoints));
+    assert_eq!(manifest(MOST_BLOCKS, &[WORLD; 8]), None);
+}
+
+#[test]
+fn more_or_fewer_pages_than_ram_has() {
+    let mut pages = ram(2);
+    for count in [0, 1, 511, 513, 1024] {
+        let pages = &mut pages[..count];
+        assert_eq!(Machine::boot_lent(&MACHINE, pages).err(), Some(BootError::WrongCount));
+        assert_eq!(Machine::boot_held(&*example("machine.toml"), pages).err(), Some(BootError::WrongCount));
+    }
+    assert!(Machine::boot_lent(&MACHINE, &mut pages[512..]).is_ok());
+}
+
+#[test]
+fn causes_are_said_by_number_name_and_words() {
+    let told = BootError::Refused(Cause::RegionOverlap).to_string();
+    assert_eq!(told, "the manifest is refused by M13 RegionOverlap: a region has a page of a region before it");
+    for cause in Cause::ALL {
+        assert_eq!(Cause::of(cause.number()), Some(*cause));
+    }
+    assert_eq!((Cause::of(1), Cause::of(15)), (None, None));
+}
+
+#[test]
+fn errors_name_what_they_come_of() {
+    use std::error::Error;
+    let refused: Box<dyn Error> = Box::new(BootError::Refused(Cause::Toml));
+    assert_eq!(refused.source().unwrap().to_string(), Cause::Toml.to_string());
+    assert!(BootError::NoMemory.source().is_none());
+}
