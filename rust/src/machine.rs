@@ -256,6 +256,12 @@ impl<R: Ram> Machine<R> {
         debug_assert_eq!(answer, raw::OK);
     }
 
+    #[cfg(declarations_2)]
+    /// The machine, for an operation.
+    pub(crate) fn place(&mut self) -> *mut raw::Machine {
+        self.at.get()
+    }
+
     /// The machine, for a question.
     pub(crate) fn asked(&self) -> *const raw::Machine {
         self.at.get()
@@ -316,7 +322,7 @@ impl fmt::Debug for Change {
 
 /// Registers as C has them: a struct of nothing but the array.
 #[inline]
-fn of(registers: &Registers) -> *const raw::Registers {
+pub(crate) fn of(registers: &Registers) -> *const raw::Registers {
     let registers: *const Registers = registers;
     registers.cast()
 }

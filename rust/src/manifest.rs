@@ -149,7 +149,7 @@ impl Endpoint {
     /// The first endpoint, whose UUID is zeros. Panics, which a constant tells when it is compiled, where there is no
     /// region or more than [`MOST_REGIONS`].
     ///
-    /// ```compile_fail
+    /// ```compile_fail,E0080
     /// # use gorseplumb::*;
     /// const OWNS_NOTHING: Endpoint = Endpoint::normal_world(Version::V1_1, Properties::NONE, &[]);
     /// # let _ = OWNS_NOTHING;
@@ -201,11 +201,18 @@ impl Endpoint {
 pub struct Manifest(raw::Manifest);
 
 impl Manifest {
+    pub(crate) const EMPTY: Manifest = Manifest(raw::Manifest {
+        ram_base: 0,
+        ram_blocks: 0,
+        endpoint_count: 0,
+        endpoints: [Endpoint::NONE.0; MOST_ENDPOINTS],
+    });
+
     /// So many blocks of 2 MiB from this address on, and these endpoints, the normal world first. Panics, which a
     /// constant tells when it is compiled, where there is no block, more than [`MOST_BLOCKS`], no endpoint, or more
     /// than [`MOST_ENDPOINTS`].
     ///
-    /// ```compile_fail
+    /// ```compile_fail,E0080
     /// # use gorseplumb::*;
     /// const NOBODY: Manifest = Manifest::new(0x4000_0000, 1, &[]);
     /// # let _ = NOBODY;
@@ -230,14 +237,16 @@ impl Manifest {
         if endpoints.is_empty() || endpoints.len() > MOST_ENDPOINTS {
             return Err(CountError::Endpoints);
         }
-        let mut all = [Endpoint::NONE.0; MOST_ENDPOINTS];
+        let mut manifest = Manifest::EMPTY.0;
+        manifest.ram_base = ram_base;
+        manifest.ram_blocks = ram_blocks;
+        manifest.endpoint_count = endpoints.len() as u32;
         let mut place = 0;
         while place < endpoints.len() {
-            all[place] = endpoints[place].0;
+            manifest.endpoints[place] = endpoints[place].0;
             place += 1;
         }
-        let endpoint_count = endpoints.len() as u32;
-        Ok(Manifest(raw::Manifest { ram_base, ram_blocks, endpoint_count, endpoints: all }))
+        Ok(Manifest(manifest))
     }
 
     /// How many pages its RAM has.
@@ -248,5 +257,10 @@ impl Manifest {
 
     pub(crate) const fn raw(&self) -> &raw::Manifest {
         &self.0
+    }
+
+    #[cfg(declarations_2)]
+    pub(crate) fn raw_mut(&mut self) -> &mut raw::Manifest {
+        &mut self.0
     }
 }

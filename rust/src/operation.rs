@@ -15,7 +15,7 @@ pub type Registers = [u64; 8];
 ///
 /// There are eight, and more aren't compiled:
 ///
-/// ```compile_fail
+/// ```compile_fail,E0080
 /// const NINE: gorseplumb::Registers = gorseplumb::registers([0; 9]);
 /// # let _ = NINE;
 /// ```

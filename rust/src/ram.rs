@@ -110,6 +110,12 @@ impl<'ram> Lent<'ram> {
         Machine::boot_held_in(description, self)
     }
 
+    #[cfg(declarations_2)]
+    /// The list, for the library.
+    pub(crate) fn raw(&mut self) -> *mut raw::Lent {
+        &mut self.list
+    }
+
     /// The pages, for as long as they were lent.
     #[must_use]
     pub fn into_pages(self) -> &'ram mut [Page] {

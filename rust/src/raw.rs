@@ -111,6 +111,8 @@ pub const NO_MACHINE: u32 = 19;
 pub const WRONG_COUNT: u32 = 20;
 pub const NOT_CERTIFIED: u32 = 21;
 pub const LENT: u32 = 22;
+pub const BAD_BASE: u32 = 23;
+pub const BAD_ROOTS: u32 = 24;
 
 #[derive(Clone, Copy, Debug, PartialEq, Eq)]
 #[repr(C)]
@@ -217,18 +219,19 @@ pub struct Reason {
     pub check: u32,
     pub error: i32,
     pub about: u32,
+    pub obstacle: u32,
     pub page: u32,
     pub endpoint: u32,
-    pub handle: u64,
+    pub owner: u32,
     pub number: u32,
     pub flaw: u32,
+    pub index: u32,
     pub has_value: u32,
-    pub obstacle: u32,
+    pub handle: u64,
+    pub transaction: u64,
     pub value: u64,
     pub first: u64,
     pub size: u64,
-    pub owner: u32,
-    pub transaction: u64,
 }
 
 #[derive(Clone, Copy, Debug, PartialEq, Eq)]
@@ -281,4 +284,5 @@ extern "C" {
     pub fn gorseplumb_check_number(function: u32, check: u32) -> u32;
     pub fn gorseplumb_fault_name(fault: u32) -> *const u8;
     pub fn gorseplumb_answer_name(answer: u32) -> *const u8;
+    pub fn gorseplumb_flaw_name(flaw: u32) -> *const u8;
 }

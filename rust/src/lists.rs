@@ -1,0 +1,104 @@
+// SPDX-License-Identifier: MIT OR Apache-2.0
+//! Operations in a list, and the text of a manifest as numbers.
+use crate::codes::{BootError, Fault};
+use crate::machine::{booted, Machine};
+use crate::manifest::Manifest;
+use crate::operation::{accessed, Answer, Registers, Size};
+use crate::ram::Ram;
+use crate::raw;
+use core::fmt;
+
+/// An operation of the endpoint that runs.
+#[derive(Clone, Copy, Debug, PartialEq, Eq)]
+#[repr(transparent)]
+pub struct Operation(raw::Operation);
+
+impl Operation {
+    const NONE: raw::Operation = raw::Operation { kind: raw::OPERATION_CALL, size: 0, address: 0, value: 0, x: [0; 8] };
+
+    /// A call.
+    #[must_use]
+    pub const fn call(registers: Registers) -> Operation {
+        Operation(raw::Operation { x: registers, ..Operation::NONE })
+    }
+
+    /// A load.
+    #[must_use]
+    pub const fn load(address: u64, size: Size) -> Operation {
+        Operation(raw::Operation { kind: raw::OPERATION_LOAD, size: size as u32, address, ..Operation::NONE })
+    }
+
+    /// A store of the value's lowest bytes.
+    #[must_use]
+    pub const fn store(address: u64, size: Size, value: u64) -> Operation {
+        Operation(raw::Operation { kind: raw::OPERATION_STORE, size: size as u32, address, value, ..Operation::NONE })
+    }
+
+    /// A fetch of one instruction.
+    #[must_use]
+    pub const fn fetch(address: u64) -> Operation {
+        Operation(raw::Operation { kind: raw::OPERATION_FETCH, address, ..Operation::NONE })
+    }
+}
+
+/// The place of an outcome in a list.
+#[derive(Clone, Copy, PartialEq, Eq)]
+#[repr(transparent)]
+pub struct Outcome(raw::Outcome);
+
+/// What an operation gives.
+#[derive(Clone, Copy, Debug, PartialEq, Eq)]
+pub enum Told {
+    /// A call's answer.
+    Answer(Answer),
+    /// What was loaded or fetched, the lowest byte first.
+    Data(u64),
+    /// A store was done.
+    Done,
+    /// An access is refused.
+    Fault(Fault),
+}
+
+impl Outcome {
+    /// A place to which no operation has written yet: as if a store was done.
+    pub const NONE: Outcome = Outcome(raw::Outcome { kind: raw::KIND_DONE, runner: 0, value: 0, x: [0; 8] });
+
+    /// What the operation gave.
+    #[must_use]
+    pub fn told(&self) -> Told {
+        match self.0.kind {
+            raw::KIND_REGISTERS => Told::Answer(Answer::of(self.0)),
+            raw::KIND_DONE => Told::Done,
+            _ => accessed(&self.0).map_or_else(Told::Fault, Told::Data),
+        }
+    }
+}
+
+impl fmt::Debug for Outcome {
+    fn fmt(&self, to: &mut fmt::Formatter<'_>) -> fmt::Result {
+        self.told().fmt(to)
+    }
+}
+
+impl<R: Ram> Machine<R> {
+    /// Does operations one behind the other, as many as both lists have places, and says how many.
+    pub fn run(&mut self, operations: &[Operation], outcomes: &mut [Outcome]) -> usize {
+        let (given, places) = (operations.as_ptr().cast(), outcomes.as_mut_ptr().cast());
+        // SAFETY: the machine and the outcomes are borrowed for this one call, and both lists are as long as is said.
+        unsafe { raw::gorseplumb_run(self.place(), given, operations.len(), places, outcomes.len()) }
+    }
+}
+
+impl Manifest {
+    /// The manifest of a text, as numbers. A machine boots from one as from the other.
+    ///
+    /// # Errors
+    /// [`BootError::NoMemory`], or the cause for which the text is refused.
+    pub fn read(text: impl AsRef<[u8]>) -> Result<Manifest, BootError> {
+        let text = text.as_ref();
+        let mut manifest = Manifest::EMPTY;
+        // SAFETY: the text is as long as is said, and the manifest is live.
+        booted(unsafe { raw::gorseplumb_read_manifest(text.as_ptr(), text.len(), manifest.raw_mut()) })?;
+        Ok(manifest)
+    }
+}

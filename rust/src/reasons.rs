@@ -1,0 +1,215 @@
+// SPDX-License-Identifier: MIT OR Apache-2.0
+//! Why an operation would be refused, or was refused just before.
+use crate::checks::{Check, Flaw};
+use crate::codes::{ErrorCode, Fault};
+use crate::machine::{of, Machine};
+use crate::operation::{known, Registers, Size};
+use crate::ram::Ram;
+use crate::{raw, Id};
+use core::fmt;
+
+/// Why a call is refused: the first of its checks that fails, and what that is about.
+#[derive(Clone, Copy, Debug, PartialEq, Eq, Hash)]
+pub struct CallReason {
+    /// The check.
+    pub check: Check,
+    /// What FFA_ERROR tells.
+    pub error: ErrorCode,
+    /// What the check is about, where more is to be told than its words.
+    pub about: Option<About>,
+}
+
+/// Why an access is refused.
+#[derive(Clone, Copy, Debug, PartialEq, Eq, Hash)]
+pub struct AccessReason {
+    /// The fault.
+    pub fault: Fault,
+    /// What stands in the way, where the address is in no page that the endpoint reaches.
+    pub obstacle: Option<Obstacle>,
+}
+
+/// What a check is about.
+#[derive(Clone, Copy, Debug, PartialEq, Eq, Hash)]
+pub enum About {
+    /// A page, counted from RAM's first.
+    Page {
+        /// Which.
+        page: u32,
+        /// What stands in the way there.
+        obstacle: Option<Obstacle>,
+    },
+    /// An endpoint that is named.
+    Endpoint(Id),
+    /// A handle that is named.
+    Handle(u64),
+    /// A register.
+    Register {
+        /// x0 is 0.
+        number: u32,
+        /// What it holds, of which the call reads 32 bits or 64.
+        value: u64,
+    },
+    /// The least bit of a notification's bitmap that fails the check.
+    Bit(u32),
+    /// A field of a descriptor.
+    Field {
+        /// The condition that it breaks.
+        flaw: Flaw,
+        /// Of an access descriptor or a range, which, from 0.
+        index: u32,
+        /// The place of its first byte.
+        first: u64,
+        /// How many bytes it has.
+        size: u64,
+        /// The number in it, where it has 1, 2, 4 or 8 bytes and all are there.
+        value: Option<u64>,
+    },
+}
+
+/// What stands in the way at a page.
+#[derive(Clone, Copy, Debug, PartialEq, Eq, Hash)]
+pub enum Obstacle {
+    /// RAM has no such page.
+    OutsideRam,
+    /// It is the manager's.
+    ManagersPage,
+    /// Another endpoint owns it.
+    OwnedBy(Id),
+    /// It stands in the open transaction of this handle.
+    InTransaction(u64),
+}
+
+impl fmt::Display for Obstacle {
+    fn fmt(&self, to: &mut fmt::Formatter<'_>) -> fmt::Result {
+        match self {
+            Obstacle::OutsideRam => to.write_str("is outside RAM"),
+            Obstacle::ManagersPage => to.write_str("belongs to the manager"),
+            Obstacle::OwnedBy(owner) => write!(to, "belongs to {owner}"),
+            Obstacle::InTransaction(handle) => write!(to, "is in the open transaction {handle:016X}"),
+        }
+    }
+}
+
+impl fmt::Display for About {
+    fn fmt(&self, to: &mut fmt::Formatter<'_>) -> fmt::Result {
+        match self {
+            About::Page { page, obstacle: None } => write!(to, "page {page}"),
+            About::Page { page, obstacle: Some(obstacle) } => write!(to, "page {page} {obstacle}"),
+            About::Endpoint(endpoint) => write!(to, "endpoint {endpoint}"),
+            About::Handle(handle) => write!(to, "handle {handle:016X}"),
+            About::Register { number, value } => write!(to, "register {number} is {value:X}"),
+            About::Bit(bit) => write!(to, "bit {bit}"),
+            About::Field { flaw, first, .. } => write!(to, "{flaw}: byte {first}"),
+        }
+    }
+}
+
+/// The check's words, and what it is about.
+impl fmt::Display for CallReason {
+    fn fmt(&self, to: &mut fmt::Formatter<'_>) -> fmt::Result {
+        self.check.fmt(to)?;
+        self.about.map_or(Ok(()), |about| write!(to, ": {about}"))
+    }
+}
+
+/// The fault, and what stands in the way.
+impl fmt::Display for AccessReason {
+    fn fmt(&self, to: &mut fmt::Formatter<'_>) -> fmt::Result {
+        self.fault.fmt(to)?;
+        self.obstacle.map_or(Ok(()), |obstacle| write!(to, ": the page {obstacle}"))
+    }
+}
+
+#[cfg(feature = "std")]
+impl std::error::Error for CallReason {
+    fn source(&self) -> Option<&(dyn std::error::Error + 'static)> {
+        Some(&self.error)
+    }
+}
+
+#[cfg(feature = "std")]
+impl std::error::Error for AccessReason {
+    fn source(&self) -> Option<&(dyn std::error::Error + 'static)> {
+        Some(&self.fault)
+    }
+}
+
+impl CallReason {
+    fn of(told: &raw::Reason) -> CallReason {
+        CallReason {
+            check: known(Check::of(told.check)),
+            error: known(ErrorCode::of(told.error)),
+            about: About::of(told),
+        }
+    }
+}
+
+impl AccessReason {
+    fn of(told: &raw::Reason) -> AccessReason {
+        AccessReason { fault: known(Fault::of(told.fault)), obstacle: Obstacle::of(told) }
+    }
+}
+
+impl About {
+    fn of(told: &raw::Reason) -> Option<About> {
+        let value = (told.has_value != 0).then_some(told.value);
+        Some(match told.about {
+            raw::ABOUT_PAGE => About::Page { page: told.page, obstacle: Obstacle::of(told) },
+            raw::ABOUT_ENDPOINT => About::Endpoint(Id(told.endpoint as u16)),
+            raw::ABOUT_HANDLE => About::Handle(told.handle),
+            raw::ABOUT_REGISTER => About::Register { number: told.number, value: told.value },
+            raw::ABOUT_BIT => About::Bit(told.number),
+            raw::ABOUT_FIELD => {
+                let flaw = known(Flaw::of(told.flaw));
+                About::Field { flaw, index: told.index, first: told.first, size: told.size, value }
+            }
+            _ => return None,
+        })
+    }
+}
+
+impl Obstacle {
+    fn of(told: &raw::Reason) -> Option<Obstacle> {
+        match told.obstacle {
+            raw::OBSTACLE_OUTSIDE_RAM => Some(Obstacle::OutsideRam),
+            raw::OBSTACLE_MANAGERS_PAGE => Some(Obstacle::ManagersPage),
+            raw::OBSTACLE_OWNED_BY => Some(Obstacle::OwnedBy(Id(told.owner as u16))),
+            raw::OBSTACLE_IN_TRANSACTION => Some(Obstacle::InTransaction(told.transaction)),
+            _ => None,
+        }
+    }
+}
+
+// SAFETY, of each function: as of the other questions, and the reason is live.
+impl<R: Ram> Machine<R> {
+    /// Why this call of the runner would be refused now, or was refused just before: a refused call changes nothing.
+    /// None: it would be done.
+    #[must_use]
+    pub fn why_call(&self, registers: &Registers) -> Option<CallReason> {
+        let mut told = raw::Reason::default();
+        unsafe { raw::gorseplumb_why_call(self.asked(), of(registers), &mut told) }.then(|| CallReason::of(&told))
+    }
+
+    /// The same of a load.
+    #[must_use]
+    pub fn why_load(&self, address: u64, size: Size) -> Option<AccessReason> {
+        let mut told = raw::Reason::default();
+        unsafe { raw::gorseplumb_why_load(self.asked(), address, size as u32, &mut told) }
+            .then(|| AccessReason::of(&told))
+    }
+
+    /// The same of a store.
+    #[must_use]
+    pub fn why_store(&self, address: u64, size: Size) -> Option<AccessReason> {
+        let mut told = raw::Reason::default();
+        unsafe { raw::gorseplumb_why_store(self.asked(), address, size as u32, &mut told) }
+            .then(|| AccessReason::of(&told))
+    }
+
+    /// The same of a fetch.
+    #[must_use]
+    pub fn why_fetch(&self, address: u64) -> Option<AccessReason> {
+        let mut told = raw::Reason::default();
+        unsafe { raw::gorseplumb_why_fetch(self.asked(), address, &mut told) }.then(|| AccessReason::of(&told))
+    }
+}
