@@ -50,7 +50,7 @@ impl fmt::Display for Rights {
 pub struct Region(raw::Region);
 
 impl Region {
-    const NONE: Region = Region::new(0, 0, Rights::Ro);
+    const NONE: Region = Region(raw::Region { base: 0, pages: 0, rights: 0 });
 
     /// So many pages from this address on.
     #[must_use]

@@ -4,9 +4,8 @@
 mod common;
 
 use common::machines::{MACHINE, PARTITIONS};
-use common::{example, play, program, ram, top};
+use common::{example, play, ram, run, top};
 use gorseplumb::{Machine, Manifest};
-use std::process::Command;
 
 /// Plays a trace on RAM of the heap and on lent pages, booted from text and from numbers, and compares.
 fn plays(name: &str, text: &str, manifest: &Manifest, trace: &str, expected: &str) {
@@ -47,12 +46,6 @@ fn the_first_trace_gives_the_text_of_the_readme() {
                     pages 40020000 4002FFFF 8001 --- rwx\npages 40030000 401FFFFF 8000 --- ---\n";
     let told = play(&mut Machine::boot(&machine[..end]).unwrap(), &example("first.trace"));
     assert_eq!(told, expected);
-}
-
-fn run(arguments: &[&str]) -> String {
-    let ran = Command::new(program()).args(arguments).output().unwrap_or_else(|why| panic!("{:?}: {why}", program()));
-    assert!(ran.status.success(), "{arguments:?}: {}", String::from_utf8_lossy(&ran.stderr));
-    String::from_utf8(ran.stdout).unwrap()
 }
 
 #[test]

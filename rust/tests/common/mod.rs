@@ -2,12 +2,15 @@
 //! Plays lines of a trace on a machine, and says what the program would print of them. docs/FORMATS.md has the lines.
 #![allow(dead_code)] // each test takes a part of it
 
+#[cfg(declarations_2)]
+pub mod explained;
 pub mod machines;
 pub mod refusals;
 
 use gorseplumb::{registers, Fault, Id, Machine, Page, Ram, Rights, Size};
 use std::fmt::Write;
 use std::path::{Path, PathBuf};
+use std::process::Command;
 use std::{env, fs};
 
 /// Where RAM begins in each manifest of examples/ and of the tests.
@@ -25,8 +28,15 @@ pub fn top() -> PathBuf {
 }
 
 /// The program `ffaplay`: the one that FFAPLAY names, or the one that is built here.
-pub fn program() -> PathBuf {
+fn program() -> PathBuf {
     env::var_os("FFAPLAY").map_or_else(|| top().join("crates/ffaplay/out/ffaplay"), PathBuf::from)
+}
+
+/// What the program prints.
+pub fn run(arguments: &[&str]) -> String {
+    let ran = Command::new(program()).args(arguments).output().unwrap_or_else(|why| panic!("{:?}: {why}", program()));
+    assert!(ran.status.success(), "{arguments:?}: {}", String::from_utf8_lossy(&ran.stderr));
+    String::from_utf8(ran.stdout).unwrap()
 }
 
 /// Pages of zeros, as many as so many blocks have.

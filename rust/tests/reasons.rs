@@ -1,0 +1,136 @@
+// SPDX-License-Identifier: MIT OR Apache-2.0
+//! Why operations are refused: the manual's reasons, and the check of each call that fails.
+#![cfg(declarations_2)]
+mod common;
+
+use common::explained::explain;
+use common::machines::{MACHINE, PARTITIONS};
+use common::refusals::{rows, Row};
+use common::{example, play, play_line, ram, refusals};
+use gorseplumb::{call_name, raw, registers, About, Check, ErrorCode, Fault, Flaw, Id, Machine, Obstacle, Size};
+use std::ffi::CStr;
+
+#[test]
+fn the_manuals_reasons() {
+    let expected = example("refused.out");
+    let trace = example("refused.trace");
+    let mut pages = ram(2);
+    assert_eq!(explain(&mut Machine::boot(&PARTITIONS).unwrap(), &trace), expected);
+    assert_eq!(explain(&mut Machine::boot_lent(&PARTITIONS, &mut pages).unwrap(), &trace), expected);
+}
+
+/// The call of a line.
+fn given(line: &str) -> gorseplumb::Registers {
+    let mut given = registers([]);
+    for (place, word) in line.split_whitespace().skip(1).enumerate() {
+        given[place] = u64::from_str_radix(word, 16).unwrap();
+    }
+    given
+}
+
+fn told_of(row: &Row) {
+    let (call, number) = row.check;
+    let mut machine = Machine::boot(&refusals::MACHINE).unwrap();
+    for line in row.before.lines() {
+        if line.starts_with("call") {
+            assert_eq!(machine.why_call(&given(line)), None, "{call} {number}: {line}");
+        }
+        play_line(&mut machine, line);
+    }
+    let given = given(&row.line);
+    let reason = machine.why_call(&given).unwrap();
+    assert_eq!(reason.check, row.named, "{call} {number}");
+    assert_eq!(reason.check.number_in(given[0] as u32), Some(number as u32), "{call} {number}");
+    assert_eq!(machine.call(&given).error(), Some(reason.error), "{call} {number}");
+    assert_eq!(machine.why_call(&given), Some(reason), "{call} {number}");
+    assert_eq!(call_name(given[0] as u32), Some(call).filter(|call| call.starts_with("FFA_")));
+}
+
+#[test]
+fn each_check_is_told() {
+    rows().iter().for_each(told_of);
+}
+
+/// What docs/COMMANDS.md has in its table of reasons.
+#[test]
+fn what_checks_are_about() {
+    let mut machine = Machine::boot(&MACHINE).unwrap();
+    let mut about = |before: &str, line: &str| {
+        play(&mut machine, before);
+        machine.why_call(&given(line)).and_then(|reason| reason.about)
+    };
+    let buffers = "call 84000066 4001E000 4001F000 5";
+    assert_eq!(about("", buffers), Some(About::Register { number: 3, value: 5 }));
+    let wide = "call C4000066 14001E000 4001F000 1";
+    assert_eq!(about("", wide), Some(About::Register { number: 1, value: 0x1_4001_E000 }));
+    assert_eq!(about("", "call 8400006F 8003"), Some(About::Endpoint(Id(0x8003))));
+    assert_eq!(about("", "call 84000077 1 8001"), Some(About::Handle(0x8001_0000_0001)));
+    assert_eq!(about("", "call 84000081 8001 0 4"), Some(About::Bit(2)));
+    let taken = Some(Obstacle::OwnedBy(Id(0x8001)));
+    assert_eq!(about("", "call 84000066 40020000 4001F000 1"), Some(About::Page { page: 32, obstacle: taken }));
+    let descriptor = "call 84000066 4001E000 4001F000 1\nstore 4001E000 0000000000000000\n\
+                      store 4001E018 0000000100000010\nstore 4001E020 0000000000000030\n\
+                      store 4001E030 00000040000F8001\nstore 4001E040 0000000100000001\n\
+                      store 4001E050 0000000040010000\nstore 4001E058 0000000000000001\n";
+    assert_eq!(
+        about(descriptor, "call 84000072 60 60"),
+        Some(About::Field { flaw: Flaw::AccessPermissions, index: 0, first: 50, size: 1, value: Some(0xF) })
+    );
+    assert_eq!(about("", "call 8400006B"), None);
+}
+
+#[test]
+fn why_accesses_fault() {
+    let mut machine = Machine::boot(&PARTITIONS).unwrap();
+    let told = |reason: Option<gorseplumb::AccessReason>| reason.map(|reason| (reason.fault, reason.obstacle));
+    let translation = |obstacle| Some((Fault::Translation, Some(obstacle)));
+    assert_eq!(machine.why_load(0x4001_0000, Size::B8), None);
+    assert_eq!(told(machine.why_load(0x4001_0001, Size::B2)), Some((Fault::Alignment, None)));
+    assert_eq!(told(machine.why_load(0x3FFF_FFFC, Size::B4)), translation(Obstacle::OutsideRam));
+    assert_eq!(told(machine.why_store(0x1_0000_0000, Size::B4)), translation(Obstacle::OutsideRam));
+    assert_eq!(told(machine.why_store(0x4000_0000, Size::B4)), translation(Obstacle::ManagersPage));
+    assert_eq!(told(machine.why_load(0x4020_0000, Size::B1)), translation(Obstacle::OwnedBy(Id(0x8002))));
+    assert_eq!(told(machine.why_fetch(0x4001_0000)), Some((Fault::Permission, None)));
+    assert_eq!(told(machine.why_fetch(0x4001_0002)), Some((Fault::Alignment, None)));
+    machine.call(&registers([0x8400_006D, 0x8001_0000])).done().unwrap();
+    assert_eq!(told(machine.why_store(0x4002_0000, Size::B1)), Some((Fault::Permission, None)));
+    let reason = machine.why_load(0x4020_0000, Size::B1).unwrap();
+    assert_eq!(reason.to_string(), "translation fault: the page belongs to 8002");
+}
+
+fn text(name: *const u8) -> String {
+    // SAFETY: a name of the library is never null and ends with a zero.
+    unsafe { CStr::from_ptr(name.cast()) }.to_str().unwrap().into()
+}
+
+/// The words here are the archive's.
+#[test]
+fn names_are_the_archives() {
+    // SAFETY: each takes a number.
+    unsafe {
+        for check in Check::ALL {
+            assert_eq!(text(raw::gorseplumb_check_name(check.number())), check.words());
+        }
+        for flaw in Flaw::ALL {
+            assert_eq!(text(raw::gorseplumb_flaw_name(flaw.number())), flaw.words());
+        }
+        for fault in [Fault::Translation, Fault::Permission, Fault::Alignment, Fault::AccessFlag, Fault::OutsideRam] {
+            assert_eq!(text(raw::gorseplumb_fault_name(fault.number())), fault.words());
+        }
+        for code in ErrorCode::ALL {
+            assert_eq!(text(raw::gorseplumb_error_name(code.number())), code.words());
+        }
+        for cause in gorseplumb::Cause::ALL {
+            let told = cause.to_string();
+            assert_eq!(text(raw::gorseplumb_answer_name(cause.number())), told.split(':').next().unwrap());
+        }
+        for number in [0, Check::ALL.len() as u32 + 1] {
+            assert_eq!(text(raw::gorseplumb_check_name(number)), "");
+        }
+    }
+    assert_eq!(
+        (call_name(0x8400_006D), call_name(0xC400_0066), call_name(0)),
+        (Some("FFA_RUN"), Some("FFA_RXTX_MAP"), None)
+    );
+    assert_eq!(Check::StillHeld.number_in(0x8400_006D), None);
+}
