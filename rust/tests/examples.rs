@@ -6,6 +6,7 @@ mod common;
 use common::machines::{MACHINE, PARTITIONS};
 use common::{example, play, ram, run, top};
 use gorseplumb::{Machine, Manifest};
+use std::fs;
 
 /// Plays a trace on RAM of the heap and on lent pages, booted from text and from numbers, and compares.
 fn plays(name: &str, text: &str, manifest: &Manifest, trace: &str, expected: &str) {
@@ -48,6 +49,17 @@ fn the_first_trace_gives_the_text_of_the_readme() {
     assert_eq!(told, expected);
 }
 
+/// The program of docs/RUST.md is the example that is built and run.
+#[test]
+fn the_page_has_the_example() {
+    let page = fs::read_to_string(top().join("docs/RUST.md")).unwrap();
+    let example = include_str!("../examples/first.rs");
+    let program = &example[example.find("use gorseplumb").unwrap()..];
+    let told: String =
+        program.lines().map(|line| if line.is_empty() { "\n".into() } else { format!("    {line}\n") }).collect();
+    assert!(page.contains(&told));
+}
+
 #[test]
 #[ignore = "needs the program ffaplay"]
 fn the_examples_give_what_the_program_prints() {
@@ -72,9 +84,9 @@ fn generated_operations_give_what_the_program_prints() {
         let file = file.to_str().unwrap();
         let trace = run(&["generate", "--seed", seed, "--lines", "100000", file]);
         let path = std::env::temp_dir().join(format!("gorseplumb-{}-{machine}.trace", std::process::id()));
-        std::fs::write(&path, &trace).unwrap();
+        fs::write(&path, &trace).unwrap();
         let expected = run(&["run", file, path.to_str().unwrap()]);
-        std::fs::remove_file(&path).unwrap();
+        fs::remove_file(&path).unwrap();
         let operations = trace.lines().filter(|line| !line.is_empty() && !line.starts_with('#')).count();
         println!("{machine}: {operations} operations");
         assert!(operations > 90_000 && expected.lines().count() >= operations);
