@@ -263,6 +263,7 @@ impl<R: Ram> Machine<R> {
     }
 
     /// The machine, for a question.
+    #[inline]
     pub(crate) fn asked(&self) -> *const raw::Machine {
         self.at.get()
     }

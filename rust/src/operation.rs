@@ -82,6 +82,7 @@ impl Answer {
     }
 
     /// What FFA_ERROR tells, where the call is refused.
+    #[inline]
     #[must_use]
     pub fn error(&self) -> Option<ErrorCode> {
         let [w0, _, w2, ..] = self.0.x;
@@ -92,15 +93,18 @@ impl Answer {
     ///
     /// # Errors
     /// The code that FFA_ERROR tells. Nothing has changed then.
+    #[inline]
     pub fn done(self) -> Result<Answer, ErrorCode> {
         self.error().map_or(Ok(self), Err)
     }
 
+    #[inline]
     pub(crate) fn of(outcome: raw::Outcome) -> Answer {
         debug_assert_eq!(outcome.kind, raw::KIND_REGISTERS);
         Answer(outcome)
     }
 
+    #[inline]
     pub(crate) fn of_endpoint(outcome: raw::Outcome) -> Result<Answer, NoEndpoint> {
         if outcome.kind == raw::KIND_NO_ENDPOINT {
             return Err(NoEndpoint);
