@@ -32,6 +32,15 @@ pub unsafe fn settling(descriptor: i32, bytes: *const u8, size: usize) -> Option
 
 /// Has the library settle what it writes by a function of type `fn(Settling)`, which may not call the library. For a
 /// program without a C library whose processors walk the tables: it defines the `write` that the library calls.
+///
+/// ```no_run
+/// # fn main() {}
+/// fn settle(asked: gorseplumb::Settling) {
+///     // DSB ISHST, and where `asked.size` isn't 0 a TLBI of each page: docs/EMBEDDING.md
+/// }
+///
+/// gorseplumb::settle_by!(settle);
+/// ```
 #[macro_export]
 macro_rules! settle_by {
     ($settle:path) => {
