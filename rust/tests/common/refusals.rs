@@ -73,7 +73,7 @@ const RO: u64 = 1;
 const RW: u64 = 2;
 
 fn row(call: &'static str, number: usize, named: Check, before: &[&str], line: &str) -> Row {
-    Row { check: (call, number), named, before: before.concat(), line: line.into() }
+    Row { check: (call, number), named, before: before.concat(), line: line.trim_end().into() }
 }
 
 /// Stores of eight bytes at places in a buffer.
@@ -140,7 +140,7 @@ impl Send {
             row(8, ReceiverUnknown, &[&described(0, 1, PAGE)], &line),
             row(9, RangeOutside, &[&described(0, 0x8001, 0)], &line),
             row(10, PageUnsendable, &[&described(0, 0x8001, 0x4000_0000)], &line),
-            row(13, TransactionsFull, &[MAP, &sends(16), &self.descriptor(TX, 0, 0x8001, PAGE + 0x10000)], &line),
+            row(13, TransactionsFull, &[MAP, &sends(16), &self.descriptor(TX, 0, 0x8001, PAGE + 0x12000)], &line),
             row(14, HandlesUsedUp, &[MAP, &all_handles(), &self.descriptor(TX, 0, 0x8001, PAGE)], &line),
         ];
         if self.permission != NONE {
