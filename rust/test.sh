@@ -6,8 +6,9 @@
 # another processor's, is told by. With --install it first installs Debian's packages for that; with --bench it measures
 # operations, from Rust and from C.
 #
-# ARCHIVES is a folder with a ready archive (native.a, or <target>/libgorseplumb.a), FFAPLAY the program, CARGO another cargo.
-# Miri, which would look at each unsafe block, isn't among Debian's packages: valgrind takes its place.
+# ARCHIVES is a folder with a ready archive (native.a, or <target>/libgorseplumb.a), FFAPLAY the program. The cargo on the path is
+# taken; no network is. Miri, which would look at each unsafe block, isn't among Debian's packages, and calls nothing foreign:
+# valgrind takes its place.
 set -euo pipefail
 here=$(cd "$(dirname "${BASH_SOURCE[0]}")" && pwd)
 top=$(dirname "$here")
@@ -23,9 +24,8 @@ for word in "$@"; do
 done
 to=$(mktemp -d)
 trap 'rm -rf "$to"' EXIT
-cargo=${CARGO:-cargo}
 missing=0
-export CARGO_TARGET_DIR=$to/target CARGO_TERM_COLOR=never
+export CARGO_TARGET_DIR=$to/target CARGO_TERM_COLOR=never CARGO_NET_OFFLINE=true
 
 has() {
     command -v "$1" >/dev/null || { echo "not run: no $1 (Debian has it in: $packages)"; missing=1; return 1; }
@@ -37,7 +37,7 @@ quiet() {
     echo "$1: $(awk '/^test result/ { tests += $4; ignored += $8 } END { if (tests) printf "%d tests", tests; else printf "done"; if (ignored) printf ", and %d not run", ignored }' "$to/log")"
 }
 
-has "$cargo" || exit 1
+has cargo || exit 1
 has gcc || exit 1
 mkdir "$to/lib"
 if [[ -e ${ARCHIVES:-}/$target/libgorseplumb.a ]]; then
@@ -55,39 +55,39 @@ fi
 export GORSEPLUMB_LIB_DIR=$to/lib FFAPLAY
 cd "$here"
 
-"$cargo" --version
+rustc --version
 if has cargo-fmt; then
-    quiet "the form of the crate" "$cargo" fmt --check
-    quiet "the form of bare/" "$cargo" fmt --check --manifest-path bare/Cargo.toml
+    quiet "the form of the crate" cargo fmt --check
+    quiet "the form of bare/" cargo fmt --check --manifest-path bare/Cargo.toml
 fi
 if has cargo-clippy; then
-    quiet "clippy" "$cargo" clippy --all-targets -- -D warnings
-    quiet "clippy, without features" "$cargo" clippy --no-default-features -- -D warnings
-    quiet "clippy, bare/" "$cargo" clippy --manifest-path bare/Cargo.toml -- -D warnings
+    quiet "clippy" cargo clippy --all-targets -- -D warnings
+    quiet "clippy, without features" cargo clippy --no-default-features -- -D warnings
+    quiet "clippy, bare/" cargo clippy --manifest-path bare/Cargo.toml -- -D warnings
 fi
 # (rustdoc compares the codes of errors that it expects only where it may use what isn't stable)
-quiet "examples of the pages, and what may not be compiled" env RUSTC_BOOTSTRAP=1 "$cargo" test --doc
-quiet "pages" env RUSTDOCFLAGS="-D warnings" "$cargo" doc --no-deps
-quiet "tests" "$cargo" test --lib --tests -- --include-ignored
-quiet "tests, optimized" "$cargo" test --release --lib --tests -- --include-ignored
-"$cargo" run -q --example first
+quiet "examples of the pages, and what may not be compiled" env RUSTC_BOOTSTRAP=1 cargo test --doc
+quiet "pages" env RUSTDOCFLAGS="-D warnings" cargo doc --no-deps
+quiet "tests" cargo test --lib --tests -- --include-ignored
+quiet "tests, optimized" cargo test --release --lib --tests -- --include-ignored
+cargo run -q --example first
 if has valgrind; then
     # The archive isn't instrumented by a sanitizer. One test forgets a machine, so that its memory is lost.
-    runner="valgrind -q --error-exitcode=9 --leak-check=full --errors-for-leak-kinds=definite"
+    runner="valgrind -q --error-exitcode=9 --leak-check=full --show-leak-kinds=definite --errors-for-leak-kinds=definite"
     quiet "lent pages under valgrind" env CARGO_TARGET_X86_64_UNKNOWN_LINUX_GNU_RUNNER="$runner" \
-        "$cargo" test --test lent -- --skip forgotten --test-threads 1
+        cargo test --test lent -- --skip forgotten --test-threads 1
     quiet "the manual's traces under valgrind" env CARGO_TARGET_X86_64_UNKNOWN_LINUX_GNU_RUNNER="$runner" \
-        "$cargo" test --test examples -- --test-threads 1
+        cargo test --test examples -- --test-threads 1
 fi
 for profile in "" --release; do
-    "$cargo" run -q $profile --manifest-path bare/Cargo.toml
+    cargo run -q $profile --manifest-path bare/Cargo.toml
     echo "a program without std: done ${profile#--}"
 done
 
 # An archive of another processor, one that isn't there, and one that is none.
 refused() {
     local said
-    if said=$(GORSEPLUMB_LIB_DIR=$2 "$cargo" check -q 2>&1); then echo "$1: built" >&2; exit 1; fi
+    if said=$(GORSEPLUMB_LIB_DIR=$2 cargo check -q 2>&1); then echo "$1: built" >&2; exit 1; fi
     grep -q "gorseplumb: .*$3" <<<"$said" || { echo "$1: $said" >&2; exit 1; }
     echo "$1: refused, as $(grep -o "gorseplumb: .*" <<<"$said" | sed "s|$to|..|g" | head -1)"
 }
@@ -103,7 +103,7 @@ refused "no archive by this name" "$to/none" "is no archive of ELF files"
 
 if [[ $bench ]]; then
     echo "from Rust:"
-    "$cargo" bench -q --bench operations
+    cargo bench -q --bench operations
     echo "from C:"
     gcc -std=gnu11 -Wall -Wextra -Werror -O2 -I"$top/c" benches/operations.c "$top/c/heap.c" "$to/lib/libgorseplumb.a" -o "$to/operations"
     "$to/operations"

@@ -33,7 +33,8 @@ fn listed(body: &str) -> Vec<(usize, ErrorCode)> {
     let table = body.split("| Check | Applies where | Code |\n|---|---|---|\n").nth(1).unwrap_or("");
     let rows = table.lines().take_while(|line| line.starts_with("| "));
     let row = |line: &str| {
-        let cells: Vec<&str> = line.split(" | ").map(|cell| cell.trim_matches(['|', ' '])).collect();
+        let cells: Vec<&str> =
+            line.split(" | ").map(|cell| cell.trim_matches(|letter| "| ".contains(letter))).collect();
         let (first, last) = cells[0].split_once(" to ").unwrap_or((cells[0], cells[0]));
         let count = last.parse::<usize>().unwrap() + 1 - first.parse::<usize>().unwrap();
         let code = cells.last().unwrap();

@@ -1,10 +1,12 @@
 // SPDX-License-Identifier: MIT OR Apache-2.0
 //! Each piece of memory that a boot asks for is refused in turn, and all of it goes back.
+#![allow(clippy::declare_interior_mutable_const)] // clippy of 1.63 finds one in what `thread_local!` unfolds to
+
 mod common;
 
 use common::machines::MACHINE;
 use common::{example, ram};
-use gorseplumb::{BootError, Lent, Machine, Ram, Size};
+use gorseplumb::{registers, BootError, Lent, Machine, Ram, Size};
 use std::alloc::{GlobalAlloc, Layout, System};
 use std::cell::Cell;
 
@@ -114,11 +116,11 @@ fn refuses_each_in(lent: &mut Lent<'_>) -> usize {
 #[test]
 fn an_operation_asks_for_nothing() {
     let mut machine = Machine::boot(&MACHINE).unwrap();
-    let trace = example("first.trace");
-    let lines: Vec<&str> = trace.lines().filter(|line| line.starts_with("call")).collect();
+    let id_get = registers([0x8400_0069]);
     let (_, asked) = with_refused(1, || {
+        machine.call(&id_get).done().unwrap();
         machine.store(0x4001_0000, Size::B1, 42).unwrap();
         machine.load(0x4001_0000, Size::B1).unwrap()
     });
-    assert_eq!((asked, lines.len()), (0, 1));
+    assert_eq!(asked, 0);
 }

@@ -162,11 +162,8 @@ fn described_next(send: &Send, place: u64) -> String {
 
 /// As many sends as there may be, each of which is reclaimed.
 fn all_handles() -> String {
-    let mut lines = LEND.descriptor(TX, 0, 0x8001, PAGE);
-    for handle in 1..=65535 {
-        lines += &format!("{}call 84000077 {handle:X}\n", LEND.line());
-    }
-    lines
+    let sends = (1..=65535).map(|handle| format!("{}call 84000077 {handle:X}\n", LEND.line()));
+    LEND.descriptor(TX, 0, 0x8001, PAGE) + &sends.collect::<String>()
 }
 
 fn setup() -> Vec<Row> {
