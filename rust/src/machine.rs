@@ -87,6 +87,7 @@ pub(crate) fn booted(answer: u32) -> Result<(), BootError> {
 /// There is always one: what has none is the error of a boot. It does one operation at a time, by `&mut self`, and is
 /// asked by `&self`. It may go to another thread, and is shared with none. When it is dropped its RAM goes back to the
 /// heap, or to whom it belongs.
+// In a cell: the header wants one call at a time, a question too, so no thread may ask while another one does.
 pub struct Machine<R: Ram = Heap> {
     at: UnsafeCell<raw::Machine>,
     ram: R,

@@ -69,7 +69,7 @@ pub enum Version {
     Compact = 1,
 }
 
-/// What an endpoint takes part in: some of four, joined by `|` or, in a constant, by [`Properties::and`].
+/// What an endpoint takes part in: some of four, joined by `|` or, in a constant, by [`Properties::union`].
 #[derive(Clone, Copy, Debug, PartialEq, Eq, Hash)]
 pub struct Properties(u32);
 
@@ -89,7 +89,7 @@ impl Properties {
 
     /// These and others.
     #[must_use]
-    pub const fn and(self, others: Properties) -> Properties {
+    pub const fn union(self, others: Properties) -> Properties {
         Properties(self.0 | others.0)
     }
 }
@@ -98,7 +98,7 @@ impl BitOr for Properties {
     type Output = Properties;
 
     fn bitor(self, others: Properties) -> Properties {
-        self.and(others)
+        self.union(others)
     }
 }
 

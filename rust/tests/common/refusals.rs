@@ -25,7 +25,7 @@ pub const MACHINE: Manifest = Manifest::new(
     &[
         Endpoint::normal_world(
             Version::V1_1,
-            Properties::SENDS_REQUESTS.and(Properties::INDIRECT_MESSAGES),
+            Properties::SENDS_REQUESTS.union(Properties::INDIRECT_MESSAGES),
             &[Region::new(RAM + 0x10000, 32, Rights::Rw)],
         ),
         Endpoint::partition([1; 16], Version::V1_1, Properties::ALL, &[Region::new(RAM + 0x30000, 16, Rights::Rwx)]),
