@@ -92,6 +92,12 @@ quiet "the first example" cargo run --example first
 for profile in "" --release; do
     quiet "a program without std${profile:+, optimized}" cargo run $profile --manifest-path bare/Cargo.toml
 done
+toml() { nm "$1" 2>/dev/null | grep -ci toml || true; }
+if (($(toml "$to/lib/libgorseplumb.a") == 0 || $(toml "$CARGO_TARGET_DIR/release/bare") > 0)); then
+    echo "a program that boots from numbers links the reader of TOML, or the archive has none by this name" >&2
+    exit 1
+fi
+echo "a program that boots from numbers links no reader of TOML"
 if has valgrind; then
     # The archive isn't instrumented by a sanitizer. One test forgets machines, so that their memory is lost.
     definite="--leak-check=full --show-leak-kinds=definite --errors-for-leak-kinds=definite"

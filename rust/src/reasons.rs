@@ -24,7 +24,7 @@ pub struct CallReason {
 pub struct AccessReason {
     /// The fault.
     pub fault: Fault,
-    /// What stands in the way, where the address is in no page that the endpoint reaches.
+    /// What stands in the way, of a translation fault. None there: the address has more than 32 bits.
     pub obstacle: Option<Obstacle>,
 }
 

@@ -4,7 +4,7 @@
 mod common;
 
 use common::machines::{MACHINE, PARTITIONS};
-use common::{example, play, ram, run, top};
+use common::{example, generated, play, ram, run, top};
 use gorseplumb::{Machine, Manifest};
 use std::fs;
 
@@ -81,15 +81,7 @@ fn the_examples_give_what_the_program_prints() {
 fn generated_operations_give_what_the_program_prints() {
     for (machine, manifest, seed) in [("machine", &MACHINE, "1"), ("partitions", &PARTITIONS, "2")] {
         let file = top().join(format!("examples/{machine}.toml"));
-        let file = file.to_str().unwrap();
-        let trace = run(&["generate", "--seed", seed, "--lines", "100000", file]);
-        let path = std::env::temp_dir().join(format!("gorseplumb-{}-{machine}.trace", std::process::id()));
-        fs::write(&path, &trace).unwrap();
-        let expected = run(&["run", file, path.to_str().unwrap()]);
-        fs::remove_file(&path).unwrap();
-        let operations = trace.lines().filter(|line| !line.is_empty() && !line.starts_with('#')).count();
-        println!("{machine}: {operations} operations");
-        assert!(operations > 90_000 && expected.lines().count() >= operations);
+        let (trace, expected) = generated(file.to_str().unwrap(), seed, &[]);
         plays(machine, &example(&format!("{machine}.toml")), manifest, &trace, &expected);
     }
 }

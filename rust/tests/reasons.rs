@@ -6,7 +6,7 @@ mod common;
 use common::explained::explain;
 use common::machines::{MACHINE, PARTITIONS};
 use common::refusals::{rows, Row};
-use common::{example, play, play_line, ram, refusals};
+use common::{example, generated, play, play_line, ram, refusals, top};
 use gorseplumb::{call_name, raw, registers, About, Check, ErrorCode, Fault, Flaw, Id, Machine, Obstacle, Size};
 use std::ffi::CStr;
 
@@ -17,6 +17,21 @@ fn the_manuals_reasons() {
     let mut pages = ram(2);
     assert_eq!(explain(&mut Machine::boot(&PARTITIONS).unwrap(), &trace), expected);
     assert_eq!(explain(&mut Machine::boot_lent(&PARTITIONS, &mut pages).unwrap(), &trace), expected);
+}
+
+/// 100,000 operations, with what the program says of each that is refused.
+#[test]
+#[ignore = "needs the program ffaplay"]
+fn generated_operations_are_refused_by_what_the_program_says() {
+    for (machine, manifest, seed) in [("machine", &MACHINE, "3"), ("partitions", &PARTITIONS, "4")] {
+        let file = top().join(format!("examples/{machine}.toml"));
+        let (trace, expected) = generated(file.to_str().unwrap(), seed, &["--explain"]);
+        let refused = expected.lines().filter(|line| line.starts_with("# refused: ")).count();
+        println!("{machine}: {refused} are refused");
+        let told = explain(&mut Machine::boot(manifest).unwrap(), &trace);
+        let differs = told.lines().zip(expected.lines()).find(|(told, expected)| told != expected);
+        assert!(told == expected, "{machine}: {differs:?}");
+    }
 }
 
 /// The call of a line.
@@ -87,7 +102,7 @@ fn why_accesses_fault() {
     assert_eq!(machine.why_load(0x4001_0000, Size::B8), None);
     assert_eq!(told(machine.why_load(0x4001_0001, Size::B2)), Some((Fault::Alignment, None)));
     assert_eq!(told(machine.why_load(0x3FFF_FFFC, Size::B4)), translation(Obstacle::OutsideRam));
-    assert_eq!(told(machine.why_store(0x1_0000_0000, Size::B4)), translation(Obstacle::OutsideRam));
+    assert_eq!(told(machine.why_store(0x1_0000_0000, Size::B4)), Some((Fault::Translation, None))); // over 32 bits
     assert_eq!(told(machine.why_store(0x4000_0000, Size::B4)), translation(Obstacle::ManagersPage));
     assert_eq!(told(machine.why_load(0x4020_0000, Size::B1)), translation(Obstacle::OwnedBy(Id(0x8002))));
     assert_eq!(told(machine.why_fetch(0x4001_0000)), Some((Fault::Permission, None)));

@@ -1,8 +1,8 @@
 // SPDX-License-Identifier: MIT OR Apache-2.0
 //! Lines of a trace that tell more: `audit`, and why an operation is refused, as `ffaplay run --explain` prints it
-//! (docs/COMMANDS.md, "Reasons"). Of registers that are read whole nothing is told here.
+//! (docs/COMMANDS.md, "Reasons").
 use super::{play_line, RAM};
-use gorseplumb::{call_name, registers, About, AccessReason, Machine, Obstacle, Ram, Registers, Size};
+use gorseplumb::{call_name, registers, About, AccessReason, Fault, Flaw, Machine, Ram, Registers, Size};
 use std::fmt::Write;
 
 /// What the program prints of a trace, with reasons.
@@ -11,9 +11,6 @@ pub fn explain<R: Ram>(machine: &mut Machine<R>, trace: &str) -> String {
 }
 
 fn explain_line<R: Ram>(machine: &mut Machine<R>, line: &str) -> String {
-    if line == "audit" {
-        return audit(machine);
-    }
     let before = reason(machine, line);
     let told = play_line(machine, line);
     let is_refused = told.starts_with("fault ") || told.contains(" 0000000084000060 ");
@@ -37,7 +34,7 @@ fn reason<R: Ram>(machine: &Machine<R>, line: &str) -> Option<String> {
         }
         "load" => {
             let bytes = number(2) as usize;
-            (machine.why_load(number(1), Size::of(bytes).unwrap())?, bytes, "loaded")
+            (machine.why_load(number(1), Size::of(bytes).unwrap())?, bytes, "read")
         }
         "store" => {
             let bytes = words[2].len() / 2;
@@ -54,36 +51,68 @@ fn call_reason<R: Ram>(machine: &Machine<R>, given: &Registers) -> Option<String
     let function = given[0] as u32;
     let name = call_name(function).map_or_else(String::new, |name| name.to_owned() + " ");
     let check = reason.check.number_in(function).unwrap();
-    Some(format!("{name}check {check}: {}{}", reason.check, reason.about.map_or_else(String::new, about)))
+    let about = reason.about.map_or_else(String::new, |about| format!(": {}", subject(about, function)));
+    Some(format!("{name}check {check}: {}{about}", reason.check))
 }
 
-fn access_reason(reason: AccessReason, address: u64, bytes: u64, done: &str) -> String {
-    let is_wide = address > u64::from(u32::MAX);
-    let what = match reason.obstacle {
-        Some(Obstacle::OutsideRam) if is_wide => "has more than 32 bits".into(),
-        Some(obstacle) => obstacle.to_string(),
-        None if address % bytes != 0 => format!("is no multiple of {bytes}"),
-        None => format!("may not be {done}"),
-    };
-    if is_wide {
-        format!("{address:016X} {what}")
+/// An address in eight digits, or in sixteen where it has more.
+fn digits(address: u64) -> String {
+    if address > u64::from(u32::MAX) {
+        format!("{address:016X}")
     } else {
-        format!("{address:08X} {what}")
+        format!("{address:08X}")
     }
 }
 
-fn about(about: About) -> String {
+fn access_reason(reason: AccessReason, address: u64, bytes: u64, done: &str) -> String {
+    let what = match (reason.fault, reason.obstacle) {
+        (Fault::Translation, Some(obstacle)) => obstacle.to_string(),
+        (Fault::Translation, None) => "has more than 32 bits".into(),
+        (Fault::Permission, None) => format!("may not be {done}"),
+        (Fault::Alignment, None) => format!("is no multiple of {bytes}"),
+        other => panic!("{other:?} doesn't come"),
+    };
+    digits(address) + " " + &what
+}
+
+/// Whether a call reads a register whole: addresses and payloads, in its 64-bit form.
+fn is_read_whole(function: u32, register: u32) -> bool {
+    match function {
+        0xC400_0066 => register == 1 || register == 2,
+        0xC400_0071..=0xC400_0074 => register == 3,
+        _ => false,
+    }
+}
+
+fn subject(about: About, function: u32) -> String {
     let address = |page: u32| RAM + 4096 * u64::from(page);
     match about {
-        About::Page { page, obstacle: None } => format!(": {:08X}", address(page)),
-        About::Page { page, obstacle: Some(obstacle) } => format!(": {:08X} {obstacle}", address(page)),
-        About::Register { number, value } => format!(": w{number} is {value:08X}"),
-        other => format!(": {other}"),
+        About::Page { page, obstacle: None } => digits(address(page)),
+        About::Page { page, obstacle: Some(obstacle) } => format!("{} {obstacle}", digits(address(page))),
+        About::Register { number, value } => {
+            let letter = if is_read_whole(function, number) { "x" } else { "w" };
+            format!("{letter}{number} is {}", digits(value))
+        }
+        About::Field { flaw, index, first, size, value } => {
+            let index = match flaw.number() {
+                number if number < Flaw::AccessPermissions.number() => String::new(),
+                number if number < Flaw::CompositeOutside.number() => format!("access descriptor {index}: "),
+                number if number < Flaw::RangeEmpty.number() => String::new(),
+                number if number < Flaw::RetrieveAttributes.number() => format!("range {index}: "),
+                _ => String::new(),
+            };
+            let verb = if size <= 1 { "is" } else { "are" };
+            let value = value.map_or_else(String::new, |value| format!(" {verb} {value:0d$X}", d = 2 * size as usize));
+            let last = u128::from(first) + u128::from(size.saturating_sub(1));
+            let place = if size <= 1 { format!("byte {first}") } else { format!("bytes {first} to {last}") };
+            format!("{index}{flaw}: {place}{value}")
+        }
+        other => other.to_string(),
     }
 }
 
 /// What the program prints of `audit`.
-fn audit<R: Ram>(machine: &Machine<R>) -> String {
+pub fn audit<R: Ram>(machine: &Machine<R>) -> String {
     let base = u64::from(machine.ram_base());
     let end = base + 0x20_0000 * u64::from(machine.ram_blocks());
     let mut text = format!("cert {base:08X} {:08X} {}\n", end - 1, machine.endpoints().len());

@@ -11,7 +11,7 @@ use gorseplumb::{registers, Fault, Id, Machine, Page, Ram, Rights, Size};
 use std::fmt::Write;
 use std::path::{Path, PathBuf};
 use std::process::Command;
-use std::{env, fs};
+use std::{env, fs, process};
 
 /// Where RAM begins in each manifest of examples/ and of the tests.
 pub const RAM: u64 = 0x4000_0000;
@@ -37,6 +37,21 @@ pub fn run(arguments: &[&str]) -> String {
     let ran = Command::new(program()).args(arguments).output().unwrap_or_else(|why| panic!("{:?}: {why}", program()));
     assert!(ran.status.success(), "{arguments:?}: {}", String::from_utf8_lossy(&ran.stderr));
     String::from_utf8(ran.stdout).unwrap()
+}
+
+/// A trace of a hundred thousand operations and more for a manifest's machine, and what the program prints of it, with
+/// these flags.
+pub fn generated(manifest: &str, seed: &str, flags: &[&str]) -> (String, String) {
+    let trace = run(&["generate", "--seed", seed, "--lines", "101000", manifest]);
+    let is_operation = |line: &&str| ["call", "load", "stor", "fetc"].iter().any(|word| line.starts_with(word));
+    let operations = trace.lines().filter(is_operation).count();
+    assert!(operations >= 100_000, "{operations} operations");
+    let trace = if cfg!(declarations_2) { trace } else { trace.replace("\naudit\n", "\n") };
+    let path = env::temp_dir().join(format!("gorseplumb-{}-{seed}.trace", process::id()));
+    fs::write(&path, &trace).unwrap();
+    let expected = run(&[&["run"], flags, &[manifest, path.to_str().unwrap()]].concat());
+    fs::remove_file(&path).unwrap();
+    (trace, expected)
 }
 
 /// Pages of zeros, as many as so many blocks have.
@@ -69,6 +84,8 @@ pub fn play_line<R: Ram>(machine: &mut Machine<R>, line: &str) -> String {
         },
         "fetch" => data(machine.fetch(number(1)).map(u64::from), 4),
         "show" => show(machine),
+        #[cfg(declarations_2)]
+        "audit" => explained::audit(machine),
         _ => panic!("{line}: not a line of a trace"),
     }
 }
