@@ -1,5 +1,6 @@
 // SPDX-License-Identifier: MIT OR Apache-2.0
-//! Each piece of memory that a boot asks for is refused in turn, and all of it goes back.
+//! Each piece of memory that a boot asks for is refused in turn, and all of it goes back, by the sizes that it was
+//! asked for.
 #![allow(clippy::declare_interior_mutable_const)] // clippy of 1.63 finds one in what `thread_local!` unfolds to
 
 mod common;
@@ -17,6 +18,7 @@ thread_local! {
     static ASKED: Cell<usize> = const { Cell::new(0) };
     static REFUSED: Cell<usize> = const { Cell::new(0) };
     static PIECES: Cell<isize> = const { Cell::new(0) };
+    static BYTES: Cell<isize> = const { Cell::new(0) };
 }
 
 /// Whether the next piece is to be had.
@@ -25,8 +27,10 @@ fn asks() -> bool {
     ASKED.with(Cell::get) != REFUSED.with(Cell::get)
 }
 
-fn counts(more: isize) {
+/// Counts so many pieces more, and bytes.
+fn counts(more: isize, size: isize) {
     PIECES.with(|pieces| pieces.set(pieces.get() + more));
+    BYTES.with(|bytes| bytes.set(bytes.get() + size));
 }
 
 // SAFETY: each piece is the system's, and none is where it is refused.
@@ -35,12 +39,12 @@ unsafe impl GlobalAlloc for Counting {
         if !asks() {
             return std::ptr::null_mut();
         }
-        counts(1);
+        counts(1, layout.size() as isize);
         System.alloc(layout)
     }
 
     unsafe fn dealloc(&self, piece: *mut u8, layout: Layout) {
-        counts(-1);
+        counts(-1, -(layout.size() as isize));
         System.dealloc(piece, layout);
     }
 
@@ -48,6 +52,7 @@ unsafe impl GlobalAlloc for Counting {
         if !asks() {
             return std::ptr::null_mut();
         }
+        counts(0, size as isize - layout.size() as isize);
         System.realloc(piece, layout, size)
     }
 }
@@ -64,21 +69,22 @@ fn with_refused<T>(piece: usize, act: impl FnOnce() -> T) -> (T, usize) {
     (done, ASKED.with(Cell::get))
 }
 
-fn pieces() -> isize {
-    PIECES.with(Cell::get)
+/// The pieces and bytes that this thread has.
+fn held() -> (isize, isize) {
+    (PIECES.with(Cell::get), BYTES.with(Cell::get))
 }
 
 /// Each piece refused in turn gives no machine and leaves no memory behind; the answer is how many there are.
 fn refuses_each<R: Ram>(mut boot: impl FnMut() -> Result<Machine<R>, BootError>) -> usize {
-    let before = pieces();
+    let before = held();
     for piece in 1.. {
         let (booted, asked) = with_refused(piece, &mut boot);
         match booted {
-            Err(why) => assert_eq!((why, pieces()), (BootError::NoMemory, before)),
+            Err(why) => assert_eq!((why, held()), (BootError::NoMemory, before)),
             Ok(machine) => {
                 assert!(piece > asked, "piece {piece} of {asked} was refused, and there is a machine");
                 drop(machine);
-                assert_eq!(pieces(), before);
+                assert_eq!(held(), before);
                 return asked;
             }
         }
@@ -99,11 +105,11 @@ fn each_piece_of_memory() {
     for piece in 1..=asked {
         assert_eq!(with_refused(piece, || lent(&mut pages)).0, Err(BootError::NoMemory), "piece {piece}");
     }
-    let before = pieces();
+    let before = held();
     let mut lent = Lent::new(&mut pages).unwrap();
     assert_eq!(refuses_each_in(&mut lent), 0);
     drop(lent);
-    assert_eq!(pieces(), before);
+    assert_eq!(held(), before);
 }
 
 /// Boots from numbers in a list ask for nothing, the first and the next one.
