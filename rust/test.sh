@@ -2,23 +2,26 @@
 # SPDX-License-Identifier: MIT OR Apache-2.0
 # Builds the crate over the library for C and runs all that stands here, with every warning an error: the tests, among
 # them the manual's examples and generated operations beside the program; the examples of the pages, and what the
-# compiler has to refuse; lent pages under valgrind; a program without std; and what is said of an archive that is
-# missing, or another processor's. With --install it first installs Debian's packages for that; with --bench it
-# measures operations, from Rust and from C.
+# compiler has to refuse; lent pages under valgrind; a program without std; what is said of an archive that is missing,
+# or another processor's; and the tests for AArch64, where there are a compiler, a std and an emulator for it. With
+# --install it first installs Debian's packages for that; with --bench it measures operations, from Rust and from C.
 #
-# ARCHIVES is a folder with a ready archive (native.a, or <target>/libgorseplumb.a), FFAPLAY the program. The cargo on
+# ARCHIVES is a folder with ready archives (<target>/libgorseplumb.a, or native.a), FFAPLAY the program. The cargo on
 # the path is taken, and no network. Miri, which would look at each unsafe block, isn't among Debian's packages, and
 # calls nothing foreign: valgrind takes its place.
 set -euo pipefail
 here=$(cd "$(dirname "${BASH_SOURCE[0]}")" && pwd)
 top=$(dirname "$here")
 target=x86_64-unknown-linux-gnu
-packages="rustc cargo rust-clippy rustfmt gcc libc6-dev binutils valgrind"
+arm=aarch64-unknown-linux-gnu
+packages="rustc cargo rust-clippy rustfmt gcc libc6-dev binutils valgrind gcc-aarch64-linux-gnu qemu-user-static"
+arm_std="libstd-rust-dev:arm64"
 bench=
 for word in "$@"; do
     case $word in
     --install)
-        { apt-get update && apt-get install -y $packages; } >/dev/null || echo "not all packages were installed"
+        { dpkg --add-architecture arm64 && apt-get update && apt-get install -y $packages $arm_std; } >/dev/null ||
+            echo "not all packages were installed"
         ;;
     --bench) bench=1 ;;
     *)
@@ -56,15 +59,30 @@ refused() {
     echo "$1: refused: $(sed -n "s|$to|..|g; s/.*gorseplumb: //p" <<<"$said" | head -1)"
 }
 
+# Puts the archive for a target into a folder: archive TARGET NAME FOLDER
+archive() {
+    local ready
+    for ready in "${ARCHIVES:-}/$1/libgorseplumb.a" "${ARCHIVES:-}/$2.a"; do
+        if [[ ${ARCHIVES:-} && -e $ready ]]; then
+            cp "$ready" "$3/libgorseplumb.a"
+            return
+        fi
+    done
+    "$top/c/archive" --target "$1" "$3/libgorseplumb.a"
+}
+
+# Whether there is what the tests for AArch64 need.
+has_arm() {
+    has aarch64-linux-gnu-gcc && has qemu-aarch64-static || return
+    compgen -G "$(rustc --print target-libdir --target $arm)/libstd-*.rlib" >/dev/null && return
+    echo "not run: this rustc has no std for AArch64 (Debian's has it in $arm_std)"
+    missing=1
+    return 1
+}
+
 has cargo && has gcc || exit 1
-mkdir "$to/lib" "$to/other" "$to/none"
-if [[ -e ${ARCHIVES:-}/$target/libgorseplumb.a ]]; then
-    cp "$ARCHIVES/$target/libgorseplumb.a" "$to/lib/"
-elif [[ -e ${ARCHIVES:-}/native.a ]]; then
-    cp "$ARCHIVES/native.a" "$to/lib/libgorseplumb.a"
-else
-    "$top/c/archive" --target $target "$to/lib/libgorseplumb.a"
-fi
+mkdir "$to/lib" "$to/arm" "$to/other" "$to/none"
+archive $target native "$to/lib"
 if [[ -z ${FFAPLAY:-} ]]; then
     "$top/ffaplay" prove
     FFAPLAY=$top/crates/ffaplay/out/ffaplay
@@ -115,6 +133,16 @@ refused "an archive for AArch64" "$to/other" "is for aarch64, and x86_64 is buil
 refused "no archive" "$to/none" "there is no .*libgorseplumb.a"
 echo nothing >"$to/none/libgorseplumb.a"
 refused "a file that is no archive" "$to/none" "is no archive of ELF files"
+
+if has_arm; then
+    archive $arm arm "$to/arm"
+    export CARGO_TARGET_AARCH64_UNKNOWN_LINUX_GNU_LINKER=aarch64-linux-gnu-gcc
+    export CARGO_TARGET_AARCH64_UNKNOWN_LINUX_GNU_RUNNER="qemu-aarch64-static -L /usr/aarch64-linux-gnu"
+    export GORSEPLUMB_LIB_DIR=$to/arm
+    quiet "AArch64: tests, optimized" cargo test --target $arm --release --lib --tests -- --include-ignored
+    quiet "AArch64: a program without std" cargo run --target $arm --release --manifest-path bare/Cargo.toml
+    GORSEPLUMB_LIB_DIR=$to/lib
+fi
 
 if [[ $bench ]]; then
     echo "from Rust:"

@@ -45,7 +45,7 @@ static LAST: AtomicUsize = AtomicUsize::new(0);
 
 fn settle(settling: Settling) {
     if settling.size != 0 {
-        SETTLED.fetch_add(1, Relaxed);
+        memory::count(&SETTLED);
         LAST.store(settling.address as usize, Relaxed);
     }
 }

@@ -25,6 +25,11 @@ struct Tried {
     at: *mut c_void,
 }
 
+/// One more, in a program of one thread.
+pub fn count(counter: &AtomicUsize) {
+    counter.store(counter.load(Relaxed) + 1, Relaxed);
+}
+
 /// How many blocks were asked for.
 pub fn asked() -> usize {
     ASKED.load(Relaxed)
@@ -43,7 +48,7 @@ extern "C" fn rattle_alloc(size: usize, align: usize) -> Tried {
         return Tried { ok: false, at: array.cast() };
     }
     USED.store(SIZE.min(first + (size + ALIGN - 1) / ALIGN * ALIGN), Relaxed);
-    ASKED.fetch_add(1, Relaxed);
+    count(&ASKED);
     // SAFETY: the block lies in the array.
     Tried { ok: true, at: unsafe { array.add(first) }.cast() }
 }
@@ -56,5 +61,5 @@ extern "C" fn rattle_realloc(block: *mut c_void, _kept: usize, _size: usize, _al
 
 #[no_mangle]
 extern "C" fn rattle_dealloc(_block: *mut c_void) {
-    GIVEN_BACK.fetch_add(1, Relaxed);
+    count(&GIVEN_BACK);
 }
