@@ -137,7 +137,7 @@ refused "a file that is no archive" "$to/none" "is no archive of ELF files"
 if has_arm; then
     archive $arm arm "$to/arm"
     export CARGO_TARGET_AARCH64_UNKNOWN_LINUX_GNU_LINKER=aarch64-linux-gnu-gcc
-    export CARGO_TARGET_AARCH64_UNKNOWN_LINUX_GNU_RUNNER="qemu-aarch64-static -L /usr/aarch64-linux-gnu"
+    export CARGO_TARGET_AARCH64_UNKNOWN_LINUX_GNU_RUNNER=qemu-aarch64-static
     export GORSEPLUMB_LIB_DIR=$to/arm
     quiet "AArch64: tests, optimized" cargo test --target $arm --release --lib --tests -- --include-ignored
     quiet "AArch64: a program without std" cargo run --target $arm --release --manifest-path bare/Cargo.toml
