@@ -10,6 +10,6 @@ pub use elsewhere::{
     silence_as,
 };
 pub use isolation::{
-    confidential, first_is_sound, integrity, isolated, loans, one_call, one_step, only_writers,
+    confidential, first_is_sound, integrity, isolation, loans, one_call, one_step, only_writers,
     own_access, rights_never_grow, run_integrity, silence, sound_is_steady,
 };

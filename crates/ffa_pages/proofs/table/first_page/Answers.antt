@@ -3,7 +3,7 @@ use Rattle.std.proofs.Common.{◌∙◌, Some, None, sym}
 use Rattle.ffa_model.proofs.Accepted.{accepted}
 use Rattle.ffa_pages.proofs.First.{first-managers, first-owned}
 use Rattle.ffa_pages.proofs.Kept.{entry_of-owned}
-use Rattle.ffa_pages.proofs.table.first_kept.Goals as goal
+use Rattle.ffa_pages.proofs.table.first_page.Goals as goal
 
 pub returns-then-eq : goal.returns-then-eq
 returns-then-eq c =

@@ -3,7 +3,7 @@ use Rattle.std.proofs.Common.{◌≡◌, ◌∙◌, ◌<◌, length, List, Optio
 use Rattle.std.proofs.lemmas.List.{get_or-map, length-map}
 use Rattle.ffa_pages.specs.Entry.{Entry, entry_at}
 use Rattle.ffa_pages.specs.Stored.{entry_of}
-use Rattle.ffa_pages.proofs.table.PageTable.kept.Goals as goal
+use Rattle.ffa_pages.proofs.table.PageTable.entry.Goals as goal
 
 pub returns : goal.returns
 returns g c =

@@ -5,7 +5,7 @@ use Rattle.play_report.specs.Failures.{failure_of}
 use Rattle.play_report.specs.declared.failure.Failure.TheVariants.{Read}
 use Rattle.play_tasks.specs.declared.task.Task.TheVariants.{Formed}
 use Rattle.play_tasks.proofs.Plays.{formed_whole, formed_failed, passed}
-use Rattle.play_tasks.proofs.playing.play_formed.Goals as goal
+use Rattle.play_tasks.proofs.playing.play_in_form.Goals as goal
 
 pub returns-in-Ok : goal.returns-in-Ok
 returns-in-Ok g c =

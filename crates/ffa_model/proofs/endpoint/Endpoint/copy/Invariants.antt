@@ -1,6 +1,6 @@
 -- SPDX-License-Identifier: MIT OR Apache-2.0
 use Rattle.std.proofs.Common.{◌≡◌, take}
-use Rattle.ffa_model.proofs.endpoint.Endpoint.copied.Given as goal
+use Rattle.ffa_model.proofs.endpoint.Endpoint.copy.Given as goal
 
 -- the regions so far
 abbrev pub invariant-loop-region : goal.invariant-loop-region
