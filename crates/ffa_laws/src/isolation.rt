@@ -45,7 +45,7 @@ pub fn one_step()
 
 /// A list of operations: what an endpoint sees of it, and its view after it, depend on its view at the start, on its own
 /// operations and on the events towards it, and are these replayed on that view; and what it sees is in the outcomes.
-pub fn isolation()
+pub fn whole_run()
     ensures isolated { (s : State) (ops : List Op) → IsSteady s → Isolated s ops }
     ensures replays { (s : State) (ops : List Op) → IsSteady s → Replays s ops }
     ensures shown { (s : State) (ops : List Op) → Shown s ops }

@@ -1,7 +1,7 @@
 -- SPDX-License-Identifier: MIT OR Apache-2.0
 use Rattle.ffa_laws.proofs.Replays.{isolated, replays}
 use Rattle.ffa_laws.proofs.Shows.{shown}
-use Rattle.ffa_laws.proofs.isolation.isolation.Goals as goal
+use Rattle.ffa_laws.proofs.isolation.whole_run.Goals as goal
 
 pub returns-clause-isolated : goal.returns-clause-isolated
 returns-clause-isolated c = isolated

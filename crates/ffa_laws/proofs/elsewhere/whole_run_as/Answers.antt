@@ -1,6 +1,6 @@
 -- SPDX-License-Identifier: MIT OR Apache-2.0
 use Rattle.ffa_laws.proofs.ElsewhereRunLaws.{isolated_as, never_grow_as, sound_after_as, steady_after_as}
-use Rattle.ffa_laws.proofs.elsewhere.isolated_as.Goals as goal
+use Rattle.ffa_laws.proofs.elsewhere.whole_run_as.Goals as goal
 
 pub returns-clause-isolated : goal.returns-clause-isolated
 returns-clause-isolated c = isolated_as
