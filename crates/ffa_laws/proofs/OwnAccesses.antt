@@ -20,7 +20,7 @@ use Rattle.ffa_model.specs.Bits.{is_set}
 use Rattle.ffa_model.specs.Rights.{is_share, is_within}
 use Rattle.ffa_model.specs.SendDescriptor.{SendRecord}
 use Rattle.ffa_model.specs.State.{State, Page, Transaction, page_at, owner_of, buffers_of, transaction_of, version_of}
-use Rattle.ffa_model.specs.Access.{access, held_by, is_offered, is_receiver, names, right_by, right_of, transaction_at}
+use Rattle.ffa_model.specs.Access.{access, held_by, is_offered, is_receiver, names, right_by, right_of, transaction_at, ownership_of}
 use Rattle.ffa_model.specs.Buffers.{filled}
 use Rattle.ffa_model.specs.Calls.{first_failure}
 use Rattle.ffa_model.specs.Memory.{fetch_fault, number_at, read_fault, size_of, store_fault, stored, with_pages}
@@ -32,7 +32,7 @@ use Rattle.ffa_model.specs.Registers.{decode}
 use Rattle.ffa_model.specs.Setup.{info_bytes, is_count_alone, uuid_bytes}
 use Rattle.ffa_model.specs.Step.{serve, service, step}
 use Rattle.ffa_model.specs.declared.call.Transfer.{Transfer}
-use Rattle.ffa_model.specs.Transactions.{own_rights_of, closed, handle_of, holding, next_handle, not_holding, open_of, scene_of, with_open, with_transaction}
+use Rattle.ffa_model.specs.Transactions.{closed, holding, next_handle, not_holding, open_of, scene_of, with_open, with_transaction}
 use Rattle.ffa_model.proofs.Accesses.{IsNamedOnce, access-closed, access-given, access-holding_beside, access-kept, access-released, access-released_beside, access-still, access-unchanged, access-zeroed, in-closed, named-in}
 use Rattle.ffa_model.proofs.CallAccesses.{access-filled, access-written}
 use Rattle.ffa_model.proofs.Guards.{guard-passes}
@@ -233,12 +233,12 @@ module _ (s : State) (steady : IsSteady s) where
       h : ℕ
       h = handle
 
-      of : (o : Option Transaction) → transaction_of s h ≡ o → first_failure (reclaim_guards (own_rights_of s) s.runner flags o) ≡ None → Own s (reclaimed s h (is_set 0 flags)) true false
-      of None there none = absurd (false≢true (guard-passes (reclaim_guards (own_rights_of s) s.runner flags None) 1 (sym none)))
+      of : (o : Option Transaction) → transaction_of s h ≡ o → first_failure (reclaim_guards (ownership_of s) s.runner flags o) ≡ None → Own s (reclaimed s h (is_set 0 flags)) true false
+      of None there none = absurd (false≢true (guard-passes (reclaim_guards (ownership_of s) s.runner flags None) 1 (sym none)))
       of (Some t) there none =
           reclaimed-own h (is_set 0 flags) t there
-          (eqb-true t.sender s.runner (guard-passes (reclaim_guards (own_rights_of s) s.runner flags (Some t)) 1 (sym none)))
-          (guard-passes (reclaim_guards (own_rights_of s) s.runner flags (Some t)) 2 (sym none))
+          (eqb-true t.sender s.runner (guard-passes (reclaim_guards (ownership_of s) s.runner flags (Some t)) 1 (sym none)))
+          (guard-passes (reclaim_guards (ownership_of s) s.runner flags (Some t)) 2 (sym none))
 
   -- ---- a retrieve
   module _ (apart : AreApart s) (x : Transfer) (its : Taken s x) where

@@ -17,7 +17,7 @@ use Rattle.ffa_model.specs.declared.call.Call as calls
 use Rattle.ffa_model.specs.declared.call.Call.TheVariants.{RxRelease, RxtxMap, RxtxUnmap, PartitionInfoGet, MsgWait, Yield, Run, DirectRequest, DirectResponse, MemDonate, MemLend, MemShare, MemRetrieve, MemRelinquish, MemReclaim, BitmapDestroy, NotificationBind, NotificationUnbind, NotificationSet, MsgSend2}
 use Rattle.ffa_model.specs.SendDescriptor.{SendRecord}
 use Rattle.ffa_model.specs.State.{State, Page, Transaction, transaction_of}
-use Rattle.ffa_model.specs.Access.{is_offered, is_receiver}
+use Rattle.ffa_model.specs.Access.{is_offered, is_receiver, ownership_of}
 use Rattle.ffa_model.specs.Bits.{bits_of}
 use Rattle.ffa_model.specs.Calls.{encode, first_failure}
 use Rattle.ffa_model.specs.Lists.{listed}
@@ -30,7 +30,7 @@ use Rattle.ffa_model.specs.Notifications.{class_of, has_bitmaps_in, is_bound, ma
 use Rattle.ffa_model.specs.Registers.{decode}
 use Rattle.ffa_model.specs.RunStates.{direct_request, direct_response, msg_wait, run_partition, status_number, yield_now}
 use Rattle.ffa_model.specs.Step.{serve, service, step}
-use Rattle.ffa_model.specs.Transactions.{own_rights_of, handle_of, next_handle, open_of}
+use Rattle.ffa_model.specs.Transactions.{next_handle, open_of}
 use Rattle.byteorder.specs.Endian.{little_bytes}
 use Rattle.std.proofs.lemmas.Slice.Eq.{bytes_eq-Decides}
 use Rattle.ffa_laws.specs.Events.{call_events, Event, Wrote, Message, Filled, Pending, Held, Zeroed, Closed, Opened, Public, PublicPart, Unbound, Bound, binds, events, public_buffers_number, is_same_public, named_pages, opens, public_change, public_part, releases, takes, takes_from, taking, told_by, unbinds, where_passed, where_true, work_number, writes}
@@ -131,7 +131,7 @@ taken-row : (x : Transfer) (e : ℕ) (s : State) (d : Option RetrieveDesc) → l
 taken-row x e s None = refl
 taken-row x e s (Some d) = of (transaction_of s d.handle)
   where
-    kinds : (b : Bool) (kind : Kind) (t : Transaction) → list_all (told_row (MemRetrieve x)) (where_true b (taking kind d.handle s.runner (right_for (own_rights_of s) t s.runner d) ∷ [])) ≡ true
+    kinds : (b : Bool) (kind : Kind) (t : Transaction) → list_all (told_row (MemRetrieve x)) (where_true b (taking kind d.handle s.runner (right_for (ownership_of s) t s.runner d) ∷ [])) ≡ true
     kinds true Donate t = refl
     kinds true Lend t = refl
     kinds true Share t = refl

@@ -35,7 +35,7 @@ use Rattle.ffa_model.proofs.Runs.{flat-run-same}
 use Rattle.ffa_laws.specs.View.{involves, is_near, kept, view}
 use Rattle.ffa_laws.specs.Events.{Event, Wrote, Opened, Zeroed, Public, call_events, delivers, events, is_same_public, messages, named_pages, opens, public_change, public_part, releases, takes, takes_from, taking, told_by, where_passed, where_true}
 use Rattle.ffa_laws.specs.Readable.{all_readably, blank, blank_where, blanked, is_unreadable, readable, readably, revealed}
-use Rattle.ffa_laws.proofs.Blanks.{access-b, access_at-b, own_rights-b, blank-twice, call-b, outcome-b, page-b, sent-b, service-b, state-b}
+use Rattle.ffa_laws.proofs.Blanks.{access-b, access_at-b, ownership-b, blank-twice, call-b, outcome-b, page-b, sent-b, service-b, state-b}
 use Rattle.ffa_laws.proofs.Maps.{map_at-same, map_at-twice}
 use Rattle.ffa_laws.proofs.ReadRuns.{heard-messages}
 use Rattle.ffa_laws.proofs.Readings.{kept-blank, same-access, some-shown, view-blank}
@@ -121,7 +121,7 @@ module _ (e : ℕ) (s : State) (hides : ℕ → Bool) where
         where
           of : (o : Option Transaction) → takes_from e b d o ≡ takes_from e s d o
           of None = refl
-          of (Some t) = ap (λ own_rights. where_true (t.sender == e) (taking t.kind d.handle s.runner (right_for own_rights t s.runner d) ∷ [])) (own_rights-b s hides)
+          of (Some t) = ap (λ ram. where_true (t.sender == e) (taking t.kind d.handle s.runner (right_for ram t s.runner d) ∷ [])) (ownership-b s hides)
 
       told-b : (call : calls.Call) → all_readably e s (told_by e b call) ≡ all_readably e s (told_by e s call)
       told-b (MemDonate x) = sends-b Donate x.total

@@ -26,7 +26,7 @@ use Rattle.ffa_model.specs.Bits.{bits_of}
 use Rattle.ffa_model.specs.Lists.{listed, map_at}
 use Rattle.ffa_model.specs.Registers.{decode}
 use Rattle.ffa_model.specs.State.{State, Page, Transaction, Buffers, buffers_of, transaction_of}
-use Rattle.ffa_model.specs.Access.{is_from, is_offered, is_receiver, names}
+use Rattle.ffa_model.specs.Access.{is_from, is_offered, is_receiver, names, ownership_of}
 use Rattle.ffa_model.specs.Calls.{Service, encode, first_failure}
 use Rattle.ffa_model.specs.Memory.{changed_pages, size_of, store_fault, stored, with_pages, zeroed_page}
 use Rattle.ffa_model.specs.Buffers.{filled_pages}
@@ -34,7 +34,7 @@ use Rattle.ffa_model.specs.RunStates.{direct_request, direct_response, msg_wait,
 use Rattle.ffa_model.specs.Messages.{header_in, message_in, tx_bytes}
 use Rattle.ffa_model.specs.Notifications.{binding, class_of, has_bitmaps_in, is_bound, manager_class, notifications_of, message_bits, with_notifications, with_pending}
 use Rattle.ffa_model.specs.SendDescriptor.{SendRecord}
-use Rattle.ffa_model.specs.Transactions.{own_rights_of, holding, next_handle, not_holding, open_of, with_open, with_transaction}
+use Rattle.ffa_model.specs.Transactions.{holding, next_handle, not_holding, open_of, with_open, with_transaction}
 use Rattle.ffa_model.specs.MemorySend.{memory_sent, send_read, transaction_from}
 use Rattle.ffa_model.specs.MemoryRetrieve.{retrieve_read, right_for}
 use Rattle.ffa_model.specs.MemoryReturn.{named_ranges, relinquish_read}
@@ -171,7 +171,7 @@ taking Share h f right = Held h f (Some right)
 abbrev pub takes_from : Identifier → State → RetrieveDesc → Option Transaction → List Event
 takes_from e s d None = []
 takes_from e s d (Some t) =
-    where_true (t.sender == e) (taking t.kind d.handle s.runner (right_for (own_rights_of s) t s.runner d) ∷ [])
+    where_true (t.sender == e) (taking t.kind d.handle s.runner (right_for (ownership_of s) t s.runner d) ∷ [])
 
 abbrev pub takes : Identifier → State → Option RetrieveDesc → List Event
 takes e s None = []

@@ -13,6 +13,7 @@ pub mod Certificates
 pub mod Counts
 pub mod Accesses
 pub mod NamedPages
+pub mod Own
 pub mod CallAccesses
 pub mod FirstSound
 pub mod Kept
