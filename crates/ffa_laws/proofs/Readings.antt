@@ -6,6 +6,7 @@ use Rattle.std.specs.List.{list_all}
 use Rattle.std.proofs.Math.Path.{fun_ext}
 use Rattle.std.proofs.lemmas.Bool.{cases_Bool, false≢true, true≢false, and_parts, eq-eqb}
 use Rattle.std.proofs.lemmas.List.{set-get_or}
+use Rattle.std.proofs.lemmas.Option.{none-some, same_Some}
 use Rattle.byteorder.specs.Endian.{little_bytes}
 use Rattle.ffa_model.specs.declared.operation.Op.{Op}
 use Rattle.ffa_model.specs.declared.rights.Rights.{Rights}
@@ -19,7 +20,7 @@ use Rattle.ffa_model.specs.declared.rights.Kind.TheVariants.{Share, Lend, Donate
 use Rattle.ffa_model.specs.Lists.{map_at}
 use Rattle.ffa_model.specs.Rights.{is_within, is_lend, is_share}
 use Rattle.ffa_model.specs.State.{State, Page, Transaction, buffers_of, is_known, page_at, transaction_of}
-use Rattle.ffa_model.specs.Access.{access, names, right_of, transaction_at, covers, held_by, is_from, is_held_by}
+use Rattle.ffa_model.specs.Access.{is_receiver, access, names, right_of, transaction_at, covers, held_by, is_from, is_held_by}
 use Rattle.ffa_model.specs.Calls.{Stepped, first_failure}
 use Rattle.ffa_model.specs.Memory.{page_with, written_pages, zeroed_page, changed_pages, size_of, store_fault}
 use Rattle.ffa_model.specs.MemoryReturn.{named_ranges, is_zeroable, memory_relinquish, relinquish_guards, relinquish_read}
@@ -37,10 +38,11 @@ use Rattle.ffa_laws.specs.Readable.{Confidential, all_readably, blank, blank_pag
 use Rattle.ffa_laws.specs.Silence.{may_tell}
 use Rattle.ffa_laws.proofs.Blanks.{IsBlind, access-b, at-blanked, blank-none, blank-twice, blanked-twice, blind-zeroed, changed-blind, each-blind, filled-blind, step-b, written-blind}
 use Rattle.ffa_laws.proofs.Changes.{AreRewritten, apply_all-append, standing, view-changed, with_parts}
+use Rattle.ffa_laws.proofs.Clean.{heard-blank}
 use Rattle.ffa_laws.proofs.Form.{viewed}
 use Rattle.ffa_laws.proofs.Laws.{other-step, own-step, steady-step}
 use Rattle.ffa_laws.proofs.Opened.{get-insert}
-use Rattle.ffa_laws.proofs.OwnAccesses.{shareless, own_access}
+use Rattle.ffa_laws.proofs.OwnAccesses.{IsApart, each-apart, other-access, own-grows, shareless}
 use Rattle.ffa_laws.proofs.Rows.{all-weaker, call-rows, passed-row}
 use Rattle.ffa_laws.proofs.Views.{shown, view-transaction, access-near, kept_none, view-access, view-page}
 use Rattle.ffa_laws.proofs.Maps.{at-map_at, map_at-alike, map_at-same, map_at-set, map_at-twice}
@@ -200,8 +202,8 @@ module _ (s : State) (steady : IsSteady s) (op : Op) where
       ∙ length-map_at (λ p page. blank_where (hides p) page) after.pages
 
   -- a call that gives no access reveals nothing
-  nothing-revealed : AreApart s → is_call gives_access op ≡ false → revealed r s after ≡ map_at (λ p page. None) after.pages
-  nothing-revealed apart none = map_at-same _ _ after.pages (λ p page. go page (access s r p) (access after r p) ((own_access s op steady apart).grows p none))
+  nothing-revealed : IsApart s.runner s → is_call gives_access op ≡ false → revealed r s after ≡ map_at (λ p page. None) after.pages
+  nothing-revealed apart none = map_at-same _ _ after.pages (λ p page. go page (access s r p) (access after r p) (own-grows s op steady apart p none))
     where
       go : (page : Option Page) (old new : Option Rights) → is_within new old ≡ true → kept (is_none old && not (is_none new)) page ≡ None
       go page None None within = refl
@@ -222,7 +224,7 @@ module _ (s t : State) (steady : IsSteady s) (there : IsSteady t) (alike : reada
   size-of : length (step (readable s.runner t) op).state.pages ≡ length (step t op).state.pages
   size-of = subst (λ e. length (step (readable e t) op).state.pages ≡ length (step t op).state.pages) runner (size-read t there op)
 
-  nothing-of : AreApart t → is_call gives_access op ≡ false → revealed s.runner t (step t op).state ≡ map_at (λ p page. None) (step t op).state.pages
+  nothing-of : IsApart t.runner t → is_call gives_access op ≡ false → revealed s.runner t (step t op).state ≡ map_at (λ p page. None) (step t op).state.pages
   nothing-of apart none = subst (λ e. revealed e t (step t op).state ≡ map_at (λ p page. None) (step t op).state.pages) runner (nothing-revealed t there op apart none)
 
   same-outcome : (step t op).outcome ≡ (step s op).outcome
@@ -231,12 +233,32 @@ module _ (s t : State) (steady : IsSteady s) (there : IsSteady t) (alike : reada
   same-reading : revealed s.runner t (step t op).state ≡ revealed s.runner s (step s op).state → readable s.runner (step t op).state ≡ readable s.runner (step s op).state
   same-reading shown = after-of ∙ (λ i. joined s.runner (step (alike i) op).state (shown i)) ∙ sym (read-after s steady op)
 
-  nothing-new : AreApart s → AreApart t → is_call gives_access op ≡ false → revealed s.runner t (step t op).state ≡ revealed s.runner s (step s op).state
-  nothing-new apart other none =
-      nothing-of other none
+  -- nor is the runner offered its own there
+  apart-there : AreApart s → IsApart t.runner t
+  apart-there apart = subst (λ e. IsApart e t) (sym runner) (λ h u there mine. of h u mine (transaction_of s h) refl (same h u there mine))
+    where
+      same : (h : ℕ) (u : Transaction) → transaction_of t h ≡ Some u → u.sender ≡ s.runner → shown s.runner (transaction_of s h) ≡ Some (seen_by s.runner u)
+      same h u there mine =
+          sym (view-transaction s.runner s h) ∙ ap (λ (v : State). transaction_of v h) (sym alike) ∙ view-transaction s.runner t h ∙ ap (shown s.runner) there
+          ∙ ap (λ b. option_map (seen_by s.runner) (kept (b || is_receiver s.runner u) (Some u))) (eq-eqb u.sender s.runner mine)
+
+      of : (h : ℕ) (u : Transaction) → u.sender ≡ s.runner → (o : Option Transaction) → transaction_of s h ≡ o → shown s.runner o ≡ Some (seen_by s.runner u) → is_receiver s.runner u ≡ false
+      of h u mine None at is = absurd (none-some (seen_by s.runner u) is)
+      of h u mine (Some w) at is = by (involves s.runner (Some w)) is
+        where
+          by : (b : Bool) → option_map (seen_by s.runner) (kept b (Some w)) ≡ Some (seen_by s.runner u) → is_receiver s.runner u ≡ false
+          by false is = absurd (none-some (seen_by s.runner u) is)
+          by true is =
+              let like : seen_by s.runner w ≡ seen_by s.runner u = same_Some (seen_by s.runner w) (seen_by s.runner u) is in
+              sym (ap (λ (x : Transaction). is_receiver s.runner x) like)
+              ∙ ap (λ e. is_receiver e w) (sym mine ∙ sym (ap (λ (x : Transaction). x.sender) like)) ∙ apart h w at
+
+  nothing-new : AreApart s → is_call gives_access op ≡ false → revealed s.runner t (step t op).state ≡ revealed s.runner s (step s op).state
+  nothing-new apart none =
+      nothing-of (apart-there apart) none
       ∙ map_at-alike (λ p page. None) (λ p page. None) (step t op).state.pages (step s op).state.pages None None
       (sym size-of ∙ ap (λ v. length (step v op).state.pages) alike ∙ size-read s steady op) (λ i. refl)
-      ∙ sym (nothing-revealed s steady op apart none)
+      ∙ sym (nothing-revealed s steady op (each-apart s.runner s apart) none)
 
 -- ---- an operation of another
 module _ (e : ℕ) (hides : ℕ → Bool) where
@@ -480,18 +502,19 @@ module _ (e : ℕ) (s : State) where
         wrote false = refl
     fit-op (Fetch address) = tt
 
-  pub other-reading : IsSteady s → AreApart s → is_known s e ≡ true → s.runner ≢ e → (op : Op)
-      → readable e (step s op).state ≡ blank hidden (apply_all e (readable e s) (all_readably e s (events e s op)))
-  other-reading steady apart known other op =
-      (λ i. blank (fun_ext {f = is_unreadable (step s op).state e} {g = is_unreadable s e} (λ p. ap is_none ((own_access s op steady apart).others e p other)) i) (view e (step s op).state))
+  pub other-reading : IsSteady s → is_known s e ≡ true → s.runner ≢ e → (op : Op)
+      → readable e (step s op).state ≡ apply_all e (readable e s) (all_readably e s (events e s op))
+  other-reading steady known other op =
+      (λ i. blank (fun_ext {f = is_unreadable (step s op).state e} {g = is_unreadable s e} (λ p. ap is_none (other-access s op steady e p other)) i) (view e (step s op).state))
       ∙ ap (blank hidden) (other-step e s steady known other op)
       ∙ told-readably (events e s op) (view e s) (readable e s) (λ i. record (view e s) { pages = sym (blanked-twice hidden (view e s).pages) i }) refl (fit-op steady op)
+      ∙ heard-blank e s steady known op
 
 pub confidential : (s : State) (op : Op) → IsSteady s → AreApart s → Confidential s op
 confidential s op steady apart =
     record {
       outcome = λ t there alike. same-outcome s t steady there alike op;
       own = λ t there alike shown. same-reading s t steady there alike op shown;
-      quiet = λ t there other alike none. same-reading s t steady there alike op (nothing-new s t steady there alike op apart other none);
-      others = λ e known other. other-reading e s steady apart known other op;
+      quiet = λ t there alike none. same-reading s t steady there alike op (nothing-new s t steady there alike op apart none);
+      others = λ e known other. other-reading e s steady known other op;
     }

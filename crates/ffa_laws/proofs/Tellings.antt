@@ -37,6 +37,7 @@ use Rattle.ffa_laws.specs.Events.{Event, Wrote, Opened, Zeroed, Public, call_eve
 use Rattle.ffa_laws.specs.Readable.{all_readably, blank, blank_where, blanked, is_unreadable, readable, readably, revealed}
 use Rattle.ffa_laws.proofs.Blanks.{access-b, access_at-b, ownership-b, blank-twice, call-b, outcome-b, page-b, sent-b, service-b, state-b}
 use Rattle.ffa_laws.proofs.Maps.{map_at-same, map_at-twice}
+use Rattle.ffa_laws.proofs.Clean.{readably-append}
 use Rattle.ffa_laws.proofs.ReadRuns.{heard-messages}
 use Rattle.ffa_laws.proofs.Readings.{kept-blank, same-access, some-shown, view-blank}
 
@@ -61,10 +62,6 @@ module _ (few many : ℕ → Bool) (within : (p : ℕ) → few p ≡ true → ma
 
   pub same-named : (x y : State) (ranges : List Range) → blank few x ≡ blank few y → blanked many (named_pages x ranges) ≡ blanked many (named_pages y ranges)
   same-named x y ranges same = sym (named-blank x ranges) ∙ ap (λ z. blanked many (named_pages z ranges)) same ∙ named-blank y ranges
-
-readably-append : (e : ℕ) (s : State) (xs ys : List Event) → all_readably e s (xs ++ ys) ≡ all_readably e s xs ++ all_readably e s ys
-readably-append e s [] ys = refl
-readably-append e s (x ∷ xs) ys = ap (λ zs. readably e s x ++ zs) (readably-append e s xs ys) ∙ sym (append_assoc (readably e s x) (all_readably e s xs) (all_readably e s ys))
 
 opened-alike : (h : ℕ) (t : Transaction) (pages : List (Option Page)) (few many : ℕ → Bool) → ((p : ℕ) → few p ≡ many p)
     → Opened h t (blanked few pages) ∷ [] ≡ Opened h t (blanked many pages) ∷ []
