@@ -20,7 +20,8 @@ use Rattle.ffa_model.specs.Calls.{first_failure}
 use Rattle.ffa_model.specs.RunStates.{schedule_of}
 use Rattle.ffa_laws.specs.Steady.{IsSteady, AreSteadyBuffers}
 use Rattle.ffa_laws.specs.View.{view, buffers_seen, hidden, involves, is_near, kept}
-use Rattle.ffa_laws.specs.Events.{apply_all, public_buffers, public_change, with_public_buffers}
+use Rattle.ffa_laws.specs.Events.{apply_all, public_change, with_public_buffers}
+use Rattle.ffa_laws.specs.Public.{public_buffers}
 use Rattle.ffa_model.proofs.Guards.{guard-passes}
 use Rattle.ffa_model.proofs.Places.{known-named, known-place, same-known}
 use Rattle.ffa_model.proofs.Accesses.{length-map_at}

@@ -10,15 +10,13 @@ use Rattle.std.proofs.lemmas.List.{append_assoc}
 use Rattle.byteorder.specs.Endian.{little_bytes}
 use Rattle.ffa_model.specs.declared.operation.Op.{Op}
 use Rattle.ffa_model.specs.declared.operation.Op.TheVariants.{Call, Load, Store, Fetch}
-use Rattle.ffa_model.specs.declared.operation.ErrorCode.{ErrorCode}
-use Rattle.ffa_model.specs.declared.operation.FaultKind.{FaultKind}
 use Rattle.ffa_model.specs.declared.call.Call as calls
 use Rattle.ffa_model.specs.declared.call.Call.TheVariants.{MemRelinquish, MsgSend2}
 use Rattle.ffa_model.specs.declared.descriptor.RelinquishDesc.{RelinquishDesc}
 use Rattle.ffa_model.specs.declared.rights.Rights.{Rights}
 use Rattle.ffa_model.specs.Lists.{is_in_run, map_at}
-use Rattle.ffa_model.specs.State.{State, Page, Buffers, Transaction, buffers_of, is_known, is_known_among, owner_of, page_at, transaction_of}
-use Rattle.ffa_model.specs.Access.{access, covers, held_by, is_from, is_held_by, names, right_by, right_of, transaction_at}
+use Rattle.ffa_model.specs.State.{State, Page, Buffers, Transaction, buffers_of, is_known, is_known_among, page_at, transaction_of}
+use Rattle.ffa_model.specs.Access.{access, covers, held_by, is_from, is_held_by, names, right_by, right_of}
 use Rattle.ffa_model.specs.Buffers.{filled_pages}
 use Rattle.ffa_model.specs.Calls.{first_failure}
 use Rattle.ffa_model.specs.Memory.{page_with, size_of, store_fault, written_pages, written_run, zeroed_page}
@@ -31,7 +29,7 @@ use Rattle.ffa_model.specs.Transactions.{not_holding}
 use Rattle.ffa_model.proofs.Accesses.{named-in}
 use Rattle.ffa_laws.specs.Steady.{IsAlone, IsSteady}
 use Rattle.ffa_laws.specs.View.{involves, is_near, kept, seen_by, view}
-use Rattle.ffa_laws.specs.Events.{Event, Wrote, Message, Filled, Pending, Bound, Unbound, Opened, Held, Zeroed, Closed, Public, apply, apply_all, call_events, delivers, events, public_change, public_part, releases, told_by, where_passed, where_true, with_holder, writes}
+use Rattle.ffa_laws.specs.Events.{Event, Wrote, Filled, Pending, Opened, Held, Zeroed, Closed, apply, apply_all, call_events, delivers, events, public_change, releases, where_passed, where_true, with_holder, writes}
 use Rattle.ffa_laws.specs.Readable.{all_readably, blank, blank_where, blanked, is_unreadable, readable, readably}
 use Rattle.ffa_laws.specs.Silence.{may_tell}
 use Rattle.ffa_laws.proofs.Blanks.{at-blanked, blank-none, blanked-twice}
@@ -41,6 +39,7 @@ use Rattle.ffa_laws.proofs.Opened.{get-insert}
 use Rattle.ffa_laws.proofs.Rows.{all-weaker, call-rows}
 use Rattle.ffa_laws.proofs.Views.{kept_none, shown, view-page, view-transaction}
 use Rattle.std.specs.Option.{option_map}
+use Rattle.ffa_laws.proofs.Publics.{either-public}
 
 pub readably-append : (e : ℕ) (s : State) (xs ys : List Event) → all_readably e s (xs ++ ys) ≡ all_readably e s xs ++ all_readably e s ys
 readably-append e s [] ys = refl
@@ -151,17 +150,37 @@ module _ (e : ℕ) (s : State) where
       subst (AreClean w) (sym (readably-append e s xs ys)) (clean-append (all_readably e s xs) (all_readably e s ys) w one (clean-plain ys _ plain))
 
   public-plain : (next : State) → list_all is_plain (public_change s next) ≡ true
-  public-plain next = of _
+  public-plain next = either-public (λ es. list_all is_plain es ≡ true) s next refl refl
+
+  abbrev v : State
+  v = readable e s
+
+  -- who holds a transaction doesn't matter to which pages it names
+  abbrev pub held_after : ℕ → Bool → State
+  held_after h b = apply_all e v (all_readably e s (where_true b (Held h s.runner None ∷ [])))
+
+  pub base-after : (h : ℕ) (b : Bool) → (held_after h b).ram_base ≡ s.ram_base
+  base-after h false = refl
+  base-after h true = elim (transaction_of v h) as (λ o. (with_holder v h s.runner None o).ram_base ≡ s.ram_base) [ None ↦ refl | Some t ↦ refl ]
+
+  pages-after : (h : ℕ) (b : Bool) → (held_after h b).pages ≡ v.pages
+  pages-after h false = refl
+  pages-after h true = elim (transaction_of v h) as (λ o. (with_holder v h s.runner None o).pages ≡ v.pages) [ None ↦ refl | Some t ↦ refl ]
+
+  pub ranges-after : (h : ℕ) (b : Bool) (p : ℕ) → names s (named_ranges (transaction_of (held_after h b) h)) p ≡ true → names s (named_ranges (transaction_of v h)) p ≡ true
+  ranges-after h false p named = named
+  ranges-after h true p named = of (transaction_of v h) refl named
     where
-      of : (b : Bool) → list_all is_plain (cond b [] (Public (public_part next) ∷ [])) ≡ true
-      of true = refl
-      of false = refl
+      of : (o : Option Transaction) → transaction_of v h ≡ o → names s (named_ranges (transaction_of (with_holder v h s.runner None o) h)) p ≡ true → names s (named_ranges o) p ≡ true
+      of None is named = sym (ap (λ o. names s (named_ranges o) p) is) ∙ named
+      of (Some t) is named = sym (ap (λ o. names s (named_ranges o) p) (get-insert v.transactions h (not_holding t s.runner) h ∙ ap (λ b. cond b (Some (not_holding t s.runner)) (transaction_of v h)) (eq-eqb h h refl))) ∙ named
+
+  pub seen-ranges : (h : ℕ) (t : Transaction) → transaction_of s h ≡ Some t → (b : Bool) → (involves e (Some t)) ≡ b → (p : ℕ) → names s (named_ranges (transaction_of v h)) p ≡ true → names s t.ranges p ≡ true
+  seen-ranges h t there true known p named = sym (ap (λ o. names s (named_ranges o) p) (view-transaction e s h ∙ ap (shown e) there ∙ ap (λ b. option_map (seen_by e) (kept b (Some t))) known)) ∙ named
+  seen-ranges h t there false unknown p named = absurd (false≢true (sym (ap (λ o. names s (named_ranges o) p) (view-transaction e s h ∙ ap (shown e) there ∙ ap (λ b. option_map (seen_by e) (kept b (Some t))) unknown)) ∙ named))
 
   -- ---- what each operation tells
   module _ (steady : IsSteady s) (known : is_known s e ≡ true) where
-    abbrev v : State
-    v = readable e s
-
     -- pages of a transaction that e holds
     held-there : (h : ℕ) (t : Transaction) → transaction_of s h ≡ Some t → is_held_by e (Some t) ≡ true → (p : ℕ) → names s t.ranges p ≡ true → hidden p ≡ true → page_at s p ≡ None
     held-there h t there held p named away = of (page_at s p) refl
@@ -187,30 +206,6 @@ module _ (e : ℕ) (s : State) where
 
     fill-clean : (bytes : List ℕ) → IsClean v (Filled bytes)
     fill-clean bytes x is p its = alone-shown p ((steady.buffers e x known (sym (own-buffers e s known) ∙ is)).rx p its)
-
-    -- who holds a transaction doesn't matter to which pages it names
-    abbrev held_after : ℕ → Bool → State
-    held_after h b = apply_all e v (all_readably e s (where_true b (Held h s.runner None ∷ [])))
-
-    base-after : (h : ℕ) (b : Bool) → (held_after h b).ram_base ≡ s.ram_base
-    base-after h false = refl
-    base-after h true = elim (transaction_of v h) as (λ o. (with_holder v h s.runner None o).ram_base ≡ s.ram_base) [ None ↦ refl | Some t ↦ refl ]
-
-    pages-after : (h : ℕ) (b : Bool) → (held_after h b).pages ≡ v.pages
-    pages-after h false = refl
-    pages-after h true = elim (transaction_of v h) as (λ o. (with_holder v h s.runner None o).pages ≡ v.pages) [ None ↦ refl | Some t ↦ refl ]
-
-    pub ranges-after : (h : ℕ) (b : Bool) (p : ℕ) → names s (named_ranges (transaction_of (held_after h b) h)) p ≡ true → names s (named_ranges (transaction_of v h)) p ≡ true
-    ranges-after h false p named = named
-    ranges-after h true p named = of (transaction_of v h) refl named
-      where
-        of : (o : Option Transaction) → transaction_of v h ≡ o → names s (named_ranges (transaction_of (with_holder v h s.runner None o) h)) p ≡ true → names s (named_ranges o) p ≡ true
-        of None is named = sym (ap (λ o. names s (named_ranges o) p) is) ∙ named
-        of (Some t) is named = sym (ap (λ o. names s (named_ranges o) p) (get-insert v.transactions h (not_holding t s.runner) h ∙ ap (λ b. cond b (Some (not_holding t s.runner)) (transaction_of v h)) (eq-eqb h h refl))) ∙ named
-
-    seen-ranges : (h : ℕ) (t : Transaction) → transaction_of s h ≡ Some t → (b : Bool) → (involves e (Some t)) ≡ b → (p : ℕ) → names s (named_ranges (transaction_of v h)) p ≡ true → names s t.ranges p ≡ true
-    seen-ranges h t there true known p named = sym (ap (λ o. names s (named_ranges o) p) (view-transaction e s h ∙ ap (shown e) there ∙ ap (λ b. option_map (seen_by e) (kept b (Some t))) known)) ∙ named
-    seen-ranges h t there false unknown p named = absurd (false≢true (sym (ap (λ o. names s (named_ranges o) p) (view-transaction e s h ∙ ap (shown e) there ∙ ap (λ b. option_map (seen_by e) (kept b (Some t))) unknown)) ∙ named))
 
     zero-clean : (h : ℕ) (b : Bool) → is_held_by e (transaction_of s h) ≡ true → IsClean (held_after h b) (Zeroed h)
     zero-clean h b held p named away =

@@ -22,14 +22,14 @@ use Rattle.ffa_model.proofs.CallAccesses.{access-written}
 use Rattle.ffa_laws.specs.Steady.{IsSteady}
 use Rattle.ffa_laws.specs.View.{view}
 use Rattle.ffa_laws.specs.Elsewhere.{ConfidentialAs, IntegrityAs, OneStepAs, OnlyWritersAs, OwnAccessAs, SilenceAs, events_elsewhere}
-use Rattle.ffa_laws.specs.Events.{Event, Wrote, apply_all, events, public_part, where_passed, where_true}
+use Rattle.ffa_laws.specs.Events.{Event, Wrote, apply_all, events, where_passed, where_true}
+use Rattle.ffa_laws.specs.Public.{public_part}
 use Rattle.ffa_laws.specs.Isolation.{NeverGrow, fills_rx_page, is_indirect_message}
 use Rattle.ffa_laws.specs.OwnAccess.{AreApart, is_call}
-use Rattle.ffa_laws.specs.Readable.{all_readably, blank, is_unreadable, readable, revealed}
+use Rattle.ffa_laws.specs.Readable.{all_readably, is_unreadable, readable, revealed}
 use Rattle.ffa_laws.specs.Silence.{AreBare, AreMet, AreNews, may_be_told, may_change_public}
 use Rattle.ffa_laws.specs.Writers.{is_filled_by, is_reclaimed_by}
 use Rattle.ffa_laws.proofs.Bare.{bare-store}
-use Rattle.ffa_laws.proofs.Blanks.{blanked-twice}
 use Rattle.ffa_laws.proofs.Form.{accessed-kept, viewed}
 use Rattle.ffa_laws.proofs.Growth.{never_grow, step_never_grows}
 use Rattle.ffa_laws.proofs.Integrities.{integrity}

@@ -1,24 +1,19 @@
 -- SPDX-License-Identifier: MIT OR Apache-2.0
 -- What an endpoint can read over a run, by induction.
 use Rattle.std.proofs.Common.{append-nil, ◌≡◌, ◌≢◌, ◌∙◌, ℕ, Bool, true, false, cond, List, [], ◌∷◌, ◌++◌, map, refl, sym, ap, subst}
-use Rattle.std.specs.Prelude.{◌==◌, is_none}
-use Rattle.std.proofs.Math.Path.{fun_ext}
+use Rattle.std.specs.Prelude.{◌==◌}
 use Rattle.std.proofs.lemmas.Bool.{eq-eqb, eqb-true, true≢false}
 use Rattle.std.proofs.lemmas.List.{append_assoc}
 use Rattle.ffa_model.specs.declared.operation.Op.{Op}
 use Rattle.ffa_model.specs.State.{State, is_known}
 use Rattle.ffa_model.specs.Step.{state_after, step}
 use Rattle.ffa_laws.specs.Steady.{IsSteady}
-use Rattle.ffa_laws.specs.View.{view}
 use Rattle.ffa_laws.specs.Events.{Event, Wrote, Opened, Zeroed, apply, apply_all, events, message, messages, seen, where_true}
-use Rattle.ffa_laws.specs.Readable.{Did, Heard, Reading, RunConfidential, all_readably, blank, is_unreadable, readable, readably, readings, revealed}
+use Rattle.ffa_laws.specs.Readable.{Did, Heard, Reading, RunConfidential, all_readably, readable, readably, readings, revealed}
 use Rattle.ffa_laws.specs.Replay.{Lived, seeing}
-use Rattle.ffa_laws.proofs.Blanks.{access-b, blanked-twice}
 use Rattle.ffa_laws.proofs.Kept.{known-step}
 use Rattle.ffa_laws.proofs.Laws.{steady-step}
-use Rattle.ffa_laws.proofs.OwnAccesses.{other-access}
-use Rattle.ffa_laws.proofs.Readings.{apply-blind, joined, other-reading, read-after, read-outcome}
-use Rattle.ffa_laws.proofs.Views.{view-access}
+use Rattle.ffa_laws.proofs.Readings.{joined, other-reading, read-after, read-outcome}
 
 -- What is seen, and can be read then, by what is met alone.
 relive : ℕ → State → List Reading → Lived

@@ -27,26 +27,26 @@ use Rattle.ffa_model.specs.MemoryReturn.{named_ranges, is_zeroable, memory_relin
 use Rattle.ffa_model.specs.RunStates.{schedule_of}
 use Rattle.ffa_model.specs.Step.{step, serve}
 use Rattle.ffa_model.specs.Registers.{decode}
-use Rattle.ffa_model.specs.Transactions.{not_holding, open_of}
+use Rattle.ffa_model.specs.Transactions.{open_of}
 use Rattle.ffa_model.proofs.Accesses.{length-map_at, named-in}
 use Rattle.ffa_model.proofs.Guards.{guard-passes}
 use Rattle.ffa_laws.specs.Steady.{IsSteady}
 use Rattle.ffa_laws.specs.View.{is_near, kept, view, involves, seen_by}
-use Rattle.ffa_laws.specs.Events.{Event, Wrote, Message, Filled, Pending, Bound, Unbound, Opened, Held, Zeroed, Closed, Public, apply, apply_all, events, where_true, with_public_buffers, with_holder, with_opened, with_public, call_events, public_change, public_part, releases, where_passed, writes}
+use Rattle.ffa_laws.specs.Events.{Event, Wrote, Message, Filled, Pending, Bound, Unbound, Opened, Held, Zeroed, Closed, Public, apply, apply_all, events, where_true, with_public_buffers, with_holder, with_opened, with_public, call_events, public_change, releases, where_passed, writes}
 use Rattle.ffa_laws.specs.OwnAccess.{AreApart, gives_access, is_call}
 use Rattle.ffa_laws.specs.Readable.{Confidential, all_readably, blank, blank_page, blank_where, blanked, is_unreadable, readable, readably, revealed}
 use Rattle.ffa_laws.specs.Silence.{may_tell}
 use Rattle.ffa_laws.proofs.Blanks.{IsBlind, access-b, at-blanked, blank-none, blank-twice, blanked-twice, blind-zeroed, changed-blind, each-blind, filled-blind, step-b, written-blind}
 use Rattle.ffa_laws.proofs.Changes.{AreRewritten, apply_all-append, standing, view-changed, with_parts}
-use Rattle.ffa_laws.proofs.Clean.{heard-blank}
+use Rattle.ffa_laws.proofs.Clean.{base-after, heard-blank, ranges-after, seen-ranges}
 use Rattle.ffa_laws.proofs.Form.{viewed}
 use Rattle.ffa_laws.proofs.Laws.{other-step, own-step, steady-step}
-use Rattle.ffa_laws.proofs.Opened.{get-insert}
 use Rattle.ffa_laws.proofs.OwnAccesses.{IsApart, each-apart, other-access, own-grows, shareless}
 use Rattle.ffa_laws.proofs.Rows.{all-weaker, call-rows, passed-row}
 use Rattle.ffa_laws.proofs.Views.{shown, view-transaction, access-near, kept_none, view-access, view-page}
 use Rattle.ffa_laws.proofs.Maps.{at-map_at, map_at-alike, map_at-same, map_at-set, map_at-twice}
 use Rattle.ffa_laws.proofs.Steadies.{steady-changed}
+use Rattle.ffa_laws.proofs.Publics.{either-public}
 
 -- ---- blank pages in a view
 standing-blank : (c : Bool) (page : Option Page) → standing (blank_where c page) ≡ standing page
@@ -399,10 +399,6 @@ module _ (e : ℕ) (s : State) where
 
   -- ---- what each operation tells fits
   module _ (steady : IsSteady s) where
-    seen-ranges : (h : ℕ) (t : Transaction) → transaction_of s h ≡ Some t → (b : Bool) → (involves e (Some t)) ≡ b → (p : ℕ) → names s (named_ranges (transaction_of (readable e s) h)) p ≡ true → names s t.ranges p ≡ true
-    seen-ranges h t there true known p named = sym (ap (λ o. names s (named_ranges o) p) (view-transaction e s h ∙ ap (shown e) there ∙ ap (λ b. option_map (seen_by e) (kept b (Some t))) known)) ∙ named
-    seen-ranges h t there false unknown p named = absurd (false≢true (sym (ap (λ o. names s (named_ranges o) p) (view-transaction e s h ∙ ap (shown e) there ∙ ap (λ b. option_map (seen_by e) (kept b (Some t))) unknown)) ∙ named))
-
     -- pages of a lend that e doesn't hold
     pub lent-away : (h : ℕ) (t : Transaction) → transaction_of s h ≡ Some t → is_lend t.kind ≡ true → is_held_by e (transaction_of s h) ≡ false → (p : ℕ) → names s t.ranges p ≡ true → is_unreadable s e p ≡ true
     lent-away h t there lend unheld p named =
@@ -429,25 +425,12 @@ module _ (e : ℕ) (s : State) where
     fit-released : first_failure (memory_relinquish s).guards ≡ None → AreFit (readable e s) (releases e s (relinquish_read s))
     fit-released none = read (relinquish_read s) none
       where
-        -- who holds it doesn't matter to which pages it names
-        held-ranges : (h : ℕ) (b : Bool) (p : ℕ) → names s (named_ranges (transaction_of (apply_all e (readable e s) (all_readably e s (where_true b (Held h s.runner None ∷ [])))) h)) p ≡ true → names s (named_ranges (transaction_of (readable e s) h)) p ≡ true
-        held-ranges h false p named = named
-        held-ranges h true p named = of (transaction_of (readable e s) h) refl named
-          where
-            of : (o : Option Transaction) → transaction_of (readable e s) h ≡ o → names s (named_ranges (transaction_of (with_holder (readable e s) h s.runner None o) h)) p ≡ true → names s (named_ranges o) p ≡ true
-            of None is named = sym (ap (λ o. names s (named_ranges o) p) is) ∙ named
-            of (Some t) is named = sym (ap (λ o. names s (named_ranges o) p) (get-insert (readable e s).transactions h (not_holding t s.runner) h ∙ ap (λ b. cond b (Some (not_holding t s.runner)) (transaction_of (readable e s) h)) (eq-eqb h h refl))) ∙ named
-
         zeroing : (d : RelinquishDesc) (o : Option Transaction) → transaction_of s d.handle ≡ o → is_zeroable s.runner o ≡ true → (w : State) → w.ram_base ≡ s.ram_base
             → ((p : ℕ) → names s (named_ranges (transaction_of w d.handle)) p ≡ true → names s (named_ranges (transaction_of (readable e s) d.handle)) p ≡ true) → Fits w (Zeroed d.handle)
         zeroing d None there zeroable w base ranges unheld p named = absurd (false≢true zeroable)
         zeroing d (Some t) there zeroable w base ranges unheld p named =
             lent-away d.handle t there (and_parts (is_lend t.kind) _ zeroable).0 unheld p
-            (seen-ranges d.handle t there (involves e (Some t)) refl p (ranges p (sym (ap (λ base. covers (named_ranges (transaction_of w d.handle)) (base + 4096 * p)) base) ∙ named)))
-
-        base-after : (h : ℕ) (b : Bool) → (apply_all e (readable e s) (all_readably e s (where_true b (Held h s.runner None ∷ [])))).ram_base ≡ s.ram_base
-        base-after h false = refl
-        base-after h true = base-kept e hidden (readable e s) (Held h s.runner None)
+            (seen-ranges e s d.handle t there (involves e (Some t)) refl p (ranges p (sym (ap (λ base. covers (named_ranges (transaction_of w d.handle)) (base + 4096 * p)) base) ∙ named)))
 
         read : (o : Option RelinquishDesc) → first_failure (relinquish_guards (buffers_of s s.runner) (open_of s) s.runner o) ≡ None → AreFit (readable e s) (releases e s o)
         read None none = tt
@@ -458,18 +441,14 @@ module _ (e : ℕ) (s : State) where
             (fit-one (apply_all e (readable e s) (all_readably e s held)) _ (Zeroed d.handle) (λ both.
             zeroing d (transaction_of s d.handle) refl
             (asks d.zero (is_zeroable s.runner (transaction_of s d.handle)) (guard-passes (relinquish_guards (buffers_of s s.runner) (open_of s) s.runner (Some d)) 4 (sym none)) (grind (arith, cases_Bool d.zero, both)))
-            (apply_all e (readable e s) (all_readably e s held)) (base-after d.handle (is_from e (transaction_of s d.handle)))
-            (held-ranges d.handle (is_from e (transaction_of s d.handle)))))
+            (apply_all e (readable e s) (all_readably e s held)) (base-after e s d.handle (is_from e (transaction_of s d.handle)))
+            (ranges-after e s d.handle (is_from e (transaction_of s d.handle)))))
           where
             fits-held : (d : RelinquishDesc) → Fits (readable e s) (Held d.handle s.runner None)
             fits-held d = tt
 
     public-zeros : (next : State) → list_all (λ x. not (may_zero x)) (public_change s next) ≡ true
-    public-zeros next = of _
-      where
-        of : (b : Bool) → list_all (λ x. not (may_zero x)) (cond b [] (Public (public_part next) ∷ [])) ≡ true
-        of true = refl
-        of false = refl
+    public-zeros next = either-public (λ es. list_all (λ x. not (may_zero x)) es ≡ true) s next refl refl
 
     fit-call : (call : calls.Call) → AreFit (readable e s) (call_events e s call)
     fit-call call = of call

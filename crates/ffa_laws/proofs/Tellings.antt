@@ -1,11 +1,10 @@
 -- SPDX-License-Identifier: MIT OR Apache-2.0
 -- Bytes that an endpoint can't read: what it is told doesn't depend on them, whoever else can read them.
-use Rattle.std.proofs.Common.{◌≡◌, ◌∙◌, ℕ, ◌-◌, ◌/◌, Bool, true, false, cond, List, [], ◌∷◌, ◌++◌, take, Option, Some, None, is_some, refl, sym, ap}
+use Rattle.std.proofs.Common.{◌≡◌, ◌∙◌, ℕ, ◌-◌, ◌/◌, Bool, true, false, List, [], ◌∷◌, ◌++◌, take, Option, Some, None, is_some, refl, sym, ap}
 use Rattle.std.specs.Prelude.{◌==◌, ◌%◌, ◌&&◌, ◌||◌, is_none, not}
 use Rattle.std.specs.Option.{option_map_or}
 use Rattle.std.proofs.Math.Path.{fun_ext}
 use Rattle.std.proofs.lemmas.Bool.{false≢true, true≢false}
-use Rattle.std.proofs.lemmas.List.{append_assoc}
 use Rattle.byteorder.specs.Endian.{little_bytes}
 use Rattle.ffa_model.specs.declared.descriptor.RetrieveDesc.{RetrieveDesc}
 use Rattle.ffa_model.specs.declared.operation.Op.{Op}
@@ -33,7 +32,7 @@ use Rattle.ffa_model.specs.Step.{serve, service, step}
 use Rattle.ffa_model.specs.Transactions.{next_handle, open_of}
 use Rattle.ffa_model.proofs.Runs.{flat-run-same}
 use Rattle.ffa_laws.specs.View.{involves, is_near, kept, view}
-use Rattle.ffa_laws.specs.Events.{Event, Wrote, Opened, Zeroed, Public, call_events, delivers, events, is_same_public, messages, named_pages, opens, public_change, public_part, releases, takes, takes_from, taking, told_by, where_passed, where_true}
+use Rattle.ffa_laws.specs.Events.{Event, Wrote, Opened, Zeroed, call_events, delivers, events, messages, named_pages, opens, public_change, releases, takes, takes_from, taking, told_by, where_passed, where_true}
 use Rattle.ffa_laws.specs.Readable.{all_readably, blank, blank_where, blanked, is_unreadable, readable, readably, revealed}
 use Rattle.ffa_laws.proofs.Blanks.{access-b, access_at-b, ownership-b, blank-twice, call-b, outcome-b, page-b, sent-b, service-b, state-b}
 use Rattle.ffa_laws.proofs.Maps.{map_at-same, map_at-twice}
@@ -136,7 +135,7 @@ module _ (e : ℕ) (s : State) (hides : ℕ → Bool) where
 
       public-b : (call : calls.Call) → public_change b (serve b call).state ≡ public_change s (serve s call).state
       public-b call =
-          ap (λ (next : State). cond (is_same_public (public_part s) (public_part next)) [] (Public (public_part next) ∷ [])) (call-b s hides tx-b call).state
+          ap (public_change s) (call-b s hides tx-b call).state
 
       calls-b : (call : calls.Call) → all_readably e s (call_events e b call) ≡ all_readably e s (call_events e s call)
       calls-b call =

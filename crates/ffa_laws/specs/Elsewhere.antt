@@ -13,7 +13,8 @@ use Rattle.ffa_model.specs.Elsewhere.{as_run_by, step_as}
 use Rattle.ffa_model.specs.Memory.{page_bytes}
 use Rattle.ffa_laws.specs.Steady.{IsSteady}
 use Rattle.ffa_laws.specs.View.{view}
-use Rattle.ffa_laws.specs.Events.{Event, apply_all, events, public_part}
+use Rattle.ffa_laws.specs.Events.{Event, apply_all, events}
+use Rattle.ffa_laws.specs.Public.{public_part}
 use Rattle.ffa_laws.specs.Isolation.{fills_rx_page, is_indirect_message}
 use Rattle.ffa_laws.specs.OwnAccess.{gives_access, is_call, takes_access}
 use Rattle.ffa_laws.specs.Readable.{all_readably, readable, revealed}

@@ -14,6 +14,7 @@ pub mod Counts
 pub mod Accesses
 pub mod NamedPages
 pub mod Own
+pub mod Equal
 pub mod CallAccesses
 pub mod FirstSound
 pub mod Kept
