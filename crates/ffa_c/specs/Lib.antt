@@ -9,3 +9,4 @@ pub mod LentPages
 pub mod Readiness
 pub mod Lending
 pub mod Spans
+pub mod Why

@@ -1,10 +1,13 @@
 // SPDX-License-Identifier: MIT OR Apache-2.0
 //! A machine with the outcomes that C sees, whichever RAM it has.
-ghost use Rattle.std.specs.Prelude.{◌≡◌, ◌≢◌, ◌<◌, ◌*◌, true, false, length};
+ghost use Rattle.std.specs.Prelude.{◌≡◌, ◌≢◌, ◌<◌, ◌*◌, true, false, is_some, length};
 ghost use Rattle.ffa_model.specs.Access.{access};
 ghost use Rattle.ffa_model.specs.Notifications.{has_pending, notifications_of};
 ghost use Rattle.ffa_model.specs.Ram.{page_of, zero_ram};
+ghost use Rattle.ffa_model.specs.Refusals.{is_refusal};
 ghost use Rattle.ffa_model.specs.State.{is_known};
+ghost use Rattle.ffa_model.specs.Step.{step};
+ghost use Rattle.ffa_model.specs.Why.{why};
 ghost use Rattle.ffa_manifest.specs.Document.{parts_of};
 ghost use Rattle.ffa_spmc.specs.Storages.{IsRoomFor};
 ghost use Rattle.ffa_c.specs.Booting.{IsFirst, IsFirstBy};
@@ -20,7 +23,7 @@ use crate::kind::{
 use crate::outcome::COutcome;
 use ffa_lent::{Frames, LentRam};
 use ffa_memshare::Changed;
-use ffa_model::{EndpointId, Manifest, Op, PageNo};
+use ffa_model::{EndpointId, Manifest, Op, PageNo, Why};
 use ffa_physmem::{FlatRam, PhysMem};
 use ffa_spmc::{Given, Machine, Storage};
 use ffa_tlb::NoTlb;
@@ -202,6 +205,17 @@ impl Board {
         match &self.kind {
             BoardMachine::Heap(machine) => access_by(machine, EndpointId(endpoint), PageNo(page)),
             BoardMachine::Lent(machine) => access_by(machine, EndpointId(endpoint), PageNo(page)),
+        }
+    }
+
+    /// Why an operation of the runner would be refused now, or was refused just before.
+    pub fn why(&self, op: &Op) -> Option<Why>
+        ensures why { result ≡ why self.now.machine.state op.now }
+        ensures refused { is_some result ≡ is_refusal (step self.now.machine.state op.now).outcome }
+    {
+        match &self.kind {
+            BoardMachine::Heap(machine) => machine.why(op),
+            BoardMachine::Lent(machine) => machine.why(op),
         }
     }
 

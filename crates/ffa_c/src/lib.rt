@@ -19,5 +19,7 @@ pub mod lent_list;
 pub mod machine;
 pub mod manifest;
 pub mod outcome;
+pub mod reason;
 pub mod seat;
 pub mod spans;
+pub mod why;
