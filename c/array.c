@@ -1,5 +1,5 @@
 /* SPDX-License-Identifier: MIT OR Apache-2.0 */
-/* The memory of libffa_c.a with no C library: the three functions that it asks of the program, over an array of
+/* The memory of libgorseplumb.a with no C library: the three functions that it asks of the program, over an array of
  * GORSEPLUMB_ARRAY_BYTES, of which a block is given and never taken back. A block is aligned to 16, and `p` is never null, even
  * where there is no memory. */
 #include <stdbool.h>

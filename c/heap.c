@@ -1,5 +1,5 @@
 /* SPDX-License-Identifier: MIT OR Apache-2.0 */
-/* The memory of libffa_c.a: the three functions that it asks of the program, here over the C library's heap. Firmware puts
+/* The memory of libgorseplumb.a: the three functions that it asks of the program, here over the C library's heap. Firmware puts
  * its own in their place. A block is aligned to 16, and `p` is never null, even where there is no memory. */
 #include <stdbool.h>
 #include <stddef.h>
