@@ -1,6 +1,6 @@
 #!/usr/bin/env bash
 # SPDX-License-Identifier: MIT OR Apache-2.0
-# Builds the C library and what stands in this folder over it, with every warning an error, and runs it: the test under
+# Builds the C library and what stands in this folder over it, with every warning an error, and runs it: the tests under
 # sanitizers and valgrind, that of copies of bytes, the example, the traces of examples/ through the border beside the program, and
 # links with no C library, of which one runs on a stack of 64 KiB; for AArch64 too, where there are a compiler and an emulator for it.
 # With --install it first installs Debian's packages for that.
@@ -83,12 +83,14 @@ archive native
 "$player" check "$top/examples/machine.toml" >/dev/null
 for compiler in gcc clang; do
     has $compiler || continue
-    $compiler $strict $sanitized "$here/test.c" "$here/settle.c" "$to/native.a" -o "$to/test"
-    says "$compiler, sanitized" "$to/test"
+    for test in test test_questions; do
+        $compiler $strict $sanitized "$here/$test.c" "$here/settle.c" "$to/native.a" -o "$to/$test"
+        says "$compiler, $test, sanitized" "$to/$test"
+        $compiler $strict -O2 "$here/$test.c" "$here/settle.c" "$to/native.a" -o "$to/$test"
+        says "$compiler, $test" "$to/$test"
+    done
     $compiler $strict $sanitized $renamed "$here"/{test_bytes,bytes}.c -o "$to/bytes"
     says "$compiler, sanitized" "$to/bytes"
-    $compiler $strict -O2 "$here/test.c" "$here/settle.c" "$to/native.a" -o "$to/test"
-    says "$compiler" "$to/test"
     $compiler $strict $sanitized "$here/example.c" "$here/heap.c" "$to/native.a" -o "$to/example"
     "$to/example"
     $compiler $strict $sanitized "$here/play.c" "$here/heap.c" "$to/native.a" -o "$to/play"
@@ -108,8 +110,10 @@ if has g++; then
 fi
 # The archive isn't instrumented by the sanitizers: valgrind looks at what it reads and writes, too.
 if has gcc && has valgrind; then
-    gcc $strict -O1 -g "$here/test.c" "$here/settle.c" "$to/native.a" -o "$to/test"
-    says valgrind valgrind -q --error-exitcode=9 --leak-check=full "$to/test"
+    for test in test test_questions; do
+        gcc $strict -O1 -g "$here/$test.c" "$here/settle.c" "$to/native.a" -o "$to/$test"
+        says "valgrind, $test" valgrind -q --error-exitcode=9 --leak-check=full "$to/$test"
+    done
 fi
 if has gcc; then stores native objdump "$to/test"; fi
 symbols=$(nm -u "$to/native.a" | sed -n 's/^ *U //p' | grep -v '^_R\|\$' | sort -u | tr '\n' ' ')
@@ -120,8 +124,10 @@ if [[ $others ]]; then echo "names of the archive that don't begin with gorseplu
 if has aarch64-linux-gnu-gcc && has qemu-aarch64-static; then
     archive arm --target aarch64-unknown-linux-gnu
     arm="aarch64-linux-gnu-gcc $strict -O2 -static"
-    $arm "$here/test.c" "$here/settle.c" "$to/arm.a" -o "$to/test"
-    says AArch64 qemu-aarch64-static "$to/test"
+    for test in test test_questions; do
+        $arm "$here/$test.c" "$here/settle.c" "$to/arm.a" -o "$to/$test"
+        says "AArch64, $test" qemu-aarch64-static "$to/$test"
+    done
     stores AArch64 aarch64-linux-gnu-objdump "$to/test"
     $arm "$here/play.c" "$here/heap.c" "$to/arm.a" -o "$to/play"
     plays AArch64 qemu-aarch64-static "$to/play"
