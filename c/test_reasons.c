@@ -1,7 +1,8 @@
 /* SPDX-License-Identifier: MIT OR Apache-2.0 */
 /* Why operations are refused, and names as text. The machine is that of machine.toml.h: 0000 has the 16 pages from
  * 40010000 on, 8001 those from 40020000 and 8002 those from 40030000. Numbers and texts are the manual's:
- * docs/CALLS.md, docs/MEMORY.md and docs/COMMANDS.md. */
+ * docs/CALLS.md, docs/MEMORY.md and docs/COMMANDS.md. Reasons are asked of a struct in memory that can only be read. */
+#define _DEFAULT_SOURCE
 #include <stdio.h>
 #include <stdlib.h>
 #include <string.h>
@@ -21,31 +22,24 @@ static struct gorseplumb_machine machine;
         } \
     } while (0)
 
+#include "shown.h"
+
 /* The library's memory, for which nothing asks but a boot. */
 static bool boots;
 
-struct tried {
-    bool ok;
-    void *p;
-};
-
-struct tried rattle_alloc(size_t size, size_t align);
-struct tried rattle_realloc(void *block, size_t kept, size_t size, size_t align);
-void rattle_dealloc(void *block);
-
-struct tried rattle_alloc(size_t size, size_t align) {
+struct gorseplumb_block rattle_alloc(size_t size, size_t align) {
     CHECK(boots);
     void *block = malloc(size != 0 ? size : align);
     CHECK(block != NULL);
-    return (struct tried){true, block};
+    return (struct gorseplumb_block){true, block};
 }
 
-struct tried rattle_realloc(void *block, size_t kept, size_t size, size_t align) {
+struct gorseplumb_block rattle_realloc(void *block, size_t kept, size_t size, size_t align) {
     (void)kept;
     CHECK(boots);
     block = realloc(block, size != 0 ? size : align);
     CHECK(block != NULL);
-    return (struct tried){true, block};
+    return (struct gorseplumb_block){true, block};
 }
 
 void rattle_dealloc(void *block) { free(block); }
@@ -87,28 +81,28 @@ static void tells(bool answer, const struct gorseplumb_reason *told, struct gors
 static void refuses(struct gorseplumb_registers registers, struct gorseplumb_reason wanted) {
     for (int i = 0; i < 2; i++) {
         struct gorseplumb_reason reason = marked();
-        tells(gorseplumb_why_call(&machine, &registers, &reason), &reason, wanted);
+        tells(gorseplumb_why_call(shown(&machine), &registers, &reason), &reason, wanted);
         call(&registers, FFA_ERROR, (uint32_t)wanted.error);
     }
 }
 
 static void refuses_load(uint64_t address, uint32_t size, struct gorseplumb_reason wanted) {
     struct gorseplumb_reason reason = marked();
-    tells(gorseplumb_why_load(&machine, address, size, &reason), &reason, wanted);
+    tells(gorseplumb_why_load(shown(&machine), address, size, &reason), &reason, wanted);
     struct gorseplumb_outcome told = gorseplumb_load(&machine, address, size);
     CHECK(told.kind == GORSEPLUMB_KIND_FAULT && told.value == wanted.fault);
 }
 
 static void refuses_store(uint64_t address, uint32_t size, struct gorseplumb_reason wanted) {
     struct gorseplumb_reason reason = marked();
-    tells(gorseplumb_why_store(&machine, address, size, &reason), &reason, wanted);
+    tells(gorseplumb_why_store(shown(&machine), address, size, &reason), &reason, wanted);
     struct gorseplumb_outcome told = gorseplumb_store(&machine, address, size, 0);
     CHECK(told.kind == GORSEPLUMB_KIND_FAULT && told.value == wanted.fault);
 }
 
 static void refuses_fetch(uint64_t address, struct gorseplumb_reason wanted) {
     struct gorseplumb_reason reason = marked();
-    tells(gorseplumb_why_fetch(&machine, address, &reason), &reason, wanted);
+    tells(gorseplumb_why_fetch(shown(&machine), address, &reason), &reason, wanted);
     struct gorseplumb_outcome told = gorseplumb_fetch(&machine, address);
     CHECK(told.kind == GORSEPLUMB_KIND_FAULT && told.value == wanted.fault);
 }
@@ -118,12 +112,12 @@ static void refuses_fetch(uint64_t address, struct gorseplumb_reason wanted) {
 
 static void accesses(void) {
     struct gorseplumb_reason reason = marked();
-    CHECK(!gorseplumb_why_load(&machine, 0x40010000, 8, &reason) &&
-          !gorseplumb_why_store(&machine, 0x40010000, 8, &reason));
+    CHECK(!gorseplumb_why_load(shown(&machine), 0x40010000, 8, &reason) &&
+          !gorseplumb_why_store(shown(&machine), 0x40010000, 8, &reason));
     for (uint32_t size = 0; size < 20; size++) {
         if (size == 1 || size == 2 || size == 4 || size == 8) continue;
-        CHECK(!gorseplumb_why_load(&machine, 0x40020000, size, &reason) &&
-              !gorseplumb_why_store(&machine, 0x40020000, size, &reason));
+        CHECK(!gorseplumb_why_load(shown(&machine), 0x40020000, size, &reason) &&
+              !gorseplumb_why_store(shown(&machine), 0x40020000, size, &reason));
     }
     CHECK(is_marked(&reason));
     refuses_load(0x40020FFF, 1, TRANSLATION(.obstacle = GORSEPLUMB_OBSTACLE_OWNED_BY, .owner = 0x8001));
@@ -149,7 +143,7 @@ static void reads_alone(void) {
     boots = true;
     CHECK(gorseplumb_boot_manifest(&machine, &manifest) == GORSEPLUMB_OK);
     boots = false;
-    CHECK(!gorseplumb_why_load(&machine, 0x40010000, 1, &reason) && is_marked(&reason));
+    CHECK(!gorseplumb_why_load(shown(&machine), 0x40010000, 1, &reason) && is_marked(&reason));
     refuses_store(0x40010000, 1, FAULT(PERMISSION));
     CHECK(gorseplumb_free(&machine, &untouched) == GORSEPLUMB_OK);
 }
@@ -160,7 +154,7 @@ static void reads_alone(void) {
 
 static void calls(void) {
     struct gorseplumb_reason reason = marked();
-    CHECK(!gorseplumb_why_call(&machine, &CALL(FFA_ID_GET), &reason) && is_marked(&reason));
+    CHECK(!gorseplumb_why_call(shown(&machine), &CALL(FFA_ID_GET), &reason) && is_marked(&reason));
     refuses(CALL(0x84000099),
             REASON(FUNCTION_UNKNOWN, -1, .about = GORSEPLUMB_ABOUT_REGISTER, .value = 0x84000099, .has_value = 1));
     refuses(CALL(FFA_RX_RELEASE), REASON(RX_EMPTY, -6, .about = GORSEPLUMB_ABOUT_NOTHING));
@@ -217,8 +211,9 @@ static void descriptors(void) {
 static void without_a_machine(void) {
     struct gorseplumb_machine none = {0};
     struct gorseplumb_reason reason = marked();
-    CHECK(!gorseplumb_why_call(&none, &CALL(0x84000099), &reason) && !gorseplumb_why_load(&none, 0, 1, &reason));
-    CHECK(!gorseplumb_why_store(&none, 0, 1, &reason) && !gorseplumb_why_fetch(&none, 0, &reason));
+    CHECK(!gorseplumb_why_call(shown(&none), &CALL(0x84000099), &reason) &&
+          !gorseplumb_why_load(shown(&none), 0, 1, &reason));
+    CHECK(!gorseplumb_why_store(shown(&none), 0, 1, &reason) && !gorseplumb_why_fetch(shown(&none), 0, &reason));
     CHECK(is_marked(&reason) && !none.live && none.at == NULL);
 }
 

@@ -65,7 +65,7 @@ pub const NO_MACHINE: u32 = 19;
 /// The list has more pages than the manifest's RAM, or fewer.
 pub const WRONG_COUNT: u32 = 20;
 
-/// What a question answers where there is no machine, or no such page.
+/// What a question answers where there is no machine, no such page or no such endpoint.
 pub const NOTHING: u32 = 0xFFFF_FFFF;
 
 /// Of an outcome: an endpoint runs next, with registers.
@@ -139,6 +139,18 @@ pub const OBSTACLE_OWNED_BY: u32 = 3;
 
 /// Of a reason: the page stands in an open transaction.
 pub const OBSTACLE_IN_TRANSACTION: u32 = 4;
+
+/// Of a grant: there is no access.
+pub const GRANT_NONE: u32 = 0;
+
+/// Of a grant: the page is the endpoint's own, and no open transaction names it.
+pub const GRANT_OWN: u32 = 1;
+
+/// Of a grant: the page is the endpoint's own, and it shares it.
+pub const GRANT_SHARED: u32 = 2;
+
+/// Of a grant: the endpoint holds a transaction that names the page.
+pub const GRANT_HELD: u32 = 3;
 
 /// A right to read.
 pub const READ: u32 = 1;

@@ -5,16 +5,14 @@ ghost use Rattle.std.specs.Prelude.{◌≡◌, IfSome, Some, false, is_some};
 ghost use Rattle.ffa_c.specs.Why.{is_refused, reason_told, sized, why_held};
 
 use crate::exports::{CRegisters, size_of};
-use crate::machine::{CMachine, put, take};
+use crate::machine::CMachine;
 use crate::reason::CReason;
 use ffa_model::Op;
-use std::alloc::Global;
 
 /// Why a call would be refused: true, and `reason` says it; or false, and it stays, where the call would be done, or
 /// there is no machine.
 #[unsafe(no_mangle)]
 pub extern "C" fn gorseplumb_why_call(
-    alloc: Global,
     machine: &mut CMachine,
     registers: &CRegisters,
     reason: &mut CReason,
@@ -26,13 +24,12 @@ pub extern "C" fn gorseplumb_why_call(
         IfSome why (λ why. reason.new ≡ reason_told why) }
     ensures kept { result ≡ false → reason.new ≡ reason.old }
 {
-    tell(alloc, machine, Some(Op::Call(registers.x)), reason)
+    tell(machine, Some(Op::Call(registers.x)), reason)
 }
 
 /// The same of a load of 1, 2, 4 or 8 bytes; false, too, where the size is none of these.
 #[unsafe(no_mangle)]
 pub extern "C" fn gorseplumb_why_load(
-    alloc: Global,
     machine: &mut CMachine,
     addr: u64,
     size: u32,
@@ -45,13 +42,12 @@ pub extern "C" fn gorseplumb_why_load(
         IfSome why (λ why. reason.new ≡ reason_told why) }
     ensures kept { result ≡ false → reason.new ≡ reason.old }
 {
-    tell(alloc, machine, load_of(addr, size), reason)
+    tell(machine, load_of(addr, size), reason)
 }
 
 /// The same of a store, whatever value it has.
 #[unsafe(no_mangle)]
 pub extern "C" fn gorseplumb_why_store(
-    alloc: Global,
     machine: &mut CMachine,
     addr: u64,
     size: u32,
@@ -64,13 +60,12 @@ pub extern "C" fn gorseplumb_why_store(
         IfSome why (λ why. reason.new ≡ reason_told why) }
     ensures kept { result ≡ false → reason.new ≡ reason.old }
 {
-    tell(alloc, machine, store_of(addr, size), reason)
+    tell(machine, store_of(addr, size), reason)
 }
 
 /// The same of a fetch of one instruction.
 #[unsafe(no_mangle)]
 pub extern "C" fn gorseplumb_why_fetch(
-    alloc: Global,
     machine: &mut CMachine,
     addr: u64,
     reason: &mut CReason,
@@ -82,7 +77,7 @@ pub extern "C" fn gorseplumb_why_fetch(
         IfSome why (λ why. reason.new ≡ reason_told why) }
     ensures kept { result ≡ false → reason.new ≡ reason.old }
 {
-    tell(alloc, machine, Some(Op::Fetch { addr }), reason)
+    tell(machine, Some(Op::Fetch { addr }), reason)
 }
 
 // A load, if so many bytes are a size.
@@ -110,22 +105,15 @@ fn store_of(addr: u64, size: u32) -> Option<Op>
 }
 
 // Why an operation would be refused, if it would be.
-fn tell(alloc: Global, machine: &mut CMachine, op: Option<Op>, reason: &mut CReason) -> bool
+fn tell(machine: &mut CMachine, op: Option<Op>, reason: &mut CReason) -> bool
     ensures same { machine.new.held.value ≡ machine.old.held.value }
     ensures refused { result ≡ is_refused machine.old.held.value op }
     ensures there { result ≡ is_some (why_held machine.old.held.value op) }
     ensures told { IfSome (why_held machine.old.held.value op) (λ why. reason.new ≡ reason_told why) }
     ensures kept { result ≡ false → reason.new ≡ reason.old }
 {
-    let Some(op) = op else {
-        return false;
-    };
-    match take(machine, alloc) {
-        None => false,
-        Some(seat) => {
-            let why = seat.board().why(&op);
-            put(machine, seat);
-            reason.fill(why)
-        }
+    match op {
+        Some(op) if machine.live => reason.fill(machine.held.board().why(&op)),
+        _ => false,
     }
 }
