@@ -74,6 +74,15 @@ shares() {
     "$@" "$here/test.c" "$here/settle.c" "-L$to" -lgorseplumb "-Wl,-rpath,$to" -o "$to/shared"
 }
 
+# A program with no C library that boots from numbers and stands at any address, as $to/moved, has nothing to relocate:
+# moves NAME ARCHIVE COMMAND..
+moves() {
+    local name=$1 archive=$2
+    shift 2
+    "$@" -static-pie -fpie -Wl,--gc-sections "$here"/{freestanding,array,bytes,settle}.c "$archive" -o "$to/moved"
+    if readelf -rW "$to/moved" | grep ' R_'; then echo "$name: a program has to relocate itself" >&2; exit 1; fi
+}
+
 # The bytes of code and data of a program, as `size` adds them up.
 bytes() { size "$1" | awk 'NR == 2 { print $4 }'; }
 
@@ -101,7 +110,7 @@ native=$made
 for compiler in gcc clang; do
     has $compiler || continue
     for test in test test_questions test_reasons; do
-        $compiler $strict $sanitized "$here/$test.c" "$here/settle.c" "$native" -o "$to/$test"
+        $compiler $strict $sanitized "$here/$test.c" "$here"/{settle,names}.c "$native" -o "$to/$test"
         says "$compiler, $test, sanitized" "$to/$test"
         $compiler $strict -O2 "$here/$test.c" "$here/settle.c" "$native" -o "$to/$test"
         says "$compiler, $test" "$to/$test"
@@ -118,10 +127,8 @@ for compiler in gcc clang; do
     $compiler $bare "$here"/{freestanding,array,bytes,settle}.c "$native" -o "$to/whole"
     $compiler $bare -Wl,--gc-sections "$here"/{freestanding,array,bytes,settle}.c "$native" -o "$to/free"
     "$to/free"
-    $compiler $bare -static-pie -fpie -Wl,--gc-sections "$here"/{freestanding,array,bytes,settle}.c "$native" \
-        -o "$to/moves"
-    "$to/moves"
-    if readelf -rW "$to/moves" | grep ' R_'; then echo "$compiler: a program has to relocate itself" >&2; exit 1; fi
+    moves $compiler "$native" $compiler $bare
+    "$to/moved"
     if nm "$to/whole" "$to/free" | grep _names; then echo "$compiler: names that nobody asks are linked" >&2; exit 1; fi
     $compiler $bare -Wl,--gc-sections,--undefined=gorseplumb_check_name "$here"/{freestanding,array,bytes,settle}.c \
         "$native" -o "$to/named"
@@ -169,6 +176,8 @@ if has aarch64-linux-gnu-gcc && has qemu-aarch64-static; then
     $arm $bare "$here"/{freestanding,array,bytes,settle}.c "$made" -o "$to/free"
     qemu-aarch64-static "$to/free"
     echo "AArch64: linked with no C library, and run"
+    moves AArch64 "$made" $arm $bare
+    qemu-aarch64-static "$to/moved"
     $arm $bare -DGORSEPLUMB_ARRAY_BYTES=0x400000 "$here"/{small_stack,array,bytes,settle}.c "$made" -o "$to/small"
     says AArch64 qemu-aarch64-static "$to/small"
     $arm $bare "$here"/{freestanding,array,bytes,settle}.c -Wl,--no-gc-sections,--whole-archive "$made" \
