@@ -38,10 +38,10 @@ board:
 linux:
 	board/linux/run.sh
 
-# Compares the pages and licence lines with the code, each list of calls with the definitions' table, the manual's lists of checks with
-# the definitions, and its pictures with what the program draws.
+# Compares the pages and licence lines with the code, each list of calls with the definitions' table, C's names with the crates', the
+# manual's lists of checks with the definitions, and its pictures with what the program draws.
 docs:
-	tests/docs && tests/licence-lines && tests/calls && tests/manual-checks && tests/pictures
+	tests/docs && tests/licence-lines && tests/calls && tests/names && tests/manual-checks && tests/pictures
 
 # Measures the program: accesses, transactions, memory and stack, and instructions, which need valgrind.
 bench:
