@@ -16,7 +16,7 @@ class Batch:
     """Operations as the library takes them, packed once, which may be run as often as one likes."""
 
     def __init__(self, operations: Iterable[Operation]) -> None:
-        self.operations = tuple(operations)
+        self.operations: tuple[Operation, ...] = tuple(operations)
         self.packed = b"".join(map(_pack, self.operations))
         self.sizes = tuple(4 if isinstance(it, Fetch) else getattr(it, "size", 0) for it in self.operations)
 

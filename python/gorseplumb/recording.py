@@ -5,7 +5,7 @@ from __future__ import annotations
 import io
 import os
 from pathlib import Path
-from typing import TextIO
+from typing import Self, TextIO
 
 from . import jsonlines
 from .errors import NotRecordable
@@ -38,7 +38,7 @@ class Recording(Watcher):
         if not isinstance(self._file, io.StringIO):
             self._file.close()
 
-    def __enter__(self) -> Recording:
+    def __enter__(self) -> Self:
         return self
 
     def __exit__(self, *_: object) -> None:

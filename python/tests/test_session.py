@@ -1,0 +1,136 @@
+# SPDX-License-Identifier: MIT OR Apache-2.0
+"""The session: lines, mistakes, undoing, completion, and a terminal."""
+from __future__ import annotations
+
+import os
+import pty
+import subprocess
+import sys
+from pathlib import Path
+from typing import Iterator
+
+import pytest
+from conftest import EXAMPLES, Program
+
+from gorseplumb.session import Session
+
+MANIFEST = EXAMPLES / "partitions.toml"
+
+
+@pytest.fixture
+def session() -> Iterator[Session]:
+    session = Session(MANIFEST)
+    yield session
+    session.machine.close()
+
+
+def test_does_operations_and_calls_by_name(session: Session) -> None:
+    assert session.line("store 40010000 2A") == ["done"]
+    assert session.line("load  40010000   1 ") == ["data 2A"]
+    told = session.line("FFA_RUN partition=8001")
+    assert told[0].startswith("regs 8001 000000008400006D 0000000080010000 ")
+    assert told[1] == "# 8001 sees FFA_RUN partition=8001 context=0"
+    assert session.line("who") == ["runner 8001, of 0000 8001 8002"]
+    assert session.line("call 84000069")[1] == "# 8001 sees FFA_SUCCESS endpoint=8001"
+    assert session.line("write 40028000 'two words'") == ["9 bytes"]
+    assert session.line("write 40028009 0x00FF") == ["2 bytes"]
+    assert session.line("read 40028000 B") == ["40028000: 74 77 6F 20 77 6F 72 64 73 00 FF"]
+    assert session.line("decode 84000077 1 8001") == ["FFA_MEM_RECLAIM handle=0000800100000001 flags=0"]
+    assert session.line("help FFA_RUN") == ["FFA_RUN partition=.. context=.."]
+    assert len(session.line("help")) > 10
+    assert session.line("") == session.line("# a comment") == []
+
+
+@pytest.mark.parametrize(
+    "line, told",
+    [
+        ("lod 1", "no such command: lod"),
+        ("load 40010000", "a word is missing"),
+        ("load 40010000 x", "a size that is none"),
+        ("FFA_RUN endpoint=8001", "FFA_RUN has no argument 'endpoint'"),
+        ("FFA_RUN 8001", "an argument is NAME=NUMBER"),
+        ("FFA_RUN partition=x", "no hexadecimal numbers"),
+        ("read 40020000 1", "translation fault of 0000 at 40020000"),
+        ("write 1", "write takes an address and a text"),
+        ("write 40010000 0xZZ", "non-hexadecimal"),
+        ("write 'unfinished", "No closing quotation"),
+        ("play /nowhere", "No such file"),
+        ("undo", "0 operations were done"),
+        ("help FFA_NOTHING", "no such call"),
+        ("save", ""),
+    ],
+)
+def test_survives_a_mistake(session: Session, line: str, told: str) -> None:
+    (said,) = session.line(line)
+    assert said.startswith("error: ") and told in said
+    assert session.machine.is_fresh or line.startswith("read")
+    assert session.line("load 40010000 1") == ["data 00"]
+
+
+def test_takes_back_and_saves_what_was_done(session: Session, program: Program, tmp_path: Path) -> None:
+    session.line("store 40010000 2A")
+    session.line("FFA_RUN partition=8002")
+    session.line("write 40200001 'abc'")
+    assert session.line("undo") == ["undone: store 40200002 6362"]
+    assert session.line("undo 2") == ["undone: call 8400006D 80020000", "undone: store 40200001 61"]
+    assert session.line("who") == ["runner 0000, of 0000 8001 8002"]
+    assert session.line("load 40010000 1") == ["data 2A"]
+    path = tmp_path / "saved.trace"
+    assert session.line(f"save {path}") == ["2 operations"]
+    assert program("run", "--strict", MANIFEST, path).returncode == 0
+    other = Session(MANIFEST)
+    assert other.line(f"play {path}") == ["done", "data 2A"]
+    assert other.line("undo") == ["undone: load 40010000 1"]
+    path.write_text("load 40010000 1\n#= data 00\n")
+    assert other.line(f"play {path}") == ["data 2A", 'error: line 2: wanted "data 00", got "data 2A"']
+
+
+def test_completes_words(session: Session) -> None:
+    assert session.complete("FFA_RX_", "FFA_RX_") == ["FFA_RX_RELEASE"]
+    assert session.complete("lo", "lo") == ["load"]
+    assert session.complete("FFA_RUN ", "") == ["partition=", "context="]
+    assert session.complete("FFA_RUN partition=8001 c", "c") == ["context="]
+    partitions = session.complete("FFA_RUN partition=", "partition=")
+    assert partitions == ["partition=0000", "partition=8001", "partition=8002"]
+    assert session.complete("why FFA_RU", "FFA_RU") == ["FFA_RUN"]
+    assert session.complete(f"play {MANIFEST}", str(MANIFEST)) == [str(MANIFEST)]
+    assert session.complete("load ", "") == []
+
+
+def test_reads_standard_input() -> None:
+    words = [sys.executable, "-m", "gorseplumb", str(MANIFEST)]
+    done = subprocess.run(words, input="load 40010000 1\nquit\nwho\n", capture_output=True, text=True, check=False)
+    assert (done.returncode, done.stdout) == (0, "data 00\n")
+    done = subprocess.run(words, input="wrong\nload 40010000 1\n", capture_output=True, text=True, check=False)
+    assert done.returncode == 2 and done.stdout.endswith("\ndata 00\n")
+    done = subprocess.run([*words[:3], "/nowhere"], capture_output=True, text=True, check=False)
+    assert done.returncode == 3 and "No such file" in done.stderr
+    refused = subprocess.run([*words[:3], str(EXAMPLES / "first.trace")], capture_output=True, text=True, check=False)
+    assert (refused.returncode, refused.stderr) == (1, "gorseplumb: manifest: M2 Toml\n")
+
+
+def test_completes_and_remembers_on_a_terminal(tmp_path: Path) -> None:
+    history = tmp_path / "history"
+    told = typed(b"FFA_RUN part\t8001\nlaod 1\nwho\nquit\n", history)
+    assert "# 8001 sees FFA_RUN partition=8001 context=0" in told
+    assert "error: no such command: laod" in told and "runner 8001, of 0000 8001 8002" in told
+    assert history.read_text().splitlines()[0] == "FFA_RUN partition=8001"
+
+
+def typed(keys: bytes, history: Path) -> str:
+    """What a terminal shows of a session in which these keys are pressed."""
+    ours, theirs = pty.openpty()
+    environment = {**os.environ, "GORSEPLUMB_HISTORY": str(history), "TERM": "dumb"}
+    words = [sys.executable, "-m", "gorseplumb", str(MANIFEST)]
+    with subprocess.Popen(words, stdin=theirs, stdout=theirs, stderr=theirs, env=environment) as running:
+        os.close(theirs)
+        os.write(ours, keys)
+        shown = b""
+        try:
+            while read := os.read(ours, 4096):
+                shown += read
+        except OSError:
+            pass
+        assert running.wait() == 0
+    os.close(ours)
+    return shown.decode().replace("\r\n", "\n")
