@@ -5,7 +5,8 @@ from __future__ import annotations
 import pytest
 from conftest import EXAMPLES, Program, needs
 
-from gorseplumb import Batch, Call, Data, Done, Fault, Faulted, Fetch, Function, Load, Machine, MachineEnded, Store
+from gorseplumb import Batch, Call, Data, Done, Fault, Faulted, Fetch, Function, Load, Machine, MachineEnded, Operation
+from gorseplumb import Store
 from gorseplumb.trace import lines, parse
 
 MANIFEST = EXAMPLES / "partitions.toml"
@@ -20,7 +21,8 @@ def test_refuses_what_has_no_room() -> None:
 
 @needs("run")
 def test_gives_each_outcome(partitions: Machine) -> None:
-    asked = [Store(0x40010000, 2, 0xABCD), Load(0x40010001, 1), Fetch(0x40010000), Call((Function.FFA_ID_GET,))]
+    identity = Call((Function.FFA_ID_GET,))
+    asked: list[Operation] = [Store(0x40010000, 2, 0xABCD), Load(0x40010001, 1), Fetch(0x40010000), identity]
     told = partitions.run(asked)
     assert list(told[:3]) == [Done(), Data(0xAB, 1), Faulted(Fault.PERMISSION)]
     assert str(told[-1]).startswith("regs 0000 0000000084000061 ") and len(told) == 4
