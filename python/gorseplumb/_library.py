@@ -97,18 +97,19 @@ class Reason(Structure):
         ("check", c_uint32),
         ("error", c_int32),
         ("about", c_uint32),
+        ("obstacle", c_uint32),
         ("page", c_uint32),
         ("endpoint", c_uint32),
-        ("handle", c_uint64),
+        ("owner", c_uint32),
         ("number", c_uint32),
         ("flaw", c_uint32),
+        ("index", c_uint32),
         ("has_value", c_uint32),
-        ("obstacle", c_uint32),
+        ("handle", c_uint64),
+        ("transaction", c_uint64),
         ("value", c_uint64),
         ("first", c_uint64),
         ("size", c_uint64),
-        ("owner", c_uint32),
-        ("transaction", c_uint64),
     ]
 
 
@@ -164,6 +165,7 @@ _DECLARED: dict[str, tuple[Any, ...]] = {
     "check_name": (c_char_p, c_uint32),
     "check_number": (c_uint32, c_uint32, c_uint32),
     "fault_name": (c_char_p, c_uint32),
+    "flaw_name": (c_char_p, c_uint32),
     "answer_name": (c_char_p, c_uint32),
 }
 

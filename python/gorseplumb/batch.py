@@ -3,6 +3,7 @@
 from __future__ import annotations
 
 import ctypes
+import struct
 from typing import Iterable, Iterator, Sequence, overload
 
 from . import _library as c
@@ -17,11 +18,18 @@ class Batch:
 
     def __init__(self, operations: Iterable[Operation]) -> None:
         self.operations: tuple[Operation, ...] = tuple(operations)
-        self.packed = b"".join(map(_pack, self.operations))
+        self.packed = b"".join(map(_packed, self.operations))
         self.sizes = tuple(4 if isinstance(it, Fetch) else getattr(it, "size", 0) for it in self.operations)
 
     def __len__(self) -> int:
         return len(self.operations)
+
+
+def _packed(operation: Operation) -> bytes:
+    try:
+        return _pack(operation)
+    except struct.error:
+        raise ValueError(f"a number has more than 64 bits, or is negative: {operation}") from None
 
 
 def _pack(operation: Operation) -> bytes:

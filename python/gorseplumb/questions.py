@@ -153,6 +153,9 @@ class Questions:
         """Who owns and reaches which pages now."""
         return AccessMap(self.ram_base, self._endpoints, self.runner, tuple(self.runs()))
 
+    def _repr_svg_(self) -> str | None:
+        return self.access_map()._repr_svg_() if self._end.alive else None
+
     def show(self) -> list[str]:
         """What the program prints for `show`."""
         return self.access_map().show()
@@ -219,7 +222,8 @@ class Questions:
         address = self.ram_base + PAGE_SIZE * raw.page if about is About.PAGE else 0
         flaw = Flaw(raw.flaw) if raw.flaw else None
         value = raw.value if raw.has_value else None
-        return Subject(about, address, raw.endpoint, raw.handle, raw.number, flaw, value, raw.first, raw.size)
+        number = raw.index if about is About.FIELD else raw.number
+        return Subject(about, address, raw.endpoint, raw.handle, number, flaw, value, raw.first, raw.size)
 
     def _some(self, number: int) -> int:
         if number == c.NOTHING:

@@ -91,7 +91,7 @@ def test_numbers_are_those_of_the_header() -> None:
         assert re.search(rf"#define GORSEPLUMB_{name} {getattr(c, name)}$", HEADER, re.M), name
 
 
-@needs("call_name", "error_name", "check_name", "fault_name")
+@needs("call_name", "error_name", "check_name", "fault_name", "flaw_name", "answer_name")
 def test_names_are_those_of_the_library() -> None:
     for function in Function:
         assert library.call_name(function).decode() == function.call_name
@@ -100,7 +100,11 @@ def test_names_are_those_of_the_library() -> None:
     for fault in Fault:
         assert library.fault_name(fault).decode() == fault.text
     for check in Check:
-        assert library.check_name(check).decode() in (check.words, check.name)
+        assert library.check_name(check).decode() == check.words
+    for flaw in Flaw:
+        assert library.flaw_name(flaw).decode() == flaw.words
+    for cause in Cause:
+        assert library.answer_name(cause).decode() == cause.text
     assert library.call_name(0) == library.error_name(0) == library.check_name(0) == library.fault_name(0) == b""
 
 
