@@ -3,13 +3,15 @@
 
 usage: python3 python/bench.py [--check]
 
-Each number is the best of several turns. With --check the status is 1 where a call takes more than three times the time of
-ctypes' own.
+Each number is the best of many short turns, so that what else the processors do is seen least. ctypes' own time is that
+of gorseplumb_runner(byref(machine)), which does next to nothing. With --check the status is 1 where a call takes more
+than three times that.
 """
 from __future__ import annotations
 
 import sys
 import time
+from ctypes import byref
 from typing import Callable
 from uuid import UUID
 
@@ -27,19 +29,27 @@ MANIFEST = Manifest(
         Endpoint([Region(PAGE + 0x10000, 16)], Properties.RECEIVES_REQUESTS, UUID(int=1)),
     ],
 )
-TURNS = 9
+TURNS = 200
 MOST = 3.0
 
 
-def best(count: int, do: Callable[[], object]) -> float:
-    """Nanoseconds of one call of a function, with the loop's own time."""
+def best(do: Callable[[], object], count: int = 500, turns: int = TURNS) -> float:
+    """Nanoseconds of one call of a function, without the loop's own time."""
+    return (_best(do, count, turns) - _best(_nothing, count, turns)) / count
+
+
+def _best(do: Callable[[], object], count: int, turns: int) -> int:
     times = []
-    for _ in range(TURNS):
+    for _ in range(turns):
         start = time.perf_counter_ns()
         for _ in range(count):
             do()
         times.append(time.perf_counter_ns() - start)
-    return min(times) / count
+    return min(times)
+
+
+def _nothing() -> None:
+    pass
 
 
 def show(name: str, nanoseconds: float, of: float | None = None) -> None:
@@ -51,35 +61,36 @@ def main() -> int:
     with Machine(MANIFEST) as machine:
         ratio = measure_operations(machine)
         measure_more(machine)
-    show("boot and close", best(100, lambda: Machine(MANIFEST).close()))
+    show("boot and close", best(lambda: Machine(MANIFEST).close(), 10, 20))
     return int("--check" in sys.argv and ratio > MOST)
 
 
 def measure_operations(machine: Machine) -> float:
     """Operations, one by one. The answer is how many times ctypes' own time a call takes."""
     raw, registers = c.Held(), bytes(64)
-    bare, bare_call = library.runner, library.call
-    own = best(50_000, lambda: bare(raw))
+    runner, bare_call = library.runner, library.call
+    own = best(lambda: runner(byref(raw)))
     show("ctypes alone: gorseplumb_runner of no machine", own)
-    show("ctypes alone: gorseplumb_call of no machine", best(50_000, lambda: bare_call(raw, registers)), own)
-    machine.call(Function.FFA_ID_GET)
+    show("ctypes alone: gorseplumb_call of no machine", best(lambda: bare_call(raw, registers)), own)
+    machine.load(PAGE, 8)
     call, identity = machine.call, int(Function.FFA_ID_GET)
-    taken = best(50_000, lambda: call(identity))
+    taken = best(lambda: call(identity))
     show("call, FFA_ID_GET", taken, own)
-    show("load of 8 bytes", best(50_000, lambda: machine.load(PAGE, 8)), own)
-    show("store of 8 bytes", best(50_000, lambda: machine.store(PAGE, 8, 42)), own)
-    show("who runs", best(50_000, lambda: machine.runner), own)
-    show("read of 4096 bytes", best(100, lambda: machine.read(PAGE, 4096)))
+    show("load of 8 bytes", best(lambda: machine.load(PAGE, 8)), own)
+    show("store of 8 bytes", best(lambda: machine.store(PAGE, 8, 42)), own)
+    show("who runs", best(lambda: machine.runner), own)
+    show("read of 4096 bytes", best(lambda: machine.read(PAGE, 4096), 1))
     return taken / own
 
 
 def measure_more(machine: Machine) -> None:
+    """What is done by many at once."""
     if "run" not in library.lacks:
-        batch = Batch([Call((Function.FFA_ID_GET,))] * 10_000)
-        show("call in a batch of 10,000", best(3, lambda: machine.run(batch)) / len(batch))
-        show("the same, with its outcome read", best(3, lambda: list(machine.run(batch))) / len(batch))
+        batch = Batch([Call((Function.FFA_ID_GET,))] * 1000)
+        show("call in a batch of 1000", best(lambda: machine.run(batch), 1) / len(batch))
+        show("the same, with its outcome read", best(lambda: list(machine.run(batch)), 1) / len(batch))
     if "cert_run" not in library.lacks:
-        show("who reaches each of 512 pages", best(100, machine.access_map))
+        show("who reaches each of 512 pages", best(machine.access_map, 10))
 
 
 if __name__ == "__main__":

@@ -25,6 +25,8 @@ NOTHING = 0xFFFFFFFF
 KIND_REGISTERS, KIND_DATA, KIND_DONE, KIND_FAULT, KIND_NO_MACHINE, KIND_BAD_SIZE, KIND_NO_ENDPOINT = range(7)
 OPERATION_CALL, OPERATION_LOAD, OPERATION_STORE, OPERATION_FETCH = range(4)
 
+REGISTERS = struct.Struct("<8Q")
+"""struct gorseplumb_registers."""
 OUTCOME = struct.Struct("<IIQ8Q")
 """struct gorseplumb_outcome."""
 OPERATION = struct.Struct("<IIQQ8Q")
@@ -197,13 +199,22 @@ class Library:
         """Binds a function when it is first asked for."""
         if name not in _DECLARED:
             raise AttributeError(name)
-        found: Callable[..., Any] = _lacking(name, self.path) if name in self.lacks else self._bound(name)
+        found = self._bound(name)
         setattr(self, name, found)
         return found
 
     def _bound(self, name: str) -> Callable[..., Any]:
+        function = self.bare(name)
+        if name not in self.lacks:
+            setattr(function, "argtypes", _DECLARED[name][1:])
+        return function
+
+    def bare(self, name: str) -> Callable[..., Any]:
+        """A function that takes addresses alone, by byref and as bytes, and looks at none: so it is called faster."""
+        if name in self.lacks:
+            return _lacking(name, self.path)
         function = self._library[f"gorseplumb_{name}"]
-        function.restype, *function.argtypes = _DECLARED[name]
+        function.restype = _DECLARED[name][0]
         return function
 
 

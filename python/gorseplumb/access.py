@@ -177,19 +177,19 @@ def _draw_column(shown: AccessMap, column: int, run: Run) -> list[str]:
     owner = "manager" if run.owner == MANAGER else f"{run.owner:04X}"
     parts.append(_draw_cell(x, 0, "#e4e4e4" if run.owner == MANAGER else "#f6f6f6", owner))
     for row, (endpoint, right) in enumerate(zip(shown.endpoints, run.rights), 1):
-        parts.append(_draw_cell(x, row, _COLOURS[right], right.text))
-        if right is not Right.NONE and endpoint != run.owner:
-            parts.append(_rect(x, row, 'class="borrowed"'))
+        is_borrowed = right is not Right.NONE and endpoint != run.owner
+        parts.append(_draw_cell(x, row, _COLOURS[right], right.text, is_borrowed))
     if run.handle is not None:
         y = _TOP + _ROW * (1 + len(shown.endpoints)) + 2
-        parts.append(f'<rect class="open" x="{x}" y="{y}" width="{_COLUMN}" height="3"/>')
+        parts.append(f'<rect class="open" x="{x + 1}" y="{y}" width="{_COLUMN - 2}" height="3"/>')
     return [*parts, "</g>"]
 
 
-def _draw_cell(x: int, row: int, colour: str, word: str) -> str:
+def _draw_cell(x: int, row: int, colour: str, word: str, is_borrowed: bool = False) -> str:
     style = ' class="dim"' if word in ("---", "manager") else ""
     text = f'<text{style} x="{x + _COLUMN // 2}" y="{_TOP + _ROW * row + 17}" text-anchor="middle">{word}</text>'
-    return _rect(x, row, f'class="cell" fill="{colour}"') + text
+    hatched = _rect(x, row, 'class="borrowed"') if is_borrowed else ""
+    return _rect(x, row, f'class="cell" fill="{colour}"') + hatched + text
 
 
 def _rect(x: int, row: int, style: str) -> str:

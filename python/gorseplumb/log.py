@@ -174,8 +174,8 @@ def play(
     *,
     explain: bool = False,
 ) -> Difference | None:
-    """Plays a log, and tells where the machine first answers something else. Where the log doesn't tell what a partition
-    did, `partitions` says it: it is asked until the endpoint runs that the log expects."""
+    """Plays a log, and tells where the machine first answers something else. Where the log doesn't tell what a
+    partition did, `partitions` says it: it is asked until the endpoint runs that the log expects."""
     others = partitions or {}
     for entry in entries:
         runner = machine.runner

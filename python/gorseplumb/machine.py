@@ -2,6 +2,7 @@
 """The machine."""
 from __future__ import annotations
 
+import ctypes
 import os
 import struct
 import weakref
@@ -41,18 +42,19 @@ class _First(Watcher):
         machine.unwatch(self)
 
 
-def _refuse_count(*_: int) -> NoReturn:
-    raise IndexError
-
-
 _FIRST = _First()
-_PACKERS: list[Callable[..., bytes]] = [struct.Struct(f"<{count}Q{8 * (8 - count)}x").pack for count in range(9)]
-_PACKERS[0] = _refuse_count
-_call = library.call
-_unpack = c.OUTCOME.unpack
+
+# What one operation needs, as it takes least time: a frozen dataclass is filled by its slots, and a call is handed its
+# two addresses as they are.
+_call = library.bare("call")
+_load, _store, _fetch = library.load, library.store, library.fetch
+_pack = c.REGISTERS.pack
+_unpack = struct.Struct("<16x8Q").unpack
 _new = object.__new__
 _set_runner: Callable[[Registers, int], None] = Registers.__dict__["runner"].__set__
 _set_x: Callable[[Registers, tuple[int, ...]], None] = Registers.__dict__["x"].__set__
+_set_value: Callable[[Data, int], None] = Data.__dict__["value"].__set__
+_set_size: Callable[[Data, int], None] = Data.__dict__["size"].__set__
 
 
 class Machine(Questions):
@@ -61,7 +63,7 @@ class Machine(Questions):
     Its manifest is a text, a path to one, or a Manifest. Its RAM is of the heap, or a Ram, of which all is zeros then
     but the tables; with `keep` the pages of regions keep the bytes that they have."""
 
-    __slots__ = ("_ram", "_manifest", "_watchers", "__weakref__")
+    __slots__ = ("_at", "_ram", "_manifest", "_watchers", "__weakref__")
 
     def __init__(
         self, manifest: str | bytes | os.PathLike[str] | Manifest, ram: Ram | None = None, *, keep: bool = False
@@ -72,6 +74,7 @@ class Machine(Questions):
         self._raw, self._ram = c.Held(), ram
         self._boot(self._manifest, keep)
         self._end = weakref.finalize(self, _end, self._raw, ram)
+        self._at = ctypes.byref(self._raw)
         self._endpoints = tuple(place and 0x8000 + place for place in range(library.endpoints(self._raw)))
         self._watchers: list[Watcher] = [_FIRST]
 
@@ -119,41 +122,46 @@ class Machine(Questions):
 
     # OPERATIONS of the endpoint that runs. One that is refused is an outcome, and no exception.
 
-    def call(self, *x: int) -> Registers:
-        """A call with these registers, x0 first. Those that aren't given are 0."""
+    def call(
+        self, x0: int, x1: int = 0, x2: int = 0, x3: int = 0, x4: int = 0, x5: int = 0, x6: int = 0, x7: int = 0
+    ) -> Registers:
+        """A call with these registers."""
         try:
-            told = _unpack(_call(self._raw, _PACKERS[len(x)](*x)))
-        except (IndexError, struct.error):
-            _refuse_registers(x)
-        if told[0]:
-            self._refuse_kind(told[0])
+            told = _call(self._at, _pack(x0, x1, x2, x3, x4, x5, x6, x7))
+        except struct.error:
+            _refuse_registers((x0, x1, x2, x3, x4, x5, x6, x7))
+        if told.kind:
+            self._refuse_kind(told.kind)
         answer = _new(Registers)
-        _set_runner(answer, told[1])
-        _set_x(answer, told[3:])
+        _set_runner(answer, told.runner)
+        _set_x(answer, _unpack(told))
         if self._watchers:
-            self._tell(None, Call(x), answer)
+            self._tell(None, Call((x0, x1, x2, x3, x4, x5, x6, x7)), answer)
         return answer
 
     def load(self, address: int, size: int) -> Data | Faulted:
         """A load of 1, 2, 4 or 8 bytes."""
-        _check_access(address, size)
-        found = self._accessed(library.load(self._raw, address, size), size)
+        if address >> 64 or size not in SIZES:
+            _check_access(address, size)
+        found = self._accessed(_load(self._raw, address, size), size)
         if self._watchers:
             self._tell(None, Load(address, size), found)
         return found
 
     def store(self, address: int, size: int, value: int) -> Done | Faulted:
         """A store of a value of 1, 2, 4 or 8 bytes."""
-        _check_store(address, size, value)
-        found = self._stored(library.store(self._raw, address, size, value))
+        if address >> 64 or size not in SIZES or value >> 8 * size:
+            _check_store(address, size, value)
+        found = self._stored(_store(self._raw, address, size, value))
         if self._watchers:
             self._tell(None, Store(address, size, value), found)
         return found
 
     def fetch(self, address: int) -> Data | Faulted:
         """A fetch of one instruction, which is 4 bytes."""
-        _check_access(address, 4)
-        found = self._accessed(library.fetch(self._raw, address), 4)
+        if address >> 64:
+            _check_access(address, 4)
+        found = self._accessed(_fetch(self._raw, address), 4)
         if self._watchers:
             self._tell(None, Fetch(address), found)
         return found
@@ -162,13 +170,14 @@ class Machine(Questions):
 
     def call_as(self, endpoint: int, *x: int) -> Registers:
         """A call of an endpoint. Where it isn't the runner it is answered BUSY, and nothing changes."""
-        packed = _packed(x)
-        self._warn(endpoint, Call(x))
-        told = _unpack(library.call_as(self._raw, endpoint, packed))
-        if told[0]:
-            self._refuse_kind(told[0])
-        answer = Registers(told[1], told[3:])
-        self._tell(endpoint, Call(x), answer)
+        call = Call(x)
+        packed = _packed(call.x)
+        self._warn(endpoint, call)
+        told = library.call_as(self._raw, endpoint, packed)
+        if told.kind != c.KIND_REGISTERS:
+            self._refuse_kind(told.kind)
+        answer = Registers(told.runner, tuple(told.x))
+        self._tell(endpoint, call, answer)
         return answer
 
     def load_as(self, endpoint: int, address: int, size: int) -> Data | Faulted:
@@ -290,7 +299,10 @@ class Machine(Questions):
 
     def _accessed(self, told: c.Outcome, size: int) -> Data | Faulted:
         if told.kind == c.KIND_DATA:
-            return Data(told.value, size)
+            found = _new(Data)
+            _set_value(found, told.value)
+            _set_size(found, size)
+            return found
         if told.kind != c.KIND_FAULT:
             self._refuse_kind(told.kind)
         return FAULTED[Fault(told.value)]
@@ -323,14 +335,12 @@ def _end(raw: c.Held, ram: Ram | None) -> None:
 
 def _packed(x: tuple[int, ...]) -> bytes:
     try:
-        return _PACKERS[len(x)](*x)
-    except (IndexError, struct.error):
+        return _pack(*x)
+    except struct.error:
         _refuse_registers(x)
 
 
 def _refuse_registers(x: tuple[int, ...]) -> NoReturn:
-    if not 1 <= len(x) <= 8:
-        raise ValueError(f"a call has one to eight registers, and not {len(x)}")
     for place, value in enumerate(x):
         if not hasattr(value, "__index__"):
             raise TypeError(f"x{place} is a number, and not {value!r}")
@@ -340,6 +350,7 @@ def _refuse_registers(x: tuple[int, ...]) -> NoReturn:
 
 
 def _check_access(address: int, size: int) -> None:
+    """Raises what is wrong with an access, if something is."""
     if address >> 64:
         raise ValueError(f"an address has 64 bits, and is {address:#x}")
     if size not in SIZES:
@@ -347,6 +358,7 @@ def _check_access(address: int, size: int) -> None:
 
 
 def _check_store(address: int, size: int, value: int) -> None:
+    """The same of a store."""
     _check_access(address, size)
     if value >> 8 * size:
         raise ValueError(f"{value:#x} doesn't fit in {size} bytes")

@@ -3,7 +3,6 @@
 from __future__ import annotations
 
 import ctypes
-import struct
 from dataclasses import dataclass
 from typing import Iterator, NoReturn, Protocol, Sequence
 
@@ -16,8 +15,6 @@ from .codes import About, Answer, ErrorCode, Fault, GrantKind, Obstacle, Right
 from .errors import LibraryError, MachineEnded, NoSuchEndpoint, NoSuchPage, OutOfMemory
 from .outcomes import Call, Load, Operation, Store
 from .reasons import Hindrance, Reason, Subject
-
-REGISTERS = struct.Struct("<8Q")
 
 
 @dataclass(frozen=True, slots=True)
@@ -189,7 +186,7 @@ class Questions:
         """Why an operation of the runner would be refused now, or was refused just before; none where it isn't."""
         raw = c.Reason()
         if isinstance(operation, Call):
-            refused = library.why_call(self._raw, REGISTERS.pack(*operation.x), raw)
+            refused = library.why_call(self._raw, c.REGISTERS.pack(*operation.x), raw)
         elif isinstance(operation, Load):
             refused = library.why_load(self._raw, operation.address, operation.size, raw)
         elif isinstance(operation, Store):

@@ -130,6 +130,8 @@ def test_refuses_numbers_that_have_no_room() -> None:
     with Machine(MANIFEST) as machine:
         for count in (0, 9):
             with pytest.raises(ValueError, match=f"one to eight registers, and not {count}"):
+                machine.call_as(0, *[1] * count)
+            with pytest.raises(TypeError):
                 machine.call(*[1] * count)
         with pytest.raises(ValueError, match="x1 has 64 bits, and is -0x1"):
             machine.call(Function.FFA_RUN, -1)
