@@ -7,7 +7,7 @@ import re
 import pytest
 from conftest import TOP, needs
 
-from gorseplumb import Cause, Check, ErrorCode, Fault, Flaw, Form, Function, Right
+from gorseplumb import About, Cause, Check, ErrorCode, Fault, Flaw, Form, Function, GrantKind, Obstacle, Right
 from gorseplumb import _library as c
 from gorseplumb._library import library
 from gorseplumb.codes import Answer
@@ -80,13 +80,20 @@ def test_words_of_faults_rights_and_versions_are_those_of_the_manual() -> None:
 
 def test_numbers_are_those_of_the_header() -> None:
     told = {name: int(number) for name, number in re.findall(r"GORSEPLUMB_(\w+) = (\d+)", HEADER)}
-    ours = {f"MANIFEST_{cause.name}": int(cause) for cause in Cause} | {it.name: int(it) for it in Answer}
-    ours |= {f"FAULT_{fault.name}": int(fault) for fault in Fault}
-    for name, number in ours.items():
-        if name in told:
-            assert told[name] == number, name
-    kinds = {name: number for name, number in told.items() if name.startswith("KIND_")}
-    assert kinds == {name: getattr(c, name) for name in kinds}
+    assert {it.name: told.get(it.name, int(it)) for it in Answer} == {it.name: int(it) for it in Answer}
+    for start, members in [
+        ("MANIFEST_", Cause),
+        ("FAULT_", Fault),
+        ("CHECK_", Check),
+        ("FLAW_", Flaw),
+        ("ABOUT_", About),
+        ("OBSTACLE_", Obstacle),
+        ("GRANT_", GrantKind),
+    ]:
+        of_header = {name: number for name, number in told.items() if name.startswith(start)}
+        assert of_header in ({f"{start}{it.name}": int(it) for it in members}, {}), start
+    kinds = {name: number for name, number in told.items() if name.startswith(("KIND_", "OPERATION_"))}
+    assert kinds == {name: getattr(c, name) for name in kinds} and kinds
     for name in ("MOST_REGIONS", "MOST_ENDPOINTS", "MOST_BLOCKS", "MOST_RANGES"):
         assert re.search(rf"#define GORSEPLUMB_{name} {getattr(c, name)}$", HEADER, re.M), name
 
