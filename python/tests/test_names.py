@@ -3,6 +3,7 @@
 from __future__ import annotations
 
 import re
+from enum import IntEnum
 
 import pytest
 from conftest import TOP, needs
@@ -81,15 +82,16 @@ def test_words_of_faults_rights_and_versions_are_those_of_the_manual() -> None:
 def test_numbers_are_those_of_the_header() -> None:
     told = {name: int(number) for name, number in re.findall(r"GORSEPLUMB_(\w+) = (\d+)", HEADER)}
     assert {it.name: told.get(it.name, int(it)) for it in Answer} == {it.name: int(it) for it in Answer}
-    for start, members in [
-        ("MANIFEST_", Cause),
-        ("FAULT_", Fault),
-        ("CHECK_", Check),
-        ("FLAW_", Flaw),
-        ("ABOUT_", About),
-        ("OBSTACLE_", Obstacle),
-        ("GRANT_", GrantKind),
-    ]:
+    groups: dict[str, type[IntEnum]] = {
+        "MANIFEST_": Cause,
+        "FAULT_": Fault,
+        "CHECK_": Check,
+        "FLAW_": Flaw,
+        "ABOUT_": About,
+        "OBSTACLE_": Obstacle,
+        "GRANT_": GrantKind,
+    }
+    for start, members in groups.items():
         of_header = {name: number for name, number in told.items() if name.startswith(start)}
         assert of_header in ({f"{start}{it.name}": int(it) for it in members}, {}), start
     kinds = {name: number for name, number in told.items() if name.startswith(("KIND_", "OPERATION_"))}
