@@ -7,15 +7,30 @@ import shutil
 import subprocess
 from pathlib import Path
 from typing import Iterator
+from uuid import UUID
 
 import pytest
 
-from gorseplumb import Machine, Ram
+from gorseplumb import Endpoint, Machine, Manifest, Properties, Ram, Region, Right
 from gorseplumb._library import library
 
 TOP = Path(__file__).resolve().parents[2]
 EXAMPLES = TOP / "examples"
 PROGRAM = os.environ.get("FFAPLAY")
+
+BUILT_IN = Manifest(
+    0x40000000,
+    1,
+    [
+        Endpoint([Region(0x40010000, 16, Right.RW)], Properties(6)),
+        Endpoint(
+            [Region(0x40020000, 16, Right.RWX)],
+            Properties(15),
+            UUID("00112233-4455-6677-8899-aabbccddeeff"),
+        ),
+    ],
+)
+"""The machine of `ffaplay demo` (docs/COMMANDS.md)."""
 
 
 def needs(*names: str) -> pytest.MarkDecorator:

@@ -3,7 +3,7 @@
 from __future__ import annotations
 
 import pytest
-from conftest import EXAMPLES, SHOWS, TOP, Program
+from conftest import BUILT_IN, EXAMPLES, SHOWS, TOP, Program
 
 from gorseplumb import Machine, play
 
@@ -24,7 +24,7 @@ def test_prints_what_is_refused(partitions: Machine) -> None:
 
 @SHOWS
 def test_prints_what_the_front_page_has() -> None:
-    with Machine(EXAMPLES / "machine.toml") as machine:
+    with Machine(BUILT_IN) as machine:
         printed = list(play(machine, EXAMPLES / "first.trace"))
     quoted = [line[4:] for line in (TOP / "README.md").read_text().splitlines() if line.startswith("    ")]
     at = next(place for place, line in enumerate(quoted) if line.startswith("$ ./ffaplay demo examples/first.trace"))
@@ -33,7 +33,8 @@ def test_prints_what_the_front_page_has() -> None:
     assert printed[0].startswith(wanted[0].removesuffix(" .."))
 
 
-@pytest.mark.parametrize("name", ["calls", pytest.param("first", marks=SHOWS), "guards"])
+@SHOWS
+@pytest.mark.parametrize("name", ["calls", "first", "guards"])
 def test_prints_what_the_program_prints(program: Program, name: str) -> None:
     manifest, trace = EXAMPLES / "machine.toml", EXAMPLES / f"{name}.trace"
     with Machine(manifest) as machine:

@@ -39,7 +39,7 @@ def test_is_played_by_the_program_to_the_same_answers(program: Program, tmp_path
         recording.note("made by a test\n= no guard, \x80 no ASCII")
         bench(machine)
     text = path.read_text()
-    assert text.count("#= ") > 30 and "#@ 8002" in text
+    assert text.count("#= ") > 25 and "#@ 8002" in text
     assert program("run", "--strict", MANIFEST, path).returncode == 0
     changed = text.replace("#= fault translation", "#= data 00", 1)
     done = program("run", "--strict", MANIFEST, "-", text=changed.encode())
@@ -65,7 +65,7 @@ def test_says_what_a_trace_cannot_have() -> None:
             "# 8001, which doesn't run: load 40028000 1: data 00\n#@ 0000\nstore 40010000 01\n#= done\n"
         )
         machine.store(0x40010000, 1, 2)
-        assert "02" not in recording.text
+        assert "store 40010000 02" not in recording.text
         with pytest.raises(NotRecordable, match="begins at the boot"):
             machine.record()
 

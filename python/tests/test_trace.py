@@ -3,12 +3,11 @@
 from __future__ import annotations
 
 import pytest
-from conftest import EXAMPLES, Program
+from conftest import BUILT_IN, EXAMPLES, SHOWS, Program
 
 from gorseplumb import BadLine, Call, Difference, Fetch, GuardUnmet, Load, Machine, Store, compare, play
 from gorseplumb.trace import parse
 
-MACHINE = EXAMPLES / "machine.toml"
 
 
 def test_reads_each_kind_of_line() -> None:
@@ -61,7 +60,7 @@ def test_says_it_as_the_program_does(program: Program, line: str, why: str) -> N
 
 
 def test_judges_a_line_when_it_is_reached() -> None:
-    with Machine(MACHINE) as machine:
+    with Machine(BUILT_IN) as machine:
         played = play(machine, "store 40010000 2A\nload 40010000 1\nload 40010000\n")
         assert next(played) == "done" and next(played) == "data 2A"
         with pytest.raises(BadLine, match="line 3, column 14: a word is missing"):
@@ -70,14 +69,15 @@ def test_judges_a_line_when_it_is_reached() -> None:
             list(play(machine, b"# \xff\nload 40010000 1"))
         assert list(play(machine, ["load 40010000 1"], numbers=True)) == ["1: data 2A"]
         named = list(play(machine, ["call 84000069", "call 84000083", "call 84000063 10001"], names=True))
-        assert [line[73 + 91 :] for line in named] == [" # FFA_SUCCESS", " # FFA_ERROR NOT_SUPPORTED", ""]
+        assert [line.partition(" #")[2] for line in named] == [" FFA_SUCCESS", " FFA_ERROR NOT_SUPPORTED", ""]
 
 
+@SHOWS
 def test_stops_at_a_guard_that_is_not_met() -> None:
     text = (EXAMPLES / "guards.trace").read_text()
-    with Machine(MACHINE) as machine:
+    with Machine(BUILT_IN) as machine:
         assert list(play(machine, text, strict=True))
-    with Machine(MACHINE) as machine:
+    with Machine(BUILT_IN) as machine:
         with pytest.raises(GuardUnmet, match='line 10: wanted "data 00", got "fault translation"'):
             list(play(machine, text.replace("#= fault translation", "#= data 00"), strict=True))
         with pytest.raises(GuardUnmet, match='line 1: wanted "done", got nothing'):
