@@ -3,7 +3,7 @@
 from __future__ import annotations
 
 import re
-from pathlib import Path
+from typing import NamedTuple
 
 import pytest
 from conftest import AUDITS, EXAMPLES, TOP, Program
@@ -11,25 +11,40 @@ from conftest import AUDITS, EXAMPLES, TOP, Program
 from gorseplumb import Machine, Ram, play
 
 LINES = 100_000
+MANIFEST = EXAMPLES / "partitions.toml"
 
 
-@pytest.mark.parametrize("ram", [None, Ram(2)])
-def test_operations_give_the_programs_bytes(program: Program, ram: Ram | None) -> None:
-    manifest = EXAMPLES / "partitions.toml"
-    trace = program("generate", "--seed", 7, "--lines", LINES, manifest).stdout
-    operations = re.sub(rb"^(?:show|audit)\n", b"", trace, flags=re.M)
-    assert len(operations) > 0.9 * len(trace) and trace.count(b"\n") == LINES
-    compare(program, manifest, operations, ram)
+class Played(NamedTuple):
+    """A trace, and what the program prints of it."""
+
+    trace: bytes
+    text: bytes
+
+
+@pytest.fixture(scope="module")
+def operations(program: Program) -> Played:
+    """Calls, loads, stores and fetches of a generated trace."""
+    lines = program("generate", "--seed", 7, "--lines", LINES, MANIFEST).stdout
+    assert lines.count(b"\n") == LINES
+    trace = re.sub(rb"^(?:show|audit)\n", b"", lines, flags=re.M)
+    assert trace.count(b"\n") > 0.9 * LINES
+    return Played(trace, program("run", MANIFEST, "-", text=trace).stdout)
+
+
+@pytest.mark.parametrize("blocks", [0, 2])
+def test_operations_give_the_programs_bytes(operations: Played, blocks: int) -> None:
+    with Machine(MANIFEST, Ram(blocks) if blocks else None) as machine:
+        assert text_of(machine, operations.trace) == operations.text
 
 
 @AUDITS
 @pytest.mark.parametrize("name", ["examples/partitions.toml", "board/scenes/generators.toml"])
 def test_lines_give_the_programs_bytes(program: Program, name: str) -> None:
     trace = program("generate", "--seed", 11, "--lines", LINES, TOP / name).stdout
-    compare(program, TOP / name, trace, None)
+    with Machine(TOP / name) as machine:
+        assert text_of(machine, trace) == program("run", TOP / name, "-", text=trace).stdout
 
 
-def compare(program: Program, manifest: Path, trace: bytes, ram: Ram | None) -> None:
-    wanted = program("run", manifest, "-", text=trace).stdout
-    with Machine(manifest, ram) as machine:
-        assert "".join(f"{line}\n" for line in play(machine, trace)).encode() == wanted
+def text_of(machine: Machine, trace: bytes) -> bytes:
+    """What is printed of a trace."""
+    return "".join(f"{line}\n" for line in play(machine, trace)).encode()

@@ -82,9 +82,29 @@ def test_stops_at_a_guard_that_is_not_met() -> None:
             list(play(machine, text.replace("#= fault translation", "#= data 00"), strict=True))
         with pytest.raises(GuardUnmet, match='line 1: wanted "done", got nothing'):
             list(play(machine, "#= done\n", strict=True))
-        with pytest.raises(GuardUnmet, match='line 1: wanted "8001", got "0000"'):
-            list(play(machine, "#@ 8001\n", strict=True))
+        with pytest.raises(GuardUnmet, match='line 1: wanted "0000", got "8001"'):
+            list(play(machine, "#@ 0000\n", strict=True))
         assert list(play(machine, "#= done\n")) == []
+
+
+@pytest.mark.parametrize(
+    "text",
+    [
+        "#= done\n",
+        "#@ 8001\n",
+        "store 40010000 2A\n\n#@ 0000\n#=done\n#= done\n",
+        "load 40010000 1\n#=  data 00\n",
+        "load 40010000 1\n#=\n",
+        "load 40010000 1\n#@0000\n#@ 0\n",
+    ],
+)
+def test_says_which_guard_is_not_met_as_the_program_does(program: Program, text: str) -> None:
+    done = program("demo", "--strict", "-", text=text.encode())
+    assert done.returncode == 5
+    with Machine(BUILT_IN) as machine:
+        with pytest.raises(GuardUnmet) as unmet:
+            list(play(machine, text, strict=True))
+    assert f"ffaplay: {unmet.value}" == done.stderr.decode().splitlines()[-1]
 
 
 def test_finds_the_first_difference_as_the_program_does(program: Program) -> None:
