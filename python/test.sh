@@ -59,13 +59,17 @@ else
     lacks "tests: $python has no pytest"
 fi
 
-# The package as pip installs it, with no network, and used from another folder.
+# The package as pip installs it, with no network, used from another folder; and the types of a program over it.
 if "$python" -c 'import ensurepip' 2>/dev/null; then
     "$python" -m venv "$to/venv"
     PIP_NO_INDEX=1 PIP_DISABLE_PIP_VERSION_CHECK=1 "$to/venv/bin/pip" install -q "$here"
     said=$(cd / && env -u PYTHONPATH -u GORSEPLUMB_LIBRARY "$to/venv/bin/gorseplumb" "$top/examples/machine.toml" <<<"load 40010000 1")
     [[ $said == "data 00" ]] || { echo "the installed package says: $said" >&2; exit 1; }
     echo "pip install: installed with no network, and run from another folder"
+    if command -v mypy >/dev/null; then
+        sed -n '/^## A first example/,/^## What/s/^    //p' "$top/docs/PYTHON.md" >"$to/example.py"
+        (cd "$to" && env -u PYTHONPATH mypy --strict --cache-dir "$to/mypy" --python-executable "$to/venv/bin/python" example.py)
+    fi
 else
     lacks "pip install: $python has no ensurepip"
 fi

@@ -9,6 +9,7 @@ from xml.sax.saxutils import escape
 
 from . import _library as c
 from .codes import MANAGER, PAGE_SIZE, Right
+from .errors import NoSuchEndpoint, NoSuchPage
 
 
 @dataclass(frozen=True, slots=True)
@@ -57,10 +58,12 @@ class AccessMap:
         for run in self.runs:
             if run.first <= page <= run.last:
                 return run
-        raise IndexError(f"{address:08X} is outside RAM")
+        raise NoSuchPage(f"{address:08X} is outside RAM")
 
     def right(self, endpoint: int, address: int) -> Right:
         """What an endpoint may do at an address."""
+        if endpoint not in self.endpoints:
+            raise NoSuchEndpoint(endpoint)
         return self.run_of(address).rights[self.endpoints.index(endpoint)]
 
     def changes(self, later: AccessMap) -> Iterator[tuple[int, int, Run, Run]]:

@@ -6,7 +6,7 @@ import xml.etree.ElementTree as xml
 
 import pytest
 
-from gorseplumb import AccessMap, Cell, Right, Run
+from gorseplumb import AccessMap, Cell, NoSuchEndpoint, NoSuchPage, Right, Run
 
 NONE, RO, RW, ROX = Right.NONE, Right.RO, Right.RW, Right.ROX
 HANDLE = 0x0000800100000001
@@ -40,8 +40,10 @@ def test_says_who_reaches_what() -> None:
     assert AFTER.matrix[0][:3] == (Cell(NONE, False), Cell(RW, True), Cell(NONE, False))
     assert AFTER.matrix[2][3] == Cell(RO, False)
     for address in (0x3FFFFFFF, 0x40200000):
-        with pytest.raises(IndexError):
+        with pytest.raises(NoSuchPage):
             AFTER.run_of(address)
+    with pytest.raises(NoSuchEndpoint):
+        AFTER.right(0x8003, 0x40010000)
 
 
 def test_prints_the_lines_of_show_and_audit() -> None:

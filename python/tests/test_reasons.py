@@ -2,12 +2,15 @@
 """Reasons: why an operation is refused, in the program's words."""
 from __future__ import annotations
 
-import pytest
-from conftest import EXAMPLES, SHOWS, TELLS_WHY, Program
+import re
 
-from gorseplumb import About, AccessFault, Call, Check, DataAccess, Denied, ErrorCode, Fault, Fetch, Flaw, Function
-from gorseplumb import Hindrance, InvalidParameters, Kind, Load, Machine, MalformedDescriptor, Obstacle, Offer, PageRange
-from gorseplumb import Reason, Receiver, Store, Subject, play
+import pytest
+from conftest import EXAMPLES, TELLS_WHY, Program
+
+from gorseplumb import About, AccessFault, Call, Check, DataAccess, Denied, ErrorCode, Fault, Fetch, Flaw, Form
+from gorseplumb import Function, Hindrance, InstructionAccess, InvalidParameters, Kind, Load, Machine
+from gorseplumb import MalformedDescriptor, Obstacle, Offer, Operation, PageRange, Reason, Receiver, Relinquish, Retrieve
+from gorseplumb import Store, Subject, play
 
 NOBODY = Hindrance(Obstacle.NONE)
 MANIFEST = EXAMPLES / "partitions.toml"
@@ -74,10 +77,10 @@ def test_prints_the_refused_example(partitions: Machine) -> None:
 
 
 @TELLS_WHY
-@SHOWS
 def test_prints_what_the_program_explains(program: Program) -> None:
     for manifest in (MANIFEST, EXAMPLES / "machine.toml"):
-        trace = program("generate", "--seed", 5, "--lines", 20_000, manifest).stdout
+        lines = program("generate", "--seed", 5, "--lines", 20_000, manifest).stdout
+        trace = re.sub(rb"^(?:show|audit)\n", b"", lines, flags=re.M)
         wanted = program.lines("run", "--explain", manifest, "-", text=trace)
         assert sum(line.startswith("# refused: ") for line in wanted) > 1000
         with Machine(manifest) as machine:
@@ -106,30 +109,72 @@ def test_says_why_before_it_is_done(partitions: Machine) -> None:
     assert reason is not None and reason.fault is Fault.PERMISSION and partitions.is_fresh
 
 
+SHARE = Offer(
+    Kind.SHARE,
+    0x8001,
+    (Receiver(0x8002, DataAccess.RW), Receiver(0x0000, DataAccess.RO)),
+    (PageRange(0x40028000, 1), PageRange(0x4002A000, 2)),
+)
+LEND = Offer(Kind.LEND, 0x8001, (Receiver(0x8002, DataAccess.RW),), (PageRange(0x40028000, 1),), zero=True)
+DONATE = Offer(Kind.DONATE, 0x8001, (Receiver(0x8002),), (PageRange(0x40028000, 1),))
+RETRIEVE = Retrieve(0x8002, 1, Receiver(0x8001, DataAccess.RW, InstructionAccess.NX), kind=Kind.LEND)
+TX = 0x4002E000
+
+
+def ours(request: Offer | Retrieve, data: bytes, form: Form) -> tuple[Flaw, int] | None:
+    """The first condition that our reader finds broken."""
+    try:
+        if isinstance(request, Offer):
+            Offer.from_bytes(data, request.kind, form)
+        else:
+            Retrieve.from_bytes(data, request.receiver.endpoint, form)
+    except MalformedDescriptor as wrong:
+        return wrong.flaw, wrong.index
+    return None
+
+
+def cores(machine: Machine, call: Operation) -> tuple[Flaw | None, int] | None:
+    """The first condition that the core finds broken."""
+    reason = machine.why(call)
+    is_about_bytes = reason is not None and reason.check is Check.DESCRIPTOR_MALFORMED
+    return (reason.subject.flaw, reason.subject.number) if reason is not None and is_about_bytes else None
+
+
 @TELLS_WHY
-def test_readers_of_descriptors_find_the_condition_that_the_core_finds(partitions: Machine) -> None:
-    tx = 0x4002E000
+@pytest.mark.parametrize("form", [Form.FFA_1_1, Form.COMPACT])
+@pytest.mark.parametrize("request_of", [SHARE, LEND, DONATE, RETRIEVE])
+def test_readers_find_the_condition_that_the_core_finds(request_of: Offer | Retrieve, form: Form) -> None:
+    first, version, others = MANIFEST.read_text().partition("[[endpoint]] # the partition 8001")
+    text = first + version + others.replace('version = "1.1"', f'version = "{form.text}"', 1)
+    found = set()
+    with Machine(text) as machine:
+        machine.do(Function.FFA_RUN, partition=0x8001)
+        machine.do(Function.FFA_RXTX_MAP, tx=TX, rx=0x4002F000, pages=1)
+        *_, call = request_of.operations(TX, form)
+        whole = request_of.to_bytes(form)
+        for place in range(len(whole)):
+            for value in (0, 1, 2, 3, 0x0F, 0x10, 0x30, 0x80, 0xFF):
+                data = whole[:place] + bytes([value]) + whole[place + 1 :]
+                machine.write(TX, data)
+                told = ours(request_of, data, form)
+                assert told == cores(machine, call), (place, value)
+                found.add(told[0] if told is not None else None)
+    assert len(found) > 10
+
+
+@TELLS_WHY
+def test_reader_of_relinquish_finds_the_condition_that_the_core_finds(partitions: Machine) -> None:
     partitions.do(Function.FFA_RUN, partition=0x8001)
-    partitions.do(Function.FFA_RXTX_MAP, tx=tx, rx=0x4002F000, pages=1)
-    offer = Offer(
-        Kind.LEND,
-        0x8001,
-        (Receiver(0x8002, DataAccess.RW), Receiver(0x0000, DataAccess.RO)),
-        (PageRange(0x40028000, 1), PageRange(0x4002A000, 2)),
-    )
-    whole, found = offer.to_bytes(), set()
-    call = Call((Function.FFA_MEM_LEND, len(whole), len(whole)))
+    partitions.do(Function.FFA_RXTX_MAP, tx=TX, rx=0x4002F000, pages=1)
+    call = Call((Function.FFA_MEM_RELINQUISH,))
+    whole = Relinquish(1, 0x8001).to_bytes()
     for place in range(len(whole)):
-        for value in (0, 1, 2, 3, 0x0F, 0x10, 0x30, 0x80, 0xFF):
+        for value in (0, 1, 2, 0xFF):
             data = whole[:place] + bytes([value]) + whole[place + 1 :]
-            partitions.write(tx, data)
-            reason = partitions.why(call)
-            told = reason.subject if reason is not None and reason.check is Check.DESCRIPTOR_MALFORMED else None
+            partitions.write(TX, data)
             try:
-                Offer.from_bytes(data, Kind.LEND)
-                ours = None
+                Relinquish.from_bytes(data)
+                told = None
             except MalformedDescriptor as wrong:
-                ours = (wrong.flaw, wrong.index)
-                found.add(wrong.flaw)
-            assert ours == (None if told is None else (told.flaw, told.number)), (place, value)
-    assert len(found) > 20
+                told = wrong.flaw, wrong.index
+            assert told == cores(partitions, call)
