@@ -205,6 +205,7 @@ class Relinquish:
     zero: bool = False
 
     def to_bytes(self) -> bytes:
+        """The descriptor."""
         return _pack(_RELINQUISH, self.handle, int(self.zero), 1, self.endpoint)
 
     @classmethod
@@ -216,7 +217,7 @@ class Relinquish:
         _require(count == 1, Flaw.RELINQUISH_ENDPOINT_COUNT)
         return cls(handle, endpoint, flags == 1)
 
-    def operations(self, tx: int) -> list[Operation]:
+    def operations(self, tx: int, form: Form = Form.FFA_1_1) -> list[Operation]:
         """The stores that write it to TX, and its call."""
         return [*stores(tx, self.to_bytes()), Call((Function.FFA_MEM_RELINQUISH,))]
 
@@ -226,9 +227,9 @@ def header_size(form: Form) -> int:
     return 48 if form is Form.FFA_1_1 else 32
 
 
-def stores(address: int, data: bytes) -> list[Operation]:
+def stores(address: int, data: bytes) -> list[Store]:
     """Stores that write these bytes, each as large as its address and what is left let it be."""
-    found: list[Operation] = []
+    found: list[Store] = []
     at = 0
     while at < len(data):
         size = 8

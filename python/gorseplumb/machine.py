@@ -12,9 +12,11 @@ from typing import TYPE_CHECKING, Callable, Iterable, Iterator, NoReturn
 from . import _library as c
 from ._library import library
 from .batch import Batch, Outcomes
-from .codes import Answer, Fault, Function
+from .codes import Answer, Fault, Form, Function
+from .descriptors import Offer, Relinquish, Retrieve, stores
 from .errors import LibraryError, access_fault, call_refused
 from .manifest import Manifest, checked_boot
+from .messages import IndirectMessage
 from .outcomes import DONE, FAULTED, SIZES, Call, Data, Done, Faulted, Fetch, Load, Operation, Outcome, Registers, Store
 from .questions import Questions
 from .ram import Ram
@@ -243,6 +245,18 @@ class Machine(Questions):
             raise call_refused(code, call.x[0], caller, self._reason_of(call))
         return answer
 
+    def send(
+        self, request: Offer | Retrieve | Relinquish | IndirectMessage, tx: int, form: Form = Form.FFA_1_1
+    ) -> Registers:
+        """Writes a descriptor or a message to TX of the runner, in the form of its version, and makes its call. Where a
+        store or the call is refused, that is raised."""
+        for operation in request.operations(tx, form):
+            if isinstance(operation, Call):
+                answer = self.require(operation)
+            elif isinstance(operation, Store):
+                self._require_store(operation)
+        return answer
+
     def read(self, address: int, size: int) -> bytes:
         """Bytes of any place and length, by the runner's loads, each as large as it can be. A fault is raised."""
         found = bytearray()
@@ -255,11 +269,15 @@ class Machine(Questions):
 
     def write(self, address: int, data: bytes) -> None:
         """Stores bytes to any place, as `read` reads them. A fault is raised; what stands before it was stored."""
-        for at, piece in _pieces(address, len(data)):
-            value = int.from_bytes(data[at - address : at - address + piece], "little")
-            told = self.store(at, piece, value)
-            if isinstance(told, Faulted):
-                raise access_fault(told.fault, at, self.runner, self._reason_of(Store(at, piece, value)))
+        if address < 0 or address + len(data) > 1 << 64:
+            raise ValueError(f"{len(data)} bytes at {address:#x} aren't all in 64 bits")
+        for store in stores(address, data):
+            self._require_store(store)
+
+    def _require_store(self, store: Store) -> None:
+        told = self.store(store.address, store.size, store.value)
+        if isinstance(told, Faulted):
+            raise access_fault(told.fault, store.address, self.runner, self._reason_of(store))
 
     # WATCHING
 

@@ -52,8 +52,8 @@ class IndirectMessage:
             raise ValueError("the message does not end inside the buffer")
         return cls(sender, receiver, data[offset : offset + size], offset)
 
-    def operations(self, tx: int) -> list[Operation]:
-        """The stores that write it to TX, and its call."""
+    def operations(self, tx: int, form: Form = Form.FFA_1_1) -> list[Operation]:
+        """The stores that write it to TX, and its call. It has one form."""
         return [*stores(tx, self.to_bytes()), Call((Function.FFA_MSG_SEND2,))]
 
 

@@ -5,8 +5,8 @@ from __future__ import annotations
 import pytest
 from conftest import EXAMPLES, Program, needs
 
-from gorseplumb import Batch, Call, Data, Done, Fault, Faulted, Fetch, Function, Load, Machine, MachineEnded, Operation
-from gorseplumb import Store
+from gorseplumb import Batch, Call, Data, Done, Fault, Faulted, Fetch, Function, Load, Machine, MachineEnded
+from gorseplumb import Operation, Store
 from gorseplumb.trace import lines, parse
 
 MANIFEST = EXAMPLES / "partitions.toml"

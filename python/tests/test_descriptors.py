@@ -6,8 +6,8 @@ import struct
 
 import pytest
 
-from gorseplumb import DataAccess, Flaw, Form, InstructionAccess, Kind, MalformedDescriptor
-from gorseplumb import Offer, PageRange, Receiver, Relinquish, Retrieve, RetrieveResponse, Store
+from gorseplumb import DataAccess, Flaw, Form, InstructionAccess, Kind, MalformedDescriptor, Offer, PageRange
+from gorseplumb import Receiver, Relinquish, Retrieve, RetrieveResponse, Store
 
 FORMS = [Form.FFA_1_1, Form.COMPACT]
 RW = DataAccess.RW

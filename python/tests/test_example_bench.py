@@ -12,7 +12,7 @@ from uuid import UUID
 import pytest
 
 from gorseplumb import DataAccess, Denied, Endpoint, Fault, Faulted, Function, InvalidParameters, Kind, Machine
-from gorseplumb import Manifest, Offer, PageRange, Properties, Receiver, Region, Registers, Relinquish, Retrieve, Right
+from gorseplumb import Manifest, Offer, PageRange, Properties, Receiver, Region, Relinquish, Retrieve, Right
 from gorseplumb import TranslationFault
 
 RAM = 0x40000000
@@ -52,25 +52,19 @@ def map_buffers(machine: Machine, endpoint: int) -> None:
     machine.do(Function.FFA_RXTX_MAP, tx=tx(endpoint), rx=rx(endpoint), pages=1)
 
 
-def do(machine: Machine, request: Offer | Retrieve | Relinquish) -> Registers:
-    """Writes a descriptor to TX of the runner, and makes its call."""
-    *_, answer = [machine.perform(it) for it in request.operations(tx(machine.runner))]
-    assert isinstance(answer, Registers)
-    return answer.ok()
-
-
 def lend(machine: Machine, page: int) -> int:
     """The client lends a page to the service."""
-    return do(machine, Offer(Kind.LEND, CLIENT, (Receiver(SERVICE, DataAccess.RW),), (PageRange(page, 1),))).handle
+    offer = Offer(Kind.LEND, CLIENT, (Receiver(SERVICE, DataAccess.RW),), (PageRange(page, 1),))
+    return machine.send(offer, tx(CLIENT)).handle
 
 
 def serve(machine: Machine, handle: int, page: int) -> None:
     """The service takes the page, writes into it, and gives it back."""
     machine.do(Function.FFA_MSG_SEND_DIRECT_REQ, sender=CLIENT, receiver=SERVICE, payload0=handle & 0xFFFFFFFF)
-    do(machine, Retrieve(CLIENT, handle, Receiver(SERVICE)))
+    machine.send(Retrieve(CLIENT, handle, Receiver(SERVICE)), tx(SERVICE))
     machine.do(Function.FFA_RX_RELEASE)
     machine.write(page, machine.read(SECRET, 10).upper())
-    do(machine, Relinquish(handle, SERVICE))
+    machine.send(Relinquish(handle, SERVICE), tx(SERVICE))
     machine.do(Function.FFA_MSG_SEND_DIRECT_RESP, sender=SERVICE, receiver=CLIENT)
 
 
@@ -99,7 +93,7 @@ def test_the_thief_cannot_take_what_is_lent_to_the_service(machine: Machine) -> 
     handle = lend(machine, page)
     machine.do(Function.FFA_RUN, partition=THIEF)
     with pytest.raises(InvalidParameters):
-        do(machine, Retrieve(CLIENT, handle, Receiver(THIEF)))
+        machine.send(Retrieve(CLIENT, handle, Receiver(THIEF)), tx(THIEF))
     with pytest.raises(InvalidParameters):
         machine.do(Function.FFA_MEM_RECLAIM, handle=handle)
     assert machine.access(THIEF, (page - RAM) // 4096) is Right.NONE
@@ -109,7 +103,7 @@ def test_the_client_cannot_end_a_lend_that_the_service_holds(machine: Machine) -
     page = PAGES[CLIENT]
     handle = lend(machine, page)
     machine.do(Function.FFA_MSG_SEND_DIRECT_REQ, sender=CLIENT, receiver=SERVICE)
-    do(machine, Retrieve(CLIENT, handle, Receiver(SERVICE)))
+    machine.send(Retrieve(CLIENT, handle, Receiver(SERVICE)), tx(SERVICE))
     machine.do(Function.FFA_MSG_SEND_DIRECT_RESP, sender=SERVICE, receiver=CLIENT)
     with pytest.raises(Denied):
         machine.do(Function.FFA_MEM_RECLAIM, handle=handle)

@@ -9,11 +9,12 @@ from typing import Callable
 import pytest
 from conftest import EXAMPLES
 
-from gorseplumb import AccessFault, AlignmentFault, Call, CallRefused, Cause, Change, Data, DataAccess, Denied, Done
-from gorseplumb import Endpoint, ErrorCode, Fault, Faulted, Fetch, Function, InvalidParameters, Kind, Load, Machine
-from gorseplumb import MachineEnded, Manifest, ManifestRefused, NoSuchEndpoint, NoSuchPage, NotSupported, Offer
-from gorseplumb import Operation, Outcome, PageRange, PermissionFault, Properties, Receiver, Region, Registers, Retrieve
-from gorseplumb import Right, Store, TranslationFault, Watcher
+from gorseplumb import AccessFault, AlignmentFault, Busy, Call, CallRefused, Cause, Change, Data, DataAccess, Denied
+from gorseplumb import Done, Endpoint, ErrorCode, Fault, Faulted, Fetch, Function, InstructionAccess
+from gorseplumb import InvalidParameters, Kind, Load, Machine, MachineEnded, Manifest, ManifestRefused, NoSuchEndpoint
+from gorseplumb import NoSuchPage, NotSupported, Offer, Operation, Outcome, PageRange, PermissionFault, Properties
+from gorseplumb import Receiver, Region, Registers, Retrieve, RetrieveResponse, Right, Store, TranslationFault
+from gorseplumb import Watcher
 
 RAM = 0x40000000
 MANIFEST = Manifest(
@@ -113,16 +114,21 @@ def test_tells_of_changes_and_notifications(partitions: Machine) -> None:
     partitions.do(Function.FFA_RXTX_MAP, tx=0x4002E000, rx=0x4002F000, pages=1)
     ranges = (PageRange(0x40028000, 2), PageRange(0x4002C000, 1))
     offer = Offer(Kind.LEND, 0x8001, (Receiver(0x8002, DataAccess.RW),), ranges)
-    *_, answer = [partitions.perform(it) for it in offer.operations(0x4002E000)]
-    assert isinstance(answer, Registers) and answer.ok().handle == 0x0000800100000001
+    answer = partitions.send(offer, 0x4002E000)
+    assert answer.handle == 0x0000800100000001
     assert partitions.changed() == Change(0x8001, ((0x40028000, 8192), (0x4002C000, 4096)))
     assert partitions.changed() is None
     partitions.do(Function.FFA_MSG_WAIT)
     partitions.do(Function.FFA_RUN, partition=0x8002)
     partitions.do(Function.FFA_RXTX_MAP, tx=0x40206000, rx=0x40207000, pages=1)
-    for operation in Retrieve(0x8001, answer.handle, Receiver(0x8002)).operations(0x40206000):
-        told = partitions.perform(operation)
-    assert isinstance(told, Registers) and told.function is Function.FFA_MEM_RETRIEVE_RESP
+    told = partitions.send(Retrieve(0x8001, answer.handle, Receiver(0x8002)), 0x40206000)
+    assert told.function is Function.FFA_MEM_RETRIEVE_RESP
+    response = RetrieveResponse.from_bytes(partitions.read(0x40207000, told.x[1]))
+    held = Receiver(0x8002, DataAccess.RW, InstructionAccess.NX)
+    assert response == RetrieveResponse(Kind.LEND, 0x8001, answer.handle, held, ranges)
+    assert response.to_bytes() == partitions.read(0x40207000, told.x[1])
+    with pytest.raises(Busy, match="8002: FFA_PARTITION_INFO_GET: BUSY"):
+        partitions.do(Function.FFA_PARTITION_INFO_GET)
     assert partitions.access(0x8002, 0x28) is Right.RW and partitions.access(0x8001, 0x28) is Right.NONE
 
 

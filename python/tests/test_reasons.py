@@ -9,8 +9,8 @@ from conftest import EXAMPLES, TELLS_WHY, Program
 
 from gorseplumb import About, AccessFault, Call, Check, DataAccess, Denied, ErrorCode, Fault, Fetch, Flaw, Form
 from gorseplumb import Function, Hindrance, InstructionAccess, InvalidParameters, Kind, Load, Machine
-from gorseplumb import MalformedDescriptor, Obstacle, Offer, Operation, PageRange, Reason, Receiver, Relinquish, Retrieve
-from gorseplumb import Store, Subject, play
+from gorseplumb import MalformedDescriptor, Obstacle, Offer, Operation, PageRange, Reason, Receiver, Relinquish
+from gorseplumb import Retrieve, Store, Subject, play
 
 NOBODY = Hindrance(Obstacle.NONE)
 MANIFEST = EXAMPLES / "partitions.toml"

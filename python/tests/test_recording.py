@@ -7,9 +7,8 @@ from pathlib import Path
 import pytest
 from conftest import EXAMPLES, Program
 
-from gorseplumb import Call, DataAccess, Faulted, Fault, Function, IndirectMessage, Kind, Machine, NotRecordable, Offer
-from gorseplumb import PageRange, Receiver, play
-from gorseplumb import jsonlines
+from gorseplumb import Call, DataAccess, Fault, Faulted, Function, IndirectMessage, Kind, Machine, NotRecordable
+from gorseplumb import Offer, PageRange, Receiver, jsonlines, play
 
 MANIFEST = EXAMPLES / "partitions.toml"
 
@@ -22,11 +21,9 @@ def bench(machine: Machine) -> None:
     machine.do(Function.FFA_MSG_WAIT)
     machine.do(Function.FFA_RUN, partition=0x8001)
     machine.do(Function.FFA_RXTX_MAP, tx=0x4002E000, rx=0x4002F000, pages=1)
-    for operation in IndirectMessage(0x8001, 0x8002, b"a message").operations(0x4002E000):
-        machine.perform(operation)
+    machine.send(IndirectMessage(0x8001, 0x8002, b"a message"), 0x4002E000)
     offer = Offer(Kind.LEND, 0x8001, (Receiver(0x8002, DataAccess.RW),), (PageRange(0x40029000, 1),))
-    for operation in offer.operations(0x4002E000):
-        machine.perform(operation)
+    machine.send(offer, 0x4002E000)
     assert machine.load(0x40029000, 1) == Faulted(Fault.TRANSLATION)
     machine.load_as(0x8002, 0x40200000, 4)
     machine.call_as(0x8002, Function.FFA_ID_GET)
