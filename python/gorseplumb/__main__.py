@@ -1,7 +1,7 @@
 # SPDX-License-Identifier: MIT OR Apache-2.0
 """A session with the machine of a manifest, or a log that is played on it.
 
-usage: python3 -m gorseplumb [--log FILE | --ftrace FILE] MANIFEST
+usage: python3 -m gorseplumb [--log FILE | --ftrace FILE] [--explain] MANIFEST
 
 Lines are read from the terminal with completion and history, or from standard input. Status 0: done; 1: the manifest is
 refused; 2: a line was a mistake; 3: a file can't be read; 4: the log differs, and where is told.
@@ -36,6 +36,7 @@ def _words() -> argparse.Namespace:
     kinds = parser.add_mutually_exclusive_group()
     kinds.add_argument("--log", type=Path, metavar="FILE", help="plays a log of calls, and tells the first difference")
     kinds.add_argument("--ftrace", type=Path, metavar="FILE", help="the same of ftrace's lines of calls")
+    parser.add_argument("--explain", action="store_true", help="says why, where what differs is refused")
     parser.add_argument("manifest", type=Path)
     return parser.parse_args()
 
@@ -43,7 +44,7 @@ def _words() -> argparse.Namespace:
 def _play_log(words: argparse.Namespace) -> int:
     with Machine(words.manifest) as machine:
         entries = read_log(words.log) if words.log else read_ftrace(words.ftrace)
-        difference = play(machine, entries)
+        difference = play(machine, entries, explain=words.explain)
     if difference is not None:
         print(difference)
     return 4 if difference is not None else 0

@@ -65,7 +65,7 @@ class Machine(Questions):
     Its manifest is a text, a path to one, or a Manifest. Its RAM is of the heap, or a Ram, of which all is zeros then
     but the tables; with `keep` the pages of regions keep the bytes that they have."""
 
-    __slots__ = ("_at", "_ram", "_manifest", "_watchers", "__weakref__")
+    __slots__ = ("_at", "_ram", "_manifest", "_values", "_watchers", "__weakref__")
 
     def __init__(
         self, manifest: str | bytes | os.PathLike[str] | Manifest, ram: Ram | None = None, *, keep: bool = False
@@ -73,6 +73,7 @@ class Machine(Questions):
         if keep and ram is None:
             raise ValueError("RAM of the heap has no bytes to keep: give a Ram")
         self._manifest = Path(manifest).read_bytes() if isinstance(manifest, os.PathLike) else manifest
+        self._values = self._manifest if isinstance(self._manifest, Manifest) else None
         self._raw, self._ram = c.Held(), ram
         self._boot(self._manifest, keep)
         self._end = weakref.finalize(self, _end, self._raw, ram)
@@ -121,6 +122,20 @@ class Machine(Questions):
         if isinstance(manifest, Manifest):
             return manifest.text().encode()
         return manifest.encode() if isinstance(manifest, str) else bytes(manifest)
+
+    @property
+    def manifest(self) -> Manifest:
+        """Its manifest, as values."""
+        if self._values is None:
+            self._values = Manifest.read(self.manifest_text)
+        return self._values
+
+    def form(self, endpoint: int) -> Form:
+        """The form of an endpoint's descriptors."""
+        self._check_endpoint(endpoint)
+        if self._values is None and "read_manifest" in library.lacks:
+            return Form.FFA_1_1
+        return self.manifest.endpoints[self._endpoints.index(endpoint)].form
 
     # OPERATIONS of the endpoint that runs. One that is refused is an outcome, and no exception.
 
@@ -245,12 +260,10 @@ class Machine(Questions):
             raise call_refused(code, call.x[0], caller, self._reason_of(call))
         return answer
 
-    def send(
-        self, request: Offer | Retrieve | Relinquish | IndirectMessage, tx: int, form: Form = Form.FFA_1_1
-    ) -> Registers:
-        """Writes a descriptor or a message to TX of the runner, in the form of its version, and makes its call. Where a
-        store or the call is refused, that is raised."""
-        for operation in request.operations(tx, form):
+    def send(self, request: Offer | Retrieve | Relinquish | IndirectMessage, tx: int) -> Registers:
+        """Writes a descriptor or a message to TX of the runner, in its form, and makes its call. Where a store or the
+        call is refused, that is raised."""
+        for operation in request.operations(tx, self.form(self.runner)):
             if isinstance(operation, Call):
                 answer = self.require(operation)
             elif isinstance(operation, Store):

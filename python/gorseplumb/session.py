@@ -7,7 +7,8 @@ import shlex
 from pathlib import Path
 from typing import Callable, Iterable
 
-from .codes import Function
+from .codes import Function, Kind
+from .descriptors import DataAccess, InstructionAccess, Offer, PageRange, Receiver, Relinquish, Retrieve
 from .errors import GorseplumbError
 from .machine import Machine, Watcher
 from .outcomes import Call, Faulted, Operation, Outcome, Registers
@@ -16,6 +17,14 @@ from .registers import decode, encode, places
 from .trace import Player, parse
 
 _CALLS = {function.call_name: function for function in reversed(Function)}
+_GRANTS = {
+    "": (DataAccess.UNSPECIFIED, InstructionAccess.UNSPECIFIED),
+    "ro": (DataAccess.RO, InstructionAccess.UNSPECIFIED),
+    "rw": (DataAccess.RW, InstructionAccess.UNSPECIFIED),
+    "rox": (DataAccess.RO, InstructionAccess.X),
+    "rwx": (DataAccess.RW, InstructionAccess.X),
+    "x": (DataAccess.UNSPECIFIED, InstructionAccess.X),
+}
 _TRACE_WORDS = ("call", "load", "store", "fetch", "show", "audit")
 
 
@@ -26,6 +35,7 @@ class Session:
         self._manifest = manifest.read_bytes()
         self.machine = Machine(self._manifest)
         self._done: list[Operation] = []
+        self._lines: list[tuple[str, int]] = []  # those that did something, and how much was done before
         self._commands: dict[str, Callable[[list[str]], Iterable[str]]] = {
             "help": self._help,
             "who": self._who,
@@ -34,6 +44,11 @@ class Session:
             "write": self._write,
             "peek": self._peek,
             "decode": self._decode,
+            "share": self._share,
+            "lend": self._lend,
+            "donate": self._donate,
+            "retrieve": self._retrieve,
+            "relinquish": self._relinquish,
             "why": self._why,
             "undo": self._undo,
             "play": self._play,
@@ -44,10 +59,14 @@ class Session:
 
     def line(self, line: str) -> list[str]:
         """What a line gives. A mistake is a line that begins with `error: `."""
+        before = len(self._done)
         try:
-            return list(self._line(line.strip()))
+            told = list(self._line(line.strip()))
         except (GorseplumbError, ValueError, LookupError, TypeError, OSError) as wrong:
-            return [f"error: {_words_of(wrong)}"]
+            told = [f"error: {_words_of(wrong)}"]
+        if len(self._done) > before:
+            self._lines.append((line.strip(), before))
+        return told
 
     def _line(self, line: str) -> Iterable[str]:
         if not line or line.startswith("#"):
@@ -82,43 +101,44 @@ class Session:
     # COMMANDS
 
     def _help(self, words: list[str]) -> list[str]:
-        """help [CALL]           these lines, or the arguments of a call"""
+        """help [CALL]               these lines, or the arguments of a call"""
         if words:
             if words[0] not in _CALLS:
                 raise ValueError(f"no such call: {words[0]}")
             return [" ".join([words[0], *(f"{name}=.." for name in places(_CALLS[words[0]]))])]
         told = [
-            "call X0 .. X7         a call, by its registers",
-            "load A N, store A V, fetch A, show, audit      as in a trace",
-            "FFA_NAME NAME=N ..    a call, by the names of its arguments: `help FFA_RUN` says which",
+            "call X0 .. X7             a call, by its registers",
+            "load A N, store A V       a load of N bytes, a store",
+            "fetch A, show, audit      as in a trace",
+            "FFA_NAME NAME=N ..        a call, by the names of its arguments: `help FFA_RUN` says which",
         ]
-        told += [command.__doc__ or "" for command in self._commands.values()]
-        return [*told, "quit                  ends the session; numbers are hexadecimal, as in a trace"]
+        told += [command.__doc__ for command in self._commands.values() if command.__doc__]
+        return [*told, "quit                      ends the session; numbers are hexadecimal, as in a trace"]
 
     def _who(self, words: list[str]) -> list[str]:
-        """who                   who runs, and which endpoints there are"""
+        """who                       who runs, and which endpoints there are"""
         others = " ".join(f"{endpoint:04X}" for endpoint in self.machine.endpoints)
         return [f"runner {self.machine.runner:04X}, of {others}"]
 
     def _access(self, words: list[str]) -> list[str]:
-        """access A              who owns and who reaches the page of an address"""
+        """access A                  who owns and who reaches the page of an address"""
         (address,) = _numbers(words, 1)
         page = self.machine.page_of(address)
         rights = [f"{endpoint:04X} {self.machine.access(endpoint, page).text}" for endpoint in self.machine.endpoints]
         return [f"owner {self.machine.owner(page):04X}", *rights]
 
     def _read(self, words: list[str]) -> list[str]:
-        """read A N              N bytes as the runner loads them"""
+        """read A N                  N bytes as the runner loads them"""
         address, size = _numbers(words, 2)
         return _dump(address, self.machine.read(address, size))
 
     def _peek(self, words: list[str]) -> list[str]:
-        """peek A N              N bytes of RAM, whoever reaches them"""
+        """peek A N                  N bytes of RAM, whoever reaches them"""
         address, size = _numbers(words, 2)
         return _dump(address, self.machine.peek(address, size))
 
     def _write(self, words: list[str]) -> list[str]:
-        """write A 'TEXT'        bytes as the runner stores them: a text, or digits behind 0x"""
+        """write A 'TEXT'            bytes as the runner stores them: a text, or digits behind 0x"""
         if len(words) != 2:
             raise ValueError("write takes an address and a text")
         (address,) = _numbers(words[:1], 1)
@@ -133,13 +153,52 @@ class Session:
         return [f"{len(data)} bytes"]
 
     def _decode(self, words: list[str]) -> list[str]:
-        """decode X0 .. X7       what registers hold, by name"""
+        """decode X0 .. X7           what registers hold, by name"""
         numbers = _numbers(words, len(words))
         named = decode(Call(tuple(numbers)).x)
         return [str(named) if named is not None else "no call"]
 
+    def _share(self, words: list[str]) -> list[str]:
+        """share TX E:R,.. A+N,..    a share of pages to receivers, each with `ro` or `rw`; lend is alike"""
+        return self._offer(Kind.SHARE, words)
+
+    def _lend(self, words: list[str]) -> list[str]:
+        return self._offer(Kind.LEND, words)
+
+    def _donate(self, words: list[str]) -> list[str]:
+        """donate TX E A+N,..        a donate, to one receiver"""
+        return self._offer(Kind.DONATE, words)
+
+    def _offer(self, kind: Kind, words: list[str]) -> list[str]:
+        tx, to, pages = _exactly(words, "TX", "receivers", "pages")
+        receivers = tuple(_receiver(word) for word in to.split(","))
+        ranges = tuple(PageRange(*_numbers(word.split("+"), 2)) for word in pages.split(","))
+        return self._send(Offer(kind, self.machine.runner, receivers, ranges), tx)
+
+    def _retrieve(self, words: list[str]) -> list[str]:
+        """retrieve TX E H [R]       takes what E offered by the handle H, with the right R or the greatest"""
+        tx, sender, handle, *right = words if 3 <= len(words) <= 4 else _exactly(words, "TX", "a sender", "a handle")
+        receiver = _receiver(":".join([f"{self.machine.runner:04X}", *right]))
+        (of,), (named,) = _numbers([sender], 1), _numbers([handle], 1)
+        return self._send(Retrieve(of, named, receiver), tx)
+
+    def _relinquish(self, words: list[str]) -> list[str]:
+        """relinquish TX H           gives the handle H up"""
+        tx, handle = _exactly(words, "TX", "a handle")
+        (named,) = _numbers([handle], 1)
+        return self._send(Relinquish(named, self.machine.runner), tx)
+
+    def _send(self, request: Offer | Retrieve | Relinquish, tx: str) -> list[str]:
+        (address,) = _numbers([tx], 1)
+        told: list[str] = []
+        for operation in request.operations(address, self.machine.form(self.machine.runner)):
+            told = self._perform(operation)
+            if told[0].startswith("fault "):
+                return told
+        return told
+
     def _why(self, words: list[str]) -> list[str]:
-        """why OPERATION         why it would be refused now; it isn't done"""
+        """why OPERATION             why it would be refused now; it isn't done"""
         if words and words[0] in _CALLS:
             operation: Operation = Call(_encoded(_CALLS[words[0]], words[1:]))
         else:
@@ -151,19 +210,20 @@ class Session:
         return [str(reason) if reason is not None else "it would be done"]
 
     def _undo(self, words: list[str]) -> list[str]:
-        """undo [N]              takes the last operation back, or the last N"""
+        """undo [N]                  takes the last line back that did something, or the last N"""
         (count,) = _numbers(words, 1) if words else [1]
-        if not 1 <= count <= len(self._done):
-            raise ValueError(f"{len(self._done):X} operations were done")
-        kept, machine = self._done[:-count], Machine(self._manifest)
-        for operation in kept:
+        if not 1 <= count <= len(self._lines):
+            raise ValueError(f"{len(self._lines):X} lines did something")
+        undone, machine = self._lines[-count:], Machine(self._manifest)
+        self._done, self._lines = self._done[: undone[0][1]], self._lines[:-count]
+        for operation in self._done:
             machine.perform(operation)
         self.machine.close()
-        self.machine, undone, self._done = machine, self._done[-count:], kept
-        return [f"undone: {operation}" for operation in undone]
+        self.machine = machine
+        return [f"undone: {line}" for line, _ in undone]
 
     def _play(self, words: list[str]) -> Iterable[str]:
-        """play FILE             plays a trace, with its guards"""
+        """play FILE                 plays a trace, with its guards"""
         (path,) = words
         recorded = _Operations()
         self.machine.watch(recorded)
@@ -179,7 +239,7 @@ class Session:
         return told
 
     def _save(self, words: list[str]) -> list[str]:
-        """save FILE             writes what was done as a trace with guards"""
+        """save FILE                 writes what was done as a trace with guards"""
         (path,) = words
         with Machine(self._manifest) as machine, TraceRecording(machine, path):
             for operation in self._done:
@@ -217,6 +277,20 @@ class _Operations(Watcher):
 
     def after(self, machine: Machine, by: int | None, operation: Operation, outcome: Outcome) -> None:
         self.operations.append(operation)
+
+
+def _exactly(words: list[str], *names: str) -> list[str]:
+    if len(words) != len(names):
+        raise ValueError(f"wanted are {', '.join(names)}")
+    return words
+
+
+def _receiver(word: str) -> Receiver:
+    endpoint, _, right = word.partition(":")
+    (named,) = _numbers([endpoint], 1)
+    if right not in _GRANTS:
+        raise ValueError(f"a right is none of {', '.join(it for it in _GRANTS if it)}: {right}")
+    return Receiver(named, *_GRANTS[right])
 
 
 def _words_of(wrong: Exception) -> str:

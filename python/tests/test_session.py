@@ -55,7 +55,7 @@ def test_does_operations_and_calls_by_name(session: Session) -> None:
         ("write 40010000 0xZZ", "non-hexadecimal"),
         ("write 'unfinished", "No closing quotation"),
         ("play /nowhere", "No such file"),
-        ("undo", "0 operations were done"),
+        ("undo", "0 lines did something"),
         ("help FFA_NOTHING", "no such call"),
         ("save", ""),
     ],
@@ -71,8 +71,8 @@ def test_takes_back_and_saves_what_was_done(session: Session, program: Program, 
     session.line("store 40010000 2A")
     session.line("FFA_RUN partition=8002")
     session.line("write 40200001 'abc'")
-    assert session.line("undo") == ["undone: store 40200002 6362"]
-    assert session.line("undo 2") == ["undone: call 8400006D 80020000", "undone: store 40200001 61"]
+    assert session.line("who") == ["runner 8002, of 0000 8001 8002"]
+    assert session.line("undo 2") == ["undone: FFA_RUN partition=8002", "undone: write 40200001 'abc'"]
     assert session.line("who") == ["runner 0000, of 0000 8001 8002"]
     assert session.line("load 40010000 1") == ["data 2A"]
     path = tmp_path / "saved.trace"
@@ -80,9 +80,32 @@ def test_takes_back_and_saves_what_was_done(session: Session, program: Program, 
     assert program("run", "--strict", MANIFEST, path).returncode == 0
     other = Session(MANIFEST)
     assert other.line(f"play {path}") == ["done", "data 2A"]
-    assert other.line("undo") == ["undone: load 40010000 1"]
+    assert other.line("undo") == [f"undone: play {path}"]
     path.write_text("load 40010000 1\n#= data 00\n")
     assert other.line(f"play {path}") == ["data 2A", 'error: line 2: wanted "data 00", got "data 2A"']
+
+
+def test_sends_descriptors(session: Session, program: Program, tmp_path: Path) -> None:
+    for line in ("FFA_RUN partition=8001", "FFA_RXTX_MAP tx=4002E000 rx=4002F000 pages=1"):
+        session.line(line)
+    shared = session.line("share 4002E000 8002:ro 40028000+1,4002A000+2")
+    assert shared[1] == "# 8001 sees FFA_SUCCESS handle=0000800100000001"
+    words = "share --tx 4002E000 --from 8001 --to 8002:ro --pages 40028000+1,4002A000+2"
+    lines = program.lines("descriptor", *words.split())
+    path = tmp_path / "saved.trace"
+    session.line(f"save {path}")
+    done = [line for line in path.read_text().splitlines() if not line.startswith("#")]
+    assert done[-len(lines) :] == lines
+    assert session.line("lend 4002E000 8002:rx 40029000+1")[0].startswith("error: a right is none of ro, rw")
+    assert session.line("lend 4002E000 8001:ro 40029000+1") == ["error: access descriptor 0: it names the sender"]
+    assert session.line("donate 40020000 8002 40029000+1")[0] == "fault permission"
+    for line in ("FFA_MSG_WAIT", "FFA_RUN partition=8002", "FFA_RXTX_MAP tx=40206000 rx=40207000 pages=1"):
+        session.line(line)
+    assert session.line("retrieve 40206000 8001 0000800100000001 ro")[1].startswith("# 8002 sees FFA_MEM_RETRIEVE_RESP")
+    assert session.line("load 40028000 1") == ["data 00"]
+    assert session.line("relinquish 40206000 800100000001")[1] == "# 8002 sees FFA_SUCCESS"
+    assert session.line("relinquish 40206000") == ["error: wanted are TX, a handle"]
+    assert session.line("retrieve 40206000") == ["error: wanted are TX, a sender, a handle"]
 
 
 def test_completes_words(session: Session) -> None:
