@@ -54,7 +54,7 @@ from .recording import JsonRecording, TraceRecording
 from .registers import NamedRegisters, decode, encode
 from .trace import Difference, compare, play
 
-__version__ = "0.1"
+__version__ = "0.1.0"
 
 __all__ = [
     "Aborted",

@@ -3,11 +3,13 @@
 from __future__ import annotations
 
 import re
+import tomllib
 from enum import IntEnum
 
 import pytest
 from conftest import TOP, needs
 
+import gorseplumb
 from gorseplumb import About, Cause, Check, ErrorCode, Fault, Flaw, Form, Function, GrantKind, Obstacle, Right
 from gorseplumb import _library as c
 from gorseplumb._library import library
@@ -131,3 +133,9 @@ def test_the_declarations_are_those_that_the_package_has() -> None:
     if told is None:
         pytest.skip("the header has no number of its declarations yet")
     assert int(told[1]) == c.DECLARATIONS
+
+
+def test_the_version_is_the_programs() -> None:
+    told = re.search(r'pub const VERSION: &str = "([^"]+)"', source("play_arguments/src/program.rt"))
+    project = tomllib.loads((TOP / "python" / "pyproject.toml").read_text())["project"]
+    assert told is not None and told[1] == project["version"] == gorseplumb.__version__

@@ -81,8 +81,8 @@ def test_takes_back_and_saves_what_was_done(session: Session, program: Program, 
     other = Session(MANIFEST)
     assert other.line(f"play {path}") == ["done", "data 2A"]
     assert other.line("undo") == [f"undone: play {path}"]
-    path.write_text("load 40010000 1\n#= data 00\n")
-    assert other.line(f"play {path}") == ["data 2A", 'error: line 2: wanted "data 00", got "data 2A"']
+    path.write_text("load 40010000 1\n#= data 01\n")
+    assert other.line(f"play {path}") == ["data 00", 'error: line 2: wanted "data 01", got "data 00"']
 
 
 def test_sends_descriptors(session: Session, program: Program, tmp_path: Path) -> None:
