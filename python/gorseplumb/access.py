@@ -119,6 +119,8 @@ def raw_runs(runs: Sequence[Run]) -> ctypes.Array[c.CertRun]:
     """Runs for the library."""
     raw = (c.CertRun * len(runs))()
     for place, run in zip(raw, runs):
+        if (run.first | run.last | run.owner) >> 32 or (run.handle or 0) >> 64 or len(run.rights) > c.MOST_ENDPOINTS:
+            raise ValueError(f"no run of a certificate: {run}")
         place.first, place.last, place.owner = run.first, run.last, run.owner
         place.has_handle, place.handle = int(run.handle is not None), run.handle or 0
         place.access[: len(run.rights)] = [int(right) for right in run.rights]

@@ -52,6 +52,8 @@ class Ram:
         where RAM begins at `base`. The checker knows nothing of a machine."""
         from .access import raw_runs
 
+        if base >> 32 or any(root >> 32 for root in roots):
+            raise ValueError("RAM and its tables stand below 4 GiB")
         lent = self.lend()
         try:
             told = (ctypes.c_uint32 * len(roots))(*roots)

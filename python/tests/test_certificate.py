@@ -75,6 +75,8 @@ def test_judges_certificates(partitions: Machine) -> None:
     wrong = replace(runs[place], rights=(Right.NONE, Right.RW, Right.RW))
     assert not partitions.audit([*runs[:place], wrong, *runs[place + 1 :]])
     assert not partitions.audit(runs[1:]) and not partitions.audit([])
+    with pytest.raises(ValueError, match="no run of a certificate"):
+        partitions.audit([replace(runs[0], last=-1)])
 
 
 @AUDITS
@@ -96,6 +98,8 @@ def test_judges_the_tables_in_any_bytes() -> None:
     assert word != bytes(8), "8002's level 3 table has the page that it holds"
     ram.write(0xA000 + 8 * 0x28, bytes(8))
     assert not ram.audit(0x40000000, roots, runs)
+    with pytest.raises(ValueError, match="below 4 GiB"):
+        ram.audit(1 << 32, roots, runs)
     assert not ram.is_lent
 
 
