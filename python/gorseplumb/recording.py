@@ -18,7 +18,7 @@ class Recording(Watcher):
 
     def __init__(self, machine: Machine, path: os.PathLike[str] | str | None = None) -> None:
         self.machine = machine
-        self._file: TextIO = io.StringIO() if path is None else Path(path).open("w", encoding="ascii", newline="\n")
+        self._file = _opened(path)
         self._is_watching = True
         machine.watch(self)
 
@@ -46,6 +46,11 @@ class Recording(Watcher):
 
     def _put(self, line: str) -> None:
         self._file.write(line + "\n")
+
+
+def _opened(path: os.PathLike[str] | str | None) -> TextIO:
+    # Line by line, so that what was done is there even where the process doesn't end well.
+    return io.StringIO() if path is None else Path(path).open("w", 1, encoding="ascii", newline="\n")
 
 
 class TraceRecording(Recording):

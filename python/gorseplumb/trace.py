@@ -15,7 +15,7 @@ from .outcomes import Call, Faulted, Fetch, Load, Operation, Registers, Store
 Question = Literal["show", "audit"]
 Command = Union[Operation, Question]
 Trace = Union[str, bytes, "os.PathLike[str]", Iterable[str]]
-"""A whole trace as a text, its path, or lines without their ends."""
+"""A whole trace as a text, its path, or lines, such as a file's."""
 
 _HEX = "[0-9A-Fa-f]"
 _WORDS = re.compile(
@@ -97,7 +97,7 @@ def lines(trace: Trace) -> Iterator[tuple[int, str]]:
         trace = Path(trace).read_bytes()
     text = trace.decode("latin-1") if isinstance(trace, bytes) else trace
     if not isinstance(text, str):
-        yield from enumerate(text, 1)
+        yield from enumerate((line.removesuffix("\n") for line in text), 1)
         return
     *whole, rest = text.split("\n")
     yield from enumerate(whole, 1)
@@ -216,9 +216,9 @@ class Difference:
         return [name for name, expected, found in words if expected != found]
 
 
-def compare(machine: Machine, trace: Trace, expected: Iterable[str], *, explain: bool = False) -> Difference | None:
+def compare(machine: Machine, trace: Trace, expected: Trace, *, explain: bool = False) -> Difference | None:
     """The first line that prints something else than is expected, as `ffaplay compare` finds it."""
-    wanted = iter(expected)
+    wanted = (line for _, line in lines(expected))
     number = 0
     for printed in Player(machine, explain=explain).play(trace):
         number = printed.number

@@ -121,10 +121,11 @@ def test_finds_the_first_difference_as_the_program_does(program: Program) -> Non
     for text in texts:
         done = program("compare", manifest, trace, "-", text=text.encode())
         with Machine(manifest) as machine:
-            difference = compare(machine, trace, text.splitlines())
+            difference = compare(machine, trace, text)
         assert done.returncode == 4 and f"{difference}\n" == done.stdout.decode()
-    with Machine(manifest) as machine:
-        assert compare(machine, trace, lines) is None
+    for expected in (lines, whole, EXAMPLES / "messages.out"):
+        with Machine(manifest) as machine, trace.open() as file:
+            assert compare(machine, file, expected) is None
 
 
 def test_names_the_registers_that_differ() -> None:
