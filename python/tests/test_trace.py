@@ -6,7 +6,7 @@ import pytest
 from conftest import BUILT_IN, EXAMPLES, SHOWS, Program
 
 from gorseplumb import BadLine, Call, Difference, Fetch, GuardUnmet, Load, Machine, Store, compare, play
-from gorseplumb.trace import parse
+from gorseplumb.trace import Trace, parse
 
 
 
@@ -123,7 +123,8 @@ def test_finds_the_first_difference_as_the_program_does(program: Program) -> Non
         with Machine(manifest) as machine:
             difference = compare(machine, trace, text)
         assert done.returncode == 4 and f"{difference}\n" == done.stdout.decode()
-    for expected in (lines, whole, EXAMPLES / "messages.out"):
+    same: list[Trace] = [lines, whole, EXAMPLES / "messages.out"]
+    for expected in same:
         with Machine(manifest) as machine, trace.open() as file:
             assert compare(machine, file, expected) is None
 
