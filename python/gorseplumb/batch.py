@@ -8,7 +8,7 @@ from typing import Iterable, Iterator, Sequence, overload
 
 from . import _library as c
 from .codes import Fault
-from .outcomes import DONE, FAULTED, SIZES, Call, Data, Fetch, Load, Operation, Outcome, Registers, Store
+from .outcomes import DONE, FAULTED, SIZES, Call, Data, Fetch, Load, Operation, Outcome, Registers
 
 _NO_REGISTERS = (0,) * 8
 
