@@ -4,13 +4,14 @@ from __future__ import annotations
 
 import re
 from dataclasses import dataclass, replace
+from itertools import zip_longest
 from typing import Callable, Iterator, Mapping
 
 from .codes import NORMAL_WORLD, Fault
 from .errors import BadLine
 from .machine import Machine
 from .outcomes import DONE, FAULTED, Call, Data, Faulted, Operation, Outcome, Registers
-from .trace import Difference, Trace, lines, parse
+from .trace import Command, Difference, Trace, lines, parse
 
 Behaviour = Callable[[Machine, Registers], Registers]
 """What a partition does while it runs: from the registers that it sees, to the answer of the call by which it stops."""
@@ -47,48 +48,54 @@ class Expected:
 
 @dataclass(frozen=True)
 class Entry:
-    """An operation of a log: by whom, where that is told, and what came of it, where that is told."""
+    """An operation of a log: by whom, where that is told, and what came of it, where that is told, which is lines of
+    `show` and `audit`."""
 
     number: int
     line: str
-    operation: Operation
+    command: Command
     by: int | None = None
     expected: Expected | None = None
+    shown: tuple[str, ...] = ()
 
 
 # THE TEXT
 
 
 def read_log(log: Trace) -> Iterator[Entry]:
-    """The operations of a text."""
+    """The operations of a text. Where lines begin with `> `, those that begin with neither that nor `< ` are no part of
+    the log."""
+    told = [(number, line.strip()) for number, line in lines(log)]
+    is_marked = any(line.startswith("> ") for _, line in told)
     last: Entry | None = None
-    for number, line in lines(log):
+    for number, line in told:
+        if not line or line.startswith("#") or is_marked and not line.startswith(("> ", "< ")):
+            continue
         try:
-            told, found = _read_line(number, line.strip())
+            following = _read_answer(last, line[1:].strip()) if line.startswith("<") else _read_entry(number, line)
         except BadLine as wrong:
             raise BadLine(wrong.why, number=number) from None
-        if told is not None:
-            if last is None or last.expected is not None:
-                raise BadLine("an answer to no operation", number=number)
-            last = replace(last, expected=told)
-        elif found is not None:
-            if last is not None:
-                yield last
-            last = found
+        if last is not None and not line.startswith("<"):
+            yield last
+        last = following
     if last is not None:
         yield last
 
 
-def _read_line(number: int, line: str) -> tuple[Expected | None, Entry | None]:
-    """The answer that a line is, or the operation."""
-    if not line or line.startswith("#"):
-        return None, None
-    if line.startswith("<"):
-        return _read_outcome(line[1:].strip()), None
+def _read_entry(number: int, line: str) -> Entry:
     asked, arrow, answer = line.removeprefix(">").partition("->")
     by, words = _split_endpoint(asked.strip())
     expected = _read_outcome(answer.strip()) if arrow else None
-    return None, Entry(number, line, _read_operation(words), by, expected)
+    return Entry(number, line, _read_command(words), by, expected)
+
+
+def _read_answer(last: Entry | None, words: str) -> Entry:
+    """The operation with what came of it."""
+    if last is not None and isinstance(last.command, str):
+        return replace(last, shown=(*last.shown, words))
+    if last is None or last.expected is not None:
+        raise BadLine("an answer to no operation")
+    return replace(last, expected=_read_outcome(words))
 
 
 def _split_endpoint(words: str) -> tuple[int | None, str]:
@@ -96,13 +103,12 @@ def _split_endpoint(words: str) -> tuple[int | None, str]:
     return (int(match[1], 16), words[match.end() :]) if match else (None, words)
 
 
-def _read_operation(words: str) -> Operation:
+def _read_command(words: str) -> Command:
     if _NUMBERS.fullmatch(words):
         words = f"call {words}"
-    plain = " ".join(re.sub(r"^0[xX](?=[0-9A-Fa-f])", "", word) for word in words.split())
-    command = parse(plain)
-    if command is None or isinstance(command, str):
-        raise BadLine("no call, load, store or fetch")
+    command = parse(" ".join(re.sub(r"^0[xX](?=[0-9A-Fa-f])", "", word) for word in words.split()))
+    if command is None:
+        raise BadLine("no operation")
     return command
 
 
@@ -181,15 +187,36 @@ def play(
         runner = machine.runner
         if entry.by is not None and entry.by != runner:
             return Difference(entry.number, entry.line, f"runner {entry.by:04X}", f"runner {runner:04X}")
-        outcome = machine.perform(entry.operation)
-        if entry.expected is None:
-            continue
-        found = _run_on(machine, outcome, entry.expected.runner, others)
-        expected = entry.expected.beside(found)
-        if found != expected:
-            reason = _reason(machine, entry.operation, found) if explain else None
-            return Difference(entry.number, entry.line, str(expected), str(found), reason)
+        if entry.command == "show" or entry.command == "audit":
+            difference = _compare_lines(machine, entry)
+        else:
+            assert not isinstance(entry.command, str)
+            difference = _compare_outcome(machine, entry, entry.command, others, explain)
+        if difference is not None:
+            return difference
     return None
+
+
+def _compare_lines(machine: Machine, entry: Entry) -> Difference | None:
+    found = machine.show() if entry.command == "show" else machine.certificate()
+    for one, other in zip_longest(entry.shown, found):
+        if one != other and entry.shown:
+            return Difference(entry.number, entry.line, one, other)
+    return None
+
+
+def _compare_outcome(
+    machine: Machine, entry: Entry, operation: Operation, others: Mapping[int, Behaviour], explain: bool
+) -> Difference | None:
+    outcome = machine.perform(operation)
+    if entry.expected is None:
+        return None
+    found = _run_on(machine, outcome, entry.expected.runner, others)
+    expected = entry.expected.beside(found)
+    if found == expected:
+        return None
+    reason = _reason(machine, operation, found) if explain else None
+    return Difference(entry.number, entry.line, str(expected), str(found), reason)
 
 
 def _run_on(machine: Machine, found: Outcome, wanted: int | None, others: Mapping[int, Behaviour]) -> Outcome:

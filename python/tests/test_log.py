@@ -7,7 +7,7 @@ import sys
 from pathlib import Path
 
 import pytest
-from conftest import EXAMPLES
+from conftest import EXAMPLES, SHOWS
 
 from gorseplumb import BadLine, Call, Function, Load, Machine, Registers, Store, encode
 from gorseplumb.log import play, read_ftrace, read_log
@@ -21,17 +21,16 @@ TEXT = """# The normal world asks who it is, and runs 8001.
 store 40028000 2A -> done
 load 40028000 1 -> data 2A
 load 40200000 1 -> fault translation
-> call 8400006B
-< regs 0000 000000008400006B 0000000080010000 ..
+8400006B -> regs 0000 000000008400006B 0000000080010000 ..
 84000083
 """
 
 
 def test_reads_and_plays_a_text() -> None:
     entries = list(read_log(TEXT))
-    assert [it.number for it in entries] == [2, 3, 4, 6, 7, 8, 9, 11]
+    assert [it.number for it in entries] == [2, 3, 4, 6, 7, 8, 9, 10]
     assert [it.by for it in entries[:3]] == [None, 0, 0x8001]
-    assert entries[3].operation == Store(0x40028000, 1, 0x2A) and entries[4].operation == Load(0x40028000, 1)
+    assert entries[3].command == Store(0x40028000, 1, 0x2A) and entries[4].command == Load(0x40028000, 1)
     assert entries[-1].expected is None
     with Machine(MANIFEST) as machine:
         assert play(machine, iter(entries)) is None
@@ -57,7 +56,9 @@ def test_tells_the_first_difference(change: tuple[str, str], told: list[str]) ->
     assert len(lines) == len(told) and all(line.startswith(start) for line, start in zip(lines, told))
 
 
-@pytest.mark.parametrize("line", ["show", "84000069 -> what", "< done", "1 2 3 4 5 6 7 8 9", "load 1 3", "1 -> data 1"])
+@pytest.mark.parametrize(
+    "line", ["shown", "84000069 -> what", "< done", "1 2 3 4 5 6 7 8 9", "load 1 3", "1 -> data 1"]
+)
 def test_refuses_what_is_no_line_of_a_log(line: str) -> None:
     with pytest.raises(BadLine, match="^line 2: "):
         list(read_log(f"# one\n{line}\n"))
@@ -86,7 +87,7 @@ def adder(machine: Machine, seen: Registers) -> Registers:
 
 def test_reads_and_plays_ftrace() -> None:
     entries = list(read_ftrace(FTRACE))
-    assert [it.operation for it in entries] == [
+    assert [it.command for it in entries] == [
         Call((0x84000069,)),
         Call((0x8400006F, 0x8001, 0, 7)),
         Call((0x84000083,)),
@@ -104,6 +105,44 @@ def test_reads_and_plays_ftrace() -> None:
     with Machine(MANIFEST) as machine:
         difference = play(machine, read_ftrace(FTRACE))
     assert difference is not None and difference.number == 8 and difference.differing == ["runner", "x0", "x1", "x3"]
+
+
+BOARD = """a firmware says that it booted
+> call 8400006D 80010000
+< regs 8001 000000008400006D 0000000080010000 0000000000000000 0000000000000000 0000000000000000 ..
+> store 40028000 2A
+< done
+and more
+> show
+< runner 8001
+< pages 40000000 4000FFFF 8000 --- --- ---
+< pages 40010000 4001FFFF 0000 rw- --- ---
+< pages 40020000 40027FFF 8001 --- r-x ---
+< pages 40028000 4002FFFF 8001 --- rw- ---
+< pages 40030000 401FFFFF 8000 --- --- ---
+< pages 40200000 40207FFF 8002 --- --- rwx
+< pages 40208000 4020FFFF 8002 --- --- r--
+< pages 40210000 403FFFFF 8000 --- --- ---
+> load 40200000 1
+< fault translation
+= the end
+"""
+
+
+@SHOWS
+def test_plays_what_the_board_prints() -> None:
+    with Machine(MANIFEST) as machine:
+        assert play(machine, read_log(BOARD)) is None
+    with Machine(MANIFEST) as machine:
+        changed = BOARD.replace("8002 --- --- r--", "8002 --- --- rw-")
+        assert str(play(machine, read_log(changed))).splitlines() == [
+            "line 7: > show",
+            "expected: pages 40208000 4020FFFF 8002 --- --- rw-",
+            "found:    pages 40208000 4020FFFF 8002 --- --- r--",
+        ]
+    with Machine(MANIFEST) as machine:
+        difference = play(machine, read_log(BOARD.replace("< pages 40210000 403FFFFF 8000 --- --- ---\n", "")))
+        assert difference is not None and (difference.number, difference.expected) == (7, None)
 
 
 def test_is_a_command(tmp_path: Path) -> None:
