@@ -5,7 +5,7 @@ from __future__ import annotations
 from pathlib import Path
 
 import pytest
-from conftest import EXAMPLES, Program
+from conftest import AUDITS, EXAMPLES, Program
 
 from gorseplumb import Call, DataAccess, Fault, Faulted, Function, IndirectMessage, Kind, Machine, NotRecordable
 from gorseplumb import Offer, PageRange, Receiver, jsonlines, play
@@ -41,6 +41,17 @@ def test_is_played_by_the_program_to_the_same_answers(program: Program, tmp_path
     changed = text.replace("#= fault translation", "#= data 00", 1)
     done = program("run", "--strict", MANIFEST, "-", text=changed.encode())
     assert done.returncode == 5 and b'wanted "data 00", got "fault translation"' in done.stderr
+
+
+@AUDITS
+def test_has_what_show_and_audit_print(program: Program) -> None:
+    with Machine(MANIFEST) as machine, machine.record() as recording:
+        bench(machine)
+        shown, audited = recording.show(), recording.audit()
+    assert shown[0] == "runner 8001" and audited[-1] == "agrees"
+    assert program("run", "--strict", MANIFEST, "-", text=recording.text.encode()).returncode == 0
+    changed = recording.text.replace("#= agrees", "#= differs").encode()
+    assert program("run", "--strict", MANIFEST, "-", text=changed).returncode == 5
 
 
 def test_is_played_by_the_package_to_the_same_answers(partitions: Machine) -> None:
