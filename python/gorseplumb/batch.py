@@ -3,12 +3,11 @@
 from __future__ import annotations
 
 import ctypes
-import struct
 from typing import Iterable, Iterator, Sequence, overload
 
 from . import _library as c
 from .codes import Fault
-from .outcomes import DONE, FAULTED, SIZES, Call, Data, Fetch, Load, Operation, Outcome, Registers
+from .outcomes import DONE, FAULTED, Call, Data, Fetch, Load, Operation, Outcome, Registers
 
 _NO_REGISTERS = (0,) * 8
 
@@ -18,18 +17,11 @@ class Batch:
 
     def __init__(self, operations: Iterable[Operation]) -> None:
         self.operations: tuple[Operation, ...] = tuple(operations)
-        self.packed = b"".join(map(_packed, self.operations))
+        self.packed = b"".join(map(_pack, self.operations))
         self.sizes = tuple(4 if isinstance(it, Fetch) else getattr(it, "size", 0) for it in self.operations)
 
     def __len__(self) -> int:
         return len(self.operations)
-
-
-def _packed(operation: Operation) -> bytes:
-    try:
-        return _pack(operation)
-    except struct.error:
-        raise ValueError(f"a number has more than 64 bits, or is negative: {operation}") from None
 
 
 def _pack(operation: Operation) -> bytes:
@@ -37,12 +29,8 @@ def _pack(operation: Operation) -> bytes:
         return c.OPERATION.pack(c.OPERATION_CALL, 0, 0, 0, *operation.x)
     if isinstance(operation, Fetch):
         return c.OPERATION.pack(c.OPERATION_FETCH, 0, operation.address, 0, *_NO_REGISTERS)
-    if operation.size not in SIZES:
-        raise ValueError(f"an access has 1, 2, 4 or 8 bytes, and not {operation.size}")
     if isinstance(operation, Load):
         return c.OPERATION.pack(c.OPERATION_LOAD, operation.size, operation.address, 0, *_NO_REGISTERS)
-    if operation.value >> 8 * operation.size:
-        raise ValueError(f"{operation.value:#x} doesn't fit in {operation.size} bytes")
     return c.OPERATION.pack(c.OPERATION_STORE, operation.size, operation.address, operation.value, *_NO_REGISTERS)
 
 

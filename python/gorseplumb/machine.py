@@ -146,7 +146,8 @@ class Machine(Questions):
         try:
             told = _call(self._at, _pack(x0, x1, x2, x3, x4, x5, x6, x7))
         except struct.error:
-            _refuse_registers((x0, x1, x2, x3, x4, x5, x6, x7))
+            Call((x0, x1, x2, x3, x4, x5, x6, x7))  # says which has no room
+            raise
         if told.kind:
             self._refuse_kind(told.kind)
         answer = _new(Registers)
@@ -159,7 +160,7 @@ class Machine(Questions):
     def load(self, address: int, size: int) -> Data | Faulted:
         """A load of 1, 2, 4 or 8 bytes."""
         if address >> 64 or size not in SIZES:
-            _check_access(address, size)
+            Load(address, size)  # says which is wrong
         found = self._accessed(_load(self._raw, address, size), size)
         if self._watchers:
             self._tell(None, Load(address, size), found)
@@ -168,7 +169,7 @@ class Machine(Questions):
     def store(self, address: int, size: int, value: int) -> Done | Faulted:
         """A store of a value of 1, 2, 4 or 8 bytes."""
         if address >> 64 or size not in SIZES or value >> 8 * size:
-            _check_store(address, size, value)
+            Store(address, size, value)
         found = self._stored(_store(self._raw, address, size, value))
         if self._watchers:
             self._tell(None, Store(address, size, value), found)
@@ -177,7 +178,7 @@ class Machine(Questions):
     def fetch(self, address: int) -> Data | Faulted:
         """A fetch of one instruction, which is 4 bytes."""
         if address >> 64:
-            _check_access(address, 4)
+            Fetch(address)
         found = self._accessed(_fetch(self._raw, address), 4)
         if self._watchers:
             self._tell(None, Fetch(address), found)
@@ -188,9 +189,8 @@ class Machine(Questions):
     def call_as(self, endpoint: int, *x: int) -> Registers:
         """A call of an endpoint. Where it isn't the runner it is answered BUSY, and nothing changes."""
         call = Call(x)
-        packed = _packed(call.x)
         self._warn(endpoint, call)
-        told = library.call_as(self._raw, endpoint, packed)
+        told = library.call_as(self._raw, endpoint, _pack(*call.x))
         if told.kind != c.KIND_REGISTERS:
             self._refuse_kind(told.kind)
         answer = Registers(told.runner, tuple(told.x))
@@ -199,26 +199,26 @@ class Machine(Questions):
 
     def load_as(self, endpoint: int, address: int, size: int) -> Data | Faulted:
         """A load of an endpoint, by its own table."""
-        _check_access(address, size)
-        self._warn(endpoint, Load(address, size))
+        operation = Load(address, size)
+        self._warn(endpoint, operation)
         found = self._accessed(library.load_as(self._raw, endpoint, address, size), size)
-        self._tell(endpoint, Load(address, size), found)
+        self._tell(endpoint, operation, found)
         return found
 
     def store_as(self, endpoint: int, address: int, size: int, value: int) -> Done | Faulted:
         """A store of an endpoint, by its own table."""
-        _check_store(address, size, value)
-        self._warn(endpoint, Store(address, size, value))
+        operation = Store(address, size, value)
+        self._warn(endpoint, operation)
         found = self._stored(library.store_as(self._raw, endpoint, address, size, value))
-        self._tell(endpoint, Store(address, size, value), found)
+        self._tell(endpoint, operation, found)
         return found
 
     def fetch_as(self, endpoint: int, address: int) -> Data | Faulted:
         """A fetch of an endpoint, by its own table."""
-        _check_access(address, 4)
-        self._warn(endpoint, Fetch(address))
+        operation = Fetch(address)
+        self._warn(endpoint, operation)
         found = self._accessed(library.fetch_as(self._raw, endpoint, address), 4)
-        self._tell(endpoint, Fetch(address), found)
+        self._tell(endpoint, operation, found)
         return found
 
     # MANY OPERATIONS, and operations that raise where they are refused
@@ -236,8 +236,7 @@ class Machine(Questions):
     def run(self, operations: Batch | Iterable[Operation]) -> Outcomes:
         """Operations one behind the other, by one call of the library."""
         batch = operations if isinstance(operations, Batch) else Batch(operations)
-        if not self._end.alive:
-            self._refuse_ended()
+        self._check_alive()
         outcomes = Outcomes(batch)
         done = library.run(self._raw, batch.packed, len(batch), outcomes.raw, len(batch))
         if done != len(batch):
@@ -355,44 +354,14 @@ class Machine(Questions):
 
 
 def _end(raw: c.Held, ram: Ram | None) -> None:
-    if ram is None:
-        answer = library.end(raw) if "end" not in library.lacks else library.free(raw, c.Held())
-    else:
+    if ram is not None:
         answer = library.free(raw, ram.lent)
-        ram.take_back()
+    else:
+        answer = library.end(raw) if "end" not in library.lacks else library.free(raw, c.Held())
     if answer != Answer.OK:
         raise LibraryError(f"the end of a machine answers {answer}")
-
-
-def _packed(x: tuple[int, ...]) -> bytes:
-    try:
-        return _pack(*x)
-    except struct.error:
-        _refuse_registers(x)
-
-
-def _refuse_registers(x: tuple[int, ...]) -> NoReturn:
-    for place, value in enumerate(x):
-        if not hasattr(value, "__index__"):
-            raise TypeError(f"x{place} is a number, and not {value!r}")
-        if value >> 64:
-            raise ValueError(f"x{place} has 64 bits, and is {value:#x}")
-    raise LibraryError("registers couldn't be packed")
-
-
-def _check_access(address: int, size: int) -> None:
-    """Raises what is wrong with an access, if something is."""
-    if address >> 64:
-        raise ValueError(f"an address has 64 bits, and is {address:#x}")
-    if size not in SIZES:
-        raise ValueError(f"an access has 1, 2, 4 or 8 bytes, and not {size}")
-
-
-def _check_store(address: int, size: int, value: int) -> None:
-    """The same of a store."""
-    _check_access(address, size)
-    if value >> 8 * size:
-        raise ValueError(f"{value:#x} doesn't fit in {size} bytes")
+    if ram is not None:
+        ram.take_back()
 
 
 def _pieces(address: int, size: int) -> Iterator[tuple[int, int]]:

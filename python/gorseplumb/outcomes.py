@@ -1,5 +1,7 @@
 # SPDX-License-Identifier: MIT OR Apache-2.0
-"""Operations, and what comes of them. `str` of each is its line: that of a trace, or that which the program prints."""
+"""Operations, and what comes of them. `str` of each is its line: that of a trace, or that which the program prints.
+
+An operation whose numbers have no room is a ValueError when it is made."""
 from __future__ import annotations
 
 from dataclasses import dataclass
@@ -11,6 +13,13 @@ from .errors import call_refused
 SIZES = (1, 2, 4, 8)
 
 
+def _check_access(address: int, size: int) -> None:
+    if address >> 64:
+        raise ValueError(f"an address has 64 bits, and is {address:#x}")
+    if size not in SIZES:
+        raise ValueError(f"an access has 1, 2, 4 or 8 bytes, and not {size}")
+
+
 @dataclass(frozen=True, slots=True)
 class Call:
     """A call with these registers, x0 first. Those that aren't given are 0."""
@@ -20,6 +29,9 @@ class Call:
     def __post_init__(self) -> None:
         if not 1 <= len(self.x) <= 8:
             raise ValueError(f"a call has one to eight registers, and not {len(self.x)}")
+        for place, register in enumerate(self.x):
+            if register >> 64:
+                raise ValueError(f"x{place} has 64 bits, and is {register:#x}")
         if len(self.x) < 8:
             object.__setattr__(self, "x", (*self.x, *(0,) * (8 - len(self.x))))
 
@@ -35,6 +47,9 @@ class Load:
     address: int
     size: int
 
+    def __post_init__(self) -> None:
+        _check_access(self.address, self.size)
+
     def __str__(self) -> str:
         return f"load {self.address:08X} {self.size}"
 
@@ -47,6 +62,11 @@ class Store:
     size: int
     value: int
 
+    def __post_init__(self) -> None:
+        _check_access(self.address, self.size)
+        if self.value >> 8 * self.size:
+            raise ValueError(f"{self.value:#x} doesn't fit in {self.size} bytes")
+
     def __str__(self) -> str:
         return f"store {self.address:08X} {self.value:0{2 * self.size}X}"
 
@@ -56,6 +76,9 @@ class Fetch:
     """A fetch of one instruction, which is 4 bytes."""
 
     address: int
+
+    def __post_init__(self) -> None:
+        _check_access(self.address, 4)
 
     def __str__(self) -> str:
         return f"fetch {self.address:08X}"

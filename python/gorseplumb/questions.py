@@ -12,7 +12,7 @@ from .access import AccessMap, Run, raw_runs, run_of_raw
 from .checks import Check, Flaw
 from .codes import BLOCK_SIZE, MANAGER, PAGE_SIZE, PAGES_OF_BLOCK
 from .codes import About, Answer, ErrorCode, Fault, GrantKind, Obstacle, Right
-from .errors import LibraryError, MachineEnded, NoSuchEndpoint, NoSuchPage, OutOfMemory
+from .errors import MachineEnded, NoSuchEndpoint, NoSuchPage, OutOfMemory
 from .outcomes import Call, Load, Operation, Store
 from .reasons import Hindrance, Reason, Subject
 
@@ -108,6 +108,7 @@ class Questions:
 
     def pending(self, endpoint: int) -> bool:
         """Whether an endpoint has a notification pending."""
+        self._check_alive()
         self._check_endpoint(endpoint)
         return bool(library.pending(self._raw, endpoint))
 
@@ -177,6 +178,7 @@ class Questions:
 
     def changed(self) -> Change | None:
         """What the last call on memory that was done has changed of access. It is told once."""
+        self._check_alive()
         raw = c.Change()
         if not library.changed(self._raw, raw):
             return None
@@ -184,6 +186,7 @@ class Questions:
 
     def why(self, operation: Operation) -> Reason | None:
         """Why an operation of the runner would be refused now, or was refused just before; none where it isn't."""
+        self._check_alive()
         raw = c.Reason()
         if isinstance(operation, Call):
             refused = library.why_call(self._raw, c.REGISTERS.pack(*operation.x), raw)
@@ -227,6 +230,10 @@ class Questions:
             self._refuse_ended()
         return number
 
+    def _check_alive(self) -> None:
+        if not self._end.alive:
+            self._refuse_ended()
+
     def _check_endpoint(self, endpoint: int) -> None:
         if endpoint not in self._endpoints:
             raise NoSuchEndpoint(endpoint)
@@ -237,8 +244,6 @@ class Questions:
         raise NoSuchPage(f"RAM has no page {page}")
 
     def _refuse_ended(self) -> NoReturn:
-        if self._end.alive:
-            raise LibraryError("the library has no machine, and none was ended")
         raise MachineEnded("the machine was closed")
 
 

@@ -12,13 +12,6 @@ from gorseplumb.trace import lines, parse
 MANIFEST = EXAMPLES / "partitions.toml"
 
 
-def test_refuses_what_has_no_room() -> None:
-    with pytest.raises(ValueError, match="1, 2, 4 or 8 bytes, and not 3"):
-        Batch([Load(0, 3)])
-    with pytest.raises(ValueError, match="0x100 doesn't fit in 1 bytes"):
-        Batch([Store(0, 1, 0x100)])
-
-
 @needs("run")
 def test_gives_each_outcome(partitions: Machine) -> None:
     identity = Call((Function.FFA_ID_GET,))

@@ -141,7 +141,7 @@ def test_refuses_numbers_that_have_no_room() -> None:
                 machine.call(*[1] * count)
         with pytest.raises(ValueError, match="x1 has 64 bits, and is -0x1"):
             machine.call(Function.FFA_RUN, -1)
-        with pytest.raises(TypeError, match="x1 is a number, and not 'a'"):
+        with pytest.raises(TypeError):
             machine.call(Function.FFA_RUN, "a")  # type: ignore[arg-type]
         with pytest.raises(ValueError, match="1, 2, 4 or 8 bytes, and not 3"):
             machine.load(RAM, 3)
@@ -152,6 +152,23 @@ def test_refuses_numbers_that_have_no_room() -> None:
         with pytest.raises(ValueError):
             machine.read(-1, 1)
         assert machine.is_fresh and machine.load(RAM + 0x10000, 8) == Data(0, 8) and not machine.is_fresh
+
+
+def test_an_operation_has_room_for_its_numbers() -> None:
+    makes: list[Callable[[], Operation]] = [
+        lambda: Call(()),
+        lambda: Call((1,) * 9),
+        lambda: Call((-1,)),
+        lambda: Load(0, 3),
+        lambda: Load(-1, 1),
+        lambda: Store(0, 1, 0x100),
+        lambda: Store(0, 1, -1),
+        lambda: Fetch(1 << 64),
+    ]
+    for make in makes:
+        with pytest.raises(ValueError):
+            make()
+    assert Call((1,)) == Call((1, 0, 0, 0, 0, 0, 0, 0))
 
 
 def test_refuses_pages_and_endpoints_that_are_not_there() -> None:
@@ -224,6 +241,11 @@ def test_ends_once() -> None:
         lambda: machine.owner(0),
         lambda: machine.load_as(0, RAM, 1),
         lambda: machine.page(0),
+        lambda: machine.pending(0),
+        lambda: machine.changed(),
+        lambda: machine.access(0, 0),
+        lambda: machine.why(Load(RAM, 1)),
+        lambda: machine.run([]),
     ]
     for asked in asks:
         with pytest.raises(MachineEnded):
