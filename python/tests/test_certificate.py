@@ -51,7 +51,6 @@ def test_runs_cover_all_pages(partitions: Machine) -> None:
         partitions.run_at(1024)
 
 
-@AUDITS
 def test_tells_the_open_transaction(partitions: Machine) -> None:
     shared(partitions)
     assert partitions.run_at(0x28) == Run(0x28, 0x28, 0x8001, HANDLE, (Right.NONE, Right.RW, Right.RO))
