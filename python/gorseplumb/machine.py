@@ -14,7 +14,7 @@ from ._library import library
 from .batch import Batch, Outcomes
 from .codes import Answer, Fault, Form, Function
 from .descriptors import Offer, Relinquish, Retrieve, stores
-from .errors import LibraryError, access_fault, call_refused
+from .errors import LibraryError, ManifestRefused, access_fault, call_refused
 from .manifest import Manifest, checked_boot
 from .messages import IndirectMessage
 from .outcomes import DONE, FAULTED, SIZES, Call, Data, Done, Faulted, Fetch, Load, Operation, Outcome, Registers, Store
@@ -75,7 +75,12 @@ class Machine(Questions):
         self._manifest = Path(manifest).read_bytes() if isinstance(manifest, os.PathLike) else manifest
         self._values = self._manifest if isinstance(self._manifest, Manifest) else None
         self._raw, self._ram = c.Held(), ram
-        self._boot(self._manifest, keep)
+        try:
+            self._boot(self._manifest, keep)
+        except ManifestRefused as wrong:
+            if isinstance(manifest, str) and "=" not in manifest:
+                wrong.add_note("a str is a manifest's text: to name a file give a pathlib.Path")
+            raise
         self._end = weakref.finalize(self, _end, self._raw, ram)
         self._at = ctypes.byref(self._raw)
         self._endpoints = tuple(place and 0x8000 + place for place in range(library.endpoints(self._raw)))

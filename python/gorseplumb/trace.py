@@ -102,7 +102,10 @@ def lines(trace: Trace) -> Iterator[tuple[int, str]]:
     *whole, rest = text.split("\n")
     yield from enumerate(whole, 1)
     if rest:
-        raise BadLine("no line end", number=len(whole) + 1)
+        wrong = BadLine("no line end", number=len(whole) + 1)
+        if not whole and isinstance(trace, str):
+            wrong.add_note("a str is a trace's text: to name a file give a pathlib.Path")
+        raise wrong
 
 
 @dataclass(frozen=True)

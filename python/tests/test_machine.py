@@ -206,6 +206,12 @@ def test_says_why_a_text_is_refused(change: tuple[str, str], cause: Cause) -> No
     assert refused.value.cause is cause and str(refused.value) == cause.text
 
 
+def test_says_that_a_str_is_no_path() -> None:
+    with pytest.raises(ManifestRefused) as refused:
+        Machine(str(EXAMPLES / "partitions.toml"))
+    assert refused.value.__notes__ == ["a str is a manifest's text: to name a file give a pathlib.Path"]
+
+
 def test_says_why_values_are_refused() -> None:
     first = MANIFEST.endpoints[0]
     many = Endpoint([Region(RAM + 0x10000 + 4096 * place, 1) for place in range(17)])

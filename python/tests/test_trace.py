@@ -65,6 +65,9 @@ def test_judges_a_line_when_it_is_reached() -> None:
         assert next(played) == "done" and next(played) == "data 2A"
         with pytest.raises(BadLine, match="line 3, column 14: a word is missing"):
             next(played)
+        with pytest.raises(BadLine, match="line 1: no line end") as wrong:
+            list(play(machine, "examples/first.trace"))
+        assert wrong.value.__notes__ == ["a str is a trace's text: to name a file give a pathlib.Path"]
         with pytest.raises(BadLine, match="line 2: no line end"):
             list(play(machine, b"# \xff\nload 40010000 1"))
         assert list(play(machine, ["load 40010000 1"], numbers=True)) == ["1: data 2A"]
