@@ -4,7 +4,7 @@
 usage: python3 -m gorseplumb [--log FILE | --ftrace FILE] [--explain] MANIFEST
 
 Lines are read from the terminal with completion and history, or from standard input. Status 0: done; 1: the manifest is
-refused; 2: a line was a mistake; 3: a file can't be read; 4: the log differs, and where is told.
+refused; 2: a line was a mistake, or a log has none; 3: a file can't be read; 4: the log differs, and where is told.
 """
 from __future__ import annotations
 
@@ -42,8 +42,10 @@ def _words() -> argparse.Namespace:
 
 
 def _play_log(words: argparse.Namespace) -> int:
+    entries = list(read_log(words.log) if words.log else read_ftrace(words.ftrace))
+    if not entries:
+        return _fail(f"no call is in {words.log or words.ftrace}", 2)
     with Machine(words.manifest) as machine:
-        entries = read_log(words.log) if words.log else read_ftrace(words.ftrace)
         difference = play(machine, entries, explain=words.explain)
     if difference is not None:
         print(difference)

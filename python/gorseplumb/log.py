@@ -5,7 +5,7 @@ from __future__ import annotations
 import re
 from dataclasses import dataclass, replace
 from itertools import zip_longest
-from typing import Callable, Iterator, Mapping
+from typing import Callable, Iterable, Iterator, Mapping
 
 from .codes import NORMAL_WORLD, Fault
 from .errors import BadLine
@@ -175,7 +175,7 @@ def _registers_of(fields: str) -> dict[int, int]:
 
 def play(
     machine: Machine,
-    entries: Iterator[Entry],
+    entries: Iterable[Entry],
     partitions: Mapping[int, Behaviour] | None = None,
     *,
     explain: bool = False,

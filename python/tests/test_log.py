@@ -154,6 +154,9 @@ def test_is_a_command(tmp_path: Path) -> None:
     done = subprocess.run(words, capture_output=True, text=True, check=False)
     assert done.returncode == 4
     assert done.stdout == "line 7: load 40028000 1 -> data 2B\nexpected: data 2B\nfound:    data 2A\n"
+    log.write_text("# nothing\n")
+    done = subprocess.run(words, capture_output=True, text=True, check=False)
+    assert (done.returncode, done.stderr) == (2, f"gorseplumb: no call is in {log}\n")
     log.write_text("nonsense\n")
     done = subprocess.run(words, capture_output=True, text=True, check=False)
     assert (done.returncode, done.stderr) == (2, "gorseplumb: line 1: an unknown command\n")
