@@ -5,7 +5,7 @@ from __future__ import annotations
 import struct
 from dataclasses import dataclass
 from enum import IntEnum
-from typing import NamedTuple, Sequence
+from typing import Iterator, NamedTuple, Sequence
 
 from .checks import Flaw
 from .codes import PAGE_SIZE, Form, Function, Kind
@@ -227,17 +227,15 @@ def header_size(form: Form) -> int:
     return 48 if form is Form.FFA_1_1 else 32
 
 
-def stores(address: int, data: bytes) -> list[Store]:
+def stores(address: int, data: bytes) -> Iterator[Store]:
     """Stores that write these bytes, each as large as its address and what is left let it be."""
-    found: list[Store] = []
     at = 0
     while at < len(data):
         size = 8
         while (address + at) % size or at + size > len(data):
             size //= 2
-        found.append(Store(address + at, size, int.from_bytes(data[at : at + size], "little")))
+        yield Store(address + at, size, int.from_bytes(data[at : at + size], "little"))
         at += size
-    return found
 
 
 class _Header(NamedTuple):
