@@ -9,7 +9,7 @@ AGAINST =
 # one for each processor that has 4 GB of free memory, and wrong bodies are tried by four.
 JOBS =
 
-.PHONY: quick gate prove wrong c board linux docs bench
+.PHONY: quick gate prove wrong c python board linux docs bench
 
 quick:
 	bench/changed --tests $(AGAINST)
@@ -29,6 +29,10 @@ wrong:
 # Builds and runs the core as a C library.
 c:
 	c/test.sh
+
+# Builds the package for Python over that library, and tests it.
+python:
+	python/test.sh
 
 # Runs the core as a board's firmware under QEMU.
 board:
