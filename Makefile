@@ -9,7 +9,7 @@ AGAINST =
 # one for each processor that has 4 GB of free memory, and wrong bodies are tried by four.
 JOBS =
 
-.PHONY: quick gate prove wrong c rust board linux docs bench
+.PHONY: quick gate prove wrong c rust python board linux docs bench
 
 quick:
 	bench/changed --tests $(AGAINST)
@@ -34,6 +34,10 @@ c:
 rust:
 	rust/test.sh
 
+# Builds the package for Python over that library, and tests it.
+python:
+	python/test.sh
+
 # Runs the core as a board's firmware under QEMU.
 board:
 	board/run.sh
@@ -42,10 +46,10 @@ board:
 linux:
 	board/linux/run.sh
 
-# Compares the pages and licence lines with the code, each list of calls with the definitions' table, the manual's lists of checks with
-# the definitions, and its pictures with what the program draws.
+# Compares the pages and licence lines with the code, each list of calls with the definitions' table, C's names with the crates', the
+# manual's lists of checks with the definitions, and its pictures with what the program draws.
 docs:
-	tests/docs && tests/licence-lines && tests/calls && tests/manual-checks && tests/pictures
+	tests/docs && tests/licence-lines && tests/calls && tests/names && tests/manual-checks && tests/pictures
 
 # Measures the program: accesses, transactions, memory and stack, and instructions, which need valgrind.
 bench:

@@ -42,19 +42,15 @@ needs() {
     command -v rt >/dev/null || fail "there is no rt, the toolchain's command: README.md says what is needed"
 }
 
-# The core's archive for AArch64, as $to/arm.a, which may stand ready in the folder ARCHIVES: make_archive REPOSITORY. An archive that was
-# there, for another target, is there again afterwards.
+# Sets `archive` to the core's archive for AArch64: the one that stands ready in the folder ARCHIVES, or the repository's own, which is
+# made: make_archive REPOSITORY
 make_archive() {
-    if [[ -e ${ARCHIVES:-}/arm.a ]]; then
-        cp "$ARCHIVES/arm.a" "$to/arm.a"
-        return
-    fi
-    local at=$1/crates/ffa_c/out/libffa_c.a
+    local target=aarch64-unknown-linux-gnu
+    archive=${ARCHIVES:-}/$target/libgorseplumb.a
+    if [[ -e $archive ]]; then return; fi
+    archive=$1/out/$target/libgorseplumb.a
     "$1/prove" ffa_c >&2 || fail "the core isn't proved"
-    if [[ -e $at ]]; then cp -p "$at" "$to/before.a"; fi
-    (cd "$1/crates/ffa_c" && rt lib --target aarch64-unknown-linux-gnu) >"$to/log" 2>&1 || fail "the archive isn't made, rt lib ended with $?: $(cat "$to/log")"
-    mv "$at" "$to/arm.a"
-    if [[ -e $to/before.a ]]; then cp -p "$to/before.a" "$at"; fi
+    "$1/c/archive" --target $target >"$to/log" 2>&1 || fail "the archive isn't made, c/archive ended with $?: $(cat "$to/log")"
 }
 
 # A file that QEMU puts somewhere, as two of its words: loader FILE ADDRESS

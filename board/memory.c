@@ -1,5 +1,5 @@
 /* SPDX-License-Identifier: MIT OR Apache-2.0 */
-/* The memory that libffa_c.a asks of the firmware is that of c/array.c: a boot takes little, and no operation any. */
+/* The memory that libgorseplumb.a asks of the firmware is that of c/array.c: a boot takes little, and no operation any. */
 #include "board.h"
 #include "text.h"
 

@@ -64,7 +64,7 @@ build_generator() {
 }
 
 # A firmware over the core that is proved, or over one that isn't: build NAME DEFINITION.., build_over CORE NAME DEFINITION..
-build() { build_over "$to/arm.a" "$@"; }
+build() { build_over "$archive" "$@"; }
 
 build_over() {
     local core=$1 name=$2

@@ -1,5 +1,5 @@
 /* SPDX-License-Identifier: MIT OR Apache-2.0 */
-/* Links libffa_c.a with no C library: what firmware has to give beside memory (array.c) and copies of bytes (bytes.c), one boot in
+/* Links libgorseplumb.a with no C library: what firmware has to give beside memory (array.c) and copies of bytes (bytes.c), one boot in
  * pages of its own, and their return. The few lines of assembler tell Linux the result; firmware has none of them. */
 #include "gorseplumb.h"
 #include "lending.h"

@@ -1,24 +1,25 @@
 /* SPDX-License-Identifier: MIT OR Apache-2.0 */
 /* Gorseplumb from C: a partition manager core of FF-A 1.1, as a machine that does one operation at a time.
  *
- * Link libffa_c.a with it, the three functions of heap.c, which give the archive its memory (rattle_alloc,
- * rattle_realloc and rattle_dealloc, or three of your own by these names), memcpy, memmove, memset and write. Where a
- * processor walks the tables, `write` is that of settle.c, over a gorseplumb_settle of your own (below). Each function
- * here keeps the contract that stands beside its namesake in crates/ffa_c/src, and the proof reaches to there: that the
- * declarations below are those of the crate is tested, and not proved, and so is what is said of pieces of memory.
+ * Link libgorseplumb.a with it, the three functions of memory that are declared below (heap.c has them, or write your
+ * own), memcpy, memmove, memset and write. Where a processor walks the tables, `write` is that of settle.c, over a
+ * gorseplumb_settle of your own (below). Each function here keeps the contract that stands beside its namesake in
+ * crates/ffa_c/src, and the proof reaches to there: that the declarations below are those of the crate is tested, and
+ * not proved, and so is what is said of pieces of memory and of what a question doesn't write.
  *
- * Every name begins with gorseplumb_ or GORSEPLUMB_: those of the standard, as of calls and error codes, aren't used,
- * since firmware has headers with them.
+ * Every name begins with gorseplumb_ or GORSEPLUMB_, but for the three functions of memory, whose names are the
+ * toolchain's: those of the standard, as of calls and error codes, aren't used, since firmware has headers with them.
+ * An enum is 32 bits wide, as compilers make it that aren't told otherwise (-fshort-enums).
  *
  * What C owes, and nothing checks:
  *
  * - A pointer is not null, points to memory of its type that C may write, and no other parameter of the call points
- *   there. Text may be read only, and then `size` bytes of it may be read.
+ *   there. Behind a pointer to const, memory need only be readable; of a text `size` bytes may be read.
  * - A struct that holds a machine, a list or pages is { 0 } at first. C writes neither of its fields afterwards (but
  *   for those of a slot and of a span, below), and doesn't follow `at`. It may be moved by copying it, if only the copy
  *   is used from then on.
  * - One call at a time on a machine, a list, a slot or a span: no other call may be on its way with it, on no processor
- *   and in no signal or interrupt handler.
+ *   and in no signal or interrupt handler, and no two questions either.
  * - Memory that is lent is nobody else's until it is taken back: C neither reads nor writes it, through any mapping.
  */
 #ifndef GORSEPLUMB_H
@@ -47,18 +48,40 @@ struct gorseplumb_lent {
 };
 
 /* A page's memory of 4096 bytes, or none. { 0 } is none. C gives a page by writing both fields: `live`, and the address
- * in `at`. */
+ * in `at`. The library takes no alignment of it for granted, so it may begin at any byte. Where a processor walks the
+ * tables it begins at a multiple of 4096, since page i of the list has to stand at RAM's base + 4096 * i. */
 struct gorseplumb_slot {
     bool live;
     void *at;
 };
 
 /* Memory of pages that stand side by side, 4096 bytes each, or of none. { 0 } is none. C gives pages by writing both
- * fields: the address of the first, and how many there are. Where there are none, `at` isn't looked at. */
+ * fields: the address of the first, and how many there are. Where there are none, `at` isn't looked at. Alignment is as
+ * of one page. */
 struct gorseplumb_span {
     void *at;
     size_t pages;
 };
+
+/* The library's memory. The program defines these three functions, heap.c over malloc and array.c over an array, and
+ * nothing else is asked for memory. They are called within a call of the library, one at a time for each call that is
+ * on its way, and may not call the library. */
+struct gorseplumb_block {
+    bool ok;  /* whether there is memory */
+    void *at; /* where; never null, and where there is none any address that nobody follows */
+};
+
+/* A new block of at least `size` bytes, which may be 0, at a multiple of `align`, which is a power of two up to 16. It
+ * overlaps no other block that is there, and is the library's alone until it is given back. Or there is no memory. */
+struct gorseplumb_block rattle_alloc(size_t size, size_t align);
+
+/* Makes of a block that one of these two gave one of at least `size` bytes, there or elsewhere, as rattle_alloc gives
+ * one: its first `kept` bytes, which the old and the new one have, are as they were, and the old block is no more. Or
+ * there is no memory, and the old block is as it was. */
+struct gorseplumb_block rattle_realloc(void *block, size_t kept, size_t size, size_t align);
+
+/* Takes a block back that one of these two gave. */
+void rattle_dealloc(void *block);
 
 /* What has to be settled while an operation is on its way. The library writes it to a descriptor that no file has, by
  * POSIX's `write`, in one call with the size of this struct; settle.c has that function, and calls gorseplumb_settle. A
@@ -105,8 +128,8 @@ enum gorseplumb_fault {
 
 /* What an operation gives. What its kind doesn't name is zero. */
 struct gorseplumb_outcome {
-    uint32_t kind;
-    uint32_t runner;
+    uint32_t kind;   /* enum gorseplumb_kind: it says which of the others are told */
+    uint32_t runner; /* an identifier */
     uint64_t value;
     uint64_t x[8];
 };
@@ -181,20 +204,20 @@ enum gorseplumb_answer {
     GORSEPLUMB_WRONG_COUNT = 20 /* the list has more pages than the manifest's RAM, or fewer */
 };
 
-/* What gorseplumb_runner, gorseplumb_endpoints, gorseplumb_owner and gorseplumb_access answer where there is no
- * machine, and gorseplumb_owner also where there is no such page. */
+/* What a question that asks for a number answers where there is no machine, gorseplumb_owner also where there is no
+ * such page, and gorseplumb_root where there is no such endpoint. */
 #define GORSEPLUMB_NOTHING UINT32_C(0xFFFFFFFF)
 
 /* Makes the machine of a manifest's text of `size` bytes, in its first state, with RAM from the heap. GORSEPLUMB_OK:
  * there was none, the text describes a machine, and this is its first state. Else nothing has changed:
  * GORSEPLUMB_OCCUPIED, GORSEPLUMB_NO_MEMORY, or the cause for which the text is refused, which is the first in the
  * order of reading. */
-uint32_t gorseplumb_boot(struct gorseplumb_machine *machine, const uint8_t *text, size_t size);
+enum gorseplumb_answer gorseplumb_boot(struct gorseplumb_machine *machine, const uint8_t *text, size_t size);
 
 /* The same of a manifest as numbers, for which no memory is needed but the machine's own and its RAM. Refused first, in
  * this order: more endpoints than places; then for each endpoint an unknown version, more regions than places, unknown
  * rights. After that come the causes of a text, in the order in which it would be read. */
-uint32_t gorseplumb_boot_manifest(struct gorseplumb_machine *machine, const struct gorseplumb_manifest *manifest);
+enum gorseplumb_answer gorseplumb_boot_manifest(struct gorseplumb_machine *machine, const struct gorseplumb_manifest *manifest);
 
 /* The same in RAM that is lent: the pages of the list, in order. GORSEPLUMB_OK: the list is empty then, and all pages
  * behind the tables are zeros. Else nothing has changed: GORSEPLUMB_OCCUPIED, GORSEPLUMB_NO_LIST, GORSEPLUMB_NO_MEMORY,
@@ -202,17 +225,19 @@ uint32_t gorseplumb_boot_manifest(struct gorseplumb_machine *machine, const stru
  * block). The machine's memory is the list's: of numbers a boot takes none, so GORSEPLUMB_NO_MEMORY comes only where
  * the list lacks some, since it has more pages than it was begun for, or another machine that was booted in it has
  * that. While a text is read memory is taken, and given back. */
-uint32_t gorseplumb_boot_lent(struct gorseplumb_machine *machine, struct gorseplumb_lent *lent, const uint8_t *text, size_t size);
-uint32_t gorseplumb_boot_lent_manifest(struct gorseplumb_machine *machine, struct gorseplumb_lent *lent,
-                                       const struct gorseplumb_manifest *manifest);
+enum gorseplumb_answer gorseplumb_boot_lent(struct gorseplumb_machine *machine, struct gorseplumb_lent *lent, const uint8_t *text,
+                                            size_t size);
+enum gorseplumb_answer gorseplumb_boot_lent_manifest(struct gorseplumb_machine *machine, struct gorseplumb_lent *lent,
+                                                     const struct gorseplumb_manifest *manifest);
 
 /* The same, but pages of the manifest's regions keep the bytes that they are lent with: an image of a partition or of a
  * kernel that was put there is there before the first operation, and a region that nobody may write to can have any
  * bytes. All other pages behind the tables are zeros, and whatever stood where the tables are built is gone. A boot
  * that is refused changes no byte. */
-uint32_t gorseplumb_boot_held(struct gorseplumb_machine *machine, struct gorseplumb_lent *lent, const uint8_t *text, size_t size);
-uint32_t gorseplumb_boot_held_manifest(struct gorseplumb_machine *machine, struct gorseplumb_lent *lent,
-                                       const struct gorseplumb_manifest *manifest);
+enum gorseplumb_answer gorseplumb_boot_held(struct gorseplumb_machine *machine, struct gorseplumb_lent *lent, const uint8_t *text,
+                                            size_t size);
+enum gorseplumb_answer gorseplumb_boot_held_manifest(struct gorseplumb_machine *machine, struct gorseplumb_lent *lent,
+                                                     const struct gorseplumb_manifest *manifest);
 
 /* One operation of the endpoint that runs: a call with eight registers, a load of 1, 2, 4 or 8 bytes, a store of the
  * value's lowest bytes, as many as `size` says, and a fetch of one instruction. The outcome and the machine's next
@@ -257,59 +282,305 @@ struct gorseplumb_change {
  * changed; what the access is now, gorseplumb_access answers. */
 bool gorseplumb_changed(struct gorseplumb_machine *machine, struct gorseplumb_change *change);
 
-/* Questions, which change nothing. The first four answer GORSEPLUMB_NOTHING where there is no machine.
+/* Questions, which change nothing and write nothing to the machine. Those that answer a number answer GORSEPLUMB_NOTHING
+ * where there is no machine.
  *
  * The endpoint that runs, and how many there are. */
-uint32_t gorseplumb_runner(struct gorseplumb_machine *machine);
-uint32_t gorseplumb_endpoints(struct gorseplumb_machine *machine);
+uint32_t gorseplumb_runner(const struct gorseplumb_machine *machine);
+uint32_t gorseplumb_endpoints(const struct gorseplumb_machine *machine);
+
+/* The address of RAM's first byte, and how many blocks of 2 MiB RAM has. */
+uint32_t gorseplumb_ram_base(const struct gorseplumb_machine *machine);
+uint32_t gorseplumb_ram_blocks(const struct gorseplumb_machine *machine);
+
+/* The address of an endpoint's level 1 table, which VTTBR_EL2 takes while the endpoint runs. It stays the same as long
+ * as the machine is there. GORSEPLUMB_NOTHING also where a machine has no such endpoint. */
+uint32_t gorseplumb_root(const struct gorseplumb_machine *machine, uint16_t endpoint);
 
 /* Who owns a page, which counts from RAM's first: an endpoint, or 0x8000, which is the manager. GORSEPLUMB_NOTHING:
  * there is no machine, or a machine without such a page; the answer doesn't tell which. */
-uint32_t gorseplumb_owner(struct gorseplumb_machine *machine, uint32_t page);
+uint32_t gorseplumb_owner(const struct gorseplumb_machine *machine, uint32_t page);
 
 /* What an endpoint may do with a page: 0 is nothing, 1 to read, 3 to write too, and 4 more to execute. It is 0 where a
  * machine has no such endpoint or page. */
-uint32_t gorseplumb_access(struct gorseplumb_machine *machine, uint16_t endpoint, uint32_t page);
+uint32_t gorseplumb_access(const struct gorseplumb_machine *machine, uint16_t endpoint, uint32_t page);
+
+/* By what an endpoint has its access to a page. */
+enum gorseplumb_grant_kind {
+    GORSEPLUMB_GRANT_NONE = 0,   /* it has none */
+    GORSEPLUMB_GRANT_OWN = 1,    /* the page is its own, and no open transaction names it */
+    GORSEPLUMB_GRANT_SHARED = 2, /* the page is its own, and it shares it by the open transaction `handle` */
+    GORSEPLUMB_GRANT_HELD = 3    /* it holds the open transaction `handle`, which names the page */
+};
+
+struct gorseplumb_grant {
+    uint32_t kind;   /* enum gorseplumb_grant_kind */
+    uint64_t handle; /* 0 where the kind names none */
+};
+
+/* It is GORSEPLUMB_GRANT_NONE just where gorseplumb_access answers 0 or GORSEPLUMB_NOTHING. */
+struct gorseplumb_grant gorseplumb_granted(const struct gorseplumb_machine *machine, uint16_t endpoint, uint32_t page);
+
+/* A run of a machine's certificate: the longest run of pages from its first on that have one owner, one open
+ * transaction or none, and one access of each endpoint. */
+struct gorseplumb_cert_run {
+    uint32_t first;      /* pages count from RAM's first */
+    uint32_t last;
+    uint32_t owner;      /* 0x8000 is the manager */
+    uint32_t has_handle; /* 1 where the pages stand in the open transaction `handle`; else 0, and `handle` is 0 */
+    uint64_t handle;
+    uint32_t access[GORSEPLUMB_MOST_ENDPOINTS]; /* by the endpoints' places in the manifest, as gorseplumb_access answers; 0 behind the last */
+};
+
+/* The run from a page on: true. False: there is no machine, or a machine without such a page, and `run` stays. The runs
+ * from page 0 on, each from behind the last of the one before, are the machine's certificate. */
+bool gorseplumb_cert_run(const struct gorseplumb_machine *machine, uint32_t page, struct gorseplumb_cert_run *run);
 
 /* Whether an endpoint has a notification pending, which its next FFA_NOTIFICATION_GET of all classes would give it:
  * what its processor's interrupt is to be sent for, without a look at each call. False: there is none, no such
  * endpoint, or no machine. */
-bool gorseplumb_pending(struct gorseplumb_machine *machine, uint16_t endpoint);
+bool gorseplumb_pending(const struct gorseplumb_machine *machine, uint16_t endpoint);
 
 /* Copies the bytes of a page of RAM: true. False: there is no machine, or a machine without such a page, which the
  * answer doesn't tell apart, and `bytes` stays. */
-bool gorseplumb_read_page(struct gorseplumb_machine *machine, uint32_t page, struct gorseplumb_page *bytes);
+bool gorseplumb_read_page(const struct gorseplumb_machine *machine, uint32_t page, struct gorseplumb_page *bytes);
+
+/* The checks of the calls, each with what it finds where it fails, as gorseplumb_check_name says it. Calls that check
+ * the same share it; gorseplumb_check_number gives the number of a check in the list of a call. */
+enum gorseplumb_check {
+    GORSEPLUMB_CHECK_FUNCTION_UNKNOWN = 1, /* no such function is served */
+    GORSEPLUMB_CHECK_BUFFERS_MISSING = 2, /* the caller has no RX and TX */
+    GORSEPLUMB_CHECK_FLAGS_RESERVED = 3, /* a flag is set that has to be 0 */
+    GORSEPLUMB_CHECK_SENDER_IS_ANOTHER = 4, /* the sender is not the caller */
+    GORSEPLUMB_CHECK_RECEIVER_IS_ANOTHER = 5, /* the receiver is not the caller */
+    GORSEPLUMB_CHECK_RECEIVER_UNKNOWN = 6, /* no endpoint has the receiver's identifier */
+    GORSEPLUMB_CHECK_RECEIVER_IS_CALLER = 7, /* the receiver is the caller */
+    GORSEPLUMB_CHECK_NOT_NORMAL_WORLD = 8, /* the caller is not the normal world */
+    GORSEPLUMB_CHECK_CONTEXT_UNKNOWN = 9, /* the execution context is not 0 */
+    GORSEPLUMB_CHECK_RX_FULL = 10, /* the caller's RX is full */
+    GORSEPLUMB_CHECK_UUID_UNKNOWN = 11, /* no partition has the UUID */
+    GORSEPLUMB_CHECK_BUFFERS_MAPPED = 12, /* the caller has RX and TX already */
+    GORSEPLUMB_CHECK_BUFFER_PAGE_COUNT = 13, /* a buffer has no page, or more than it may have */
+    GORSEPLUMB_CHECK_TX_MISPLACED = 14, /* TX does not begin at a page and lie in RAM */
+    GORSEPLUMB_CHECK_RX_MISPLACED = 15, /* RX does not begin at a page and lie in RAM */
+    GORSEPLUMB_CHECK_BUFFERS_OVERLAP = 16, /* RX and TX have a page in common */
+    GORSEPLUMB_CHECK_TX_UNUSABLE = 17, /* a page of TX is not the caller's own to read and write, or is in an open transaction */
+    GORSEPLUMB_CHECK_RX_UNUSABLE = 18, /* a page of RX is not the caller's own to read and write, or is in an open transaction */
+    GORSEPLUMB_CHECK_ENDPOINT_NOT_ZERO = 19, /* the endpoint is not 0 */
+    GORSEPLUMB_CHECK_RX_EMPTY = 20, /* the caller has no RX and TX, or its RX is not full */
+    GORSEPLUMB_CHECK_RECEIVER_IS_NORMAL_WORLD = 21, /* the receiver is the normal world */
+    GORSEPLUMB_CHECK_REQUESTS_UNSENT = 22, /* the caller does not send direct requests */
+    GORSEPLUMB_CHECK_REQUESTS_UNRECEIVED = 23, /* the receiver does not receive direct requests */
+    GORSEPLUMB_CHECK_RECEIVER_NOT_WAITING = 24, /* the receiver does not wait */
+    GORSEPLUMB_CHECK_NO_REQUEST = 25, /* the caller works on no direct request */
+    GORSEPLUMB_CHECK_ANSWER_MISDIRECTED = 26, /* the response is not from the caller to the endpoint that asked */
+    GORSEPLUMB_CHECK_TARGET_UNKNOWN = 27, /* no partition has the target's identifier */
+    GORSEPLUMB_CHECK_TARGET_NOT_READY = 28, /* the target neither waits nor has yielded */
+    GORSEPLUMB_CHECK_NOT_RUN = 29, /* the caller does not run by cycles of the normal world */
+    GORSEPLUMB_CHECK_NOBODY_TO_YIELD_TO = 30, /* the caller works for nobody to whom it may yield */
+    GORSEPLUMB_CHECK_HEADER_RESERVED = 31, /* a reserved field of the header is not 0 */
+    GORSEPLUMB_CHECK_MESSAGE_IN_HEADER = 32, /* the message begins inside its header */
+    GORSEPLUMB_CHECK_MESSAGE_EMPTY = 33, /* the message has no byte */
+    GORSEPLUMB_CHECK_MESSAGE_TOO_LONG = 34, /* the message does not end inside TX */
+    GORSEPLUMB_CHECK_MESSAGES_UNSENT = 35, /* the caller does not send indirect messages */
+    GORSEPLUMB_CHECK_MESSAGES_UNRECEIVED = 36, /* the receiver does not receive indirect messages */
+    GORSEPLUMB_CHECK_RECEIVER_BUFFERS_MISSING = 37, /* the receiver has no RX and TX */
+    GORSEPLUMB_CHECK_RECEIVER_RX_FULL = 38, /* the receiver's RX is full */
+    GORSEPLUMB_CHECK_RECEIVER_RX_SMALL = 39, /* the message with its header is longer than the receiver's RX */
+    GORSEPLUMB_CHECK_ENDPOINT_NOT_NORMAL_WORLD = 40, /* the endpoint is not the normal world */
+    GORSEPLUMB_CHECK_CONTEXT_COUNT = 41, /* the count of execution contexts is not 1 */
+    GORSEPLUMB_CHECK_BITMAPS_EXIST = 42, /* the normal world has bitmaps already */
+    GORSEPLUMB_CHECK_BITMAPS_MISSING = 43, /* the endpoint has no bitmaps */
+    GORSEPLUMB_CHECK_BITS_PENDING = 44, /* a bit of the normal world is pending */
+    GORSEPLUMB_CHECK_SENDER_UNKNOWN = 45, /* no endpoint has the sender's identifier */
+    GORSEPLUMB_CHECK_SENDER_IS_CALLER = 46, /* the sender is the caller */
+    GORSEPLUMB_CHECK_BITS_NONE = 47, /* no bit is named */
+    GORSEPLUMB_CHECK_BITS_TAKEN = 48, /* another sender has one of the bits, or one is pending */
+    GORSEPLUMB_CHECK_BITS_NOT_THE_SENDERS = 49, /* one of the bits is not the sender's, or is pending */
+    GORSEPLUMB_CHECK_BITS_NOT_THE_CALLERS = 50, /* one of the bits is not the caller's */
+    GORSEPLUMB_CHECK_CLASSES_UNKNOWN = 51, /* the flags ask for a class that is none of the four */
+    GORSEPLUMB_CHECK_FRAGMENTED = 52, /* the fragment is not the whole descriptor */
+    GORSEPLUMB_CHECK_DESCRIPTOR_TOO_LONG = 53, /* the descriptor is longer than TX */
+    GORSEPLUMB_CHECK_BUFFER_ADDRESS_GIVEN = 54, /* the address of a buffer is given, and there is TX alone */
+    GORSEPLUMB_CHECK_BUFFER_PAGES_GIVEN = 55, /* the pages of a buffer are counted, and there is TX alone */
+    GORSEPLUMB_CHECK_DESCRIPTOR_MALFORMED = 56, /* the bytes in TX are no descriptor of this call */
+    GORSEPLUMB_CHECK_RANGE_OUTSIDE = 57, /* a range does not lie in RAM */
+    GORSEPLUMB_CHECK_PAGE_UNSENDABLE = 58, /* a page is not the caller's own, or is in an open transaction or a buffer */
+    GORSEPLUMB_CHECK_GRANT_TOO_MUCH = 59, /* a grant is more than the owner's right to a page */
+    GORSEPLUMB_CHECK_ZEROS_UNWRITABLE = 60, /* zeros are asked of a page that its owner may not write to */
+    GORSEPLUMB_CHECK_TRANSACTIONS_FULL = 61, /* the caller has as many open transactions as it may have */
+    GORSEPLUMB_CHECK_HANDLES_USED_UP = 62, /* the caller has used up its handles */
+    GORSEPLUMB_CHECK_HANDLE_UNKNOWN = 63, /* no open transaction has the handle */
+    GORSEPLUMB_CHECK_NOT_RECEIVER = 64, /* the caller is no receiver of the transaction */
+    GORSEPLUMB_CHECK_TRANSACTION_SENDER_DIFFERS = 65, /* the sender is not that of the transaction */
+    GORSEPLUMB_CHECK_TAG_DIFFERS = 66, /* the tag is not that of the transaction */
+    GORSEPLUMB_CHECK_KIND_DIFFERS = 67, /* the kind is not that of the transaction */
+    GORSEPLUMB_CHECK_ALREADY_RETRIEVED = 68, /* the caller holds the transaction already */
+    GORSEPLUMB_CHECK_RIGHT_TOO_MUCH = 69, /* the right that is asked for is more than the caller may get */
+    GORSEPLUMB_CHECK_ENDPOINT_IS_ANOTHER = 70, /* the endpoint of the descriptor is not the caller */
+    GORSEPLUMB_CHECK_NOT_OFFERED = 71, /* no open transaction with the handle has the caller among its receivers */
+    GORSEPLUMB_CHECK_NOT_HELD = 72, /* the caller does not hold the transaction */
+    GORSEPLUMB_CHECK_ZEROS_NOT_ALLOWED = 73, /* zeros are asked of memory that is not lent to the caller to write to */
+    GORSEPLUMB_CHECK_NOT_THE_SENDERS = 74, /* no open transaction of the caller has the handle */
+    GORSEPLUMB_CHECK_STILL_HELD = 75 /* a receiver holds the transaction */
+};
+
+/* The conditions of a descriptor, as gorseplumb_flaw_name says them. Those of a retrieve stand behind those of a header,
+ * which it shares with a send. */
+enum gorseplumb_flaw {
+    GORSEPLUMB_FLAW_HEADER_SHORT = 1, /* the descriptor is shorter than its header */
+    GORSEPLUMB_FLAW_HEADER_ACCESS_SIZE = 2, /* the size of an access descriptor is not told as 16, or as 0 in the compact form */
+    GORSEPLUMB_FLAW_HEADER_ARRAY_UNALIGNED = 3, /* the access descriptors do not begin at a multiple of 16 */
+    GORSEPLUMB_FLAW_HEADER_ARRAY_IN_HEADER = 4, /* the access descriptors begin inside the header */
+    GORSEPLUMB_FLAW_HEADER_ARRAY_OUTSIDE = 5, /* the access descriptors do not end inside the descriptor */
+    GORSEPLUMB_FLAW_HEADER_RESERVED = 6, /* reserved bytes at the header's end are not 0 */
+    GORSEPLUMB_FLAW_SEND_ATTRIBUTES = 7, /* the memory attributes are not those of this call to so many receivers */
+    GORSEPLUMB_FLAW_SEND_FLAGS = 8, /* a flag is set that this call does not have */
+    GORSEPLUMB_FLAW_SEND_HANDLE = 9, /* the handle is not 0 */
+    GORSEPLUMB_FLAW_SEND_NO_RECEIVER = 10, /* there is no receiver */
+    GORSEPLUMB_FLAW_SEND_MANY_RECEIVERS = 11, /* there are more receivers than this call may have */
+    GORSEPLUMB_FLAW_ACCESS_PERMISSIONS = 12, /* the permissions are none that this call may grant */
+    GORSEPLUMB_FLAW_ACCESS_FLAGS = 13, /* the flags are not 0 */
+    GORSEPLUMB_FLAW_ACCESS_OTHER_COMPOSITE = 14, /* it tells another composite than the first one does */
+    GORSEPLUMB_FLAW_ACCESS_RESERVED = 15, /* its reserved bytes are not 0 */
+    GORSEPLUMB_FLAW_ACCESS_RECEIVER_IS_SENDER = 16, /* it names the sender */
+    GORSEPLUMB_FLAW_ACCESS_RECEIVER_TWICE = 17, /* it names a receiver that an earlier one names */
+    GORSEPLUMB_FLAW_COMPOSITE_OUTSIDE = 18, /* the composite without its ranges does not end inside the descriptor */
+    GORSEPLUMB_FLAW_COMPOSITE_UNALIGNED = 19, /* the composite does not begin at a multiple of 16 */
+    GORSEPLUMB_FLAW_COMPOSITE_IN_ARRAY = 20, /* the composite begins before the access descriptors end */
+    GORSEPLUMB_FLAW_COMPOSITE_NO_RANGE = 21, /* the composite has no range */
+    GORSEPLUMB_FLAW_COMPOSITE_MANY_RANGES = 22, /* the composite has more ranges than a transaction may have */
+    GORSEPLUMB_FLAW_COMPOSITE_RESERVED = 23, /* the composite's reserved bytes are not 0 */
+    GORSEPLUMB_FLAW_COMPOSITE_RANGES_OUTSIDE = 24, /* the ranges do not end inside the descriptor */
+    GORSEPLUMB_FLAW_COMPOSITE_TOTAL = 25, /* the composite's count of pages is not the sum of its ranges' */
+    GORSEPLUMB_FLAW_RANGE_EMPTY = 26, /* it has no page */
+    GORSEPLUMB_FLAW_RANGE_UNALIGNED = 27, /* it begins inside a page */
+    GORSEPLUMB_FLAW_RANGE_TOO_HIGH = 28, /* it ends above 2^48 */
+    GORSEPLUMB_FLAW_RANGE_RESERVED = 29, /* its reserved bytes are not 0 */
+    GORSEPLUMB_FLAW_RANGE_OVERLAP = 30, /* it has a page of an earlier one */
+    GORSEPLUMB_FLAW_RETRIEVE_ATTRIBUTES = 31, /* the memory attributes are neither 0 nor those of normal memory */
+    GORSEPLUMB_FLAW_RETRIEVE_FLAGS = 32, /* a flag is set beside the transaction type */
+    GORSEPLUMB_FLAW_RETRIEVE_ACCESS_COUNT = 33, /* the count of access descriptors is not 1 */
+    GORSEPLUMB_FLAW_RETRIEVE_RECEIVER_IS_ANOTHER = 34, /* the access descriptor does not name the caller */
+    GORSEPLUMB_FLAW_RETRIEVE_DATA_PERMISSION = 35, /* the data permission is reserved */
+    GORSEPLUMB_FLAW_RETRIEVE_INSTRUCTION_PERMISSION = 36, /* the instruction permission is reserved */
+    GORSEPLUMB_FLAW_RETRIEVE_PERMISSIONS_RESERVED = 37, /* reserved bits of the permissions are not 0 */
+    GORSEPLUMB_FLAW_RETRIEVE_ACCESS_FLAGS = 38, /* the flags of the access descriptor are not 0 */
+    GORSEPLUMB_FLAW_RETRIEVE_COMPOSITE_TOLD = 39, /* a composite is told */
+    GORSEPLUMB_FLAW_RETRIEVE_ACCESS_RESERVED = 40, /* reserved bytes of the access descriptor are not 0 */
+    GORSEPLUMB_FLAW_RELINQUISH_SHORT = 41, /* the descriptor is shorter than 18 bytes */
+    GORSEPLUMB_FLAW_RELINQUISH_FLAGS = 42, /* a flag other than bit 0 is set */
+    GORSEPLUMB_FLAW_RELINQUISH_ENDPOINT_COUNT = 43 /* the count of endpoints is not 1 */
+};
+
+/* What a check that fails is about. */
+enum gorseplumb_about {
+    GORSEPLUMB_ABOUT_NOTHING = 0,  /* nothing more is told */
+    GORSEPLUMB_ABOUT_PAGE = 1,     /* `page`, the first that fails it, and `obstacle` */
+    GORSEPLUMB_ABOUT_ENDPOINT = 2, /* `endpoint`, which the call names */
+    GORSEPLUMB_ABOUT_HANDLE = 3,   /* `handle` of a transaction */
+    GORSEPLUMB_ABOUT_REGISTER = 4, /* the register `number`, which has `value` */
+    GORSEPLUMB_ABOUT_BIT = 5,      /* bit `number` of notifications */
+    GORSEPLUMB_ABOUT_FIELD = 6     /* the field of a descriptor that breaks `flaw`: `size` bytes from `first` on, which have `value` */
+};
+
+/* What stands in the way at an address that the runner's tables don't map, or at a page. */
+enum gorseplumb_obstacle {
+    GORSEPLUMB_OBSTACLE_NONE = 0,          /* nothing is told: also of an address from 100000000 on */
+    GORSEPLUMB_OBSTACLE_OUTSIDE_RAM = 1,   /* it is not in RAM */
+    GORSEPLUMB_OBSTACLE_MANAGERS_PAGE = 2, /* the page is the manager's */
+    GORSEPLUMB_OBSTACLE_OWNED_BY = 3,      /* the page is the endpoint's that `owner` names */
+    GORSEPLUMB_OBSTACLE_IN_TRANSACTION = 4 /* the page stands in the open transaction with the handle `transaction` */
+};
+
+/* Why an operation is refused. A call has a `check`, and an access a `fault`. What the tags don't name is zero, and no
+ * byte lies between the fields. */
+struct gorseplumb_reason {
+    uint32_t fault;       /* of an access: an enum gorseplumb_fault */
+    uint32_t check;       /* of a call: an enum gorseplumb_check */
+    int32_t error;        /* of a call: the code that FFA_ERROR has in w2, as a signed number */
+    uint32_t about;       /* of a call: an enum gorseplumb_about */
+    uint32_t obstacle;    /* of an access, or with GORSEPLUMB_ABOUT_PAGE: an enum gorseplumb_obstacle */
+    uint32_t page;        /* GORSEPLUMB_ABOUT_PAGE: counted from RAM's first */
+    uint32_t endpoint;    /* GORSEPLUMB_ABOUT_ENDPOINT: its identifier */
+    uint32_t owner;       /* GORSEPLUMB_OBSTACLE_OWNED_BY: its identifier */
+    uint32_t number;      /* GORSEPLUMB_ABOUT_REGISTER and GORSEPLUMB_ABOUT_BIT: which */
+    uint32_t flaw;        /* GORSEPLUMB_ABOUT_FIELD: an enum gorseplumb_flaw */
+    uint32_t index;       /* GORSEPLUMB_ABOUT_FIELD, of an access descriptor or a range: which, counted from 0 */
+    uint32_t has_value;   /* 1 with GORSEPLUMB_ABOUT_REGISTER, and where the field has 1, 2, 4 or 8 bytes that are all there */
+    uint64_t handle;      /* GORSEPLUMB_ABOUT_HANDLE */
+    uint64_t transaction; /* GORSEPLUMB_OBSTACLE_IN_TRANSACTION */
+    uint64_t value;       /* where has_value is 1 */
+    uint64_t first;       /* GORSEPLUMB_ABOUT_FIELD: the place of its first byte in the descriptor, counted from 0 */
+    uint64_t size;        /* GORSEPLUMB_ABOUT_FIELD: how many bytes it has */
+};
+
+/* Why an operation of the endpoint that runs would be refused now, or was refused just before, since a refused operation
+ * changes nothing: true, and `reason` says it. False: it would be done, or there is no machine, or the size is none of
+ * 1, 2, 4 and 8; `reason` stays. These are questions too: nothing else changes. */
+bool gorseplumb_why_call(const struct gorseplumb_machine *machine, const struct gorseplumb_registers *registers,
+                         struct gorseplumb_reason *reason);
+bool gorseplumb_why_load(const struct gorseplumb_machine *machine, uint64_t address, uint32_t size,
+                         struct gorseplumb_reason *reason);
+bool gorseplumb_why_store(const struct gorseplumb_machine *machine, uint64_t address, uint32_t size,
+                          struct gorseplumb_reason *reason);
+bool gorseplumb_why_fetch(const struct gorseplumb_machine *machine, uint64_t address, struct gorseplumb_reason *reason);
+
+/* Names as text, as the program prints them (docs/COMMANDS.md); never null, and "" where there is none. They take no
+ * machine and no memory, and a linker leaves out those that nobody asks for: names.c has them.
+ *
+ * The name of a call in the standard, by the function identifier in w0 in either form: "FFA_RUN". */
+const char *gorseplumb_call_name(uint32_t function);
+
+/* The name of an error code in the standard, by its number: "DENIED" of -6. */
+const char *gorseplumb_error_name(int32_t error);
+
+/* What a check finds where it fails: an enum gorseplumb_check. And its number in the list of a call, counted from 1, as
+ * the manual has it (docs/CALLS.md, docs/MEMORY.md); 0 where it is none of the call's. */
+const char *gorseplumb_check_name(uint32_t check);
+uint32_t gorseplumb_check_number(uint32_t function, uint32_t check);
+
+/* What is wrong with a descriptor: an enum gorseplumb_flaw. Of an access descriptor and of a range it goes on from the
+ * index. */
+const char *gorseplumb_flaw_name(uint32_t flaw);
+
+/* "translation" and the like: an enum gorseplumb_fault. */
+const char *gorseplumb_fault_name(uint32_t fault);
+
+/* What a boot or a function of lists answers: an enum gorseplumb_answer. The causes of a manifest are named as the
+ * program names them, "M6 RamBase" and the like. */
+const char *gorseplumb_answer_name(uint32_t answer);
 
 /* Ends the machine. RAM of the heap goes back to the heap, and `lent` stays as it is (it may be { 0 }). RAM that was
  * lent goes whole to `lent`, an empty list: every page, in order, with the bytes that it has; and so does the machine's
  * memory, so the next boot in the list takes none. GORSEPLUMB_OK: there is no machine any more. Else nothing has
  * changed: GORSEPLUMB_NO_MACHINE, and where RAM was lent GORSEPLUMB_NO_LIST or GORSEPLUMB_HAS_PAGES. */
-uint32_t gorseplumb_free(struct gorseplumb_machine *machine, struct gorseplumb_lent *lent);
+enum gorseplumb_answer gorseplumb_free(struct gorseplumb_machine *machine, struct gorseplumb_lent *lent);
 
 /* Makes an empty list with room for so many pages, in seven pieces of memory: the list, its pages' addresses, and of
  * the machine that is booted in it its place, its records, four bytes for each page, 78 KiB of slots for open
  * transactions and 16 KiB for copies of a TX. GORSEPLUMB_OCCUPIED where there is a list; else GORSEPLUMB_OK or
  * GORSEPLUMB_NO_MEMORY. Where it isn't GORSEPLUMB_OK nothing has changed. It takes some 13 KiB of stack, as LLVM
  * compiles it for x86-64, a boot 20 and an operation 6. */
-uint32_t gorseplumb_begin_lending(struct gorseplumb_lent *lent, uint32_t pages);
+enum gorseplumb_answer gorseplumb_begin_lending(struct gorseplumb_lent *lent, uint32_t pages);
 
 /* Moves a page from its slot to the end of the list, and leaves the slot empty. GORSEPLUMB_NO_LIST where there is no
  * list; else GORSEPLUMB_NO_PAGE where there is no page in the slot; else GORSEPLUMB_OK or GORSEPLUMB_NO_MEMORY, which
  * comes only where the list has as many pages as it has room for: so many as gorseplumb_begin_lending was told have
  * room, until a boot takes the list's pages. Where it isn't GORSEPLUMB_OK list and slot have the pages that they
  * had. */
-uint32_t gorseplumb_lend(struct gorseplumb_lent *lent, struct gorseplumb_slot *slot);
+enum gorseplumb_answer gorseplumb_lend(struct gorseplumb_lent *lent, struct gorseplumb_slot *slot);
 
 /* Moves all pages of a span to the end of the list, in order, and leaves the span empty; they come back one by one.
  * GORSEPLUMB_NO_LIST where there is no list; else GORSEPLUMB_NO_PAGE where the span has no pages; else GORSEPLUMB_OK or
  * GORSEPLUMB_NO_MEMORY, which comes only where the list has no room for all of them. Where it isn't GORSEPLUMB_OK
  * nothing has changed. */
-uint32_t gorseplumb_lend_span(struct gorseplumb_lent *lent, struct gorseplumb_span *span);
+enum gorseplumb_answer gorseplumb_lend_span(struct gorseplumb_lent *lent, struct gorseplumb_span *span);
 
 /* Moves the list's last page to an empty slot. GORSEPLUMB_NO_LIST where there is no list; else GORSEPLUMB_OCCUPIED
  * where there is a page in the slot; else GORSEPLUMB_NO_PAGE where the list has none; else GORSEPLUMB_OK. Where it
  * isn't GORSEPLUMB_OK nothing has changed. */
-uint32_t gorseplumb_take_back(struct gorseplumb_lent *lent, struct gorseplumb_slot *slot);
+enum gorseplumb_answer gorseplumb_take_back(struct gorseplumb_lent *lent, struct gorseplumb_slot *slot);
 
 /* The number of pages in the list; 0 where there is no list. */
 uint64_t gorseplumb_lent_pages(struct gorseplumb_lent *lent);
@@ -317,7 +588,7 @@ uint64_t gorseplumb_lent_pages(struct gorseplumb_lent *lent);
 /* Ends an empty list, and gives all memory back that it has; there is none then. GORSEPLUMB_NO_LIST where there is no
  * list; else GORSEPLUMB_HAS_PAGES where it has pages; else GORSEPLUMB_OK. Where it isn't GORSEPLUMB_OK nothing has
  * changed. */
-uint32_t gorseplumb_end_lending(struct gorseplumb_lent *lent);
+enum gorseplumb_answer gorseplumb_end_lending(struct gorseplumb_lent *lent);
 
 #ifdef __cplusplus
 }

@@ -1,29 +1,19 @@
 /* SPDX-License-Identifier: MIT OR Apache-2.0 */
-/* The memory of libffa_c.a: the three functions that it asks of the program, here over the C library's heap. Firmware puts
- * its own in their place. A block is aligned to 16, and `p` is never null, even where there is no memory. */
-#include <stdbool.h>
-#include <stddef.h>
+/* The memory of libgorseplumb.a over the C library's heap: the three functions that gorseplumb.h declares. Firmware puts its
+ * own in their place. */
 #include <stdlib.h>
+#include "gorseplumb.h"
 
-struct tried {
-    bool ok;
-    void *p;
-};
-
-struct tried rattle_alloc(size_t size, size_t align);
-struct tried rattle_realloc(void *block, size_t kept, size_t size, size_t align);
-void rattle_dealloc(void *block);
-
-static struct tried tried(void *block) {
+static struct gorseplumb_block block_at(void *at) {
     static char nothing;
-    return (struct tried){block != NULL, block != NULL ? block : &nothing};
+    return (struct gorseplumb_block){at != NULL, at != NULL ? at : &nothing};
 }
 
-struct tried rattle_alloc(size_t size, size_t align) { return tried(malloc(size != 0 ? size : align)); }
+struct gorseplumb_block rattle_alloc(size_t size, size_t align) { return block_at(malloc(size != 0 ? size : align)); }
 
-struct tried rattle_realloc(void *block, size_t kept, size_t size, size_t align) {
+struct gorseplumb_block rattle_realloc(void *block, size_t kept, size_t size, size_t align) {
     (void)kept;
-    return tried(realloc(block, size != 0 ? size : align));
+    return block_at(realloc(block, size != 0 ? size : align));
 }
 
 void rattle_dealloc(void *block) { free(block); }

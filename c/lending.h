@@ -7,9 +7,9 @@
 #include "gorseplumb.h"
 
 /* Makes a list of these pages. Where the answer isn't GORSEPLUMB_OK nothing has changed. */
-static inline uint32_t gorseplumb_lend_all(struct gorseplumb_lent *lent, struct gorseplumb_page *pages, uint32_t count) {
+static inline enum gorseplumb_answer gorseplumb_lend_all(struct gorseplumb_lent *lent, struct gorseplumb_page *pages, uint32_t count) {
     struct gorseplumb_span span = {pages, count};
-    uint32_t answer = gorseplumb_begin_lending(lent, count);
+    enum gorseplumb_answer answer = gorseplumb_begin_lending(lent, count);
     return answer == GORSEPLUMB_OK && count != 0 ? gorseplumb_lend_span(lent, &span) : answer;
 }
 

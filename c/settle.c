@@ -1,5 +1,5 @@
 /* SPDX-License-Identifier: MIT OR Apache-2.0 */
-/* The function by which libffa_c.a has firmware settle what it wrote, where firmware has no `write` of its own. One that has
+/* The function by which libgorseplumb.a has firmware settle what it wrote, where firmware has no `write` of its own. One that has
  * one does the same there for this descriptor. */
 #include <stddef.h>
 #include <stdint.h>

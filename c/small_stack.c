@@ -168,6 +168,19 @@ static void operate(void) {
     load(0x40010000, 0x2A);
 }
 
+/* Behind `operate` the descriptor of its lend stands in TX still: in 16 bytes less its range doesn't end there. */
+static void explain(void) {
+    static struct gorseplumb_reason reason;
+    struct gorseplumb_registers shorter = {{FFA_MEM_LEND, 0x50, 0x50}}, again = {{FFA_MEM_RECLAIM, 1}};
+    check(gorseplumb_why_call(&machine, &shorter, &reason), "a shorter lend would be done");
+    check(reason.flaw == GORSEPLUMB_FLAW_COMPOSITE_RANGES_OUTSIDE, "it has another flaw");
+    check(gorseplumb_why_call(&machine, &again, &reason), "a second reclaim would be done");
+    check(reason.check == GORSEPLUMB_CHECK_NOT_THE_SENDERS, "it fails another check");
+    check(gorseplumb_why_load(&machine, 0x40030000, 8, &reason), "a load would be done");
+    check(reason.owner == 0x8002, "its page has another owner");
+    check(!gorseplumb_why_store(&machine, 0x40010000, 8, &reason), "a store would be refused");
+}
+
 /* Runs a part on the painted stack, and prints what it took. */
 static void take(const char *name, void (*part)(void)) {
     const unsigned char *lowest = painted.below, *top = painted.stack + STACK_BYTES;
@@ -186,11 +199,13 @@ ENTRY void _start(void) {
     take(" lending ", lend_pages);
     take(", boot ", boot_lent);
     take(", operations ", operate);
+    take(", reasons ", explain);
     take(", end ", end);
     take(", return ", take_pages_back);
     put(1, "; on RAM of the heap:");
     take(" boot ", boot_heap);
     take(", operations ", operate);
+    take(", reasons ", explain);
     take(", end ", end);
     put(1, "\n");
     if (wrong != NULL) {

@@ -9,39 +9,33 @@
 #include "lending.h"
 #include "machine.toml.h"
 
+/* Functions answer a number of 32 bits. */
+_Static_assert(sizeof(enum gorseplumb_answer) == sizeof(uint32_t), "an enum is 32 bits wide");
+
 static struct gorseplumb_machine machine;
 
 /* The library's memory: counts the pieces that it has, and refuses the one of a number. */
-struct tried {
-    bool ok;
-    void *p;
-};
-
 static size_t pieces, asked, refused;
 
 /* Of a list: its own, its pages' addresses, copies of TX, and of the machine its place, its records, owners of pages and transactions. */
 enum { LIST_PIECES = 7 };
 
-static struct tried tried(void *block) {
+static struct gorseplumb_block block_at(void *at) {
     static char nothing;
-    return (struct tried){block != NULL, block != NULL ? block : &nothing};
+    return (struct gorseplumb_block){at != NULL, at != NULL ? at : &nothing};
 }
 
-struct tried rattle_alloc(size_t size, size_t align);
-struct tried rattle_realloc(void *block, size_t kept, size_t size, size_t align);
-void rattle_dealloc(void *block);
-
-struct tried rattle_alloc(size_t size, size_t align) {
-    if (++asked == refused) return tried(NULL);
-    struct tried got = tried(malloc(size != 0 ? size : align));
+struct gorseplumb_block rattle_alloc(size_t size, size_t align) {
+    if (++asked == refused) return block_at(NULL);
+    struct gorseplumb_block got = block_at(malloc(size != 0 ? size : align));
     pieces += got.ok;
     return got;
 }
 
-struct tried rattle_realloc(void *block, size_t kept, size_t size, size_t align) {
+struct gorseplumb_block rattle_realloc(void *block, size_t kept, size_t size, size_t align) {
     (void)kept;
-    if (++asked == refused) return tried(NULL);
-    return tried(realloc(block, size != 0 ? size : align));
+    if (++asked == refused) return block_at(NULL);
+    return block_at(realloc(block, size != 0 ? size : align));
 }
 
 void rattle_dealloc(void *block) {
@@ -428,6 +422,18 @@ static void in_two_spans(void) {
     CHECK(pages[256 + 16].bytes[0] == 0x2A && gorseplumb_end_lending(&list) == GORSEPLUMB_OK && pieces == 0);
 }
 
+/* Pages may begin at any byte. */
+static void at_odd_addresses(void) {
+    static unsigned char memory[513 * GORSEPLUMB_PAGE_SIZE];
+    struct gorseplumb_page *odd = (struct gorseplumb_page *)&memory[1];
+    CHECK(gorseplumb_lend_all(&list, odd, 512) == GORSEPLUMB_OK &&
+          gorseplumb_boot_lent(&machine, &list, text, text_size) == GORSEPLUMB_OK);
+    first_row();
+    lend();
+    CHECK(memory[1 + 16 * GORSEPLUMB_PAGE_SIZE] == 0x2A && memory[1 + 33 * GORSEPLUMB_PAGE_SIZE] == 0x5A);
+    CHECK(gorseplumb_free(&machine, &list) == GORSEPLUMB_OK && gorseplumb_take_all_back(&list, odd, 512) && pieces == 0);
+}
+
 static void lent_machine(void) {
     struct gorseplumb_manifest manifest = row_manifest();
     memset(pages, 0xA5, sizeof pages);
@@ -669,6 +675,7 @@ int main(void) {
     spans();
     numbers();
     lent_machine();
+    at_odd_addresses();
     held_machine();
     two_machines();
     refusals();

@@ -1,9 +1,10 @@
 #!/usr/bin/env bash
 # SPDX-License-Identifier: MIT OR Apache-2.0
-# Builds the C library and what stands in this folder over it, with every warning an error, and runs it: the test under
-# sanitizers and valgrind, that of copies of bytes, the example, the traces of examples/ through the border beside the program, and
-# links with no C library, of which one runs on a stack of 64 KiB; for AArch64 too, where there are a compiler and an emulator for it.
-# With --install it first installs Debian's packages for that.
+# Builds the C library and what stands in this folder over it, with every warning an error, and runs it: the tests under
+# sanitizers and valgrind and over a shared library, that of copies of bytes, the example, the traces of examples/
+# through the border beside the program, and links with no C library, of which one runs on a stack of 64 KiB; for
+# AArch64 too, where there are a compiler and an emulator for it. With --install it first installs Debian's packages for
+# that.
 set -euo pipefail
 here=$(cd "$(dirname "${BASH_SOURCE[0]}")" && pwd)
 top=$(dirname "$here")
@@ -19,16 +20,12 @@ sanitized="-O1 -g -fsanitize=address,undefined -fno-sanitize-recover=all"
 renamed="-Dmemcpy=copy_bytes -Dmemmove=move_bytes -Dmemset=set_bytes" # bytes.c beside a C library, which has these
 missing=0
 
-# The archive for a target, which may stand ready in the folder ARCHIVES: archive NAME ARGUMENT..
-archive() {
-    local name=$1
-    shift
-    if [[ -e ${ARCHIVES:-}/$name.a ]]; then
-        cp "$ARCHIVES/$name.a" "$to/$name.a"
-        return
-    fi
-    (cd "$top/crates/ffa_c" && rt lib "$@") >"$to/log" 2>&1 || { cat "$to/log" >&2; exit 1; }
-    cp "$top/crates/ffa_c/out/libffa_c.a" "$to/$name.a"
+# Sets `made` to the archive for a target: the one that stands ready in the folder ARCHIVES, which is like out/, or out/'s own.
+make_archive() {
+    made=${ARCHIVES:-}/$1/libgorseplumb.a
+    if [[ -e $made ]]; then return; fi
+    made=$top/out/$1/libgorseplumb.a
+    "$here/archive" --target "$1" >"$to/log" 2>&1 || { cat "$to/log" >&2; exit 1; }
 }
 
 has() {
@@ -58,6 +55,34 @@ stores() {
     echo "$1: each store of the functions that write tables is of 64 bits"
 }
 
+# Whether no function of the whole archive leads to one that asks for memory, as they are compiled, but those by which
+# machines and lists begin, grow and end: asks NAME OBJDUMP PROGRAM
+asks() {
+    local found others
+    found=$("$here/reaches" "$2" "$3" | sed 's/^gorseplumb_//' | tr '\n' ' ')
+    others=$(tr ' ' '\n' <<<"$found" | grep -Evx '(boot.*|free|begin_lending|lend|lend_span|)' || true)
+    if [[ $others ]]; then echo "$1: asks for memory:" $others >&2; exit 1; fi
+    echo "$1: only these ask for memory: $found"
+}
+
+# The test over a shared library of the whole archive, none of whose code has to be changed for its address, as
+# $to/shared: shares ARCHIVE COMMAND..
+shares() {
+    local archive=$1
+    shift
+    "$@" -shared -Wl,-z,text -Wl,--whole-archive "$archive" -Wl,--no-whole-archive -o "$to/libgorseplumb.so"
+    "$@" "$here/test.c" "$here/settle.c" "-L$to" -lgorseplumb "-Wl,-rpath,$to" -o "$to/shared"
+}
+
+# A program with no C library that boots from numbers and stands at any address, as $to/moved, has nothing to relocate:
+# moves NAME ARCHIVE COMMAND..
+moves() {
+    local name=$1 archive=$2
+    shift 2
+    "$@" -static-pie -fpie -Wl,--gc-sections "$here"/{freestanding,array,bytes,settle}.c "$archive" -o "$to/moved"
+    if readelf -rW "$to/moved" | grep ' R_'; then echo "$name: a program has to relocate itself" >&2; exit 1; fi
+}
+
 # The bytes of code and data of a program, as `size` adds them up.
 bytes() { size "$1" | awk 'NR == 2 { print $4 }'; }
 
@@ -78,28 +103,41 @@ plays() {
     echo "$name: five traces, on the heap's RAM and on lent pages: as the program prints them"
 }
 
-archive native
+make_archive x86_64-unknown-linux-gnu
+native=$made
 [ -n "${FFAPLAY:-}" ] || "$top/ffaplay" prove
 "$player" check "$top/examples/machine.toml" >/dev/null
 for compiler in gcc clang; do
     has $compiler || continue
-    $compiler $strict $sanitized "$here/test.c" "$here/settle.c" "$to/native.a" -o "$to/test"
-    says "$compiler, sanitized" "$to/test"
+    for test in test test_questions test_reasons; do
+        $compiler $strict $sanitized "$here/$test.c" "$here"/{settle,names}.c "$native" -o "$to/$test"
+        says "$compiler, $test, sanitized" "$to/$test"
+        $compiler $strict -O2 "$here/$test.c" "$here/settle.c" "$native" -o "$to/$test"
+        says "$compiler, $test" "$to/$test"
+    done
     $compiler $strict $sanitized $renamed "$here"/{test_bytes,bytes}.c -o "$to/bytes"
     says "$compiler, sanitized" "$to/bytes"
-    $compiler $strict -O2 "$here/test.c" "$here/settle.c" "$to/native.a" -o "$to/test"
-    says "$compiler" "$to/test"
-    $compiler $strict $sanitized "$here/example.c" "$here/heap.c" "$to/native.a" -o "$to/example"
+    shares "$native" $compiler $strict -O2
+    says "$compiler, over a shared library" "$to/shared"
+    $compiler $strict $sanitized "$here/example.c" "$here/heap.c" "$native" -o "$to/example"
     "$to/example"
-    $compiler $strict $sanitized "$here/play.c" "$here/heap.c" "$to/native.a" -o "$to/play"
+    $compiler $strict $sanitized "$here/play.c" "$here/heap.c" "$native" -o "$to/play"
     plays "$compiler, sanitized" "$to/play"
     bare="$strict -O2 -ffreestanding -fno-stack-protector -nostdlib -static"
-    $compiler $bare "$here"/{freestanding,array,bytes,settle}.c "$to/native.a" -o "$to/whole"
-    $compiler $bare -Wl,--gc-sections "$here"/{freestanding,array,bytes,settle}.c "$to/native.a" -o "$to/free"
+    $compiler $bare "$here"/{freestanding,array,bytes,settle}.c "$native" -o "$to/whole"
+    $compiler $bare -Wl,--gc-sections "$here"/{freestanding,array,bytes,settle}.c "$native" -o "$to/free"
     "$to/free"
-    echo "$compiler: linked with no C library, and run: $(bytes "$to/free") bytes, and $(bytes "$to/whole") with what nobody calls"
-    $compiler $bare -Wl,--gc-sections -DGORSEPLUMB_ARRAY_BYTES=0x400000 "$here"/{small_stack,array,bytes,settle}.c "$to/native.a" -o "$to/small"
+    moves $compiler "$native" $compiler $bare
+    "$to/moved"
+    if nm "$to/whole" "$to/free" | grep _names; then echo "$compiler: names that nobody asks are linked" >&2; exit 1; fi
+    $compiler $bare -Wl,--gc-sections,--undefined=gorseplumb_check_name "$here"/{freestanding,array,bytes,settle}.c \
+        "$native" -o "$to/named"
+    echo "$compiler: linked with no C library, and run: $(bytes "$to/free") bytes," \
+        "$(bytes "$to/named") with the checks' names, and $(bytes "$to/whole") with what nobody calls"
+    $compiler $bare -Wl,--gc-sections -DGORSEPLUMB_ARRAY_BYTES=0x400000 "$here"/{small_stack,array,bytes,settle}.c "$native" -o "$to/small"
     says "$compiler" "$to/small"
+    $compiler $bare "$here"/{freestanding,array,bytes,settle}.c -Wl,--whole-archive "$native" -Wl,--no-whole-archive \
+        -o "$to/every"
 done
 if has g++; then
     printf '#include "gorseplumb.h"\n#include "lending.h"\n' >"$to/header.cpp"
@@ -108,29 +146,42 @@ if has g++; then
 fi
 # The archive isn't instrumented by the sanitizers: valgrind looks at what it reads and writes, too.
 if has gcc && has valgrind; then
-    gcc $strict -O1 -g "$here/test.c" "$here/settle.c" "$to/native.a" -o "$to/test"
-    says valgrind valgrind -q --error-exitcode=9 --leak-check=full "$to/test"
+    for test in test test_questions test_reasons; do
+        gcc $strict -O1 -g "$here/$test.c" "$here/settle.c" "$native" -o "$to/$test"
+        says "valgrind, $test" valgrind -q --error-exitcode=9 --leak-check=full "$to/$test"
+    done
 fi
-if has gcc; then stores native objdump "$to/test"; fi
-symbols=$(nm -u "$to/native.a" | sed -n 's/^ *U //p' | grep -v '^_R\|\$' | sort -u | tr '\n' ' ')
+if has gcc; then
+    stores native objdump "$to/test"
+    asks native objdump "$to/every"
+fi
+symbols=$(nm -u "$native" | sed -n 's/^ *U //p' | grep -v '^_R\|\$' | sort -u | tr '\n' ' ')
 echo "asked of the program: $symbols"
-others=$(nm -g --defined-only "$to/native.a" | awk 'NF == 3 && $3 !~ /^gorseplumb_/ { print $3 }')
+others=$(nm -g --defined-only "$native" | awk 'NF == 3 && $3 !~ /^gorseplumb_/ { print $3 }')
 if [[ $others ]]; then echo "names of the archive that don't begin with gorseplumb_:" $others >&2; exit 1; fi
 
 if has aarch64-linux-gnu-gcc && has qemu-aarch64-static; then
-    archive arm --target aarch64-unknown-linux-gnu
+    make_archive aarch64-unknown-linux-gnu
     arm="aarch64-linux-gnu-gcc $strict -O2 -static"
-    $arm "$here/test.c" "$here/settle.c" "$to/arm.a" -o "$to/test"
-    says AArch64 qemu-aarch64-static "$to/test"
+    for test in test test_questions test_reasons; do
+        $arm "$here/$test.c" "$here/settle.c" "$made" -o "$to/$test"
+        says "AArch64, $test" qemu-aarch64-static "$to/$test"
+    done
+    shares "$made" aarch64-linux-gnu-gcc $strict -O2
+    says "AArch64, over a shared library" qemu-aarch64-static -L /usr/aarch64-linux-gnu "$to/shared"
     stores AArch64 aarch64-linux-gnu-objdump "$to/test"
-    $arm "$here/play.c" "$here/heap.c" "$to/arm.a" -o "$to/play"
+    $arm "$here/play.c" "$here/heap.c" "$made" -o "$to/play"
     plays AArch64 qemu-aarch64-static "$to/play"
     bare="-ffreestanding -fno-stack-protector -nostdlib -Wl,--gc-sections"
-    $arm $bare "$here"/{freestanding,array,bytes,settle}.c "$to/arm.a" -o "$to/free"
+    $arm $bare "$here"/{freestanding,array,bytes,settle}.c "$made" -o "$to/free"
     qemu-aarch64-static "$to/free"
     echo "AArch64: linked with no C library, and run"
-    $arm $bare -DGORSEPLUMB_ARRAY_BYTES=0x400000 "$here"/{small_stack,array,bytes,settle}.c "$to/arm.a" -o "$to/small"
+    moves AArch64 "$made" $arm $bare
+    qemu-aarch64-static "$to/moved"
+    $arm $bare -DGORSEPLUMB_ARRAY_BYTES=0x400000 "$here"/{small_stack,array,bytes,settle}.c "$made" -o "$to/small"
     says AArch64 qemu-aarch64-static "$to/small"
-    archive native
+    $arm $bare "$here"/{freestanding,array,bytes,settle}.c -Wl,--no-gc-sections,--whole-archive "$made" \
+        -Wl,--no-whole-archive -o "$to/every"
+    asks AArch64 aarch64-linux-gnu-objdump "$to/every"
 fi
 if ((missing)); then echo "passed, but for what was not run"; else echo "passed"; fi

@@ -81,7 +81,7 @@ build() {
     shift
     shared=("${shared[@]/#/$board/}")
     $compiler "${flags[@]}" -O2 "$@" -Wl,--no-warn-rwx-segments -T "$board/board.ld" "$here"/*.c "${shared[@]/%/.c}" "$board/start.S" "$top"/c/{array,bytes,settle}.c \
-        "$to/arm.a" -o "$to/$name.elf"
+        "$archive" -o "$to/$name.elf"
 }
 
 size_of() { stat -L -c %s "$1"; }

@@ -9,6 +9,7 @@ use ffa_model::function::{FFA_ERROR, FFA_MEM_RETRIEVE_RESP, FFA_SUCCESS};
 use ffa_model::{DirectMessage, EndpointId, ErrorCode, Handle, Reply};
 
 // FF-A's number of a code, as 32 bits of two's complement (DEN0077A, 11.2).
+#[inline(always)]
 fn code_number(code: ErrorCode) -> u32
     ensures { result ≡ code_number code }
 {
@@ -22,6 +23,7 @@ fn code_number(code: ErrorCode) -> u32
 }
 
 // The registers of FFA_SUCCESS, with w2 to w7.
+#[inline(always)]
 fn success_registers(results: [u32; 6]) -> [u64; 8]
     ensures { result ≡ encode (Reply.Success results) }
 {
@@ -44,6 +46,7 @@ fn high_word(word: u64) -> u64
 }
 
 // The registers of FFA_SUCCESS with a handle.
+#[inline(always)]
 fn handle_registers(handle: Handle) -> [u64; 8]
     ensures { result ≡ encode (Reply.Sent handle) }
 {
@@ -52,6 +55,7 @@ fn handle_registers(handle: Handle) -> [u64; 8]
 }
 
 // The registers of FFA_SUCCESS with bitmaps of pending notifications.
+#[inline(always)]
 fn pending_registers(partitions: u64, normal_world: u64, manager: u64) -> [u64; 8]
     ensures { result ≡ encode (Reply.Pending partitions normal_world manager) }
 {
@@ -70,6 +74,7 @@ fn pending_registers(partitions: u64, normal_world: u64, manager: u64) -> [u64; 
 }
 
 // The registers of a direct message, as its receiver sees it.
+#[inline(always)]
 fn message_registers(message: &DirectMessage) -> [u64; 8]
     ensures { result ≡ encode (Reply.Passed message.now) }
 {
@@ -80,6 +85,7 @@ fn message_registers(message: &DirectMessage) -> [u64; 8]
 }
 
 // The registers that tell of a partition which is given cycles, or gives them back: it and its execution context 0 in w1.
+#[inline(always)]
 fn cycles_registers(function: u32, partition: EndpointId) -> [u64; 8]
     ensures { result ≡ encode (Reply.Scheduled function partition) }
 {
@@ -95,6 +101,8 @@ pub(crate) fn word_of_two(high: u16, low: u16) -> u32
 }
 
 /// The registers x0 to x7 of a reply. Those that it does not use, and the upper halves of 32-bit values, are zero.
+// Inlined, since what calls it copies the registers a few times, which a compiler only then sees to be one array.
+#[inline(always)]
 pub fn encode(reply: &Reply) -> [u64; 8]
     ensures { result ≡ encode reply.now }
 {

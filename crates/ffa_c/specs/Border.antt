@@ -1,11 +1,12 @@
 -- SPDX-License-Identifier: MIT OR Apache-2.0
 -- What C sees of a machine.
 use Rattle.std.specs.Prelude.{◌≡◌, ℕ, ◌+◌, Bool, true, false, replicate, Option, None, Some, ◌==◌, nat_lt, length, if◌then◌else◌}
-use Rattle.ffa_model.specs.Agreement.{Agrees}
+use Rattle.ffa_model.specs.Agreement.{Agrees, root}
+use Rattle.ffa_model.specs.Identifiers.{place}
 use Rattle.ffa_model.specs.Notifications.{has_pending, notifications_of}
 use Rattle.ffa_model.specs.Refusals.{is_refusal}
 use Rattle.ffa_model.specs.SoundState.{IsSoundState}
-use Rattle.ffa_model.specs.State.{owner_of}
+use Rattle.ffa_model.specs.State.{State, is_known, owner_of}
 use Rattle.ffa_model.specs.Step.{step}
 use Rattle.ffa_model.specs.declared.operation.FaultKind.{FaultKind}
 use Rattle.ffa_model.specs.declared.operation.FaultKind.TheVariants.{Translation, Permission, Alignment, AccessFlag, OutsideRam}
@@ -130,6 +131,10 @@ asked f (Some b) = f b.machine
 -- the owner of a page, where there is such a page
 abbrev pub owner_number : Snapshot → ℕ → ℕ
 owner_number s page = if nat_lt page (length s.state.pages) then owner_of s.state page else 0xFFFFFFFF
+
+-- the address of an endpoint's level 1 table, where there is such an endpoint
+abbrev pub root_number : State → ℕ → ℕ
+root_number s e = if is_known s e then root s (place e) else 0xFFFFFFFF
 
 -- whether there is a machine with such a page
 abbrev pub has_page : Option Boarded → ℕ → Bool

@@ -9,3 +9,8 @@ pub mod LentPages
 pub mod Readiness
 pub mod Lending
 pub mod Spans
+pub mod Why
+pub mod Follows
+pub mod Grants
+pub mod CertRuns
+pub mod Runs

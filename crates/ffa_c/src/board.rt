@@ -1,26 +1,31 @@
 // SPDX-License-Identifier: MIT OR Apache-2.0
 //! A machine with the outcomes that C sees, whichever RAM it has.
-ghost use Rattle.std.specs.Prelude.{◌≡◌, ◌≢◌, ◌<◌, ◌*◌, true, false, length};
+ghost use Rattle.std.specs.Prelude.{◌≡◌, ◌≢◌, ◌<◌, ◌*◌, true, false, is_some, length};
 ghost use Rattle.ffa_model.specs.Access.{access};
+ghost use Rattle.ffa_model.specs.Agreement.{blocks_of};
 ghost use Rattle.ffa_model.specs.Notifications.{has_pending, notifications_of};
 ghost use Rattle.ffa_model.specs.Ram.{page_of, zero_ram};
+ghost use Rattle.ffa_model.specs.Refusals.{is_refusal};
 ghost use Rattle.ffa_model.specs.State.{is_known};
+ghost use Rattle.ffa_model.specs.Step.{step};
+ghost use Rattle.ffa_model.specs.Why.{granted, why};
 ghost use Rattle.ffa_manifest.specs.Document.{parts_of};
 ghost use Rattle.ffa_spmc.specs.Storages.{IsRoomFor};
 ghost use Rattle.ffa_c.specs.Booting.{IsFirst, IsFirstBy};
-ghost use Rattle.ffa_c.specs.Border.{HasDoneIn, access_code, nothing_done, owner_number};
+ghost use Rattle.ffa_c.specs.Border.{HasDoneIn, access_code, nothing_done, owner_number, root_number};
 ghost use Rattle.ffa_c.specs.Changes.{with_all_told};
 ghost use Rattle.ffa_c.specs.Elsewhere.{HasActed};
+ghost use Rattle.ffa_c.specs.Runs.{run_at};
 
 use crate::codes::KIND_NO_ENDPOINT;
 use crate::kind::{
-    BoardMachine, access_by, acted_by, done_among, done_by, endpoints_of, owner_by, page_in,
-    pages_of, runner_of,
+    BoardMachine, access_by, acted_by, base_of, blocks_of, done_among, done_by, endpoints_of,
+    owner_by, page_in, pages_of, root_by, run_by, runner_of,
 };
 use crate::outcome::COutcome;
 use ffa_lent::{Frames, LentRam};
 use ffa_memshare::Changed;
-use ffa_model::{EndpointId, Manifest, Op, PageNo};
+use ffa_model::{CertRun, EndpointId, Grant, Manifest, Op, PageNo, Why};
 use ffa_physmem::{FlatRam, PhysMem};
 use ffa_spmc::{Given, Machine, Storage};
 use ffa_tlb::NoTlb;
@@ -175,6 +180,36 @@ impl Board {
         }
     }
 
+    /// RAM's first address.
+    pub fn ram_base(&self) -> u32
+        ensures { result ≡ self.now.machine.state.ram_base }
+    {
+        match &self.kind {
+            BoardMachine::Heap(machine) => base_of(machine),
+            BoardMachine::Lent(machine) => base_of(machine),
+        }
+    }
+
+    /// The number of blocks of 2 MiB.
+    pub fn ram_blocks(&self) -> u32
+        ensures { result ≡ blocks_of self.now.machine.state }
+    {
+        match &self.kind {
+            BoardMachine::Heap(machine) => blocks_of(machine),
+            BoardMachine::Lent(machine) => blocks_of(machine),
+        }
+    }
+
+    /// The address of an endpoint's level 1 table, or `NOTHING` where there is no such endpoint.
+    pub fn root_of(&self, endpoint: u16) -> u32
+        ensures { result ≡ root_number self.now.machine.state endpoint }
+    {
+        match &self.kind {
+            BoardMachine::Heap(machine) => root_by(machine, EndpointId(endpoint)),
+            BoardMachine::Lent(machine) => root_by(machine, EndpointId(endpoint)),
+        }
+    }
+
     /// The number of pages.
     pub fn pages(&self) -> u32
         ensures { result ≡ length self.now.machine.ram.pages }
@@ -202,6 +237,37 @@ impl Board {
         match &self.kind {
             BoardMachine::Heap(machine) => access_by(machine, EndpointId(endpoint), PageNo(page)),
             BoardMachine::Lent(machine) => access_by(machine, EndpointId(endpoint), PageNo(page)),
+        }
+    }
+
+    /// By what an endpoint has its access to a page.
+    pub fn grant_of(&self, endpoint: u16, page: u32) -> Option<Grant>
+        ensures { result ≡ granted self.now.machine.state endpoint page }
+    {
+        match &self.kind {
+            BoardMachine::Heap(machine) => machine.grant_of(EndpointId(endpoint), PageNo(page)),
+            BoardMachine::Lent(machine) => machine.grant_of(EndpointId(endpoint), PageNo(page)),
+        }
+    }
+
+    /// The longest run of the certificate from a page on, where there is such a page.
+    pub fn cert_run(&self, page: u32) -> Option<CertRun>
+        ensures { result ≡ run_at self.now.machine page }
+    {
+        match &self.kind {
+            BoardMachine::Heap(machine) => run_by(machine, PageNo(page)),
+            BoardMachine::Lent(machine) => run_by(machine, PageNo(page)),
+        }
+    }
+
+    /// Why an operation of the runner would be refused now, or was refused just before.
+    pub fn why(&self, op: &Op) -> Option<Why>
+        ensures why { result ≡ why self.now.machine.state op.now }
+        ensures refused { is_some result ≡ is_refusal (step self.now.machine.state op.now).outcome }
+    {
+        match &self.kind {
+            BoardMachine::Heap(machine) => machine.why(op),
+            BoardMachine::Lent(machine) => machine.why(op),
         }
     }
 

@@ -16,7 +16,7 @@ use crate::codes::{
 use crate::lending::{CLent, put_list, take_list};
 use crate::lent_list::LentList;
 use crate::machine::{CMachine, put};
-use crate::manifest::{CManifest, manifest_given};
+use crate::manifest::{CManifest, manifest_of_numbers};
 use crate::seat::Seat;
 use ffa_manifest::ManifestError;
 use ffa_model::Manifest;
@@ -60,7 +60,7 @@ pub extern "C" fn gorseplumb_boot_manifest(
     if machine.live {
         OCCUPIED
     } else {
-        match manifest_given(given) {
+        match manifest_of_numbers(given) {
             Ok(manifest) => boot_heap(alloc, machine, &manifest),
             Err(cause) => number_of(cause),
         }
@@ -125,7 +125,7 @@ pub extern "C" fn gorseplumb_boot_lent_manifest(
     } else if !lent.live {
         NO_LIST
     } else {
-        match manifest_given(given) {
+        match manifest_of_numbers(given) {
             Ok(manifest) => boot_lent(alloc, machine, lent, &manifest, FirstBytes::Cleared),
             Err(cause) => number_of(cause),
         }
@@ -191,7 +191,7 @@ pub extern "C" fn gorseplumb_boot_held_manifest(
     } else if !lent.live {
         NO_LIST
     } else {
-        match manifest_given(given) {
+        match manifest_of_numbers(given) {
             Ok(manifest) => boot_lent(alloc, machine, lent, &manifest, FirstBytes::Kept),
             Err(cause) => number_of(cause),
         }
@@ -253,7 +253,7 @@ pub(crate) fn box_seat(alloc: Global, manifest: &Manifest) -> Result<Box<Seat>, 
     ensures { IfOk result (λ b. HasBooted (λ p. p ≡ parts_of manifest.now) false b.value) }
 {
     let ram = FlatRam::new(alloc, manifest.ram_base, 512 * manifest.ram_blocks)?;
-    let (Ok(mut seat), Ok(storage)) = (Seat::empty(alloc), Storage::given_for(alloc, manifest))
+    let (Ok(mut seat), Ok(storage)) = (Seat::empty(alloc), Storage::allocate_for(alloc, manifest))
     else {
         return Err(NoMemory);
     };

@@ -65,7 +65,7 @@ pub const NO_MACHINE: u32 = 19;
 /// The list has more pages than the manifest's RAM, or fewer.
 pub const WRONG_COUNT: u32 = 20;
 
-/// What a question answers where there is no machine, or no such page.
+/// What a question answers where there is no machine, no such page or no such endpoint.
 pub const NOTHING: u32 = 0xFFFF_FFFF;
 
 /// Of an outcome: an endpoint runs next, with registers.
@@ -90,19 +90,67 @@ pub const KIND_BAD_SIZE: u32 = 5;
 pub const KIND_NO_ENDPOINT: u32 = 6;
 
 /// No descriptor maps the address.
-pub const FAULT_TRANSLATION: u64 = 1;
+pub const FAULT_TRANSLATION: u32 = 1;
 
 /// The descriptor lacks the right.
-pub const FAULT_PERMISSION: u64 = 2;
+pub const FAULT_PERMISSION: u32 = 2;
 
 /// The address is no multiple of the access's size.
-pub const FAULT_ALIGNMENT: u64 = 3;
+pub const FAULT_ALIGNMENT: u32 = 3;
 
 /// The descriptor's access flag is 0.
-pub const FAULT_ACCESS_FLAG: u64 = 4;
+pub const FAULT_ACCESS_FLAG: u32 = 4;
 
 /// The walk or the access leaves RAM.
-pub const FAULT_OUTSIDE_RAM: u64 = 5;
+pub const FAULT_OUTSIDE_RAM: u32 = 5;
+
+/// Of a reason: it is about nothing more.
+pub const ABOUT_NOTHING: u32 = 0;
+
+/// Of a reason: a page, and what stands in the way there.
+pub const ABOUT_PAGE: u32 = 1;
+
+/// Of a reason: an endpoint.
+pub const ABOUT_ENDPOINT: u32 = 2;
+
+/// Of a reason: the handle of a transaction.
+pub const ABOUT_HANDLE: u32 = 3;
+
+/// Of a reason: a register.
+pub const ABOUT_REGISTER: u32 = 4;
+
+/// Of a reason: a notification's bit.
+pub const ABOUT_BIT: u32 = 5;
+
+/// Of a reason: a field of a descriptor.
+pub const ABOUT_FIELD: u32 = 6;
+
+/// Of a reason: nothing is told to stand in the way.
+pub const OBSTACLE_NONE: u32 = 0;
+
+/// Of a reason: the address is not one of RAM.
+pub const OBSTACLE_OUTSIDE_RAM: u32 = 1;
+
+/// Of a reason: the page is the manager's.
+pub const OBSTACLE_MANAGERS_PAGE: u32 = 2;
+
+/// Of a reason: the page is another endpoint's.
+pub const OBSTACLE_OWNED_BY: u32 = 3;
+
+/// Of a reason: the page stands in an open transaction.
+pub const OBSTACLE_IN_TRANSACTION: u32 = 4;
+
+/// Of a grant: there is no access.
+pub const GRANT_NONE: u32 = 0;
+
+/// Of a grant: the page is the endpoint's own, and no open transaction names it.
+pub const GRANT_OWN: u32 = 1;
+
+/// Of a grant: the page is the endpoint's own, and it shares it.
+pub const GRANT_SHARED: u32 = 2;
+
+/// Of a grant: the endpoint holds a transaction that names the page.
+pub const GRANT_HELD: u32 = 3;
 
 /// A right to read.
 pub const READ: u32 = 1;

@@ -4,6 +4,7 @@ ghost use Rattle.std.specs.Prelude.{◌≡◌, Option, Some, None, IsSome};
 ghost use Rattle.std.specs.Coded.{coded_option};
 ghost use Rattle.ffa_c.specs.Boarded.{Boarded, coded_boarded};
 
+use crate::board::Board;
 use crate::seat::Seat;
 use std::alloc::{Allocator, Global};
 use std::marker::Model;
@@ -27,6 +28,9 @@ impl Model for Held {
 }
 
 impl Held {
+    ghost use Rattle.std.specs.Borrow.{sem};
+    ghost use Rattle.ffa_c.specs.Follows.{keeps_value, seat_follows};
+
     /// A null pointer, which owns nothing.
     pub fn none(alloc: Global) -> Held
         ensures { result.value ≡ None }
@@ -56,6 +60,24 @@ impl Held {
     {
         let Held { at, alloc } = self;
         unsafe { Box::from_raw(alloc, at as *mut Seat) }
+    }
+
+    /// The seat, where it is.
+    pub fn seat_mut(&mut self) -> &mut Seat
+        requires { IsSome self.old.value }
+        ensures* writes_back { sem 𝓛 (seat_follows self.entry result) }
+        ensures value { result.now ≡ self.old.value }
+    {
+        unsafe { &mut *(self.at as *mut Seat) }
+    }
+
+    /// The board, to be read where it is.
+    pub fn board(&mut self) -> &Board
+        requires { IsSome self.old.value }
+        ensures* same { sem 𝓛 (keeps_value self.entry) }
+        ensures value { Some result.now ≡ self.old.value }
+    {
+        self.seat_mut().board()
     }
 
     /// Lets a pointer go that owns nothing.

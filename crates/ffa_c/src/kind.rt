@@ -2,15 +2,17 @@
 //! A machine by where its RAM comes from, and what C asks of any machine.
 ghost use Rattle.std.specs.Prelude.{◌≡◌, ◌<◌, true, length};
 ghost use Rattle.ffa_model.specs.Access.{access};
+ghost use Rattle.ffa_model.specs.Agreement.{blocks_of};
 ghost use Rattle.ffa_model.specs.Ram.{page_of};
 ghost use Rattle.ffa_model.specs.State.{is_known};
-ghost use Rattle.ffa_c.specs.Border.{HasDone, HasDoneAmong, access_code, exec_code, level_code, owner_number};
+ghost use Rattle.ffa_c.specs.Border.{HasDone, HasDoneAmong, access_code, exec_code, level_code, owner_number, root_number};
 ghost use Rattle.ffa_c.specs.Elsewhere.{HasActed};
+ghost use Rattle.ffa_c.specs.Runs.{run_at};
 
 use crate::codes::{EXECUTE, NOTHING, READ, WRITE};
 use crate::outcome::COutcome;
 use ffa_lent::LentRam;
-use ffa_model::{Data, EndpointId, Op, PageNo, Rights};
+use ffa_model::{CertRun, Data, EndpointId, Op, PageNo, Rights};
 use ffa_physmem::{FlatRam, PhysMem};
 use ffa_spmc::{Given, Machine, Store};
 use ffa_tlb::NoTlb;
@@ -74,6 +76,33 @@ pub(crate) fn endpoints_of<M: PhysMem + Drop, S: Store>(machine: &Machine<M, NoT
     machine.endpoints() as u32
 }
 
+/// RAM's first address.
+pub(crate) fn base_of<M: PhysMem + Drop, S: Store>(machine: &Machine<M, NoTlb, S>) -> u32
+    ensures { result ≡ machine.now.state.ram_base }
+{
+    machine.ram().base().0
+}
+
+/// The number of blocks.
+pub(crate) fn blocks_of<M: PhysMem + Drop, S: Store>(machine: &Machine<M, NoTlb, S>) -> u32
+    ensures { result ≡ blocks_of machine.now.state }
+{
+    machine.ram().pages() / 512
+}
+
+/// The address of an endpoint's level 1 table, or `NOTHING` where there is no such endpoint.
+pub(crate) fn root_by<M: PhysMem + Drop, S: Store>(
+    machine: &Machine<M, NoTlb, S>,
+    endpoint: EndpointId,
+) -> u32
+    ensures { result ≡ root_number machine.now.state endpoint.0 }
+{
+    match machine.root_of(endpoint) {
+        Some(root) => root,
+        None => NOTHING,
+    }
+}
+
 /// The number of pages.
 pub(crate) fn pages_of<M: PhysMem + Drop, S: Store>(machine: &Machine<M, NoTlb, S>) -> u32
     ensures { result ≡ length machine.now.ram.pages }
@@ -117,8 +146,22 @@ pub(crate) fn access_by<M: PhysMem + Drop, S: Store>(
     code_of(machine.access(endpoint, page))
 }
 
-// `READ` for a right to read, `WRITE` for one to write too, `EXECUTE` more for one to execute, and 0 for none.
-fn code_of(rights: Option<Rights>) -> u32
+/// The longest run from a page on, where there is such a page.
+pub(crate) fn run_by<M: PhysMem + Drop, S: Store>(
+    machine: &Machine<M, NoTlb, S>,
+    page: PageNo,
+) -> Option<CertRun>
+    ensures { result ≡ run_at machine.now page.0 }
+{
+    if page.0 < machine.ram().pages() {
+        Some(machine.cert_run(page))
+    } else {
+        None
+    }
+}
+
+/// `READ` for a right to read, `WRITE` for one to write too, `EXECUTE` more for one to execute, and 0 for none.
+pub(crate) fn code_of(rights: Option<Rights>) -> u32
     ensures { result ≡ access_code rights }
 {
     match rights {

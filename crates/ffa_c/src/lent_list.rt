@@ -51,7 +51,7 @@ impl LentList {
     {
         let frames = Frames::with_room(alloc, pages)?;
         let seat = Some(Seat::empty(alloc)?);
-        let storage = Some(Storage::given(alloc, pages.min(MOST_PAGES), MOST_ENDPOINTS)?);
+        let storage = Some(Storage::allocate(alloc, pages.min(MOST_PAGES), MOST_ENDPOINTS)?);
         Ok(LentList {
             frames,
             seat,
@@ -162,7 +162,7 @@ fn storage_in(
     ensures lacking { IfErr result (λ _. storage_pages own.old < 512 * manifest.now.ram_blocks) }
 {
     let Some(mut storage) = own.take() else {
-        return Storage::given_for(alloc, manifest);
+        return Storage::allocate_for(alloc, manifest);
     };
     if storage.is_room_for(manifest) {
         match storage.fit(manifest) {
@@ -170,7 +170,7 @@ fn storage_in(
             Err(AllocError) => unreachable!(),
         }
     }
-    let made = Storage::given_for(alloc, manifest);
+    let made = Storage::allocate_for(alloc, manifest);
     if made.is_err() {
         *own = Some(storage);
     }

@@ -7,10 +7,13 @@
 
 pub mod board;
 pub mod booting;
+pub mod cert_run;
+pub mod certificate;
 pub mod changes;
 pub mod codes;
 pub mod elsewhere;
 pub mod exports;
+pub mod grants;
 pub mod held;
 pub mod held_list;
 pub mod kind;
@@ -19,5 +22,8 @@ pub mod lent_list;
 pub mod machine;
 pub mod manifest;
 pub mod outcome;
+pub mod questions;
+pub mod reason;
 pub mod seat;
 pub mod spans;
+pub mod why;

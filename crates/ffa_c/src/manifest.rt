@@ -152,7 +152,7 @@ fn counted_endpoints(given: &CManifest) -> Result<ArrayVec<Endpoint, MOST_ENDPOI
 /// The manifest that C's numbers give, or the first cause for which they are refused. It takes no memory.
 // Not inlined, so that no boot has its frame.
 #[inline(never)]
-pub(crate) fn manifest_given(given: &CManifest) -> Result<Manifest, ManifestError>
+pub(crate) fn manifest_of_numbers(given: &CManifest) -> Result<Manifest, ManifestError>
     ensures given { IfOk result (λ m. Gives given.now (parts_of m)) }
     ensures refused { IfErr result (λ e. refusal_of (parts_given given.now) ≡ Some e) }
 {

@@ -37,7 +37,7 @@ impl COutcome {
             },
             Outcome::Data(value) => plain(KIND_DATA, value),
             Outcome::Done => plain(KIND_DONE, 0),
-            Outcome::Fault(fault) => plain(KIND_FAULT, fault_code(fault)),
+            Outcome::Fault(fault) => plain(KIND_FAULT, u64::from(fault_code(fault))),
         }
     }
 
@@ -63,7 +63,8 @@ fn plain(kind: u32, value: u64) -> COutcome
     }
 }
 
-fn fault_code(fault: FaultKind) -> u64
+/// A fault for C.
+pub(crate) fn fault_code(fault: FaultKind) -> u32
     ensures { result ≡ fault_number fault }
 {
     match fault {

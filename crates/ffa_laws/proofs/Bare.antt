@@ -36,7 +36,8 @@ use Rattle.ffa_model.proofs.Accesses.{length-map_at}
 use Rattle.ffa_model.proofs.Guards.{guard-passes}
 use Rattle.ffa_laws.specs.Steady.{IsSteady}
 use Rattle.ffa_laws.specs.View.{buffers_seen, hidden, is_near, kept, view}
-use Rattle.ffa_laws.specs.Events.{Event, Wrote, Filled, Pending, Opened, Public, apply, apply_all, call_events, delivers, events, is_same_public, named_pages, opens, pages_with, public_buffers, public_change, public_part, sets, told_by, where_passed, where_true, writes}
+use Rattle.ffa_laws.specs.Events.{Event, Wrote, Filled, Pending, Opened, Public, apply, apply_all, call_events, delivers, events, named_pages, opens, pages_with, public_change, sets, told_by, where_passed, where_true, writes}
+use Rattle.ffa_laws.specs.Public.{public_buffers, public_part, same_public}
 use Rattle.ffa_laws.specs.Silence.{AreBare, IsBare, may_change_public}
 use Rattle.ffa_laws.proofs.BufferLaws.{own-buffers}
 use Rattle.ffa_laws.proofs.Changes.{apply_all-append}
@@ -47,6 +48,7 @@ use Rattle.ffa_laws.proofs.MemoryLaws.{fault-none}
 use Rattle.ffa_laws.proofs.Rows.{all-weaker, row-of, told_row}
 use Rattle.ffa_laws.proofs.SendLaws.{rewritten-sent}
 use Rattle.ffa_laws.proofs.Views.{kept_none}
+use Rattle.ffa_laws.proofs.Publics.{told-of}
 
 -- ---- lists of events
 bare-append : (e : ℕ) (v : State) (xs ys : List Event) → AreBare e v xs → AreBare e (apply_all e v xs) ys → AreBare e v (xs ++ ys)
@@ -114,10 +116,10 @@ public-seen e s = λ i. record { runner = s.runner; statuses = s.statuses; works
 
 bare-public : (e : ℕ) (s next : State) (told : List Event) → view e next ≡ apply_all e (view e s) (told ++ public_change s next) → AreBare e (apply_all e (view e s) told) (public_change s next)
 bare-public e s next told =
-    elim (is_same_public (public_part s) (public_part next))
-    as (λ b. view e next ≡ apply_all e (view e s) (told ++ cond b [] (Public (public_part next) ∷ [])) → AreBare e (apply_all e (view e s) told) (cond b [] (Public (public_part next) ∷ []))) [
-      | true ↦ λ leads. tt
-      | false ↦ λ leads. (sym (public-seen e next) ∙ ap public_part leads ∙ ap public_part (apply_all-append e (view e s) told (Public (public_part next) ∷ [])), tt)
+    elim (same_public (public_part s) (public_part next))
+    as (λ b. view e next ≡ apply_all e (view e s) (told ++ told-of b) → AreBare e (apply_all e (view e s) told) (told-of b)) [
+      | inl same ↦ λ leads. tt
+      | inr differ ↦ λ leads. (sym (public-seen e next) ∙ ap public_part leads ∙ ap public_part (apply_all-append e (view e s) told (Public (public_part next) ∷ [])), tt)
     ]
 
 -- ---- a transaction that is opened, with the pages that its ranges name

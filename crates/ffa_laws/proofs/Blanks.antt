@@ -29,9 +29,9 @@ use Rattle.ffa_model.specs.SendDescriptor.{SendRecord, send_of}
 use Rattle.ffa_model.specs.RetrieveDescriptor.{retrieve_of}
 use Rattle.ffa_model.specs.RelinquishDescriptor.{relinquish_of}
 use Rattle.ffa_model.specs.ResponseBytes.{response_bytes}
-use Rattle.ffa_model.specs.State.{State, Page, Transaction, Buffers, buffers_of, page_at, transaction_of, version_of}
-use Rattle.ffa_model.specs.Access.{access, handle_at, held_by, names, right_by, right_of, transaction_at}
-use Rattle.ffa_model.specs.Buffers.{Candidate, candidate_at, candidates, filled, filled_pages, map_guards}
+use Rattle.ffa_model.specs.State.{State, Page, Transaction, Buffers, buffers_of, page_at, transaction_of, version_of, own_right_of, owner_of}
+use Rattle.ffa_model.specs.Access.{access, held_by, names, right_by, right_of, transaction_at, ownership_of}
+use Rattle.ffa_model.specs.Buffers.{filled, filled_pages, map_guards}
 use Rattle.ffa_model.specs.Calls.{Service, Stepped, answered, encode, first_failure, served}
 use Rattle.ffa_model.specs.Memory.{access_at, accessed, changed_pages, fault_of, fetch_fault, number_at, page_bytes, page_of_address, page_with, read_fault, run_bytes, size_of, store_fault, stored, written_pages, written_run, zeroed_if, zeroed_page}
 use Rattle.ffa_model.specs.MemoryRetrieve.{donated_page, memory_retrieve, response_length, response_to, retrieve_guards, retrieve_read, retrieved, retrieved_from, retrieved_right, right_for}
@@ -43,7 +43,7 @@ use Rattle.ffa_model.specs.Registers.{decode}
 use Rattle.ffa_model.specs.Setup.{info_bytes, is_count_alone, uuid_bytes}
 use Rattle.ffa_model.specs.Step.{serve, service, step}
 use Rattle.ffa_model.specs.declared.call.Transfer.{Transfer}
-use Rattle.ffa_model.specs.Transactions.{own_right_of, own_rights_of, handle_of, open_of, scene_of}
+use Rattle.ffa_model.specs.Transactions.{open_of, scene_of}
 use Rattle.ffa_model.proofs.Accesses.{length-map_at}
 use Rattle.ffa_model.proofs.Runs.{flat-run-same}
 use Rattle.ffa_laws.specs.Steady.{IsAlone, IsSteady}
@@ -158,37 +158,26 @@ module _ (s : State) (hides : ℕ → Bool) where
   size-b : length b.pages ≡ length s.pages
   size-b = length-map_at (λ p page. blank_where (hides p) page) s.pages
 
-  abbrev candidate : Bool → Option Page → Option Candidate
-  candidate named page = option_map (λ (q : Page). let c : Candidate = record { owner = q.owner; own_right = q.own_right; named = named } in c) page
-
-  candidate-blank : (named c : Bool) (page : Option Page) → candidate named (blank_where c page) ≡ candidate named page
-  candidate-blank named false page = refl
-  candidate-blank named true None = refl
-  candidate-blank named true (Some q) = refl
-
-  candidates-b : candidates b ≡ candidates s
-  candidates-b =
-      λ i. record {
-        base = s.ram_base;
-        count = size-b i;
-        page = fun_ext {f = candidate_at b} {g = candidate_at s} (λ p. ap (candidate (is_some (handle_at s p))) (page-b p) ∙ candidate-blank (is_some (handle_at s p)) (hides p) (page_at s p)) i;
-      }
+  owner-blank : (c : Bool) (page : Option Page) → option_map_or (λ (q : Page). q.owner) (blank_where c page) 0x8000 ≡ option_map_or (λ (q : Page). q.owner) page 0x8000
+  owner-blank false page = refl
+  owner-blank true None = refl
+  owner-blank true (Some q) = refl
 
   own_right-blank : (c : Bool) (page : Option Page) → option_map (λ (q : Page). q.own_right) (blank_where c page) ≡ option_map (λ (q : Page). q.own_right) page
   own_right-blank false page = refl
   own_right-blank true None = refl
   own_right-blank true (Some q) = refl
 
-  pub own_rights-b : own_rights_of b ≡ own_rights_of s
-  own_rights-b =
-      λ i. record {
-        ram_base = s.ram_base;
-        pages = size-b i;
-        right = fun_ext {f = own_right_of b} {g = own_right_of s} (λ p. ap (option_map (λ (q : Page). q.own_right)) (page-b p) ∙ own_right-blank (hides p) (page_at s p)) i;
+  pub ownership-b : ownership_of b ≡ ownership_of s
+  ownership-b =
+      λ i. record (ownership_of s) {
+        count = size-b i;
+        owner = fun_ext {f = owner_of b} {g = owner_of s} (λ p. ap (λ page. option_map_or (λ (q : Page). q.owner) page 0x8000) (page-b p) ∙ owner-blank (hides p) (page_at s p)) i;
+        own_right = fun_ext {f = own_right_of b} {g = own_right_of s} (λ p. ap (option_map (λ (q : Page). q.own_right)) (page-b p) ∙ own_right-blank (hides p) (page_at s p)) i;
       }
 
   scene-b : scene_of b ≡ scene_of s
-  scene-b = λ i. record { endpoints = length s.parties; ram = candidates-b i; own_rights = own_rights-b i; buffers = s.buffers; open_transactions = open_of s }
+  scene-b = λ i. record { endpoints = length s.parties; ram = ownership-b i; buffers = s.buffers; open_transactions = open_of s }
 
   -- two services that differ in such bytes at most
   pub record Alike (c d : Service) : Type 0 where
@@ -266,8 +255,8 @@ module _ (s : State) (hides : ℕ → Bool) where
         from : (o : Option Transaction) → blank hides (retrieved_from b d o) ≡ blank hides (retrieved_from s d o)
         from None = λ i. record s { pages = blanked-twice hides s.pages i }
         from (Some t) =
-            ap (λ own_rights. blank hides (retrieved_right b d.handle t s.runner (right_for own_rights t s.runner d))) own_rights-b
-            ∙ (let right = right_for (own_rights_of s) t s.runner d in
+            ap (λ ram. blank hides (retrieved_right b d.handle t s.runner (right_for ram t s.runner d))) ownership-b
+            ∙ (let right = right_for (ownership_of s) t s.runner d in
             λ i. record (retrieved_right s d.handle t s.runner right) { pages = given t.kind t.ranges s.runner right (response_bytes (version_of s s.runner) (response_to d.handle t s.runner right)) i })
 
     retrieve-b : (x : Transfer) → Alike (memory_retrieve b x) (memory_retrieve s x)
@@ -297,7 +286,7 @@ module _ (s : State) (hides : ℕ → Bool) where
     reclaim-b : (handle flags : ℕ) → Alike (memory_reclaim b handle flags) (memory_reclaim s handle flags)
     reclaim-b handle flags =
         record {
-          guards = λ i. first_failure (reclaim_guards (own_rights-b i) s.runner flags (transaction_of s handle));
+          guards = λ i. first_failure (reclaim_guards (ownership-b i) s.runner flags (transaction_of s handle));
           reply = refl;
           state = λ i. record (memory_reclaim s handle flags).state { pages = zeroed-blind hides (is_set 0 flags) s (named_ranges (transaction_of s handle)) i };
         }
@@ -315,7 +304,7 @@ module _ (s : State) (hides : ℕ → Bool) where
     pub service-b : (call : calls.Call) → Alike (service b call) (service s call)
     service-b (RxtxMap tx rx pages) =
         record {
-          guards = λ i. first_failure (map_guards s.runner (buffers_of s s.runner) (candidates-b i) tx rx pages);
+          guards = λ i. first_failure (map_guards s.runner (buffers_of s s.runner) (ownership-b i) tx rx pages);
           reply = refl;
           state = λ i. record (service s (RxtxMap tx rx pages)).state { pages = blanked-twice hides s.pages i };
         }

@@ -10,17 +10,18 @@ use Rattle.ffa_model.specs.declared.refusal.Refusal.TheVariants.{BuffersMapped, 
 use Rattle.ffa_model.specs.declared.limits.TheConstants.{MOST_BUFFER_PAGES}
 use Rattle.ffa_model.proofs.Runs.{run-each}
 use Rattle.ffa_model.specs.Manifest.{is_from_to}
-use Rattle.ffa_model.specs.Rights.{may_write}
+use Rattle.ffa_model.specs.Rights.{may_write, may_store}
 use Rattle.ffa_model.specs.Lists.{map_at, run}
 use Rattle.ffa_model.specs.Identifiers.{identifier, place}
 use Rattle.ffa_model.specs.State.{State, Page, Buffers, page_at, owner_of, buffers_of, is_known}
-use Rattle.ffa_model.specs.Access.{handle_at, transaction_at}
-use Rattle.ffa_model.specs.Buffers.{buffers_with, buffers_with_rx, candidate_at, candidates, filled, filled_pages, is_full, is_run_address, is_usable, are_runs_apart, room_of, map_guards, new_buffers, page_number, release_guards, rx_release, rxtx_map, rxtx_unmap, unmap_guards, with_buffers, with_rx}
+use Rattle.ffa_model.specs.Access.{handle_at, transaction_at, ownership_of}
+use Rattle.ffa_model.specs.Buffers.{buffers_with, buffers_with_rx, filled, filled_pages, is_full, is_run_address, is_usable, are_runs_apart, room_of, map_guards, new_buffers, page_number, release_guards, rx_release, rxtx_map, rxtx_unmap, unmap_guards, with_buffers, with_rx}
 use Rattle.ffa_model.specs.Calls.{first_failure}
 use Rattle.ffa_model.specs.RunStates.{schedule_of}
 use Rattle.ffa_laws.specs.Steady.{IsSteady, AreSteadyBuffers}
 use Rattle.ffa_laws.specs.View.{view, buffers_seen, hidden, involves, is_near, kept}
-use Rattle.ffa_laws.specs.Events.{apply_all, public_buffers, public_change, with_public_buffers}
+use Rattle.ffa_laws.specs.Events.{apply_all, public_change, with_public_buffers}
+use Rattle.ffa_laws.specs.Public.{public_buffers}
 use Rattle.ffa_model.proofs.Guards.{guard-passes}
 use Rattle.ffa_model.proofs.Places.{known-named, known-place, same-known}
 use Rattle.ffa_model.proofs.Accesses.{length-map_at}
@@ -115,14 +116,16 @@ view-filled_other e f s bytes steady known_e known_f differ =
 
 -- ---- which pages may be buffers, in a view
 judged : ℕ → Bool → Option Page → Bool
-judged e named page = is_usable e (option_map (λ (q : Page). record { owner = q.owner; own_right = q.own_right; named = named }) page)
+judged e named page =
+    ((is_some (option_map (λ (q : Page). q.own_right) page) && option_map_or (λ (q : Page). q.owner) page 0x8000 == e) && not named)
+    && may_store (option_map (λ (q : Page). q.own_right) page)
 
 judged-other : (e : ℕ) (named b : Bool) (q : Page) → (q.owner == e) ≡ false → judged e named (kept b (Some q)) ≡ false
 unfolding judged
 judged-other e named true q other = ap (λ t. (t && not named) && may_write q.own_right.level) other
 judged-other e named false q other = refl
 
-pub view-usable : (e : ℕ) (s : State) → IsSteady s → (p : ℕ) → is_usable e (candidate_at (view e s) p) ≡ is_usable e (candidate_at s p)
+pub view-usable : (e : ℕ) (s : State) → IsSteady s → (p : ℕ) → is_usable e (ownership_of (view e s)) p ≡ is_usable e (ownership_of s) p
 unfolding judged
 view-usable e s steady p = ap (judged e (is_some (handle_at (view e s) p))) (view-page e s p) ∙ go (page_at s p) refl
   where
@@ -140,12 +143,12 @@ view-usable e s steady p = ap (judged e (is_some (handle_at (view e s) p))) (vie
         ] refl
 
 same-map_guards : (s : State) → IsSteady s → (tx rx pages : ℕ)
-    → map_guards s.runner (buffers_of (view s.runner s) s.runner) (candidates (view s.runner s)) tx rx pages ≡ map_guards s.runner (buffers_of s s.runner) (candidates s) tx rx pages
+    → map_guards s.runner (buffers_of (view s.runner s) s.runner) (ownership_of (view s.runner s)) tx rx pages ≡ map_guards s.runner (buffers_of s s.runner) (ownership_of s) tx rx pages
 same-map_guards s steady tx rx pages =
     λ i. (is_none (own-buffers s.runner s steady.runner i), BuffersMapped)
     ∷ (is_from_to 1 MOST_BUFFER_PAGES pages, BufferPageCount)
-    ∷ (is_run_address (record { base = s.ram_base; count = size i; page = candidate_at s }) pages tx, TxMisplaced)
-    ∷ (is_run_address (record { base = s.ram_base; count = size i; page = candidate_at s }) pages rx, RxMisplaced)
+    ∷ (is_run_address (record (ownership_of s) { count = size i }) pages tx, TxMisplaced)
+    ∷ (is_run_address (record (ownership_of s) { count = size i }) pages rx, RxMisplaced)
     ∷ (are_runs_apart pages (page_number s.ram_base tx) (page_number s.ram_base rx), BuffersOverlap)
     ∷ (list_all (λ p. view-usable s.runner s steady p i) (run (page_number s.ram_base tx) pages), TxUnusable)
     ∷ (list_all (λ p. view-usable s.runner s steady p i) (run (page_number s.ram_base rx) pages), RxUnusable)
@@ -186,8 +189,8 @@ module _ (s : State) (steady : IsSteady s) where
   pub steady-map : (tx rx pages : ℕ) → first_failure (rxtx_map s tx rx pages).guards ≡ None → IsSteady (rxtx_map s tx rx pages).state
   steady-map tx rx pages none =
       steady-set (Some (new_buffers s.ram_base tx rx pages)) (λ x is.
-      let all_tx = run-each (λ p. is_usable s.runner (candidate_at s p)) (page_number s.ram_base tx) pages (guard-passes (map_guards s.runner (buffers_of s s.runner) (candidates s) tx rx pages) 5 (sym none)) in
-      let all_rx = run-each (λ p. is_usable s.runner (candidate_at s p)) (page_number s.ram_base rx) pages (guard-passes (map_guards s.runner (buffers_of s s.runner) (candidates s) tx rx pages) 6 (sym none)) in
+      let all_tx = run-each (λ p. is_usable s.runner (ownership_of s) p) (page_number s.ram_base tx) pages (guard-passes (map_guards s.runner (buffers_of s s.runner) (ownership_of s) tx rx pages) 5 (sym none)) in
+      let all_rx = run-each (λ p. is_usable s.runner (ownership_of s) p) (page_number s.ram_base rx) pages (guard-passes (map_guards s.runner (buffers_of s s.runner) (ownership_of s) tx rx pages) 6 (sym none)) in
       let new : new_buffers s.ram_base tx rx pages ≡ x = cc in
       subst (AreSteadyBuffers s s.runner) new (record { tx = λ p its. usable s s.runner p (all_tx p its); rx = λ p its. usable s s.runner p (all_rx p its) }))
 

@@ -1,24 +1,22 @@
 -- SPDX-License-Identifier: MIT OR Apache-2.0
 -- Own rights and ceilings of a transaction that the viewer sent or is offered: a view has them.
-use Rattle.std.proofs.Common.{◌≡◌, ◌∙◌, ℕ, Bool, true, false, cond, length, Option, Some, refl, ap}
-use Rattle.std.specs.Prelude.{◌==◌, ◌||◌, ◌&&◌, filter}
+use Rattle.std.proofs.Common.{◌≡◌, ◌∙◌, ℕ, Bool, true, false, length, Option, Some, refl, ap}
+use Rattle.std.specs.Prelude.{◌==◌, ◌||◌, filter}
 use Rattle.std.specs.List.{list_all}
 use Rattle.std.specs.Option.{option_and_then, option_map}
-use Rattle.ffa_model.specs.declared.rights.Data.TheVariants.{Ro, Rw}
-use Rattle.ffa_model.specs.declared.rights.Kind.{Kind}
-use Rattle.ffa_model.specs.declared.rights.Kind.TheVariants.{Share, Lend, Donate}
 use Rattle.ffa_model.specs.declared.rights.Rights.{Rights}
 use Rattle.ffa_model.specs.Lists.{listed}
 use Rattle.ffa_model.specs.Rights.{may_fetch, may_store}
-use Rattle.ffa_model.specs.State.{State, Page, Transaction, owner_of, page_at, transaction_of}
-use Rattle.ffa_model.specs.Access.{is_naming, names, transaction_at}
-use Rattle.ffa_model.specs.Transactions.{are_writable, own_right_of, own_rights_of, ceiling, ceiling_in, grant_to, pages_in}
+use Rattle.ffa_model.specs.State.{State, Page, Transaction, owner_of, page_at, transaction_of, own_right_of}
+use Rattle.ffa_model.specs.Access.{is_naming, names, transaction_at, ownership_of}
+use Rattle.ffa_model.specs.Transactions.{are_writable, ceiling, ceiling_in, pages_in}
 use Rattle.ffa_laws.specs.Steady.{IsSteady}
 use Rattle.ffa_laws.specs.View.{view, involves, is_near, kept, seen_by}
 use Rattle.ffa_model.proofs.KeptDonate.{same-tests}
 use Rattle.ffa_model.proofs.Accesses.{length-map_at}
 use Rattle.ffa_laws.proofs.Maps.{first_one}
 use Rattle.ffa_laws.proofs.Views.{view-page}
+use Rattle.ffa_model.proofs.Kept.{ceiling-held}
 
 pub or_true : (b : Bool) → (b || true) ≡ true
 or_true true = refl
@@ -39,18 +37,14 @@ module _ (e : ℕ) (s : State) (steady : IsSteady s) (h : ℕ) (t : Transaction)
 
   -- a test of the own right of each of its pages
   pub rights-seen : (test : Option Rights → Bool)
-      → list_all (λ p. test (own_right_of (view e s) p)) (pages_in (own_rights_of (view e s)) t.ranges) ≡ list_all (λ p. test (own_right_of s p)) (pages_in (own_rights_of s) t.ranges)
+      → list_all (λ p. test (own_right_of (view e s) p)) (pages_in (ownership_of (view e s)) t.ranges) ≡ list_all (λ p. test (own_right_of s p)) (pages_in (ownership_of s) t.ranges)
   rights-seen test =
       ap (λ n. list_all (λ p. test (own_right_of (view e s) p)) (filter (names s t.ranges) (listed n (λ p. p)))) (length-map_at (λ q page. kept (is_near e s q) page) s.pages)
       ∙ same-tests (λ p. test (own_right_of (view e s) p)) (λ p. test (own_right_of s p)) (names s t.ranges) (length s.pages) (λ p. p) (λ p lt named. ap test (right-seen p named))
 
-  pub writable-seen : are_writable (own_rights_of (view e s)) t.ranges ≡ are_writable (own_rights_of s) t.ranges
+  pub writable-seen : are_writable (ownership_of (view e s)) t.ranges ≡ are_writable (ownership_of s) t.ranges
   writable-seen = rights-seen may_store
 
-  pub ceiling-seen : (f : ℕ) → ceiling (own_rights_of (view e s)) (seen_by e t) f ≡ ceiling (own_rights_of s) t f
-  ceiling-seen f = of t.kind
-    where
-      of : (kind : Kind) → ceiling_in kind (own_rights_of (view e s)) (seen_by e t) f ≡ ceiling_in kind (own_rights_of s) t f
-      of Share = refl
-      of Lend = λ i. record { level = grant_to t f; exec = length t.receivers == 1 && rights-seen may_fetch i }
-      of Donate = λ i. record { level = cond (rights-seen may_store i) Rw Ro; exec = rights-seen may_fetch i }
+  pub ceiling-seen : (f : ℕ) → ceiling (ownership_of (view e s)) (seen_by e t) f ≡ ceiling (ownership_of s) t f
+  ceiling-seen f =
+      (λ i. ceiling_in t.kind (rights-seen may_store i) (rights-seen may_fetch i) (seen_by e t) f) ∙ ceiling-held (ownership_of s) t (seen_by e t).held f

@@ -1,9 +1,9 @@
 -- SPDX-License-Identifier: MIT OR Apache-2.0
 -- Changes of pages, buffers and run states, and what they do to a view.
-use Rattle.std.proofs.Common.{◌≡◌, ◌∙◌, ℕ, suc, zero, ◌+◌, true, false, cond, List, [], ◌∷◌, ◌++◌, map, length, get_or, Option, Some, None, refl, sym, ap, arith}
-use Rattle.std.specs.Prelude.{◌==◌, ◌||◌, Bool}
+use Rattle.std.proofs.Common.{◌≡◌, ◌∙◌, ℕ, suc, zero, ◌+◌, true, false, cond, List, [], ◌∷◌, ◌++◌, map, length, get_or, Option, Some, None, refl, sym, ap, arith, inl, inr}
+use Rattle.std.specs.Prelude.{◌==◌, ◌||◌, ◌⊎◌, ◌≢◌}
 use Rattle.std.specs.Option.{option_map, option_map_or}
-use Rattle.std.proofs.lemmas.Bool.{cases_Bool, eqb-true}
+use Rattle.std.proofs.lemmas.Bool.{eqb-true}
 use Rattle.ffa_model.specs.declared.rights.Rights.{Rights}
 use Rattle.ffa_model.specs.Lists.{map_at}
 use Rattle.ffa_model.specs.Identifiers.{identifier, place}
@@ -12,9 +12,10 @@ use Rattle.ffa_model.specs.Access.{transaction_at}
 use Rattle.ffa_model.specs.RunStates.{Schedule, schedule_of}
 use Rattle.ffa_model.proofs.Accesses.{length-map_at}
 use Rattle.ffa_laws.specs.View.{view, is_near, involves, kept, buffers_seen, hidden}
-use Rattle.ffa_laws.specs.Events.{Event, Public, public_part, public_change, is_same_public, public_buffers, with_public_buffers, with_public, apply, apply_all}
+use Rattle.ffa_laws.specs.Events.{Event, public_change, with_public_buffers, with_public, apply, apply_all}
+use Rattle.ffa_laws.specs.Public.{public_part, public_buffers, same_public}
 use Rattle.ffa_laws.proofs.Maps.{at-map_at, map_at-alike, get_or-map}
-use Rattle.ffa_laws.proofs.Publics.{same_public}
+use Rattle.ffa_laws.proofs.Publics.{told-of}
 
 -- a state with other pages, buffers and run states
 abbrev pub with_parts : State → List (Option Page) → List (Option Buffers) → Schedule → State
@@ -147,12 +148,11 @@ module _ (e : ℕ) (s t u : State) (told : List Event) (each : length t.buffers 
       stays = public-is s refl (own-same e s) ∙ sym old
 
       public : apply_all e u (public_change s t) ≡ view e t
-      public = of _ (λ untold. grind (arith, untold, cases_Bool (is_same_public (public_part s) (public_part t))))
+      public = of (same_public (public_part s) (public_part t))
         where
-          -- untold where it is the same at most
-          of : (b : Bool) → (b ≡ true → is_same_public (public_part s) (public_part t) ≡ true) → apply_all e u (cond b [] (Public (public_part t) ∷ [])) ≡ view e t
-          of true same = sym stays ∙ ap (with_public u) (same_public (public_part s) (public_part t) (same refl)) ∙ changes
-          of false same = changes
+          of : (c : (public_part s ≡ public_part t) ⊎ (public_part s ≢ public_part t)) → apply_all e u (told-of c) ≡ view e t
+          of (inl same) = sym stays ∙ ap (with_public u) same ∙ changes
+          of (inr differ) = changes
 
 -- so of a change of bytes, buffers and run states
 pub other-changed : (e : ℕ) (s : State) (ps : List (Option Page)) (bs : List (Option Buffers)) (c : Schedule) (told : List Event) → AreRewritten s.pages ps

@@ -22,14 +22,14 @@ use Rattle.ffa_model.proofs.CallAccesses.{access-written}
 use Rattle.ffa_laws.specs.Steady.{IsSteady}
 use Rattle.ffa_laws.specs.View.{view}
 use Rattle.ffa_laws.specs.Elsewhere.{ConfidentialAs, IntegrityAs, OneStepAs, OnlyWritersAs, OwnAccessAs, SilenceAs, events_elsewhere}
-use Rattle.ffa_laws.specs.Events.{Event, Wrote, apply_all, events, public_part, where_passed, where_true}
+use Rattle.ffa_laws.specs.Events.{Event, Wrote, apply_all, events, where_passed, where_true}
+use Rattle.ffa_laws.specs.Public.{public_part}
 use Rattle.ffa_laws.specs.Isolation.{NeverGrow, fills_rx_page, is_indirect_message}
 use Rattle.ffa_laws.specs.OwnAccess.{AreApart, is_call}
-use Rattle.ffa_laws.specs.Readable.{all_readably, blank, is_unreadable, readable, revealed}
+use Rattle.ffa_laws.specs.Readable.{all_readably, is_unreadable, readable, revealed}
 use Rattle.ffa_laws.specs.Silence.{AreBare, AreMet, AreNews, may_be_told, may_change_public}
 use Rattle.ffa_laws.specs.Writers.{is_filled_by, is_reclaimed_by}
 use Rattle.ffa_laws.proofs.Bare.{bare-store}
-use Rattle.ffa_laws.proofs.Blanks.{blanked-twice}
 use Rattle.ffa_laws.proofs.Form.{accessed-kept, viewed}
 use Rattle.ffa_laws.proofs.Growth.{never_grow, step_never_grows}
 use Rattle.ffa_laws.proofs.Integrities.{integrity}
@@ -39,7 +39,7 @@ use Rattle.ffa_laws.proofs.Meets.{met-store}
 use Rattle.ffa_laws.proofs.MemoryLaws.{other-fetch, other-load, other-store}
 use Rattle.ffa_laws.proofs.News.{news-store, silence}
 use Rattle.ffa_laws.proofs.OwnAccesses.{own_access}
-use Rattle.ffa_laws.proofs.Readings.{confidential}
+use Rattle.ffa_laws.proofs.Readings.{confidential, other-reading}
 use Rattle.ffa_laws.proofs.Rows.{public-step, rows}
 use Rattle.ffa_laws.proofs.SoundOperations.{step-sound, store-sound}
 use Rattle.ffa_laws.proofs.SoundPages.{store-aligned}
@@ -101,18 +101,18 @@ bare-alike f v r None false address bytes bare = bare
 bare-alike f v r (Some fault) near address bytes bare = bare
 
 -- what of it can be read is read alike
-heard-alike : (f : ℕ) (s : State) (e : ℕ) (hides : ℕ → Bool) (w : State) (o : Option FaultKind) (near : Bool) (address : ℕ) (bytes : List ℕ)
-    → as_run_by s.runner (blank hides (apply_all f (as_run_by e w) (all_readably f (as_run_by e s) (where_passed o (where_true near (Wrote address bytes ∷ []))))))
-    ≡ blank hides (apply_all f (as_run_by s.runner w) (all_readably f s (where_passed o (where_true near (Wrote address bytes ∷ [])))))
-heard-alike f s e hides w None true address bytes = of (not (is_unreadable s f ((address - s.ram_base) / 4096)))
+heard-alike : (f : ℕ) (s : State) (e : ℕ) (w : State) (o : Option FaultKind) (near : Bool) (address : ℕ) (bytes : List ℕ)
+    → as_run_by s.runner (apply_all f (as_run_by e w) (all_readably f (as_run_by e s) (where_passed o (where_true near (Wrote address bytes ∷ [])))))
+    ≡ apply_all f (as_run_by s.runner w) (all_readably f s (where_passed o (where_true near (Wrote address bytes ∷ []))))
+heard-alike f s e w None true address bytes = of (not (is_unreadable s f ((address - s.ram_base) / 4096)))
   where
     of : (b : Bool)
-        → as_run_by s.runner (blank hides (apply_all f (as_run_by e w) (where_true b (Wrote address bytes ∷ []) ++ [])))
-        ≡ blank hides (apply_all f (as_run_by s.runner w) (where_true b (Wrote address bytes ∷ []) ++ []))
+        → as_run_by s.runner (apply_all f (as_run_by e w) (where_true b (Wrote address bytes ∷ []) ++ []))
+        ≡ apply_all f (as_run_by s.runner w) (where_true b (Wrote address bytes ∷ []) ++ [])
     of true = refl
     of false = refl
-heard-alike f s e hides w None false address bytes = refl
-heard-alike f s e hides w (Some fault) near address bytes = refl
+heard-alike f s e w None false address bytes = refl
+heard-alike f s e w (Some fault) near address bytes = refl
 
 same-within : (a b : Option Rights) → a ≡ b → is_within a b ≡ true
 same-within a b same = ap (is_within a) (sym same) ∙ within-same a
@@ -229,14 +229,14 @@ module _ (s : State) (e : ℕ) where
     alone-elsewhere (Fetch address) f p owned unnamed differ = integrity there (Fetch address) run_by f p owned unnamed differ refl
 
     -- what others can read
-    heard-elsewhere : AreApart s → (op : Op) (f : ℕ) → is_known s f ≡ true → e ≢ f
-        → readable f (step_elsewhere s e op).state ≡ blank (is_unreadable s f) (apply_all f (readable f s) (all_readably f s (events_elsewhere f s e op)))
-    heard-elsewhere apart (Call x) f its differ = λ i. record (view f s) { pages = sym (blanked-twice (is_unreadable s f) (view f s).pages) i }
-    heard-elsewhere apart (Load address size) f its differ = ap (as_run_by s.runner) ((confidential there (Load address size) run_by apart).others f its differ)
-    heard-elsewhere apart (Store address size value) f its differ =
-        ap (as_run_by s.runner) ((confidential there (Store address size value) run_by apart).others f its differ)
-        ∙ heard-alike f s e (is_unreadable s f) (readable f s) (store_fault there address (size_of size)) _ address (little_bytes (size_of size) value)
-    heard-elsewhere apart (Fetch address) f its differ = ap (as_run_by s.runner) ((confidential there (Fetch address) run_by apart).others f its differ)
+    heard-elsewhere : (op : Op) (f : ℕ) → is_known s f ≡ true → e ≢ f
+        → readable f (step_elsewhere s e op).state ≡ apply_all f (readable f s) (all_readably f s (events_elsewhere f s e op))
+    heard-elsewhere (Call x) f its differ = refl
+    heard-elsewhere (Load address size) f its differ = ap (as_run_by s.runner) (other-reading f there run_by its differ (Load address size))
+    heard-elsewhere (Store address size value) f its differ =
+        ap (as_run_by s.runner) (other-reading f there run_by its differ (Store address size value))
+        ∙ heard-alike f s e (readable f s) (store_fault there address (size_of size)) _ address (little_bytes (size_of size) value)
+    heard-elsewhere (Fetch address) f its differ = ap (as_run_by s.runner) (other-reading f there run_by its differ (Fetch address))
 
     -- its own operation, on its view alone
     seen-elsewhere : (op : Op) → step_elsewhere (view e s) e op ≡ viewed e (step_elsewhere s e op)
@@ -271,11 +271,11 @@ module _ (s : State) (e : ℕ) where
       read-elsewhere (Store address size value) shows = λ i. as_run_by (same i).runner ((confidential there (Store address size value) run_by apart).own read_there run_by_read alike_read shows i)
       read-elsewhere (Fetch address) shows = λ i. as_run_by (same i).runner ((confidential there (Fetch address) run_by apart).own read_there run_by_read alike_read shows i)
 
-      quiet-elsewhere : AreApart t → (op : Op) → readable e (step_elsewhere t e op).state ≡ readable e (step_elsewhere s e op).state
-      quiet-elsewhere apart_t (Call x) = same
-      quiet-elsewhere apart_t (Load address size) = λ i. as_run_by (same i).runner ((confidential there (Load address size) run_by apart).quiet read_there run_by_read apart_t alike_read refl i)
-      quiet-elsewhere apart_t (Store address size value) = λ i. as_run_by (same i).runner ((confidential there (Store address size value) run_by apart).quiet read_there run_by_read apart_t alike_read refl i)
-      quiet-elsewhere apart_t (Fetch address) = λ i. as_run_by (same i).runner ((confidential there (Fetch address) run_by apart).quiet read_there run_by_read apart_t alike_read refl i)
+      quiet-elsewhere : (op : Op) → readable e (step_elsewhere t e op).state ≡ readable e (step_elsewhere s e op).state
+      quiet-elsewhere (Call x) = same
+      quiet-elsewhere (Load address size) = λ i. as_run_by (same i).runner ((confidential there (Load address size) run_by apart).quiet read_there run_by_read alike_read refl i)
+      quiet-elsewhere (Store address size value) = λ i. as_run_by (same i).runner ((confidential there (Store address size value) run_by apart).quiet read_there run_by_read alike_read refl i)
+      quiet-elsewhere (Fetch address) = λ i. as_run_by (same i).runner ((confidential there (Fetch address) run_by apart).quiet read_there run_by_read alike_read refl i)
 
     -- from another state that e views alike
     module _ (t : State) (steady_t : IsSteady t) (same : view e t ≡ view e s) where
@@ -403,15 +403,15 @@ confidential_as s e op steady known apart =
           (by_runner s e (λ b. revealed e t (stepped t e op b).state ≡ revealed e s (stepped s e op b).state → readable e (stepped t e op b).state ≡ readable e (stepped s e op b).state)
           (λ runs. subst (λ f. readable f t ≡ readable f s → revealed f t (step t op).state ≡ revealed f s (step s op).state → readable f (step t op).state ≡ readable f (step s op).state) runs ((confidential s op steady apart).own t steady_t) same)
           (λ rests. read-elsewhere s e steady known apart t steady_t same op));
-      quiet = λ t steady_t apart_t same none.
+      quiet = λ t steady_t same none.
           ap (λ (v : State). readable e (stepped t e op (v.runner == e)).state) same
           ∙ by_runner s e (λ b. readable e (stepped t e op b).state ≡ readable e (stepped s e op b).state)
-          (λ runs. subst (λ f. readable f t ≡ readable f s → readable f (step t op).state ≡ readable f (step s op).state) runs (λ alike. (confidential s op steady apart).quiet t steady_t apart_t alike none) same)
-          (λ rests. quiet-elsewhere s e steady known apart t steady_t same apart_t op);
+          (λ runs. subst (λ f. readable f t ≡ readable f s → readable f (step t op).state ≡ readable f (step s op).state) runs (λ alike. (confidential s op steady apart).quiet t steady_t alike none) same)
+          (λ rests. quiet-elsewhere s e steady known apart t steady_t same op);
       others = λ f its differ.
-          by_runner s e (λ b. readable f (stepped s e op b).state ≡ blank (is_unreadable s f) (apply_all f (readable f s) (all_readably f s (cond b (events f s op) (events_elsewhere f s e op)))))
+          by_runner s e (λ b. readable f (stepped s e op b).state ≡ apply_all f (readable f s) (all_readably f s (cond b (events f s op) (events_elsewhere f s e op))))
           (λ runs. (confidential s op steady apart).others f its (λ same. differ (sym runs ∙ same)))
-          (λ rests. heard-elsewhere s e steady known apart op f its differ);
+          (λ rests. heard-elsewhere s e steady known op f its differ);
     }
 
 -- for runs: an endpoint's own operation is done on its view alone, and the endpoints stay

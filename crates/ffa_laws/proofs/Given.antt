@@ -1,25 +1,22 @@
 -- SPDX-License-Identifier: MIT OR Apache-2.0
 -- A donate that is taken: its pages are the receiver's own. What becomes of views, and that a state stays steady.
 use Rattle.std.proofs.Common.{◌≡◌, ◌≢◌, ◌∙◌, ℕ, Bool, true, false, cond, length, Option, Some, None, refl, sym, ap, inl, inr, arith}
-use Rattle.std.specs.Prelude.{◌==◌, ◌||◌, ◌&&◌, filter}
+use Rattle.std.specs.Prelude.{◌==◌, ◌||◌, filter}
 use Rattle.std.specs.List.{list_all}
 use Rattle.std.specs.Option.{option_map, option_map_or}
 use Rattle.std.specs.FinMap as finite
 use Rattle.std.proofs.lemmas.Bool.{cases_Bool, eq-eqb, ne_eqb}
 use Rattle.std.proofs.lemmas.Option.{none-some}
-use Rattle.ffa_model.specs.declared.rights.Data.TheVariants.{Ro, Rw}
-use Rattle.ffa_model.specs.declared.rights.Kind.{Kind}
-use Rattle.ffa_model.specs.declared.rights.Kind.TheVariants.{Share, Lend, Donate}
 use Rattle.ffa_model.specs.declared.rights.Rights.{Rights}
 use Rattle.ffa_model.specs.Identifiers.{manager}
 use Rattle.ffa_model.specs.Lists.{listed, map_at}
 use Rattle.ffa_model.specs.Rights.{is_within, may_fetch, may_store}
-use Rattle.ffa_model.specs.State.{State, Page, Transaction, owner_of, page_at, transaction_of}
-use Rattle.ffa_model.specs.Access.{handle_at, is_naming, names, transaction_at}
+use Rattle.ffa_model.specs.State.{State, Page, Transaction, owner_of, page_at, transaction_of, own_right_of}
+use Rattle.ffa_model.specs.Access.{handle_at, is_naming, names, transaction_at, ownership_of}
 use Rattle.ffa_model.specs.Memory.{changed_pages, with_pages}
 use Rattle.ffa_model.specs.MemoryRetrieve.{donated_page}
 use Rattle.ffa_model.specs.MemoryReturn.{named_ranges}
-use Rattle.ffa_model.specs.Transactions.{own_right_of, own_rights_of, ceiling, ceiling_in, grant_to, pages_in}
+use Rattle.ffa_model.specs.Transactions.{ceiling, ceiling_in, pages_in}
 use Rattle.ffa_laws.specs.Events.{Closed, apply}
 use Rattle.ffa_laws.specs.Steady.{IsSteady, IsSteadyTransaction}
 use Rattle.ffa_laws.specs.View.{view, buffers_seen, involves, is_near, kept, seen_by, transactions_of}
@@ -161,18 +158,13 @@ module _ (s : State) (steady : IsSteady s) (h : ℕ) (t : Transaction) (there : 
     ]
 
     rights-same : (test : Option Rights → Bool)
-        → list_all (λ p. test (own_right_of given p)) (pages_in (own_rights_of given) u.ranges) ≡ list_all (λ p. test (own_right_of s p)) (pages_in (own_rights_of s) u.ranges)
+        → list_all (λ p. test (own_right_of given p)) (pages_in (ownership_of given) u.ranges) ≡ list_all (λ p. test (own_right_of s p)) (pages_in (ownership_of s) u.ranges)
     rights-same test =
         ap (λ n. list_all (λ p. test (own_right_of given p)) (filter (names s u.ranges) (listed n (λ p. p)))) size-given
         ∙ same-tests (λ p. test (own_right_of given p)) (λ p. test (own_right_of s p)) (names s u.ranges) (length s.pages) (λ p. p) (λ p lt named. ap test (own_right-same p (apart p named)))
 
-    ceiling-same : (f : ℕ) → ceiling (own_rights_of given) u f ≡ ceiling (own_rights_of s) u f
-    ceiling-same f = of u.kind
-      where
-        of : (kind : Kind) → ceiling_in kind (own_rights_of given) u f ≡ ceiling_in kind (own_rights_of s) u f
-        of Share = refl
-        of Lend = λ i. record { level = grant_to u f; exec = length u.receivers == 1 && rights-same may_fetch i }
-        of Donate = λ i. record { level = cond (rights-same may_store i) Rw Ro; exec = rights-same may_fetch i }
+    ceiling-same : (f : ℕ) → ceiling (ownership_of given) u f ≡ ceiling (ownership_of s) u f
+    ceiling-same f = λ i. ceiling_in u.kind (rights-same may_store i) (rights-same may_fetch i) u f
 
     steady-other : IsSteadyTransaction given u
     steady-other =

@@ -13,9 +13,9 @@ use Rattle.ffa_model.specs.declared.rights.Rights.{Rights}
 use Rattle.ffa_model.specs.declared.transaction.Range.{Range}
 use Rattle.ffa_model.specs.declared.transaction.Receiver.{Receiver}
 use Rattle.ffa_model.specs.Rights.{is_at_most, is_data_at_most, is_within, may_fetch, may_store}
-use Rattle.ffa_model.specs.State.{State, Page, Transaction, page_at}
-use Rattle.ffa_model.specs.Access.{covers, is_receiver, names}
-use Rattle.ffa_model.specs.Transactions.{OwnRights, are_executable, are_writable, own_right_of, own_rights_of, ceiling, ceiling_in, grant_to, pages_in}
+use Rattle.ffa_model.specs.State.{State, Page, Transaction, page_at, own_right_of}
+use Rattle.ffa_model.specs.Access.{covers, is_receiver, names, Ownership, ownership_of}
+use Rattle.ffa_model.specs.Transactions.{are_executable, are_writable, ceiling, ceiling_in, grant_to, pages_in}
 use Rattle.ffa_model.specs.MemorySend.{are_grants_within, is_grantable, is_inside}
 use Rattle.ffa_model.specs.SendDescriptor.{most_receivers, range_end}
 use Rattle.ffa_model.proofs.NamedPages.{listed-each}
@@ -26,17 +26,17 @@ use Rattle.ffa_laws.proofs.Steadies.{two-receivers}
 abbrev has_address : ℕ → Range → Bool
 has_address address r = nat_le r.address address && nat_lt address (range_end r)
 
-in-range : (ram : OwnRights) (r : Range) (p : ℕ) → is_inside ram r ≡ true → has_address (ram.ram_base + 4096 * p) r ≡ true → p < ram.pages
+in-range : (ram : Ownership) (r : Range) (p : ℕ) → is_inside ram r ≡ true → has_address (ram.base + 4096 * p) r ≡ true → p < ram.count
 in-range ram r p inside covered =
-    let within = leb-true (range_end r) (ram.ram_base + 4096 * ram.pages) (and_parts (nat_le ram.ram_base r.address) _ inside).1 in
-    let below = ltb-true (ram.ram_base + 4096 * p) (range_end r) (and_parts (nat_le r.address (ram.ram_base + 4096 * p)) _ covered).1 in
+    let within = leb-true (range_end r) (ram.base + 4096 * ram.count) (and_parts (nat_le ram.base r.address) _ inside).1 in
+    let below = ltb-true (ram.base + 4096 * p) (range_end r) (and_parts (nat_le r.address (ram.base + 4096 * p)) _ covered).1 in
     omega (arith, within, below)
 
-pub covered-inside : (ram : OwnRights) (ranges : List Range) (p : ℕ) → list_all (is_inside ram) ranges ≡ true → covers ranges (ram.ram_base + 4096 * p) ≡ true → p < ram.pages
+pub covered-inside : (ram : Ownership) (ranges : List Range) (p : ℕ) → list_all (is_inside ram) ranges ≡ true → covers ranges (ram.base + 4096 * p) ≡ true → p < ram.count
 covered-inside ram [] p inside covered = absurd (false≢true covered)
 covered-inside ram (r ∷ ranges) p inside covered =
     let (here, rest) = and_parts (is_inside ram r) (list_all (is_inside ram) ranges) inside in
-    elim (or_cases (has_address (ram.ram_base + 4096 * p) r) (covers ranges (ram.ram_base + 4096 * p)) covered) [
+    elim (or_cases (has_address (ram.base + 4096 * p) r) (covers ranges (ram.base + 4096 * p)) covered) [
       | inl at ↦ in-range ram r p here at
       | inr later ↦ covered-inside ram ranges p rest later
     ]
@@ -72,28 +72,28 @@ level-within false level is = refl
 
 -- a ceiling is within the own right of each page that the grants are within
 module _ (s : State) (t : Transaction) (p e : ℕ) (page : Page) (at : page_at s p ≡ Some page) (lt : p < length s.pages) (named : names s t.ranges p ≡ true) where
-  each : (test : ℕ → Bool) → list_all test (pages_in (own_rights_of s) t.ranges) ≡ true → test p ≡ true
+  each : (test : ℕ → Bool) → list_all test (pages_in (ownership_of s) t.ranges) ≡ true → test p ≡ true
   each test all = listed-each test (names s t.ranges) (length s.pages) (λ q. q) all p lt named
 
   own_right-is : own_right_of s p ≡ Some page.own_right
   own_right-is = ap page_right at
 
-  execute : are_executable (own_rights_of s) t.ranges ≡ true → page.own_right.exec ≡ true
+  execute : are_executable (ownership_of s) t.ranges ≡ true → page.own_right.exec ≡ true
   execute all = sym (ap may_fetch own_right-is) ∙ each (λ q. may_fetch (own_right_of s q)) all
 
-  pub granted-ceiling : list_all (are_grants_within (own_rights_of s) t.receivers) (pages_in (own_rights_of s) t.ranges) ≡ true
-      → is_within (Some (ceiling (own_rights_of s) t e)) (page_right (page_at s p)) ≡ true
-  granted-ceiling grants = ap (λ o. is_within (Some (ceiling (own_rights_of s) t e)) (page_right o)) at ∙ of t.kind
+  pub granted-ceiling : list_all (are_grants_within (ownership_of s) t.receivers) (pages_in (ownership_of s) t.ranges) ≡ true
+      → is_within (Some (ceiling (ownership_of s) t e)) (page_right (page_at s p)) ≡ true
+  granted-ceiling grants = ap (λ o. is_within (Some (ceiling (ownership_of s) t e)) (page_right o)) at ∙ of t.kind
     where
       grant : is_data_at_most (grant_to t e) page.own_right.level ≡ true
-      grant = granted t.receivers e page.own_right (sym (ap (λ right. list_all (λ (r : Receiver). is_grantable r.grant right) t.receivers) own_right-is) ∙ each (are_grants_within (own_rights_of s) t.receivers) grants)
+      grant = granted t.receivers e page.own_right (sym (ap (λ right. list_all (λ (r : Receiver). is_grantable r.grant right) t.receivers) own_right-is) ∙ each (are_grants_within (ownership_of s) t.receivers) grants)
 
-      of : (kind : Kind) → is_at_most (ceiling_in kind (own_rights_of s) t e) page.own_right ≡ true
+      of : (kind : Kind) → is_at_most (ceiling_in kind (are_writable (ownership_of s) t.ranges) (are_executable (ownership_of s) t.ranges) t e) page.own_right ≡ true
       of Share = and_from _ _ grant refl
-      of Lend = and_from _ _ grant (alone-executed (length t.receivers == 1) (are_executable (own_rights_of s) t.ranges) page.own_right.exec execute)
+      of Lend = and_from _ _ grant (alone-executed (length t.receivers == 1) (are_executable (ownership_of s) t.ranges) page.own_right.exec execute)
       of Donate =
-          and_from _ _ (level-within (are_writable (own_rights_of s) t.ranges) page.own_right.level (λ all. sym (ap may_store own_right-is) ∙ each (λ q. may_store (own_right_of s q)) all))
-          (executed (are_executable (own_rights_of s) t.ranges) page.own_right.exec execute)
+          and_from _ _ (level-within (are_writable (ownership_of s) t.ranges) page.own_right.level (λ all. sym (ap may_store own_right-is) ∙ each (λ q. may_store (own_right_of s q)) all))
+          (executed (are_executable (ownership_of s) t.ranges) page.own_right.exec execute)
 
 -- a donate that has at most one receiver is to one
 pub one-taker : (t : Transaction) → length t.receivers ≤ most_receivers t.kind → (e f : ℕ) → t.kind ≡ Donate → is_receiver e t ≡ true → is_receiver f t ≡ true → e ≡ f

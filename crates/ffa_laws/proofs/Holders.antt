@@ -15,15 +15,16 @@ use Rattle.ffa_model.specs.declared.rights.Kind.TheVariants.{Share, Lend, Donate
 use Rattle.ffa_model.specs.declared.rights.Rights.{Rights}
 use Rattle.ffa_model.specs.Lists.{map_at}
 use Rattle.ffa_model.specs.Rights.{is_lend, is_share, is_within}
-use Rattle.ffa_model.specs.State.{State, Transaction, owner_of, sent_by, transaction_of}
-use Rattle.ffa_model.specs.Access.{handle_at, held_by, is_naming, is_receiver, names}
-use Rattle.ffa_model.specs.Transactions.{OwnRights, own_right_of, own_rights_of, ceiling, ceiling_in, handle_of, holding, not_holding}
+use Rattle.ffa_model.specs.State.{State, Transaction, owner_of, sent_by, transaction_of, own_right_of}
+use Rattle.ffa_model.specs.Access.{handle_at, held_by, is_naming, is_receiver, names, ownership_of}
+use Rattle.ffa_model.specs.Transactions.{handle_of, holding, not_holding}
 use Rattle.ffa_laws.specs.Steady.{IsSteady, IsSteadyTransaction, is_joint}
 use Rattle.ffa_laws.specs.View.{view, involves, is_near, kept, seen_by, transactions_of}
 use Rattle.ffa_laws.proofs.Maps.{first_no, first_none, first_one, first_some}
 use Rattle.ffa_laws.proofs.Views.{shown, view-transaction}
 use Rattle.ffa_laws.proofs.Opened.{get-insert, same_transactions}
 use Rattle.ffa_laws.proofs.Steadies.{two-receivers}
+use Rattle.ffa_model.proofs.Kept.{ceiling-held}
 
 abbrev pub Holders : Type 0
 Holders = finite.FinMap nat_cmp Rights
@@ -100,15 +101,6 @@ seen-unheld e t held other same = λ i. record t { held = hidden i }
         ap (λ b. cond b held (finite.retain_keys held (λ f. f == e))) other
         ∙ same-holders _ _ (λ k. get-own e held k ∙ own k (k == e) refl ∙ sym (get-own e t.held k))
         ∙ sym (ap (λ b. cond b t.held (finite.retain_keys t.held (λ f. f == e))) other)
-
--- who holds a transaction doesn't touch ceilings
-ceiling-reheld : (b : OwnRights) (t : Transaction) (held : Holders) (e : ℕ) → ceiling b (record t { held = held }) e ≡ ceiling b t e
-ceiling-reheld b t held e = of t.kind
-  where
-    of : (kind : Kind) → ceiling_in kind b (record t { held = held }) e ≡ ceiling_in kind b t e
-    of Share = refl
-    of Lend = refl
-    of Donate = refl
 
 module _ (s : State) (steady : IsSteady s) (h : ℕ) (t : Transaction) (there : transaction_of s h ≡ Some t) (held : Holders) where
   abbrev changed : Transaction
@@ -190,7 +182,7 @@ module _ (s : State) (steady : IsSteady s) (h : ℕ) (t : Transaction) (there : 
           receiver = receivers;
           within = rights;
           alone = λ e f one other differ of_e of_f. joint e f differ (receivers e one of_e) (receivers f other of_f) t.kind refl;
-          ceilings = λ p e named. subst (λ (most : Rights). is_within (Some most) (own_right_of s p) ≡ true) (sym (ceiling-reheld (own_rights_of s) t held e)) (good.ceilings p e named);
+          ceilings = λ p e named. subst (λ (most : Rights). is_within (Some most) (own_right_of s p) ≡ true) (sym (ceiling-held (ownership_of s) t held e)) (good.ceilings p e named);
           taker = good.taker;
         }
 

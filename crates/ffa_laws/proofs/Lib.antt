@@ -59,6 +59,7 @@ pub mod SoundReturns
 pub mod SoundRetrieves
 pub mod SoundSends
 pub mod SoundOperations
+pub mod Clean
 pub mod Readings
 pub mod ReadRuns
 pub mod Tellings

@@ -29,7 +29,7 @@ use Rattle.ffa_model.specs.Step.{serve, service}
 use Rattle.ffa_model.proofs.Bitmaps.{word_where-same, word_where-set}
 use Rattle.ffa_model.proofs.Guards.{guard-passes}
 use Rattle.ffa_laws.specs.View.{involves, kept, seen_by, view}
-use Rattle.ffa_laws.specs.Events.{Event, Wrote, Filled, Pending, Held, Zeroed, apply, apply_all, call_events, delivers, events, public_change, public_part, Public, releases, sets, told_by, where_passed, where_true, with_holder, writes}
+use Rattle.ffa_laws.specs.Events.{Event, Wrote, Filled, Pending, Held, Zeroed, apply, apply_all, call_events, delivers, events, public_change, releases, sets, told_by, where_passed, where_true, with_holder, writes}
 use Rattle.ffa_laws.specs.Silence.{AreMet, is_met, may_tell}
 use Rattle.ffa_laws.proofs.BufferLaws.{own-buffers}
 use Rattle.ffa_laws.proofs.MemoryLaws.{fault-none}
@@ -37,6 +37,7 @@ use Rattle.ffa_laws.proofs.Opened.{get-insert}
 use Rattle.ffa_laws.proofs.Raised.{own-bitmaps}
 use Rattle.ffa_laws.proofs.Rows.{all-weaker, call-rows}
 use Rattle.ffa_laws.proofs.Views.{shown, view-page, view-transaction}
+use Rattle.ffa_laws.proofs.Publics.{either-public}
 
 -- ---- lists of events
 met-append : (e : ℕ) (v : State) (xs ys : List Event) → AreMet e v xs → AreMet e (apply_all e v xs) ys → AreMet e v (xs ++ ys)
@@ -218,11 +219,7 @@ module _ (e : ℕ) (s : State) (sound : IsSoundState s) (known : is_known s e �
 
   -- a change of the public part is free
   public-free : (w : State) (next : State) → AreMet e w (public_change s next)
-  public-free w next = of _
-    where
-      of : (b : Bool) → AreMet e w (cond b [] (Public (public_part next) ∷ []))
-      of true = tt
-      of false = (refl, tt)
+  public-free w next = either-public (AreMet e w) s next tt (refl, tt)
 
   met-call : (call : calls.Call) → FitsBitmap call → AreMet e v (call_events e s call)
   met-call call fits = of call fits

@@ -35,13 +35,14 @@ use Rattle.ffa_model.specs.Notifications.{binding, class_of, is_bound, has_bitma
 use Rattle.ffa_model.specs.Registers.{decode}
 use Rattle.ffa_model.specs.Step.{serve, service}
 use Rattle.ffa_model.specs.declared.call.Transfer.{Transfer}
-use Rattle.ffa_model.specs.Transactions.{handle_of, next_handle, open_of, scene_of}
+use Rattle.ffa_model.specs.Transactions.{next_handle, open_of, scene_of}
 use Rattle.ffa_model.proofs.Accesses.{held-itself, released-itself}
 use Rattle.ffa_model.proofs.Guards.{guard-passes}
 use Rattle.ffa_model.proofs.Sets.{Bits, contains-retained, same-itself, same_elements}
 use Rattle.ffa_laws.specs.Steady.{IsSteady}
 use Rattle.ffa_laws.specs.View.{involves, kept, seen_by, view}
-use Rattle.ffa_laws.specs.Events.{Event, Wrote, Filled, Pending, Bound, Unbound, Opened, Held, Zeroed, Closed, Public, apply, apply_all, binds, call_events, events, is_same_public, opens, public_change, public_part, releases, takes, takes_from, taking, told_by, where_passed, where_true, with_held, with_holder, writes}
+use Rattle.ffa_laws.specs.Events.{Event, Wrote, Filled, Pending, Bound, Unbound, Opened, Held, Zeroed, Closed, Public, apply, apply_all, binds, call_events, events, opens, public_change, releases, takes, takes_from, taking, told_by, where_passed, where_true, with_held, with_holder, writes}
+use Rattle.ffa_laws.specs.Public.{public_part, same_public}
 use Rattle.ffa_laws.specs.Silence.{AreNews, Silence, may_repeat}
 use Rattle.ffa_laws.proofs.Bare.{are-bare, public-seen}
 use Rattle.ffa_laws.proofs.Changes.{apply_all-append}
@@ -50,11 +51,12 @@ use Rattle.ffa_laws.proofs.Laws.{other-call}
 use Rattle.ffa_laws.proofs.Meets.{are-met}
 use Rattle.ffa_laws.proofs.Opened.{get-insert}
 use Rattle.ffa_laws.proofs.ReclaimLaws.{seen-whole}
-use Rattle.ffa_laws.proofs.Rows.{all-weaker, is_public, passed-row, public-step, row-of, rows, same-as-itself, told_row}
+use Rattle.ffa_laws.proofs.Rows.{all-weaker, is_public, passed-row, public-step, row-of, rows, told_row}
 use Rattle.ffa_laws.proofs.SendLaws.{fresh, offer}
 use Rattle.ffa_laws.proofs.Taken as retrieve
 use Rattle.ffa_laws.proofs.Taken.{Taken, taken}
 use Rattle.ffa_laws.proofs.Views.{shown, view-transaction}
+use Rattle.ffa_laws.proofs.Publics.{told-of}
 
 -- ---- lists of events
 news-append : (e : ℕ) (v : State) (xs ys : List Event) → AreNews e v xs → AreNews e (apply_all e v xs) ys → AreNews e v (xs ++ ys)
@@ -184,15 +186,15 @@ public-told e (x ∷ es) v all =
 news-public : (e : ℕ) (s next : State) (told : List Event) → list_all (λ event. not (is_public event)) told ≡ true
     → view e next ≡ apply_all e (view e s) (told ++ public_change s next) → AreNews e (apply_all e (view e s) told) (public_change s next)
 news-public e s next told private =
-    elim (is_same_public (public_part s) (public_part next))
-    as (λ b. is_same_public (public_part s) (public_part next) ≡ b → view e next ≡ apply_all e (view e s) (told ++ cond b [] (Public (public_part next) ∷ [])) → AreNews e (apply_all e (view e s) told) (cond b [] (Public (public_part next) ∷ []))) [
-      | true ↦ λ _ _. tt
-      | false ↦ λ differ leads. changes e (apply_all e (view e s) told) (Public (public_part next)) (λ same.
+    elim (same_public (public_part s) (public_part next))
+    as (λ b. view e next ≡ apply_all e (view e s) (told ++ told-of b) → AreNews e (apply_all e (view e s) told) (told-of b)) [
+      | inl same ↦ λ _. tt
+      | inr differ ↦ λ leads. changes e (apply_all e (view e s) told) (Public (public_part next)) (λ same.
           let old : public_part next ≡ public_part s =
           sym (public-seen e next) ∙ ap public_part leads ∙ ap public_part (apply_all-append e (view e s) told (Public (public_part next) ∷ [])) ∙ ap public_part same
           ∙ public-told e told (view e s) private ∙ public-seen e s in
-          true≢false (sym (ap (is_same_public (public_part s)) old ∙ same-as-itself (public_part s)) ∙ differ))
-    ] refl
+          differ (sym old))
+    ]
 
 -- ---- the calls
 -- a write may repeat, so that it is news to whoever is told it

@@ -20,7 +20,7 @@ use Rattle.ffa_model.specs.Bits.{is_set}
 use Rattle.ffa_model.specs.Rights.{is_share, is_within}
 use Rattle.ffa_model.specs.SendDescriptor.{SendRecord}
 use Rattle.ffa_model.specs.State.{State, Page, Transaction, page_at, owner_of, buffers_of, transaction_of, version_of}
-use Rattle.ffa_model.specs.Access.{access, held_by, is_offered, is_receiver, names, right_by, right_of, transaction_at}
+use Rattle.ffa_model.specs.Access.{access, held_by, is_offered, is_receiver, names, right_by, right_of, transaction_at, ownership_of}
 use Rattle.ffa_model.specs.Buffers.{filled}
 use Rattle.ffa_model.specs.Calls.{first_failure}
 use Rattle.ffa_model.specs.Memory.{fetch_fault, number_at, read_fault, size_of, store_fault, stored, with_pages}
@@ -32,7 +32,7 @@ use Rattle.ffa_model.specs.Registers.{decode}
 use Rattle.ffa_model.specs.Setup.{info_bytes, is_count_alone, uuid_bytes}
 use Rattle.ffa_model.specs.Step.{serve, service, step}
 use Rattle.ffa_model.specs.declared.call.Transfer.{Transfer}
-use Rattle.ffa_model.specs.Transactions.{own_rights_of, closed, handle_of, holding, next_handle, not_holding, open_of, scene_of, with_open, with_transaction}
+use Rattle.ffa_model.specs.Transactions.{closed, holding, next_handle, not_holding, open_of, scene_of, with_open, with_transaction}
 use Rattle.ffa_model.proofs.Accesses.{IsNamedOnce, access-closed, access-given, access-holding_beside, access-kept, access-released, access-released_beside, access-still, access-unchanged, access-zeroed, in-closed, named-in}
 use Rattle.ffa_model.proofs.CallAccesses.{access-filled, access-written}
 use Rattle.ffa_model.proofs.Guards.{guard-passes}
@@ -46,11 +46,18 @@ use Rattle.ffa_laws.proofs.Taken as retrieve
 use Rattle.ffa_laws.proofs.Taken.{Taken, state-taken, taken}
 use Rattle.ffa_laws.proofs.Within.{within-same}
 
+-- e is not offered what it has sent itself
+abbrev pub IsApart : ℕ → State → Type 0
+IsApart e s = (h : ℕ) (t : Transaction) → transaction_of s h ≡ Some t → t.sender ≡ e → is_receiver e t ≡ false
+
+pub each-apart : (e : ℕ) (s : State) → AreApart s → IsApart e s
+each-apart e s apart h t there mine = ap (λ f. is_receiver f t) (sym mine) ∙ apart h t there
+
 -- the same of any later state, for calls that may give and take, or may not
 record Own (s t : State) (gives takes : Bool) : Type 0 where
   pub others : (e p : ℕ) → s.runner ≢ e → access t e p ≡ access s e p
-  pub grows : (p : ℕ) → gives ≡ false → is_within (access t s.runner p) (access s s.runner p) ≡ true
-  pub shrinks : (p : ℕ) → takes ≡ false → is_within (access s s.runner p) (access t s.runner p) ≡ true
+  pub grows : IsApart s.runner s → (p : ℕ) → gives ≡ false → is_within (access t s.runner p) (access s s.runner p) ≡ true
+  pub shrinks : IsApart s.runner s → (p : ℕ) → takes ≡ false → is_within (access s s.runner p) (access t s.runner p) ≡ true
 
 same-within : (a b : Option Rights) → a ≡ b → is_within a b ≡ true
 same-within a b same = ap (is_within a) (sym same) ∙ within-same a
@@ -62,22 +69,22 @@ as_before : (s t : State) (gives takes : Bool) → ((e p : ℕ) → access t e p
 as_before s t gives takes same =
     record {
       others = λ e p apart. same e p;
-      grows = λ p none. same-within _ _ (same s.runner p);
-      shrinks = λ p none. same-within _ _ (sym (same s.runner p));
+      grows = λ apart p none. same-within _ _ (same s.runner p);
+      shrinks = λ apart p none. same-within _ _ (sym (same s.runner p));
     }
 
 -- by pages: all other pages are as before, and of those that a test picks is known what follows
 by_pages : (s t : State) (picked : ℕ → Bool) (gives takes : Bool)
     → ((e p : ℕ) → picked p ≡ false → access t e p ≡ access s e p)
     → ((e p : ℕ) → picked p ≡ true → s.runner ≢ e → access t e p ≡ access s e p)
-    → ((p : ℕ) → picked p ≡ true → gives ≡ false → is_within (access t s.runner p) (access s s.runner p) ≡ true)
-    → ((p : ℕ) → picked p ≡ true → takes ≡ false → is_within (access s s.runner p) (access t s.runner p) ≡ true)
+    → (IsApart s.runner s → (p : ℕ) → picked p ≡ true → gives ≡ false → is_within (access t s.runner p) (access s s.runner p) ≡ true)
+    → (IsApart s.runner s → (p : ℕ) → picked p ≡ true → takes ≡ false → is_within (access s s.runner p) (access t s.runner p) ≡ true)
     → Own s t gives takes
 by_pages s t picked gives takes away others grows shrinks =
     record {
       others = λ e p apart. elim (picked p) as (λ b. picked p ≡ b → access t e p ≡ access s e p) [ true ↦ λ is. others e p is apart | false ↦ away e p ] refl;
-      grows = λ p none. elim (picked p) as (λ b. picked p ≡ b → is_within (access t s.runner p) (access s s.runner p) ≡ true) [ true ↦ λ is. grows p is none | false ↦ λ is. same-within _ _ (away s.runner p is) ] refl;
-      shrinks = λ p none. elim (picked p) as (λ b. picked p ≡ b → is_within (access s s.runner p) (access t s.runner p) ≡ true) [ true ↦ λ is. shrinks p is none | false ↦ λ is. same-within _ _ (sym (away s.runner p is)) ] refl;
+      grows = λ apart p none. elim (picked p) as (λ b. picked p ≡ b → is_within (access t s.runner p) (access s s.runner p) ≡ true) [ true ↦ λ is. grows apart p is none | false ↦ λ is. same-within _ _ (away s.runner p is) ] refl;
+      shrinks = λ apart p none. elim (picked p) as (λ b. picked p ≡ b → is_within (access s s.runner p) (access t s.runner p) ≡ true) [ true ↦ λ is. shrinks apart p is none | false ↦ λ is. same-within _ _ (sym (away s.runner p is)) ] refl;
     }
 
 -- ---- rights to a page
@@ -148,11 +155,11 @@ module _ (s : State) (steady : IsSteady s) where
         after-send e p true named
         ∙ strangers e (page_at s p) t (unheld e) (ap (λ f. f == e) good.sender ∙ ne_eqb s.runner e apart)
         ∙ sym (before-send e p named ∙ ownerless e (page_at s p) (ap (λ f. f == e) (owner p named) ∙ ne_eqb s.runner e apart)))
-        (λ p named none. elim (is_share kind) as (λ b. is_share kind ≡ b → is_within (access (memory_sent s kind (Some r)) s.runner p) (access s s.runner p) ≡ true) [
+        (λ mine p named none. elim (is_share kind) as (λ b. is_share kind ≡ b → is_within (access (memory_sent s kind (Some r)) s.runner p) (access s s.runner p) ≡ true) [
           | true ↦ λ share. same-within _ _ (same p named share)
           | false ↦ λ other. none-within _ _ (after-send s.runner p true named ∙ shareless s.runner (page_at s p) t (unheld s.runner) other)
         ] refl)
-        (λ p named none. same-within _ _ (sym (same p named (shared none))))
+        (λ mine p named none. same-within _ _ (sym (same p named (shared none))))
       where
         same : (p : ℕ) → names s r.ranges p ≡ true → is_share kind ≡ true → access (memory_sent s kind (Some r)) s.runner p ≡ access s s.runner p
         same p named share =
@@ -168,36 +175,35 @@ module _ (s : State) (steady : IsSteady s) where
       of (Some r) none = sent-own kind r (offer s x r none) takes shared
 
   -- ---- a relinquish
-  module _ (apart : AreApart s) where
-    relinquished-own : (d : RelinquishDesc) (t : Transaction) → transaction_of s d.handle ≡ Some t → is_receiver s.runner t ≡ true → Own s (relinquished_from s d (Some t)) false true
-    relinquished-own d t there offered =
-        by_pages s (relinquished_from s d (Some t)) (names s t.ranges) false true
-        (λ e p away. zeroes e p ∙ access-unchanged s d.handle t (not_holding t s.runner) there refl p (once p) away e)
-        (λ e p named other. zeroes e p ∙ access-released_beside s d.handle t there p (once p) named s.runner e (λ same. other (sym same)))
-        (λ p named none.
-        none-within _ _ (zeroes s.runner p ∙ access-released s d.handle t there p (once p) named s.runner ∙ nothing (page_at s p)))
-        (λ p named none. absurd (true≢false none))
-      where
-        zeroes : (e p : ℕ) → access (relinquished_from s d (Some t)) e p ≡ access (with_open s (with_transaction (open_of s) d.handle (not_holding t s.runner))) e p
-        zeroes e p = access-zeroed d.zero (with_open s (with_transaction (open_of s) d.handle (not_holding t s.runner))) t.ranges e p
+  relinquished-own : (d : RelinquishDesc) (t : Transaction) → transaction_of s d.handle ≡ Some t → is_receiver s.runner t ≡ true → Own s (relinquished_from s d (Some t)) false true
+  relinquished-own d t there offered =
+      by_pages s (relinquished_from s d (Some t)) (names s t.ranges) false true
+      (λ e p away. zeroes e p ∙ access-unchanged s d.handle t (not_holding t s.runner) there refl p (once p) away e)
+      (λ e p named other. zeroes e p ∙ access-released_beside s d.handle t there p (once p) named s.runner e (λ same. other (sym same)))
+      (λ mine p named none.
+      none-within _ _ (zeroes s.runner p ∙ access-released s d.handle t there p (once p) named s.runner ∙ nothing mine (page_at s p)))
+      (λ mine p named none. absurd (true≢false none))
+    where
+      zeroes : (e p : ℕ) → access (relinquished_from s d (Some t)) e p ≡ access (with_open s (with_transaction (open_of s) d.handle (not_holding t s.runner))) e p
+      zeroes e p = access-zeroed d.zero (with_open s (with_transaction (open_of s) d.handle (not_holding t s.runner))) t.ranges e p
 
-        not_sender : (t.sender == s.runner) ≡ false
-        not_sender = ne_eqb t.sender s.runner (λ same. false≢true (sym (apart d.handle t there) ∙ ap (λ f. is_receiver f t) same ∙ offered))
+      not_sender : IsApart s.runner s → (t.sender == s.runner) ≡ false
+      not_sender mine = ne_eqb t.sender s.runner (λ same. false≢true (sym (mine d.handle t there same) ∙ offered))
 
-        nothing : (page : Option Page) → option_and_then (λ (q : Page). cond (is_share t.kind && t.sender == s.runner) (Some q.own_right) None) page ≡ None
-        nothing None = refl
-        nothing (Some q) = elim (is_share t.kind) as (λ b. cond (b && t.sender == s.runner) (Some q.own_right) None ≡ None) [ true ↦ ap (λ b. cond b (Some q.own_right) None) not_sender | false ↦ refl ]
+      nothing : IsApart s.runner s → (page : Option Page) → option_and_then (λ (q : Page). cond (is_share t.kind && t.sender == s.runner) (Some q.own_right) None) page ≡ None
+      nothing mine None = refl
+      nothing mine (Some q) = elim (is_share t.kind) as (λ b. cond (b && t.sender == s.runner) (Some q.own_right) None ≡ None) [ true ↦ ap (λ b. cond b (Some q.own_right) None) (not_sender mine) | false ↦ refl ]
 
-    relinquish-own : first_failure (memory_relinquish s).guards ≡ None → Own s (memory_relinquish s).state false true
-    relinquish-own none = read (relinquish_read s) none
-      where
-        of : (d : RelinquishDesc) (o : Option Transaction) → transaction_of s d.handle ≡ o → first_failure (relinquish_guards (buffers_of s s.runner) (open_of s) s.runner (Some d)) ≡ None → Own s (relinquished_from s d o) false true
-        of d None there none = absurd (false≢true (sym (ap (is_offered s.runner) there) ∙ guard-passes (relinquish_guards (buffers_of s s.runner) (open_of s) s.runner (Some d)) 2 (sym none)))
-        of d (Some t) there none = relinquished-own d t there (sym (ap (is_offered s.runner) there) ∙ guard-passes (relinquish_guards (buffers_of s s.runner) (open_of s) s.runner (Some d)) 2 (sym none))
+  relinquish-own : first_failure (memory_relinquish s).guards ≡ None → Own s (memory_relinquish s).state false true
+  relinquish-own none = read (relinquish_read s) none
+    where
+      of : (d : RelinquishDesc) (o : Option Transaction) → transaction_of s d.handle ≡ o → first_failure (relinquish_guards (buffers_of s s.runner) (open_of s) s.runner (Some d)) ≡ None → Own s (relinquished_from s d o) false true
+      of d None there none = absurd (false≢true (sym (ap (is_offered s.runner) there) ∙ guard-passes (relinquish_guards (buffers_of s s.runner) (open_of s) s.runner (Some d)) 2 (sym none)))
+      of d (Some t) there none = relinquished-own d t there (sym (ap (is_offered s.runner) there) ∙ guard-passes (relinquish_guards (buffers_of s s.runner) (open_of s) s.runner (Some d)) 2 (sym none))
 
-        read : (o : Option RelinquishDesc) → first_failure (relinquish_guards (buffers_of s s.runner) (open_of s) s.runner o) ≡ None → Own s (relinquished s o) false true
-        read None none = absurd (false≢true (guard-passes (relinquish_guards (buffers_of s s.runner) (open_of s) s.runner None) 1 (sym none)))
-        read (Some d) none = of d (transaction_of s d.handle) refl none
+      read : (o : Option RelinquishDesc) → first_failure (relinquish_guards (buffers_of s s.runner) (open_of s) s.runner o) ≡ None → Own s (relinquished s o) false true
+      read None none = absurd (false≢true (guard-passes (relinquish_guards (buffers_of s s.runner) (open_of s) s.runner None) 1 (sym none)))
+      read (Some d) none = of d (transaction_of s d.handle) refl none
 
   -- ---- a reclaim
   reclaimed-own : (h : ℕ) (zero : Bool) (t : Transaction) → transaction_of s h ≡ Some t → t.sender ≡ s.runner → is_unheld (Some t) ≡ true → Own s (reclaimed s h zero) true false
@@ -208,8 +214,8 @@ module _ (s : State) (steady : IsSteady s) where
       zeroes e p ∙ access-closed s h t there p (once p) named e
       ∙ ownerless e (page_at s p) (ap (λ f. f == e) (owner p named) ∙ ne_eqb s.runner e apart)
       ∙ sym (in-it e p named ∙ strangers e (page_at s p) t (none-held e) (ap (λ f. f == e) mine ∙ ne_eqb s.runner e apart)))
-      (λ p named none. absurd (true≢false none))
-      (λ p named none.
+      (λ apart p named none. absurd (true≢false none))
+      (λ apart p named none.
       elim (is_share t.kind) as (λ b. is_share t.kind ≡ b → is_within (access s s.runner p) (access (reclaimed s h zero) s.runner p) ≡ true) [
         | true ↦ λ share. same-within _ _ (in-it s.runner p named ∙ sharers s.runner (page_at s p) t (none-held s.runner) (eq-eqb t.sender s.runner mine) share (owner p named) ∙ sym (zeroes s.runner p ∙ access-closed s h t there p (once p) named s.runner))
         | false ↦ λ other. none-within _ _ (in-it s.runner p named ∙ shareless s.runner (page_at s p) t (none-held s.runner) other)
@@ -233,15 +239,15 @@ module _ (s : State) (steady : IsSteady s) where
       h : ℕ
       h = handle
 
-      of : (o : Option Transaction) → transaction_of s h ≡ o → first_failure (reclaim_guards (own_rights_of s) s.runner flags o) ≡ None → Own s (reclaimed s h (is_set 0 flags)) true false
-      of None there none = absurd (false≢true (guard-passes (reclaim_guards (own_rights_of s) s.runner flags None) 1 (sym none)))
+      of : (o : Option Transaction) → transaction_of s h ≡ o → first_failure (reclaim_guards (ownership_of s) s.runner flags o) ≡ None → Own s (reclaimed s h (is_set 0 flags)) true false
+      of None there none = absurd (false≢true (guard-passes (reclaim_guards (ownership_of s) s.runner flags None) 1 (sym none)))
       of (Some t) there none =
           reclaimed-own h (is_set 0 flags) t there
-          (eqb-true t.sender s.runner (guard-passes (reclaim_guards (own_rights_of s) s.runner flags (Some t)) 1 (sym none)))
-          (guard-passes (reclaim_guards (own_rights_of s) s.runner flags (Some t)) 2 (sym none))
+          (eqb-true t.sender s.runner (guard-passes (reclaim_guards (ownership_of s) s.runner flags (Some t)) 1 (sym none)))
+          (guard-passes (reclaim_guards (ownership_of s) s.runner flags (Some t)) 2 (sym none))
 
   -- ---- a retrieve
-  module _ (apart : AreApart s) (x : Transfer) (its : Taken s x) where
+  module _ (x : Transfer) (its : Taken s x) where
     abbrev u : Transaction
     u = its.of
 
@@ -260,22 +266,22 @@ module _ (s : State) (steady : IsSteady s) where
     response : (e p : ℕ) → access (filled (retrieve.before s x its) s.runner (retrieve.response s x its)) e p ≡ access (retrieve.before s x its) e p
     response e p = access-filled (retrieve.before s x its) s.runner (retrieve.response s x its) e p
 
-    not_sender : (u.sender == s.runner) ≡ false
-    not_sender = ne_eqb u.sender s.runner (λ same. false≢true (sym (apart k u there) ∙ ap (λ f. is_receiver f u) same ∙ its.is.receiver))
+    not_sender : IsApart s.runner s → (u.sender == s.runner) ≡ false
+    not_sender mine = ne_eqb u.sender s.runner (λ same. false≢true (sym (mine k u there same) ∙ its.is.receiver))
 
     in-it : (e p : ℕ) → names s u.ranges p ≡ true → access s e p ≡ right_of e (page_at s p) (Some u)
     in-it e p named = ap (right_of e (page_at s p)) (named-in s p k u (once p) there named)
 
-    nothing-before : (p : ℕ) → names s u.ranges p ≡ true → access s s.runner p ≡ None
-    nothing-before p named = in-it s.runner p named ∙ strangers s.runner (page_at s p) u (is_none-None (held_by u s.runner) its.is.unheld) not_sender
+    nothing-before : IsApart s.runner s → (p : ℕ) → names s u.ranges p ≡ true → access s s.runner p ≡ None
+    nothing-before mine p named = in-it s.runner p named ∙ strangers s.runner (page_at s p) u (is_none-None (held_by u s.runner) its.is.unheld) (not_sender mine)
 
     held-own : Own s (with_open s (with_transaction (open_of s) k (holding u s.runner right))) true false
     held-own =
         by_pages s (with_open s (with_transaction (open_of s) k (holding u s.runner right))) (names s u.ranges) true false
         (λ e p away. access-unchanged s k u (holding u s.runner right) there refl p (once p) away e)
         (λ e p named other. access-holding_beside s k u there p (once p) named s.runner right e (λ same. other (sym same)))
-        (λ p named none. absurd (true≢false none))
-        (λ p named none. none-within _ _ (nothing-before p named))
+        (λ mine p named none. absurd (true≢false none))
+        (λ mine p named none. none-within _ _ (nothing-before mine p named))
 
     given-own : u.kind ≡ Donate → Own s (with_pages (with_open s (closed (open_of s) k)) u.ranges (donated_page s.runner right)) true false
     given-own donate =
@@ -285,8 +291,8 @@ module _ (s : State) (steady : IsSteady s) where
         access-given (with_open s (closed (open_of s) k)) u.ranges s.runner e right p named (in-closed s k u there p (once p) named)
         ∙ nobody (page_at s p) (ne_eqb s.runner e other)
         ∙ sym (in-it e p named ∙ shareless e (page_at s p) u (unheld e other) (ap is_share donate)))
-        (λ p named none. absurd (true≢false none))
-        (λ p named none. none-within _ _ (nothing-before p named))
+        (λ mine p named none. absurd (true≢false none))
+        (λ mine p named none. none-within _ _ (nothing-before mine p named))
       where
         nobody : {b : Bool} (page : Option Page) → b ≡ false → option_and_then (λ (_ : Page). cond b (Some right) None) page ≡ None
         nobody None is = refl
@@ -312,41 +318,49 @@ module _ (s : State) (steady : IsSteady s) where
         subst (λ t. Own s t true false) (sym (state-taken s x its))
         (record {
           others = λ e p other. response e p ∙ before-own.others e p other;
-          grows = λ p none. absurd (true≢false none);
-          shrinks = λ p none. ap (is_within (access s s.runner p)) (response s.runner p) ∙ before-own.shrinks p none;
+          grows = λ mine p none. absurd (true≢false none);
+          shrinks = λ mine p none. ap (is_within (access s s.runner p)) (response s.runner p) ∙ before-own.shrinks mine p none;
         })
 
   -- ---- any call, and any operation
-  module _ (apart : AreApart s) where
-    own-service : (call : calls.Call) → first_failure (service s call).guards ≡ None → Own s (service s call).state (gives_access call) (takes_access call)
-    own-service (PartitionInfoGet uuid flags) none =
-        elim (is_count_alone flags) as (λ b. Own s (cond b s (filled s s.runner (info_bytes (version_of s s.runner) s.parties (uuid_bytes uuid)))) false false) [
-          | true ↦ as_before s s false false (λ e p. refl)
-          | false ↦ as_before s (filled s s.runner (info_bytes (version_of s s.runner) s.parties (uuid_bytes uuid))) false false (access-filled s s.runner (info_bytes (version_of s s.runner) s.parties (uuid_bytes uuid)))
-        ]
-    own-service (MemDonate x) none = send-own Donate x true (λ is. absurd (true≢false is)) none
-    own-service (MemLend x) none = send-own Lend x true (λ is. absurd (true≢false is)) none
-    own-service (MemShare x) none = send-own Share x false (λ is. refl) none
-    own-service (MemRetrieve x) none =
-        retrieved-own apart x (taken s x none)
-    own-service MemRelinquish none = relinquish-own apart none
-    own-service (MemReclaim handle flags) none = reclaim-own handle.0 flags none
-    own-service MsgSend2 none =
-        as_before s (service s MsgSend2).state false false (access-filled s (header_in (tx_bytes s s.runner)).receiver (message_in (tx_bytes s s.runner)))
-    own-service call none = as_before s (service s call).state (gives_access call) (takes_access call) (λ e p. refl)
+  own-service : (call : calls.Call) → first_failure (service s call).guards ≡ None → Own s (service s call).state (gives_access call) (takes_access call)
+  own-service (PartitionInfoGet uuid flags) none =
+      elim (is_count_alone flags) as (λ b. Own s (cond b s (filled s s.runner (info_bytes (version_of s s.runner) s.parties (uuid_bytes uuid)))) false false) [
+        | true ↦ as_before s s false false (λ e p. refl)
+        | false ↦ as_before s (filled s s.runner (info_bytes (version_of s s.runner) s.parties (uuid_bytes uuid))) false false (access-filled s s.runner (info_bytes (version_of s s.runner) s.parties (uuid_bytes uuid)))
+      ]
+  own-service (MemDonate x) none = send-own Donate x true (λ is. absurd (true≢false is)) none
+  own-service (MemLend x) none = send-own Lend x true (λ is. absurd (true≢false is)) none
+  own-service (MemShare x) none = send-own Share x false (λ is. refl) none
+  own-service (MemRetrieve x) none =
+      retrieved-own x (taken s x none)
+  own-service MemRelinquish none = relinquish-own none
+  own-service (MemReclaim handle flags) none = reclaim-own handle.0 flags none
+  own-service MsgSend2 none =
+      as_before s (service s MsgSend2).state false false (access-filled s (header_in (tx_bytes s s.runner)).receiver (message_in (tx_bytes s s.runner)))
+  own-service call none = as_before s (service s call).state (gives_access call) (takes_access call) (λ e p. refl)
 
-    own-call : (call : calls.Call) → Own s (serve s call).state (gives_access call) (takes_access call)
-    own-call call = served-kept (λ t. Own s t (gives_access call) (takes_access call)) s (service s call) (as_before s s (gives_access call) (takes_access call) (λ e p. refl)) (own-service call)
+  own-call : (call : calls.Call) → Own s (serve s call).state (gives_access call) (takes_access call)
+  own-call call = served-kept (λ t. Own s t (gives_access call) (takes_access call)) s (service s call) (as_before s s (gives_access call) (takes_access call) (λ e p. refl)) (own-service call)
 
-    own-op : (op : Op) → Own s (step s op).state (is_call gives_access op) (is_call takes_access op)
-    own-op (Call x) = own-call (decode x)
-    own-op (Load address size) = accessed-kept (λ t. Own s t false false) s s (Data (number_at s address (size_of size))) (read_fault s address (size_of size)) (as_before s s false false (λ e p. refl)) (λ none. as_before s s false false (λ e p. refl))
-    own-op (Store address size value) =
-        accessed-kept (λ t. Own s t false false) s (stored s address (little_bytes (size_of size) value)) Done (store_fault s address (size_of size)) (as_before s s false false (λ e p. refl))
-        (λ none. as_before s (stored s address (little_bytes (size_of size) value)) false false (access-written s ((address - s.ram_base) / 4096) (address % 4096) (little_bytes (size_of size) value)))
-    own-op (Fetch address) = accessed-kept (λ t. Own s t false false) s s (Data (number_at s address 4)) (fetch_fault s address) (as_before s s false false (λ e p. refl)) (λ none. as_before s s false false (λ e p. refl))
+  own-op : (op : Op) → Own s (step s op).state (is_call gives_access op) (is_call takes_access op)
+  own-op (Call x) = own-call (decode x)
+  own-op (Load address size) = accessed-kept (λ t. Own s t false false) s s (Data (number_at s address (size_of size))) (read_fault s address (size_of size)) (as_before s s false false (λ e p. refl)) (λ none. as_before s s false false (λ e p. refl))
+  own-op (Store address size value) =
+      accessed-kept (λ t. Own s t false false) s (stored s address (little_bytes (size_of size) value)) Done (store_fault s address (size_of size)) (as_before s s false false (λ e p. refl))
+      (λ none. as_before s (stored s address (little_bytes (size_of size) value)) false false (access-written s ((address - s.ram_base) / 4096) (address % 4096) (little_bytes (size_of size) value)))
+  own-op (Fetch address) = accessed-kept (λ t. Own s t false false) s s (Data (number_at s address 4)) (fetch_fault s address) (as_before s s false false (λ e p. refl)) (λ none. as_before s s false false (λ e p. refl))
+
+-- of any steady state, nobody's access changes but the runner's; and the runner's doesn't grow where it isn't offered its own
+pub other-access : (s : State) (op : Op) → IsSteady s → (e p : ℕ) → s.runner ≢ e → access (step s op).state e p ≡ access s e p
+other-access s op steady = (own-op s steady op).others
+
+pub own-grows : (s : State) (op : Op) → IsSteady s → IsApart s.runner s → (p : ℕ) → is_call gives_access op ≡ false
+    → is_within (access (step s op).state s.runner p) (access s s.runner p) ≡ true
+own-grows s op steady = (own-op s steady op).grows
 
 pub own_access : (s : State) (op : Op) → IsSteady s → AreApart s → OwnAccess s op
 own_access s op steady apart =
-    let own = own-op s steady apart op in
-    record { others = own.others; grows = own.grows; shrinks = own.shrinks }
+    let own = own-op s steady op in
+    let mine = each-apart s.runner s apart in
+    record { others = own.others; grows = own.grows mine; shrinks = own.shrinks mine }

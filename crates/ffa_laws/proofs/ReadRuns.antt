@@ -1,48 +1,32 @@
 -- SPDX-License-Identifier: MIT OR Apache-2.0
 -- What an endpoint can read over a run, by induction.
 use Rattle.std.proofs.Common.{append-nil, ◌≡◌, ◌≢◌, ◌∙◌, ℕ, Bool, true, false, cond, List, [], ◌∷◌, ◌++◌, map, refl, sym, ap, subst}
-use Rattle.std.specs.Prelude.{◌==◌, is_none}
-use Rattle.std.proofs.Math.Path.{fun_ext}
+use Rattle.std.specs.Prelude.{◌==◌}
 use Rattle.std.proofs.lemmas.Bool.{eq-eqb, eqb-true, true≢false}
 use Rattle.std.proofs.lemmas.List.{append_assoc}
 use Rattle.ffa_model.specs.declared.operation.Op.{Op}
 use Rattle.ffa_model.specs.State.{State, is_known}
 use Rattle.ffa_model.specs.Step.{state_after, step}
 use Rattle.ffa_laws.specs.Steady.{IsSteady}
-use Rattle.ffa_laws.specs.View.{view}
 use Rattle.ffa_laws.specs.Events.{Event, Wrote, Opened, Zeroed, apply, apply_all, events, message, messages, seen, where_true}
-use Rattle.ffa_laws.specs.OwnAccess.{AreApart}
-use Rattle.ffa_laws.specs.Readable.{Did, Heard, Reading, RunConfidential, all_readably, blank, is_unreadable, readable, readably, readings, revealed}
+use Rattle.ffa_laws.specs.Readable.{Did, Heard, Reading, RunConfidential, all_readably, readable, readably, readings, revealed}
 use Rattle.ffa_laws.specs.Replay.{Lived, seeing}
-use Rattle.ffa_laws.proofs.Apart.{stays_apart}
-use Rattle.ffa_laws.proofs.Blanks.{access-b, blanked-twice}
 use Rattle.ffa_laws.proofs.Kept.{known-step}
 use Rattle.ffa_laws.proofs.Laws.{steady-step}
-use Rattle.ffa_laws.proofs.OwnAccesses.{own_access}
-use Rattle.ffa_laws.proofs.Readings.{apply-blind, joined, other-reading, read-after, read-outcome}
-use Rattle.ffa_laws.proofs.Views.{view-access}
+use Rattle.ffa_laws.proofs.Readings.{joined, other-reading, read-after, read-outcome}
 
--- What is seen, and can be read then, by what is met alone. Which pages can't be read changes by own operations alone.
-relive : ℕ → (ℕ → Bool) → State → List Reading → Lived
-relive e hides v [] = record { seen = []; view = v }
-relive e hides v (Did op shown ∷ rest) =
-    seeing ((step v op).outcome ∷ []) (relive e (is_unreadable (joined e (step v op).state shown) e) (joined e (step v op).state shown) rest)
-relive e hides v (Heard event ∷ rest) = seeing (message e event) (relive e hides (blank hides (apply e v event)) rest)
+-- What is seen, and can be read then, by what is met alone.
+relive : ℕ → State → List Reading → Lived
+relive e v [] = record { seen = []; view = v }
+relive e v (Did op shown ∷ rest) = seeing ((step v op).outcome ∷ []) (relive e (joined e (step v op).state shown) rest)
+relive e v (Heard event ∷ rest) = seeing (message e event) (relive e (apply e v event) rest)
 
--- blank once or at each event
-blank-all : (e : ℕ) (hides : ℕ → Bool) (es : List Event) (v : State) → blank hides (apply_all e (blank hides v) es) ≡ blank hides (apply_all e v es)
-blank-all e hides [] v = λ i. record v { pages = blanked-twice hides v.pages i }
-blank-all e hides (x ∷ es) v =
-    sym (blank-all e hides es (apply e (blank hides v) x)) ∙ ap (λ u. blank hides (apply_all e u es)) (apply-blind e hides v x) ∙ blank-all e hides es (apply e v x)
-
-relive-heard : (e : ℕ) (hides : ℕ → Bool) (es : List Event) (v : State) (rest : List Reading) → blank hides v ≡ v
-    → relive e hides v (map (λ event. Heard event) es ++ rest) ≡ seeing (messages e es) (relive e hides (blank hides (apply_all e v es)) rest)
+relive-heard : (e : ℕ) (es : List Event) (v : State) (rest : List Reading) → relive e v (map (λ event. Heard event) es ++ rest) ≡ seeing (messages e es) (relive e (apply_all e v es) rest)
 unfolding relive
-relive-heard e hides [] v rest same = ap (λ u. relive e hides u rest) (sym same)
-relive-heard e hides (x ∷ es) v rest same =
-    ap (seeing (message e x)) (relive-heard e hides es (blank hides (apply e v x)) rest (λ i. record (apply e v x) { pages = blanked-twice hides (apply e v x).pages i })
-    ∙ ap (λ u. seeing (messages e es) (relive e hides u rest)) (blank-all e hides es (apply e v x)))
-    ∙ (let later = relive e hides (blank hides (apply_all e (apply e v x) es)) rest in λ i. record later { seen = sym (append_assoc (message e x) (messages e es) later.seen) i })
+relive-heard e [] v rest = refl
+relive-heard e (x ∷ es) v rest =
+    ap (seeing (message e x)) (relive-heard e es (apply e v x) rest)
+    ∙ (let later = relive e (apply_all e (apply e v x) es) rest in λ i. record later { seen = sym (append_assoc (message e x) (messages e es) later.seen) i })
 
 -- messages are heard as they are told
 pub heard-messages : (e : ℕ) (s : State) (es : List Event) → messages e (all_readably e s es) ≡ messages e es
@@ -66,43 +50,37 @@ heard-messages e s (x ∷ es) = messages-append (readably e s x) (all_readably e
     one (Zeroed h) = no_message _ (Zeroed h) refl
     one y = alone y
 
--- which pages can't be read, from what can be read
-same-mask : (e : ℕ) (s : State) → IsSteady s → is_unreadable (readable e s) e ≡ is_unreadable s e
-same-mask e s steady = fun_ext {f = is_unreadable (readable e s) e} {g = is_unreadable s e} (λ p. ap is_none (access-b (view e s) (is_unreadable s e) e p ∙ view-access e s steady p))
-
 abbrev read_lived : ℕ → State → List Op → Lived
 read_lived e s ops = record { seen = seen e s ops; view = readable e (state_after s ops) }
 
-lived-is : (e : ℕ) (ops : List Op) (s : State) → IsSteady s → AreApart s → is_known s e ≡ true → read_lived e s ops ≡ relive e (is_unreadable s e) (readable e s) (readings e s ops)
+lived-is : (e : ℕ) (ops : List Op) (s : State) → IsSteady s → is_known s e ≡ true → read_lived e s ops ≡ relive e (readable e s) (readings e s ops)
 unfolding relive
-lived-is e [] s steady apart known = refl
-lived-is e (op ∷ ops) s steady apart known =
+lived-is e [] s steady known = refl
+lived-is e (op ∷ ops) s steady known =
     let next = (step s op).state in
-    let later : read_lived e next ops ≡ relive e (is_unreadable next e) (readable e next) (readings e next ops) = lived-is e ops next (steady-step s steady op) (stays_apart s op apart) (known-step s op e known) in
+    let later : read_lived e next ops ≡ relive e (readable e next) (readings e next ops) = lived-is e ops next (steady-step s steady op) (known-step s op e known) in
     elim (s.runner == e) as (λ b. (s.runner == e) ≡ b → seeing (cond b ((step s op).outcome ∷ []) (messages e (events e s op))) (read_lived e (step s op).state ops)
-    ≡ relive e (is_unreadable s e) (readable e s) (cond b (Did op (revealed e s (step s op).state) ∷ []) (map (λ event. Heard event) (all_readably e s (events e s op))) ++ readings e (step s op).state ops)) [
+    ≡ relive e (readable e s) (cond b (Did op (revealed e s (step s op).state) ∷ []) (map (λ event. Heard event) (all_readably e s (events e s op))) ++ readings e (step s op).state ops)) [
       | true ↦ λ mine.
           let is = eqb-true s.runner e mine in
           let told : (step (readable e s) op).outcome ≡ (step s op).outcome = subst (λ f. (step (readable f s) op).outcome ≡ (step s op).outcome) is (read-outcome s steady op) in
           let reads : readable e (step s op).state ≡ joined e (step (readable e s) op).state (revealed e s (step s op).state) =
           subst (λ f. readable f (step s op).state ≡ joined f (step (readable f s) op).state (revealed f s (step s op).state)) is (read-after s steady op) in
-          ap (seeing ((step s op).outcome ∷ [])) (later ∙ ap (λ hides. relive e hides (readable e (step s op).state) (readings e (step s op).state ops)) (sym (same-mask e (step s op).state (steady-step s steady op))))
-          ∙ (λ i. seeing (sym told i ∷ []) (relive e (is_unreadable (reads i) e) (reads i) (readings e (step s op).state ops)))
+          ap (seeing ((step s op).outcome ∷ [])) later
+          ∙ (λ i. seeing (sym told i ∷ []) (relive e (reads i) (readings e (step s op).state ops)))
       | false ↦ λ differ.
           let other : s.runner ≢ e = apart-from differ in
           let heard = all_readably e s (events e s op) in
-          let mask : is_unreadable (step s op).state e ≡ is_unreadable s e = fun_ext {f = is_unreadable (step s op).state e} {g = is_unreadable s e} (λ p. ap is_none ((own_access s op steady apart).others e p other)) in
-          ap (seeing (messages e (events e s op))) (later ∙ (λ i. relive e (mask i) (other-reading e s steady apart known other op i) (readings e (step s op).state ops)))
-          ∙ ap (λ ms. seeing ms (relive e (is_unreadable s e) (blank (is_unreadable s e) (apply_all e (readable e s) heard)) (readings e (step s op).state ops))) (sym (heard-messages e s (events e s op)))
-          ∙ sym (relive-heard e (is_unreadable s e) heard (readable e s) (readings e (step s op).state ops) (λ i. record (view e s) { pages = blanked-twice (is_unreadable s e) (view e s).pages i }))
+          ap (seeing (messages e (events e s op))) (later ∙ ap (λ v. relive e v (readings e (step s op).state ops)) (other-reading e s steady known other op))
+          ∙ ap (λ ms. seeing ms (relive e (apply_all e (readable e s) heard) (readings e (step s op).state ops))) (sym (heard-messages e s (events e s op)))
+          ∙ sym (relive-heard e heard (readable e s) (readings e (step s op).state ops))
     ] refl
   where
     apart-from : (s.runner == e) ≡ false → s.runner ≢ e
     apart-from differ same = true≢false (sym (eq-eqb s.runner e same) ∙ differ)
 
-pub run_confidential : (s : State) (ops : List Op) → IsSteady s → AreApart s → RunConfidential s ops
-run_confidential s ops steady apart e t others known there apart_t same met =
-    let mask : is_unreadable t e ≡ is_unreadable s e = sym (same-mask e t there) ∙ ap (λ v. is_unreadable v e) same ∙ same-mask e s steady in
+pub run_confidential : (s : State) (ops : List Op) → IsSteady s → RunConfidential s ops
+run_confidential s ops steady e t others known there same met =
     let alike : read_lived e t others ≡ read_lived e s ops =
-    lived-is e others t there apart_t (ap (λ (v : State). is_known v e) same ∙ known) ∙ (λ i. relive e (mask i) (same i) (met i)) ∙ sym (lived-is e ops s steady apart known) in
+    lived-is e others t there (ap (λ (v : State). is_known v e) same ∙ known) ∙ (λ i. relive e (same i) (met i)) ∙ sym (lived-is e ops s steady known) in
     (ap (λ (l : Lived). l.seen) alike, ap (λ (l : Lived). l.view) alike)

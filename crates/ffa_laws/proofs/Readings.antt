@@ -6,6 +6,7 @@ use Rattle.std.specs.List.{list_all}
 use Rattle.std.proofs.Math.Path.{fun_ext}
 use Rattle.std.proofs.lemmas.Bool.{cases_Bool, false≢true, true≢false, and_parts, eq-eqb}
 use Rattle.std.proofs.lemmas.List.{set-get_or}
+use Rattle.std.proofs.lemmas.Option.{none-some, same_Some}
 use Rattle.byteorder.specs.Endian.{little_bytes}
 use Rattle.ffa_model.specs.declared.operation.Op.{Op}
 use Rattle.ffa_model.specs.declared.rights.Rights.{Rights}
@@ -19,32 +20,33 @@ use Rattle.ffa_model.specs.declared.rights.Kind.TheVariants.{Share, Lend, Donate
 use Rattle.ffa_model.specs.Lists.{map_at}
 use Rattle.ffa_model.specs.Rights.{is_within, is_lend, is_share}
 use Rattle.ffa_model.specs.State.{State, Page, Transaction, buffers_of, is_known, page_at, transaction_of}
-use Rattle.ffa_model.specs.Access.{access, names, right_of, transaction_at, covers, held_by, is_from, is_held_by}
+use Rattle.ffa_model.specs.Access.{is_receiver, access, names, right_of, transaction_at, covers, held_by, is_from, is_held_by}
 use Rattle.ffa_model.specs.Calls.{Stepped, first_failure}
 use Rattle.ffa_model.specs.Memory.{page_with, written_pages, zeroed_page, changed_pages, size_of, store_fault}
 use Rattle.ffa_model.specs.MemoryReturn.{named_ranges, is_zeroable, memory_relinquish, relinquish_guards, relinquish_read}
 use Rattle.ffa_model.specs.RunStates.{schedule_of}
 use Rattle.ffa_model.specs.Step.{step, serve}
 use Rattle.ffa_model.specs.Registers.{decode}
-use Rattle.ffa_model.specs.Transactions.{not_holding, open_of}
+use Rattle.ffa_model.specs.Transactions.{open_of}
 use Rattle.ffa_model.proofs.Accesses.{length-map_at, named-in}
 use Rattle.ffa_model.proofs.Guards.{guard-passes}
 use Rattle.ffa_laws.specs.Steady.{IsSteady}
 use Rattle.ffa_laws.specs.View.{is_near, kept, view, involves, seen_by}
-use Rattle.ffa_laws.specs.Events.{Event, Wrote, Message, Filled, Pending, Bound, Unbound, Opened, Held, Zeroed, Closed, Public, apply, apply_all, events, where_true, with_public_buffers, with_holder, with_opened, with_public, call_events, public_change, public_part, releases, where_passed, writes}
+use Rattle.ffa_laws.specs.Events.{Event, Wrote, Message, Filled, Pending, Bound, Unbound, Opened, Held, Zeroed, Closed, Public, apply, apply_all, events, where_true, with_public_buffers, with_holder, with_opened, with_public, call_events, public_change, releases, where_passed, writes}
 use Rattle.ffa_laws.specs.OwnAccess.{AreApart, gives_access, is_call}
 use Rattle.ffa_laws.specs.Readable.{Confidential, all_readably, blank, blank_page, blank_where, blanked, is_unreadable, readable, readably, revealed}
 use Rattle.ffa_laws.specs.Silence.{may_tell}
 use Rattle.ffa_laws.proofs.Blanks.{IsBlind, access-b, at-blanked, blank-none, blank-twice, blanked-twice, blind-zeroed, changed-blind, each-blind, filled-blind, step-b, written-blind}
 use Rattle.ffa_laws.proofs.Changes.{AreRewritten, apply_all-append, standing, view-changed, with_parts}
+use Rattle.ffa_laws.proofs.Clean.{base-after, heard-blank, ranges-after, seen-ranges}
 use Rattle.ffa_laws.proofs.Form.{viewed}
 use Rattle.ffa_laws.proofs.Laws.{other-step, own-step, steady-step}
-use Rattle.ffa_laws.proofs.Opened.{get-insert}
-use Rattle.ffa_laws.proofs.OwnAccesses.{shareless, own_access}
+use Rattle.ffa_laws.proofs.OwnAccesses.{IsApart, each-apart, other-access, own-grows, shareless}
 use Rattle.ffa_laws.proofs.Rows.{all-weaker, call-rows, passed-row}
 use Rattle.ffa_laws.proofs.Views.{shown, view-transaction, access-near, kept_none, view-access, view-page}
 use Rattle.ffa_laws.proofs.Maps.{at-map_at, map_at-alike, map_at-same, map_at-set, map_at-twice}
 use Rattle.ffa_laws.proofs.Steadies.{steady-changed}
+use Rattle.ffa_laws.proofs.Publics.{either-public}
 
 -- ---- blank pages in a view
 standing-blank : (c : Bool) (page : Option Page) → standing (blank_where c page) ≡ standing page
@@ -200,8 +202,8 @@ module _ (s : State) (steady : IsSteady s) (op : Op) where
       ∙ length-map_at (λ p page. blank_where (hides p) page) after.pages
 
   -- a call that gives no access reveals nothing
-  nothing-revealed : AreApart s → is_call gives_access op ≡ false → revealed r s after ≡ map_at (λ p page. None) after.pages
-  nothing-revealed apart none = map_at-same _ _ after.pages (λ p page. go page (access s r p) (access after r p) ((own_access s op steady apart).grows p none))
+  nothing-revealed : IsApart s.runner s → is_call gives_access op ≡ false → revealed r s after ≡ map_at (λ p page. None) after.pages
+  nothing-revealed apart none = map_at-same _ _ after.pages (λ p page. go page (access s r p) (access after r p) (own-grows s op steady apart p none))
     where
       go : (page : Option Page) (old new : Option Rights) → is_within new old ≡ true → kept (is_none old && not (is_none new)) page ≡ None
       go page None None within = refl
@@ -222,7 +224,7 @@ module _ (s t : State) (steady : IsSteady s) (there : IsSteady t) (alike : reada
   size-of : length (step (readable s.runner t) op).state.pages ≡ length (step t op).state.pages
   size-of = subst (λ e. length (step (readable e t) op).state.pages ≡ length (step t op).state.pages) runner (size-read t there op)
 
-  nothing-of : AreApart t → is_call gives_access op ≡ false → revealed s.runner t (step t op).state ≡ map_at (λ p page. None) (step t op).state.pages
+  nothing-of : IsApart t.runner t → is_call gives_access op ≡ false → revealed s.runner t (step t op).state ≡ map_at (λ p page. None) (step t op).state.pages
   nothing-of apart none = subst (λ e. revealed e t (step t op).state ≡ map_at (λ p page. None) (step t op).state.pages) runner (nothing-revealed t there op apart none)
 
   same-outcome : (step t op).outcome ≡ (step s op).outcome
@@ -231,12 +233,32 @@ module _ (s t : State) (steady : IsSteady s) (there : IsSteady t) (alike : reada
   same-reading : revealed s.runner t (step t op).state ≡ revealed s.runner s (step s op).state → readable s.runner (step t op).state ≡ readable s.runner (step s op).state
   same-reading shown = after-of ∙ (λ i. joined s.runner (step (alike i) op).state (shown i)) ∙ sym (read-after s steady op)
 
-  nothing-new : AreApart s → AreApart t → is_call gives_access op ≡ false → revealed s.runner t (step t op).state ≡ revealed s.runner s (step s op).state
-  nothing-new apart other none =
-      nothing-of other none
+  -- nor is the runner offered its own there
+  apart-there : AreApart s → IsApart t.runner t
+  apart-there apart = subst (λ e. IsApart e t) (sym runner) (λ h u there mine. of h u mine (transaction_of s h) refl (same h u there mine))
+    where
+      same : (h : ℕ) (u : Transaction) → transaction_of t h ≡ Some u → u.sender ≡ s.runner → shown s.runner (transaction_of s h) ≡ Some (seen_by s.runner u)
+      same h u there mine =
+          sym (view-transaction s.runner s h) ∙ ap (λ (v : State). transaction_of v h) (sym alike) ∙ view-transaction s.runner t h ∙ ap (shown s.runner) there
+          ∙ ap (λ b. option_map (seen_by s.runner) (kept (b || is_receiver s.runner u) (Some u))) (eq-eqb u.sender s.runner mine)
+
+      of : (h : ℕ) (u : Transaction) → u.sender ≡ s.runner → (o : Option Transaction) → transaction_of s h ≡ o → shown s.runner o ≡ Some (seen_by s.runner u) → is_receiver s.runner u ≡ false
+      of h u mine None at is = absurd (none-some (seen_by s.runner u) is)
+      of h u mine (Some w) at is = by (involves s.runner (Some w)) is
+        where
+          by : (b : Bool) → option_map (seen_by s.runner) (kept b (Some w)) ≡ Some (seen_by s.runner u) → is_receiver s.runner u ≡ false
+          by false is = absurd (none-some (seen_by s.runner u) is)
+          by true is =
+              let like : seen_by s.runner w ≡ seen_by s.runner u = same_Some (seen_by s.runner w) (seen_by s.runner u) is in
+              sym (ap (λ (x : Transaction). is_receiver s.runner x) like)
+              ∙ ap (λ e. is_receiver e w) (sym mine ∙ sym (ap (λ (x : Transaction). x.sender) like)) ∙ apart h w at
+
+  nothing-new : AreApart s → is_call gives_access op ≡ false → revealed s.runner t (step t op).state ≡ revealed s.runner s (step s op).state
+  nothing-new apart none =
+      nothing-of (apart-there apart) none
       ∙ map_at-alike (λ p page. None) (λ p page. None) (step t op).state.pages (step s op).state.pages None None
       (sym size-of ∙ ap (λ v. length (step v op).state.pages) alike ∙ size-read s steady op) (λ i. refl)
-      ∙ sym (nothing-revealed s steady op apart none)
+      ∙ sym (nothing-revealed s steady op (each-apart s.runner s apart) none)
 
 -- ---- an operation of another
 module _ (e : ℕ) (hides : ℕ → Bool) where
@@ -377,10 +399,6 @@ module _ (e : ℕ) (s : State) where
 
   -- ---- what each operation tells fits
   module _ (steady : IsSteady s) where
-    seen-ranges : (h : ℕ) (t : Transaction) → transaction_of s h ≡ Some t → (b : Bool) → (involves e (Some t)) ≡ b → (p : ℕ) → names s (named_ranges (transaction_of (readable e s) h)) p ≡ true → names s t.ranges p ≡ true
-    seen-ranges h t there true known p named = sym (ap (λ o. names s (named_ranges o) p) (view-transaction e s h ∙ ap (shown e) there ∙ ap (λ b. option_map (seen_by e) (kept b (Some t))) known)) ∙ named
-    seen-ranges h t there false unknown p named = absurd (false≢true (sym (ap (λ o. names s (named_ranges o) p) (view-transaction e s h ∙ ap (shown e) there ∙ ap (λ b. option_map (seen_by e) (kept b (Some t))) unknown)) ∙ named))
-
     -- pages of a lend that e doesn't hold
     pub lent-away : (h : ℕ) (t : Transaction) → transaction_of s h ≡ Some t → is_lend t.kind ≡ true → is_held_by e (transaction_of s h) ≡ false → (p : ℕ) → names s t.ranges p ≡ true → is_unreadable s e p ≡ true
     lent-away h t there lend unheld p named =
@@ -407,25 +425,12 @@ module _ (e : ℕ) (s : State) where
     fit-released : first_failure (memory_relinquish s).guards ≡ None → AreFit (readable e s) (releases e s (relinquish_read s))
     fit-released none = read (relinquish_read s) none
       where
-        -- who holds it doesn't matter to which pages it names
-        held-ranges : (h : ℕ) (b : Bool) (p : ℕ) → names s (named_ranges (transaction_of (apply_all e (readable e s) (all_readably e s (where_true b (Held h s.runner None ∷ [])))) h)) p ≡ true → names s (named_ranges (transaction_of (readable e s) h)) p ≡ true
-        held-ranges h false p named = named
-        held-ranges h true p named = of (transaction_of (readable e s) h) refl named
-          where
-            of : (o : Option Transaction) → transaction_of (readable e s) h ≡ o → names s (named_ranges (transaction_of (with_holder (readable e s) h s.runner None o) h)) p ≡ true → names s (named_ranges o) p ≡ true
-            of None is named = sym (ap (λ o. names s (named_ranges o) p) is) ∙ named
-            of (Some t) is named = sym (ap (λ o. names s (named_ranges o) p) (get-insert (readable e s).transactions h (not_holding t s.runner) h ∙ ap (λ b. cond b (Some (not_holding t s.runner)) (transaction_of (readable e s) h)) (eq-eqb h h refl))) ∙ named
-
         zeroing : (d : RelinquishDesc) (o : Option Transaction) → transaction_of s d.handle ≡ o → is_zeroable s.runner o ≡ true → (w : State) → w.ram_base ≡ s.ram_base
             → ((p : ℕ) → names s (named_ranges (transaction_of w d.handle)) p ≡ true → names s (named_ranges (transaction_of (readable e s) d.handle)) p ≡ true) → Fits w (Zeroed d.handle)
         zeroing d None there zeroable w base ranges unheld p named = absurd (false≢true zeroable)
         zeroing d (Some t) there zeroable w base ranges unheld p named =
             lent-away d.handle t there (and_parts (is_lend t.kind) _ zeroable).0 unheld p
-            (seen-ranges d.handle t there (involves e (Some t)) refl p (ranges p (sym (ap (λ base. covers (named_ranges (transaction_of w d.handle)) (base + 4096 * p)) base) ∙ named)))
-
-        base-after : (h : ℕ) (b : Bool) → (apply_all e (readable e s) (all_readably e s (where_true b (Held h s.runner None ∷ [])))).ram_base ≡ s.ram_base
-        base-after h false = refl
-        base-after h true = base-kept e hidden (readable e s) (Held h s.runner None)
+            (seen-ranges e s d.handle t there (involves e (Some t)) refl p (ranges p (sym (ap (λ base. covers (named_ranges (transaction_of w d.handle)) (base + 4096 * p)) base) ∙ named)))
 
         read : (o : Option RelinquishDesc) → first_failure (relinquish_guards (buffers_of s s.runner) (open_of s) s.runner o) ≡ None → AreFit (readable e s) (releases e s o)
         read None none = tt
@@ -436,18 +441,14 @@ module _ (e : ℕ) (s : State) where
             (fit-one (apply_all e (readable e s) (all_readably e s held)) _ (Zeroed d.handle) (λ both.
             zeroing d (transaction_of s d.handle) refl
             (asks d.zero (is_zeroable s.runner (transaction_of s d.handle)) (guard-passes (relinquish_guards (buffers_of s s.runner) (open_of s) s.runner (Some d)) 4 (sym none)) (grind (arith, cases_Bool d.zero, both)))
-            (apply_all e (readable e s) (all_readably e s held)) (base-after d.handle (is_from e (transaction_of s d.handle)))
-            (held-ranges d.handle (is_from e (transaction_of s d.handle)))))
+            (apply_all e (readable e s) (all_readably e s held)) (base-after e s d.handle (is_from e (transaction_of s d.handle)))
+            (ranges-after e s d.handle (is_from e (transaction_of s d.handle)))))
           where
             fits-held : (d : RelinquishDesc) → Fits (readable e s) (Held d.handle s.runner None)
             fits-held d = tt
 
     public-zeros : (next : State) → list_all (λ x. not (may_zero x)) (public_change s next) ≡ true
-    public-zeros next = of _
-      where
-        of : (b : Bool) → list_all (λ x. not (may_zero x)) (cond b [] (Public (public_part next) ∷ [])) ≡ true
-        of true = refl
-        of false = refl
+    public-zeros next = either-public (λ es. list_all (λ x. not (may_zero x)) es ≡ true) s next refl refl
 
     fit-call : (call : calls.Call) → AreFit (readable e s) (call_events e s call)
     fit-call call = of call
@@ -480,18 +481,19 @@ module _ (e : ℕ) (s : State) where
         wrote false = refl
     fit-op (Fetch address) = tt
 
-  pub other-reading : IsSteady s → AreApart s → is_known s e ≡ true → s.runner ≢ e → (op : Op)
-      → readable e (step s op).state ≡ blank hidden (apply_all e (readable e s) (all_readably e s (events e s op)))
-  other-reading steady apart known other op =
-      (λ i. blank (fun_ext {f = is_unreadable (step s op).state e} {g = is_unreadable s e} (λ p. ap is_none ((own_access s op steady apart).others e p other)) i) (view e (step s op).state))
+  pub other-reading : IsSteady s → is_known s e ≡ true → s.runner ≢ e → (op : Op)
+      → readable e (step s op).state ≡ apply_all e (readable e s) (all_readably e s (events e s op))
+  other-reading steady known other op =
+      (λ i. blank (fun_ext {f = is_unreadable (step s op).state e} {g = is_unreadable s e} (λ p. ap is_none (other-access s op steady e p other)) i) (view e (step s op).state))
       ∙ ap (blank hidden) (other-step e s steady known other op)
       ∙ told-readably (events e s op) (view e s) (readable e s) (λ i. record (view e s) { pages = sym (blanked-twice hidden (view e s).pages) i }) refl (fit-op steady op)
+      ∙ heard-blank e s steady known op
 
 pub confidential : (s : State) (op : Op) → IsSteady s → AreApart s → Confidential s op
 confidential s op steady apart =
     record {
       outcome = λ t there alike. same-outcome s t steady there alike op;
       own = λ t there alike shown. same-reading s t steady there alike op shown;
-      quiet = λ t there other alike none. same-reading s t steady there alike op (nothing-new s t steady there alike op apart other none);
-      others = λ e known other. other-reading e s steady apart known other op;
+      quiet = λ t there alike none. same-reading s t steady there alike op (nothing-new s t steady there alike op apart none);
+      others = λ e known other. other-reading e s steady known other op;
     }

@@ -8,10 +8,10 @@ use Rattle.std.proofs.lemmas.Bool.{eqb-true, false≢true, ne_eqb}
 use Rattle.ffa_model.specs.declared.transaction.Range.{Range}
 use Rattle.ffa_model.specs.Bits.{is_set}
 use Rattle.ffa_model.specs.State.{State, Transaction, owner_of, page_at, transaction_of}
-use Rattle.ffa_model.specs.Access.{is_from, is_offered, is_receiver, names, transaction_at}
+use Rattle.ffa_model.specs.Access.{is_from, is_offered, is_receiver, names, transaction_at, ownership_of}
 use Rattle.ffa_model.specs.Memory.{zeroed_if, zeroed_page}
 use Rattle.ffa_model.specs.Calls.{first_failure}
-use Rattle.ffa_model.specs.Transactions.{are_writable, own_rights_of, handle_of}
+use Rattle.ffa_model.specs.Transactions.{are_writable}
 use Rattle.ffa_model.specs.MemoryReturn.{is_unheld, memory_reclaim, named_ranges, reclaim_guards, reclaimed}
 use Rattle.ffa_laws.specs.Steady.{IsSteady}
 use Rattle.ffa_laws.specs.View.{view, involves, is_near, kept, seen_by}
@@ -54,13 +54,13 @@ module _ (s : State) (steady : IsSteady s) (h flags : ℕ) where
   v = view s.runner s
 
   same-failure : (o : Option Transaction) → transaction_of s h ≡ o
-      → first_failure (reclaim_guards (own_rights_of v) s.runner flags (shown s.runner o)) ≡ first_failure (reclaim_guards (own_rights_of s) s.runner flags o)
+      → first_failure (reclaim_guards (ownership_of v) s.runner flags (shown s.runner o)) ≡ first_failure (reclaim_guards (ownership_of s) s.runner flags o)
   same-failure None there = refl
   same-failure (Some t) there =
-      elim (t.sender == s.runner) as (λ b. (t.sender == s.runner) ≡ b → first_failure (reclaim_guards (own_rights_of v) s.runner flags (shown s.runner (Some t))) ≡ first_failure (reclaim_guards (own_rights_of s) s.runner flags (Some t))) [
+      elim (t.sender == s.runner) as (λ b. (t.sender == s.runner) ≡ b → first_failure (reclaim_guards (ownership_of v) s.runner flags (shown s.runner (Some t))) ≡ first_failure (reclaim_guards (ownership_of s) s.runner flags (Some t))) [
         | true ↦ λ mine.
             let known : involves s.runner (Some t) ≡ true = ap (λ b. b || is_receiver s.runner t) mine in
-            ap (λ o. first_failure (reclaim_guards (own_rights_of v) s.runner flags o)) (seen-whole s.runner t mine)
+            ap (λ o. first_failure (reclaim_guards (ownership_of v) s.runner flags o)) (seen-whole s.runner t mine)
             ∙ (λ i. first_failure (
             (nat_le flags 1, invalid)
             ∷ (is_from s.runner (Some t), invalid)
@@ -68,15 +68,15 @@ module _ (s : State) (steady : IsSteady s) (h flags : ℕ) where
             ∷ (not (is_set 0 flags) || writable-seen s.runner s steady h t there known i, denied)
             ∷ []))
         | false ↦ λ other.
-            second-fails (nat_le flags 1) (is_from s.runner (shown s.runner (Some t))) ((is_unheld (shown s.runner (Some t)), denied) ∷ (not (is_set 0 flags) || are_writable (own_rights_of v) (named_ranges (shown s.runner (Some t))), denied) ∷ []) (from-seen s.runner t other)
-            ∙ sym (second-fails (nat_le flags 1) (is_from s.runner (Some t)) ((is_unheld (Some t), denied) ∷ (not (is_set 0 flags) || are_writable (own_rights_of s) t.ranges, denied) ∷ []) other)
+            second-fails (nat_le flags 1) (is_from s.runner (shown s.runner (Some t))) ((is_unheld (shown s.runner (Some t)), denied) ∷ (not (is_set 0 flags) || are_writable (ownership_of v) (named_ranges (shown s.runner (Some t))), denied) ∷ []) (from-seen s.runner t other)
+            ∙ sym (second-fails (nat_le flags 1) (is_from s.runner (Some t)) ((is_unheld (Some t), denied) ∷ (not (is_set 0 flags) || are_writable (ownership_of s) t.ranges, denied) ∷ []) other)
       ] refl
 
-  same-state : (o : Option Transaction) → transaction_of s h ≡ o → first_failure (reclaim_guards (own_rights_of s) s.runner flags o) ≡ None → (zero : Bool)
+  same-state : (o : Option Transaction) → transaction_of s h ≡ o → first_failure (reclaim_guards (ownership_of s) s.runner flags o) ≡ None → (zero : Bool)
       → reclaimed v h zero ≡ view s.runner (reclaimed s h zero)
-  same-state None there none zero = absurd (false≢true (guard-passes (reclaim_guards (own_rights_of s) s.runner flags None) 1 (sym none)))
+  same-state None there none zero = absurd (false≢true (guard-passes (reclaim_guards (ownership_of s) s.runner flags None) 1 (sym none)))
   same-state (Some t) there none zero =
-      let mine : (t.sender == s.runner) ≡ true = guard-passes (reclaim_guards (own_rights_of s) s.runner flags (Some t)) 1 (sym none) in
+      let mine : (t.sender == s.runner) ≡ true = guard-passes (reclaim_guards (ownership_of s) s.runner flags (Some t)) 1 (sym none) in
       let in_view : transaction_of v h ≡ Some t = view-transaction s.runner s h ∙ ap (shown s.runner) there ∙ seen-whole s.runner t mine in
       (λ i. zeroed_if zero (own-closed s steady h t there s.runner (eqb-true t.sender s.runner mine) i) (named_ranges (in_view i)))
       ∙ zeroed_if-seen s.runner (closed s h) zero t.ranges
@@ -84,7 +84,7 @@ module _ (s : State) (steady : IsSteady s) (h flags : ℕ) where
 
 pub own-reclaim : (s : State) → IsSteady s → (handle flags : ℕ) → IsOwn s (memory_reclaim (view s.runner s) handle flags) (memory_reclaim s handle flags)
 own-reclaim s steady handle flags = (
-  ap (λ o. first_failure (reclaim_guards (own_rights_of (view s.runner s)) s.runner flags o)) (view-transaction s.runner s handle)
+  ap (λ o. first_failure (reclaim_guards (ownership_of (view s.runner s)) s.runner flags o)) (view-transaction s.runner s handle)
       ∙ same-failure s steady handle flags (transaction_of s handle) refl,
   λ none. (same-state s steady handle flags (transaction_of s handle) refl none (is_set 0 flags), refl),
 )
@@ -103,9 +103,9 @@ zeroed-far e s true ranges far =
         ap zeroed_page none ∙ sym none
 
 module _ (e : ℕ) (s : State) (steady : IsSteady s) (other : s.runner ≢ e) (h flags : ℕ) where
-  told-closed : (o : Option Transaction) → transaction_of s h ≡ o → first_failure (reclaim_guards (own_rights_of s) s.runner flags o) ≡ None → (asked : Bool)
+  told-closed : (o : Option Transaction) → transaction_of s h ≡ o → first_failure (reclaim_guards (ownership_of s) s.runner flags o) ≡ None → (asked : Bool)
       → view e (zeroed_if asked (closed s h) (named_ranges o)) ≡ apply_all e (view e s) (where_true (is_offered e o) (Closed h ∷ []))
-  told-closed None there none asked = absurd (false≢true (guard-passes (reclaim_guards (own_rights_of s) s.runner flags None) 1 (sym none)))
+  told-closed None there none asked = absurd (false≢true (guard-passes (reclaim_guards (ownership_of s) s.runner flags None) 1 (sym none)))
   told-closed (Some t) there none asked =
       sym (zeroed_if-seen e (closed s h) asked t.ranges)
       ∙ zeroed-far e (closed s h) asked t.ranges (λ p named. far p named)
@@ -115,7 +115,7 @@ module _ (e : ℕ) (s : State) (steady : IsSteady s) (other : s.runner ≢ e) (h
       ] refl
     where
       sender : (t.sender == s.runner) ≡ true
-      sender = guard-passes (reclaim_guards (own_rights_of s) s.runner flags (Some t)) 1 (sym none)
+      sender = guard-passes (reclaim_guards (ownership_of s) s.runner flags (Some t)) 1 (sym none)
 
       not_sender : (t.sender == e) ≡ false
       not_sender = ap (λ f. f == e) (eqb-true t.sender s.runner sender) ∙ ne_eqb s.runner e other

@@ -15,7 +15,7 @@ use Rattle.ffa_model.specs.declared.rights.Rights.{Rights}
 use Rattle.ffa_model.specs.Identifiers.{place}
 use Rattle.ffa_model.specs.Rights.{is_at_most, is_donate}
 use Rattle.ffa_model.specs.State.{State, Transaction, Buffers, buffers_of, transaction_of, version_of}
-use Rattle.ffa_model.specs.Access.{held_by, is_offered, is_receiver}
+use Rattle.ffa_model.specs.Access.{held_by, is_offered, is_receiver, Ownership, ownership_of}
 use Rattle.ffa_model.specs.Buffers.{buffers_in, buffers_with_rx, filled, is_full}
 use Rattle.ffa_model.specs.RefusalCodes.{code_of}
 use Rattle.ffa_model.specs.Calls.{first_failure}
@@ -23,7 +23,7 @@ use Rattle.ffa_model.specs.ResponseBytes.{response_size}
 use Rattle.ffa_model.specs.RetrieveDescriptor.{retrieve_of}
 use Rattle.ffa_model.specs.RunStates.{schedule_of}
 use Rattle.ffa_model.specs.declared.call.Transfer.{Transfer}
-use Rattle.ffa_model.specs.Transactions.{OwnRights, own_rights_of, ceiling, holding, open_of, scene_of, with_open, with_transaction}
+use Rattle.ffa_model.specs.Transactions.{ceiling, holding, open_of, scene_of, with_open, with_transaction}
 use Rattle.ffa_model.specs.MemoryRetrieve.{asked_right, asking_guards, donated_if, holding_guards, is_kind_right, memory_retrieve, response_length, retrieve_guards, retrieve_read, retrieved, retrieved_from, retrieved_right, right_for, taken_in, with_retrieved}
 use Rattle.ffa_laws.specs.Steady.{IsSteady}
 use Rattle.ffa_laws.specs.View.{view, involves, is_near, kept, seen_by}
@@ -51,15 +51,15 @@ first-fails false code guards is = refl
 first-fails true code guards is = absurd (false≢true (sym is))
 
 -- what e isn't offered, it can't retrieve
-not-offered : (own_rights : OwnRights) (full : Bool) (e : ℕ) (d : RetrieveDesc) (o : Option Transaction) → is_offered e o ≡ false → first_failure (holding_guards own_rights full e d o) ≡ Some InvalidParameters
-not-offered own_rights full e d None is = refl
-not-offered own_rights full e d (Some t) is =
+not-offered : (ram : Ownership) (full : Bool) (e : ℕ) (d : RetrieveDesc) (o : Option Transaction) → is_offered e o ≡ false → first_failure (holding_guards ram full e d o) ≡ Some InvalidParameters
+not-offered ram full e d None is = refl
+not-offered ram full e d (Some t) is =
     first-fails (is_receiver e t) invalid
     ((d.sender.0 == t.sender, invalid)
     ∷ (d.tag == t.tag, invalid)
     ∷ (is_kind_right t.kind d.kind, invalid)
     ∷ (is_none (held_by t e), denied)
-    ∷ (is_at_most (right_for own_rights t e d) (ceiling own_rights t e), denied)
+    ∷ (is_at_most (right_for ram t e d) (ceiling ram t e), denied)
     ∷ (not full, busy)
     ∷ [])
     is
@@ -75,13 +75,13 @@ module _ (s : State) (steady : IsSteady s) where
   full = is_full (buffers_in s.buffers s.runner)
 
   same-failure : (d : RetrieveDesc) (o : Option Transaction) → transaction_of s d.handle ≡ o
-      → first_failure (holding_guards (own_rights_of v) full s.runner d (shown s.runner o)) ≡ first_failure (holding_guards (own_rights_of s) full s.runner d o)
+      → first_failure (holding_guards (ownership_of v) full s.runner d (shown s.runner o)) ≡ first_failure (holding_guards (ownership_of s) full s.runner d o)
   same-failure d None there = refl
   same-failure d (Some t) there =
-      elim (is_receiver s.runner t) as (λ b. is_receiver s.runner t ≡ b → first_failure (holding_guards (own_rights_of v) full s.runner d (shown s.runner (Some t))) ≡ first_failure (holding_guards (own_rights_of s) full s.runner d (Some t))) [
+      elim (is_receiver s.runner t) as (λ b. is_receiver s.runner t ≡ b → first_failure (holding_guards (ownership_of v) full s.runner d (shown s.runner (Some t))) ≡ first_failure (holding_guards (ownership_of s) full s.runner d (Some t))) [
         | true ↦ λ receiver.
             let known = offered-involved s.runner t receiver in
-            ap (λ b. first_failure (holding_guards (own_rights_of v) full s.runner d (option_map (seen_by s.runner) (kept b (Some t))))) known
+            ap (λ b. first_failure (holding_guards (ownership_of v) full s.runner d (option_map (seen_by s.runner) (kept b (Some t))))) known
             ∙ (λ i. first_failure (
             (is_receiver s.runner t, invalid)
             ∷ (d.sender.0 == t.sender, invalid)
@@ -92,15 +92,15 @@ module _ (s : State) (steady : IsSteady s) where
             ∷ (not full, busy)
             ∷ []))
         | false ↦ λ other.
-            not-offered (own_rights_of v) full s.runner d (shown s.runner (Some t))
+            not-offered (ownership_of v) full s.runner d (shown s.runner (Some t))
             (elim (involves s.runner (Some t)) as (λ b. is_offered s.runner (option_map (seen_by s.runner) (kept b (Some t))) ≡ false) [ true ↦ other | false ↦ refl ])
-            ∙ sym (not-offered (own_rights_of s) full s.runner d (Some t) other)
+            ∙ sym (not-offered (ownership_of s) full s.runner d (Some t) other)
       ] refl
 
   same-asking : (o : Option RetrieveDesc) → first_failure (asking_guards (scene_of v) s.runner o) ≡ first_failure (asking_guards (scene_of s) s.runner o)
   same-asking None = refl
   same-asking (Some d) =
-      (λ i. first_failure (holding_guards (own_rights_of v) (full-seen s steady s.runner i) s.runner d (view-transaction s.runner s d.handle i)))
+      (λ i. first_failure (holding_guards (ownership_of v) (full-seen s steady s.runner i) s.runner d (view-transaction s.runner s d.handle i)))
       ∙ same-failure d (transaction_of s d.handle) refl
 
   -- checks before others that give the same

@@ -1,10 +1,9 @@
 -- SPDX-License-Identifier: MIT OR Apache-2.0
 -- Which calls give which events, and which change the public part.
-use Rattle.std.proofs.Common.{◌≡◌, ◌∙◌, ℕ, Bool, true, false, cond, List, [], ◌∷◌, ◌++◌, map, Option, Some, None, refl, ap}
-use Rattle.std.specs.Prelude.{◌==◌, ◌&&◌, filter, not}
+use Rattle.std.proofs.Common.{◌≡◌, ◌∙◌, ℕ, Bool, true, false, List, [], ◌∷◌, ◌++◌, map, Option, Some, None, refl, inl, inr, sym}
+use Rattle.std.specs.Prelude.{◌==◌, ◌&&◌, filter, not, ◌⊎◌, ◌≢◌}
 use Rattle.std.specs.List.{list_all}
-use Rattle.std.specs.Str.{bytes_eq}
-use Rattle.std.proofs.lemmas.Bool.{and_from, and_parts, eq-eqb, true≢false}
+use Rattle.std.proofs.lemmas.Bool.{and_from, and_parts, true≢false}
 use Rattle.ffa_model.specs.declared.call.Transfer.{Transfer}
 use Rattle.ffa_model.specs.declared.descriptor.RelinquishDesc.{RelinquishDesc}
 use Rattle.ffa_model.specs.declared.descriptor.RetrieveDesc.{RetrieveDesc}
@@ -17,7 +16,7 @@ use Rattle.ffa_model.specs.declared.call.Call as calls
 use Rattle.ffa_model.specs.declared.call.Call.TheVariants.{RxRelease, RxtxMap, RxtxUnmap, PartitionInfoGet, MsgWait, Yield, Run, DirectRequest, DirectResponse, MemDonate, MemLend, MemShare, MemRetrieve, MemRelinquish, MemReclaim, BitmapDestroy, NotificationBind, NotificationUnbind, NotificationSet, MsgSend2}
 use Rattle.ffa_model.specs.SendDescriptor.{SendRecord}
 use Rattle.ffa_model.specs.State.{State, Page, Transaction, transaction_of}
-use Rattle.ffa_model.specs.Access.{is_offered, is_receiver}
+use Rattle.ffa_model.specs.Access.{is_offered, is_receiver, ownership_of}
 use Rattle.ffa_model.specs.Bits.{bits_of}
 use Rattle.ffa_model.specs.Calls.{encode, first_failure}
 use Rattle.ffa_model.specs.Lists.{listed}
@@ -28,15 +27,16 @@ use Rattle.ffa_model.specs.MemorySend.{memory_sent, send_read, transaction_from}
 use Rattle.ffa_model.specs.Messages.{header_in, message_in, tx_bytes}
 use Rattle.ffa_model.specs.Notifications.{class_of, has_bitmaps_in, is_bound, manager_class, message_bits, notifications_of}
 use Rattle.ffa_model.specs.Registers.{decode}
-use Rattle.ffa_model.specs.RunStates.{direct_request, direct_response, msg_wait, run_partition, status_number, yield_now}
+use Rattle.ffa_model.specs.RunStates.{direct_request, direct_response, msg_wait, run_partition, yield_now}
 use Rattle.ffa_model.specs.Step.{serve, service, step}
-use Rattle.ffa_model.specs.Transactions.{own_rights_of, handle_of, next_handle, open_of}
+use Rattle.ffa_model.specs.Transactions.{next_handle, open_of}
 use Rattle.byteorder.specs.Endian.{little_bytes}
-use Rattle.std.proofs.lemmas.Slice.Eq.{bytes_eq-Decides}
-use Rattle.ffa_laws.specs.Events.{call_events, Event, Wrote, Message, Filled, Pending, Held, Zeroed, Closed, Opened, Public, PublicPart, Unbound, Bound, binds, events, public_buffers_number, is_same_public, named_pages, opens, public_change, public_part, releases, takes, takes_from, taking, told_by, unbinds, where_passed, where_true, work_number, writes}
+use Rattle.ffa_laws.specs.Events.{call_events, Event, Wrote, Message, Filled, Pending, Held, Zeroed, Closed, Opened, Public, Unbound, Bound, binds, events, named_pages, opens, public_change, releases, takes, takes_from, taking, told_by, unbinds, where_passed, where_true, writes}
+use Rattle.ffa_laws.specs.Public.{PublicPart, public_part, same_public}
 use Rattle.ffa_laws.specs.OwnAccess.{is_call}
 use Rattle.ffa_laws.specs.Silence.{may_be_told, may_change_public, may_tell}
 use Rattle.ffa_laws.proofs.Form.{accessed-kept, served-kept}
+use Rattle.ffa_laws.proofs.Publics.{told-of}
 
 -- ---- the public part
 public-sent : (s : State) (kind : Kind) (r : Option SendRecord) → public_part (memory_sent s kind r) ≡ public_part s
@@ -73,14 +73,6 @@ public-step s (Call x) quiet = public-call s (decode x) quiet
 public-step s (Load address size) quiet = accessed-kept (λ t. public_part t ≡ public_part s) s s (Data (number_at s address (size_of size))) (read_fault s address (size_of size)) refl (λ none. refl)
 public-step s (Store address size value) quiet = accessed-kept (λ t. public_part t ≡ public_part s) s (stored s address (little_bytes (size_of size) value)) Done (store_fault s address (size_of size)) refl (λ none. refl)
 public-step s (Fetch address) quiet = accessed-kept (λ t. public_part t ≡ public_part s) s s (Data (number_at s address 4)) (fetch_fault s address) refl (λ none. refl)
-
--- a public part is the same as itself
-pub same-as-itself : (a : PublicPart) → is_same_public a a ≡ true
-same-as-itself a =
-    and_from _ _ (and_from _ _ (and_from _ _ (eq-eqb a.runner a.runner refl) (same (map status_number a.statuses))) (same (map work_number a.works))) (same (map public_buffers_number a.buffers))
-  where
-    same : (xs : List ℕ) → bytes_eq xs xs ≡ true
-    same xs = (bytes_eq-Decides xs xs).1 refl
 
 -- ---- the rows
 abbrev pub is_public : Event → Bool
@@ -131,7 +123,7 @@ taken-row : (x : Transfer) (e : ℕ) (s : State) (d : Option RetrieveDesc) → l
 taken-row x e s None = refl
 taken-row x e s (Some d) = of (transaction_of s d.handle)
   where
-    kinds : (b : Bool) (kind : Kind) (t : Transaction) → list_all (told_row (MemRetrieve x)) (where_true b (taking kind d.handle s.runner (right_for (own_rights_of s) t s.runner d) ∷ [])) ≡ true
+    kinds : (b : Bool) (kind : Kind) (t : Transaction) → list_all (told_row (MemRetrieve x)) (where_true b (taking kind d.handle s.runner (right_for (ownership_of s) t s.runner d) ∷ [])) ≡ true
     kinds true Donate t = refl
     kinds true Lend t = refl
     kinds true Share t = refl
@@ -174,20 +166,15 @@ passed-row f None es all = all
 passed-row f (Some code) es all = refl
 
 public-row : (s : State) (call : calls.Call) → list_all (may_tell call) (public_change s (serve s call).state) ≡ true
-public-row s call =
-    elim (may_change_public call) as (λ b. may_change_public call ≡ b → list_all (may_tell call) (public_change s (serve s call).state) ≡ true) [
-      | true ↦ λ may. allowed may _
-      | false ↦ λ not.
-          ap (λ part. list_all (may_tell call) (cond (is_same_public (public_part s) part) [] (Public part ∷ []))) (public-call s call not)
-          ∙ ap (λ b. list_all (may_tell call) (cond b [] (Public (public_part s) ∷ []))) (same-as-itself (public_part s))
-    ] refl
+public-row s call = of (same_public (public_part s) (public_part (serve s call).state)) (may_change_public call) refl
   where
     may_public : (call : calls.Call) (values : PublicPart) → may_tell call (Public values) ≡ may_change_public call
     may_public call values = refl
 
-    allowed : may_change_public call ≡ true → (same : Bool) → list_all (may_tell call) (cond same [] (Public (public_part (serve s call).state) ∷ [])) ≡ true
-    allowed may true = refl
-    allowed may false = and_from (may_tell call (Public (public_part (serve s call).state))) true (may_public call (public_part (serve s call).state) ∙ may) refl
+    of : (c : (public_part s ≡ public_part (serve s call).state) ⊎ (public_part s ≢ public_part (serve s call).state)) (b : Bool) → may_change_public call ≡ b → list_all (may_tell call) (told-of c) ≡ true
+    of (inl same) b is = refl
+    of (inr differ) true may = and_from (may_tell call (Public (public_part (serve s call).state))) true (may_public call (public_part (serve s call).state) ∙ may) refl
+    of (inr differ) false not = absurd (differ (sym (public-call s call not)))
 
 pub call-rows : (e : ℕ) (s : State) (call : calls.Call) → list_all (may_tell call) (call_events e s call) ≡ true
 call-rows e s call =

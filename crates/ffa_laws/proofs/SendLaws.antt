@@ -17,17 +17,17 @@ use Rattle.ffa_model.specs.declared.transaction.Range.{Range}
 use Rattle.ffa_model.specs.declared.transaction.Receiver.{Receiver}
 use Rattle.ffa_model.specs.Identifiers.{identifier, place}
 use Rattle.ffa_model.specs.Lists.{listed, is_in_run}
-use Rattle.ffa_model.specs.State.{State, Page, Transaction, Buffers, buffers_of, is_known, owner_of, page_at, sent_by, transaction_of, version_of}
-use Rattle.ffa_model.specs.Access.{handle_at, held_by, is_receiver, names, transaction_at}
+use Rattle.ffa_model.specs.State.{State, Page, Transaction, Buffers, buffers_of, is_known, owner_of, page_at, sent_by, transaction_of, version_of, own_right_of}
+use Rattle.ffa_model.specs.Access.{handle_at, held_by, is_receiver, names, transaction_at, ownership_of, Ownership}
 use Rattle.ffa_model.specs.Rights.{may_store}
 use Rattle.ffa_model.specs.Memory.{zeroed_if}
-use Rattle.ffa_model.specs.Buffers.{Candidate, buffers_in, candidate_at, candidates, room_of}
+use Rattle.ffa_model.specs.Buffers.{buffers_in, room_of, is_own}
 use Rattle.ffa_model.specs.Calls.{first_failure}
 use Rattle.ffa_model.specs.RunStates.{schedule_of}
 use Rattle.ffa_model.specs.SendDescriptor.{SendRecord, most_receivers, send_of}
 use Rattle.ffa_model.specs.declared.call.Transfer.{Transfer}
-use Rattle.ffa_model.specs.Transactions.{OwnRights, Scene, are_writable, own_right_of, own_rights_of, handle_of, next_handle, open_of, open_count, pages_in, scene_of, sends_of}
-use Rattle.ffa_model.specs.MemorySend.{are_grants_within, are_known, handle_reply, is_buffer, is_grantable, is_inside, is_own, is_sendable, memory_send, memory_sent, send_guards, send_read, transaction_from, descriptor_in}
+use Rattle.ffa_model.specs.Transactions.{Scene, are_writable, handle_of, next_handle, open_of, open_count, pages_in, scene_of, sends_of}
+use Rattle.ffa_model.specs.MemorySend.{are_grants_within, are_known, handle_reply, is_buffer, is_grantable, is_inside, is_sendable, memory_send, memory_sent, send_guards, send_read, transaction_from, descriptor_in}
 use Rattle.ffa_laws.specs.Steady.{IsAlone, IsSteady, IsSteadyTransaction}
 use Rattle.ffa_laws.specs.View.{view, buffers_seen, hidden, involves, is_near, kept}
 use Rattle.ffa_laws.specs.Events.{Event, Opened, apply, apply_all, named_pages, opens, public_change, where_true}
@@ -59,10 +59,10 @@ use Rattle.ffa_model.specs.declared.refusal.Refusal.{Refusal}
 pub record IsOffer (s : State) (r : SendRecord) : Type 0 where
   pub sender : r.sender ≡ s.runner
   pub known : are_known (length s.parties) r.receivers ≡ true
-  pub inside : list_all (is_inside (own_rights_of s)) r.ranges ≡ true
-  pub free : list_all (is_sendable s.runner (candidates s) s.buffers) (pages_in (own_rights_of s) r.ranges) ≡ true
-  pub grants : list_all (are_grants_within (own_rights_of s) r.receivers) (pages_in (own_rights_of s) r.ranges) ≡ true
-  pub zeroed : r.zero ≡ true → are_writable (own_rights_of s) r.ranges ≡ true
+  pub inside : list_all (is_inside (ownership_of s)) r.ranges ≡ true
+  pub free : list_all (is_sendable s.runner (ownership_of s) s.buffers) (pages_in (ownership_of s) r.ranges) ≡ true
+  pub grants : list_all (are_grants_within (ownership_of s) r.receivers) (pages_in (ownership_of s) r.ranges) ≡ true
+  pub zeroed : r.zero ≡ true → are_writable (ownership_of s) r.ranges ≡ true
   pub few : open_count (open_of s) s.runner < MOST_OPEN
   pub sent : sent_by s s.runner < MOST_SENDS
 
@@ -79,7 +79,7 @@ offer s x r none =
       sent = ltb-true (sent_by s s.runner) MOST_SENDS (guard-passes (send_guards (scene_of s) s.runner x (Some r)) 12 (sym none));
     }
   where
-    zeroes : (zero : Bool) → (not zero || are_writable (own_rights_of s) r.ranges) ≡ true → zero ≡ true → are_writable (own_rights_of s) r.ranges ≡ true
+    zeroes : (zero : Bool) → (not zero || are_writable (ownership_of s) r.ranges) ≡ true → zero ≡ true → are_writable (ownership_of s) r.ranges ≡ true
     zeroes true is _ = is
     zeroes false is asked = absurd (false≢true asked)
 
@@ -88,17 +88,17 @@ pub no-offer : (s : State) (x : Transfer) → first_failure (send_guards (scene_
 no-offer s x none = false≢true (guard-passes (send_guards (scene_of s) s.runner x None) 5 (sym none))
 
 -- ---- pages that may be sent
-module _ (s : State) (ranges : List Range) (free : list_all (is_sendable s.runner (candidates s) s.buffers) (pages_in (own_rights_of s) ranges) ≡ true) where
-  sendable-each : (p : ℕ) → p < length s.pages → names s ranges p ≡ true → is_sendable s.runner (candidates s) s.buffers p ≡ true
-  sendable-each p lt named = listed-each (is_sendable s.runner (candidates s) s.buffers) (names s ranges) (length s.pages) (λ q. q) free p lt named
+module _ (s : State) (ranges : List Range) (free : list_all (is_sendable s.runner (ownership_of s) s.buffers) (pages_in (ownership_of s) ranges) ≡ true) where
+  sendable-each : (p : ℕ) → p < length s.pages → names s ranges p ≡ true → is_sendable s.runner (ownership_of s) s.buffers p ≡ true
+  sendable-each p lt named = listed-each (is_sendable s.runner (ownership_of s) s.buffers) (names s ranges) (length s.pages) (λ q. q) free p lt named
 
   sendable-alone : (p : ℕ) → p < length s.pages → names s ranges p ≡ true → (page : Page) × (page_at s p ≡ Some page) × IsAlone s s.runner p
   sendable-alone p lt named = own-alone s s.runner p (and_parts _ _ (sendable-each p lt named)).0
 
 -- ---- the guards, in the runner's view
 -- the guards of a send before the one that asks whether all pages may be sent, and those behind it
-abbrev asked_first : Bool → ℕ → ℕ → OwnRights → ℕ → Transfer → SendRecord → List (Bool × Refusal)
-asked_first mapped room endpoints own_rights e x r =
+abbrev asked_first : Bool → ℕ → ℕ → Ownership → ℕ → Transfer → SendRecord → List (Bool × Refusal)
+asked_first mapped room endpoints ram e x r =
     (mapped, invalid)
     ∷ (x.total == x.fragment, invalid)
     ∷ (nat_le x.total room, invalid)
@@ -106,13 +106,13 @@ asked_first mapped room endpoints own_rights e x r =
     ∷ (x.pages == 0, invalid)
     ∷ (r.sender == e, invalid)
     ∷ (are_known endpoints r.receivers, invalid)
-    ∷ (list_all (is_inside own_rights) r.ranges, denied)
+    ∷ (list_all (is_inside ram) r.ranges, denied)
     ∷ []
 
 abbrev asked_of_pages : Scene → ℕ → SendRecord → List (Bool × Refusal)
 asked_of_pages c e r =
-    (list_all (are_grants_within c.own_rights r.receivers) (pages_in c.own_rights r.ranges), denied)
-    ∷ (not r.zero || are_writable c.own_rights r.ranges, denied)
+    (list_all (are_grants_within c.ram r.receivers) (pages_in c.ram r.ranges), denied)
+    ∷ (not r.zero || are_writable c.ram r.ranges, denied)
     ∷ (nat_lt (open_count c.open_transactions e) MOST_OPEN, no_memory)
     ∷ (nat_lt (sends_of c.open_transactions e) MOST_SENDS, no_memory)
     ∷ []
@@ -168,14 +168,14 @@ module _ (s : State) (steady : IsSteady s) where
   owned-near p owner = ap (λ t. t || involves s.runner (transaction_at s p)) (eq-eqb (owner_of s p) s.runner owner)
 
   judged : Bool → Option Page → Bool
-  judged named page = is_own s.runner (option_map (λ (q : Page). let c : Candidate = record { owner = q.owner; own_right = q.own_right; named = named } in c) page)
+  judged named page = (is_some (option_map (λ (q : Page). q.own_right) page) && option_map_or (λ (q : Page). q.owner) page 0x8000 == s.runner) && not named
 
   judged-other : (named b : Bool) (q : Page) → (q.owner == s.runner) ≡ false → judged named (kept b (Some q)) ≡ false
   unfolding judged
   judged-other named true q other = ap (λ t. t && not named) other
   judged-other named false q other = refl
 
-  own-page-seen : (p : ℕ) → is_own s.runner (candidate_at v p) ≡ is_own s.runner (candidate_at s p)
+  own-page-seen : (p : ℕ) → is_own s.runner (ownership_of v) p ≡ is_own s.runner (ownership_of s) p
   unfolding judged
   own-page-seen p = ap (judged (is_some (handle_at v p))) (view-page s.runner s p) ∙ of (page_at s p) refl
     where
@@ -193,9 +193,9 @@ module _ (s : State) (steady : IsSteady s) where
           ] refl
 
   -- so a page may be sent in the view where it may be
-  sendable-seen : (p : ℕ) → p < length s.pages → is_sendable s.runner (candidates v) v.buffers p ≡ is_sendable s.runner (candidates s) s.buffers p
+  sendable-seen : (p : ℕ) → p < length s.pages → is_sendable s.runner (ownership_of v) v.buffers p ≡ is_sendable s.runner (ownership_of s) s.buffers p
   sendable-seen p lt =
-      elim (is_own s.runner (candidate_at s p)) as (λ b. is_own s.runner (candidate_at s p) ≡ b → (is_own s.runner (candidate_at v p) && not (is_buffer v.buffers p)) ≡ (b && not (is_buffer s.buffers p))) [
+      elim (is_own s.runner (ownership_of s) p) as (λ b. is_own s.runner (ownership_of s) p ≡ b → (is_own s.runner (ownership_of v) p && not (is_buffer v.buffers p)) ≡ (b && not (is_buffer s.buffers p))) [
         | true ↦ λ own.
             let (page, at, alone) = own-alone s s.runner p own in
             (λ i. (own-page-seen p ∙ own) i && not (buffer-seen p lt alone.owner i))
@@ -205,27 +205,27 @@ module _ (s : State) (steady : IsSteady s) where
   module _ (ranges : List Range) where
     -- tests of all pages that are named
     tests-seen : (test also : ℕ → Bool) → ((p : ℕ) → p < length s.pages → names s ranges p ≡ true → test p ≡ also p)
-        → list_all test (pages_in (own_rights_of v) ranges) ≡ list_all also (pages_in (own_rights_of s) ranges)
+        → list_all test (pages_in (ownership_of v) ranges) ≡ list_all also (pages_in (ownership_of s) ranges)
     tests-seen test also same =
         ap (λ n. list_all test (filter (names s ranges) (listed n (λ p. p)))) size-seen
         ∙ same-tests test also (names s ranges) (length s.pages) (λ p. p) same
 
-    all-sendable-seen : list_all (is_sendable s.runner (candidates v) v.buffers) (pages_in (own_rights_of v) ranges) ≡ list_all (is_sendable s.runner (candidates s) s.buffers) (pages_in (own_rights_of s) ranges)
-    all-sendable-seen = tests-seen (is_sendable s.runner (candidates v) v.buffers) (is_sendable s.runner (candidates s) s.buffers) (λ p lt named. sendable-seen p lt)
+    all-sendable-seen : list_all (is_sendable s.runner (ownership_of v) v.buffers) (pages_in (ownership_of v) ranges) ≡ list_all (is_sendable s.runner (ownership_of s) s.buffers) (pages_in (ownership_of s) ranges)
+    all-sendable-seen = tests-seen (is_sendable s.runner (ownership_of v) v.buffers) (is_sendable s.runner (ownership_of s) s.buffers) (λ p lt named. sendable-seen p lt)
 
     -- where all may be sent, the runner sees their rights
-    module _ (free : list_all (is_sendable s.runner (candidates s) s.buffers) (pages_in (own_rights_of s) ranges) ≡ true) where
+    module _ (free : list_all (is_sendable s.runner (ownership_of s) s.buffers) (pages_in (ownership_of s) ranges) ≡ true) where
       own_right-seen : (p : ℕ) → p < length s.pages → names s ranges p ≡ true → own_right_of v p ≡ own_right_of s p
       own_right-seen p lt named =
           let (page, at, alone) = sendable-alone s ranges free p lt named in
           ap (option_map (λ (page : Page). page.own_right)) (view-page s.runner s p ∙ ap (λ b. kept b (page_at s p)) (alone-near s s.runner p alone))
 
-      grants-seen : (receivers : List Receiver) → list_all (are_grants_within (own_rights_of v) receivers) (pages_in (own_rights_of v) ranges) ≡ list_all (are_grants_within (own_rights_of s) receivers) (pages_in (own_rights_of s) ranges)
+      grants-seen : (receivers : List Receiver) → list_all (are_grants_within (ownership_of v) receivers) (pages_in (ownership_of v) ranges) ≡ list_all (are_grants_within (ownership_of s) receivers) (pages_in (ownership_of s) ranges)
       grants-seen receivers =
-          tests-seen (are_grants_within (own_rights_of v) receivers) (are_grants_within (own_rights_of s) receivers)
+          tests-seen (are_grants_within (ownership_of v) receivers) (are_grants_within (ownership_of s) receivers)
           (λ p lt named. ap (λ right. list_all (λ (r : Receiver). is_grantable r.grant right) receivers) (own_right-seen p lt named))
 
-      writable-seen : are_writable (own_rights_of v) ranges ≡ are_writable (own_rights_of s) ranges
+      writable-seen : are_writable (ownership_of v) ranges ≡ are_writable (ownership_of s) ranges
       writable-seen = tests-seen (λ p. may_store (own_right_of v p)) (λ p. may_store (own_right_of s p)) (λ p lt named. ap may_store (own_right-seen p lt named))
 
   -- how often it has sent, and so the next handle
@@ -250,11 +250,11 @@ module _ (s : State) (steady : IsSteady s) where
       ∷ (false, invalid)
       ∷ [])
   same-failure x (Some r) =
-      (λ i. first_failure (asked_first (some-seen s steady s.runner i) (room-seen s steady s.runner i) (length s.parties) (record { ram_base = s.ram_base; pages = size-seen i; right = own_right_of s }) s.runner x r
+      (λ i. first_failure (asked_first (some-seen s steady s.runner i) (room-seen s steady s.runner i) (length s.parties) (record (ownership_of s) { count = size-seen i }) s.runner x r
       ++ (all-sendable-seen r.ranges i, denied)
       ∷ asked_of_pages (scene_of v) s.runner r))
-      ∙ same-later denied (asked_first (is_some (buffers_in s.buffers s.runner)) (room_of (buffers_in s.buffers s.runner)) (length s.parties) (own_rights_of s) s.runner x r)
-      (list_all (is_sendable s.runner (candidates s) s.buffers) (pages_in (own_rights_of s) r.ranges)) (asked_of_pages (scene_of v) s.runner r) (asked_of_pages (scene_of s) s.runner r)
+      ∙ same-later denied (asked_first (is_some (buffers_in s.buffers s.runner)) (room_of (buffers_in s.buffers s.runner)) (length s.parties) (ownership_of s) s.runner x r)
+      (list_all (is_sendable s.runner (ownership_of s) s.buffers) (pages_in (ownership_of s) r.ranges)) (asked_of_pages (scene_of v) s.runner r) (asked_of_pages (scene_of s) s.runner r)
       (λ free i. first_failure (
       (grants-seen r.ranges free r.receivers i, denied)
       ∷ (not r.zero || writable-seen r.ranges free i, denied)
@@ -272,7 +272,7 @@ module _ (s : State) (steady : IsSteady s) (kind : Kind) (r : SendRecord) (good 
 
   -- each page is the runner's alone
   named-inside : (p : ℕ) → names s r.ranges p ≡ true → p < length s.pages
-  named-inside p named = covered-inside (own_rights_of s) r.ranges p good.inside named
+  named-inside p named = covered-inside (ownership_of s) r.ranges p good.inside named
 
   pub alone : (p : ℕ) → names s r.ranges p ≡ true → (page : Page) × (page_at s p ≡ Some page) × IsAlone s s.runner p
   alone p named = sendable-alone s r.ranges good.free p (named-inside p named) named

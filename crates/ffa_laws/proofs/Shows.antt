@@ -34,8 +34,9 @@ use Rattle.ffa_model.specs.MemoryRetrieve.{retrieve_read, retrieved, retrieved_f
 use Rattle.ffa_model.specs.MemoryReturn.{relinquish_read, relinquished, relinquished_from}
 use Rattle.ffa_model.specs.Registers.{decode}
 use Rattle.ffa_model.specs.Step.{outcomes, serve, service, step}
-use Rattle.ffa_laws.specs.Events.{Event, Public, Wrote, Message, Filled, Pending, Held, Zeroed, Closed, delivers, events, message, messages, opens, public_change, public_part, releases, seen, switches, takes, takes_from, taking, told_by, where_passed, where_true}
+use Rattle.ffa_laws.specs.Events.{Event, Wrote, Message, Filled, Pending, Held, Zeroed, Closed, delivers, events, message, messages, opens, public_change, releases, seen, switches, takes, takes_from, taking, told_by, where_passed, where_true}
 use Rattle.ffa_laws.specs.Isolation.{Shown, runner_after, shown_to}
+use Rattle.ffa_laws.proofs.Publics.{either-public}
 
 -- an outcome names who runs then
 abbrev Tells : ℕ → Stepped → Type 0
@@ -50,11 +51,7 @@ messages-append e [] ys = refl
 messages-append e (x ∷ xs) ys = ap (λ zs. message e x ++ zs) (messages-append e xs ys) ∙ sym (append_assoc (message e x) (messages e xs) (messages e ys))
 
 messages-public : (e : ℕ) (s next : State) → messages e (public_change s next) ≡ []
-messages-public e s next = of _
-  where
-    of : (b : Bool) → messages e (cond b [] (Public (public_part next) ∷ [])) ≡ []
-    of true = refl
-    of false = refl
+messages-public e s next = either-public (λ es. messages e es ≡ []) s next refl refl
 
 -- ---- events that are no messages
 no_message : (e : ℕ) (b : Bool) (event : Event) → message e event ≡ [] → messages e (where_true b (event ∷ [])) ≡ []

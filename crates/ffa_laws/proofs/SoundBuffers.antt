@@ -1,5 +1,6 @@
 -- SPDX-License-Identifier: MIT OR Apache-2.0
 -- Buffers stay sound.
+use Rattle.ffa_model.specs.Access.{ownership_of}
 use Rattle.std.proofs.Common.{◌≡◌, ◌∙◌, ℕ, ◌<◌, Bool, true, false, cond, List, length, set, get_or, Option, Some, None, refl, sym, ap, subst, inl, inr, length-set}
 use Rattle.std.proofs.lemmas.Bool.{cases_eq}
 use Rattle.std.proofs.lemmas.List.{get_or-set_other, get_or-set_same}
@@ -8,7 +9,7 @@ use Rattle.ffa_model.proofs.Runs.{run-each}
 use Rattle.ffa_model.specs.Identifiers.{place}
 use Rattle.ffa_model.specs.State.{State, Buffers, buffers_of, is_known}
 use Rattle.ffa_model.specs.Calls.{first_failure}
-use Rattle.ffa_model.specs.Buffers.{buffers_with, buffers_with_rx, candidates, filled, filled_pages, candidate_at, is_usable, map_guards, new_buffers, page_number, rxtx_map, with_buffers, with_rx}
+use Rattle.ffa_model.specs.Buffers.{buffers_with, buffers_with_rx, filled, filled_pages, is_usable, map_guards, new_buffers, page_number, rxtx_map, with_buffers, with_rx}
 use Rattle.ffa_model.specs.SoundState.{IsSoundBuffers, IsSoundState}
 use Rattle.ffa_model.proofs.Guards.{guard-passes}
 use Rattle.ffa_model.proofs.Places.{known-place, same-known}
@@ -52,12 +53,12 @@ module _ (s : State) (sound : IsSoundState s) where
   pub map-sound : (tx rx pages : ℕ) → first_failure (rxtx_map s tx rx pages).guards ≡ None → IsSoundState (rxtx_map s tx rx pages).state
   map-sound tx rx pages none =
       set-sound (Some (new_buffers s.ram_base tx rx pages)) (λ b is. subst (λ (x : Buffers). IsSoundBuffers s s.runner x) (same_Some (new_buffers s.ram_base tx rx pages) b is) (record {
-        count = guard-passes (map_guards s.runner (buffers_of s s.runner) (candidates s) tx rx pages) 1 (sym none);
-        tx = run-each (λ p. is_usable s.runner (candidate_at s p)) (page_number s.ram_base tx) pages
-            (guard-passes (map_guards s.runner (buffers_of s s.runner) (candidates s) tx rx pages) 5 (sym none));
-        rx = run-each (λ p. is_usable s.runner (candidate_at s p)) (page_number s.ram_base rx) pages
-            (guard-passes (map_guards s.runner (buffers_of s s.runner) (candidates s) tx rx pages) 6 (sym none));
-        apart = guard-passes (map_guards s.runner (buffers_of s s.runner) (candidates s) tx rx pages) 4 (sym none);
+        count = guard-passes (map_guards s.runner (buffers_of s s.runner) (ownership_of s) tx rx pages) 1 (sym none);
+        tx = run-each (λ p. is_usable s.runner (ownership_of s) p) (page_number s.ram_base tx) pages
+            (guard-passes (map_guards s.runner (buffers_of s s.runner) (ownership_of s) tx rx pages) 5 (sym none));
+        rx = run-each (λ p. is_usable s.runner (ownership_of s) p) (page_number s.ram_base rx) pages
+            (guard-passes (map_guards s.runner (buffers_of s s.runner) (ownership_of s) tx rx pages) 6 (sym none));
+        apart = guard-passes (map_guards s.runner (buffers_of s s.runner) (ownership_of s) tx rx pages) 4 (sym none);
       }))
 
 -- these bytes stand in RX of f, which is full

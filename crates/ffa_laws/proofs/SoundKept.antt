@@ -1,5 +1,6 @@
 -- SPDX-License-Identifier: MIT OR Apache-2.0
 -- What keeps a state sound: its parts, one by one.
+use Rattle.ffa_model.specs.Access.{ownership_of}
 use Rattle.std.proofs.Common.{◌≡◌, ◌∙◌, ℕ, ◌<◌, true, List, length, get_or, Option, Some, None, refl, subst, arith}
 use Rattle.std.specs.FinSet as finite_set
 use Rattle.ffa_model.specs.Identifiers.{place}
@@ -8,9 +9,9 @@ use Rattle.ffa_model.specs.RunStates.{Schedule, schedule_of, with_schedule}
 use Rattle.ffa_model.specs.Notifications.{Notifications, with_notifications}
 use Rattle.ffa_model.specs.Sound.{IsSound}
 use Rattle.ffa_model.specs.SoundState.{IsKnown, IsSoundBinding, IsSoundBuffers, IsSoundPage, IsSoundPending, IsSoundState}
-use Rattle.ffa_model.specs.Transactions.{own_rights_of}
 use Rattle.ffa_model.proofs.Kept.{same-transaction, same-usable}
 use Rattle.ffa_laws.proofs.Changes.{AreRewritten, same_own_right, same_owner, unwritten, with_parts}
+use Rattle.ffa_model.proofs.Own.{with_rights_of}
 
 -- pages whose owners are endpoints, and that hold bytes
 abbrev pub AreSoundPages : State → List (Option Page) → Type 0
@@ -24,8 +25,9 @@ module _ (s : State) (sound : IsSoundState s) where
     abbrev z : State
     z = with_parts s ps bs c
 
-    same-own-rights : own_rights_of z ≡ own_rights_of s
-    same-own-rights = λ i. record { ram_base = s.ram_base; pages = rewritten.each i; right = λ p. same_own_right (get_or ps p None) (page_at s p) (rewritten.same p) i }
+    same-own-rights : ownership_of z ≡ with_rights_of s z
+    same-own-rights =
+        λ i. record (with_rights_of s z) { count = rewritten.each i; own_right = λ p. same_own_right (get_or ps p None) (page_at s p) (rewritten.same p) i }
 
     same-owners : (p : ℕ) → owner_of z p ≡ owner_of s p
     same-owners p = same_owner (get_or ps p None) (page_at s p) (rewritten.same p)
@@ -56,8 +58,8 @@ module _ (s : State) (sound : IsSoundState s) where
               let good = buffers e b known is in
               record {
                 count = good.count;
-                tx = λ p its. same-usable s z e p (λ i. (same-own-rights i).right p) (same-owners p) (λ none. none) (good.tx p its);
-                rx = λ p its. same-usable s z e p (λ i. (same-own-rights i).right p) (same-owners p) (λ none. none) (good.rx p its);
+                tx = λ p its. same-usable s z e p (λ i. (same-own-rights i).own_right p) (same-owners p) (λ none. none) (good.tx p its);
+                rx = λ p its. same-usable s z e p (λ i. (same-own-rights i).own_right p) (same-owners p) (λ none. none) (good.rx p its);
                 apart = good.apart;
               };
           schedule = schedule;

@@ -1,5 +1,6 @@
 -- SPDX-License-Identifier: MIT OR Apache-2.0
 -- Memory that is given back keeps a state sound.
+use Rattle.ffa_model.specs.Access.{ownership_of}
 use Rattle.std.proofs.Common.{◌≡◌, ℕ, Option, Some, None, refl, sym}
 use Rattle.std.proofs.lemmas.Bool.{false≢true}
 use Rattle.ffa_model.specs.declared.descriptor.RelinquishDesc.{RelinquishDesc}
@@ -8,7 +9,6 @@ use Rattle.ffa_model.specs.Bits.{is_set}
 use Rattle.ffa_model.specs.Calls.{first_failure}
 use Rattle.ffa_model.specs.MemoryReturn.{memory_reclaim, memory_relinquish, reclaim_guards, reclaimed, relinquish_read, relinquished, relinquished_from}
 use Rattle.ffa_model.specs.SoundState.{IsSoundState}
-use Rattle.ffa_model.specs.Transactions.{own_rights_of}
 use Rattle.ffa_model.proofs.Guards.{guard-passes}
 use Rattle.ffa_model.proofs.KeptCalls.{reclaimed-sound, relinquished-sound}
 
@@ -16,9 +16,9 @@ module _ (s : State) (sound : IsSoundState s) where
   pub reclaim-sound : (handle flags : ℕ) → first_failure (memory_reclaim s handle flags).guards ≡ None → IsSoundState (memory_reclaim s handle flags).state
   reclaim-sound handle flags none = of (transaction_of s handle) refl none
     where
-      of : (o : Option Transaction) → transaction_of s handle ≡ o → first_failure (reclaim_guards (own_rights_of s) s.runner flags o) ≡ None
+      of : (o : Option Transaction) → transaction_of s handle ≡ o → first_failure (reclaim_guards (ownership_of s) s.runner flags o) ≡ None
           → IsSoundState (reclaimed s handle (is_set 0 flags))
-      of None there none = absurd (false≢true (guard-passes (reclaim_guards (own_rights_of s) s.runner flags None) 1 (sym none)))
+      of None there none = absurd (false≢true (guard-passes (reclaim_guards (ownership_of s) s.runner flags None) 1 (sym none)))
       of (Some t) there none = reclaimed-sound s sound handle t there (is_set 0 flags)
 
   pub relinquish-sound : IsSoundState (memory_relinquish s).state

@@ -1,5 +1,6 @@
 -- SPDX-License-Identifier: MIT OR Apache-2.0
 -- A send of memory keeps a state sound.
+use Rattle.ffa_model.specs.Access.{ownership_of}
 use Rattle.std.proofs.Common.{◌≡◌, ◌<◌, true, Option, Some, None, refl, sym, subst}
 use Rattle.std.specs.Prelude.{nat_lt}
 use Rattle.std.specs.List.{list_all}
@@ -8,13 +9,12 @@ use Rattle.std.specs.FinMap as finite
 use Rattle.ffa_model.specs.declared.limits.TheConstants.{MOST_OPEN, MOST_SENDS}
 use Rattle.ffa_model.specs.declared.rights.Kind.{Kind}
 use Rattle.ffa_model.specs.State.{State, is_known, sent_by}
-use Rattle.ffa_model.specs.Buffers.{candidates}
 use Rattle.ffa_model.specs.Calls.{first_failure}
 use Rattle.ffa_model.specs.Messages.{tx_bytes}
 use Rattle.ffa_model.specs.SendDescriptor.{SendRecord}
 use Rattle.ffa_model.specs.SoundState.{IsSoundState}
 use Rattle.ffa_model.specs.declared.call.Transfer.{Transfer}
-use Rattle.ffa_model.specs.Transactions.{own_rights_of, open_of, open_count, pages_in, scene_of}
+use Rattle.ffa_model.specs.Transactions.{open_of, open_count, pages_in, scene_of}
 use Rattle.ffa_model.specs.MemorySend.{descriptor_in, is_sendable, memory_send, memory_sent, send_guards, send_read, transaction_from}
 use Rattle.ffa_model.proofs.KeptCalls.{offered-sound}
 use Rattle.ffa_model.proofs.KeptSend.{IsSendable}
@@ -32,7 +32,7 @@ module _ (s : State) (sound : IsSoundState s) (kind : Kind) (x : Transfer) where
       record {
         sender = subst (λ e. is_known s e ≡ true) (sym good.sender) (runner-known s sound);
         inside = good.inside;
-        free = subst (λ e. list_all (is_sendable e (candidates s) s.buffers) (pages_in (own_rights_of s) r.ranges) ≡ true) (sym good.sender) good.free;
+        free = subst (λ e. list_all (is_sendable e (ownership_of s) s.buffers) (pages_in (ownership_of s) r.ranges) ≡ true) (sym good.sender) good.free;
         grants = good.grants;
         zeroed = good.zeroed;
         few = subst (λ e. open_count (open_of s) e < MOST_OPEN) (sym good.sender) good.few;

@@ -12,9 +12,9 @@ use Rattle.ffa_model.specs.declared.rights.Rights.{Rights}
 use Rattle.ffa_model.specs.Identifiers.{manager}
 use Rattle.ffa_model.specs.Rights.{is_lend, is_share, is_within}
 use Rattle.ffa_model.specs.State.{State, Page, Transaction, is_known, is_known_among, owner_of, page_at, transaction_of}
-use Rattle.ffa_model.specs.Access.{held_by, is_naming, names}
+use Rattle.ffa_model.specs.Access.{held_by, is_naming, names, ownership_of}
 use Rattle.ffa_model.specs.RunStates.{schedule_of}
-use Rattle.ffa_model.specs.Transactions.{own_rights_of, ceiling}
+use Rattle.ffa_model.specs.Transactions.{ceiling}
 use Rattle.ffa_model.specs.SoundState.{IsSoundState, IsSoundTransaction}
 use Rattle.ffa_laws.specs.Steady.{IsSteady, IsSteadyTransaction, is_joint}
 use Rattle.ffa_laws.proofs.Grants.{covered-inside, granted-ceiling, one-taker}
@@ -29,7 +29,7 @@ module _ (s : State) (sound : IsSoundState s) where
     good = sound.transactions h t open_t
 
     named-inside : (p : ℕ) → names s t.ranges p ≡ true → p < length s.pages
-    named-inside p named = covered-inside (own_rights_of s) t.ranges p good.inside named
+    named-inside p named = covered-inside (ownership_of s) t.ranges p good.inside named
 
     owned : (p : ℕ) → names s t.ranges p ≡ true → owner_of s p ≡ t.sender
     owned p named = good.owned p (named-inside p named) named
@@ -45,7 +45,7 @@ module _ (s : State) (sound : IsSoundState s) where
             absurd (false≢true (subst (λ e. is_known_among (length s.parties) e ≡ true) (sym nobody) good.sender))
 
     -- a ceiling is within the own right of each page
-    pub ceiling-within : (p e : ℕ) → names s t.ranges p ≡ true → is_within (Some (ceiling (own_rights_of s) t e)) (page_right (page_at s p)) ≡ true
+    pub ceiling-within : (p e : ℕ) → names s t.ranges p ≡ true → is_within (Some (ceiling (ownership_of s) t e)) (page_right (page_at s p)) ≡ true
     ceiling-within p e named =
         let (page, at) = named-page p named in
         granted-ceiling s t p e page at (named-inside p named) named good.grants
@@ -55,7 +55,7 @@ module _ (s : State) (sound : IsSoundState s) where
         record {
           owned = owned;
           receiver = good.holder;
-          within = λ p e right named held. within-through (Some right) (Some (ceiling (own_rights_of s) t e)) (page_right (page_at s p)) (good.within e right held) (ceiling-within p e named);
+          within = λ p e right named held. within-through (Some right) (Some (ceiling (ownership_of s) t e)) (page_right (page_at s p)) (good.within e right held) (ceiling-within p e named);
           alone = λ e f one other differ of_e of_f. joint e f one other differ of_e of_f t.kind refl;
           ceilings = ceiling-within;
           taker = λ e f is of_e of_f. one-taker t good.few_receivers e f is of_e of_f;

@@ -3,50 +3,38 @@
 use Rattle.std.proofs.Common.{◌≡◌, ◌≢◌, ◌∙◌, ℕ, ◌≤◌, Bool, true, false, cond, List, [], ◌∷◌, length, get_or, Option, Some, None, is_some, refl, sym, ap, subst, inl, inr, arith}
 use Rattle.std.specs.Prelude.{◌==◌}
 use Rattle.std.specs.List.{list_any}
-use Rattle.std.specs.Option.{option_map, option_map_or}
+use Rattle.std.specs.Option.{option_map}
 use Rattle.ffa_model.specs.declared.transaction.Receiver.{Receiver}
 use Rattle.ffa_model.specs.Rights.{is_within}
-use Rattle.ffa_model.specs.Transactions.{OwnRights, own_rights_of, ceiling}
+use Rattle.ffa_model.specs.Transactions.{ceiling}
 use Rattle.ffa_model.specs.Identifiers.{place}
 use Rattle.ffa_model.specs.State.{State, Page, Buffers, page_at, owner_of, is_known_among, is_known, transaction_of}
-use Rattle.ffa_model.specs.Access.{handle_at, transaction_at}
-use Rattle.ffa_model.specs.Buffers.{Candidate, is_usable, candidate_at, buffers_with_rx}
-use Rattle.ffa_model.specs.MemorySend.{is_own}
+use Rattle.ffa_model.specs.Access.{transaction_at, Ownership, ownership_of}
+use Rattle.ffa_model.specs.Buffers.{is_usable, buffers_with_rx, is_own}
 use Rattle.ffa_model.specs.RunStates.{Schedule, requester}
 use Rattle.ffa_model.specs.Notifications.{Notifications, with_notifications}
 use Rattle.ffa_laws.specs.Steady.{AreSteadyBuffers, IsAlone, IsSteady, IsSteadyBinding}
 use Rattle.std.specs.FinSet as finite_set
 use Rattle.ffa_laws.specs.View.{is_near, involves}
-use Rattle.std.specs.Prelude.{◌||◌, not}
+use Rattle.std.specs.Prelude.{◌||◌}
 use Rattle.std.specs.Option.{option_and_then}
 use Rattle.std.proofs.lemmas.Bool.{false≢true, eqb-true, and_parts, or_cases}
 use Rattle.std.proofs.lemmas.Bool.Decides.{nat_tests}
 use Rattle.ffa_laws.proofs.Changes.{AreRewritten, with_parts, same_own_right, same_owner}
 use Rattle.ffa_laws.proofs.Written.{at-changed, is_at, with_rx_full}
+use Rattle.ffa_model.proofs.Own.{own-parts, usable-parts}
 
 -- a page that e owns, and that no transaction names, is there, and e's alone
-pub own-alone : (s : State) (e p : ℕ) → is_own e (candidate_at s p) ≡ true → (page : Page) × (page_at s p ≡ Some page) × IsAlone s e p
-own-alone s e p is = of (page_at s p) refl is
+pub own-alone : (s : State) (e p : ℕ) → is_own e (ownership_of s) p ≡ true → (page : Page) × (page_at s p ≡ Some page) × IsAlone s e p
+own-alone s e p is = of (page_at s p) refl
   where
-    none : (o : Option ℕ) → not (is_some o) ≡ true → o ≡ None
-    none None h = refl
-    none (Some h) n = absurd (false≢true n)
-
-    of : (o : Option Page) → page_at s p ≡ o
-        → is_own e (option_map (λ (page : Page). let c : Candidate = record { owner = page.owner; own_right = page.own_right; named = is_some (handle_at s p) } in c) o) ≡ true
-        → (page : Page) × (page_at s p ≡ Some page) × IsAlone s e p
-    of None at is = absurd (false≢true is)
-    of (Some page) at is =
-        let (mine, free) = and_parts (page.owner == e) _ is in
-        (page, at, record { owner = ap (λ o. option_map_or (λ (q : Page). q.owner) o 0x8000) at ∙ eqb-true page.owner e mine; unnamed = none (handle_at s p) free })
+    of : (o : Option Page) → page_at s p ≡ o → (page : Page) × (page_at s p ≡ Some page) × IsAlone s e p
+    of None at = absurd (false≢true (sym (ap (λ o. is_some (option_map (λ (page : Page). page.own_right) o)) at) ∙ (and_parts _ _ (and_parts _ _ is).0).0))
+    of (Some page) at = let parts = own-parts s e p is in (page, at, record { owner = parts.0; unnamed = parts.1 })
 
 -- so is one that may be a buffer of e
-pub usable : (s : State) (e p : ℕ) → is_usable e (candidate_at s p) ≡ true → IsAlone s e p
-usable s e p is = (own-alone s e p (of (candidate_at s p) is)).2
-  where
-    of : (c : Option Candidate) → is_usable e c ≡ true → is_own e c ≡ true
-    of None is = is
-    of (Some page) is = (and_parts (is_own e (Some page)) _ is).0
+pub usable : (s : State) (e p : ℕ) → is_usable e (ownership_of s) p ≡ true → IsAlone s e p
+usable s e p is = let parts = usable-parts s e p is in record { owner = parts.0; unnamed = parts.1 }
 
 -- two receivers are at least two
 pub two-receivers : (receivers : List Receiver) (e f : ℕ) → e ≢ f → list_any (λ (r : Receiver). r.endpoint.0 == e) receivers ≡ true
@@ -73,8 +61,13 @@ module _ (s : State) (steady : IsSteady s) (ps : List (Option Page)) (bs : List 
   alone-kept : (e p : ℕ) → IsAlone s e p → IsAlone (with_parts s ps bs c) e p
   alone-kept e p alone = record { owner = same_owner (get_or ps p None) (page_at s p) (rewritten.same p) ∙ alone.owner; unnamed = alone.unnamed }
 
-  same-own-rights : own_rights_of (with_parts s ps bs c) ≡ own_rights_of s
-  same-own-rights = λ i. record { ram_base = s.ram_base; pages = rewritten.each i; right = λ p. same_own_right (get_or ps p None) (page_at s p) (rewritten.same p) i }
+  same-ownership : ownership_of (with_parts s ps bs c) ≡ ownership_of s
+  same-ownership =
+      λ i. record (ownership_of s) {
+        count = rewritten.each i;
+        owner = λ p. same_owner (get_or ps p None) (page_at s p) (rewritten.same p) i;
+        own_right = λ p. same_own_right (get_or ps p None) (page_at s p) (rewritten.same p) i;
+      }
 
   pub steady-changed : length bs ≡ length s.buffers → is_known_among (length s.parties) c.runner ≡ true
       → ((i by : ℕ) → requester (get_or c.works i None) ≡ Some by → is_known_among (length s.parties) by ≡ true)
@@ -93,7 +86,7 @@ module _ (s : State) (steady : IsSteady s) (ps : List (Option Page)) (bs : List 
           receiver = (steady.transactions h t is).receiver;
           within = λ p e right named holds. ap (is_within (Some right)) (same_own_right (get_or ps p None) (page_at s p) (rewritten.same p)) ∙ (steady.transactions h t is).within p e right named holds;
           alone = (steady.transactions h t is).alone;
-          ceilings = λ p e named. subst (λ (b : OwnRights). is_within (Some (ceiling b t e)) (b.right p) ≡ true) (sym same-own-rights) ((steady.transactions h t is).ceilings p e named);
+          ceilings = λ p e named. subst (λ (b : Ownership). is_within (Some (ceiling b t e)) (b.own_right p) ≡ true) (sym same-ownership) ((steady.transactions h t is).ceilings p e named);
           taker = (steady.transactions h t is).taker;
         };
         sends = steady.sends;

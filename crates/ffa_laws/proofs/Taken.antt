@@ -10,13 +10,13 @@ use Rattle.ffa_model.specs.declared.rights.Kind.{Kind}
 use Rattle.ffa_model.specs.declared.rights.Kind.TheVariants.{Share, Lend, Donate}
 use Rattle.ffa_model.specs.declared.rights.Rights.{Rights}
 use Rattle.ffa_model.specs.Rights.{is_at_most, is_donate, is_within}
-use Rattle.ffa_model.specs.State.{State, Page, Transaction, page_at, transaction_of, version_of}
-use Rattle.ffa_model.specs.Access.{handle_at, held_by, is_receiver, names}
+use Rattle.ffa_model.specs.State.{State, Page, Transaction, page_at, transaction_of, version_of, own_right_of}
+use Rattle.ffa_model.specs.Access.{handle_at, held_by, is_receiver, names, ownership_of}
 use Rattle.ffa_model.specs.Buffers.{buffers_in, filled, is_full, room_of}
 use Rattle.ffa_model.specs.Calls.{first_failure}
 use Rattle.ffa_model.specs.ResponseBytes.{response_bytes}
 use Rattle.ffa_model.specs.declared.call.Transfer.{Transfer}
-use Rattle.ffa_model.specs.Transactions.{own_right_of, own_rights_of, ceiling, open_of, scene_of, with_open}
+use Rattle.ffa_model.specs.Transactions.{ceiling, open_of, scene_of, with_open}
 use Rattle.ffa_model.specs.MemoryRetrieve.{asking_guards, donated_if, donated_page, holding_guards, memory_retrieve, response_to, retrieve_read, retrieved, retrieved_from, right_for, taken_in}
 use Rattle.ffa_laws.specs.Steady.{IsSteady}
 use Rattle.ffa_model.proofs.Guards.{guard-passes, invalid}
@@ -32,7 +32,7 @@ pub record IsTaking (s : State) (d : RetrieveDesc) (t : Transaction) : Type 0 wh
   pub there : transaction_of s d.handle ≡ Some t
   pub receiver : is_receiver s.runner t ≡ true
   pub unheld : is_none (held_by t s.runner) ≡ true
-  pub within : is_at_most (right_for (own_rights_of s) t s.runner d) (ceiling (own_rights_of s) t s.runner) ≡ true
+  pub within : is_at_most (right_for (ownership_of s) t s.runner d) (ceiling (ownership_of s) t s.runner) ≡ true
 
 -- what a retrieve reads, and the transaction it is of
 pub record Taken (s : State) (x : Transfer) : Type 0 where
@@ -58,8 +58,8 @@ taken s x none = read (retrieve_read s x.total) refl none
     full = is_full (buffers_in s.buffers s.runner)
 
     naming : (d : RetrieveDesc) (o : Option Transaction) → retrieve_read s x.total ≡ Some d → transaction_of s d.handle ≡ o
-        → first_failure (checks s x (holding_guards (own_rights_of s) full s.runner d o)) ≡ None → Taken s x
-    naming d None is there passed = absurd (false≢true (guard-passes (checks s x (holding_guards (own_rights_of s) full s.runner d None)) 5 (sym passed)))
+        → first_failure (checks s x (holding_guards (ownership_of s) full s.runner d o)) ≡ None → Taken s x
+    naming d None is there passed = absurd (false≢true (guard-passes (checks s x (holding_guards (ownership_of s) full s.runner d None)) 5 (sym passed)))
     naming d (Some t) is there passed =
         record {
           asked = d;
@@ -68,9 +68,9 @@ taken s x none = read (retrieve_read s x.total) refl none
           is =
               record {
                 there = there;
-                receiver = guard-passes (checks s x (holding_guards (own_rights_of s) full s.runner d (Some t))) 5 (sym passed);
-                unheld = guard-passes (checks s x (holding_guards (own_rights_of s) full s.runner d (Some t))) 9 (sym passed);
-                within = guard-passes (checks s x (holding_guards (own_rights_of s) full s.runner d (Some t))) 10 (sym passed);
+                receiver = guard-passes (checks s x (holding_guards (ownership_of s) full s.runner d (Some t))) 5 (sym passed);
+                unheld = guard-passes (checks s x (holding_guards (ownership_of s) full s.runner d (Some t))) 9 (sym passed);
+                within = guard-passes (checks s x (holding_guards (ownership_of s) full s.runner d (Some t))) 10 (sym passed);
               };
         }
 
@@ -86,7 +86,7 @@ module _ (s : State) (x : Transfer) (its : Taken s x) where
   h = its.asked.handle
 
   abbrev pub right : Rights
-  right = right_for (own_rights_of s) t s.runner its.asked
+  right = right_for (ownership_of s) t s.runner its.asked
 
   -- who holds it then
   abbrev pub holders : Holders
@@ -117,7 +117,7 @@ module _ (s : State) (x : Transfer) (its : Taken s x) where
     -- the right is within each page's own right
     right-within : (p : ℕ) → names s t.ranges p ≡ true → is_within (Some right) (own_right_of s p) ≡ true
     right-within p named =
-        within-through (Some right) (Some (ceiling (own_rights_of s) t s.runner)) (own_right_of s p) its.is.within ((steady.transactions h t its.is.there).ceilings p s.runner named)
+        within-through (Some right) (Some (ceiling (ownership_of s) t s.runner)) (own_right_of s p) its.is.within ((steady.transactions h t its.is.there).ceilings p s.runner named)
 
     -- ---- steadiness
     each-holder : (P : ℕ → Rights → Type 0) → P s.runner right → ((e : ℕ) (other : Rights) → held_by t e ≡ Some other → P e other)

@@ -1,11 +1,10 @@
 -- SPDX-License-Identifier: MIT OR Apache-2.0
 -- Bytes that an endpoint can't read: what it is told doesn't depend on them, whoever else can read them.
-use Rattle.std.proofs.Common.{◌≡◌, ◌∙◌, ℕ, ◌-◌, ◌/◌, Bool, true, false, cond, List, [], ◌∷◌, ◌++◌, take, Option, Some, None, is_some, refl, sym, ap}
+use Rattle.std.proofs.Common.{◌≡◌, ◌∙◌, ℕ, ◌-◌, ◌/◌, Bool, true, false, List, [], ◌∷◌, ◌++◌, take, Option, Some, None, is_some, refl, sym, ap}
 use Rattle.std.specs.Prelude.{◌==◌, ◌%◌, ◌&&◌, ◌||◌, is_none, not}
 use Rattle.std.specs.Option.{option_map_or}
 use Rattle.std.proofs.Math.Path.{fun_ext}
 use Rattle.std.proofs.lemmas.Bool.{false≢true, true≢false}
-use Rattle.std.proofs.lemmas.List.{append_assoc}
 use Rattle.byteorder.specs.Endian.{little_bytes}
 use Rattle.ffa_model.specs.declared.descriptor.RetrieveDesc.{RetrieveDesc}
 use Rattle.ffa_model.specs.declared.operation.Op.{Op}
@@ -33,10 +32,11 @@ use Rattle.ffa_model.specs.Step.{serve, service, step}
 use Rattle.ffa_model.specs.Transactions.{next_handle, open_of}
 use Rattle.ffa_model.proofs.Runs.{flat-run-same}
 use Rattle.ffa_laws.specs.View.{involves, is_near, kept, view}
-use Rattle.ffa_laws.specs.Events.{Event, Wrote, Opened, Zeroed, Public, call_events, delivers, events, is_same_public, messages, named_pages, opens, public_change, public_part, releases, takes, takes_from, taking, told_by, where_passed, where_true}
+use Rattle.ffa_laws.specs.Events.{Event, Wrote, Opened, Zeroed, call_events, delivers, events, messages, named_pages, opens, public_change, releases, takes, takes_from, taking, told_by, where_passed, where_true}
 use Rattle.ffa_laws.specs.Readable.{all_readably, blank, blank_where, blanked, is_unreadable, readable, readably, revealed}
-use Rattle.ffa_laws.proofs.Blanks.{access-b, access_at-b, own_rights-b, blank-twice, call-b, outcome-b, page-b, sent-b, service-b, state-b}
+use Rattle.ffa_laws.proofs.Blanks.{access-b, access_at-b, ownership-b, blank-twice, call-b, outcome-b, page-b, sent-b, service-b, state-b}
 use Rattle.ffa_laws.proofs.Maps.{map_at-same, map_at-twice}
+use Rattle.ffa_laws.proofs.Clean.{readably-append}
 use Rattle.ffa_laws.proofs.ReadRuns.{heard-messages}
 use Rattle.ffa_laws.proofs.Readings.{kept-blank, same-access, some-shown, view-blank}
 
@@ -61,10 +61,6 @@ module _ (few many : ℕ → Bool) (within : (p : ℕ) → few p ≡ true → ma
 
   pub same-named : (x y : State) (ranges : List Range) → blank few x ≡ blank few y → blanked many (named_pages x ranges) ≡ blanked many (named_pages y ranges)
   same-named x y ranges same = sym (named-blank x ranges) ∙ ap (λ z. blanked many (named_pages z ranges)) same ∙ named-blank y ranges
-
-readably-append : (e : ℕ) (s : State) (xs ys : List Event) → all_readably e s (xs ++ ys) ≡ all_readably e s xs ++ all_readably e s ys
-readably-append e s [] ys = refl
-readably-append e s (x ∷ xs) ys = ap (λ zs. readably e s x ++ zs) (readably-append e s xs ys) ∙ sym (append_assoc (readably e s x) (all_readably e s xs) (all_readably e s ys))
 
 opened-alike : (h : ℕ) (t : Transaction) (pages : List (Option Page)) (few many : ℕ → Bool) → ((p : ℕ) → few p ≡ many p)
     → Opened h t (blanked few pages) ∷ [] ≡ Opened h t (blanked many pages) ∷ []
@@ -121,7 +117,7 @@ module _ (e : ℕ) (s : State) (hides : ℕ → Bool) where
         where
           of : (o : Option Transaction) → takes_from e b d o ≡ takes_from e s d o
           of None = refl
-          of (Some t) = ap (λ own_rights. where_true (t.sender == e) (taking t.kind d.handle s.runner (right_for own_rights t s.runner d) ∷ [])) (own_rights-b s hides)
+          of (Some t) = ap (λ ram. where_true (t.sender == e) (taking t.kind d.handle s.runner (right_for ram t s.runner d) ∷ [])) (ownership-b s hides)
 
       told-b : (call : calls.Call) → all_readably e s (told_by e b call) ≡ all_readably e s (told_by e s call)
       told-b (MemDonate x) = sends-b Donate x.total
@@ -139,7 +135,7 @@ module _ (e : ℕ) (s : State) (hides : ℕ → Bool) where
 
       public-b : (call : calls.Call) → public_change b (serve b call).state ≡ public_change s (serve s call).state
       public-b call =
-          ap (λ (next : State). cond (is_same_public (public_part s) (public_part next)) [] (Public (public_part next) ∷ [])) (call-b s hides tx-b call).state
+          ap (public_change s) (call-b s hides tx-b call).state
 
       calls-b : (call : calls.Call) → all_readably e s (call_events e b call) ≡ all_readably e s (call_events e s call)
       calls-b call =

@@ -23,9 +23,9 @@ use Rattle.ffa_model.specs.Lists.{is_in_run}
 use Rattle.ffa_model.specs.Rights.{is_lend, may_store}
 use Rattle.ffa_model.specs.SendDescriptor.{SendRecord}
 use Rattle.ffa_model.specs.SoundState.{IsSoundState}
-use Rattle.ffa_model.specs.State.{State, Page, Transaction, Buffers, buffers_of, page_at, transaction_of, version_of}
-use Rattle.ffa_model.specs.Access.{access, handle_at, held_by, names, right_by, right_of}
-use Rattle.ffa_model.specs.Buffers.{Candidate, candidate_at, filled, filled_pages, is_usable}
+use Rattle.ffa_model.specs.State.{State, Page, Transaction, Buffers, buffers_of, page_at, transaction_of, version_of, own_right_of}
+use Rattle.ffa_model.specs.Access.{access, handle_at, held_by, names, right_by, right_of, ownership_of}
+use Rattle.ffa_model.specs.Buffers.{filled, filled_pages, is_usable}
 use Rattle.ffa_model.specs.Calls.{first_failure}
 use Rattle.ffa_model.specs.Memory.{access_at, fault_of, fetch_fault, number_at, page_bytes, read_fault, size_of, store, store_fault, stored, zeroed_if, zeroed_page}
 use Rattle.ffa_model.specs.MemoryRetrieve.{donated_page, memory_retrieve}
@@ -36,7 +36,7 @@ use Rattle.ffa_model.specs.Registers.{decode}
 use Rattle.ffa_model.specs.Setup.{info_bytes, is_count_alone, uuid_bytes}
 use Rattle.ffa_model.specs.Step.{service, step}
 use Rattle.ffa_model.specs.declared.call.Transfer.{Transfer}
-use Rattle.ffa_model.specs.Transactions.{are_writable, own_right_of, own_rights_of, closed, handle_of, open_of, scene_of, with_open}
+use Rattle.ffa_model.specs.Transactions.{are_writable, closed, open_of, scene_of, with_open}
 use Rattle.ffa_model.proofs.Accesses.{access-closed, access-zeroed, named-in, page-changed}
 use Rattle.ffa_model.proofs.Guards.{guard-passes}
 use Rattle.ffa_model.proofs.NamedPages.{listed-each}
@@ -73,11 +73,11 @@ may-store true None none = cc
 may-store false right none = cc
 
 -- a page that may be a buffer may be written to
-usable-writes : (s : State) (e p : ℕ) → is_usable e (candidate_at s p) ≡ true → may_store (access s e p) ≡ true
+usable-writes : (s : State) (e p : ℕ) → is_usable e (ownership_of s) p ≡ true → may_store (access s e p) ≡ true
 usable-writes s e p is = of (page_at s p) (handle_at s p) is
   where
     of : (page : Option Page) (o : Option ℕ)
-        → is_usable e (option_map (λ (q : Page). let c : Candidate = record { owner = q.owner; own_right = q.own_right; named = is_some o } in c) page) ≡ true
+        → (((is_some (option_map (λ (q : Page). q.own_right) page) && option_map_or (λ (q : Page). q.owner) page 0x8000 == e) && not (is_some o)) && may_store (option_map (λ (q : Page). q.own_right) page)) ≡ true
         → may_store (right_of e page (option_and_then (transaction_of s) o)) ≡ true
     of None o is = absurd (false≢true is)
     of (Some q) None is =
@@ -134,7 +134,7 @@ module _ (s : State) (sound : IsSoundState s) (p : ℕ) (no_right : may_store (a
       ] refl
 
   -- a page of ranges that are all writable
-  writable : (ranges : List Range) → are_writable (own_rights_of s) ranges ≡ true → names s ranges p ≡ true → may_store (own_right_of s p) ≡ false → page_at s p ≡ None
+  writable : (ranges : List Range) → are_writable (ownership_of s) ranges ≡ true → names s ranges p ≡ true → may_store (own_right_of s p) ≡ false → page_at s p ≡ None
   writable ranges all named not = elim (cases_lt p (length s.pages)) [
     | inl lt ↦ absurd (false≢true (sym not ∙ listed-each (λ q. may_store (own_right_of s q)) (names s ranges) (length s.pages) (λ q. q) all p lt named))
     | inr past ↦ get_or_past s.pages p None past
@@ -208,13 +208,13 @@ module _ (s : State) (sound : IsSoundState s) (p : ℕ) (no_right : may_store (a
       asks true all is asked = is
       asks false all is asked = absurd (false≢true asked)
 
-      of : (o : Option Transaction) → transaction_of s h ≡ o → first_failure (reclaim_guards (own_rights_of s) s.runner flags o) ≡ None → bytes_in (zeroed_if (is_set 0 flags) s (named_ranges o)).pages p ≡ bytes_in s.pages p
-      of None there none = absurd (false≢true (guard-passes (reclaim_guards (own_rights_of s) s.runner flags None) 1 (sym none)))
+      of : (o : Option Transaction) → transaction_of s h ≡ o → first_failure (reclaim_guards (ownership_of s) s.runner flags o) ≡ None → bytes_in (zeroed_if (is_set 0 flags) s (named_ranges o)).pages p ≡ bytes_in s.pages p
+      of None there none = absurd (false≢true (guard-passes (reclaim_guards (ownership_of s) s.runner flags None) 1 (sym none)))
       of (Some t) there none =
-          let mine : t.sender ≡ s.runner = eqb-true t.sender s.runner (guard-passes (reclaim_guards (own_rights_of s) s.runner flags (Some t)) 1 (sym none)) in
-          let all = guard-passes (reclaim_guards (own_rights_of s) s.runner flags (Some t)) 3 (sym none) in
+          let mine : t.sender ≡ s.runner = eqb-true t.sender s.runner (guard-passes (reclaim_guards (ownership_of s) s.runner flags (Some t)) 1 (sym none)) in
+          let all = guard-passes (reclaim_guards (ownership_of s) s.runner flags (Some t)) 3 (sym none) in
           elsewhere-zeroed (is_set 0 flags) t.ranges (λ asked named.
-          writable t.ranges (asks (is_set 0 flags) (are_writable (own_rights_of s) t.ranges) all asked) named
+          writable t.ranges (asks (is_set 0 flags) (are_writable (ownership_of s) t.ranges) all asked) named
           (ap may_store (sym (base-owner s.runner (page_at s p) ((steady.transactions h t there).owned p named ∙ mine)))
           ∙ sym (ap may_store (access-zeroed (is_set 0 flags) (with_open s (closed (open_of s) h)) (named_ranges (transaction_of s h)) s.runner p ∙ access-closed s h t there p (λ k j at_k at_j. steady.one p k j at_k at_j) named s.runner))
           ∙ later))

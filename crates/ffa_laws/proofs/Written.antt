@@ -12,7 +12,8 @@ use Rattle.ffa_model.specs.Buffers.{buffers_with_rx, filled_pages}
 use Rattle.ffa_model.specs.RunStates.{schedule_of}
 use Rattle.ffa_model.proofs.Accesses.{length-map_at}
 use Rattle.ffa_laws.specs.View.{view, is_near, kept, hidden}
-use Rattle.ffa_laws.specs.Events.{public_buffers, with_public_buffers}
+use Rattle.ffa_laws.specs.Events.{with_public_buffers}
+use Rattle.ffa_laws.specs.Public.{public_buffers}
 use Rattle.ffa_laws.proofs.Maps.{at-map_at, map_at-set}
 use Rattle.ffa_laws.proofs.Views.{kept_none, view-page}
 use Rattle.ffa_laws.proofs.Changes.{AreRewritten, standing, unwritten, with_parts, view-changed}

@@ -13,10 +13,11 @@ use Rattle.ffa_model.specs.Elsewhere.{as_run_by, step_as}
 use Rattle.ffa_model.specs.Memory.{page_bytes}
 use Rattle.ffa_laws.specs.Steady.{IsSteady}
 use Rattle.ffa_laws.specs.View.{view}
-use Rattle.ffa_laws.specs.Events.{Event, apply_all, events, public_part}
+use Rattle.ffa_laws.specs.Events.{Event, apply_all, events}
+use Rattle.ffa_laws.specs.Public.{public_part}
 use Rattle.ffa_laws.specs.Isolation.{fills_rx_page, is_indirect_message}
-use Rattle.ffa_laws.specs.OwnAccess.{AreApart, gives_access, is_call, takes_access}
-use Rattle.ffa_laws.specs.Readable.{all_readably, blank, is_unreadable, readable, revealed}
+use Rattle.ffa_laws.specs.OwnAccess.{gives_access, is_call, takes_access}
+use Rattle.ffa_laws.specs.Readable.{all_readably, readable, revealed}
 use Rattle.ffa_laws.specs.Silence.{AreBare, AreMet, AreNews, may_be_told, may_change_public}
 use Rattle.ffa_laws.specs.Writers.{is_filled_by, is_reclaimed_by}
 
@@ -88,8 +89,8 @@ pub record ConfidentialAs (s : State) (e : ℕ) (op : Op) : Type 0 where
       → revealed e t (step_as t e op).state ≡ revealed e s (step_as s e op).state
       → readable e (step_as t e op).state ≡ readable e (step_as s e op).state
   pub quiet :
-      (t : State) → IsSteady t → AreApart t → readable e t ≡ readable e s → is_call gives_access op ≡ false
+      (t : State) → IsSteady t → readable e t ≡ readable e s → is_call gives_access op ≡ false
       → readable e (step_as t e op).state ≡ readable e (step_as s e op).state
   pub others :
       (f : ℕ) → is_known s f ≡ true → e ≢ f
-      → readable f (step_as s e op).state ≡ blank (is_unreadable s f) (apply_all f (readable f s) (all_readably f s (events_as f s e op)))
+      → readable f (step_as s e op).state ≡ apply_all f (readable f s) (all_readably f s (events_as f s e op))

@@ -1,9 +1,7 @@
 -- SPDX-License-Identifier: MIT OR Apache-2.0
 -- What the operations of others do to an endpoint's view, and what the endpoint sees.
 use Rattle.byteorder.specs.Endian.{little_bytes}
-use Rattle.std.specs.Prelude.{ℕ, suc, ◌+◌, ◌*◌, ◌==◌, ◌/◌, ◌-◌, Bool, true, false, not, ◌&&◌, List, [], ◌∷◌, ◌++◌, map, filter, length, Option, Some, None, slice_index_or, if◌then◌else◌}
-use Rattle.std.specs.Option.{option_map}
-use Rattle.std.specs.Str.{bytes_eq}
+use Rattle.std.specs.Prelude.{ℕ, ◌==◌, ◌/◌, ◌-◌, Bool, true, false, not, ◌&&◌, List, [], ◌∷◌, ◌++◌, map, filter, length, Option, Some, None, slice_index_or, if◌then◌else◌}
 use Rattle.std.specs.FinMap as map_of
 use Rattle.std.specs.FinSet as finite_set
 use Rattle.ffa_model.specs.declared.rights.Rights.{Rights}
@@ -12,9 +10,6 @@ use Rattle.ffa_model.specs.declared.rights.Kind.TheVariants.{Share, Lend, Donate
 use Rattle.ffa_model.specs.declared.transaction.Range.{Range}
 use Rattle.ffa_model.specs.declared.descriptor.RetrieveDesc.{RetrieveDesc}
 use Rattle.ffa_model.specs.declared.descriptor.RelinquishDesc.{RelinquishDesc}
-use Rattle.ffa_model.specs.declared.schedule.Status.{Status}
-use Rattle.ffa_model.specs.declared.schedule.Work.{Work}
-use Rattle.ffa_model.specs.declared.schedule.Work.TheVariants.{Run as WorkRun, Request}
 use Rattle.ffa_model.specs.declared.operation.Op.{Op}
 use Rattle.ffa_model.specs.declared.operation.Op.TheVariants.{Call, Load, Store, Fetch}
 use Rattle.ffa_model.specs.declared.operation.Outcome.{Outcome}
@@ -26,34 +21,22 @@ use Rattle.ffa_model.specs.Bits.{bits_of}
 use Rattle.ffa_model.specs.Lists.{listed, map_at}
 use Rattle.ffa_model.specs.Registers.{decode}
 use Rattle.ffa_model.specs.State.{State, Page, Transaction, Buffers, buffers_of, transaction_of}
-use Rattle.ffa_model.specs.Access.{is_from, is_offered, is_receiver, names}
+use Rattle.ffa_model.specs.Access.{is_from, is_offered, is_receiver, names, ownership_of}
 use Rattle.ffa_model.specs.Calls.{Service, encode, first_failure}
 use Rattle.ffa_model.specs.Memory.{changed_pages, size_of, store_fault, stored, with_pages, zeroed_page}
 use Rattle.ffa_model.specs.Buffers.{filled_pages}
-use Rattle.ffa_model.specs.RunStates.{direct_request, direct_response, msg_wait, run_partition, status_number, yield_now}
+use Rattle.ffa_model.specs.RunStates.{direct_request, direct_response, msg_wait, run_partition, yield_now}
 use Rattle.ffa_model.specs.Messages.{header_in, message_in, tx_bytes}
 use Rattle.ffa_model.specs.Notifications.{binding, class_of, has_bitmaps_in, is_bound, manager_class, notifications_of, message_bits, with_notifications, with_pending}
 use Rattle.ffa_model.specs.SendDescriptor.{SendRecord}
-use Rattle.ffa_model.specs.Transactions.{own_rights_of, holding, next_handle, not_holding, open_of, with_open, with_transaction}
+use Rattle.ffa_model.specs.Transactions.{holding, next_handle, not_holding, open_of, with_open, with_transaction}
 use Rattle.ffa_model.specs.MemorySend.{memory_sent, send_read, transaction_from}
 use Rattle.ffa_model.specs.MemoryRetrieve.{retrieve_read, right_for}
 use Rattle.ffa_model.specs.MemoryReturn.{named_ranges, relinquish_read}
 use Rattle.ffa_model.specs.Step.{serve, service, step}
+use Rattle.ffa_laws.specs.Public.{PublicPart, public_part, same_public}
 use Rattle.ffa_laws.specs.View.{involves, is_near, kept}
-
--- what everyone may know: who runs, each status and work, and of mapped buffers how many pages they have and whether RX is full
-pub record PublicPart : Type 0 where
-  pub runner : Identifier
-  pub statuses : List Status
-  pub works : List (Option Work)
-  pub buffers : List (Option (ℕ × Bool))
-
-abbrev pub public_buffers : Option Buffers → Option (ℕ × Bool)
-public_buffers b = option_map (λ (q : Buffers). (q.pages, q.full)) b
-
-abbrev pub public_part : State → PublicPart
-public_part s =
-    record { runner = s.runner; statuses = s.statuses; works = s.works; buffers = map public_buffers s.buffers }
+use Rattle.std.proofs.Common.{inl, inr}
 
 pub data Event : Type 0 where
   Wrote : (address : ℕ) (bytes : List ℕ) → Event
@@ -171,7 +154,7 @@ taking Share h f right = Held h f (Some right)
 abbrev pub takes_from : Identifier → State → RetrieveDesc → Option Transaction → List Event
 takes_from e s d None = []
 takes_from e s d (Some t) =
-    where_true (t.sender == e) (taking t.kind d.handle s.runner (right_for (own_rights_of s) t s.runner d) ∷ [])
+    where_true (t.sender == e) (taking t.kind d.handle s.runner (right_for (ownership_of s) t s.runner d) ∷ [])
 
 abbrev pub takes : Identifier → State → Option RetrieveDesc → List Event
 takes e s None = []
@@ -224,25 +207,10 @@ told_by e s (NotificationSet its) = sets e s its.receiver.0 (bits_of its.bitmap)
 told_by e s MsgSend2 = delivers e s (tx_bytes s s.runner)
 told_by e s call = []
 
--- the public part as numbers, by which two are compared: different parts have different numbers
-abbrev pub work_number : Option Work → ℕ
-work_number None = 0
-work_number (Some WorkRun) = 1
-work_number (Some (Request by)) = suc (suc by.0)
-
-abbrev pub public_buffers_number : Option (ℕ × Bool) → ℕ
-public_buffers_number None = 0
-public_buffers_number (Some known) = suc (2 * known.0 + (if known.1 then 1 else 0))
-
-abbrev pub is_same_public : PublicPart → PublicPart → Bool
-is_same_public a b =
-    ((a.runner == b.runner && bytes_eq (map status_number a.statuses) (map status_number b.statuses))
-    && bytes_eq (map work_number a.works) (map work_number b.works))
-    && bytes_eq (map public_buffers_number a.buffers) (map public_buffers_number b.buffers)
-
 -- the public part where it changed
 abbrev pub public_change : State → State → List Event
-public_change s next = if is_same_public (public_part s) (public_part next) then [] else Public (public_part next) ∷ []
+public_change s next =
+    elim (same_public (public_part s) (public_part next)) [ inl same ↦ [] | inr differ ↦ Public (public_part next) ∷ [] ]
 
 -- what a call of another endpoint tells e
 abbrev pub call_events : Identifier → State → calls.Call → List Event

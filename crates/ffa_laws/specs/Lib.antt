@@ -1,4 +1,5 @@
 -- SPDX-License-Identifier: MIT OR Apache-2.0
+pub mod Public
 pub mod View
 pub mod Events
 pub mod Steady

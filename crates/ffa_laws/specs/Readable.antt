@@ -12,7 +12,7 @@ use Rattle.ffa_model.specs.Step.{state_after, step}
 use Rattle.ffa_laws.specs.Steady.{IsSteady}
 use Rattle.ffa_laws.specs.View.{kept, view}
 use Rattle.ffa_laws.specs.Events.{Event, Wrote, Opened, Zeroed, apply_all, events, seen, where_true}
-use Rattle.ffa_laws.specs.OwnAccess.{AreApart, gives_access, is_call}
+use Rattle.ffa_laws.specs.OwnAccess.{gives_access, is_call}
 
 -- a page without its bytes, and a state in which each page that a test picks has none
 abbrev pub blank_page : Option Page → Option Page
@@ -52,9 +52,8 @@ all_readably e s (event ∷ events) = readably e s event ++ all_readably e s eve
 
 -- One operation of the runner, from two states in which it can read the same: it has the same outcome, and leaves
 -- states in which the runner can read the same, if what becomes readable to it is the same. Where it neither retrieves
--- nor reclaims, and in the other state, too, nobody is offered what it sent itself, no such condition is needed. And an
--- operation of another endpoint changes what e can read by what is told to it readably alone. All this is of states s
--- in which nobody is offered what it sent itself.
+-- nor reclaims, no such condition is needed. And an operation of another endpoint changes what e can read by what is told
+-- to it readably alone. This is of states s in which nobody is offered what it sent itself.
 pub record Confidential (s : State) (op : Op) : Type 0 where
   pub outcome : (t : State) → IsSteady t → readable s.runner t ≡ readable s.runner s
       → (step t op).outcome ≡ (step s op).outcome
@@ -62,13 +61,11 @@ pub record Confidential (s : State) (op : Op) : Type 0 where
       (t : State) → IsSteady t → readable s.runner t ≡ readable s.runner s
       → revealed s.runner t (step t op).state ≡ revealed s.runner s (step s op).state
       → readable s.runner (step t op).state ≡ readable s.runner (step s op).state
-  pub quiet :
-      (t : State) → IsSteady t → AreApart t → readable s.runner t ≡ readable s.runner s
-      → is_call gives_access op ≡ false
+  pub quiet : (t : State) → IsSteady t → readable s.runner t ≡ readable s.runner s → is_call gives_access op ≡ false
       → readable s.runner (step t op).state ≡ readable s.runner (step s op).state
   pub others :
       (e : ℕ) → is_known s e ≡ true → s.runner ≢ e
-      → readable e (step s op).state ≡ blank (is_unreadable s e) (apply_all e (readable e s) (all_readably e s (events e s op)))
+      → readable e (step s op).state ≡ apply_all e (readable e s) (all_readably e s (events e s op))
 
 -- RUNS
 
@@ -82,10 +79,9 @@ readings e s [] = []
 readings e s (op ∷ ops) =
     (if s.runner == e then Did op (revealed e s (step s op).state) ∷ [] else each Heard (all_readably e s (events e s op))) ++ readings e (step s op).state ops
 
--- From two states in which nobody is offered what it sent itself: what e sees of a run, and what it can read after it,
--- depend on what it can read at the start and on these readings alone.
+-- what e sees of a run, and what it can read after it, depend on what it can read at the start and on these readings alone
 abbrev pub RunConfidential : State → List Op → Type 0
 RunConfidential s ops =
-    (e : ℕ) (t : State) (others : List Op) → is_known s e ≡ true → IsSteady t → AreApart t → readable e t ≡ readable e s
+    (e : ℕ) (t : State) (others : List Op) → is_known s e ≡ true → IsSteady t → readable e t ≡ readable e s
     → readings e t others ≡ readings e s ops
     → (seen e t others ≡ seen e s ops) × (readable e (state_after t others) ≡ readable e (state_after s ops))

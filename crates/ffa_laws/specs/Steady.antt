@@ -5,12 +5,12 @@ use Rattle.std.specs.FinSet as finite_set
 use Rattle.ffa_model.specs.declared.limits.TheConstants.{MOST_ENDPOINTS, MOST_SENDS}
 use Rattle.ffa_model.specs.Numbers.{Identifier}
 use Rattle.ffa_model.specs.Lists.{is_in_run}
-use Rattle.ffa_model.specs.Transactions.{own_right_of, own_rights_of, ceiling, handle_of}
+use Rattle.ffa_model.specs.Transactions.{ceiling, handle_of}
 use Rattle.ffa_model.specs.declared.rights.Kind.TheVariants.{Donate}
 use Rattle.ffa_model.specs.declared.rights.Rights.{Rights}
 use Rattle.ffa_model.specs.Rights.{is_share, is_lend, is_within}
-use Rattle.ffa_model.specs.State.{State, Transaction, Buffers, is_known, owner_of, buffers_of, sent_by, transaction_of}
-use Rattle.ffa_model.specs.Access.{handle_at, names, is_naming, is_receiver, held_by}
+use Rattle.ffa_model.specs.State.{State, Transaction, Buffers, is_known, owner_of, buffers_of, sent_by, transaction_of, own_right_of}
+use Rattle.ffa_model.specs.Access.{handle_at, names, is_naming, is_receiver, held_by, ownership_of}
 use Rattle.ffa_model.specs.RunStates.{requester}
 use Rattle.ffa_model.specs.Notifications.{binding, class_of}
 
@@ -29,7 +29,7 @@ pub record IsSteadyTransaction (s : State) (t : Transaction) : Type 0 where
   pub alone : (e f : ℕ) (one other : Rights) → e ≢ f → held_by t e ≡ Some one → held_by t f ≡ Some other
       → is_joint t ≡ true
   pub ceilings : (p e : ℕ) → names s t.ranges p ≡ true
-      → is_within (Some (ceiling (own_rights_of s) t e)) (own_right_of s p) ≡ true
+      → is_within (Some (ceiling (ownership_of s) t e)) (own_right_of s p) ≡ true
   pub taker : (e f : ℕ) → t.kind ≡ Donate → is_receiver e t ≡ true → is_receiver f t ≡ true → e ≡ f
 
 -- a page that its owner has alone: no open transaction names it

@@ -1,5 +1,7 @@
 -- SPDX-License-Identifier: MIT OR Apache-2.0
--- What an endpoint can know of a state: the state itself, with all else left out or blank.
+-- What an endpoint can know of a state: the state itself, with all else left out or blank. A page that isn't near it is None, as
+-- one of the manager is; transactions, holders and bits that it doesn't know of are left out; another's count of sends is 0, and
+-- whether another has bitmaps is false; and another's buffers are in no page of RAM.
 use Rattle.std.specs.Prelude.{ℕ, ◌==◌, Bool, ◌&&◌, ◌||◌, length, map as each, Option, None, if◌then◌else◌}
 use Rattle.std.specs.Ordering.{nat_cmp}
 use Rattle.std.specs.Option.{option_map}

@@ -56,7 +56,7 @@ pub fn silence_as()
 /// A list of operations, each of an endpoint of the machine: what an endpoint sees of it, and its view after it, depend on its
 /// view at the start, on its own operations and on the events towards it. Rights never grow, and a state that is steady or
 /// sound stays so.
-pub fn isolated_as()
+pub fn whole_run_as()
     ensures isolated { (s : State) (ops : List (ℕ × Op)) → IsSteady s → are_known s ops ≡ true → IsolatedAs s ops }
     ensures never_grow { (s : State) (ops : List (ℕ × Op)) → IsSteady s → are_known s ops ≡ true
         → NeverGrow s (state_after_as s ops) }

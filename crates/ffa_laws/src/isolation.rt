@@ -45,7 +45,7 @@ pub fn one_step()
 
 /// A list of operations: what an endpoint sees of it, and its view after it, depend on its view at the start, on its own
 /// operations and on the events towards it, and are these replayed on that view; and what it sees is in the outcomes.
-pub fn isolated()
+pub fn whole_run()
     ensures isolated { (s : State) (ops : List Op) → IsSteady s → Isolated s ops }
     ensures replays { (s : State) (ops : List Op) → IsSteady s → Replays s ops }
     ensures shown { (s : State) (ops : List Op) → Shown s ops }
@@ -81,13 +81,13 @@ pub fn own_access()
     ensures first { (base blocks : ℕ) (es : List Endpoint) → AreApart (first base blocks es) }
 {}
 
-/// In states in which nobody is offered what it sent itself, what an endpoint sees, and what it can read afterwards,
-/// depend on what it can read before, on its own operations with what they reveal to it, and on what it is told
-/// readably alone. The bytes of a page are in none of these while it has no access to the page: while it has lent it
-/// away, or is offered it and hasn't retrieved it.
+/// What an endpoint sees, and what it can read afterwards, depend on what it can read before, on its own operations
+/// with what they reveal to it, and on what it is told readably alone. The laws of one step are of states in which
+/// nobody is offered what it sent itself. The bytes of a page are in none of these while it has no access to the page:
+/// while it has lent it away, or is offered it and hasn't retrieved it.
 pub fn confidential()
     ensures step { (s : State) (op : Op) → IsSteady s → AreApart s → Confidential s op }
-    ensures run { (s : State) (ops : List Op) → IsSteady s → AreApart s → RunConfidential s ops }
+    ensures run { (s : State) (ops : List Op) → IsSteady s → RunConfidential s ops }
 {}
 
 /// What a borrower stores into a loan is forgotten where its next call gives the loan up with zeros: nothing that comes later

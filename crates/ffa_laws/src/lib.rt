@@ -6,10 +6,10 @@ pub mod elsewhere;
 pub mod isolation;
 
 pub use elsewhere::{
-    confidential_as, integrity_as, isolated_as, one_step_as, only_writers_as, own_access_as,
-    silence_as,
+    confidential_as, integrity_as, one_step_as, only_writers_as, own_access_as, silence_as,
+    whole_run_as,
 };
 pub use isolation::{
-    confidential, first_is_sound, integrity, isolated, loans, one_call, one_step, only_writers,
-    own_access, rights_never_grow, run_integrity, silence, sound_is_steady,
+    confidential, first_is_sound, integrity, loans, one_call, one_step, only_writers, own_access,
+    rights_never_grow, run_integrity, silence, sound_is_steady, whole_run,
 };

@@ -44,7 +44,7 @@ pub(crate) fn booted_in_room(
     manifest: &Manifest,
 ) -> Result<Machine<FlatRam, NoTlb, Given<Global>>, Fail> {
     let ram = FlatRam::new(alloc, manifest.ram_base, 512 * manifest.ram_blocks)?;
-    let storage = Storage::given_for(alloc, manifest)?;
+    let storage = Storage::allocate_for(alloc, manifest)?;
     Ok(Machine::boot_in(storage, manifest, ram, NoTlb))
 }
 

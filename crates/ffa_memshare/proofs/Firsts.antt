@@ -11,7 +11,7 @@ use Rattle.ffa_model.specs.declared.refusal.Refusal.TheVariants.{DescriptorMalfo
 use Rattle.ffa_model.specs.Calls.{first_refusal}
 use Rattle.ffa_model.specs.MemoryRetrieve.{asking_guards, retrieve_guards}
 use Rattle.ffa_model.specs.MemoryReturn.{holder_guards, relinquish_guards, returned_guards}
-use Rattle.ffa_model.specs.MemorySend.{after_offer, after_transfer, offer_guards, room_guards, send_guards}
+use Rattle.ffa_model.specs.MemorySend.{offer_guards, room_guards, send_guards, record_guards, transfer_guards}
 use Rattle.ffa_model.specs.SendDescriptor.{SendRecord}
 use Rattle.ffa_model.specs.State.{Buffers}
 use Rattle.ffa_model.specs.Transactions.{OpenTransactions, Scene}
@@ -30,10 +30,10 @@ first-fail ((false, name) ∷ checks) others refusal some = some
 
 module _ (scene : Scene) (e : ℕ) (x : Transfer) where
   abbrev pub of_transfer : List (Bool × Refusal)
-  of_transfer = after_transfer scene.buffers e x []
+  of_transfer = transfer_guards scene.buffers e x
 
   abbrev pub of_offer : SendRecord → List (Bool × Refusal)
-  of_offer r = after_offer scene.endpoints scene.ram scene.own_rights scene.buffers e r []
+  of_offer r = record_guards scene.endpoints scene.ram scene.buffers e r
 
   -- THE CHECKS OF A SEND
   pub send-transfer : (read : Option SendRecord) (refusal : Refusal) → Some refusal ≡ first_refusal of_transfer → Some refusal ≡ first_refusal (send_guards scene e x read)

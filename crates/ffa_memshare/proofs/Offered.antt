@@ -1,9 +1,10 @@
 -- SPDX-License-Identifier: MIT OR Apache-2.0
 -- What an endpoint offers that passed the checks.
 use Rattle.std.proofs.Common.{◌≡◌, ◌∙◌, ℕ, zero, suc, ◌+◌, ◌*◌, ◌%◌, ◌<◌, ◌≤◌, Bool, true, false, cond, List, [], ◌∷◌, length, get_or, Option, Some, None, refl, sym, ap, arith, inl, inr}
+use Rattle.ffa_model.specs.Access.{Ownership}
 use Rattle.std.specs.Prelude.{◌==◌, not, ◌&&◌, ◌||◌, is_some, filter, if◌then◌else◌}
 use Rattle.std.specs.List.{list_all}
-use Rattle.std.specs.Option.{option_map, option_map_or}
+use Rattle.std.specs.Option.{option_and_then, option_map, option_map_or}
 use Rattle.std.proofs.Math.Bool.{or-and_distrib_left, or-true}
 use Rattle.std.proofs.lemmas.Bool.{and_parts, eq-eqb, eqb-true, leb-true, ltb-true, ne_eqb, or_cases, false≢true}
 use Rattle.ffa_model.specs.declared.rights.Data.{Data}
@@ -14,20 +15,20 @@ use Rattle.ffa_model.specs.declared.transaction.Range.{Range}
 use Rattle.ffa_model.specs.declared.transaction.Receiver.{Receiver}
 use Rattle.ffa_model.specs.declared.refusal.Refusal.{Refusal}
 use Rattle.ffa_model.specs.declared.refusal.Refusal.TheVariants.{SenderIsAnother, ReceiverUnknown, RangeOutside, PageUnsendable, GrantTooMuch, ZerosUnwritable}
-use Rattle.ffa_model.specs.Buffers.{Candidate, Candidates}
+use Rattle.ffa_model.specs.Buffers.{is_own}
 use Rattle.ffa_model.specs.Calls.{first_refusal}
 use Rattle.ffa_model.specs.DescriptorPlaces.{Versioned, range_count, receiver_count}
+use Rattle.ffa_model.specs.Identifiers.{manager}
 use Rattle.ffa_model.specs.Lists.{listed}
-use Rattle.ffa_model.specs.MemorySend.{are_grants_within, are_known, is_grantable, is_inside, is_own, is_sendable}
+use Rattle.ffa_model.specs.MemorySend.{are_grants_within, are_known, is_grantable, is_inside, is_sendable}
 use Rattle.ffa_model.specs.Rights.{may_store, may_write}
 use Rattle.ffa_model.specs.SendDescriptor.{Send, SendRecord, is_named, range_in, receiver_in}
 use Rattle.ffa_model.specs.State.{Buffers}
-use Rattle.ffa_model.specs.Transactions.{OwnRights, are_writable, pages_in}
+use Rattle.ffa_model.specs.Transactions.{are_writable, pages_in}
 use Rattle.ffa_model.proofs.NamedPages.{listed-each}
 use Rattle.ffa_model.proofs.Listed.{get_or-listed, length-listed}
 use Rattle.ffa_pages.specs.Entry.{Entry, own_right_at, entry_at}
-use Rattle.ffa_rxtx.specs.Parts.{candidate_in, candidates_in}
-use Rattle.ffa_memshare.specs.Named.{own_rights_in}
+use Rattle.ffa_rxtx.specs.Parts.{ownership_in}
 use Rattle.ffa_memshare.specs.Offers.{AreAligned, IsOwnOffer, grants_writes, write_guards}
 use Rattle.ffa_memshare.specs.Ranges.{ArePlaced, IsPlaced, in_range, in_ranges}
 
@@ -53,13 +54,13 @@ sent-other kind b r send =
 
 -- ranges of whole pages inside RAM
 pub inside-placed : (table : List (Option Entry)) (base : ℕ) (ranges : List Range) → base % 4096 ≡ 0 → AreAligned ranges
-    → list_all (is_inside (own_rights_in table base)) ranges ≡ true → ArePlaced base (length table) ranges
+    → list_all (is_inside (ownership_in table base)) ranges ≡ true → ArePlaced base (length table) ranges
 inside-placed table base [] whole aligned all i r lt is = absurd (omega arith)
 inside-placed table base (q ∷ ranges) whole aligned all zero r lt is = of r (is ∙ refl) (aligned 0 r lt is)
   where
     of : (r : Range) → r ≡ q → r.address % 4096 ≡ 0 → IsPlaced base (length table) r
     of r same own =
-        let (this, rest) = and_parts (is_inside (own_rights_in table base) q) _ all in
+        let (this, rest) = and_parts (is_inside (ownership_in table base) q) _ all in
         let (low, high) = and_parts _ _ this in
         let from : base ≤ q.address = leb-true _ _ low in
         let to : q.address + 4096 * q.pages ≤ base + 4096 * length table = leb-true _ _ high in
@@ -67,7 +68,7 @@ inside-placed table base (q ∷ ranges) whole aligned all zero r lt is = of r (i
         let pages : r.pages ≡ q.pages = ap (λ (x : Range). x.pages) same in
         record { aligned = omega (arith, whole, own, from, address); within = omega (arith, whole, own, from, to, address, pages) }
 inside-placed table base (q ∷ ranges) whole aligned all (suc i) r lt is =
-    inside-placed table base ranges whole (λ j x less at. aligned (suc j) x (omega arith) at) (and_parts (is_inside (own_rights_in table base) q) _ all).1 i r (omega arith) is
+    inside-placed table base ranges whole (λ j x less at. aligned (suc j) x (omega arith) at) (and_parts (is_inside (ownership_in table base) q) _ all).1 i r (omega arith) is
 
 -- a page that ranges have is one of RAM's
 pub named-within : (base count : ℕ) (ranges : List Range) (p : ℕ) → ArePlaced base count ranges → in_ranges base ranges p ≡ true → p < count
@@ -82,18 +83,21 @@ named-within base count (q ∷ ranges) p placed is = elim (or_cases (in_range ba
   | inr there ↦ named-within base count ranges p (λ i r lt at. placed (suc i) r (omega arith) at) there
 ]
 
-abbrev candidate : Option Entry → Option Candidate
-candidate o = option_map (λ (x : Entry). record { owner = x.owner; own_right = x.own_right; named = is_some x.slot }) o
+-- whether a page with this entry is an endpoint's, and no transaction names it
+abbrev pub is_own_entry : ℕ → Option Entry → Bool
+is_own_entry e o =
+    (is_some (option_map (λ (x : Entry). x.own_right) o) && option_map_or (λ (x : Entry). x.owner) o manager == e)
+    && not (is_some (option_and_then (λ (x : Entry). x.slot) o))
 
 -- a page of an endpoint alone
-own-entry : (e : ℕ) (o : Option Entry) → is_own e (candidate o) ≡ true → (x : Entry) × (o ≡ Some x) × (x.owner ≡ e)
+own-entry : (e : ℕ) (o : Option Entry) → is_own_entry e o ≡ true → (x : Entry) × (o ≡ Some x) × (x.owner ≡ e)
 own-entry e None own = absurd (false≢true own)
 own-entry e (Some x) own = (x, refl, eqb-true x.owner e (and_parts (x.owner == e) _ own).0)
 
 -- what passed the checks is the endpoint's own
 pub checked-offered : (table : List (Option Entry)) (base e : ℕ) (buffers : List (Option Buffers)) (r : SendRecord) → base % 4096 ≡ 0 → AreAligned r.ranges → r.sender ≡ e
-    → list_all (is_inside (own_rights_in table base)) r.ranges ≡ true
-    → list_all (is_sendable e (candidates_in table base) buffers) (pages_in (own_rights_in table base) r.ranges) ≡ true
+    → list_all (is_inside (ownership_in table base)) r.ranges ≡ true
+    → list_all (is_sendable e (ownership_in table base) buffers) (pages_in (ownership_in table base) r.ranges) ≡ true
     → IsOwnOffer table base e r
 checked-offered table base e buffers r whole aligned sender inside sendable =
     let placed = inside-placed table base r.ranges whole aligned inside in
@@ -102,8 +106,8 @@ checked-offered table base e buffers r whole aligned sender inside sendable =
       placed = placed;
       own = λ p named.
           own-entry e (entry_at table p)
-          (and_parts (is_own e (candidate_in table p)) _
-          (listed-each (is_sendable e (candidates_in table base) buffers) (in_ranges base r.ranges) (length table) (λ q. q) sendable p
+          (and_parts (is_own e (ownership_in table 0) p) _
+          (listed-each (is_sendable e (ownership_in table base) buffers) (in_ranges base r.ranges) (length table) (λ q. q) sendable p
           (named-within base (length table) r.ranges p placed named) named)).0;
     }
 
@@ -113,19 +117,19 @@ pub own-entries : {table : List (Option Entry)} {base e : ℕ} {r : SendRecord} 
 own-entries its p named = ((its.own p named).0, (its.own p named).1)
 
 -- the checks of an offer before those that pages may be written to
-abbrev pub of_sendable : ℕ → Candidates → OwnRights → List (Option Buffers) → ℕ → SendRecord → List (Bool × Refusal)
-of_sendable endpoints ram own_rights buffers e r =
+abbrev pub of_sendable : ℕ → Ownership → List (Option Buffers) → ℕ → SendRecord → List (Bool × Refusal)
+of_sendable endpoints ram buffers e r =
     (r.sender == e, SenderIsAnother)
     ∷ (are_known endpoints r.receivers, ReceiverUnknown)
-    ∷ (list_all (is_inside own_rights) r.ranges, RangeOutside)
-    ∷ (list_all (is_sendable e ram buffers) (pages_in own_rights r.ranges), PageUnsendable)
+    ∷ (list_all (is_inside ram) r.ranges, RangeOutside)
+    ∷ (list_all (is_sendable e ram buffers) (pages_in ram r.ranges), PageUnsendable)
     ∷ []
 
-module _ (endpoints : ℕ) (ram : Candidates) (own_rights : OwnRights) (buffers : List (Option Buffers)) (e : ℕ) (r : SendRecord) where
-  pub sendable-pass : r.sender ≡ e → are_known endpoints r.receivers ≡ true → list_all (is_inside own_rights) r.ranges ≡ true
-      → list_all (is_sendable e ram buffers) (pages_in own_rights r.ranges) ≡ true → None ≡ first_refusal (of_sendable endpoints ram own_rights buffers e r)
+module _ (endpoints : ℕ) (ram : Ownership) (buffers : List (Option Buffers)) (e : ℕ) (r : SendRecord) where
+  pub sendable-pass : r.sender ≡ e → are_known endpoints r.receivers ≡ true → list_all (is_inside ram) r.ranges ≡ true
+      → list_all (is_sendable e ram buffers) (pages_in ram r.ranges) ≡ true → None ≡ first_refusal (of_sendable endpoints ram buffers e r)
   sendable-pass sender known inside sendable =
-      of (r.sender == e) (are_known endpoints r.receivers) (list_all (is_inside own_rights) r.ranges) (list_all (is_sendable e ram buffers) (pages_in own_rights r.ranges))
+      of (r.sender == e) (are_known endpoints r.receivers) (list_all (is_inside ram) r.ranges) (list_all (is_sendable e ram buffers) (pages_in ram r.ranges))
       (eq-eqb r.sender e sender) known inside sendable
     where
       of : (a b c d : Bool) → a ≡ true → b ≡ true → c ≡ true → d ≡ true
@@ -168,10 +172,10 @@ module _ (all one keep : ℕ → Bool) (w : Bool) where
 -- so are those of all pages that an endpoint owns
 pub grants-within : (table : List (Option Entry)) (base : ℕ) (r : SendRecord)
     → ((p : ℕ) → in_ranges base r.ranges p ≡ true → (x : Entry) × (entry_at table p ≡ Some x))
-    → list_all (are_grants_within (own_rights_in table base) r.receivers) (pages_in (own_rights_in table base) r.ranges)
-    ≡ (not (grants_writes r.receivers) || are_writable (own_rights_in table base) r.ranges)
+    → list_all (are_grants_within (ownership_in table base) r.receivers) (pages_in (ownership_in table base) r.ranges)
+    ≡ (not (grants_writes r.receivers) || are_writable (ownership_in table base) r.ranges)
 grants-within table base r owned =
-    each-grants (are_grants_within (own_rights_in table base) r.receivers) (λ p. may_store (own_right_at table p)) (in_ranges base r.ranges) (grants_writes r.receivers) (listed (length table) (λ p. p))
+    each-grants (are_grants_within (ownership_in table base) r.receivers) (λ p. may_store (own_right_at table p)) (in_ranges base r.ranges) (grants_writes r.receivers) (listed (length table) (λ p. p))
     (λ p named. let (x, is) = owned p named in
     ap (λ (o : Option Entry). list_all (λ (q : Receiver). is_grantable q.grant (option_map (λ (e : Entry). e.own_right) o)) r.receivers) is
     ∙ page-grants r.receivers x.own_right
@@ -183,8 +187,8 @@ unwritable asks is granted = if asks then (if is then None else Some (if granted
 
 pub first-unwritable : (table : List (Option Entry)) (base : ℕ) (r : SendRecord)
     → ((p : ℕ) → in_ranges base r.ranges p ≡ true → (x : Entry) × (entry_at table p ≡ Some x)) → (asks is granted : Bool)
-    → asks ≡ (r.zero || grants_writes r.receivers) → is ≡ are_writable (own_rights_in table base) r.ranges → granted ≡ grants_writes r.receivers
-    → unwritable asks is granted ≡ first_refusal (write_guards (own_rights_in table base) r)
+    → asks ≡ (r.zero || grants_writes r.receivers) → is ≡ are_writable (ownership_in table base) r.ranges → granted ≡ grants_writes r.receivers
+    → unwritable asks is granted ≡ first_refusal (write_guards (ownership_in table base) r)
 first-unwritable table base r owned asks is granted asked writes grants =
     ap (λ b. unwritable b is granted) asked ∙ ap (λ b. unwritable (r.zero || grants_writes r.receivers) b granted) writes
     ∙ ap (unwritable (r.zero || grants_writes r.receivers) w) grants
@@ -192,7 +196,7 @@ first-unwritable table base r owned asks is granted asked writes grants =
     ∙ ap (λ b. first_refusal ((b, GrantTooMuch) ∷ (not r.zero || w, ZerosUnwritable) ∷ [])) (sym (grants-within table base r owned))
   where
     w : Bool
-    w = are_writable (own_rights_in table base) r.ranges
+    w = are_writable (ownership_in table base) r.ranges
 
     of : (w z g : Bool) → unwritable (z || g) w g ≡ first_refusal ((not g || w, GrantTooMuch) ∷ (not z || w, ZerosUnwritable) ∷ [])
     of true true true = refl

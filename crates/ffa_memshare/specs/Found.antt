@@ -1,6 +1,7 @@
 -- SPDX-License-Identifier: MIT OR Apache-2.0
 -- FOR PROOFS ALONE
 -- What the checks of a call whose descriptor stands in TX find.
+use Rattle.ffa_model.specs.Access.{Ownership}
 use Rattle.std.specs.Prelude.{◌≡◌, ℕ, List, Some}
 use Rattle.ffa_model.specs.declared.descriptor.RelinquishDesc.{RelinquishDesc}
 use Rattle.ffa_model.specs.declared.descriptor.RetrieveDesc.{RetrieveDesc}
@@ -9,19 +10,18 @@ use Rattle.ffa_model.specs.MemoryRetrieve.{right_for}
 use Rattle.ffa_model.specs.RelinquishDescriptor.{relinquish_of}
 use Rattle.ffa_model.specs.RetrieveDescriptor.{retrieve_of}
 use Rattle.ffa_model.specs.State.{Transaction}
-use Rattle.ffa_model.specs.Transactions.{OwnRights}
 use Rattle.ffa_memshare.specs.declared.found.FoundReturn.{FoundReturn}
 use Rattle.ffa_memshare.specs.declared.found.FoundRight.{FoundRight}
 use Rattle.ffa_memshare.specs.Stored.{Slot, pool_slot}
 
 -- the slot of the transaction that these bytes of e ask for, and the right that they ask for
-pub record IsAskedFor (slots : List Slot) (own_rights : OwnRights) (e : ℕ) (bytes : Versioned) (found : FoundRight)
+pub record IsAskedFor (slots : List Slot) (ram : Ownership) (e : ℕ) (bytes : Versioned) (found : FoundRight)
     : Type 0 where
   pub asked : RetrieveDesc
   pub transaction : Transaction
   pub described : retrieve_of e bytes ≡ Some asked
   pub slot : pool_slot slots found.slot ≡ Some (asked.handle, transaction)
-  pub right : found.right ≡ right_for own_rights transaction e asked
+  pub right : found.right ≡ right_for ram transaction e asked
 
 -- the slot of the transaction that these bytes give up, and whether they ask for zeros
 pub record IsGivenUp (slots : List Slot) (bytes : List ℕ) (found : FoundReturn) : Type 0 where

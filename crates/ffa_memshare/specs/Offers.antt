@@ -1,5 +1,6 @@
 -- SPDX-License-Identifier: MIT OR Apache-2.0
 -- What a send descriptor offers, over the parts of the machine.
+use Rattle.ffa_model.specs.Access.{Ownership}
 use Rattle.std.specs.Prelude.{◌≡◌, ℕ, ◌<◌, ◌%◌, Bool, true, false, not, ◌||◌, List, [], ◌∷◌, length, slice_index_or, Option, Some}
 use Rattle.std.specs.List.{list_all, list_any}
 use Rattle.std.specs.Option.{option_map_or}
@@ -13,7 +14,7 @@ use Rattle.ffa_model.specs.MemorySend.{are_grants_within, transaction_from}
 use Rattle.ffa_model.specs.Rights.{may_write}
 use Rattle.ffa_model.specs.SendDescriptor.{SendRecord, is_named, send_of}
 use Rattle.ffa_model.specs.State.{Transaction}
-use Rattle.ffa_model.specs.Transactions.{OwnRights, are_writable, pages_in}
+use Rattle.ffa_model.specs.Transactions.{are_writable, pages_in}
 use Rattle.ffa_pages.specs.Entry.{Entry, entry_at}
 use Rattle.ffa_memshare.specs.Ranges.{ArePlaced, in_ranges}
 
@@ -22,10 +23,10 @@ abbrev pub grants_writes : List Receiver → Bool
 grants_writes receivers = list_any (λ (r : Receiver). option_map_or may_write r.grant false) receivers
 
 -- the checks of a send that pages have the right to write themselves, in order, where that is asked for
-abbrev pub write_guards : OwnRights → SendRecord → List (Bool × Refusal)
-write_guards own_rights r =
-    (list_all (are_grants_within own_rights r.receivers) (pages_in own_rights r.ranges), GrantTooMuch)
-    ∷ (not r.zero || are_writable own_rights r.ranges, ZerosUnwritable)
+abbrev pub write_guards : Ownership → SendRecord → List (Bool × Refusal)
+write_guards ram r =
+    (list_all (are_grants_within ram r.receivers) (pages_in ram r.ranges), GrantTooMuch)
+    ∷ (not r.zero || are_writable ram r.ranges, ZerosUnwritable)
     ∷ []
 
 -- each range begins where a page does

@@ -16,14 +16,13 @@ use Rattle.ffa_model.specs.ResponseBytes.{ResponseRecord, response_bytes, respon
 use Rattle.ffa_model.specs.RetrieveDescriptor.{retrieve_of}
 use Rattle.ffa_model.specs.State.{Buffers, Transaction}
 use Rattle.ffa_pages.specs.Entry.{Entry}
-use Rattle.ffa_rxtx.specs.Parts.{with_rx_bytes}
+use Rattle.ffa_rxtx.specs.Parts.{with_rx_bytes, ownership_in}
 use Rattle.ffa_memshare.specs.declared.changed.Done.{Done}
 use Rattle.ffa_memshare.specs.declared.changed.Value.TheVariants.{Size}
 use Rattle.ffa_memshare.specs.declared.marks.Mark.TheVariants.{Given}
 use Rattle.ffa_memshare.specs.Changed.{IsChanged}
 use Rattle.ffa_memshare.specs.Changes.{IsMarked, IsMoved}
 use Rattle.ffa_memshare.specs.Memory.{Memory, MemoryParts}
-use Rattle.ffa_memshare.specs.Named.{own_rights_in}
 use Rattle.ffa_memshare.specs.Ranges.{in_ranges}
 use Rattle.ffa_memshare.specs.SlotChanges.{IsClosed, IsHeldBy}
 use Rattle.ffa_memshare.specs.Stored.{Pooled, open_in, transaction_in}
@@ -60,7 +59,7 @@ pub record IsRetrieved (old new : MemoryParts) (e : EndpointId) (bytes : Version
   pub size : ℕ
   pub described : retrieve_of e.0 bytes ≡ Some asked
   pub was : transaction_in old.pool.slots asked.handle ≡ Some transaction
-  pub is : right ≡ right_for (own_rights_in old.memory.entries old.memory.base) transaction e.0 asked
+  pub is : right ≡ right_for (ownership_in old.memory.entries old.memory.base) transaction e.0 asked
   pub slot : IsTaken transaction.kind old.pool new.pool asked.handle e.0 right
   pub open_transactions :
       open_in new.pool ≡ taken_in transaction.kind (open_in old.pool) asked.handle transaction e.0 right

@@ -6,10 +6,9 @@ use Rattle.ffa_model.specs.DescriptorPlaces.{Versioned, in_version}
 use Rattle.ffa_model.specs.Ram.{Ram}
 use Rattle.ffa_model.specs.State.{Buffers}
 use Rattle.ffa_model.specs.Transactions.{Scene}
-use Rattle.ffa_rxtx.specs.Parts.{candidates_in, tx_in}
+use Rattle.ffa_rxtx.specs.Parts.{tx_in, ownership_in}
 use Rattle.ffa_memshare.specs.declared.descriptor_call.DescriptorCall.{DescriptorCall}
 use Rattle.ffa_memshare.specs.Memory.{MemoryParts}
-use Rattle.ffa_memshare.specs.Named.{own_rights_in}
 use Rattle.ffa_memshare.specs.Stored.{open_in}
 
 -- the first bytes of e's TX, as many as its descriptor has, in e's version
@@ -21,8 +20,7 @@ abbrev pub scene_in : MemoryParts → Scene
 scene_in parts =
     record {
       endpoints = parts.memory.endpoints;
-      ram = candidates_in parts.memory.entries parts.memory.base;
-      own_rights = own_rights_in parts.memory.entries parts.memory.base;
+      ram = ownership_in parts.memory.entries parts.memory.base;
       buffers = parts.buffers;
       open_transactions = open_in parts.pool;
     }

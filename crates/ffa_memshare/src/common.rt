@@ -1,10 +1,11 @@
 // SPDX-License-Identifier: MIT OR Apache-2.0
 //! What all pages of ranges have in common.
+ghost use Rattle.ffa_rxtx.specs.Parts.{ownership_in};
 ghost use Rattle.std.specs.Prelude.{◌≡◌, ◌<◌, ◌&&◌, length};
 ghost use Rattle.ffa_model.specs.Rights.{may_fetch, may_store};
 ghost use Rattle.ffa_model.specs.Transactions.{are_executable, are_writable};
 ghost use Rattle.ffa_pages.specs.Entry.{own_right_at};
-ghost use Rattle.ffa_memshare.specs.Named.{all_named, own_rights_in, most_of};
+ghost use Rattle.ffa_memshare.specs.Named.{all_named, most_of};
 ghost use Rattle.ffa_memshare.specs.Ranges.{ArePlaced, IsPlaced, in_range};
 
 use crate::grants::first_page;
@@ -82,8 +83,8 @@ pub fn common_of<P: Room<KeptPage> + Drop>(
     ranges: &PageRanges,
 ) -> Common
     requires { ArePlaced base.0 (length pages.now) ranges.now }
-    ensures writable { result.is_writable ≡ are_writable (own_rights_in pages.now base.0) ranges.now }
-    ensures executable { result.is_executable ≡ are_executable (own_rights_in pages.now base.0) ranges.now }
+    ensures writable { result.is_writable ≡ are_writable (ownership_in pages.now base.0) ranges.now }
+    ensures executable { result.is_executable ≡ are_executable (ownership_in pages.now base.0) ranges.now }
 {
     let mut common = Common {
         is_writable: true,

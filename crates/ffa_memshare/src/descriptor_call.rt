@@ -2,7 +2,7 @@
 //! Calls whose descriptor stands in TX.
 ghost use Rattle.std.specs.Prelude.{◌≡◌, length, [], IfOk, Some};
 ghost use Rattle.std.specs.Result.{result_err};
-ghost use Rattle.ffa_model.specs.MemorySend.{after_transfer};
+ghost use Rattle.ffa_model.specs.MemorySend.{transfer_guards};
 ghost use Rattle.ffa_model.specs.Buffers.{buffers_in};
 ghost use Rattle.ffa_model.specs.Calls.{first_refusal};
 ghost use Rattle.ffa_model.specs.State.{Buffers as Own};
@@ -44,7 +44,7 @@ impl DescriptorCall {
         caller: EndpointId,
     ) -> Result<Descriptor<'m, M>, Refusal>
         requires tx { (b : Own) → buffers_in buffers.now caller.0 ≡ Some b → IsInRam (length (M.ram ram.now).pages) b }
-        ensures refusal { result_err result ≡ first_refusal (after_transfer buffers.now caller.0 self.now.transfer []) }
+        ensures refusal { result_err result ≡ first_refusal (transfer_guards buffers.now caller.0 self.now.transfer) }
         ensures own { IfOk result (λ found. Some (buffers_of found.own) ≡ buffers_in buffers.now caller.0) }
         ensures bytes { let descriptor = descriptor_in (M.ram ram.now) buffers.now caller.0 self.now in
             IfOk result (λ found. found.bytes ≡ descriptor.bytes) }

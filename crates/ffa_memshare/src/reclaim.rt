@@ -1,5 +1,6 @@
 // SPDX-License-Identifier: MIT OR Apache-2.0
 //! FFA_MEM_RECLAIM.
+ghost use Rattle.ffa_rxtx.specs.Parts.{ownership_in};
 ghost use Rattle.std.specs.Prelude.{◌≡◌, ◌==◌, None, Some, IfOk, OnOk, OnErr};
 ghost use Rattle.std.specs.Result.{result_err};
 ghost use Rattle.ffa_model.specs.Calls.{first_failure};
@@ -11,7 +12,6 @@ ghost use Rattle.ffa_pages.specs.Entry.{own_right_at};
 ghost use Rattle.ffa_memshare.specs.Changed.{IsChanged, changed_reclaimer};
 ghost use Rattle.ffa_memshare.specs.Changes.{IsMarked, IsMovedFor};
 ghost use Rattle.ffa_memshare.specs.Memory.{memory_of};
-ghost use Rattle.ffa_memshare.specs.Named.{own_rights_in};
 ghost use Rattle.ffa_memshare.specs.Ranges.{in_ranges};
 ghost use Rattle.ffa_memshare.specs.Shared.{IsShared};
 ghost use Rattle.ffa_memshare.specs.SlotChanges.{IsClosed};
@@ -49,9 +49,9 @@ impl<O: Room<OpenSlot> + Drop> Pool<O> {
         news: &mut News,
     ) -> Result<Done, ErrorCode>
         requires { IsShared (memory_of (M.ram ram.old) layout.now pages.old) self.old.slots }
-        ensures refusal { let own_rights = own_rights_in pages.old layout.now.base.0 in
+        ensures refusal { let owners = ownership_in pages.old layout.now.base.0 in
             let transaction = transaction_in self.old.slots handle.0 in
-            result_err result ≡ first_failure (reclaim_guards own_rights caller.0 flags transaction) }
+            result_err result ≡ first_failure (reclaim_guards owners caller.0 flags transaction) }
         ensures kept { OnErr result (self.new ≡ self.old) }
         ensures kept_pages { OnErr result (pages.new ≡ pages.old) }
         ensures kept_ram { OnErr result (M.ram ram.new ≡ M.ram ram.old) }

@@ -1,5 +1,6 @@
 // SPDX-License-Identifier: MIT OR Apache-2.0
 //! One open transaction.
+ghost use Rattle.ffa_rxtx.specs.Parts.{ownership_in};
 ghost use Rattle.std.specs.Prelude.{◌≡◌, ◌==◌, [], length, find, Some, None};
 ghost use Rattle.ffa_model.specs.declared.transaction.Receiver.{Receiver as Named};
 ghost use Rattle.ffa_model.specs.Access.{held_by, is_receiver, right_by};
@@ -12,7 +13,6 @@ ghost use Rattle.ffa_physmem.specs.Moments.{Only};
 ghost use Rattle.ffa_pages.specs.Entry.{own_right_at};
 ghost use Rattle.ffa_memshare.specs.Changes.{IsMarked, IsMovedFor};
 ghost use Rattle.ffa_memshare.specs.Memory.{memory_of};
-ghost use Rattle.ffa_memshare.specs.Named.{own_rights_in};
 ghost use Rattle.ffa_memshare.specs.Ranges.{ArePlaced, in_ranges};
 ghost use Rattle.ffa_memshare.specs.Grants.{new_right};
 ghost use Rattle.ffa_memshare.specs.Sent.{right_after};
@@ -153,8 +153,8 @@ impl OpenTransaction {
         base: Address,
     ) -> Common
         requires { ArePlaced base.0 (length pages.now) self.now.ranges }
-        ensures writable { result.is_writable ≡ are_writable (own_rights_in pages.now base.0) self.now.ranges }
-        ensures executable { result.is_executable ≡ are_executable (own_rights_in pages.now base.0) self.now.ranges }
+        ensures writable { result.is_writable ≡ are_writable (ownership_in pages.now base.0) self.now.ranges }
+        ensures executable { result.is_executable ≡ are_executable (ownership_in pages.now base.0) self.now.ranges }
     {
         common_of(pages, base, &self.ranges)
     }

@@ -1,9 +1,9 @@
 -- SPDX-License-Identifier: MIT OR Apache-2.0
 -- Access after each call on memory, for each page and each endpoint.
-use Rattle.std.proofs.Common.{◌≡◌, ◌∙◌, ℕ, zero, suc, ◌+◌, ◌^◌, ◌<◌, ◌≤◌, Bool, true, false, cond, not, List, length, take, drop, Option, Some, None, refl, sym, ap, subst, arith, inl, inr}
-use Rattle.std.specs.Prelude.{◌==◌, ◌&&◌, is_some, if◌then◌else◌, slice_set}
+use Rattle.std.proofs.Common.{◌≡◌, ◌∙◌, ℕ, zero, suc, ◌+◌, ◌^◌, ◌<◌, ◌≤◌, Bool, true, false, cond, List, length, take, drop, Option, Some, None, refl, sym, ap, subst, arith, inl, inr}
+use Rattle.std.specs.Prelude.{◌==◌, ◌&&◌, if◌then◌else◌, slice_set}
 use Rattle.std.specs.List.{list_all}
-use Rattle.std.specs.Option.{option_and_then, option_map}
+use Rattle.std.specs.Option.{option_and_then}
 use Rattle.std.specs.Ordering.{nat_cmp}
 use Rattle.std.specs.FinMap as finite
 use Rattle.std.proofs.lemmas.Bool.{and_parts, cases_eq, cases_lt, false≢true, true≢false}
@@ -16,18 +16,19 @@ use Rattle.ffa_model.specs.declared.rights.Rights.{Rights}
 use Rattle.ffa_model.specs.declared.transaction.Range.{Range}
 use Rattle.ffa_model.specs.Rights.{is_donate, is_share}
 use Rattle.ffa_model.specs.State.{State, Page, Transaction, Buffers, buffers_of, is_known_among, page_at, sent_by, transaction_of, version_of}
-use Rattle.ffa_model.specs.Access.{access, handle_at, held_by, names, right_by, right_of, transaction_at}
+use Rattle.ffa_model.specs.Access.{access, handle_at, held_by, names, right_by, right_of, transaction_at, ownership_of}
 use Rattle.ffa_model.specs.Memory.{page_with, with_pages, written, written_pages, written_run}
-use Rattle.ffa_model.specs.Buffers.{Candidate, candidate_at, candidates, filled, filled_pages}
+use Rattle.ffa_model.specs.Buffers.{filled, filled_pages}
 use Rattle.ffa_model.specs.ResponseBytes.{response_bytes}
 use Rattle.ffa_model.specs.SendDescriptor.{SendRecord}
-use Rattle.ffa_model.specs.Transactions.{closed, handle_of, holding, next_handle, not_holding, open_of, with_open, with_transaction, own_rights_of, pages_in}
-use Rattle.ffa_model.specs.MemorySend.{is_own, is_sendable, memory_sent, offered_in, transaction_from}
+use Rattle.ffa_model.specs.Transactions.{closed, handle_of, holding, next_handle, not_holding, open_of, with_open, with_transaction, pages_in}
+use Rattle.ffa_model.specs.MemorySend.{is_sendable, memory_sent, offered_in, transaction_from}
 use Rattle.ffa_model.specs.MemoryRetrieve.{donated_if, donated_page, response_to, retrieved_right, with_retrieved, taken_in}
 use Rattle.ffa_model.specs.MemoryReturn.{reclaimed, relinquished_from}
 use Rattle.ffa_model.specs.SoundState.{IsKnown, IsSoundState, IsSoundTransaction}
 use Rattle.ffa_model.proofs.Accesses.{IsNamedOnce, access-beside, access-closed, access-given, access-holding, access-holding_beside, access-kept, access-opened, access-released, access-released_beside, access-still, access-unchanged, access-zeroed, in-closed}
 use Rattle.ffa_model.proofs.NamedPages.{listed-each}
+use Rattle.ffa_model.proofs.Own.{own-parts}
 
 -- FILLS change nobody's access
 right-written : (e at : ℕ) (bytes : List ℕ) (page : Option Page) (t : Option Transaction) → right_of e (page_with at bytes page) t ≡ right_of e page t
@@ -79,23 +80,12 @@ right-past s e p t past = ap (λ page. right_of e page t) (get_or_past s.pages p
 
 -- A SEND
 -- a page that may be sent stands in no transaction
-pub sendable-unnamed : (s : State) (e p : ℕ) (ranges : List Range) → list_all (is_sendable e (candidates s) s.buffers) (pages_in (own_rights_of s) ranges) ≡ true
+pub sendable-unnamed : (s : State) (e p : ℕ) (ranges : List Range) → list_all (is_sendable e (ownership_of s) s.buffers) (pages_in (ownership_of s) ranges) ≡ true
     → p < length s.pages → names s ranges p ≡ true → handle_at s p ≡ None
 sendable-unnamed s e p ranges all lt named =
-    let one : is_sendable e (candidates s) s.buffers p ≡ true =
-    listed-each (is_sendable e (candidates s) s.buffers) (names s ranges) (length s.pages) (λ q. q) all p lt named in
-    let own : is_own e (candidate_at s p) ≡ true = (and_parts _ _ one).0 in
-    of (page_at s p) own
-  where
-    none : (o : Option ℕ) → not (is_some o) ≡ true → o ≡ None
-    none None h = refl
-    none (Some h) is = absurd (false≢true is)
-
-    of : (o : Option Page)
-        → is_own e (option_map (λ (page : Page). let c : Candidate = record { owner = page.owner; own_right = page.own_right; named = is_some (handle_at s p) } in c) o) ≡ true
-        → handle_at s p ≡ None
-    of None h = absurd (false≢true h)
-    of (Some page) h = none (handle_at s p) (and_parts _ _ h).1
+    let one : is_sendable e (ownership_of s) s.buffers p ≡ true =
+    listed-each (is_sendable e (ownership_of s) s.buffers) (names s ranges) (length s.pages) (λ q. q) all p lt named in
+    (own-parts s e p (and_parts _ _ one).0).1
 
 -- two handles that are equal have one sender and one number, where the numbers are less than 2^32 apart
 pub handle-parts : (e f a b : ℕ) → handle_of e a ≡ handle_of f b → a < b + 2 ^ 32 → b < a + 2 ^ 32 → (e ≡ f) × (a ≡ b)
@@ -127,7 +117,7 @@ module _ (s : State) (sound : IsSoundState s) where
   once p lt h k at_h at_k = sound.one p h k lt at_h at_k
 
   -- the pages that a send names give a right to nobody but a share's sender; others are as they were
-  pub send-named : (kind : Kind) (r : SendRecord) (e p : ℕ) → list_all (is_sendable s.runner (candidates s) s.buffers) (pages_in (own_rights_of s) r.ranges) ≡ true
+  pub send-named : (kind : Kind) (r : SendRecord) (e p : ℕ) → list_all (is_sendable s.runner (ownership_of s) s.buffers) (pages_in (ownership_of s) r.ranges) ≡ true
       → p < length s.pages → names s r.ranges p ≡ true
       → access (memory_sent s kind (Some r)) e p ≡ unheld_right (transaction_from kind r) e (page_at s p)
   send-named kind r e p free lt named =

@@ -15,32 +15,33 @@ use Rattle.ffa_model.specs.declared.rights.Kind.{Kind}
 use Rattle.ffa_model.specs.declared.rights.Kind.TheVariants.{Share, Lend, Donate}
 use Rattle.ffa_model.specs.declared.transaction.Range.{Range}
 use Rattle.ffa_model.specs.Identifiers.{manager}
-use Rattle.ffa_model.specs.Rights.{is_at_most, is_donate, may_write}
-use Rattle.ffa_model.specs.State.{State, Page, Transaction, is_known_among, owner_of, page_at, sent_by, transaction_of}
-use Rattle.ffa_model.specs.Access.{covers, handle_at, held_by, is_naming, is_receiver, names}
+use Rattle.ffa_model.specs.Rights.{may_store, is_at_most, is_donate}
+use Rattle.ffa_model.specs.State.{State, Page, Transaction, is_known_among, owner_of, page_at, sent_by, transaction_of, own_right_of}
+use Rattle.ffa_model.specs.Access.{covers, handle_at, held_by, is_naming, is_receiver, names, ownership_of, Ownership}
 use Rattle.ffa_model.specs.Memory.{with_pages, zeroed_page}
-use Rattle.ffa_model.specs.Buffers.{Candidate, candidate_at, is_usable}
-use Rattle.ffa_model.specs.Transactions.{OwnRights, are_writable, own_right_of, own_rights_of, ceiling, ceiling_in, closed, holding, not_holding, open_of, open_count, pages_in, with_open, with_transaction}
+use Rattle.ffa_model.specs.Buffers.{is_usable}
+use Rattle.ffa_model.specs.Transactions.{are_executable, are_writable, ceiling, ceiling_in, closed, holding, not_holding, open_of, open_count, pages_in, with_open, with_transaction}
 use Rattle.ffa_model.specs.MemorySend.{are_grants_within, are_known, is_inside}
 use Rattle.ffa_model.specs.SoundState.{IsKnown, IsSoundPage, IsSoundState, IsSoundTransaction}
 use Rattle.ffa_model.proofs.Accesses.{held-beside, held-itself, length-map_at, page-changed, released-beside, released-itself}
 use Rattle.ffa_model.proofs.Counts.{open-changed, open-closed}
 use Rattle.ffa_model.proofs.Handles.{get-beside, get-left, get-put, get-taken, none-passes, unpassed-none}
+use Rattle.ffa_model.proofs.Own.{none-there, with_rights_of}
 
 -- a transaction stays sound where RAM, its owners and their rights are the same, and no send is taken back
-pub same-transaction : (s z : State) (h : ℕ) (t : Transaction) → own_rights_of z ≡ own_rights_of s → ((p : ℕ) → owner_of z p ≡ owner_of s p)
+pub same-transaction : (s z : State) (h : ℕ) (t : Transaction) → ownership_of z ≡ with_rights_of s z → ((p : ℕ) → owner_of z p ≡ owner_of s p)
     → length z.parties ≡ length s.parties → sent_by s t.sender ≤ sent_by z t.sender → IsSoundTransaction s h t → IsSoundTransaction z h t
 same-transaction s z h t own_rights owners parties sent good =
     let number = good.number in
     record {
       sender = subst (λ n. is_known_among n t.sender ≡ true) (sym parties) good.sender;
       number = (number.0, number.1, number.2, omega (arith, number.3, sent));
-      inside = subst (λ (b : OwnRights). list_all (is_inside b) t.ranges ≡ true) (sym own_rights) good.inside;
-      owned = λ p lt named. owners p ∙ good.owned p (subst (λ (b : OwnRights). p < b.pages) own_rights lt) (subst (λ (b : OwnRights). covers t.ranges (b.ram_base + 4096 * p) ≡ true) own_rights named);
-      grants = subst (λ (b : OwnRights). list_all (are_grants_within b t.receivers) (pages_in b t.ranges) ≡ true) (sym own_rights) good.grants;
-      zeroed = λ zero. subst (λ (b : OwnRights). are_writable b t.ranges ≡ true) (sym own_rights) (good.zeroed zero);
+      inside = subst (λ (b : Ownership). list_all (is_inside b) t.ranges ≡ true) (sym own_rights) good.inside;
+      owned = λ p lt named. owners p ∙ good.owned p (subst (λ (b : Ownership). p < b.count) own_rights lt) (subst (λ (b : Ownership). covers t.ranges (b.base + 4096 * p) ≡ true) own_rights named);
+      grants = subst (λ (b : Ownership). list_all (are_grants_within b t.receivers) (pages_in b t.ranges) ≡ true) (sym own_rights) good.grants;
+      zeroed = λ zero. subst (λ (b : Ownership). are_writable b t.ranges ≡ true) (sym own_rights) (good.zeroed zero);
       holder = good.holder;
-      within = λ e right held. subst (λ (b : OwnRights). is_at_most right (ceiling b t e) ≡ true) (sym own_rights) (good.within e right held);
+      within = λ e right held. subst (λ (b : Ownership). is_at_most right (ceiling b t e) ≡ true) (sym own_rights) (good.within e right held);
       donate = good.donate;
       receivers = subst (λ n. are_known n t.receivers ≡ true) (sym parties) good.receivers;
       some_receivers = good.some_receivers;
@@ -52,25 +53,14 @@ same-transaction s z h t own_rights owners parties sent good =
 
 -- a page may be a buffer where its owner and right are the same and no transaction has come to name it
 pub same-usable : (s z : State) (e p : ℕ) → own_right_of z p ≡ own_right_of s p → owner_of z p ≡ owner_of s p
-    → (handle_at s p ≡ None → handle_at z p ≡ None) → is_usable e (candidate_at s p) ≡ true → is_usable e (candidate_at z p) ≡ true
-same-usable s z e p base owner unnamed usable = of (page_at s p) (page_at z p) base owner usable
-  where
-    none : (o : Option ℕ) → not (is_some o) ≡ true → o ≡ None
-    none None h = refl
-    none (Some h) is = absurd (false≢true is)
-
-    of : (a b : Option Page) → option_map (λ (page : Page). page.own_right) b ≡ option_map (λ (page : Page). page.own_right) a
-        → option_map_or (λ (page : Page). page.owner) b manager ≡ option_map_or (λ (page : Page). page.owner) a manager
-        → is_usable e (option_map (λ (page : Page). let c : Candidate = record { owner = page.owner; own_right = page.own_right; named = is_some (handle_at s p) } in c) a) ≡ true
-        → is_usable e (option_map (λ (page : Page). let c : Candidate = record { owner = page.owner; own_right = page.own_right; named = is_some (handle_at z p) } in c) b) ≡ true
-    of None b base owner h = absurd (false≢true h)
-    of (Some q) None base owner h = absurd (none-some q.own_right base)
-    of (Some q) (Some r) base owner h =
-        let (alone, writable) = and_parts _ _ h in
-        let (own, free) = and_parts _ _ alone in
-        and_from _ _
-        (and_from _ _ (ap (λ n. n == e) owner ∙ own) (ap (λ o. not (is_some o)) (unnamed (none (handle_at s p) free))))
-        (ap (λ (right : Rights). may_write right.level) (same_Some r.own_right q.own_right base) ∙ writable)
+    → (handle_at s p ≡ None → handle_at z p ≡ None) → is_usable e (ownership_of s) p ≡ true → is_usable e (ownership_of z) p ≡ true
+same-usable s z e p base owner unnamed usable =
+    let (own, writable) = and_parts _ _ usable in
+    let (mine, free) = and_parts _ _ own in
+    let (owned, by) = and_parts _ _ mine in
+    and_from _ _
+    (and_from _ _ (and_from _ _ (ap is_some base ∙ owned) (ap (λ n. n == e) owner ∙ by)) (ap (λ o. not (is_some o)) (unnamed (none-there (handle_at s p) free))))
+    (ap may_store base ∙ writable)
 
 -- zeros change no owner and no right
 module _ (s : State) (ranges : List Range) where
@@ -80,8 +70,8 @@ module _ (s : State) (ranges : List Range) where
   zeros-size : length zeros.pages ≡ length s.pages
   zeros-size = length-map_at (λ p page. if names s ranges p then zeroed_page page else page) s.pages
 
-  pub zeros-own_rights : own_rights_of zeros ≡ own_rights_of s
-  zeros-own_rights = λ i. record { ram_base = s.ram_base; pages = zeros-size i; right = λ p. same p i }
+  pub zeros-own_rights : ownership_of zeros ≡ with_rights_of s zeros
+  zeros-own_rights = λ i. record (with_rights_of s zeros) { count = zeros-size i; own_right = λ p. same p i }
     where
       same : (p : ℕ) → own_right_of zeros p ≡ own_right_of s p
       same p = ap (option_map (λ (page : Page). page.own_right)) (page-changed s ranges zeroed_page p refl) ∙ of (names s ranges p) (page_at s p)
@@ -138,8 +128,8 @@ module _ (s : State) (ranges : List Range) where
             let good = sound.buffers e b known is in
             record {
               count = good.count;
-              tx = λ p its. same-usable s zeros e p (λ i. (zeros-own_rights i).right p) (zeros-owner p) (λ none. none) (good.tx p its);
-              rx = λ p its. same-usable s zeros e p (λ i. (zeros-own_rights i).right p) (zeros-owner p) (λ none. none) (good.rx p its);
+              tx = λ p its. same-usable s zeros e p (λ i. (zeros-own_rights i).own_right p) (zeros-owner p) (λ none. none) (good.tx p its);
+              rx = λ p its. same-usable s zeros e p (λ i. (zeros-own_rights i).own_right p) (zeros-owner p) (λ none. none) (good.rx p its);
               apart = good.apart;
             };
         schedule = sound.schedule;
@@ -203,17 +193,17 @@ module _ (s : State) (sound : IsSoundState s) (h : ℕ) (t : Transaction) (was :
       }
 
 -- A CHANGE of who holds an open transaction
-ceiling-held : (b : OwnRights) (t : Transaction) (held : finite.FinMap nat_cmp Rights) (e : ℕ) → ceiling b (record t { held = held }) e ≡ ceiling b t e
+pub ceiling-held : (b : Ownership) (t : Transaction) (held : finite.FinMap nat_cmp Rights) (e : ℕ) → ceiling b (record t { held = held }) e ≡ ceiling b t e
 ceiling-held b t held e = of t.kind
   where
-    of : (kind : Kind) → ceiling_in kind b (record t { held = held }) e ≡ ceiling_in kind b t e
+    of : (kind : Kind) → ceiling_in kind (are_writable b t.ranges) (are_executable b t.ranges) (record t { held = held }) e ≡ ceiling_in kind (are_writable b t.ranges) (are_executable b t.ranges) t e
     of Share = refl
     of Lend = refl
     of Donate = refl
 
 module _ (s : State) (sound : IsSoundState s) (h : ℕ) (t : Transaction) (was : transaction_of s h ≡ Some t)
     (held : finite.FinMap nat_cmp Rights)
-    (holders : (e : ℕ) (right : Rights) → finite.get held e ≡ Some right → (is_receiver e t ≡ true) × (is_at_most right (ceiling (own_rights_of s) t e) ≡ true))
+    (holders : (e : ℕ) (right : Rights) → finite.get held e ≡ Some right → (is_receiver e t ≡ true) × (is_at_most right (ceiling (ownership_of s) t e) ≡ true))
     (donate : (e : ℕ) → t.kind ≡ Donate → finite.get held e ≡ None) where
   abbrev changed : Transaction
   changed = record t { held = held }
@@ -232,7 +222,7 @@ module _ (s : State) (sound : IsSoundState s) (h : ℕ) (t : Transaction) (was :
         grants = good.grants;
         zeroed = good.zeroed;
         holder = λ e right is. (holders e right is).0;
-        within = λ e right is. subst (λ (most : Rights). is_at_most right most ≡ true) (sym (ceiling-held (own_rights_of s) t held e)) (holders e right is).1;
+        within = λ e right is. subst (λ (most : Rights). is_at_most right most ≡ true) (sym (ceiling-held (ownership_of s) t held e)) (holders e right is).1;
         donate = donate;
         receivers = good.receivers;
         some_receivers = good.some_receivers;
@@ -287,17 +277,17 @@ module _ (s : State) (sound : IsSoundState s) (h : ℕ) (t : Transaction) (was :
 
 -- e takes a right that its ceiling allows, or gives up what it holds
 module _ (s : State) (sound : IsSoundState s) (h : ℕ) (t : Transaction) (was : transaction_of s h ≡ Some t) (e : ℕ) where
-  pub holding-sound : (right : Rights) → is_receiver e t ≡ true → is_at_most right (ceiling (own_rights_of s) t e) ≡ true → is_donate t.kind ≡ false
+  pub holding-sound : (right : Rights) → is_receiver e t ≡ true → is_at_most right (ceiling (ownership_of s) t e) ≡ true → is_donate t.kind ≡ false
       → IsSoundState (with_open s (with_transaction (open_of s) h (holding t e right)))
   holding-sound right receiver within borrowed =
       changed-sound s sound h t was (finite.insert t.held e right) holders (λ f is. absurd (true≢false (sym (ap is_donate is) ∙ borrowed)))
     where
-      holders : (f : ℕ) (its : Rights) → finite.get (finite.insert t.held e right) f ≡ Some its → (is_receiver f t ≡ true) × (is_at_most its (ceiling (own_rights_of s) t f) ≡ true)
+      holders : (f : ℕ) (its : Rights) → finite.get (finite.insert t.held e right) f ≡ Some its → (is_receiver f t ≡ true) × (is_at_most its (ceiling (ownership_of s) t f) ≡ true)
       holders f its is = elim (cases_eq f e) [
         | inl same ↦ (
           subst (λ g. is_receiver g t ≡ true) (sym same) receiver,
-          subst (λ g. is_at_most its (ceiling (own_rights_of s) t g) ≡ true) (sym same)
-              (subst (λ (r : Rights). is_at_most r (ceiling (own_rights_of s) t e) ≡ true) (same_Some right its (sym (held-itself t e right) ∙ sym (ap (held_by (holding t e right)) same) ∙ is)) within),
+          subst (λ g. is_at_most its (ceiling (ownership_of s) t g) ≡ true) (sym same)
+              (subst (λ (r : Rights). is_at_most r (ceiling (ownership_of s) t e) ≡ true) (same_Some right its (sym (held-itself t e right) ∙ sym (ap (held_by (holding t e right)) same) ∙ is)) within),
         )
         | inr other ↦ (
             let good = sound.transactions h t was in
@@ -314,7 +304,7 @@ module _ (s : State) (sound : IsSoundState s) (h : ℕ) (t : Transaction) (was :
         | inr other ↦ sym (released-beside t e f other) ∙ is
       ]
 
-      holders : (f : ℕ) (its : Rights) → finite.get (finite.remove t.held e) f ≡ Some its → (is_receiver f t ≡ true) × (is_at_most its (ceiling (own_rights_of s) t f) ≡ true)
+      holders : (f : ℕ) (its : Rights) → finite.get (finite.remove t.held e) f ≡ Some its → (is_receiver f t ≡ true) × (is_at_most its (ceiling (ownership_of s) t f) ≡ true)
       holders f its is =
           let good = sound.transactions h t was in
           (good.holder f its (left f its is), good.within f its (left f its is))

@@ -1,10 +1,9 @@
 -- SPDX-License-Identifier: MIT OR Apache-2.0
 -- The state stays sound through the changes of each call on memory, but for the bytes that a retrieve leaves in RX.
-use Rattle.std.proofs.Common.{◌≡◌, ◌∙◌, ℕ, Bool, true, false, not, List, Option, Some, None, refl, sym, ap, subst}
-use Rattle.std.specs.Prelude.{is_some}
-use Rattle.std.specs.Option.{option_and_then, option_map}
+use Rattle.std.proofs.Common.{◌≡◌, ◌∙◌, ℕ, Bool, true, false, List, Option, Some, None, refl, sym, ap, subst}
+use Rattle.std.specs.Option.{option_and_then}
 use Rattle.std.specs.FinMap as finite
-use Rattle.std.proofs.lemmas.Bool.{and_parts, false≢true, true≢false}
+use Rattle.std.proofs.lemmas.Bool.{true≢false}
 use Rattle.ffa_model.specs.declared.descriptor.RelinquishDesc.{RelinquishDesc}
 use Rattle.ffa_model.specs.declared.rights.Kind.{Kind}
 use Rattle.ffa_model.specs.declared.rights.Kind.TheVariants.{Share, Lend, Donate}
@@ -12,11 +11,11 @@ use Rattle.ffa_model.specs.declared.rights.Rights.{Rights}
 use Rattle.ffa_model.specs.declared.transaction.Range.{Range}
 use Rattle.ffa_model.specs.Rights.{is_at_most, is_donate}
 use Rattle.ffa_model.specs.SendDescriptor.{SendRecord}
-use Rattle.ffa_model.specs.State.{State, Page, Transaction, page_at, transaction_of}
-use Rattle.ffa_model.specs.Access.{handle_at, is_naming, is_receiver, names, transaction_at}
+use Rattle.ffa_model.specs.State.{State, Transaction, transaction_of}
+use Rattle.ffa_model.specs.Access.{handle_at, is_naming, is_receiver, names, transaction_at, ownership_of}
 use Rattle.ffa_model.specs.Memory.{zeroed_if}
-use Rattle.ffa_model.specs.Buffers.{Candidate, candidate_at, is_usable}
-use Rattle.ffa_model.specs.Transactions.{own_rights_of, ceiling, closed, next_handle, open_of, opened, with_open}
+use Rattle.ffa_model.specs.Buffers.{is_usable}
+use Rattle.ffa_model.specs.Transactions.{ceiling, closed, next_handle, open_of, opened, with_open}
 use Rattle.ffa_model.specs.MemorySend.{memory_sent, transaction_from}
 use Rattle.ffa_model.specs.MemoryRetrieve.{donated_if, with_retrieved, taken_in}
 use Rattle.ffa_model.specs.MemoryReturn.{reclaimed, relinquished_from}
@@ -26,24 +25,15 @@ use Rattle.ffa_model.proofs.Handles.{found-passes, none-passes}
 use Rattle.ffa_model.proofs.Kept.{closed-sound, holding-sound, released-sound, zeros-sound}
 use Rattle.ffa_model.proofs.KeptDonate.{given-sound}
 use Rattle.ffa_model.proofs.KeptSend.{IsSendable, opened-sound}
+use Rattle.ffa_model.proofs.Own.{usable-parts}
 
 pub zeroed-sound : (asked : Bool) (s : State) (ranges : List Range) → IsSoundState s → IsSoundState (zeroed_if asked s ranges)
 zeroed-sound true s ranges sound = zeros-sound s ranges sound
 zeroed-sound false s ranges sound = sound
 
 -- a page that may be a buffer stands in no transaction
-usable-unnamed : (s : State) (e p : ℕ) → is_usable e (candidate_at s p) ≡ true → handle_at s p ≡ None
-usable-unnamed s e p usable = of (page_at s p) usable
-  where
-    none : (o : Option ℕ) → not (is_some o) ≡ true → o ≡ None
-    none None h = refl
-    none (Some h) is = absurd (false≢true is)
-
-    of : (o : Option Page)
-        → is_usable e (option_map (λ (page : Page). let c : Candidate = record { owner = page.owner; own_right = page.own_right; named = is_some (handle_at s p) } in c) o) ≡ true
-        → handle_at s p ≡ None
-    of None h = absurd (false≢true h)
-    of (Some page) h = none (handle_at s p) (and_parts _ _ (and_parts _ _ h).0).1
+usable-unnamed : (s : State) (e p : ℕ) → is_usable e (ownership_of s) p ≡ true → handle_at s p ≡ None
+usable-unnamed s e p usable = (usable-parts s e p usable).1
 
 -- where a page stands in no transaction, no handle names it
 handle-none : (s : State) (p : ℕ) → transaction_at s p ≡ None → handle_at s p ≡ None
@@ -68,7 +58,7 @@ module _ (s : State) (sound : IsSoundState s) where
     reclaimed-sound zero = zeroed-sound zero _ _ (closed-sound s sound h t was)
 
     -- the pages of a transaction are no buffers
-    unbuffered : (p : ℕ) (e : ℕ) → is_usable e (candidate_at s p) ≡ true → names s t.ranges p ≡ false
+    unbuffered : (p : ℕ) (e : ℕ) → is_usable e (ownership_of s) p ≡ true → names s t.ranges p ≡ false
     unbuffered p e usable = sym (ap (is_naming s p) was) ∙ none-passes (is_naming s p) refl s.transactions h (usable-unnamed s e p usable)
 
     donated-sound : (e : ℕ) (right : Rights) → IsKnown s e → IsSoundState (with_open (donated_if true s t.ranges e right) (closed (open_of s) h))
@@ -77,7 +67,7 @@ module _ (s : State) (sound : IsSoundState s) where
         (λ p lt named. handle-none (with_open s (closed (open_of s) h)) p (in-closed s h t was p (λ k j at_k at_j. sound.one p k j lt at_k at_j) named))
         (λ f b is_known is. let its = sound.buffers f b is_known is in (λ p in_tx. unbuffered p f (its.tx p in_tx), λ p in_rx. unbuffered p f (its.rx p in_rx)))
 
-    pub taken-sound : (e : ℕ) (right : Rights) → IsKnown s e → is_receiver e t ≡ true → is_at_most right (ceiling (own_rights_of s) t e) ≡ true
+    pub taken-sound : (e : ℕ) (right : Rights) → IsKnown s e → is_receiver e t ≡ true → is_at_most right (ceiling (ownership_of s) t e) ≡ true
         → IsSoundState (with_retrieved s h t e right)
     taken-sound e right known receiver within = of t.kind refl
       where

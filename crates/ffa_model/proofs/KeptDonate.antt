@@ -1,24 +1,21 @@
 -- SPDX-License-Identifier: MIT OR Apache-2.0
 -- The state stays sound when pages that stand in no transaction and no buffer are given to another endpoint.
 use Rattle.std.proofs.Common.{◌≡◌, ◌∙◌, ℕ, zero, suc, ◌<◌, Bool, true, false, cond, List, ◌∷◌, length, Option, Some, None, refl, sym, ap, subst, arith}
-use Rattle.std.specs.Prelude.{◌==◌, ◌&&◌, filter, if◌then◌else◌}
+use Rattle.std.specs.Prelude.{◌&&◌, filter, if◌then◌else◌}
 use Rattle.std.specs.List.{list_all}
 use Rattle.std.specs.Option.{option_map, option_map_or}
 use Rattle.std.proofs.lemmas.Bool.{true≢false}
 use Rattle.std.proofs.lemmas.Option.{none-some, same_Some}
-use Rattle.ffa_model.specs.declared.rights.Data.TheVariants.{Ro, Rw}
-use Rattle.ffa_model.specs.declared.rights.Kind.{Kind}
-use Rattle.ffa_model.specs.declared.rights.Kind.TheVariants.{Share, Lend, Donate}
 use Rattle.ffa_model.specs.declared.rights.Rights.{Rights}
 use Rattle.ffa_model.specs.declared.transaction.Range.{Range}
 use Rattle.ffa_model.specs.declared.transaction.Receiver.{Receiver}
 use Rattle.ffa_model.specs.Identifiers.{manager}
 use Rattle.ffa_model.specs.Lists.{is_in_run, listed}
 use Rattle.ffa_model.specs.Rights.{is_at_most, may_fetch, may_store}
-use Rattle.ffa_model.specs.State.{State, Page, Transaction, Buffers, buffers_of, owner_of, page_at, transaction_of}
-use Rattle.ffa_model.specs.Access.{handle_at, is_naming, names}
+use Rattle.ffa_model.specs.State.{State, Page, Transaction, Buffers, buffers_of, owner_of, page_at, transaction_of, own_right_of}
+use Rattle.ffa_model.specs.Access.{handle_at, is_naming, names, Ownership, ownership_of}
 use Rattle.ffa_model.specs.Memory.{with_pages}
-use Rattle.ffa_model.specs.Transactions.{OwnRights, are_writable, own_right_of, own_rights_of, ceiling, ceiling_in, grant_to, pages_in}
+use Rattle.ffa_model.specs.Transactions.{are_writable, ceiling, ceiling_in, pages_in}
 use Rattle.ffa_model.specs.MemorySend.{are_grants_within, is_grantable, is_inside}
 use Rattle.ffa_model.specs.MemoryRetrieve.{donated_page}
 use Rattle.ffa_model.specs.SoundState.{IsKnown, IsSoundPage, IsSoundState, IsSoundTransaction}
@@ -60,11 +57,11 @@ module _ (s : State) (sound : IsSoundState s) (ranges : List Range) (e : ℕ) (r
   owner-same p other = ap (λ o. option_map_or (λ (page : Page). page.owner) o manager) (page-same p other)
 
   -- RAM as it is then, by the number of pages before
-  abbrev given_own_rights : OwnRights
-  given_own_rights = record { ram_base = s.ram_base; pages = length s.pages; right = own_right_of after_giving }
+  abbrev given_own_rights : Ownership
+  given_own_rights = record (ownership_of after_giving) { count = length s.pages }
 
-  given_own_rights-are : own_rights_of after_giving ≡ given_own_rights
-  given_own_rights-are = λ i. record { ram_base = s.ram_base; pages = size i; right = own_right_of after_giving }
+  given_own_rights-are : ownership_of after_giving ≡ given_own_rights
+  given_own_rights-are = λ i. record (ownership_of after_giving) { count = size i }
 
   module _ (h : ℕ) (t : Transaction) (is : transaction_of s h ≡ Some t) where
     good : IsSoundTransaction s h t
@@ -81,28 +78,23 @@ module _ (s : State) (sound : IsSoundState s) (ranges : List Range) (e : ℕ) (r
     same-all : (test : Option Rights → Bool) → list_all (λ p. test (own_right_of after_giving p)) (pages_in given_own_rights t.ranges) ≡ list_all (λ p. test (own_right_of s p)) (pages_in given_own_rights t.ranges)
     same-all test = same-tests (λ p. test (own_right_of after_giving p)) (λ p. test (own_right_of s p)) (names s t.ranges) (length s.pages) (λ p. p) (λ p lt named. ap test (base-same p (other p lt named)))
 
-    ceiling-same : (f : ℕ) → ceiling given_own_rights t f ≡ ceiling (own_rights_of s) t f
-    ceiling-same f = of t.kind
-      where
-        of : (kind : Kind) → ceiling_in kind given_own_rights t f ≡ ceiling_in kind (own_rights_of s) t f
-        of Share = refl
-        of Lend = λ i. record { level = grant_to t f; exec = length t.receivers == 1 && same-all may_fetch i }
-        of Donate = λ i. record { level = if same-all may_store i then Rw else Ro; exec = same-all may_fetch i }
+    ceiling-same : (f : ℕ) → ceiling given_own_rights t f ≡ ceiling (ownership_of s) t f
+    ceiling-same f = λ i. ceiling_in t.kind (same-all may_store i) (same-all may_fetch i) t f
 
     given-transaction : IsSoundTransaction after_giving h t
     given-transaction =
         record {
           sender = good.sender;
           number = good.number;
-          inside = subst (λ (b : OwnRights). list_all (is_inside b) t.ranges ≡ true) (sym given_own_rights-are) good.inside;
+          inside = subst (λ (b : Ownership). list_all (is_inside b) t.ranges ≡ true) (sym given_own_rights-are) good.inside;
           owned = λ p lt named.
               let within : p < length s.pages = subst (λ n. p < n) size lt in
               owner-same p (other p within named) ∙ good.owned p within named;
-          grants = subst (λ (b : OwnRights). list_all (are_grants_within b t.receivers) (pages_in b t.ranges) ≡ true) (sym given_own_rights-are)
+          grants = subst (λ (b : Ownership). list_all (are_grants_within b t.receivers) (pages_in b t.ranges) ≡ true) (sym given_own_rights-are)
               (same-all (λ o. list_all (λ (r : Receiver). is_grantable r.grant o) t.receivers) ∙ good.grants);
-          zeroed = λ zero. subst (λ (b : OwnRights). are_writable b t.ranges ≡ true) (sym given_own_rights-are) (same-all may_store ∙ good.zeroed zero);
+          zeroed = λ zero. subst (λ (b : Ownership). are_writable b t.ranges ≡ true) (sym given_own_rights-are) (same-all may_store ∙ good.zeroed zero);
           holder = good.holder;
-          within = λ f its held. subst (λ (b : OwnRights). is_at_most its (ceiling b t f) ≡ true) (sym given_own_rights-are)
+          within = λ f its held. subst (λ (b : Ownership). is_at_most its (ceiling b t f) ≡ true) (sym given_own_rights-are)
               (subst (λ (most : Rights). is_at_most its most ≡ true) (sym (ceiling-same f)) (good.within f its held));
           donate = good.donate;
           receivers = good.receivers;

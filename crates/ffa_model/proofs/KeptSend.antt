@@ -1,22 +1,22 @@
 -- SPDX-License-Identifier: MIT OR Apache-2.0
 -- The state stays sound when a send opens a transaction.
 use Rattle.std.proofs.Common.{◌≡◌, ◌∙◌, ◌⊎◌, ℕ, ◌+◌, ◌^◌, ◌<◌, ◌≤◌, Bool, true, false, cond, not, List, [], ◌∷◌, zero, suc, length, get_or, Option, Some, None, refl, sym, ap, subst, arith, inl, inr}
-use Rattle.std.specs.Prelude.{◌||◌, is_some}
+use Rattle.std.specs.Prelude.{◌||◌}
 use Rattle.std.specs.List.{list_all, list_any}
 use Rattle.std.specs.Option.{option_map, option_map_or}
 use Rattle.std.specs.FinMap as finite
-use Rattle.std.proofs.lemmas.Bool.{and_parts, cases_eq, cases_lt, eq-eqb, eqb-true, false≢true, ne_eqb}
+use Rattle.std.proofs.lemmas.Bool.{and_parts, cases_eq, cases_lt, eq-eqb, false≢true, ne_eqb}
 use Rattle.std.proofs.lemmas.List.{get_or-set_same, get_or-set_other, get_or_past, length-set}
 use Rattle.std.proofs.lemmas.Option.{none-some, same_Some}
 use Rattle.ffa_model.specs.declared.limits.TheConstants.{MOST_OPEN, MOST_RANGES, MOST_SENDS}
 use Rattle.ffa_model.specs.Lists.{is_in_run}
-use Rattle.ffa_model.specs.Identifiers.{manager, place}
-use Rattle.ffa_model.specs.State.{State, Page, Transaction, Buffers, owner_of, page_at, sent_by, transaction_of, buffers_of}
-use Rattle.ffa_model.specs.Access.{handle_at, held_by, is_naming, names}
-use Rattle.ffa_model.specs.Buffers.{Candidate, candidate_at, candidates, is_usable}
+use Rattle.ffa_model.specs.Identifiers.{place}
+use Rattle.ffa_model.specs.State.{State, Page, Transaction, Buffers, owner_of, sent_by, transaction_of, buffers_of}
+use Rattle.ffa_model.specs.Access.{handle_at, held_by, is_naming, names, ownership_of}
+use Rattle.ffa_model.specs.Buffers.{is_usable}
 use Rattle.ffa_model.specs.SendDescriptor.{most_receivers}
-use Rattle.ffa_model.specs.Transactions.{are_writable, own_rights_of, next_handle, open_of, open_count, opened, with_open, pages_in}
-use Rattle.ffa_model.specs.MemorySend.{are_grants_within, are_known, is_buffer, is_inside, is_own, is_sendable}
+use Rattle.ffa_model.specs.Transactions.{are_writable, next_handle, open_of, open_count, opened, with_open, pages_in}
+use Rattle.ffa_model.specs.MemorySend.{are_grants_within, are_known, is_buffer, is_inside, is_sendable}
 use Rattle.ffa_model.specs.SoundState.{IsKnown, IsSoundState, IsSoundTransaction}
 use Rattle.ffa_model.proofs.Accesses.{once-beside, once-opened}
 use Rattle.ffa_model.proofs.CallAccesses.{handle-new, sendable-unnamed}
@@ -25,6 +25,8 @@ use Rattle.ffa_model.proofs.Handles.{get-beside, get-put, none-passes, unpassed-
 use Rattle.ffa_model.proofs.Kept.{same-transaction, same-usable}
 use Rattle.ffa_model.proofs.NamedPages.{listed-each}
 use Rattle.ffa_model.proofs.Places.{known-place}
+use Rattle.ffa_model.proofs.Own.{own-parts}
+use Rattle.ffa_model.specs.Rights.{may_store}
 
 pub any-at : (test : Option Buffers → Bool) (list : List (Option Buffers)) (i : ℕ) (b : Buffers) → get_or list i None ≡ Some b → test (Some b) ≡ true → list_any test list ≡ true
 any-at test [] i b at passes = absurd (none-some b at)
@@ -38,10 +40,10 @@ any-at test (o ∷ list) (suc i) b at passes = of (test o) (any-at test list i b
 -- what a send asks of the transaction that it opens
 pub record IsSendable (s : State) (t : Transaction) : Type 0 where
   pub sender : IsKnown s t.sender
-  pub inside : list_all (is_inside (own_rights_of s)) t.ranges ≡ true
-  pub free : list_all (is_sendable t.sender (candidates s) s.buffers) (pages_in (own_rights_of s) t.ranges) ≡ true
-  pub grants : list_all (are_grants_within (own_rights_of s) t.receivers) (pages_in (own_rights_of s) t.ranges) ≡ true
-  pub zeroed : t.zero ≡ true → are_writable (own_rights_of s) t.ranges ≡ true
+  pub inside : list_all (is_inside (ownership_of s)) t.ranges ≡ true
+  pub free : list_all (is_sendable t.sender (ownership_of s) s.buffers) (pages_in (ownership_of s) t.ranges) ≡ true
+  pub grants : list_all (are_grants_within (ownership_of s) t.receivers) (pages_in (ownership_of s) t.ranges) ≡ true
+  pub zeroed : t.zero ≡ true → are_writable (ownership_of s) t.ranges ≡ true
   pub few : open_count (open_of s) t.sender < MOST_OPEN
   pub sent : sent_by s t.sender < MOST_SENDS
   pub unheld : (e : ℕ) → held_by t e ≡ None
@@ -85,17 +87,11 @@ module _ (s : State) (sound : IsSoundState s) (t : Transaction) (good : IsSendab
   ]
 
   -- its pages are the sender's
-  one-sendable : (p : ℕ) → p < length s.pages → names s t.ranges p ≡ true → is_sendable t.sender (candidates s) s.buffers p ≡ true
-  one-sendable p lt named = listed-each (is_sendable t.sender (candidates s) s.buffers) (names s t.ranges) (length s.pages) (λ q. q) good.free p lt named
+  one-sendable : (p : ℕ) → p < length s.pages → names s t.ranges p ≡ true → is_sendable t.sender (ownership_of s) s.buffers p ≡ true
+  one-sendable p lt named = listed-each (is_sendable t.sender (ownership_of s) s.buffers) (names s t.ranges) (length s.pages) (λ q. q) good.free p lt named
 
   owned : (p : ℕ) → p < length s.pages → names s t.ranges p ≡ true → owner_of s p ≡ t.sender
-  owned p lt named = of (page_at s p) (and_parts _ _ (one-sendable p lt named)).0
-    where
-      of : (o : Option Page)
-          → is_own t.sender (option_map (λ (page : Page). let c : Candidate = record { owner = page.owner; own_right = page.own_right; named = is_some (handle_at s p) } in c) o) ≡ true
-          → option_map_or (λ (page : Page). page.owner) o manager ≡ t.sender
-      of None h = absurd (false≢true h)
-      of (Some page) h = eqb-true page.owner t.sender (and_parts _ _ h).0
+  owned p lt named = (own-parts s t.sender p (and_parts _ _ (one-sendable p lt named)).0).0
 
   opened-itself : IsSoundTransaction after_send h t
   opened-itself =
@@ -135,13 +131,13 @@ module _ (s : State) (sound : IsSoundState s) (t : Transaction) (good : IsSendab
         | inr apart ↦ ap (is_naming s p) (get-beside s.transactions h t k apart) ∙ none-passes (is_naming s p) refl s.transactions k none
       ]
 
-  unnamed-buffer : (e p : ℕ) → is_buffer s.buffers p ≡ true → is_usable e (candidate_at s p) ≡ true → names s t.ranges p ≡ false
+  unnamed-buffer : (e p : ℕ) → is_buffer s.buffers p ≡ true → is_usable e (ownership_of s) p ≡ true → names s t.ranges p ≡ false
   unnamed-buffer e p buffer usable = of (names s t.ranges p) refl
     where
       inside : p < length s.pages
       inside = elim (cases_lt p (length s.pages)) [
         | inl lt ↦ lt
-        | inr past ↦ absurd (false≢true (sym (ap (λ o. is_usable e (option_map (λ (page : Page). let c : Candidate = record { owner = page.owner; own_right = page.own_right; named = is_some (handle_at s p) } in c) o)) (get_or_past s.pages p None past)) ∙ usable))
+        | inr past ↦ absurd (false≢true (sym (ap (λ o. may_store (option_map (λ (page : Page). page.own_right) o)) (get_or_past s.pages p None past)) ∙ (and_parts _ _ usable).1))
       ]
 
       of : (b : Bool) → names s t.ranges p ≡ b → names s t.ranges p ≡ false

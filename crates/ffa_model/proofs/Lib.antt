@@ -13,6 +13,8 @@ pub mod Certificates
 pub mod Counts
 pub mod Accesses
 pub mod NamedPages
+pub mod Own
+pub mod Equal
 pub mod CallAccesses
 pub mod FirstSound
 pub mod Kept

@@ -1,7 +1,7 @@
 -- SPDX-License-Identifier: MIT OR Apache-2.0
 -- What a check that fails is about: what the call's registers tell, or what its message, its descriptor or its bits do, else
 -- the first page that fails it, of the pages that the call names.
-use Rattle.std.specs.Prelude.{ℕ, Bool, true, not, is_none, List, [], Option, None, find, if◌then◌else◌}
+use Rattle.std.specs.Prelude.{ℕ, Bool, true, not, is_none, List, Option, None, find, if◌then◌else◌}
 use Rattle.std.specs.Option.{option_and_then, option_map, option_or}
 use Rattle.ffa_model.specs.declared.call.Call.{Call}
 use Rattle.ffa_model.specs.declared.call.Call.TheVariants.{RxtxMap, MemDonate, MemLend, MemShare, MemReclaim}
@@ -15,18 +15,19 @@ use Rattle.ffa_model.specs.declared.transaction.Range.{Range}
 use Rattle.ffa_model.specs.declared.why.About.{About}
 use Rattle.ffa_model.specs.declared.why.About.TheVariants.{Page}
 use Rattle.ffa_model.specs.Numbers.{Identifier, PageIndex}
+use Rattle.ffa_model.specs.Access.{Ownership, ownership_of}
 use Rattle.ffa_model.specs.AboutContents.{about_contents}
 use Rattle.ffa_model.specs.AboutRegisters.{about_registers}
-use Rattle.ffa_model.specs.Buffers.{Candidates, candidates, is_run_address, is_usable, page_number}
+use Rattle.ffa_model.specs.Buffers.{is_run_address, is_usable, page_number}
 use Rattle.ffa_model.specs.Calls.{first_refusal}
 use Rattle.ffa_model.specs.Lists.{run}
 use Rattle.ffa_model.specs.MemoryReturn.{named_ranges}
-use Rattle.ffa_model.specs.MemorySend.{after_transfer, are_grants_within, is_sendable, send_read}
+use Rattle.ffa_model.specs.MemorySend.{transfer_guards, are_grants_within, is_sendable, send_read}
 use Rattle.ffa_model.specs.Obstacles.{obstacle_at, unless_own}
 use Rattle.ffa_model.specs.Rights.{may_store}
 use Rattle.ffa_model.specs.SendDescriptor.{SendRecord}
 use Rattle.ffa_model.specs.State.{State, Buffers, Transaction, transaction_of}
-use Rattle.ffa_model.specs.Transactions.{OwnRights, handle_of, own_rights_of, pages_in}
+use Rattle.ffa_model.specs.Transactions.{pages_in}
 
 -- the first of some pages that fails a test
 abbrev pub numbered : PageIndex → PageNo
@@ -36,58 +37,55 @@ abbrev pub first_failing : (ℕ → Bool) → List ℕ → Option PageNo
 first_failing test pages = option_map numbered (find (λ p. not (test p)) pages)
 
 -- FFA_RXTX_MAP by e: of the n pages from an address on, where they are in RAM, the first that can't be a buffer's
-abbrev pub unusable_from : Identifier → Candidates → ℕ → ℕ → Option PageNo
+abbrev pub unusable_from : Identifier → Ownership → ℕ → ℕ → Option PageNo
 unusable_from e ram n address =
     if is_run_address ram n address
-    then first_failing (λ p. is_usable e (ram.page p)) (run (page_number ram.base address) n)
+    then first_failing (is_usable e ram) (run (page_number ram.base address) n)
     else None
 
-abbrev pub failing_map : Identifier → Candidates → ℕ → ℕ → ℕ → Refusal → Option PageNo
+abbrev pub failing_map : Identifier → Ownership → ℕ → ℕ → ℕ → Refusal → Option PageNo
 failing_map e ram tx rx pages TxUnusable = unusable_from e ram pages tx
 failing_map e ram tx rx pages RxUnusable = unusable_from e ram pages rx
 failing_map e ram tx rx pages refusal = None
 
 -- FFA_MEM_DONATE, FFA_MEM_LEND and FFA_MEM_SHARE by e: whether a page passes a check of pages, as each does one of something else
-abbrev pub passes : Identifier → Candidates → OwnRights → List (Option Buffers) → SendRecord → Refusal → PageIndex
-    → Bool
-passes e ram own_rights buffers send PageUnsendable p = is_sendable e ram buffers p
-passes e ram own_rights buffers send GrantTooMuch p = are_grants_within own_rights send.receivers p
-passes e ram own_rights buffers send ZerosUnwritable p = may_store (own_rights.right p)
-passes e ram own_rights buffers send refusal p = true
+abbrev pub passes : Identifier → Ownership → List (Option Buffers) → SendRecord → Refusal → PageIndex → Bool
+passes e ram buffers send PageUnsendable p = is_sendable e ram buffers p
+passes e ram buffers send GrantTooMuch p = are_grants_within ram send.receivers p
+passes e ram buffers send ZerosUnwritable p = may_store (ram.own_right p)
+passes e ram buffers send refusal p = true
 
 -- the least page of RAM that the ranges name and that doesn't
-abbrev pub failing_offer : Identifier → Candidates → OwnRights → List (Option Buffers) → Refusal → SendRecord
-    → Option PageNo
-failing_offer e ram own_rights buffers refusal send =
-    first_failing (passes e ram own_rights buffers send refusal) (pages_in own_rights send.ranges)
+abbrev pub failing_offer : Identifier → Ownership → List (Option Buffers) → Refusal → SendRecord → Option PageNo
+failing_offer e ram buffers refusal send = first_failing (passes e ram buffers send refusal) (pages_in ram send.ranges)
 
 -- of a descriptor that stands whole in TX
-abbrev pub failing_send : Identifier → Candidates → OwnRights → List (Option Buffers) → Transfer → Option SendRecord
+abbrev pub failing_send : Identifier → Ownership → List (Option Buffers) → Transfer → Option SendRecord
     → Refusal → Option PageNo
-failing_send e ram own_rights buffers transfer send refusal =
-    if is_none (first_refusal (after_transfer buffers e transfer []))
-    then option_and_then (failing_offer e ram own_rights buffers refusal) send
+failing_send e ram buffers transfer send refusal =
+    if is_none (first_refusal (transfer_guards buffers e transfer))
+    then option_and_then (failing_offer e ram buffers refusal) send
     else None
 
 -- FFA_MEM_RECLAIM: the least page of RAM that the transaction names and that its owner may not write
-abbrev pub first_unwritable : OwnRights → List Range → Option PageNo
-first_unwritable own_rights ranges = first_failing (λ p. may_store (own_rights.right p)) (pages_in own_rights ranges)
+abbrev pub first_unwritable : Ownership → List Range → Option PageNo
+first_unwritable ram ranges = first_failing (λ p. may_store (ram.own_right p)) (pages_in ram ranges)
 
-abbrev pub failing_reclaim : OwnRights → Option Transaction → Refusal → Option PageNo
-failing_reclaim own_rights t ZerosUnwritable = first_unwritable own_rights (named_ranges t)
-failing_reclaim own_rights t refusal = None
+abbrev pub failing_reclaim : Ownership → Option Transaction → Refusal → Option PageNo
+failing_reclaim ram t ZerosUnwritable = first_unwritable ram (named_ranges t)
+failing_reclaim ram t refusal = None
 
 -- ON A STATE
 abbrev pub failing_sent : State → Kind → Transfer → Refusal → Option PageNo
 failing_sent s kind transfer refusal =
-    failing_send s.runner (candidates s) (own_rights_of s) s.buffers transfer (send_read s kind transfer.total) refusal
+    failing_send s.runner (ownership_of s) s.buffers transfer (send_read s kind transfer.total) refusal
 
 abbrev pub failing_page : State → Call → Refusal → Option PageNo
-failing_page s (RxtxMap tx rx pages) refusal = failing_map s.runner (candidates s) tx rx pages refusal
+failing_page s (RxtxMap tx rx pages) refusal = failing_map s.runner (ownership_of s) tx rx pages refusal
 failing_page s (MemDonate transfer) refusal = failing_sent s Donate transfer refusal
 failing_page s (MemLend transfer) refusal = failing_sent s Lend transfer refusal
 failing_page s (MemShare transfer) refusal = failing_sent s Share transfer refusal
-failing_page s (MemReclaim handle flags) refusal = failing_reclaim (own_rights_of s) (transaction_of s handle.0) refusal
+failing_page s (MemReclaim handle flags) refusal = failing_reclaim (ownership_of s) (transaction_of s handle.0) refusal
 failing_page s call refusal = None
 
 -- a page, with what stands in the runner's way there

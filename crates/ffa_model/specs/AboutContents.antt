@@ -1,7 +1,7 @@
 -- SPDX-License-Identifier: MIT OR Apache-2.0
 -- What a check that fails is about, where a message's header or a descriptor tells it, and where it is a notification's bit
 -- (DEN0077A, 5.11, 7.1, 10 and 16).
-use Rattle.std.specs.Prelude.{ℕ, Bool, not, is_none, find, List, [], length, Option, Some, None, if◌then◌else◌}
+use Rattle.std.specs.Prelude.{ℕ, Bool, not, is_none, find, List, length, Option, Some, None, if◌then◌else◌}
 use Rattle.std.specs.Option.{option_and_then, option_map}
 use Rattle.ffa_model.specs.declared.call.Call.{Call}
 use Rattle.ffa_model.specs.declared.call.Call.TheVariants.{MsgSend2, MemDonate, MemLend, MemShare, MemRetrieve, MemRelinquish, NotificationBind, NotificationUnbind, NotificationSet}
@@ -24,7 +24,7 @@ use Rattle.ffa_model.specs.Calls.{first_refusal}
 use Rattle.ffa_model.specs.DescriptorPlaces.{Versioned, in_version}
 use Rattle.ffa_model.specs.FirstFlaws.{relinquish_flaw, retrieve_flaw, send_flaw}
 use Rattle.ffa_model.specs.FlawPlaces.{field_value, flaw_place}
-use Rattle.ffa_model.specs.MemorySend.{after_transfer, descriptor_in}
+use Rattle.ffa_model.specs.MemorySend.{transfer_guards, descriptor_in}
 use Rattle.ffa_model.specs.Messages.{MessageHeader, header_in, tx_bytes}
 use Rattle.ffa_model.specs.Notifications.{Notifications, class_of, is_bindable, is_bound, is_unbindable, notifications_of}
 use Rattle.ffa_model.specs.RelinquishDescriptor.{relinquish_of}
@@ -108,7 +108,7 @@ about_relinquish bytes refusal =
 -- where a descriptor stands whole in the TX of e
 abbrev pub where_whole : List (Option Buffers) → Identifier → Transfer → Option About → Option About
 where_whole buffers e transfer its =
-    if is_none (first_refusal (after_transfer buffers e transfer [])) then its else None
+    if is_none (first_refusal (transfer_guards buffers e transfer)) then its else None
 
 -- and a relinquish, where there is a TX
 abbrev pub where_mapped : Option Buffers → Option About → Option About

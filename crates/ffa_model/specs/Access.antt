@@ -1,6 +1,6 @@
 -- SPDX-License-Identifier: MIT OR Apache-2.0
 -- Access, computed from the open transactions whenever it is asked.
-use Rattle.std.specs.Prelude.{ℕ, ◌+◌, ◌*◌, ◌==◌, Bool, false, ◌&&◌, nat_lt, nat_le, List, Option, Some, None, is_some, find, if◌then◌else◌}
+use Rattle.std.specs.Prelude.{ℕ, ◌+◌, ◌*◌, ◌==◌, Bool, false, ◌&&◌, nat_lt, nat_le, List, length, Option, Some, None, is_some, find, if◌then◌else◌}
 use Rattle.std.specs.Ordering.{nat_cmp}
 use Rattle.std.specs.List.{list_any}
 use Rattle.std.specs.Option.{option_and_then}
@@ -10,7 +10,7 @@ use Rattle.ffa_model.specs.declared.transaction.Range.{Range}
 use Rattle.ffa_model.specs.declared.transaction.Receiver.{Receiver}
 use Rattle.ffa_model.specs.Numbers.{HandleNumber, Identifier, PageIndex}
 use Rattle.ffa_model.specs.Rights.{is_share}
-use Rattle.ffa_model.specs.State.{State, Page, Transaction, page_at, address_of}
+use Rattle.ffa_model.specs.State.{State, Page, Transaction, page_at, address_of, owner_of, own_right_of}
 
 -- whether the page at an address is in one of the ranges
 abbrev pub covers : List Range → ℕ → Bool
@@ -52,6 +52,25 @@ handle_at s p = first_handle (is_naming s p) s.transactions
 -- the open transaction in which a page stands
 abbrev pub transaction_at : State → PageIndex → Option Transaction
 transaction_at s p = option_and_then (map.get s.transactions) (handle_at s p)
+
+-- RAM as the checks of a call see it: where it begins and how many pages it has; and of a page its owner, the owner's own right,
+-- which a page of the manager hasn't, and whether an open transaction names it
+pub record Ownership : Type 0 where
+  pub base : ℕ
+  pub count : ℕ
+  pub owner : PageIndex → Identifier
+  pub own_right : PageIndex → Option Rights
+  pub is_named : PageIndex → Bool
+
+abbrev pub ownership_of : State → Ownership
+ownership_of s =
+    record {
+      base = s.ram_base;
+      count = length s.pages;
+      owner = owner_of s;
+      own_right = own_right_of s;
+      is_named = λ p. is_some (handle_at s p);
+    }
 
 -- the right that a page's transaction gives: the held one, and in a share the sender's own
 abbrev pub right_by : Identifier → Page → Transaction → Option Rights → Option Rights

@@ -1,19 +1,18 @@
 -- SPDX-License-Identifier: MIT OR Apache-2.0
 -- The RX and TX buffers (DEN0077A, 7.2).
-use Rattle.std.specs.Prelude.{ℕ, ◌+◌, ◌*◌, ◌-◌, ◌/◌, ◌%◌, ◌==◌, Bool, true, false, not, ◌&&◌, ◌||◌, nat_le, is_none, is_some, List, [], ◌∷◌, length, Option, Some, None, slice_index_or, slice_set}
+use Rattle.std.specs.Prelude.{ℕ, ◌+◌, ◌*◌, ◌-◌, ◌/◌, ◌%◌, ◌==◌, Bool, true, false, not, ◌&&◌, ◌||◌, nat_le, is_none, is_some, List, [], ◌∷◌, Option, Some, None, slice_index_or, slice_set}
 use Rattle.std.specs.List.{list_all}
 use Rattle.std.specs.Option.{option_map, option_map_or}
 use Rattle.ffa_model.specs.declared.limits.TheConstants.{MOST_BUFFER_PAGES}
 use Rattle.ffa_model.specs.declared.refusal.Refusal.{Refusal}
 use Rattle.ffa_model.specs.declared.refusal.Refusal.TheVariants.{BuffersMapped, BufferPageCount, TxMisplaced, RxMisplaced, BuffersOverlap, TxUnusable, RxUnusable, EndpointNotZero, BuffersMissing, RxEmpty}
-use Rattle.ffa_model.specs.declared.rights.Rights.{Rights}
 use Rattle.ffa_model.specs.Numbers.{Identifier, PageIndex}
 use Rattle.ffa_model.specs.Identifiers.{place}
 use Rattle.ffa_model.specs.Lists.{run}
 use Rattle.ffa_model.specs.Manifest.{is_from_to}
-use Rattle.ffa_model.specs.Rights.{may_write}
-use Rattle.ffa_model.specs.State.{State, Page, Buffers, page_at, buffers_of}
-use Rattle.ffa_model.specs.Access.{handle_at}
+use Rattle.ffa_model.specs.Rights.{may_store}
+use Rattle.ffa_model.specs.State.{State, Page, Buffers, buffers_of}
+use Rattle.ffa_model.specs.Access.{Ownership, ownership_of}
 use Rattle.ffa_model.specs.Memory.{written_run}
 use Rattle.ffa_model.specs.Calls.{Service, success}
 
@@ -32,24 +31,12 @@ buffers_with_rx list e full =
 abbrev pub is_full : Option Buffers → Bool
 is_full own = option_map_or (λ (b : Buffers). b.full) own false
 
--- what decides whether a page may be a buffer: its owner, the owner's right, and whether an open transaction names it
-pub record Candidate : Type 0 where
-  pub owner : Identifier
-  pub own_right : Rights
-  pub named : Bool
-
--- RAM as the checks of a call see it: where it begins, how many pages it has, and those that are not the manager's
-pub record Candidates : Type 0 where
-  pub base : ℕ
-  pub count : ℕ
-  pub page : ℕ → Option Candidate
-
 -- the number of the page at an address
 abbrev pub page_number : ℕ → ℕ → ℕ
 page_number base address = (address - base) / 4096
 
 -- whether an address is that of the first of n pages in a row, all in RAM
-abbrev pub is_run_address : Candidates → ℕ → ℕ → Bool
+abbrev pub is_run_address : Ownership → ℕ → ℕ → Bool
 is_run_address ram n address =
     (address % 4096 == 0 && nat_le ram.base address) && nat_le (page_number ram.base address + n) ram.count
 
@@ -57,21 +44,24 @@ is_run_address ram n address =
 abbrev pub are_runs_apart : ℕ → ℕ → ℕ → Bool
 are_runs_apart n first other = nat_le (first + n) other || nat_le (other + n) first
 
--- a page of e alone, in no open transaction, with own right rw
-abbrev pub is_usable : Identifier → Option Candidate → Bool
-is_usable e None = false
-is_usable e (Some page) = (page.owner == e && not page.named) && may_write page.own_right.level
+-- a page that e owns, and that no open transaction names
+abbrev pub is_own : Identifier → Ownership → PageIndex → Bool
+is_own e ram p = (is_some (ram.own_right p) && ram.owner p == e) && not (ram.is_named p)
+
+-- and whose own right is rw
+abbrev pub is_usable : Identifier → Ownership → PageIndex → Bool
+is_usable e ram p = is_own e ram p && may_store (ram.own_right p)
 
 -- e may have a buffer in the n pages from an address on
-abbrev pub are_usable_at : Identifier → Candidates → ℕ → ℕ → Bool
-are_usable_at e ram n address = list_all (λ p. is_usable e (ram.page p)) (run (page_number ram.base address) n)
+abbrev pub are_usable_at : Identifier → Ownership → ℕ → ℕ → Bool
+are_usable_at e ram n address = list_all (is_usable e ram) (run (page_number ram.base address) n)
 
 -- how many bytes TX has, and RX
 abbrev pub room_of : Option Buffers → ℕ
 room_of own = option_map_or (λ (b : Buffers). 4096 * b.pages) own 0
 
 -- the checks of each call, in order, for an endpoint e with these buffers of its own
-abbrev pub map_guards : Identifier → Option Buffers → Candidates → ℕ → ℕ → ℕ → List (Bool × Refusal)
+abbrev pub map_guards : Identifier → Option Buffers → Ownership → ℕ → ℕ → ℕ → List (Bool × Refusal)
 map_guards e own ram tx rx pages =
     (is_none own, BuffersMapped)
     ∷ (is_from_to 1 MOST_BUFFER_PAGES pages, BufferPageCount)
@@ -94,13 +84,6 @@ new_buffers base tx rx pages =
     record { tx = page_number base tx; rx = page_number base rx; pages = pages; full = false }
 
 -- ON A STATE
-abbrev pub candidate_at : State → PageIndex → Option Candidate
-candidate_at s p =
-    option_map (λ (page : Page). record { owner = page.owner; own_right = page.own_right; named = is_some (handle_at s p) }) (page_at s p)
-
-abbrev pub candidates : State → Candidates
-candidates s = record { base = s.ram_base; count = length s.pages; page = candidate_at s }
-
 abbrev pub with_buffers : State → Identifier → Option Buffers → State
 with_buffers s e own = record s { buffers = buffers_with s.buffers e own }
 
@@ -120,7 +103,7 @@ filled s e bytes =
 abbrev pub rxtx_map : State → ℕ → ℕ → ℕ → Service
 rxtx_map s tx rx pages =
     record {
-      guards = map_guards s.runner (buffers_of s s.runner) (candidates s) tx rx pages;
+      guards = map_guards s.runner (buffers_of s s.runner) (ownership_of s) tx rx pages;
       state = with_buffers s s.runner (Some (new_buffers s.ram_base tx rx pages));
       reply = success 0 0;
     }

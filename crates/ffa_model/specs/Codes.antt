@@ -23,7 +23,7 @@ use Rattle.ffa_model.specs.declared.schedule.Work.{Work}
 use Rattle.ffa_model.specs.declared.schedule.Work.TheVariants.{Run, Request}
 use Rattle.ffa_model.specs.Rights.{may_write}
 use Rattle.ffa_model.specs.State.{State, Party, Page, Transaction, Buffers}
-use Rattle.ffa_model.specs.RunStates.{Schedule, status_number}
+use Rattle.ffa_model.specs.RunStates.{Schedule}
 use Rattle.ffa_model.specs.Transactions.{OpenTransactions}
 use Rattle.ffa_model.specs.Notifications.{Notifications}
 
@@ -56,6 +56,12 @@ kind_from-number Donate = refl
 
 abbrev pub coded_kind : Coded Kind
 coded_kind = code_by ℕ coded_ℕ kind_number kind_from kind_from-number
+
+abbrev pub status_number : Status → ℕ
+status_number Running = 0
+status_number Waiting = 1
+status_number Yielded = 2
+status_number Blocked = 3
 
 abbrev pub status_from : ℕ → Status
 status_from n = if n == 0 then Running else if n == 1 then Waiting else if n == 2 then Yielded else Blocked

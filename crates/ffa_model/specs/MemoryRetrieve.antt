@@ -1,6 +1,6 @@
 -- SPDX-License-Identifier: MIT OR Apache-2.0
 -- FFA_MEM_RETRIEVE_REQ (DEN0077A, 5 and 16).
-use Rattle.std.specs.Prelude.{ℕ, ◌==◌, Bool, true, false, not, is_none, List, [], ◌∷◌, Option, Some, None, unwrap_or, if◌then◌else◌}
+use Rattle.std.specs.Prelude.{ℕ, ◌==◌, Bool, true, false, not, is_none, List, [], ◌∷◌, ◌++◌, Option, Some, None, unwrap_or, if◌then◌else◌}
 use Rattle.std.specs.Option.{option_map, option_map_or}
 use Rattle.std.specs.FinMap as map
 use Rattle.ffa_model.specs.declared.refusal.Refusal.{Refusal}
@@ -14,14 +14,14 @@ use Rattle.ffa_model.specs.declared.transaction.Range.{Range}
 use Rattle.ffa_model.specs.Numbers.{HandleNumber, Identifier}
 use Rattle.ffa_model.specs.Rights.{is_at_most, is_donate, is_same_kind}
 use Rattle.ffa_model.specs.State.{State, Page, Transaction, transaction_of, version_of}
-use Rattle.ffa_model.specs.Access.{is_receiver, held_by}
+use Rattle.ffa_model.specs.Access.{Ownership, held_by, is_receiver, ownership_of}
 use Rattle.ffa_model.specs.Memory.{changed_pages}
 use Rattle.ffa_model.specs.Buffers.{buffers_in, filled, is_full}
-use Rattle.ffa_model.specs.MemorySend.{after_transfer, descriptor_in}
+use Rattle.ffa_model.specs.MemorySend.{transfer_guards, descriptor_in}
 use Rattle.ffa_model.specs.RetrieveDescriptor.{retrieve_of}
 use Rattle.ffa_model.specs.ResponseBytes.{ResponseRecord, response_bytes, response_size}
 use Rattle.ffa_model.specs.declared.call.Transfer.{Transfer}
-use Rattle.ffa_model.specs.Transactions.{OwnRights, OpenTransactions, Scene, own_rights_of, ceiling, closed, holding, with_transaction, open_of, scene_of, with_open}
+use Rattle.ffa_model.specs.Transactions.{OpenTransactions, Scene, ceiling, closed, holding, with_transaction, open_of, scene_of, with_open}
 use Rattle.ffa_model.specs.Calls.{Service}
 
 -- the right that is asked: data that aren't specified are the most, and instructions that aren't are not executed
@@ -29,8 +29,8 @@ abbrev pub asked_right : Rights → RetrieveDesc → Rights
 asked_right most d = record { level = unwrap_or d.level most.level; exec = d.exec }
 
 -- the right that e gets
-abbrev pub right_for : OwnRights → Transaction → Identifier → RetrieveDesc → Rights
-right_for own_rights t e d = asked_right (ceiling own_rights t e) d
+abbrev pub right_for : Ownership → Transaction → Identifier → RetrieveDesc → Rights
+right_for ram t e d = asked_right (ceiling ram t e) d
 
 -- a kind that isn't specified is any
 abbrev pub is_kind_right : Kind → Option Kind → Bool
@@ -38,26 +38,26 @@ is_kind_right kind None = true
 is_kind_right kind (Some k) = is_same_kind kind k
 
 -- the checks of the transaction that is asked for, in order, for an e whose RX is full or not
-abbrev pub holding_guards : OwnRights → Bool → Identifier → RetrieveDesc → Option Transaction → List (Bool × Refusal)
-holding_guards own_rights full e d None = (false, HandleUnknown) ∷ []
-holding_guards own_rights full e d (Some t) =
+abbrev pub holding_guards : Ownership → Bool → Identifier → RetrieveDesc → Option Transaction → List (Bool × Refusal)
+holding_guards ram full e d None = (false, HandleUnknown) ∷ []
+holding_guards ram full e d (Some t) =
     (is_receiver e t, NotReceiver)
     ∷ (d.sender.0 == t.sender, TransactionSenderDiffers)
     ∷ (d.tag == t.tag, TagDiffers)
     ∷ (is_kind_right t.kind d.kind, KindDiffers)
     ∷ (is_none (held_by t e), AlreadyRetrieved)
-    ∷ (is_at_most (right_for own_rights t e d) (ceiling own_rights t e), RightTooMuch)
+    ∷ (is_at_most (right_for ram t e d) (ceiling ram t e), RightTooMuch)
     ∷ (not full, RxFull)
     ∷ []
 
 abbrev pub asking_guards : Scene → Identifier → Option RetrieveDesc → List (Bool × Refusal)
 asking_guards scene e None = (false, DescriptorMalformed) ∷ []
 asking_guards scene e (Some d) =
-    holding_guards scene.own_rights (is_full (buffers_in scene.buffers e)) e d (map.get scene.open_transactions.transactions d.handle)
+    holding_guards scene.ram (is_full (buffers_in scene.buffers e)) e d (map.get scene.open_transactions.transactions d.handle)
 
 -- the checks of a retrieve by e in order, with what the descriptor says, or None where the bytes are none
 abbrev pub retrieve_guards : Scene → Identifier → Transfer → Option RetrieveDesc → List (Bool × Refusal)
-retrieve_guards scene e transfer d = after_transfer scene.buffers e transfer (asking_guards scene e d)
+retrieve_guards scene e transfer d = transfer_guards scene.buffers e transfer ++ asking_guards scene e d
 
 -- what is open after e has retrieved the transaction of a handle: e holds the right, and of a donate nothing is open
 abbrev pub taken_in : Kind → OpenTransactions → HandleNumber → Transaction → Identifier → Rights → OpenTransactions
@@ -99,7 +99,7 @@ retrieved_right s h t e right =
 
 abbrev pub retrieved_from : State → RetrieveDesc → Option Transaction → State
 retrieved_from s d None = s
-retrieved_from s d (Some t) = retrieved_right s d.handle t s.runner (right_for (own_rights_of s) t s.runner d)
+retrieved_from s d (Some t) = retrieved_right s d.handle t s.runner (right_for (ownership_of s) t s.runner d)
 
 abbrev pub retrieved : State → Option RetrieveDesc → State
 retrieved s None = s

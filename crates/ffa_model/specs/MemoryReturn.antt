@@ -13,11 +13,11 @@ use Rattle.ffa_model.specs.Numbers.{HandleNumber, Identifier}
 use Rattle.ffa_model.specs.Bits.{is_set}
 use Rattle.ffa_model.specs.Rights.{is_lend, may_store}
 use Rattle.ffa_model.specs.State.{State, Transaction, Buffers, transaction_of, buffers_of}
-use Rattle.ffa_model.specs.Access.{is_from, is_offered, is_held_by, held_by}
+use Rattle.ffa_model.specs.Access.{Ownership, ownership_of, is_from, is_offered, is_held_by, held_by}
 use Rattle.ffa_model.specs.Memory.{zeroed_if}
 use Rattle.ffa_model.specs.Messages.{tx_bytes}
 use Rattle.ffa_model.specs.RelinquishDescriptor.{relinquish_of}
-use Rattle.ffa_model.specs.Transactions.{OwnRights, OpenTransactions, own_rights_of, are_writable, closed, not_holding, with_transaction, open_of, with_open}
+use Rattle.ffa_model.specs.Transactions.{OpenTransactions, are_writable, closed, not_holding, with_transaction, open_of, with_open}
 use Rattle.ffa_model.specs.Calls.{Service, success}
 
 -- FFA_MEM_RELINQUISH
@@ -78,12 +78,12 @@ named_ranges None = []
 named_ranges (Some t) = t.ranges
 
 -- the checks of a reclaim by e in order, of the transaction of the handle, if it is open
-abbrev pub reclaim_guards : OwnRights → Identifier → ℕ → Option Transaction → List (Bool × Refusal)
-reclaim_guards own_rights e flags t =
+abbrev pub reclaim_guards : Ownership → Identifier → ℕ → Option Transaction → List (Bool × Refusal)
+reclaim_guards ram e flags t =
     (nat_le flags 1, FlagsReserved)
     ∷ (is_from e t, NotTheSenders)
     ∷ (is_unheld t, StillHeld)
-    ∷ (not (is_set 0 flags) || are_writable own_rights (named_ranges t), ZerosUnwritable)
+    ∷ (not (is_set 0 flags) || are_writable ram (named_ranges t), ZerosUnwritable)
     ∷ []
 
 abbrev pub reclaimed : State → HandleNumber → Bool → State
@@ -92,7 +92,7 @@ reclaimed s h zero = zeroed_if zero (with_open s (closed (open_of s) h)) (named_
 abbrev pub memory_reclaim : State → HandleNumber → ℕ → Service
 memory_reclaim s handle flags =
     record {
-      guards = reclaim_guards (own_rights_of s) s.runner flags (transaction_of s handle);
+      guards = reclaim_guards (ownership_of s) s.runner flags (transaction_of s handle);
       state = reclaimed s handle (is_set 0 flags);
       reply = success 0 0;
     }

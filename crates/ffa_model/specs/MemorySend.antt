@@ -1,6 +1,6 @@
 -- SPDX-License-Identifier: MIT OR Apache-2.0
 -- FFA_MEM_DONATE, FFA_MEM_LEND and FFA_MEM_SHARE (DEN0077A, 5 and 16).
-use Rattle.std.specs.Prelude.{ℕ, ◌+◌, ◌*◌, ◌==◌, Bool, true, false, not, ◌&&◌, ◌||◌, nat_lt, nat_le, is_some, List, [], ◌∷◌, take, Option, Some, None}
+use Rattle.std.specs.Prelude.{ℕ, ◌+◌, ◌*◌, ◌==◌, Bool, true, false, not, ◌&&◌, ◌||◌, nat_lt, nat_le, is_some, List, [], ◌∷◌, ◌++◌, take, Option, Some, None}
 use Rattle.std.specs.List.{list_any, list_all}
 use Rattle.std.specs.Option.{option_map_or}
 use Rattle.std.specs.FinMap as map
@@ -18,34 +18,29 @@ use Rattle.ffa_model.specs.Numbers.{HandleNumber, Identifier, PageIndex}
 use Rattle.ffa_model.specs.Lists.{is_in_run}
 use Rattle.ffa_model.specs.Rights.{is_data_at_most}
 use Rattle.ffa_model.specs.State.{State, Transaction, Buffers, is_known_among, version_of}
+use Rattle.ffa_model.specs.Access.{Ownership}
 use Rattle.ffa_model.specs.Memory.{zeroed_if}
-use Rattle.ffa_model.specs.Buffers.{Candidate, Candidates, buffers_in, room_of}
+use Rattle.ffa_model.specs.Buffers.{buffers_in, is_own, room_of}
 use Rattle.ffa_model.specs.Messages.{tx_bytes}
 use Rattle.ffa_model.specs.DescriptorPlaces.{Versioned, in_version}
 use Rattle.ffa_model.specs.SendDescriptor.{SendRecord, send_of, range_end}
 use Rattle.ffa_model.specs.declared.call.Transfer.{Transfer}
-use Rattle.ffa_model.specs.Transactions.{OwnRights, OpenTransactions, Scene, sends_of, next_handle, open_count, opened, pages_in, are_writable, open_of, scene_of, with_open}
+use Rattle.ffa_model.specs.Transactions.{OpenTransactions, Scene, sends_of, next_handle, open_count, opened, pages_in, are_writable, open_of, scene_of, with_open}
 use Rattle.ffa_model.specs.Calls.{Service}
 
 abbrev pub are_known : ℕ → List Receiver → Bool
 are_known endpoints receivers = list_all (λ (r : Receiver). is_known_among endpoints r.endpoint.0) receivers
 
 -- a range that lies in RAM
-abbrev pub is_inside : OwnRights → Range → Bool
-is_inside own_rights range =
-    nat_le own_rights.ram_base range.address && nat_le (range_end range) (own_rights.ram_base + 4096 * own_rights.pages)
-
--- a page that e owns, and that no open transaction names
-abbrev pub is_own : Identifier → Option Candidate → Bool
-is_own e None = false
-is_own e (Some page) = page.owner == e && not page.named
+abbrev pub is_inside : Ownership → Range → Bool
+is_inside ram range = nat_le ram.base range.address && nat_le (range_end range) (ram.base + 4096 * ram.count)
 
 -- whether someone has a buffer in a page
 abbrev pub is_buffer : List (Option Buffers) → PageIndex → Bool
 is_buffer buffers p = list_any (λ b. option_map_or (λ (x : Buffers). is_in_run x.tx x.pages p || is_in_run x.rx x.pages p) b false) buffers
 
-abbrev pub is_sendable : Identifier → Candidates → List (Option Buffers) → PageIndex → Bool
-is_sendable e ram buffers p = is_own e (ram.page p) && not (is_buffer buffers p)
+abbrev pub is_sendable : Identifier → Ownership → List (Option Buffers) → PageIndex → Bool
+is_sendable e ram buffers p = is_own e ram p && not (is_buffer buffers p)
 
 -- a page whose own data right is at least the grant
 abbrev pub is_grantable : Option Data → Option Rights → Bool
@@ -53,32 +48,29 @@ is_grantable None right = true
 is_grantable (Some level) None = false
 is_grantable (Some level) (Some right) = is_data_at_most level right.level
 
-abbrev pub are_grants_within : OwnRights → List Receiver → PageIndex → Bool
-are_grants_within own_rights receivers p =
-    list_all (λ (r : Receiver). is_grantable r.grant (own_rights.right p)) receivers
+abbrev pub are_grants_within : Ownership → List Receiver → PageIndex → Bool
+are_grants_within ram receivers p = list_all (λ (r : Receiver). is_grantable r.grant (ram.own_right p)) receivers
 
--- the checks of a descriptor's registers, in order, and then others: all of it stands in the first bytes of TX
-abbrev pub after_transfer : List (Option Buffers) → Identifier → Transfer → List (Bool × Refusal)
-    → List (Bool × Refusal)
-after_transfer buffers e transfer rest =
+-- the checks of a descriptor's registers, in order: all of it stands in the first bytes of TX
+abbrev pub transfer_guards : List (Option Buffers) → Identifier → Transfer → List (Bool × Refusal)
+transfer_guards buffers e transfer =
     (is_some (buffers_in buffers e), BuffersMissing)
     ∷ (transfer.total == transfer.fragment, Fragmented)
     ∷ (nat_le transfer.total (room_of (buffers_in buffers e)), DescriptorTooLong)
     ∷ (transfer.address == 0, BufferAddressGiven)
     ∷ (transfer.pages == 0, BufferPagesGiven)
-    ∷ rest
+    ∷ []
 
--- the checks of what a send descriptor says, in order, and then others
-abbrev pub after_offer : ℕ → Candidates → OwnRights → List (Option Buffers) → Identifier → SendRecord
-    → List (Bool × Refusal) → List (Bool × Refusal)
-after_offer endpoints ram own_rights buffers e send rest =
+-- the checks of what a send descriptor says, in order
+abbrev pub record_guards : ℕ → Ownership → List (Option Buffers) → Identifier → SendRecord → List (Bool × Refusal)
+record_guards endpoints ram buffers e send =
     (send.sender == e, SenderIsAnother)
     ∷ (are_known endpoints send.receivers, ReceiverUnknown)
-    ∷ (list_all (is_inside own_rights) send.ranges, RangeOutside)
-    ∷ (list_all (is_sendable e ram buffers) (pages_in own_rights send.ranges), PageUnsendable)
-    ∷ (list_all (are_grants_within own_rights send.receivers) (pages_in own_rights send.ranges), GrantTooMuch)
-    ∷ (not send.zero || are_writable own_rights send.ranges, ZerosUnwritable)
-    ∷ rest
+    ∷ (list_all (is_inside ram) send.ranges, RangeOutside)
+    ∷ (list_all (is_sendable e ram buffers) (pages_in ram send.ranges), PageUnsendable)
+    ∷ (list_all (are_grants_within ram send.receivers) (pages_in ram send.ranges), GrantTooMuch)
+    ∷ (not send.zero || are_writable ram send.ranges, ZerosUnwritable)
+    ∷ []
 
 -- the checks of room for one more transaction
 abbrev pub room_guards : OpenTransactions → Identifier → List (Bool × Refusal)
@@ -90,11 +82,11 @@ room_guards open_transactions e =
 abbrev pub offer_guards : Scene → Identifier → Option SendRecord → List (Bool × Refusal)
 offer_guards scene e None = (false, DescriptorMalformed) ∷ []
 offer_guards scene e (Some send) =
-    after_offer scene.endpoints scene.ram scene.own_rights scene.buffers e send (room_guards scene.open_transactions e)
+    record_guards scene.endpoints scene.ram scene.buffers e send ++ room_guards scene.open_transactions e
 
 -- the checks of a send by e in order, with what the descriptor says
 abbrev pub send_guards : Scene → Identifier → Transfer → Option SendRecord → List (Bool × Refusal)
-send_guards scene e transfer send = after_transfer scene.buffers e transfer (offer_guards scene e send)
+send_guards scene e transfer send = transfer_guards scene.buffers e transfer ++ offer_guards scene e send
 
 -- the transaction that a send opens: nobody holds it
 abbrev pub transaction_from : Kind → SendRecord → Transaction

@@ -10,7 +10,6 @@ use Rattle.ffa_model.specs.declared.schedule.Work.TheVariants.{Run, Request}
 use Rattle.ffa_model.specs.declared.call.Reply.{Reply}
 use Rattle.ffa_model.specs.declared.call.DirectMessage.{DirectMessage}
 use Rattle.ffa_model.specs.declared.call.Reply.TheVariants.{Passed, Scheduled}
-use Rattle.ffa_model.specs.declared.endpoint.EndpointId.{EndpointId}
 use Rattle.ffa_model.specs.declared.function.TheConstants.{FFA_RUN, FFA_MSG_WAIT, FFA_YIELD}
 use Rattle.ffa_model.specs.Numbers.{Identifier}
 use Rattle.ffa_model.specs.Identifiers.{place}
@@ -48,13 +47,6 @@ is_yielded Running = false
 is_yielded Waiting = false
 is_yielded Yielded = true
 is_yielded Blocked = false
-
--- statuses as numbers, each another
-abbrev pub status_number : Status → ℕ
-status_number Running = 0
-status_number Waiting = 1
-status_number Yielded = 2
-status_number Blocked = 3
 
 -- whether the normal world gave the cycles
 abbrev pub is_run : Option Work → Bool

@@ -11,12 +11,12 @@ use Rattle.ffa_model.specs.Lists.{is_in_run}
 use Rattle.ffa_model.specs.Manifest.{is_from_to, is_ram_base}
 use Rattle.ffa_model.specs.Rights.{is_at_most}
 use Rattle.ffa_model.specs.State.{State, Page, Party, Transaction, Buffers, buffers_of, is_known, owner_of, page_at, sent_by, transaction_of}
-use Rattle.ffa_model.specs.Access.{held_by, is_naming, is_receiver, names}
-use Rattle.ffa_model.specs.Buffers.{are_runs_apart, candidate_at, is_usable}
+use Rattle.ffa_model.specs.Access.{ownership_of, held_by, is_naming, is_receiver, names}
+use Rattle.ffa_model.specs.Buffers.{are_runs_apart, is_usable}
 use Rattle.ffa_model.specs.SendDescriptor.{most_receivers}
 use Rattle.ffa_model.specs.RunStates.{schedule_of}
 use Rattle.ffa_model.specs.Sound.{IsSound}
-use Rattle.ffa_model.specs.Transactions.{are_writable, own_rights_of, ceiling, handle_of, open_of, open_count, pages_in}
+use Rattle.ffa_model.specs.Transactions.{are_writable, ceiling, handle_of, open_of, open_count, pages_in}
 use Rattle.ffa_model.specs.MemorySend.{are_grants_within, are_known, is_inside}
 use Rattle.ffa_model.specs.Notifications.{binding, class_of, has_bitmaps_in, is_bound, manager_class, notifications_of, receiver_bit}
 
@@ -45,15 +45,15 @@ pub record IsSoundTransaction (s : State) (h : ℕ) (t : Transaction) : Type 0 w
   pub sender : IsKnown s t.sender
   pub number : (n : ℕ) × (h ≡ handle_of t.sender n) × (1 ≤ n) × (n ≤ sent_by s t.sender)
   -- its ranges lie in RAM, and its pages are its sender's
-  pub inside : list_all (is_inside (own_rights_of s)) t.ranges ≡ true
+  pub inside : list_all (is_inside (ownership_of s)) t.ranges ≡ true
   pub owned : (p : ℕ) → p < length s.pages → names s t.ranges p ≡ true → owner_of s p ≡ t.sender
   -- each grant is at most each page's own data right, and each page of one that zeroes has own right rw
-  pub grants : list_all (are_grants_within (own_rights_of s) t.receivers) (pages_in (own_rights_of s) t.ranges) ≡ true
-  pub zeroed : t.zero ≡ true → are_writable (own_rights_of s) t.ranges ≡ true
+  pub grants : list_all (are_grants_within (ownership_of s) t.receivers) (pages_in (ownership_of s) t.ranges) ≡ true
+  pub zeroed : t.zero ≡ true → are_writable (ownership_of s) t.ranges ≡ true
   -- a holder is a receiver, and holds at most its ceiling; nobody holds a donate
   pub holder : (e : ℕ) (right : Rights) → held_by t e ≡ Some right → is_receiver e t ≡ true
   pub within : (e : ℕ) (right : Rights) → held_by t e ≡ Some right
-      → is_at_most right (ceiling (own_rights_of s) t e) ≡ true
+      → is_at_most right (ceiling (ownership_of s) t e) ≡ true
   pub donate : (e : ℕ) → t.kind ≡ Donate → held_by t e ≡ None
   -- its receivers are endpoints; how many receivers and ranges it may have, and that its tag is a word
   pub receivers : are_known (length s.parties) t.receivers ≡ true
@@ -66,8 +66,8 @@ pub record IsSoundTransaction (s : State) (h : ℕ) (t : Transaction) : Type 0 w
 -- two runs of pages of the endpoint alone, in no open transaction, with own right rw
 pub record IsSoundBuffers (s : State) (e : ℕ) (buffers : Buffers) : Type 0 where
   pub count : is_from_to 1 MOST_BUFFER_PAGES buffers.pages ≡ true
-  pub tx : (p : ℕ) → is_in_run buffers.tx buffers.pages p ≡ true → is_usable e (candidate_at s p) ≡ true
-  pub rx : (p : ℕ) → is_in_run buffers.rx buffers.pages p ≡ true → is_usable e (candidate_at s p) ≡ true
+  pub tx : (p : ℕ) → is_in_run buffers.tx buffers.pages p ≡ true → is_usable e (ownership_of s) p ≡ true
+  pub rx : (p : ℕ) → is_in_run buffers.rx buffers.pages p ≡ true → is_usable e (ownership_of s) p ≡ true
   pub apart : are_runs_apart buffers.pages buffers.tx buffers.rx ≡ true
 
 -- a bit that is bound: to nobody else, in its sender's class, and where the receiver has bitmaps

@@ -3,7 +3,7 @@
 use Rattle.std.specs.Prelude.{ℕ, ◌+◌, ◌*◌, ◌==◌, Bool, ◌&&◌, ◌||◌, nat_lt, List, length, Option, None, slice_index, slice_index_or, slice_get}
 use Rattle.std.specs.Ordering.{nat_cmp}
 use Rattle.std.specs.Cmp.Lexicographic.{slice_cmp}
-use Rattle.std.specs.Option.{option_map_or}
+use Rattle.std.specs.Option.{option_map, option_map_or}
 use Rattle.std.specs.FinMap as map
 use Rattle.std.specs.FinSet as finite_set
 use Rattle.ffa_model.specs.declared.endpoint.Version.{Version}
@@ -96,6 +96,10 @@ page_at s p = slice_index_or s.pages p None
 -- the owner of a page, which is the manager where it is no endpoint's
 abbrev pub owner_of : State → PageIndex → Identifier
 owner_of s p = option_map_or (λ (page : Page). page.owner) (page_at s p) manager
+
+-- the owner's right to a page while no transaction names it; a page of the manager has none
+abbrev pub own_right_of : State → PageIndex → Option Rights
+own_right_of s p = option_map (λ (page : Page). page.own_right) (page_at s p)
 
 abbrev pub address_of : State → PageIndex → ℕ
 address_of s p = s.ram_base + 4096 * p

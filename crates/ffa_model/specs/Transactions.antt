@@ -4,7 +4,7 @@
 use Rattle.std.specs.Prelude.{ℕ, ◌+◌, ◌*◌, ◌==◌, Bool, false, ◌&&◌, List, length, filter, find, Option, slice_index, slice_set, unwrap_or, if◌then◌else◌}
 use Rattle.std.specs.Ordering.{nat_cmp}
 use Rattle.std.specs.List.{list_all}
-use Rattle.std.specs.Option.{option_and_then, option_map}
+use Rattle.std.specs.Option.{option_and_then}
 use Rattle.std.specs.FinMap as map
 use Rattle.ffa_model.specs.declared.rights.Data.{Data}
 use Rattle.ffa_model.specs.declared.rights.Data.TheVariants.{Ro, Rw}
@@ -13,33 +13,23 @@ use Rattle.ffa_model.specs.declared.rights.Kind.{Kind}
 use Rattle.ffa_model.specs.declared.rights.Kind.TheVariants.{Share, Lend, Donate}
 use Rattle.ffa_model.specs.declared.transaction.Range.{Range}
 use Rattle.ffa_model.specs.declared.transaction.Receiver.{Receiver}
-use Rattle.ffa_model.specs.Numbers.{HandleNumber, Identifier, PageIndex}
+use Rattle.ffa_model.specs.Numbers.{HandleNumber, Identifier}
 use Rattle.ffa_model.specs.Bits.{word_of_halves}
 use Rattle.ffa_model.specs.Identifiers.{place}
 use Rattle.ffa_model.specs.Lists.{listed}
 use Rattle.ffa_model.specs.Rights.{may_fetch, may_store}
-use Rattle.ffa_model.specs.State.{State, Page, Transaction, Buffers, page_at}
-use Rattle.ffa_model.specs.Access.{covers}
-use Rattle.ffa_model.specs.Buffers.{Candidates, candidates}
+use Rattle.ffa_model.specs.State.{State, Transaction, Buffers}
+use Rattle.ffa_model.specs.Access.{Ownership, covers, ownership_of}
 
 -- the open transactions, and how many sends each endpoint has made
 pub record OpenTransactions : Type 0 where
   pub transactions : map.FinMap nat_cmp Transaction  -- by handle
   pub sent : List ℕ  -- by endpoint
 
--- RAM as grants and ceilings see it: where it begins, how many pages it has, and each page's own right, which its owner
--- has while no transaction names it
-pub record OwnRights : Type 0 where
-  pub ram_base : ℕ
-  pub pages : ℕ
-  pub right : ℕ → Option Rights
-
--- what the checks read beside the call: the number of endpoints, RAM with owners and with rights, the buffers, and what
--- is open
+-- what the checks read beside the call: the number of endpoints, RAM, the buffers, and what is open
 pub record Scene : Type 0 where
   pub endpoints : ℕ
-  pub ram : Candidates
-  pub own_rights : OwnRights
+  pub ram : Ownership
   pub buffers : List (Option Buffers)
   pub open_transactions : OpenTransactions
 
@@ -80,33 +70,30 @@ closed o h = record o { transactions = map.remove o.transactions h }
 
 -- CEILINGS
 -- the pages of RAM that the ranges name
-abbrev pub pages_in : OwnRights → List Range → List ℕ
-pages_in own_rights ranges =
-    filter (λ p. covers ranges (own_rights.ram_base + 4096 * p)) (listed own_rights.pages (λ p. p))
+abbrev pub pages_in : Ownership → List Range → List ℕ
+pages_in ram ranges = filter (λ p. covers ranges (ram.base + 4096 * p)) (listed ram.count (λ p. p))
 
 -- whether all pages that the ranges name have own right rw, and whether all have execution
-abbrev pub are_writable : OwnRights → List Range → Bool
-are_writable own_rights ranges = list_all (λ p. may_store (own_rights.right p)) (pages_in own_rights ranges)
+abbrev pub are_writable : Ownership → List Range → Bool
+are_writable ram ranges = list_all (λ p. may_store (ram.own_right p)) (pages_in ram ranges)
 
-abbrev pub are_executable : OwnRights → List Range → Bool
-are_executable own_rights ranges = list_all (λ p. may_fetch (own_rights.right p)) (pages_in own_rights ranges)
+abbrev pub are_executable : Ownership → List Range → Bool
+are_executable ram ranges = list_all (λ p. may_fetch (ram.own_right p)) (pages_in ram ranges)
 
 -- the data right that e is granted: ro where nothing is, but a send descriptor grants each receiver of a share or a lend one
 abbrev pub grant_to : Transaction → Identifier → Data
 grant_to t e =
     unwrap_or (option_and_then (λ (r : Receiver). r.grant) (find (λ (r : Receiver). r.endpoint.0 == e) t.receivers)) Ro
 
--- the most that e may hold: what all pages have in a donate; else the grant, and a lend to one may be executed where all
--- pages may
-abbrev pub ceiling_in : Kind → OwnRights → Transaction → Identifier → Rights
-ceiling_in Donate own_rights t e =
-    record { level = if are_writable own_rights t.ranges then Rw else Ro; exec = are_executable own_rights t.ranges }
-ceiling_in Lend own_rights t e =
-    record { level = grant_to t e; exec = length t.receivers == 1 && are_executable own_rights t.ranges }
-ceiling_in Share own_rights t e = record { level = grant_to t e; exec = false }
+-- the most that e may hold, by whether all pages are writable, and executable: what all have in a donate; else the grant, and
+-- a lend to one may be executed where all may
+abbrev pub ceiling_in : Kind → Bool → Bool → Transaction → Identifier → Rights
+ceiling_in Donate writable executable t e = record { level = if writable then Rw else Ro; exec = executable }
+ceiling_in Lend writable executable t e = record { level = grant_to t e; exec = length t.receivers == 1 && executable }
+ceiling_in Share writable executable t e = record { level = grant_to t e; exec = false }
 
-abbrev pub ceiling : OwnRights → Transaction → Identifier → Rights
-ceiling own_rights t e = ceiling_in t.kind own_rights t e
+abbrev pub ceiling : Ownership → Transaction → Identifier → Rights
+ceiling ram t e = ceiling_in t.kind (are_writable ram t.ranges) (are_executable ram t.ranges) t e
 
 -- ON A STATE
 abbrev pub open_of : State → OpenTransactions
@@ -115,18 +102,11 @@ open_of s = record { transactions = s.transactions; sent = s.sent }
 abbrev pub with_open : State → OpenTransactions → State
 with_open s o = record s { transactions = o.transactions; sent = o.sent }
 
-abbrev pub own_right_of : State → PageIndex → Option Rights
-own_right_of s p = option_map (λ (page : Page). page.own_right) (page_at s p)
-
-abbrev pub own_rights_of : State → OwnRights
-own_rights_of s = record { ram_base = s.ram_base; pages = length s.pages; right = own_right_of s }
-
 abbrev pub scene_of : State → Scene
 scene_of s =
     record {
       endpoints = length s.parties;
-      ram = candidates s;
-      own_rights = own_rights_of s;
+      ram = ownership_of s;
       buffers = s.buffers;
       open_transactions = open_of s;
     }

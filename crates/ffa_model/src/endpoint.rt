@@ -198,7 +198,7 @@ impl Endpoint {
     }
 
     /// The same endpoint once more, whose UUID has 16 bytes, as the type says. It takes no memory.
-    pub fn copied(&self) -> Endpoint
+    pub fn copy(&self) -> Endpoint
         ensures same { result ≡ self.now }
         ensures uuid { is_uuid self.now.uuid ≡ true }
     {

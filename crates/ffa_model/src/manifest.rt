@@ -102,13 +102,13 @@ impl Manifest {
     }
 
     /// The same manifest once more, whose UUIDs have 16 bytes each, as the types say. It takes no memory.
-    pub fn copied(&self) -> Manifest
+    pub fn copy(&self) -> Manifest
         ensures same { result ≡ self.now }
         ensures uuids { have_uuids self.now.endpoints.items ≡ true }
     {
         let mut endpoints = ArrayVec::new();
         for endpoint in self.endpoints.as_slice() {
-            endpoints.push(endpoint.copied());
+            endpoints.push(endpoint.copy());
         }
         Manifest::of(self.ram_base, self.ram_blocks, endpoints)
     }

@@ -34,9 +34,6 @@ module _ (sender known other flags bits bound : Bool) where
   flags-reserved-by : sender ≡ true → known ≡ true → other ≡ true → flags ≡ false → Some FlagsReserved ≡ first_refusal (guards_of sender known other flags bits bound)
   flags-reserved-by s k o f = grind arith
 
-  no-bits-by : sender ≡ true → known ≡ true → other ≡ true → flags ≡ true → bits ≡ false → Some BitsNone ≡ first_refusal (guards_of sender known other flags bits bound)
-  no-bits-by s k o f b = grind arith
-
   bits-of-others-by : sender ≡ true → known ≡ true → other ≡ true → flags ≡ true → bits ≡ true → bound ≡ false
       → Some BitsNotTheCallers ≡ first_refusal (guards_of sender known other flags bits bound)
   bits-of-others-by s k o f b l = grind arith
@@ -75,9 +72,6 @@ module _ (v : Notifications) (caller : ℕ) (its : NotificationBits) where
 
   pub flags-reserved : by_caller ≡ true → known ≡ true → another ≡ true → flagged ≡ false → Some FlagsReserved ≡ first_refusal (set_guards (length v.bitmaps) v caller its)
   flags-reserved = flags-reserved-by by_caller known another flagged some settable
-
-  pub no-bits : by_caller ≡ true → known ≡ true → another ≡ true → flagged ≡ true → some ≡ false → Some BitsNone ≡ first_refusal (set_guards (length v.bitmaps) v caller its)
-  no-bits = no-bits-by by_caller known another flagged some settable
 
   pub bits-of-others : by_caller ≡ true → known ≡ true → another ≡ true → flagged ≡ true → some ≡ true → settable ≡ false → Some BitsNotTheCallers ≡ first_refusal (set_guards (length v.bitmaps) v caller its)
   bits-of-others = bits-of-others-by by_caller known another flagged some settable

@@ -82,7 +82,7 @@ impl KeptPage {
     };
 
     // The standing of a page that an endpoint owns.
-    pub(crate) fn owned(self) -> Option<Standing>
+    pub(crate) fn own_standing(self) -> Option<Standing>
         ensures { result ≡ standing_of self }
     {
         if self.owner == EndpointId::MANAGER {

@@ -103,7 +103,7 @@ impl<P: Room<KeptPage> + Drop> PageTable<P> {
         let mut next = 0;
         while next < end {
             let until = alike_from(manifest, PageNo(next), end);
-            self.put_run(PageNo(next), until, first_kept(manifest, PageNo(next)));
+            self.put_run(PageNo(next), until, first_page(manifest, PageNo(next)));
             next = until;
         }
     }
@@ -121,7 +121,7 @@ impl<P: Room<KeptPage> + Drop> PageTable<P> {
         requires { page.0 < length self.now }
         ensures { result.0 ≡ owner_at self.now page.0 }
     {
-        self.kept(page).owner
+        self.entry(page).owner
     }
 
     /// The owner's right to a page that stands in no open transaction. A page of the manager has none.
@@ -129,7 +129,9 @@ impl<P: Room<KeptPage> + Drop> PageTable<P> {
         requires { page.0 < length self.now }
         ensures { result ≡ own_right_at self.now page.0 }
     {
-        self.kept(page).owned().map(|standing| standing.own_right())
+        self.entry(page)
+            .own_standing()
+            .map(|standing| standing.own_right())
     }
 
     /// The place in the pool of the open transaction that names a page, if one does.
@@ -137,7 +139,9 @@ impl<P: Room<KeptPage> + Drop> PageTable<P> {
         requires { page.0 < length self.now }
         ensures { result ≡ slot_at self.now page.0 }
     {
-        self.kept(page).owned().and_then(|standing| standing.slot())
+        self.entry(page)
+            .own_standing()
+            .and_then(|standing| standing.slot())
     }
 
     /// Up to which page, at most an end, all pages from one on are alike: of one owner, with one own right, and named by one
@@ -149,9 +153,9 @@ impl<P: Room<KeptPage> + Drop> PageTable<P> {
         ensures end { result ≤ end }
         ensures alike { (p : ℕ) → first.0 ≤ p → p < result → entry_at self.now p ≡ entry_at self.now first.0 }
     {
-        let kept = self.kept(first);
+        let kept = self.entry(first);
         for page in first.0 + 1..end {
-            if self.kept(PageNo(page)) != kept {
+            if self.entry(PageNo(page)) != kept {
                 return page;
             }
         }
@@ -175,8 +179,8 @@ impl<P: Room<KeptPage> + Drop> PageTable<P> {
         requires { page.0 < length self.old }
         ensures { self.new ≡ marked self.old page.0 slot }
     {
-        let kept = self.kept(page);
-        if let Some(standing) = kept.owned() {
+        let kept = self.entry(page);
+        if let Some(standing) = kept.own_standing() {
             let standing = Standing::of(standing.own_right(), slot);
             self.put(page, KeptPage { standing, ..kept });
         }
@@ -191,7 +195,7 @@ impl<P: Room<KeptPage> + Drop> PageTable<P> {
         ensures like { (p : ℕ) → first.0 ≤ p → p < end → entry_at self.new p ≡ entry_at self.old first.0 }
         ensures beside { (p : ℕ) → ((p < first.0) ⊎ (end ≤ p)) → entry_at self.new p ≡ entry_at self.old p }
     {
-        let kept = self.kept(first);
+        let kept = self.entry(first);
         self.put_run(PageNo(first.0 + 1), end, kept);
     }
 
@@ -217,7 +221,7 @@ impl<P: Room<KeptPage> + Drop> PageTable<P> {
     }
 
     // What is kept of a page.
-    fn kept(&self, page: PageNo) -> KeptPage
+    fn entry(&self, page: PageNo) -> KeptPage
         requires { page.0 < length self.now }
         ensures { entry_of result ≡ entry_at self.now page.0 }
     {
@@ -248,7 +252,7 @@ fn alike_from(manifest: &Manifest, first: PageNo, end: u32) -> u32
 }
 
 // What is kept of a page from the start.
-fn first_kept(manifest: &Manifest, page: PageNo) -> KeptPage
+fn first_page(manifest: &Manifest, page: PageNo) -> KeptPage
     ensures { entry_of result ≡ first_entry manifest.now.ram_base.0 manifest.now.endpoints.items page.0 }
 {
     let owner = manifest.owner_of(page);

@@ -1,23 +1,25 @@
 -- SPDX-License-Identifier: MIT OR Apache-2.0
 -- What the checks of a mapping read, and the bytes of TX and RX, over the parts of the machine.
+use Rattle.ffa_model.specs.Access.{Ownership}
 use Rattle.std.specs.Prelude.{◌≡◌, ℕ, zero, suc, ◌+◌, ◌≤◌, Bool, false, ◌||◌, List, [], length, take, drop, is_some, Option, None, Some}
 use Rattle.std.specs.List.{flat_map}
-use Rattle.std.specs.Option.{option_map, option_map_or}
+use Rattle.std.specs.Option.{option_map_or}
 use Rattle.ffa_model.specs.Lists.{is_in_run, run}
 use Rattle.ffa_model.specs.Ram.{Ram, page_of, with_page, with_bytes}
 use Rattle.ffa_model.specs.State.{Buffers}
-use Rattle.ffa_model.specs.Buffers.{Candidate, Candidates}
 use Rattle.ffa_physmem.specs.Moments.{IsBeside, IsWriting, Step}
-use Rattle.ffa_pages.specs.Entry.{Entry, entry_at}
+use Rattle.ffa_pages.specs.Entry.{Entry, own_right_at, owner_at, slot_at}
 
-abbrev pub candidate_in : List (Option Entry) → ℕ → Option Candidate
-candidate_in table p =
-    option_map
-    (λ (entry : Entry). record { owner = entry.owner; own_right = entry.own_right; named = is_some entry.slot })
-    (entry_at table p)
-
-abbrev pub candidates_in : List (Option Entry) → ℕ → Candidates
-candidates_in table base = record { base = base; count = length table; page = candidate_in table }
+-- RAM at an address as the checks of a call see it, by the entries of its pages
+abbrev pub ownership_in : List (Option Entry) → ℕ → Ownership
+ownership_in table base =
+    record {
+      base = base;
+      count = length table;
+      owner = owner_at table;
+      own_right = own_right_at table;
+      is_named = λ p. is_some (slot_at table p);
+    }
 
 -- the bytes of n pages in a row, and those of TX
 abbrev pub run_in : Ram → ℕ → ℕ → List ℕ

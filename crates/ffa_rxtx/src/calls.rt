@@ -5,7 +5,7 @@ ghost use Rattle.std.specs.Result.{result_err};
 ghost use Rattle.ffa_model.specs.Buffers.{buffers_in, buffers_with, buffers_with_rx, map_guards, new_buffers, release_guards, unmap_guards};
 ghost use Rattle.ffa_model.specs.Calls.{first_failure};
 ghost use Rattle.ffa_model.specs.State.{is_known_among};
-ghost use Rattle.ffa_rxtx.specs.Parts.{candidates_in};
+ghost use Rattle.ffa_rxtx.specs.Parts.{ownership_in};
 
 use crate::buffers::Buffers;
 use ffa_model::{Address, EndpointId, ErrorCode, Room};
@@ -31,7 +31,7 @@ impl Buffers {
     ) -> Result<(), ErrorCode>
         requires some { 1 ≤ length self.old }
         requires known { is_known_among (length self.old) caller.0 ≡ true }
-        ensures refusal { let own = buffers_in self.old caller.0 in let ram = candidates_in table.now ram_base.0 in
+        ensures refusal { let own = buffers_in self.old caller.0 in let ram = ownership_in table.now ram_base.0 in
             result_err result ≡ first_failure (map_guards caller.0 own ram tx rx pages) }
         ensures kept { OnErr result (self.new ≡ self.old) }
         ensures mapped { let own = new_buffers ram_base.0 tx rx pages in

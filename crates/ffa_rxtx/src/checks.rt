@@ -6,7 +6,7 @@ ghost use Rattle.std.specs.Result.{result_err};
 ghost use Rattle.ffa_model.specs.Buffers.{are_runs_apart, buffers_in, is_run_address, is_usable, map_guards, new_buffers, page_number, release_guards, unmap_guards};
 ghost use Rattle.ffa_model.specs.Calls.{first_refusal};
 ghost use Rattle.ffa_model.specs.Lists.{run};
-ghost use Rattle.ffa_rxtx.specs.Parts.{candidate_in, candidates_in};
+ghost use Rattle.ffa_rxtx.specs.Parts.{ownership_in};
 ghost use Rattle.ffa_rxtx.specs.Stored.{buffers_of};
 
 use crate::buffers::{Buffers, Mapped};
@@ -28,7 +28,7 @@ impl Buffers {
         rx: u64,
         pages: u32,
     ) -> Result<Mapped, Refusal>
-        ensures refusal { let own = buffers_in self.now caller.0 in let ram = candidates_in table.now ram_base.0 in
+        ensures refusal { let own = buffers_in self.now caller.0 in let ram = ownership_in table.now ram_base.0 in
             result_err result ≡ first_refusal (map_guards caller.0 own ram tx rx pages) }
         ensures buffers { IfOk result (λ mapped. buffers_of mapped ≡ new_buffers ram_base.0 tx rx pages) }
     {
@@ -107,7 +107,7 @@ pub(crate) fn run_at<P: Room<KeptPage> + Drop>(
     address: u64,
     pages: u32,
 ) -> Option<PageNo>
-    ensures found { is_some result ≡ is_run_address (candidates_in table.now ram_base.0) pages address }
+    ensures found { is_some result ≡ is_run_address (ownership_in table.now ram_base.0) pages address }
     ensures page { IfSome result (λ page. page.0 ≡ page_number ram_base.0 address) }
     ensures within { IfSome result (λ page. page.0 + pages ≤ length table.now) }
 {
@@ -130,7 +130,7 @@ fn are_usable<P: Room<KeptPage> + Drop>(
     pages: u32,
 ) -> bool
     requires { first.0 + pages ≤ length table.now }
-    ensures { result ≡ list_all (λ p. is_usable endpoint.0 (candidate_in table.now p)) (run first.0 pages) }
+    ensures { result ≡ list_all (λ p. is_usable endpoint.0 (ownership_in table.now 0) p) (run first.0 pages) }
 {
     // Proof step: the number of pages fits a u32.
     let _ = table.pages();
@@ -149,7 +149,7 @@ pub(crate) fn is_usable<P: Room<KeptPage> + Drop>(
     page: PageNo,
 ) -> bool
     requires { page.0 < length table.now }
-    ensures { result ≡ is_usable endpoint.0 (candidate_in table.now page.0) }
+    ensures { result ≡ is_usable endpoint.0 (ownership_in table.now 0) page.0 }
 {
     let is_alone = table.owner_of(page) == endpoint && table.slot_of(page).is_none();
     match table.own_right_of(page) {

@@ -5,7 +5,7 @@ ghost use Rattle.std.specs.Prelude.{◌≡◌, ◌+◌, ◌≤◌, length};
 ghost use Rattle.ffa_model.specs.About.{failing_map, first_failing, unusable_from};
 ghost use Rattle.ffa_model.specs.Buffers.{is_usable};
 ghost use Rattle.ffa_model.specs.Lists.{run};
-ghost use Rattle.ffa_rxtx.specs.Parts.{candidate_in, candidates_in};
+ghost use Rattle.ffa_rxtx.specs.Parts.{ownership_in};
 
 use crate::checks::{is_usable, run_at};
 use ffa_model::{Address, EndpointId, PageNo, Refusal, Room};
@@ -22,7 +22,7 @@ pub fn failing_map<P: Room<KeptPage> + Drop>(
     pages: u32,
     refusal: Refusal,
 ) -> Option<PageNo>
-    ensures { result ≡ failing_map caller.0 (candidates_in table.now ram_base.0) tx rx pages refusal }
+    ensures { result ≡ failing_map caller.0 (ownership_in table.now ram_base.0) tx rx pages refusal }
 {
     match refusal {
         Refusal::TxUnusable => unusable_from(table, ram_base, caller, tx, pages),
@@ -39,7 +39,7 @@ fn unusable_from<P: Room<KeptPage> + Drop>(
     address: u64,
     pages: u32,
 ) -> Option<PageNo>
-    ensures { result ≡ unusable_from endpoint.0 (candidates_in table.now ram_base.0) pages address }
+    ensures { result ≡ unusable_from endpoint.0 (ownership_in table.now ram_base.0) pages address }
 {
     match run_at(table, ram_base, address, pages) {
         Some(first) => first_unusable(table, endpoint, first, pages),
@@ -55,7 +55,7 @@ fn first_unusable<P: Room<KeptPage> + Drop>(
     pages: u32,
 ) -> Option<PageNo>
     requires { first.0 + pages ≤ length table.now }
-    ensures { result ≡ first_failing (λ p. is_usable endpoint.0 (candidate_in table.now p)) (run first.0 pages) }
+    ensures { result ≡ first_failing (λ p. is_usable endpoint.0 (ownership_in table.now 0) p) (run first.0 pages) }
 {
     // Proof step: the number of pages fits a u32.
     let _ = table.pages();

@@ -15,8 +15,8 @@ use Rattle.ffa_model.specs.declared.rights.Kind.{Kind}
 use Rattle.ffa_model.specs.declared.rights.Kind.TheVariants.{Share, Lend, Donate}
 use Rattle.ffa_model.specs.declared.rights.Rights.{Rights}
 use Rattle.ffa_model.specs.declared.transaction.Range.{Range}
-use Rattle.ffa_model.specs.Access.{access, held_by, names, right_of, transaction_at}
-use Rattle.ffa_model.specs.Buffers.{candidates, filled}
+use Rattle.ffa_model.specs.Access.{access, held_by, names, right_of, transaction_at, ownership_of}
+use Rattle.ffa_model.specs.Buffers.{filled}
 use Rattle.ffa_model.specs.MemoryRetrieve.{retrieved_right}
 use Rattle.ffa_model.specs.MemoryReturn.{is_unheld, reclaimed, relinquished_from}
 use Rattle.ffa_model.specs.MemorySend.{is_sendable, memory_sent}
@@ -27,7 +27,7 @@ use Rattle.ffa_model.specs.Setup.{info_bytes, is_count_alone, uuid_bytes}
 use Rattle.ffa_model.specs.SoundState.{IsSoundState}
 use Rattle.ffa_model.specs.State.{State, Page, Transaction, page_at, transaction_of, version_of}
 use Rattle.ffa_model.specs.Step.{serve, service}
-use Rattle.ffa_model.specs.Transactions.{own_rights_of, pages_in}
+use Rattle.ffa_model.specs.Transactions.{pages_in}
 use Rattle.ffa_model.proofs.Accesses.{named-in}
 use Rattle.ffa_model.proofs.CallAccesses.{access-filled, donate-other, reclaim-other, relinquish-beside, relinquish-named, relinquish-other, retrieve-beside, retrieve-other, send-named, send-other, sendable-unnamed}
 use Rattle.ffa_laws.proofs.Form.{served-kept}
@@ -79,7 +79,7 @@ shareless Lend e f its = refl
 shareless Donate e f its = refl
 
 module _ (s : State) (sound : IsSoundState s) (f p : ℕ) (lt : p < length s.pages) where
-  module _ (kind : Kind) (r : SendRecord) (own : r.sender ≡ s.runner) (all : list_all (is_sendable s.runner (candidates s) s.buffers) (pages_in (own_rights_of s) r.ranges) ≡ true) where
+  module _ (kind : Kind) (r : SendRecord) (own : r.sender ≡ s.runner) (all : list_all (is_sendable s.runner (ownership_of s) s.buffers) (pages_in (ownership_of s) r.ranges) ≡ true) where
     pub sent-kept : (names s r.ranges p && is_whose (changed_sender kind s.runner) f) ≡ false → access (memory_sent s kind (Some r)) f p ≡ access s f p
     sent-kept kept =
         by-page (access (memory_sent s kind (Some r)) f p ≡ access s f p) (names s r.ranges p) (is_whose (changed_sender kind s.runner) f) kept

@@ -35,6 +35,10 @@ pub done-with : {X : Type 0} (r : Result X ErrorCode) (P : X → Type 0) {Q : Ty
 done-with (Ok x) P so p = so x refl p
 done-with (Err code) P so p = tt
 
+pub always-replies : {X : Type 0} (r : Result X ErrorCode) {reply told : Reply} → reply ≡ told → IfOk r (λ done. reply ≡ told)
+always-replies (Ok done) is = is
+always-replies (Err code) is = tt
+
 pub done-replies : {X : Type 0} (r : Result X ErrorCode) → IfOk r (λ done. success 0 0 ≡ success 0 0)
 done-replies (Ok done) = refl
 done-replies (Err code) = tt

@@ -1,6 +1,6 @@
 -- SPDX-License-Identifier: MIT OR Apache-2.0
 -- Calls on buffers change the state as the small machine's.
-use Rattle.std.proofs.Common.{◌≡◌, ◌∙◌, ℕ, false, List, Option, Some, None, Result, sym, ap}
+use Rattle.std.proofs.Common.{◌≡◌, ◌∙◌, ℕ, false, List, Option, Some, None, Result, ap}
 use Rattle.std.specs.Prelude.{⊤, OnOk, OnErr}
 use Rattle.std.specs.Result.{result_err}
 use Rattle.ffa_model.specs.declared.operation.ErrorCode.{ErrorCode}
@@ -8,11 +8,11 @@ use Rattle.ffa_model.specs.Buffers.{buffers_in, buffers_with, buffers_with_rx, m
 use Rattle.ffa_model.specs.Calls.{first_failure, replied, served, success}
 use Rattle.ffa_model.specs.First.{first}
 use Rattle.ffa_model.specs.State.{State, Buffers}
-use Rattle.ffa_rxtx.specs.Parts.{candidates_in}
+use Rattle.ffa_rxtx.specs.Parts.{ownership_in}
 use Rattle.ffa_spmc.specs.Meaning.{IsManager, Parts, state_of}
 use Rattle.ffa_spmc.specs.Replies.{done_or_error}
 use Rattle.ffa_spmc.proofs.Answered.{answered-by, done-replies, done-so, refused-so}
-use Rattle.ffa_spmc.proofs.Candidates.{candidates-are}
+use Rattle.ffa_spmc.proofs.Pools.{ownership-is}
 
 -- the code's runner is that of the run states
 module _ (x : Parts) (machine : IsManager x) (e : ℕ) (at : e ≡ x.kept.chain.runner)
@@ -44,15 +44,15 @@ module _ (x : Parts) (machine : IsManager x) (e : ℕ) (at : e ≡ x.kept.chain.
       (done-so r (λ none is. ap with_list (is ∙ ap (λ (f : ℕ). buffers_with x.kept.buffers f None) at)) gone)
       (done-replies r)
 
-  pub mapped : (tx rx pages : ℕ) → result_err r ≡ first_failure (map_guards e (buffers_in x.kept.buffers e) (candidates_in x.kept.pages x.manifest.ram_base.0) tx rx pages)
+  pub mapped : (tx rx pages : ℕ) → result_err r ≡ first_failure (map_guards e (buffers_in x.kept.buffers e) (ownership_in x.kept.pages x.manifest.ram_base.0) tx rx pages)
       → OnOk r (list ≡ buffers_with x.kept.buffers e (Some (new_buffers x.manifest.ram_base.0 tx rx pages)))
       → replied (with_list list) (done_or_error r) ≡ served s (rxtx_map s tx rx pages)
   unfolding first
   mapped tx rx pages refusal there =
       answered-by s (with_list list) (rxtx_map s tx rx pages) r (λ done. success 0 0)
       (refusal
-      ∙ ap (λ (f : ℕ). first_failure (map_guards f (buffers_in x.kept.buffers f) (candidates_in x.kept.pages x.manifest.ram_base.0) tx rx pages)) at
-      ∙ sym (ap (λ ram. first_failure (map_guards x.kept.chain.runner (buffers_in x.kept.buffers x.kept.chain.runner) ram tx rx pages)) (candidates-are x machine)))
+      ∙ ap (λ (f : ℕ). first_failure (map_guards f (buffers_in x.kept.buffers f) (ownership_in x.kept.pages x.manifest.ram_base.0) tx rx pages)) at
+      ∙ ap (λ ram. first_failure (map_guards x.kept.chain.runner (buffers_in x.kept.buffers x.kept.chain.runner) ram tx rx pages)) (ownership-is x machine))
       (refused-so r (λ is. ap with_list is) same)
       (done-so r (λ none is. ap with_list (is ∙ ap (λ (f : ℕ). buffers_with x.kept.buffers f (Some (new_buffers x.manifest.ram_base.0 tx rx pages))) at)) there)
       (done-replies r)

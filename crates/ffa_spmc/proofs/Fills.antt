@@ -1,20 +1,19 @@
 -- SPDX-License-Identifier: MIT OR Apache-2.0
 -- Bytes in an endpoint's RX: they stand in a page of its own, and the state has them as RAM does.
 use Rattle.std.proofs.Common.{◌≡◌, ◌∙◌, ℕ, ◌<◌, true, false, List, length, Option, Some, None, refl, sym, subst, zero, suc, ◌+◌, ◌-◌, ◌≤◌, [], take, drop, ap, arith, length-set, get_or-set_other}
-use Rattle.std.specs.Prelude.{IsSomeAnd, is_some, nat_le, ◌==◌}
-use Rattle.std.specs.Option.{option_map, option_map_or}
-use Rattle.std.proofs.lemmas.Bool.{and_parts, eqb-true, false≢true, leb-true, not-true}
-use Rattle.arrayvec.specs.ArrayVec.{array_vec_len}
+use Rattle.std.specs.Prelude.{IsSomeAnd, is_some, nat_le}
+use Rattle.std.specs.Option.{option_map}
+use Rattle.std.proofs.lemmas.Bool.{and_parts, false≢true, leb-true}
 use Rattle.ffa_stage2.specs.Tables.{table_page}
 use Rattle.ffa_model.proofs.Runs.{run-wider, to-run}
 use Rattle.ffa_model.proofs.CallAccesses.{access-written_run}
 use Rattle.ffa_model.specs.declared.rights.Rights.{Rights}
 use Rattle.ffa_model.specs.Ram.{Ram, page_of, with_bytes, with_page}
 use Rattle.ffa_model.specs.Memory.{written_run}
-use Rattle.ffa_model.specs.Identifiers.{identifier, manager}
+use Rattle.ffa_model.specs.Identifiers.{identifier}
 use Rattle.ffa_model.specs.Lists.{is_in_run}
-use Rattle.ffa_model.specs.Access.{handle_at, access}
-use Rattle.ffa_model.specs.Buffers.{Candidate, buffers_in, buffers_with_rx, candidate_at, filled, filled_pages, is_usable}
+use Rattle.ffa_model.specs.Access.{handle_at, access, ownership_of}
+use Rattle.ffa_model.specs.Buffers.{buffers_in, buffers_with_rx, filled, filled_pages, is_usable}
 use Rattle.ffa_model.specs.First.{first}
 use Rattle.ffa_model.specs.State.{State, Page, Buffers, is_known, is_known_among, page_at, owner_of}
 use Rattle.ffa_rxtx.specs.Parts.{with_rx_bytes, IsInRam, with_run}
@@ -26,6 +25,8 @@ use Rattle.ffa_spmc.proofs.Machines.{StillHasTables}
 use Rattle.ffa_spmc.proofs.Reaches.{owned-in}
 use Rattle.ffa_spmc.proofs.Stores.{state-written}
 use Rattle.ffa_spmc.proofs.MemoryParts.{memory_in}
+use Rattle.ffa_model.proofs.Own.{usable-parts}
+use Rattle.ffa_model.specs.Rights.{may_store}
 
 -- the pages of f's buffers are owned by f
 pub record AreThere (s : State) (f : ℕ) (b : Buffers) : Type 0 where
@@ -43,40 +44,24 @@ module _ (x : Parts) (machine : IsManager x) where
   abbrev pub IsThere : ℕ → Type 0
   IsThere p = (page : Page) × (page_at s p ≡ Some page)
 
-  usable-there : (e p : ℕ) → is_usable e (candidate_at s p) ≡ true → IsThere p
-  usable-there e p usable = of (page_at s p) refl usable
+  usable-there : (e p : ℕ) → is_usable e (ownership_of s) p ≡ true → IsThere p
+  usable-there e p usable = of (page_at s p) refl
     where
-      of : (o : Option Page) → page_at s p ≡ o
-          → is_usable e (option_map (λ (page : Page). let q : Candidate = record { owner = page.owner; own_right = page.own_right; named = is_some (handle_at s p) } in q) o) ≡ true
-          → IsThere p
-      of None at passes = absurd (false≢true passes)
-      of (Some page) at passes = (page, at)
+      of : (o : Option Page) → page_at s p ≡ o → IsThere p
+      of None at = absurd (false≢true (sym (ap (λ (o : Option Page). may_store (option_map (λ (q : Page). q.own_right) o)) at) ∙ (and_parts _ _ usable).1))
+      of (Some page) at = (page, at)
 
   -- is a page of RAM
   pub there-inside : (p : ℕ) → IsThere p → p < length x.ram.pages
   there-inside p there = subst (λ (n : ℕ). p < n) (size_is x) (owned-in s p there.0 there.1)
 
   -- and the endpoint's own
-  usable-owner : (e p : ℕ) → is_usable e (candidate_at s p) ≡ true → owner_of s p ≡ e
-  usable-owner e p usable = of (page_at s p) refl usable
-    where
-      of : (o : Option Page) → page_at s p ≡ o
-          → is_usable e (option_map (λ (page : Page). let q : Candidate = record { owner = page.owner; own_right = page.own_right; named = is_some (handle_at s p) } in q) o) ≡ true
-          → owner_of s p ≡ e
-      of None at passes = absurd (false≢true passes)
-      of (Some page) at passes =
-          ap (λ (o : Option Page). option_map_or (λ (q : Page). q.owner) o manager) at
-          ∙ eqb-true page.owner e (and_parts (page.owner == e) _ (and_parts _ _ passes).0).0
+  usable-owner : (e p : ℕ) → is_usable e (ownership_of s) p ≡ true → owner_of s p ≡ e
+  usable-owner e p usable = (usable-parts s e p usable).0
 
   -- which no open transaction names
-  usable-unnamed : (e p : ℕ) → is_usable e (candidate_at s p) ≡ true → is_some (handle_at s p) ≡ false
-  usable-unnamed e p usable = of (page_at s p) refl usable
-    where
-      of : (o : Option Page) → page_at s p ≡ o
-          → is_usable e (option_map (λ (page : Page). let q : Candidate = record { owner = page.owner; own_right = page.own_right; named = is_some (handle_at s p) } in q) o) ≡ true
-          → is_some (handle_at s p) ≡ false
-      of None at passes = absurd (false≢true passes)
-      of (Some page) at passes = not-true (is_some (handle_at s p)) (and_parts (page.owner == e) _ (and_parts _ _ passes).0).1
+  usable-unnamed : (e p : ℕ) → is_usable e (ownership_of s) p ≡ true → is_some (handle_at s p) ≡ false
+  usable-unnamed e p usable = ap is_some (usable-parts s e p usable).1
 
   -- the pages of an endpoint's buffers
   pub buffers-there : (f : ℕ) → is_known s f ≡ true → (b : Buffers) → buffers_in x.kept.buffers f ≡ Some b → AreThere s f b

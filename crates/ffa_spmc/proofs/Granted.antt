@@ -1,26 +1,25 @@
 -- SPDX-License-Identifier: MIT OR Apache-2.0
 -- The rights that tables are given by each call on memory are the access of the state after it.
 use Rattle.std.proofs.Common.{◌≡◌, ◌∙◌, ℕ, ◌<◌, Bool, true, false, cond, length, Option, Some, None, refl, sym, ap, subst, inl, inr}
-use Rattle.std.specs.Prelude.{◌==◌, ◌&&◌, if◌then◌else◌, is_some}
+use Rattle.std.specs.Prelude.{◌==◌, ◌&&◌, if◌then◌else◌}
 use Rattle.std.specs.List.{list_all}
 use Rattle.std.specs.Option.{option_and_then, option_map, option_map_or}
 use Rattle.std.specs.FinMap as finite
 use Rattle.std.proofs.Math.Bool.{and-false}
-use Rattle.std.proofs.lemmas.Bool.{and_parts, cases_eq, eq-eqb, eqb-true, ne_eqb, false≢true}
+use Rattle.std.proofs.lemmas.Bool.{and_parts, cases_eq, eq-eqb, ne_eqb, false≢true}
 use Rattle.ffa_model.specs.declared.descriptor.RelinquishDesc.{RelinquishDesc}
 use Rattle.ffa_model.specs.declared.rights.Kind.{Kind}
 use Rattle.ffa_model.specs.declared.rights.Kind.TheVariants.{Share, Lend, Donate}
 use Rattle.ffa_model.specs.declared.rights.Rights.{Rights}
 use Rattle.ffa_model.specs.Identifiers.{identifier, manager, place}
 use Rattle.ffa_model.specs.Rights.{is_donate, is_share}
-use Rattle.ffa_model.specs.State.{State, Page, Transaction, is_known_among, owner_of, page_at, transaction_of}
-use Rattle.ffa_model.specs.Access.{access, handle_at, held_by, names, right_of}
-use Rattle.ffa_model.specs.Buffers.{Candidate, candidates}
+use Rattle.ffa_model.specs.State.{State, Page, Transaction, is_known_among, owner_of, page_at, transaction_of, own_right_of}
+use Rattle.ffa_model.specs.Access.{access, handle_at, held_by, names, right_of, ownership_of}
 use Rattle.ffa_model.specs.SendDescriptor.{SendRecord}
-use Rattle.ffa_model.specs.MemorySend.{is_own, is_sendable, memory_sent}
+use Rattle.ffa_model.specs.MemorySend.{is_sendable, memory_sent}
 use Rattle.ffa_model.specs.MemoryRetrieve.{retrieved_right}
 use Rattle.ffa_model.specs.MemoryReturn.{relinquished_from}
-use Rattle.ffa_model.specs.Transactions.{own_right_of, own_rights_of, pages_in}
+use Rattle.ffa_model.specs.Transactions.{pages_in}
 use Rattle.ffa_memshare.specs.Grants.{with_rights}
 use Rattle.ffa_model.specs.SoundState.{IsKnown, IsSoundState}
 use Rattle.ffa_spmc.specs.Meaning.{access_by_place}
@@ -29,6 +28,7 @@ use Rattle.ffa_model.proofs.CallAccesses.{donate-named, donate-other, relinquish
 use Rattle.ffa_model.proofs.NamedPages.{listed-each}
 use Rattle.ffa_model.proofs.Places.{known-named, place-identifier}
 use Rattle.ffa_memshare.proofs.Joined.{shareless-right}
+use Rattle.ffa_model.proofs.Own.{own-parts}
 
 -- by the three cases of a page and an endpoint
 granted-by : (access : ℕ → ℕ → Option Rights) (index : ℕ) (named : ℕ → Bool) (right : ℕ → Option Rights) (i p : ℕ) (target : Option Rights)
@@ -62,18 +62,12 @@ owned-page s e p known own = of (page_at s p) refl own
 
 -- A SEND
 -- a page that may be sent is the runner's
-pub sendable-own : (s : State) (e p : ℕ) (r : SendRecord) → list_all (is_sendable e (candidates s) s.buffers) (pages_in (own_rights_of s) r.ranges) ≡ true
+pub sendable-own : (s : State) (e p : ℕ) (r : SendRecord) → list_all (is_sendable e (ownership_of s) s.buffers) (pages_in (ownership_of s) r.ranges) ≡ true
     → p < length s.pages → names s r.ranges p ≡ true → owner_of s p ≡ e
-sendable-own s e p r all lt named = of (page_at s p) (and_parts _ _ one).0
+sendable-own s e p r all lt named = (own-parts s e p (and_parts _ _ one).0).0
   where
-    one : is_sendable e (candidates s) s.buffers p ≡ true
-    one = listed-each (is_sendable e (candidates s) s.buffers) (names s r.ranges) (length s.pages) (λ q. q) all p lt named
-
-    of : (o : Option Page)
-        → is_own e (option_map (λ (page : Page). let c : Candidate = record { owner = page.owner; own_right = page.own_right; named = is_some (handle_at s p) } in c) o) ≡ true
-        → option_map_or (λ (q : Page). q.owner) o manager ≡ e
-    of None h = absurd (false≢true h)
-    of (Some page) h = eqb-true page.owner e (and_parts _ _ h).0
+    one : is_sendable e (ownership_of s) s.buffers p ≡ true
+    one = listed-each (is_sendable e (ownership_of s) s.buffers) (names s r.ranges) (length s.pages) (λ q. q) all p lt named
 
 -- who doesn't own a page that no transaction names has no right to it
 beside-owner : (s : State) (e f p : ℕ) → owner_of s p ≡ e → (f ≡ e → ⊥) → handle_at s p ≡ None → access s f p ≡ None
@@ -100,7 +94,7 @@ none-kept false sender e (Some q) apart = refl
 -- nobody else had a right to the pages, and nobody gets one
 pub send-beside : (s : State) → IsSoundState s → (kind : Kind) (r : SendRecord) (f p : ℕ)
     → r.sender ≡ s.runner
-    → list_all (is_sendable s.runner (candidates s) s.buffers) (pages_in (own_rights_of s) r.ranges) ≡ true
+    → list_all (is_sendable s.runner (ownership_of s) s.buffers) (pages_in (ownership_of s) r.ranges) ≡ true
     → p < length s.pages → names s r.ranges p ≡ true → (f ≡ s.runner → ⊥)
     → access s f p ≡ access (memory_sent s kind (Some r)) f p
 send-beside s sound kind r f p own all lt named apart =
@@ -111,7 +105,7 @@ send-beside s sound kind r f p own all lt named apart =
 -- the sender of a share keeps its own right, and of all else it has none
 pub send-granted : (s : State) → IsSoundState s → (kind : Kind) (r : SendRecord) (right : ℕ → Option Rights) (i p : ℕ)
     → r.sender ≡ s.runner
-    → list_all (is_sendable s.runner (candidates s) s.buffers) (pages_in (own_rights_of s) r.ranges) ≡ true
+    → list_all (is_sendable s.runner (ownership_of s) s.buffers) (pages_in (ownership_of s) r.ranges) ≡ true
     → p < length s.pages
     → right p ≡ (if is_share kind then own_right_of s p else None)
     → with_rights (access_by_place s) (place s.runner) (names s r.ranges) right i p ≡ access_by_place (memory_sent s kind (Some r)) i p

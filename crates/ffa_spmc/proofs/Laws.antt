@@ -56,8 +56,8 @@ module _ (s : State) (sound : IsSoundState s) where
   pub confidential-now : AreApart s → (op : Op) → Confidential s op
   confidential-now apart op = confidential s op steady apart
 
-  pub run_confidential-now : AreApart s → (ops : List Op) → RunConfidential s ops
-  run_confidential-now apart ops = run_confidential s ops steady apart
+  pub run_confidential-now : (ops : List Op) → RunConfidential s ops
+  run_confidential-now ops = run_confidential s ops steady
 
   pub open-now : AreApart s → (op : Op) → OfferSaysNothing s op
   open-now apart op = offer_says_nothing s op steady apart

@@ -20,7 +20,6 @@ pub mod Closes
 pub mod Accesses
 pub mod Boots
 pub mod Clearings
-pub mod Candidates
 pub mod BufferCalls
 pub mod Fills
 pub mod Information

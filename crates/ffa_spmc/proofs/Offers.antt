@@ -23,9 +23,9 @@ use Rattle.ffa_model.specs.Ram.{Ram}
 use Rattle.ffa_model.specs.Rights.{is_share}
 use Rattle.ffa_model.specs.SendDescriptor.{SendRecord, send_of}
 use Rattle.ffa_model.specs.SoundState.{IsSoundState}
-use Rattle.ffa_model.specs.State.{State, Transaction, transaction_of, version_of}
+use Rattle.ffa_model.specs.State.{State, Transaction, transaction_of, version_of, own_right_of}
 use Rattle.ffa_model.specs.declared.call.Transfer.{Transfer}
-use Rattle.ffa_model.specs.Transactions.{own_right_of, next_handle, open_of, scene_of, with_open}
+use Rattle.ffa_model.specs.Transactions.{next_handle, open_of, scene_of, with_open}
 use Rattle.ffa_model.proofs.CallAccesses.{handle-new, runner-known, sendable-unnamed}
 use Rattle.ffa_laws.proofs.SendLaws.{IsOffer, offer}
 use Rattle.ffa_laws.proofs.SoundSends.{send-sound}

@@ -1,17 +1,16 @@
 -- SPDX-License-Identifier: MIT OR Apache-2.0
 -- The open transactions of a machine: the slot that a page's entry has is that of the transaction that names the page.
-use Rattle.std.proofs.Common.{◌≡◌, ◌∙◌, ℕ, ◌<◌, ◌≤◌, Bool, true, false, List, length, Option, Some, None, refl, sym, ap, subst, arith, inl, inr}
+use Rattle.std.proofs.Common.{◌≡◌, ◌∙◌, ℕ, ◌*◌, ◌<◌, ◌≤◌, Bool, true, false, List, length, Option, Some, None, refl, sym, ap, subst, arith, inl, inr}
+use Rattle.ffa_rxtx.specs.Parts.{ownership_in}
 use Rattle.std.specs.Prelude.{is_some}
-use Rattle.std.specs.Option.{option_map, option_map_or}
+use Rattle.std.specs.Option.{option_and_then, option_map, option_map_or}
 use Rattle.std.proofs.lemmas.Bool.{cases_lt, false≢true}
 use Rattle.std.proofs.lemmas.Bool.Decides.{nat_tests}
 use Rattle.std.proofs.lemmas.Option.{none-some}
-use Rattle.arrayvec.specs.ArrayVec.{array_vec_len}
-use Rattle.ffa_model.specs.Access.{access, handle_at, is_naming, names, right_of, transaction_at}
+use Rattle.ffa_model.specs.Access.{access, handle_at, is_naming, names, right_of, transaction_at, ownership_of}
 use Rattle.ffa_model.specs.Identifiers.{manager, place}
 use Rattle.ffa_model.specs.Ram.{page_of}
-use Rattle.ffa_model.specs.State.{State, Page, Transaction, is_known_among, owner_of, page_at, transaction_of}
-use Rattle.ffa_model.specs.Transactions.{own_right_of, own_rights_of}
+use Rattle.ffa_model.specs.State.{State, Page, Transaction, is_known_among, owner_of, page_at, transaction_of, own_right_of}
 use Rattle.ffa_model.proofs.Accesses.{IsNamedOnce, named-in, unnamed-in}
 use Rattle.ffa_model.proofs.Handles.{alone-found, unpassed-none}
 use Rattle.ffa_model.proofs.Places.{known-place}
@@ -20,12 +19,12 @@ use Rattle.ffa_laws.specs.OwnAccess.{AreApart}
 use Rattle.ffa_laws.proofs.SoundSteady.{sound-steady}
 use Rattle.ffa_pages.specs.Entry.{Entry, own_right_at, entry_at, slot_at}
 use Rattle.ffa_stage2.specs.Tables.{table_page}
-use Rattle.ffa_memshare.specs.Named.{own_rights_in}
 use Rattle.ffa_memshare.specs.Memory.{Memory}
 use Rattle.ffa_memshare.specs.Shared.{IsHeld, IsRoom, IsShared}
 use Rattle.ffa_memshare.specs.Stored.{Slot, handle_in, named_in, page_in, pool_slot}
 use Rattle.ffa_spmc.specs.Meaning.{IsManager, Parts, access_by_place, slot_names, state_of}
 use Rattle.ffa_spmc.proofs.Held.{entry-past, owned-behind, owner-is, owners-size, page-held, page-past, parties_are, size_is}
+use Rattle.ffa_memshare.proofs.Offered.{named-within}
 use Rattle.ffa_spmc.proofs.MemoryParts.{memory_in}
 
 module _ (x : Parts) (machine : IsManager x) where
@@ -117,7 +116,7 @@ module _ (x : Parts) (machine : IsManager x) where
     pub access-kept : (e : ℕ) → right_of e (page_in (page_of x.ram p) (entry_at pages p)) (named_in slots (slot_at pages p)) ≡ access s e p
     access-kept e = λ i. right_of e (sym (page-held x p lt) i) (sym transaction-kept i)
 
-  -- RAM as grants and ceilings see it
+  -- RAM as the checks see it
   pub own_right-is : (p : ℕ) → own_right_at pages p ≡ own_right_of s p
   own_right-is p = elim (cases_lt p (length x.ram.pages)) [
     | inl lt ↦ of (entry_at pages p) ∙ sym (ap (option_map (λ (page : Page). page.own_right)) (page-held x p lt))
@@ -128,8 +127,36 @@ module _ (x : Parts) (machine : IsManager x) where
       of None = refl
       of (Some e) = refl
 
-  pub own_rights-are : own_rights_in pages x.manifest.ram_base.0 ≡ own_rights_of s
-  own_rights-are = λ i. record { ram_base = x.manifest.ram_base.0; pages = (owners-size x machine ∙ sym (size_is x)) i; right = λ p. own_right-is p i }
+  -- no open transaction names a page past RAM
+  unnamed-past : (p : ℕ) → length x.ram.pages ≤ p → handle_at s p ≡ None
+  unnamed-past p past = unpassed-none (is_naming s p) refl s.transactions (λ h. of h (transaction_of s h) refl)
+    where
+      never : (h : ℕ) (t : Transaction) → transaction_of s h ≡ Some t → (b : Bool) → names s t.ranges p ≡ b → b ≡ false
+      never h t opened false is = refl
+      never h t opened true is =
+          let slot = open-slot h t opened in
+          let inside = named-within x.manifest.ram_base.0 (512 * x.manifest.ram_blocks) t.ranges p (machine.open_transactions.offered slot.0 h t slot.1).placed is in
+          absurd (omega (arith, inside, past, machine.tables.size))
+
+      of : (h : ℕ) (o : Option Transaction) → transaction_of s h ≡ o → is_naming s p o ≡ false
+      of h None is = refl
+      of h (Some t) is = never h t is (names s t.ranges p) refl
+
+  named-is : (p : ℕ) → is_some (slot_at pages p) ≡ is_some (handle_at s p)
+  named-is p = elim (cases_lt p (length x.ram.pages)) [
+    | inl lt ↦ sym (named-kept p lt)
+    | inr past ↦ ap (λ o. is_some (option_and_then (λ (e : Entry). e.slot) o)) (entry-past x machine p past) ∙ sym (ap is_some (unnamed-past p past))
+  ]
+
+  pub ownership-is : ownership_in pages x.manifest.ram_base.0 ≡ ownership_of s
+  ownership-is =
+      λ i. record {
+        base = x.manifest.ram_base.0;
+        count = (owners-size x machine ∙ sym (size_is x)) i;
+        owner = λ p. sym (owner-is x machine p) i;
+        own_right = λ p. own_right-is p i;
+        is_named = λ p. named-is p i;
+      }
 
   -- what the calls of the pool ask
   abbrev of_manifest : Memory

@@ -1,12 +1,10 @@
 -- SPDX-License-Identifier: MIT OR Apache-2.0
 -- Why an operation is refused: the checks see of the machine's parts what the guards of each call see of its state.
-use Rattle.std.proofs.Common.{◌≡◌, ◌∙◌, ℕ, List, length, map, take, Option, Some, None, Result, Ok, Err, refl, sym, ap}
+use Rattle.std.proofs.Common.{◌≡◌, ◌∙◌, ℕ, List, length, map, take, Option, Some, None, Result, Ok, Err, refl, ap}
 use Rattle.std.specs.FinMap as finite
 use Rattle.std.specs.Prelude.{⊤}
 use Rattle.std.specs.Result.{result_err}
-use Rattle.arrayvec.specs.ArrayVec.{array_vec_len}
 use Rattle.ffa_memshare.specs.declared.descriptor_call.DescriptorCall.{DescriptorCall}
-use Rattle.ffa_memshare.specs.Named.{own_rights_in}
 use Rattle.ffa_memshare.specs.Scenes.{descriptor_in, scene_in}
 use Rattle.ffa_memshare.specs.Stored.{map_in, open_in}
 use Rattle.ffa_messages.specs.Parts.{sent_in}
@@ -30,14 +28,13 @@ use Rattle.ffa_model.specs.RetrieveDescriptor.{retrieve_of}
 use Rattle.ffa_model.specs.SendDescriptor.{send_of}
 use Rattle.ffa_model.specs.State.{State, transaction_of, version_of}
 use Rattle.ffa_model.specs.Transactions.{open_of}
-use Rattle.ffa_rxtx.specs.Parts.{candidates_in, tx_in}
+use Rattle.ffa_rxtx.specs.Parts.{tx_in, ownership_in}
 use Rattle.ffa_spmc.specs.Managed.{Managed}
 use Rattle.ffa_spmc.specs.Meaning.{IsManager, Parts, state_of}
 use Rattle.ffa_spmc.specs.Replies.{fault_in}
 use Rattle.ffa_spmc.proofs.Accesses.{done_or_fault}
-use Rattle.ffa_spmc.proofs.Candidates.{candidates-are}
 use Rattle.ffa_spmc.proofs.Notified.{each-bitmap}
-use Rattle.ffa_spmc.proofs.Pools.{own_rights-are}
+use Rattle.ffa_spmc.proofs.Pools.{ownership-is}
 use Rattle.ffa_physmem.specs.Moments.{Step}
 use Rattle.ffa_spmc.proofs.Replied.{managed_of}
 use Rattle.ffa_spmc.proofs.Retrieves.{scene-is}
@@ -71,12 +68,12 @@ module _ (x : Parts) (machine : IsManager x) (e : ℕ) (at : e ≡ x.kept.chain.
   unfolding first
   unmap-checked word = ap (λ (f : ℕ). first_refusal (unmap_guards (buffers_in x.kept.buffers f) word)) at
 
-  pub map-checked : (tx rx pages : ℕ) → first_refusal (map_guards e (buffers_in x.kept.buffers e) (candidates_in x.kept.pages x.manifest.ram_base.0) tx rx pages)
+  pub map-checked : (tx rx pages : ℕ) → first_refusal (map_guards e (buffers_in x.kept.buffers e) (ownership_in x.kept.pages x.manifest.ram_base.0) tx rx pages)
       ≡ first_refusal (rxtx_map s tx rx pages).guards
   unfolding first
   map-checked tx rx pages =
-      ap (λ (f : ℕ). first_refusal (map_guards f (buffers_in x.kept.buffers f) (candidates_in x.kept.pages x.manifest.ram_base.0) tx rx pages)) at
-      ∙ sym (ap (λ ram. first_refusal (map_guards x.kept.chain.runner (buffers_in x.kept.buffers x.kept.chain.runner) ram tx rx pages)) (candidates-are x machine))
+      ap (λ (f : ℕ). first_refusal (map_guards f (buffers_in x.kept.buffers f) (ownership_in x.kept.pages x.manifest.ram_base.0) tx rx pages)) at
+      ∙ ap (λ ram. first_refusal (map_guards x.kept.chain.runner (buffers_in x.kept.buffers x.kept.chain.runner) ram tx rx pages)) (ownership-is x machine)
 
   pub send-checked : first_refusal (send2_guards (map party_of x.manifest.endpoints.items) x.kept.buffers e (header_in (sent_in x.ram x.kept.buffers e))) ≡ first_refusal (msg_send2 s).guards
   unfolding first
@@ -88,9 +85,9 @@ module _ (x : Parts) (machine : IsManager x) (e : ℕ) (at : e ≡ x.kept.chain.
       λ i. first_refusal (relinquish_guards (buffers_in x.kept.buffers (at i)) (open_of s) (at i) (relinquish_of (sent-is x machine e at i)))
 
   pub reclaim-checked : (h flags : ℕ)
-      → first_refusal (reclaim_guards (own_rights_in x.kept.pages x.kept.layout.base.0) e flags (finite.get (map_in x.kept.pool.slots) h)) ≡ first_refusal (memory_reclaim s h flags).guards
+      → first_refusal (reclaim_guards (ownership_in x.kept.pages x.kept.layout.base.0) e flags (finite.get (map_in x.kept.pool.slots) h)) ≡ first_refusal (memory_reclaim s h flags).guards
   reclaim-checked h flags =
-      λ i. first_refusal (reclaim_guards ((ap (own_rights_in x.kept.pages) machine.layout.base ∙ own_rights-are x machine) i) (at i) flags (transaction_of s h))
+      λ i. first_refusal (reclaim_guards ((ap (ownership_in x.kept.pages) machine.layout.base ∙ ownership-is x machine) i) (at i) flags (transaction_of s h))
 
   -- a call whose descriptor stands in TX
   module _ (call : DescriptorCall) (spoken : call.version ≡ version_of (state_of x) (state_of x).runner) where

@@ -1,6 +1,7 @@
 -- SPDX-License-Identifier: MIT OR Apache-2.0
 -- FFA_MEM_RECLAIM changes the state as the small machine's.
 use Rattle.std.proofs.Common.{◌≡◌, ◌∙◌, ℕ, ◌<◌, Bool, true, List, length, Option, Some, None, Result, Ok, Err, refl, sym, ap, subst, arith, inl}
+use Rattle.ffa_rxtx.specs.Parts.{ownership_in}
 use Rattle.std.specs.Prelude.{◌==◌, ◌&&◌, IfOk, OnOk, OnErr}
 use Rattle.std.specs.Option.{option_map}
 use Rattle.std.specs.Result.{result_err, result_ok}
@@ -10,16 +11,16 @@ use Rattle.std.proofs.lemmas.Bool.Decides.{nat_tests}
 use Rattle.arrayvec.specs.ArrayVec.{array_vec_len}
 use Rattle.ffa_model.specs.declared.refusal.Refusal.{Refusal}
 use Rattle.ffa_model.specs.declared.operation.ErrorCode.{ErrorCode}
-use Rattle.ffa_model.specs.Access.{access, is_from, names}
+use Rattle.ffa_model.specs.Access.{access, is_from, names, Ownership, ownership_of}
 use Rattle.ffa_model.specs.Bits.{is_set}
-use Rattle.ffa_model.specs.Calls.{first_failure, replied, served, success}
+use Rattle.ffa_model.specs.Calls.{first_failure, replied, served}
 use Rattle.ffa_model.specs.Identifiers.{place}
 use Rattle.ffa_model.specs.MemoryReturn.{is_unheld, memory_reclaim, named_ranges, reclaim_guards, reclaimed}
 use Rattle.ffa_model.specs.Memory.{zeroed_if}
 use Rattle.ffa_model.specs.Ram.{Ram}
 use Rattle.ffa_model.specs.SoundState.{IsSoundState}
 use Rattle.ffa_model.specs.State.{State, Transaction, transaction_of}
-use Rattle.ffa_model.specs.Transactions.{OwnRights, own_rights_of, closed, open_of, with_open}
+use Rattle.ffa_model.specs.Transactions.{closed, open_of, with_open}
 use Rattle.ffa_model.proofs.Guards.{guard-passes}
 use Rattle.ffa_model.proofs.KeptCalls.{reclaimed-sound}
 use Rattle.ffa_pages.specs.Entry.{Entry, own_right_at}
@@ -29,7 +30,6 @@ use Rattle.ffa_memshare.specs.declared.changed.Value.TheVariants.{Nothing}
 use Rattle.ffa_memshare.specs.Changed.{IsChanged, changed_reclaimer, changed_sender}
 use Rattle.ffa_memshare.specs.Changes.{IsMarked, IsMoved}
 use Rattle.ffa_memshare.specs.Grants.{with_rights}
-use Rattle.ffa_memshare.specs.Named.{own_rights_in}
 use Rattle.ffa_memshare.specs.Ranges.{in_ranges}
 use Rattle.ffa_memshare.specs.SlotChanges.{IsClosed}
 use Rattle.ffa_memshare.specs.Stored.{Pooled, map_in, open_in}
@@ -43,7 +43,7 @@ use Rattle.ffa_spmc.proofs.Answered.{answered-by, nothing-replies, done-so, refu
 use Rattle.ffa_spmc.proofs.Closes.{open-closed, slot-marked}
 use Rattle.ffa_spmc.proofs.AccessChanges.{access-changed, none-changed, reclaimed-kept, reclaimed-new}
 use Rattle.ffa_spmc.proofs.Moves.{SameOwners, marked-owners, of-manifest, owners-moved, pages-moved, tables-moved}
-use Rattle.ffa_spmc.proofs.Pools.{own_right-is, own_rights-are, slot-open}
+use Rattle.ffa_spmc.proofs.Pools.{own_right-is, ownership-is, slot-open}
 use Rattle.ffa_spmc.proofs.Unowned.{open-entered, unowned-moved, unowned-same}
 
 -- the code's runner is that of the run states; and the pool has reclaimed a handle, or refused to
@@ -55,7 +55,7 @@ module _ (x : Parts) (machine : IsManager x) (e : ℕ) (at : e ≡ x.kept.chain.
   after_reclaim = record x { ram = ram; kept = record x.kept { pages = pages; pool = pool } }
 
   abbrev guards : List (Bool × Refusal)
-  guards = reclaim_guards (own_rights_of s) s.runner flags (transaction_of s h)
+  guards = reclaim_guards (ownership_of s) s.runner flags (transaction_of s h)
 
   -- the pages that the handle's transaction names, as the pool sees them
   abbrev named : ℕ → Bool
@@ -147,7 +147,7 @@ module _ (x : Parts) (machine : IsManager x) (e : ℕ) (at : e ≡ x.kept.chain.
         (λ f p lt kept. ap (λ (z : State). access z f p) state-reclaimed ∙ reclaimed-kept s machine.sound f p lt h t was unheld (is_set 0 flags) (by-sender f p ∙ kept))
 
   -- the clauses of the pool's call
-  module _ (r : Result Done ErrorCode) (refusal : result_err r ≡ first_failure (reclaim_guards (own_rights_in x.kept.pages x.kept.layout.base.0) e flags (finite.get (map_in x.kept.pool.slots) h)))
+  module _ (r : Result Done ErrorCode) (refusal : result_err r ≡ first_failure (reclaim_guards (ownership_in x.kept.pages x.kept.layout.base.0) e flags (finite.get (map_in x.kept.pool.slots) h)))
       (kept : OnErr r (pool ≡ x.kept.pool)) (kept_pages : OnErr r (pages ≡ x.kept.pages)) (kept_ram : OnErr r (ram ≡ x.ram))
       (nothing : IfOk r (λ (d : Done). d.value ≡ Nothing))
       (slot : OnOk r (IsClosed x.kept.pool pool h)) (open_transactions : OnOk r (open_in pool ≡ closed (open_in x.kept.pool) h))
@@ -172,9 +172,9 @@ module _ (x : Parts) (machine : IsManager x) (e : ℕ) (at : e ≡ x.kept.chain.
     refuses : result_err r ≡ first_failure guards
     refuses =
         refusal
-        ∙ ap (λ (b : ℕ). first_failure (reclaim_guards (own_rights_in x.kept.pages b) e flags (transaction_of s h))) machine.layout.base
-        ∙ ap (λ (b : OwnRights). first_failure (reclaim_guards b e flags (transaction_of s h))) (own_rights-are x machine)
-        ∙ ap (λ (f : ℕ). first_failure (reclaim_guards (own_rights_of s) f flags (transaction_of s h))) at
+        ∙ ap (λ (b : ℕ). first_failure (reclaim_guards (ownership_in x.kept.pages b) e flags (transaction_of s h))) machine.layout.base
+        ∙ ap (λ (b : Ownership). first_failure (reclaim_guards b e flags (transaction_of s h))) (ownership-is x machine)
+        ∙ ap (λ (f : ℕ). first_failure (reclaim_guards (ownership_of s) f flags (transaction_of s h))) at
 
     pub reclaim-served : replied (state_of after_reclaim) (value_or_error r) ≡ served s (memory_reclaim s h flags)
     reclaim-served =

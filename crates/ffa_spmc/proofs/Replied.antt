@@ -7,7 +7,9 @@ use Rattle.std.specs.Result.{result_ok}
 use Rattle.std.proofs.lemmas.Bool.{true≢false}
 use Rattle.ffa_laws.proofs.Kept.{is_memory_call}
 use Rattle.ffa_model.specs.declared.call.Call as calls
+use Rattle.ffa_model.specs.declared.call.DirectMessage.{DirectMessage}
 use Rattle.ffa_model.specs.declared.call.Reply.{Reply}
+use Rattle.ffa_model.specs.declared.call.Reply.TheVariants.{Passed}
 use Rattle.ffa_model.specs.declared.operation.ErrorCode.{ErrorCode}
 use Rattle.ffa_model.specs.Access.{access}
 use Rattle.ffa_model.specs.Calls.{Service, Stepped, replied, served, success}
@@ -27,7 +29,7 @@ use Rattle.ffa_spmc.specs.declared.answer.Answer.{Answer}
 use Rattle.ffa_spmc.specs.AccessChange.{IsAccessChange}
 use Rattle.ffa_spmc.specs.Managed.{Managed}
 use Rattle.ffa_spmc.specs.Meaning.{Parts, state_of}
-use Rattle.ffa_spmc.specs.Replies.{done_or_error, reply_of, reply_or_error, value_or_error, value_reply}
+use Rattle.ffa_spmc.specs.Replies.{done_or_error, message_or_error, reply_of, reply_or_error, value_or_error, value_reply}
 use Rattle.ffa_spmc.specs.Served.{IsAnswered, IsReplied, IsTold}
 use Rattle.ffa_spmc.specs.Moments.{AreMoments}
 use Rattle.ffa_spmc.specs.Unowned.{KeepsUnowned}
@@ -55,6 +57,11 @@ refused-value r reply is kept = refused-told (λ (done : Done). value_reply done
 
 pub refused-done : {X P : Type 0} (r : Result X ErrorCode) (reply : Reply) → reply ≡ done_or_error r → OnErr r P → is_error reply ≡ true → P
 refused-done r reply is kept = refused-told (λ done. success 0 0) r reply is (λ done. refl) kept
+
+pub refused-message : {P : Type 0} {X : Type 0} (message : DirectMessage) (r : Result X ErrorCode) (reply : Reply) → reply ≡ message_or_error message r
+    → is_error (Passed message) ≡ false → OnErr r P → is_error reply ≡ true → P
+refused-message message (Ok done) reply is plain kept error = absurd (true≢false (sym error ∙ ap is_error is ∙ plain))
+refused-message message (Err code) reply is plain kept error = kept
 
 pub refused-replied : {P : Type 0} (r : Result Reply ErrorCode) (reply told : Reply) → reply ≡ reply_or_error r → IfOk r (λ y. y ≡ told)
     → is_error told ≡ false → OnErr r P → is_error reply ≡ true → P

@@ -1,14 +1,13 @@
 -- SPDX-License-Identifier: MIT OR Apache-2.0
 -- FFA_MEM_RETRIEVE_REQ changes the state as the small machine's.
 use Rattle.std.proofs.Common.{◌≡◌, ◌∙◌, ℕ, ◌<◌, Bool, true, false, List, length, take, Option, Some, None, Result, Ok, Err, refl, sym, ap, subst, inl}
-use Rattle.std.specs.Prelude.{◌==◌, ◌&&◌, is_none, IfOk, OnOk, OnErr}
+use Rattle.std.specs.Prelude.{◌==◌, ◌&&◌, is_none, IfOk, OnOk, OnErr, ◌++◌}
 use Rattle.std.specs.Option.{option_map, option_map_or}
 use Rattle.std.specs.Result.{result_err, result_ok}
 use Rattle.std.proofs.lemmas.Bool.{false≢true}
 use Rattle.std.proofs.lemmas.Option.{same_Some}
-use Rattle.arrayvec.specs.ArrayVec.{array_vec_len}
 use Rattle.ffa_model.specs.declared.refusal.Refusal.{Refusal}
-use Rattle.ffa_model.specs.MemorySend.{after_transfer}
+use Rattle.ffa_model.specs.MemorySend.{transfer_guards}
 use Rattle.ffa_model.specs.declared.endpoint.Version.{Version}
 use Rattle.ffa_memshare.specs.declared.descriptor_call.DescriptorCall.{DescriptorCall}
 use Rattle.ffa_model.specs.DescriptorPlaces.{Versioned, in_version}
@@ -20,7 +19,7 @@ use Rattle.ffa_model.specs.declared.operation.ErrorCode.{ErrorCode}
 use Rattle.ffa_model.specs.declared.rights.Kind.{Kind}
 use Rattle.ffa_model.specs.declared.rights.Kind.TheVariants.{Share, Lend, Donate}
 use Rattle.ffa_model.specs.declared.rights.Rights.{Rights}
-use Rattle.ffa_model.specs.Access.{access, held_by, is_receiver, names}
+use Rattle.ffa_model.specs.Access.{access, held_by, is_receiver, names, ownership_of}
 use Rattle.ffa_model.specs.Buffers.{buffers_in, buffers_with_rx, filled, is_full}
 use Rattle.ffa_model.specs.Calls.{first_failure, replied, served}
 use Rattle.ffa_model.specs.Identifiers.{identifier, place}
@@ -32,17 +31,16 @@ use Rattle.ffa_model.specs.Rights.{is_at_most, is_donate}
 use Rattle.ffa_model.specs.SoundState.{IsKnown, IsSoundState}
 use Rattle.ffa_model.specs.State.{State, Transaction, Buffers, is_known, transaction_of, version_of}
 use Rattle.ffa_model.specs.declared.call.Transfer.{Transfer}
-use Rattle.ffa_model.specs.Transactions.{own_rights_of, ceiling, scene_of}
+use Rattle.ffa_model.specs.Transactions.{ceiling, scene_of}
 use Rattle.ffa_model.proofs.CallAccesses.{access-filled, runner-known}
 use Rattle.ffa_model.proofs.Guards.{guard-passes}
 use Rattle.ffa_model.proofs.KeptCalls.{taken-sound}
 use Rattle.ffa_laws.proofs.SoundOperations.{call-sound}
 use Rattle.ffa_pages.specs.Entry.{Entry}
-use Rattle.ffa_rxtx.specs.Parts.{candidates_in, with_rx_bytes}
+use Rattle.ffa_rxtx.specs.Parts.{with_rx_bytes, ownership_in}
 use Rattle.ffa_memshare.specs.declared.changed.Done.{Done}
 use Rattle.ffa_memshare.specs.Changes.{IsMoved}
 use Rattle.ffa_memshare.specs.Grants.{with_rights}
-use Rattle.ffa_memshare.specs.Named.{own_rights_in}
 use Rattle.ffa_memshare.specs.Ranges.{in_ranges}
 use Rattle.ffa_memshare.specs.Retrieved.{IsPassedOn, IsRetrieved, IsTaken}
 use Rattle.ffa_memshare.specs.Scenes.{descriptor_in, scene_in}
@@ -53,7 +51,6 @@ use Rattle.ffa_spmc.specs.Meaning.{AreOpenTransactions, HasTables, IsManager, Is
 use Rattle.ffa_spmc.specs.Replies.{value_or_error, value_reply}
 use Rattle.ffa_spmc.specs.Unowned.{KeepsUnowned}
 use Rattle.ffa_spmc.proofs.Answered.{answered-by, passed-state, refused-so}
-use Rattle.ffa_spmc.proofs.Candidates.{candidates-are}
 use Rattle.ffa_spmc.proofs.Closes.{open-closed, open-reheld}
 use Rattle.ffa_spmc.proofs.Donations.{owners-passed, pages-passed}
 use Rattle.ffa_spmc.proofs.Fills.{runner-there, state-filled, tables-filled, after_fill}
@@ -61,7 +58,7 @@ use Rattle.ffa_spmc.proofs.Granted.{donate-granted, retrieve-granted}
 use Rattle.ffa_spmc.proofs.Held.{parties_are}
 use Rattle.ffa_spmc.proofs.AccessChanges.{access-changed, none-changed, retrieved-kept, retrieved-new}
 use Rattle.ffa_spmc.proofs.Moves.{of-manifest, same-owners, slot-given, tables-moved}
-use Rattle.ffa_spmc.proofs.Pools.{own_rights-are, open-slot, slot-open}
+use Rattle.ffa_spmc.proofs.Pools.{ownership-is, open-slot, slot-open}
 use Rattle.ffa_spmc.proofs.Sends.{sent-is}
 use Rattle.ffa_spmc.proofs.Unowned.{open-entered, unowned-filled, unowned-moved, unowned-same, unowned-then}
 use Rattle.ffa_spmc.proofs.MemoryParts.{memory_parts_in}
@@ -70,8 +67,7 @@ use Rattle.ffa_spmc.proofs.MemoryParts.{memory_parts_in}
 pub scene-is : (x : Parts) → IsManager x → scene_in (memory_parts_in x) ≡ scene_of (state_of x)
 scene-is x machine = λ i. record {
   endpoints = (machine.layout.endpoints ∙ sym (parties_are x)) i;
-  ram = (ap (candidates_in x.kept.pages) machine.layout.base ∙ sym (candidates-are x machine)) i;
-  own_rights = (ap (own_rights_in x.kept.pages) machine.layout.base ∙ own_rights-are x machine) i;
+  ram = (ap (ownership_in x.kept.pages) machine.layout.base ∙ ownership-is x machine) i;
   buffers = x.kept.buffers;
   open_transactions = open_in x.kept.pool;
 }
@@ -120,24 +116,24 @@ module _ (x : Parts) (machine : IsManager x) (e : EndpointId) (at : e.0 ≡ x.ke
     was : transaction_of s d.handle ≡ Some t
     was = done.was
 
-    right-is : right ≡ right_for (own_rights_of s) t s.runner d
-    right-is = done.is ∙ (λ i. right_for ((ap (own_rights_in x.kept.pages) machine.layout.base ∙ own_rights-are x machine) i) t (at i) d)
+    right-is : right ≡ right_for (ownership_of s) t s.runner d
+    right-is = done.is ∙ (λ i. right_for ((ap (ownership_in x.kept.pages) machine.layout.base ∙ ownership-is x machine) i) t (at i) d)
 
     -- the checks have passed
     abbrev checked : List (Bool × Refusal)
-    checked = after_transfer s.buffers s.runner registers (holding_guards (own_rights_of s) (is_full (buffers_in s.buffers s.runner)) s.runner d (Some t))
+    checked = transfer_guards s.buffers s.runner registers ++ (holding_guards (ownership_of s) (is_full (buffers_in s.buffers s.runner)) s.runner d (Some t))
 
     passes : None ≡ first_failure checked
     passes =
         none
         ∙ ap (λ o. first_failure (retrieve_guards (scene_of s) s.runner registers o)) read
-        ∙ ap (λ o. first_failure (after_transfer s.buffers s.runner registers (holding_guards (own_rights_of s) (is_full (buffers_in s.buffers s.runner)) s.runner d o))) was
+        ∙ ap (λ o. first_failure (transfer_guards s.buffers s.runner registers ++ (holding_guards (ownership_of s) (is_full (buffers_in s.buffers s.runner)) s.runner d o))) was
 
     receiver : is_receiver s.runner t ≡ true
     receiver = guard-passes checked 5 passes
 
-    within : is_at_most right (ceiling (own_rights_of s) t s.runner) ≡ true
-    within = ap (λ (r : Rights). is_at_most r (ceiling (own_rights_of s) t s.runner)) right-is ∙ guard-passes checked 10 passes
+    within : is_at_most right (ceiling (ownership_of s) t s.runner) ≡ true
+    within = ap (λ (r : Rights). is_at_most r (ceiling (ownership_of s) t s.runner)) right-is ∙ guard-passes checked 10 passes
 
     known : IsKnown s s.runner
     known = runner-known s machine.sound
@@ -266,7 +262,7 @@ module _ (x : Parts) (machine : IsManager x) (e : EndpointId) (at : e.0 ≡ x.ke
         (λ f p lt its. inl (retrieved-new s machine.sound f p lt d.handle t was s.runner unheld other (by-runner f p ∙ its)))
         (λ f p lt kept.
         ap (λ (z : State). access z f p) (state-retrieved ∙ ap (retrieved s) read ∙ ap (retrieved_from s d) was)
-        ∙ retrieved-kept s machine.sound f p lt d.handle t was s.runner (right_for (own_rights_of s) t s.runner d) (by-runner f p ∙ kept))
+        ∙ retrieved-kept s machine.sound f p lt d.handle t was s.runner (right_for (ownership_of s) t s.runner d) (by-runner f p ∙ kept))
       where
         none-of : (o : Option Rights) → is_none o ≡ true → o ≡ None
         none-of None is = refl

@@ -4,7 +4,9 @@ use Rattle.std.proofs.Common.{◌≡◌, ◌∙◌, ℕ, true, false, List, Opti
 use Rattle.std.proofs.lemmas.Bool.{false≢true}
 use Rattle.std.specs.Prelude.{IfOk, OnOk, OnErr}
 use Rattle.std.specs.Result.{result_err}
+use Rattle.ffa_model.specs.declared.call.DirectMessage.{DirectMessage}
 use Rattle.ffa_model.specs.declared.call.Reply.{Reply}
+use Rattle.ffa_model.specs.declared.call.Reply.TheVariants.{Passed}
 use Rattle.ffa_model.specs.declared.operation.ErrorCode.{ErrorCode}
 use Rattle.ffa_model.specs.declared.schedule.Status.{Status}
 use Rattle.ffa_model.specs.declared.schedule.Status.TheVariants.{Waiting, Running, Blocked, Yielded}
@@ -15,8 +17,8 @@ use Rattle.ffa_model.specs.Buffers.{buffers_with_rx}
 use Rattle.ffa_model.specs.Refusals.{is_error}
 use Rattle.ffa_model.specs.State.{State, Buffers}
 use Rattle.ffa_spmc.specs.Meaning.{Parts, state_of}
-use Rattle.ffa_spmc.specs.Replies.{reply_or_error}
-use Rattle.ffa_spmc.proofs.Answered.{answered-by, done-so, passed-state, refused-so}
+use Rattle.ffa_spmc.specs.Replies.{message_or_error, reply_of, reply_or_error}
+use Rattle.ffa_spmc.proofs.Answered.{always-replies, answered-by, done-so, passed-state, refused-so}
 
 module _ (x : Parts) where
   abbrev s : State
@@ -30,15 +32,27 @@ module _ (x : Parts) where
   unfolding first
   with_chain-is c = refl
 
-  -- a call that either keeps the run states or leaves these
-  pub scheduled : (c : Service) (changed new : Schedule) (r : Result Reply ErrorCode) → c.state ≡ with_schedule s changed
-      → result_err r ≡ first_failure c.guards → OnErr r (new ≡ x.kept.chain) → OnOk r (new ≡ changed) → IfOk r (λ reply. reply ≡ c.reply)
-      → replied (with_chain new) (reply_or_error r) ≡ served s c
-  scheduled c changed new r leaves refusal same done replies =
-      answered-by s (with_chain new) c r (λ reply. reply) refusal
+  -- a call that either keeps the run states or leaves these, where `told` is the reply to what is done
+  pub scheduled-by : {X : Type 0} (told : X → Reply) (c : Service) (changed new : Schedule) (r : Result X ErrorCode) → c.state ≡ with_schedule s changed
+      → result_err r ≡ first_failure c.guards → OnErr r (new ≡ x.kept.chain) → OnOk r (new ≡ changed) → IfOk r (λ done. told done ≡ c.reply)
+      → replied (with_chain new) (reply_of told r) ≡ served s c
+  scheduled-by told c changed new r leaves refusal same done replies =
+      answered-by s (with_chain new) c r told refusal
       (refused-so r (λ is. ap with_chain is) same)
       (done-so r (λ none is. ap with_chain is ∙ with_chain-is changed ∙ sym leaves) done)
       replies
+
+  pub scheduled : (c : Service) (changed new : Schedule) (r : Result Reply ErrorCode) → c.state ≡ with_schedule s changed
+      → result_err r ≡ first_failure c.guards → OnErr r (new ≡ x.kept.chain) → OnOk r (new ≡ changed) → IfOk r (λ reply. reply ≡ c.reply)
+      → replied (with_chain new) (reply_or_error r) ≡ served s c
+  scheduled = scheduled-by (λ reply. reply)
+
+  -- of a direct message, which is the reply where it is passed on
+  pub scheduled-message : {X : Type 0} (message : DirectMessage) (c : Service) (changed new : Schedule) (r : Result X ErrorCode) → c.reply ≡ Passed message
+      → c.state ≡ with_schedule s changed → result_err r ≡ first_failure c.guards → OnErr r (new ≡ x.kept.chain) → OnOk r (new ≡ changed)
+      → replied (with_chain new) (message_or_error message r) ≡ served s c
+  scheduled-message message c changed new r passes leaves refusal same done =
+      scheduled-by (λ its. Passed message) c changed new r leaves refusal same done (always-replies r (sym passes))
 
   -- FFA_MSG_WAIT that is done also leaves another RX
   pub waited : (e : ℕ) → e ≡ x.kept.chain.runner → (r : Result Reply ErrorCode) (new : Schedule) (list : List (Option Buffers)) → is_ok r ≡ true

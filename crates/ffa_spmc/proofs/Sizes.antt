@@ -14,7 +14,7 @@ use Rattle.ffa_model.specs.declared.rights.Kind.{Kind}
 use Rattle.ffa_model.specs.declared.rights.Kind.TheVariants.{Share, Lend, Donate}
 use Rattle.ffa_model.specs.declared.rights.Rights.{Rights}
 use Rattle.ffa_model.specs.declared.transaction.Range.{Range}
-use Rattle.ffa_model.specs.Access.{names}
+use Rattle.ffa_model.specs.Access.{names, ownership_of}
 use Rattle.ffa_model.specs.Bits.{is_set}
 use Rattle.ffa_model.specs.Buffers.{filled, filled_pages}
 use Rattle.ffa_model.specs.Manifest.{table_pages}
@@ -30,7 +30,7 @@ use Rattle.ffa_model.specs.SendDescriptor.{SendRecord}
 use Rattle.ffa_model.specs.Setup.{info_bytes, is_count_alone, uuid_bytes}
 use Rattle.ffa_model.specs.State.{State, Buffers, Page, Transaction, buffers_of, transaction_of, version_of}
 use Rattle.ffa_model.specs.Step.{service, step}
-use Rattle.ffa_model.specs.Transactions.{own_rights_of, closed, not_holding, open_of, with_open, with_transaction}
+use Rattle.ffa_model.specs.Transactions.{closed, not_holding, open_of, with_open, with_transaction}
 use Rattle.ffa_model.proofs.Accesses.{length-map_at}
 use Rattle.ffa_laws.proofs.Form.{accessed-kept, served-kept}
 use Rattle.ffa_spmc.specs.Unowned.{pages_of_tables}
@@ -67,7 +67,7 @@ retrieved-sizes s (Some d) = of (transaction_of s d.handle)
     of : (o : Option Transaction) → sizes (retrieved_from s d o) ≡ sizes s
     of None = refl
     of (Some t) =
-        let right : Rights = right_for (own_rights_of s) t s.runner d in
+        let right : Rights = right_for (ownership_of s) t s.runner d in
         let before : State = with_retrieved s d.handle t s.runner right in
         of-pages s _
         (filled-size before.pages (response_bytes (version_of s s.runner) (response_to d.handle t s.runner right)) (buffers_of before s.runner)

@@ -2,8 +2,9 @@
 -- FOR PROOFS ALONE
 -- What the runner sees of a call that a part of the machine has done or refused.
 use Rattle.std.specs.Prelude.{Option, Some, None, Result, Ok, Err}
+use Rattle.ffa_model.specs.declared.call.DirectMessage.{DirectMessage}
 use Rattle.ffa_model.specs.declared.call.Reply.{Reply}
-use Rattle.ffa_model.specs.declared.call.Reply.TheVariants.{Error, Retrieved}
+use Rattle.ffa_model.specs.declared.call.Reply.TheVariants.{Error, Passed, Retrieved}
 use Rattle.ffa_model.specs.declared.operation.ErrorCode.{ErrorCode}
 use Rattle.ffa_model.specs.declared.operation.FaultKind.{FaultKind}
 use Rattle.ffa_model.specs.declared.operation.Outcome.{Outcome}
@@ -24,6 +25,10 @@ done_or_error r = reply_of (λ done. success 0 0) r
 
 abbrev pub reply_or_error : Result Reply ErrorCode → Reply
 reply_or_error r = reply_of (λ reply. reply) r
+
+-- of a direct message that is passed on
+abbrev pub message_or_error : {X : Type 0} → DirectMessage → Result X ErrorCode → Reply
+message_or_error message r = reply_of (λ done. Passed message) r
 
 -- of a call on memory: nothing more, the handle of what was sent, or the length of what RX holds then
 abbrev pub value_reply : Value → Reply

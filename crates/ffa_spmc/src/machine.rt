@@ -350,9 +350,9 @@ impl<M: PhysMem + Drop, T: Translations + Drop, S: Store> Machine<M, T, S> {
         ensures silence { Silence self.old.state op.now }
 
         // From another state in which the runner can read the same, the operation has the same outcome, and the runner
-        // can read the same after it, if the same is revealed to it; or if the operation neither retrieves nor reclaims
-        // and in that state, too, nobody is offered what it sent itself. What another endpoint can read changes by what
-        // it is told readably alone. Events tell more: bytes too that it can't read.
+        // can read the same after it, if the same is revealed to it; or if the operation neither retrieves nor reclaims.
+        // What another endpoint can read changes by what it is told readably alone. Events tell more: bytes too that it
+        // can't read.
         ensures confidential { Confidential self.old.state op.now }
 
         // Rights don't grow, and nobody's access changes but the runner's. A page's bytes change only where the runner
@@ -439,8 +439,8 @@ impl<M: PhysMem + Drop, T: Translations + Drop, S: Store> Machine<M, T, S> {
         ensures replays { Replays self.old.state ops.now }
         ensures shown { (e : ℕ) → shown_to e self.old.state.runner filled.new ≡ seen e self.old.state ops.now }
 
-        // So too from every state in which it can read the same, and nobody is offered what it sent itself, with every
-        // list of operations that reveals the same to it and tells it the same readably.
+        // So too from every state in which it can read the same, with every list of operations that reveals the same to
+        // it and tells it the same readably.
         ensures confidential { RunConfidential self.old.state ops.now }
 
         // No own right is above the one before, no access above the own right, and the manager's pages stay its own.

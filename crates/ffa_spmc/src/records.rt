@@ -23,7 +23,7 @@ impl Records {
         ensures { AreFirstRecords manifest.now result }
     {
         Records {
-            manifest: manifest.copied(),
+            manifest: manifest.copy(),
             layout: Layout::of(manifest),
             bitmaps: Bitmaps::of(manifest),
         }

@@ -2,9 +2,9 @@
 //! Replies to calls that a part of the machine has done or refused.
 ghost use Rattle.std.specs.Prelude.{◌≡◌};
 ghost use Rattle.ffa_model.specs.MemorySend.{handle_reply};
-ghost use Rattle.ffa_spmc.specs.Replies.{done_or_error, reply_or_error};
+ghost use Rattle.ffa_spmc.specs.Replies.{done_or_error, message_or_error, reply_or_error};
 
-use ffa_model::{ErrorCode, Handle, Reply};
+use ffa_model::{DirectMessage, ErrorCode, Handle, Reply};
 
 /// The reply to a call that answers no more than that it is done.
 pub(crate) const DONE: Reply = Reply::Success([0; 6]);
@@ -25,6 +25,17 @@ pub(crate) fn reply_or_error(answer: Result<Reply, ErrorCode>) -> Reply
 {
     match answer {
         Ok(reply) => reply,
+        Err(code) => Reply::Error(code),
+    }
+}
+
+// The reply to a direct message that was passed on, which is the message itself, or the code for which it was refused.
+#[inline(always)]
+pub(crate) fn message_or_error(message: &DirectMessage, answer: Result<(), ErrorCode>) -> Reply
+    ensures { result ≡ message_or_error message.now answer }
+{
+    match answer {
+        Ok(()) => Reply::Passed(*message),
         Err(code) => Reply::Error(code),
     }
 }

@@ -93,7 +93,11 @@ impl Storage {
 
 impl<A: Allocator + Copy + Drop> Storage<Given<A>> {
     /// Room for a machine of so many pages of RAM and so many endpoints, in memory of an allocator.
-    pub fn given(alloc: A, pages: usize, endpoints: usize) -> Result<Storage<Given<A>>, AllocError>
+    pub fn allocate(
+        alloc: A,
+        pages: usize,
+        endpoints: usize,
+    ) -> Result<Storage<Given<A>>, AllocError>
         requires pages { pages ≤ MOST_PAGES }
         requires endpoints { endpoints ≤ MOST_ENDPOINTS }
         ensures pages { IfOk result (λ storage. length storage.pages ≡ pages) }
@@ -108,10 +112,10 @@ impl<A: Allocator + Copy + Drop> Storage<Given<A>> {
     }
 
     /// Room for the machine of a manifest, in memory of an allocator.
-    pub fn given_for(alloc: A, manifest: &Manifest) -> Result<Storage<Given<A>>, AllocError>
+    pub fn allocate_for(alloc: A, manifest: &Manifest) -> Result<Storage<Given<A>>, AllocError>
         ensures { IfOk result (IsRoomFor manifest.now) }
     {
-        Storage::given(
+        Storage::allocate(
             alloc,
             512 * manifest.ram_blocks as usize,
             manifest.endpoints.len(),

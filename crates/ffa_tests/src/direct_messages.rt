@@ -4,7 +4,7 @@ ghost use Rattle.std.specs.Prelude.{◌≡◌, length};
 
 use crate::checks::{alike, same};
 use ffa_messages::{direct_req, direct_resp};
-use ffa_model::{DirectMessage, EndpointId, ErrorCode, Reply, Status, Work, row_machine};
+use ffa_model::{DirectMessage, EndpointId, ErrorCode, Status, Work, row_machine};
 use ffa_schedule::Chain;
 use std::test::Fail;
 
@@ -33,7 +33,7 @@ fn message(function: u32, sender: u16, receiver: u16, flags: u32) -> DirectMessa
 }
 
 // A request of the runner.
-fn ask(chain: &mut Chain, sender: u16, receiver: u16, flags: u32) -> Result<Reply, ErrorCode>
+fn ask(chain: &mut Chain, sender: u16, receiver: u16, flags: u32) -> Result<(), ErrorCode>
     requires { length chain.old.works ≡ 3 }
     ensures { length chain.new.works ≡ 3 }
 {
@@ -42,31 +42,18 @@ fn ask(chain: &mut Chain, sender: u16, receiver: u16, flags: u32) -> Result<Repl
 }
 
 // A response of the runner.
-fn answer(chain: &mut Chain, sender: u16, receiver: u16, flags: u32) -> Result<Reply, ErrorCode> {
+fn answer(chain: &mut Chain, sender: u16, receiver: u16, flags: u32) -> Result<(), ErrorCode> {
     direct_resp(chain, &message(RESPONSE, sender, receiver, flags))
-}
-
-// What the receiver of a message sees.
-fn passed(function: u32, sender: u16, receiver: u16) -> Result<Reply, ErrorCode> {
-    Ok(Reply::Passed(message(function, sender, receiver, 0)))
 }
 
 #[test]
 fn request_and_response(rt: HostRuntime) -> Result<(), Fail> {
     let mut chain = Chain::first(3);
-    alike(
-        &rt,
-        ask(&mut chain, 0, 0x8001, 0),
-        passed(REQUEST, 0, 0x8001),
-    );
+    alike(&rt, ask(&mut chain, 0, 0x8001, 0), Ok(()));
     same(&rt, chain.runner(), FIRST);
     same(&rt, chain.status(NORMAL), Status::Blocked);
     same(&rt, chain.work(FIRST), Some(Work::Request(NORMAL)));
-    alike(
-        &rt,
-        answer(&mut chain, 0x8001, 0, 0),
-        passed(RESPONSE, 0x8001, 0),
-    );
+    alike(&rt, answer(&mut chain, 0x8001, 0, 0), Ok(()));
     same(&rt, chain.runner(), NORMAL);
     same(&rt, chain.status(FIRST), Status::Waiting);
     same(&rt, chain.work(FIRST), None);
@@ -89,17 +76,9 @@ fn refused_requests(rt: HostRuntime) -> Result<(), Fail> {
         ask(&mut chain, 0, 0x8001, 1),
         Err(ErrorCode::InvalidParameters),
     );
-    alike(
-        &rt,
-        ask(&mut chain, 0, 0x8001, 0),
-        passed(REQUEST, 0, 0x8001),
-    );
+    alike(&rt, ask(&mut chain, 0, 0x8001, 0), Ok(()));
     alike(&rt, ask(&mut chain, 0x8001, 0, 0), Err(ErrorCode::Denied));
-    alike(
-        &rt,
-        ask(&mut chain, 0x8001, 0x8002, 0),
-        passed(REQUEST, 0x8001, 0x8002),
-    );
+    alike(&rt, ask(&mut chain, 0x8001, 0x8002, 0), Ok(()));
     alike(
         &rt,
         ask(&mut chain, 0x8002, 0x8001, 0),
@@ -114,11 +93,7 @@ fn refused_responses(rt: HostRuntime) -> Result<(), Fail> {
     let mut chain = Chain::first(3);
     alike(&rt, answer(&mut chain, 0, 0, 0), Err(ErrorCode::Denied));
     let mut chain = Chain::first(3);
-    alike(
-        &rt,
-        ask(&mut chain, 0, 0x8001, 0),
-        passed(REQUEST, 0, 0x8001),
-    );
+    alike(&rt, ask(&mut chain, 0, 0x8001, 0), Ok(()));
     for (sender, receiver) in [(0x8001, 0x8002), (0x8002, 0), (0, 0x8001)] {
         alike(
             &rt,

@@ -42,13 +42,13 @@ pub fn make_text<P: Playable, A: Allocator + Copy>(
     match line {
         Line::Nothing => Ok(()),
         Line::Operation(_) | Line::Show | Line::Audit => {
-            put_spoken(player, alloc, form, number, line, text)
+            put_words(player, alloc, form, number, line, text)
         }
     }
 }
 
 // Does a line that says something, and puts its text behind what stands there, from its number on.
-fn put_spoken<P: Playable, A: Allocator + Copy>(
+fn put_words<P: Playable, A: Allocator + Copy>(
     player: &mut Player<P>,
     alloc: A,
     form: Form,
@@ -115,7 +115,7 @@ pub(crate) fn make_texts<P: Playable, A: Allocator + Copy>(
     }
 }
 
-// As `put_spoken`, with the plain text in `said`.
+// As `put_words`, with the plain text in `said`.
 fn put_both<P: Playable, A: Allocator + Copy>(
     player: &mut Player<P>,
     alloc: A,

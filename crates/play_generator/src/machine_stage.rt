@@ -53,7 +53,7 @@ impl<A: Allocator + Copy> MachineStage<A> {
     pub fn new(alloc: A, manifest: &Manifest) -> Result<MachineStage<A>, NoMemory> {
         let (base, pages) = (manifest.ram_base, 512 * manifest.ram_blocks);
         let ram = FlatRam::new_in(alloc, base, pages)?;
-        let Ok(storage) = Storage::given_for(alloc, manifest) else {
+        let Ok(storage) = Storage::allocate_for(alloc, manifest) else {
             return Err(NoMemory);
         };
         Ok(MachineStage {

@@ -11,12 +11,13 @@ use Rattle.ffa_model.specs.declared.refusal.Refusal.{Refusal}
 use Rattle.ffa_model.specs.declared.rights.Kind.TheVariants.{Share, Lend, Donate}
 use Rattle.ffa_model.specs.MemoryRetrieve.{holding_guards, retrieve_guards, retrieve_read}
 use Rattle.ffa_model.specs.MemoryReturn.{relinquish_guards, relinquish_read}
-use Rattle.ffa_model.specs.MemorySend.{after_transfer, send_guards, send_read}
+use Rattle.ffa_model.specs.MemorySend.{send_guards, send_read, transfer_guards}
 use Rattle.ffa_model.specs.Buffers.{buffers_in, is_full}
 use Rattle.ffa_model.specs.SendDescriptor.{SendRecord}
 use Rattle.ffa_model.specs.State.{State, Buffers, Transaction, buffers_of}
 use Rattle.ffa_model.specs.Transactions.{OpenTransactions, Scene, open_of, scene_of}
 use Rattle.play_reasons.specs.Checks.{AreListed, made, relinquish_checks, retrieve_checks, send_checks}
+use Rattle.std.specs.Prelude.{◌++◌}
 
 abbrev AreMade : List (Bool × Refusal) → List Refusal → Type 0
 AreMade guards all = (read : ℕ) × (map (λ guard. guard.1) guards ≡ made read all)
@@ -27,7 +28,7 @@ send_listed c e x (Some r) = (1, refl)
 
 -- of the transaction that the handle names
 abbrev holding_listed : (c : Scene) (e : ℕ) (x : Transfer) (d : RetrieveDesc) (full : Bool) (t : Option Transaction)
-    → AreMade (after_transfer c.buffers e x (holding_guards c.own_rights full e d t)) retrieve_checks
+    → AreMade (transfer_guards c.buffers e x ++ holding_guards c.ram full e d t) retrieve_checks
 holding_listed c e x d full None = (1, refl)
 holding_listed c e x d full (Some t) = (2, refl)
 

@@ -148,11 +148,11 @@ impl<'m, S: Stage + Drop> Generator<'m, S> {
         let kind = self.dice.kind();
         match self.dice.pick(&SEND_FLAWS) {
             SendFlaw::NoBuffers => self.call_without_buffers(function_of(kind), &[96, 96]),
-            flaw => self.send_turned(kind, flaw),
+            flaw => self.send_with_flaw(kind, flaw),
         }
     }
 
-    fn send_turned(&mut self, kind: Kind, flaw: SendFlaw) {
+    fn send_with_flaw(&mut self, kind: Kind, flaw: SendFlaw) {
         if let Some(buffers) = self.need_buffers() {
             let mut choice = self.choose(kind, 2);
             match flaw {

@@ -48,7 +48,7 @@ fn buffer<A: Allocator, R: Read + Drop>(
 }
 
 /// Plays a trace, and prints its text in a form.
-pub(crate) fn play_formed<'a, A: Allocator + Copy, P: Playable, R: Read + Drop, W: Write>(
+pub(crate) fn play_in_form<'a, A: Allocator + Copy, P: Playable, R: Read + Drop, W: Write>(
     player: &mut Player<P>,
     alloc: A,
     form: Form,

@@ -2,7 +2,7 @@
 //! What becomes of the text of a trace.
 ghost use Rattle.play_tasks.specs.Plays.{Plays, PrintsIn, form_of, streams_of};
 
-use crate::playing::{compare, draw, play_formed, play_guarded, play_plainly};
+use crate::playing::{compare, draw, play_guarded, play_in_form, play_plainly};
 use ffa_playable::Playable;
 use play_arguments::TextOptions;
 use play_drawing::Keep;
@@ -70,7 +70,7 @@ pub fn do_task<'a, A: Allocator + Copy, P: Playable, R: Read + Drop, W: Write>(
 {
     match task {
         Task::Plain => play_plainly(player, alloc, trace, out),
-        Task::Formed(form) => play_formed(player, alloc, form, trace, out),
+        Task::Formed(form) => play_in_form(player, alloc, form, trace, out),
         Task::Guarded(form) => play_guarded(player, alloc, form, trace, out, told),
         Task::Compare { expected, explain } => {
             compare(player, alloc, expected, explain, trace, out)

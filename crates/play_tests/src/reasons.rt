@@ -141,7 +141,7 @@ fn by_what_a_share_is_accessed(rt: HostRuntime) -> Result<(), Fail> {
     for row in GRANTS.lines() {
         let (endpoint, wanted) = row.split_once(' ').ok_or("no grant")?;
         let endpoint = EndpointId(u16::from_str_radix(endpoint, 16)?);
-        let grant = player.machine().granted(endpoint, PageNo(0x28));
+        let grant = player.machine().grant_of(endpoint, PageNo(0x28));
         let printed = printed::grant(rt.alloc(), grant)?;
         same_at(&rt, printed.as_str(), wanted, &row);
     }

@@ -142,7 +142,7 @@ fn loads_what_came_with_ram(rt: HostRuntime) -> Result<(), Fail> {
     let frames = FrameRam::new(rt.alloc(), manifest.ram_base, 512 * manifest.ram_blocks)?;
     let framed = Machine::boot_held(&manifest, marked(frames, &manifest)?, four_in_turn());
     goes_on(&rt, rt.alloc(), &mut Player::new(framed), ROW)?;
-    let storage: Storage<Given<Global>> = Storage::given_for(rt.alloc(), &manifest)?;
+    let storage: Storage<Given<Global>> = Storage::allocate_for(rt.alloc(), &manifest)?;
     let ram = marked_flat(rt.alloc(), &manifest)?;
     let roomed = Machine::boot_held_in(storage, &manifest, ram, NoTlb);
     goes_on(&rt, rt.alloc(), &mut Player::new(roomed), ROW)

@@ -197,7 +197,7 @@ fn places_of_refusal(
 // Room for the rows' machine over a heap of this size: whether it came. Where it didn't, nothing of the heap is used.
 fn has_room(rt: &impl Abort, alloc: Global, size: usize) -> Result<bool, Fail> {
     let heap = LocalHeap::new(alloc, size)?;
-    match Storage::given_for(&heap, &row_machine()) {
+    match Storage::allocate_for(&heap, &row_machine()) {
         Ok(_storage) => Ok(true),
         Err(AllocError) => {
             holds(rt, heap.used() == 0);

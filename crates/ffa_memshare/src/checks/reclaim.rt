@@ -1,11 +1,11 @@
 // SPDX-License-Identifier: MIT OR Apache-2.0
 //! The checks of FFA_MEM_RECLAIM: whether a sender may end its transaction.
+ghost use Rattle.ffa_rxtx.specs.Parts.{ownership_in};
 ghost use Rattle.std.specs.Prelude.{◌≡◌, ◌≤◌, ◌==◌, ℕ, length, Some, IfOk};
 ghost use Rattle.std.specs.Result.{result_err};
 ghost use Rattle.ffa_model.specs.Calls.{first_refusal};
 ghost use Rattle.ffa_model.specs.MemoryReturn.{is_unheld, reclaim_guards};
 ghost use Rattle.ffa_model.specs.State.{Transaction};
-ghost use Rattle.ffa_memshare.specs.Named.{own_rights_in};
 ghost use Rattle.ffa_memshare.specs.Ranges.{ArePlaced};
 ghost use Rattle.ffa_memshare.specs.Shared.{AreRangesInRam};
 ghost use Rattle.ffa_memshare.specs.Stored.{pool_slot, transaction_in};
@@ -33,9 +33,9 @@ impl<O: Room<OpenSlot> + Drop> Pool<O> {
         flags: u32,
     ) -> Result<FoundReturn, Refusal>
         requires { AreRangesInRam self.now.slots base.0 (length pages.now) }
-        ensures refusal { let own_rights = own_rights_in pages.now base.0 in
+        ensures refusal { let owners = ownership_in pages.now base.0 in
             let transaction = transaction_in self.now.slots handle.0 in
-            result_err result ≡ first_refusal (reclaim_guards own_rights caller.0 flags transaction) }
+            result_err result ≡ first_refusal (reclaim_guards owners caller.0 flags transaction) }
         ensures slot { let slots = self.now.slots in
             IfOk result (λ found. (t : Transaction) × (pool_slot slots found.slot ≡ Some (handle.0, t))) }
         ensures zero { IfOk result (λ found. found.zero ≡ (flags == 1)) }
@@ -68,8 +68,8 @@ impl OpenTransaction {
     ) -> Result<(), Refusal>
         requires placed { ArePlaced base.0 (length pages.now) self.now.ranges }
         requires flags { flags ≤ 1 }
-        ensures { let own_rights = own_rights_in pages.now base.0 in let transaction = Some (view_of self.now) in
-            result_err result ≡ first_refusal (reclaim_guards own_rights caller.0 flags transaction) }
+        ensures { let owners = ownership_in pages.now base.0 in let transaction = Some (view_of self.now) in
+            result_err result ≡ first_refusal (reclaim_guards owners caller.0 flags transaction) }
     {
         if self.sender != caller {
             return Err(Refusal::NotTheSenders);

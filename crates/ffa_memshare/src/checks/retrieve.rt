@@ -1,5 +1,6 @@
 // SPDX-License-Identifier: MIT OR Apache-2.0
 //! The checks of FFA_MEM_RETRIEVE_REQ: what a receiver asks for, and the most that it may hold.
+ghost use Rattle.ffa_rxtx.specs.Parts.{ownership_in};
 ghost use Rattle.std.specs.Prelude.{◌≡◌, ℕ, length, true, is_some, OnOk, IfOk, IfSome, Some};
 ghost use Rattle.std.specs.Result.{result_err};
 ghost use Rattle.ffa_model.specs.Access.{is_receiver};
@@ -13,7 +14,6 @@ ghost use Rattle.ffa_rxtx.specs.Stored.{buffers_of};
 ghost use Rattle.ffa_memshare.specs.Callers.{IsCaller};
 ghost use Rattle.ffa_memshare.specs.Found.{IsAskedFor};
 ghost use Rattle.ffa_memshare.specs.Memory.{memory_of, memory_parts};
-ghost use Rattle.ffa_memshare.specs.Named.{own_rights_in};
 ghost use Rattle.ffa_memshare.specs.Ranges.{ArePlaced};
 ghost use Rattle.ffa_memshare.specs.Scenes.{descriptor_in, scene_in};
 ghost use Rattle.ffa_memshare.specs.Shared.{AreRangesInRam};
@@ -52,9 +52,9 @@ impl<O: Room<OpenSlot> + Drop> Pool<O> {
             let asked = retrieve_of caller.0 (descriptor_in (M.ram ram.now) buffers.now caller.0 call.now) in
             result_err result ≡ first_refusal (retrieve_guards (scene_in parts) caller.0 call.now.transfer asked) }
         ensures own { IfOk result (λ found. Some (buffers_of found.own) ≡ buffers_in buffers.now caller.0) }
-        ensures found { let own_rights = own_rights_in pages.now layout.now.base.0 in
+        ensures found { let owners = ownership_in pages.now layout.now.base.0 in
             let bytes = descriptor_in (M.ram ram.now) buffers.now caller.0 call.now in
-            IfOk result (IsAskedFor self.now.slots own_rights caller.0 bytes) }
+            IfOk result (IsAskedFor self.now.slots owners caller.0 bytes) }
     {
         let found = call.descriptor(ram, buffers, caller)?;
         let Ok(asked) = read_retrieve(&found.bytes, call.version, caller) else {
@@ -92,7 +92,7 @@ impl OpenTransaction {
     ) -> Rights
         requires { ArePlaced base.0 (length pages.now) self.now.ranges }
         ensures { (e : ℕ) → grant_to (view_of self.now) e ≡ granted
-            → result ≡ ceiling (own_rights_in pages.now base.0) (view_of self.now) e }
+            → result ≡ ceiling (ownership_in pages.now base.0) (view_of self.now) e }
     {
         match self.kind {
             Kind::Share => Rights {
@@ -117,11 +117,11 @@ impl OpenTransaction {
         asked: &RetrieveDesc,
     ) -> Result<Rights, Refusal>
         requires { ArePlaced base.0 (length pages.now) self.now.ranges }
-        ensures refusal { let own_rights = own_rights_in pages.now base.0 in
+        ensures refusal { let owners = ownership_in pages.now base.0 in
             let transaction = Some (view_of self.now) in
-            result_err result ≡ first_refusal (holding_guards own_rights is_full caller.0 asked.now transaction) }
-        ensures right { let own_rights = own_rights_in pages.now base.0 in
-            IfOk result (λ right. right ≡ right_for own_rights (view_of self.now) caller.0 asked.now) }
+            result_err result ≡ first_refusal (holding_guards owners is_full caller.0 asked.now transaction) }
+        ensures right { let owners = ownership_in pages.now base.0 in
+            IfOk result (λ right. right ≡ right_for owners (view_of self.now) caller.0 asked.now) }
     {
         let Some(granted) = self.grant_to(caller) else {
             return Err(Refusal::NotReceiver);

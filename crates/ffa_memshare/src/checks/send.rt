@@ -1,5 +1,6 @@
 // SPDX-License-Identifier: MIT OR Apache-2.0
 //! The checks of FFA_MEM_DONATE, FFA_MEM_LEND and FFA_MEM_SHARE: whether an endpoint may send what it offers.
+ghost use Rattle.ffa_model.specs.Buffers.{is_own};
 ghost use Rattle.std.specs.Prelude.{◌≡◌, ◌<◌, ℕ, length, [], OnOk, IfOk, ◌||◌};
 ghost use Rattle.std.specs.List.{list_all};
 ghost use Rattle.std.specs.Result.{result_err};
@@ -8,13 +9,13 @@ ghost use Rattle.ffa_model.specs.declared.limits.TheConstants.{MOST_SENDS};
 ghost use Rattle.ffa_memshare.specs.declared.pool.TheConstants.{MOST_SLOTS};
 ghost use Rattle.ffa_model.specs.Calls.{first_refusal};
 ghost use Rattle.ffa_model.specs.Identifiers.{place};
-ghost use Rattle.ffa_model.specs.MemorySend.{after_offer, are_known, is_inside, is_own, is_sendable, send_guards};
+ghost use Rattle.ffa_model.specs.MemorySend.{are_known, is_inside, is_sendable, send_guards, record_guards};
 ghost use Rattle.ffa_model.specs.SendDescriptor.{send_of, send_record};
 ghost use Rattle.ffa_model.specs.Transactions.{next_handle, sends_of};
-ghost use Rattle.ffa_rxtx.specs.Parts.{candidate_in, candidates_in};
+ghost use Rattle.ffa_rxtx.specs.Parts.{ownership_in};
 ghost use Rattle.ffa_memshare.specs.Callers.{IsCaller};
 ghost use Rattle.ffa_memshare.specs.Memory.{memory_of, memory_parts};
-ghost use Rattle.ffa_memshare.specs.Named.{all_named, own_rights_in};
+ghost use Rattle.ffa_memshare.specs.Named.{all_named};
 ghost use Rattle.ffa_memshare.specs.Offers.{AreAligned, DescribesOffer, IsOwnOffer, grants_writes, write_guards};
 ghost use Rattle.ffa_memshare.specs.Ranges.{ArePlaced, IsPlaced, in_range, in_ranges};
 ghost use Rattle.ffa_memshare.specs.Scenes.{descriptor_in, scene_in};
@@ -98,7 +99,7 @@ fn are_known(receivers: &[Receiver], endpoints: usize) -> bool
 
 // Whether a range lies in the RAM of these pages.
 fn is_inside<P: Room<KeptPage> + Drop>(range: &Range, pages: &PageTable<P>, base: Address) -> bool
-    ensures { result ≡ is_inside (own_rights_in pages.now base.0) range.now }
+    ensures { result ≡ is_inside (ownership_in pages.now base.0) range.now }
 {
     let start = u64::from(base.0);
     let end = start + 4096 * u64::from(pages.pages());
@@ -112,7 +113,7 @@ fn are_inside<P: Room<KeptPage> + Drop>(
     pages: &PageTable<P>,
     base: Address,
 ) -> bool
-    ensures { result ≡ list_all (is_inside (own_rights_in pages.now base.0)) ranges.now }
+    ensures { result ≡ list_all (is_inside (ownership_in pages.now base.0)) ranges.now }
 {
     ranges.iter().all(|range| is_inside(range, pages, base))
 }
@@ -124,7 +125,7 @@ pub(crate) fn is_own<P: Room<KeptPage> + Drop>(
     page: PageNo,
 ) -> bool
     requires { page.0 < length pages.now }
-    ensures { result ≡ is_own sender.0 (candidate_in pages.now page.0) }
+    ensures { result ≡ is_own sender.0 (ownership_in pages.now 0) page.0 }
 {
     pages.own_right_of(page).is_some()
         && pages.owner_of(page) == sender
@@ -140,7 +141,7 @@ fn is_range_sendable<P: Room<KeptPage> + Drop>(
     range: &Range,
 ) -> bool
     requires { IsPlaced base.0 (length pages.now) range.now }
-    ensures { let is_its = is_sendable sender.0 (candidates_in pages.now base.0) buffers.now in
+    ensures { let is_its = is_sendable sender.0 (ownership_in pages.now base.0) buffers.now in
         result ≡ all_named (length pages.now) (in_range base.0 range.now) is_its }
 {
     // Proof step: the number of pages is 2^14 at most.
@@ -164,7 +165,7 @@ fn are_sendable<P: Room<KeptPage> + Drop>(
     ranges: &PageRanges,
 ) -> bool
     requires { ArePlaced base.0 (length pages.now) ranges.now }
-    ensures { let is_its = is_sendable sender.0 (candidates_in pages.now base.0) buffers.now in
+    ensures { let is_its = is_sendable sender.0 (ownership_in pages.now base.0) buffers.now in
         result ≡ all_named (length pages.now) (in_ranges base.0 ranges.now) is_its }
 {
     let mut all = true;
@@ -200,8 +201,8 @@ fn check_writes<P: Room<KeptPage> + Drop>(
 ) -> Result<(), Refusal>
     requires ranges { ranges.now ≡ offer.now.ranges.items }
     requires own { (e : ℕ) × IsOwnOffer pages.now base.0 e (send_record offer.now) }
-    ensures { let own_rights = own_rights_in pages.now base.0 in
-        result_err result ≡ first_refusal (write_guards own_rights (send_record offer.now)) }
+    ensures { let owners = ownership_in pages.now base.0 in
+        result_err result ≡ first_refusal (write_guards owners (send_record offer.now)) }
 {
     if !asks_for_writes(offer) {
         return Ok(());
@@ -226,9 +227,8 @@ fn check_offer<P: Room<KeptPage> + Drop>(
 ) -> Result<(), Refusal>
     requires aligned { AreAligned offer.now.ranges.items }
     ensures refusal { let endpoints = array_vec_len layout.now.regions in
-        let candidates = candidates_in pages.now layout.now.base.0 in
-        let own_rights = own_rights_in pages.now layout.now.base.0 in
-        let guards = after_offer endpoints candidates own_rights buffers.now caller.0 (send_record offer.now) [] in
+        let owners = ownership_in pages.now layout.now.base.0 in
+        let guards = record_guards endpoints owners buffers.now caller.0 (send_record offer.now) in
         result_err result ≡ first_refusal guards }
     ensures offered { OnOk result (IsOwnOffer pages.now layout.now.base.0 caller.0 (send_record offer.now)) }
     ensures ranges { OnOk result (ranges.new ≡ offer.now.ranges.items) }

@@ -12,8 +12,7 @@ ghost use Rattle.ffa_model.specs.Rights.{may_store};
 ghost use Rattle.ffa_model.specs.SendDescriptor.{send_of, send_record};
 ghost use Rattle.ffa_model.specs.State.{Buffers as Own};
 ghost use Rattle.ffa_pages.specs.Entry.{own_right_at};
-ghost use Rattle.ffa_rxtx.specs.Parts.{IsInRam, candidates_in};
-ghost use Rattle.ffa_memshare.specs.Named.{own_rights_in};
+ghost use Rattle.ffa_rxtx.specs.Parts.{IsInRam, ownership_in};
 ghost use Rattle.ffa_memshare.specs.Ranges.{in_range, in_ranges};
 ghost use Rattle.ffa_memshare.specs.Scenes.{descriptor_in};
 ghost use Rattle.ffa_memshare.specs.Stored.{transaction_in};
@@ -45,9 +44,9 @@ pub fn failing_send<M: PhysMem, P: Room<KeptPage> + Drop>(
     refusal: Refusal,
 ) -> Option<PageNo>
     requires tx { (b : Own) → buffers_in buffers.now caller.0 ≡ Some b → IsInRam (length (M.ram ram.now).pages) b }
-    ensures { let candidates = candidates_in pages.now base.0 in let own_rights = own_rights_in pages.now base.0 in
+    ensures { let owners = ownership_in pages.now base.0 in
         let offer = send_of kind (descriptor_in (M.ram ram.now) buffers.now caller.0 call.now) in
-        result ≡ failing_send caller.0 candidates own_rights buffers.now call.now.transfer offer refusal }
+        result ≡ failing_send caller.0 owners buffers.now call.now.transfer offer refusal }
 {
     let Ok(found) = call.descriptor(ram, buffers, caller) else {
         return None;
@@ -68,8 +67,8 @@ fn failing_offer<P: Room<KeptPage> + Drop>(
     sender: EndpointId,
     refusal: Refusal,
 ) -> Option<PageNo>
-    ensures { let candidates = candidates_in pages.now base.0 in let own_rights = own_rights_in pages.now base.0 in
-        result ≡ failing_offer sender.0 candidates own_rights buffers.now refusal (send_record offer.now) }
+    ensures { let owners = ownership_in pages.now base.0 in
+        result ≡ failing_offer sender.0 owners buffers.now refusal (send_record offer.now) }
 {
     for number in 0..pages.pages() {
         let page = PageNo(number);
@@ -91,8 +90,8 @@ fn fails<P: Room<KeptPage> + Drop>(
     page: PageNo,
 ) -> bool
     requires { page.0 < length pages.now }
-    ensures { let candidates = candidates_in pages.now base.0 in let own_rights = own_rights_in pages.now base.0 in
-        let passes = passes sender.0 candidates own_rights buffers.now (send_record offer.now) refusal page.0 in
+    ensures { let owners = ownership_in pages.now base.0 in
+        let passes = passes sender.0 owners buffers.now (send_record offer.now) refusal page.0 in
         result ≡ (in_ranges base.0 offer.now.ranges.items page.0 && not passes) }
 {
     is_in_any(offer.ranges.as_slice(), base, page)
@@ -109,9 +108,8 @@ fn passes<P: Room<KeptPage> + Drop>(
     page: PageNo,
 ) -> bool
     requires { page.0 < length pages.now }
-    ensures { (base : ℕ) → let candidates = candidates_in pages.now base in
-        let own_rights = own_rights_in pages.now base in
-        result ≡ passes sender.0 candidates own_rights buffers.now (send_record offer.now) refusal page.0 }
+    ensures { (base : ℕ) → let owners = ownership_in pages.now base in
+        result ≡ passes sender.0 owners buffers.now (send_record offer.now) refusal page.0 }
 {
     match refusal {
         Refusal::PageUnsendable => is_sendable(pages, buffers, sender, page),
@@ -133,7 +131,7 @@ pub fn failing_reclaim<P: Room<KeptPage> + Drop, O: Room<OpenSlot> + Drop>(
     refusal: Refusal,
 ) -> Option<PageNo>
     ensures { let transaction = transaction_in pool.now.slots handle.0 in
-        result ≡ failing_reclaim (own_rights_in pages.now base.0) transaction refusal }
+        result ≡ failing_reclaim (ownership_in pages.now base.0) transaction refusal }
 {
     match refusal {
         Refusal::ZerosUnwritable => {
@@ -165,7 +163,7 @@ fn first_unwritable<P: Room<KeptPage> + Drop>(
     pages: &PageTable<P>,
     base: Address,
 ) -> Option<PageNo>
-    ensures { result ≡ first_unwritable (own_rights_in pages.now base.0) ranges.now }
+    ensures { result ≡ first_unwritable (ownership_in pages.now base.0) ranges.now }
 {
     for number in 0..pages.pages() {
         let page = PageNo(number);
@@ -212,7 +210,7 @@ fn is_sendable<P: Room<KeptPage> + Drop>(
     page: PageNo,
 ) -> bool
     requires { page.0 < length pages.now }
-    ensures { result ≡ is_sendable sender.0 (candidates_in pages.now 0) buffers.now page.0 }
+    ensures { result ≡ is_sendable sender.0 (ownership_in pages.now 0) buffers.now page.0 }
 {
     // Proof step: the number of pages is MOST_PAGES at most.
     let _ = pages.pages();

@@ -1,15 +1,16 @@
 // SPDX-License-Identifier: MIT OR Apache-2.0
 //! The certificate of a machine, run by run, and whether its tables give what a certificate says.
-ghost use Rattle.std.specs.Prelude.{◌≡◌, ◌+◌, ◌-◌, ◌<◌, ◌↔◌, IsTrue, length};
+ghost use Rattle.std.specs.Prelude.{◌≡◌, ◌+◌, ◌-◌, ◌<◌, ◌↔◌, IsTrue, None, Some, if◌then◌else◌, length};
 ghost use Rattle.std.specs.List.{list_all};
 ghost use Rattle.ffa_model.specs.declared.limits.TheConstants.{MOST_ENDPOINTS};
 ghost use Rattle.ffa_model.specs.Access.{access, handle_at};
-ghost use Rattle.ffa_model.specs.Agreement.{roots_of};
+ghost use Rattle.ffa_model.specs.Agreement.{root, roots_of};
 ghost use Rattle.ffa_model.specs.Alike.{is_alike, is_same_right};
 ghost use Rattle.ffa_model.specs.Certificate.{IsRun, access_by_place, are_as_one, certificate, is_same_handle, last_from, run_from};
 ghost use Rattle.ffa_model.specs.Certified.{IsCertified};
+ghost use Rattle.ffa_model.specs.Identifiers.{place};
 ghost use Rattle.ffa_model.specs.Lists.{listed};
-ghost use Rattle.ffa_model.specs.State.{identifiers};
+ghost use Rattle.ffa_model.specs.State.{identifiers, is_known};
 
 use super::Machine;
 use crate::storage::Store;
@@ -43,6 +44,19 @@ impl<M: PhysMem + Drop, T: Translations + Drop, S: Store> Machine<M, T, S> {
         ensures own { runs.now ≡ certificate self.now.state → IsTrue result }
     {
         self.manager.audit(runs)
+    }
+
+    /// The address of the level 1 table by which an endpoint's accesses are translated, as VTTBR_EL2 names it while the
+    /// endpoint runs (DDI 0487, D17.2). Nothing for an endpoint that isn't there.
+    pub fn root_of(&self, endpoint: EndpointId) -> Option<u32>
+        ensures { let known = is_known self.now.state endpoint.0 in
+            result ≡ (if known then Some (root self.now.state (place endpoint.0)) else None) }
+    {
+        if endpoint.is_among(self.endpoints()) {
+            Some(self.manager.root_at(endpoint.place()))
+        } else {
+            None
+        }
     }
 
     // Whether two pages have the same owner, and each endpoint has the same access to both.

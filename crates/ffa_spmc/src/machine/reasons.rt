@@ -31,11 +31,11 @@ impl<M: PhysMem + Drop, T: Translations + Drop, S: Store> Machine<M, T, S> {
 
     /// By what an endpoint has its access to a page: its own page, or the open transaction by which it has it. Nothing outside
     /// the RAM, or for an endpoint that isn't there.
-    pub fn granted(&self, endpoint: EndpointId, page: PageNo) -> Option<Grant>
+    pub fn grant_of(&self, endpoint: EndpointId, page: PageNo) -> Option<Grant>
         ensures granted { result ≡ granted self.now.state endpoint.0 page.0 }
         ensures access { is_some result ≡ is_some (access self.now.state endpoint.0 page.0) }
     {
-        self.manager.granted(endpoint, page)
+        self.manager.grant_of(endpoint, page)
     }
 
     // The reason itself.

@@ -23,7 +23,7 @@ impl<M: PhysMem + Drop, S: Store> Manager<M, S> {
     }
 
     // The address of the level 1 table of the endpoint at a place.
-    pub(super) fn root_at(&self, place: usize) -> u32
+    pub(crate) fn root_at(&self, place: usize) -> u32
         requires { place < length self.now.state.parties }
         ensures value { result ≡ root self.now.state place }
         ensures page { is_page_address self.now.ram result ≡ true }

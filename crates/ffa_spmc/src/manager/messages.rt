@@ -7,7 +7,7 @@ ghost use Rattle.ffa_model.specs.RunStates.{direct_request, direct_response, msg
 ghost use Rattle.ffa_spmc.specs.Served.{IsReplied};
 
 use super::Manager;
-use crate::replies::{DONE, reply_or_error};
+use crate::replies::{DONE, message_or_error, reply_or_error};
 use crate::storage::Store;
 use ffa_messages::{direct_req, direct_resp, send2};
 use ffa_model::{DirectMessage, EndpointId, Home, Reply};
@@ -47,7 +47,8 @@ impl<M: PhysMem + Drop, S: Store> Manager<M, S> {
     {
         let kept = &mut self.kept;
         let records = kept.records.get();
-        reply_or_error(direct_req(&mut kept.chain, &records.manifest, message))
+        let answer = direct_req(&mut kept.chain, &records.manifest, message);
+        message_or_error(message, answer)
     }
 
     // FFA_MSG_SEND_DIRECT_RESP of the runner.
@@ -55,7 +56,7 @@ impl<M: PhysMem + Drop, S: Store> Manager<M, S> {
         requires { (message.now.function == FFA_ERROR) ≡ false }
         ensures { IsReplied self.old self.new (direct_response self.old.state message.now) result }
     {
-        reply_or_error(direct_resp(&mut self.kept.chain, message))
+        message_or_error(message, direct_resp(&mut self.kept.chain, message))
     }
 
     // FFA_MSG_SEND2 of the runner. The receiver is told of a message by a bit of the manager's.

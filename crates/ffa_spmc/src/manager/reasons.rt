@@ -330,7 +330,7 @@ impl<M: PhysMem + Drop, S: Store> Manager<M, S> {
     }
 
     // By what an endpoint has its access to a page, if it has one.
-    pub(crate) fn granted(&self, endpoint: EndpointId, page: PageNo) -> Option<Grant>
+    pub(crate) fn grant_of(&self, endpoint: EndpointId, page: PageNo) -> Option<Grant>
         ensures { result ≡ granted self.now.state endpoint.0 page.0 }
     {
         if !self.is_in_ram(page) || self.access(endpoint, page).is_none() {

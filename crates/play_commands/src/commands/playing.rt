@@ -93,7 +93,7 @@ impl<'a, A: Allocator + Copy, R: Read + Drop> Play<'a, '_, A, R> {
             trace,
             ..
         } = self;
-        match Storage::given_for(alloc, manifest) {
+        match Storage::allocate_for(alloc, manifest) {
             Ok(storage) => {
                 let machine = Machine::boot_cleared_in(storage, manifest, ram, cache);
                 do_task(&mut Player::new(machine), alloc, task, trace, out, told)

@@ -1,11 +1,10 @@
 // SPDX-License-Identifier: MIT OR Apache-2.0
 //! What a check of a call that fails is about. Nothing is changed, and no memory is taken.
+ghost use Rattle.ffa_model.specs.Access.{ownership_of};
 ghost use Rattle.std.specs.Prelude.{◌≡◌};
 ghost use Rattle.ffa_model.specs.About.{about, about_page, about_pages, failing_map, failing_page, failing_reclaim, failing_sent};
-ghost use Rattle.ffa_model.specs.Buffers.{candidates};
 ghost use Rattle.ffa_model.specs.Obstacles.{unless_own};
 ghost use Rattle.ffa_model.specs.State.{transaction_of};
-ghost use Rattle.ffa_model.specs.Transactions.{own_rights_of};
 
 use crate::manager::Manager;
 use crate::storage::Store;
@@ -53,7 +52,7 @@ impl<M: PhysMem + Drop, S: Store> Manager<M, S> {
 
     // Of FFA_RXTX_MAP.
     fn failing_map(&self, tx: u64, rx: u64, pages: u32, refusal: Refusal) -> Option<PageNo>
-        ensures { result ≡ failing_map self.now.state.runner (candidates self.now.state) tx rx pages refusal }
+        ensures { result ≡ failing_map self.now.state.runner (ownership_of self.now.state) tx rx pages refusal }
     {
         let base = self.kept.records.get().manifest.ram_base;
         let runner = self.kept.chain.runner();
@@ -76,7 +75,7 @@ impl<M: PhysMem + Drop, S: Store> Manager<M, S> {
 
     // Of FFA_MEM_RECLAIM.
     fn failing_reclaim(&self, handle: Handle, refusal: Refusal) -> Option<PageNo>
-        ensures { result ≡ failing_reclaim (own_rights_of self.now.state)
+        ensures { result ≡ failing_reclaim (ownership_of self.now.state)
             (transaction_of self.now.state handle.0) refusal }
     {
         let base = self.kept.records.get().manifest.ram_base;

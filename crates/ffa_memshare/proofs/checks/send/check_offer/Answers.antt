@@ -6,8 +6,7 @@ use Rattle.ffa_model.specs.declared.transaction.Range.{Range}
 use Rattle.ffa_model.specs.MemorySend.{are_known, is_inside, is_sendable}
 use Rattle.ffa_model.specs.SendDescriptor.{send_record}
 use Rattle.ffa_model.specs.Transactions.{pages_in}
-use Rattle.ffa_rxtx.specs.Parts.{candidates_in}
-use Rattle.ffa_memshare.specs.Named.{own_rights_in}
+use Rattle.ffa_rxtx.specs.Parts.{ownership_in}
 use Rattle.ffa_memshare.specs.Offers.{write_guards}
 use Rattle.ffa_memshare.proofs.Firsts.{first-pass}
 use Rattle.ffa_memshare.proofs.Offered.{checked-offered, of_sendable, sendable-pass}
@@ -19,10 +18,10 @@ check_writes-requires-clause-own g c =
     let l = c.args.layout.now in
     let table = c.args.pages.now in
     let sender : o.sender.0 ≡ c.args.caller.0 = search rules in
-    let inside : list_all (is_inside (own_rights_in table l.base.0)) o.ranges.items ≡ true =
-    sym (ap (list_all (is_inside (own_rights_in table l.base.0))) c.as_slice-2.ensures.value) ∙ sym c.are_inside.ensures ∙ c.if-not-are_inside.false in
-    let sendable : list_all (is_sendable c.args.caller.0 (candidates_in table l.base.0) c.args.buffers.now) (pages_in (own_rights_in table l.base.0) o.ranges.items) ≡ true =
-    sym (ap (λ (rs : List Range). list_all (is_sendable c.args.caller.0 (candidates_in table l.base.0) c.args.buffers.now) (pages_in (own_rights_in table l.base.0) rs)) c.place.ensures)
+    let inside : list_all (is_inside (ownership_in table l.base.0)) o.ranges.items ≡ true =
+    sym (ap (list_all (is_inside (ownership_in table l.base.0))) c.as_slice-2.ensures.value) ∙ sym c.are_inside.ensures ∙ c.if-not-are_inside.false in
+    let sendable : list_all (is_sendable c.args.caller.0 (ownership_in table l.base.0) c.args.buffers.now) (pages_in (ownership_in table l.base.0) o.ranges.items) ≡ true =
+    sym (ap (λ (rs : List Range). list_all (is_sendable c.args.caller.0 (ownership_in table l.base.0) c.args.buffers.now) (pages_in (ownership_in table l.base.0) rs)) c.place.ensures)
     ∙ sym c.are_sendable.ensures ∙ c.if-not-are_sendable.false in
     (c.args.caller.0, checked-offered table l.base.0 c.args.caller.0 c.args.buffers.now (send_record o) (omega (arith, l.place)) c.requires.aligned sender inside sendable)
 
@@ -32,10 +31,10 @@ returns-clause-offered g c =
     let l = c.args.layout.now in
     let table = c.args.pages.now in
     let sender : o.sender.0 ≡ c.args.caller.0 = search rules in
-    let inside : list_all (is_inside (own_rights_in table l.base.0)) o.ranges.items ≡ true =
-    sym (ap (list_all (is_inside (own_rights_in table l.base.0))) c.as_slice-2.ensures.value) ∙ sym c.are_inside.ensures ∙ c.if-not-are_inside.false in
-    let sendable : list_all (is_sendable c.args.caller.0 (candidates_in table l.base.0) c.args.buffers.now) (pages_in (own_rights_in table l.base.0) o.ranges.items) ≡ true =
-    sym (ap (λ (rs : List Range). list_all (is_sendable c.args.caller.0 (candidates_in table l.base.0) c.args.buffers.now) (pages_in (own_rights_in table l.base.0) rs)) c.place.ensures)
+    let inside : list_all (is_inside (ownership_in table l.base.0)) o.ranges.items ≡ true =
+    sym (ap (list_all (is_inside (ownership_in table l.base.0))) c.as_slice-2.ensures.value) ∙ sym c.are_inside.ensures ∙ c.if-not-are_inside.false in
+    let sendable : list_all (is_sendable c.args.caller.0 (ownership_in table l.base.0) c.args.buffers.now) (pages_in (ownership_in table l.base.0) o.ranges.items) ≡ true =
+    sym (ap (λ (rs : List Range). list_all (is_sendable c.args.caller.0 (ownership_in table l.base.0) c.args.buffers.now) (pages_in (ownership_in table l.base.0) rs)) c.place.ensures)
     ∙ sym c.are_sendable.ensures ∙ c.if-not-are_sendable.false in
     checked-offered table l.base.0 c.args.caller.0 c.args.buffers.now (send_record o) (omega (arith, l.place)) c.requires.aligned sender inside sendable
 
@@ -45,18 +44,18 @@ returns-in_err-check_writes-clause-refusal g c =
     let r = send_record o in
     let l = c.args.layout.now in
     let table = c.args.pages.now in
-    let own_rights = own_rights_in table l.base.0 in
-    let before = of_sendable (array_vec_len l.regions) (candidates_in table l.base.0) own_rights c.args.buffers.now c.args.caller.0 r in
+    let ram = ownership_in table l.base.0 in
+    let before = of_sendable (array_vec_len l.regions) ram c.args.buffers.now c.args.caller.0 r in
     let sender : o.sender.0 ≡ c.args.caller.0 = search rules in
     let known : are_known (array_vec_len l.regions) o.receivers.items ≡ true = search rules in
-    let inside : list_all (is_inside own_rights) o.ranges.items ≡ true =
-    sym (ap (list_all (is_inside own_rights)) c.as_slice-2.ensures.value) ∙ sym c.are_inside.ensures ∙ c.if-not-are_inside.false in
-    let sendable : list_all (is_sendable c.args.caller.0 (candidates_in table l.base.0) c.args.buffers.now) (pages_in own_rights o.ranges.items) ≡ true =
-    sym (ap (λ (rs : List Range). list_all (is_sendable c.args.caller.0 (candidates_in table l.base.0) c.args.buffers.now) (pages_in own_rights rs)) c.place.ensures)
+    let inside : list_all (is_inside ram) o.ranges.items ≡ true =
+    sym (ap (list_all (is_inside ram)) c.as_slice-2.ensures.value) ∙ sym c.are_inside.ensures ∙ c.if-not-are_inside.false in
+    let sendable : list_all (is_sendable c.args.caller.0 (ownership_in table l.base.0) c.args.buffers.now) (pages_in ram o.ranges.items) ≡ true =
+    sym (ap (λ (rs : List Range). list_all (is_sendable c.args.caller.0 (ownership_in table l.base.0) c.args.buffers.now) (pages_in ram rs)) c.place.ensures)
     ∙ sym c.are_sendable.ensures ∙ c.if-not-are_sendable.false in
-    let passed = sendable-pass (array_vec_len l.regions) (candidates_in table l.base.0) own_rights c.args.buffers.now c.args.caller.0 r sender known inside sendable in
+    let passed = sendable-pass (array_vec_len l.regions) ram c.args.buffers.now c.args.caller.0 r sender known inside sendable in
     let refused : c.from_residual.result ≡ Err c.in_err-check_writes.field-0.0 = search of_calls in
-    rw refused (c.in_err-check_writes.ensures ∙ first-pass before (write_guards own_rights r) passed)
+    rw refused (c.in_err-check_writes.ensures ∙ first-pass before (write_guards ram r) passed)
 
 pub returns-clause-refusal : goal.returns-clause-refusal
 returns-clause-refusal g c =
@@ -64,14 +63,14 @@ returns-clause-refusal g c =
     let r = send_record o in
     let l = c.args.layout.now in
     let table = c.args.pages.now in
-    let own_rights = own_rights_in table l.base.0 in
-    let before = of_sendable (array_vec_len l.regions) (candidates_in table l.base.0) own_rights c.args.buffers.now c.args.caller.0 r in
+    let ram = ownership_in table l.base.0 in
+    let before = of_sendable (array_vec_len l.regions) ram c.args.buffers.now c.args.caller.0 r in
     let sender : o.sender.0 ≡ c.args.caller.0 = search rules in
     let known : are_known (array_vec_len l.regions) o.receivers.items ≡ true = search rules in
-    let inside : list_all (is_inside own_rights) o.ranges.items ≡ true =
-    sym (ap (list_all (is_inside own_rights)) c.as_slice-2.ensures.value) ∙ sym c.are_inside.ensures ∙ c.if-not-are_inside.false in
-    let sendable : list_all (is_sendable c.args.caller.0 (candidates_in table l.base.0) c.args.buffers.now) (pages_in own_rights o.ranges.items) ≡ true =
-    sym (ap (λ (rs : List Range). list_all (is_sendable c.args.caller.0 (candidates_in table l.base.0) c.args.buffers.now) (pages_in own_rights rs)) c.place.ensures)
+    let inside : list_all (is_inside ram) o.ranges.items ≡ true =
+    sym (ap (list_all (is_inside ram)) c.as_slice-2.ensures.value) ∙ sym c.are_inside.ensures ∙ c.if-not-are_inside.false in
+    let sendable : list_all (is_sendable c.args.caller.0 (ownership_in table l.base.0) c.args.buffers.now) (pages_in ram o.ranges.items) ≡ true =
+    sym (ap (λ (rs : List Range). list_all (is_sendable c.args.caller.0 (ownership_in table l.base.0) c.args.buffers.now) (pages_in ram rs)) c.place.ensures)
     ∙ sym c.are_sendable.ensures ∙ c.if-not-are_sendable.false in
-    let passed = sendable-pass (array_vec_len l.regions) (candidates_in table l.base.0) own_rights c.args.buffers.now c.args.caller.0 r sender known inside sendable in
-    c.in_ok-check_writes.ensures ∙ first-pass before (write_guards own_rights r) passed
+    let passed = sendable-pass (array_vec_len l.regions) ram c.args.buffers.now c.args.caller.0 r sender known inside sendable in
+    c.in_ok-check_writes.ensures ∙ first-pass before (write_guards ram r) passed

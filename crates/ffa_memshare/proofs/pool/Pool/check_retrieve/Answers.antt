@@ -1,6 +1,7 @@
 -- SPDX-License-Identifier: MIT OR Apache-2.0
 use Rattle.std.proofs.Common.{◌≡◌, ◌∙◌, of_calls, Bool, Option, Some, Err, sym, ap}
 use Rattle.std.specs.FinMap as finite
+use Rattle.ffa_rxtx.specs.Parts.{ownership_in}
 use Rattle.std.specs.Result.{result_err}
 use Rattle.ffa_model.specs.Buffers.{buffers_in, is_full}
 use Rattle.ffa_model.specs.Calls.{first_refusal}
@@ -8,7 +9,6 @@ use Rattle.ffa_model.specs.DescriptorPlaces.{in_version}
 use Rattle.ffa_model.specs.MemoryRetrieve.{holding_guards}
 use Rattle.ffa_model.specs.RetrieveDescriptor.{retrieve_of}
 use Rattle.ffa_model.specs.State.{Transaction}
-use Rattle.ffa_memshare.specs.Named.{own_rights_in}
 use Rattle.ffa_memshare.specs.Memory.{memory_parts}
 use Rattle.ffa_memshare.specs.Scenes.{descriptor_in, scene_in}
 use Rattle.ffa_memshare.specs.Stored.{map_in, view_of}
@@ -40,8 +40,8 @@ returns-clause-refusal g c =
     let get : finite.get (map_in slots) asked.handle ≡ Some (view_of it) = asked-open slots c.in-Some.slot asked.handle it c.in-Some.ensures.found c.at-open.ensures.value c.at-open.ensures.open in
     retrieve-asked scene e c.args.call.now.transfer read (Some asked) c.in_ok-found.ensures.refusal is
     (c.in_ok-right.ensures.refusal
-    ∙ ap (λ (full : Bool). first_refusal (holding_guards (own_rights_in c.args.pages.now l.base.0) full e asked (Some (view_of it)))) (ap is_full c.in_ok-found.ensures.own)
-    ∙ ap (λ (o : Option Transaction). first_refusal (holding_guards (own_rights_in c.args.pages.now l.base.0) (is_full (buffers_in c.args.buffers.now e)) e asked o)) (sym get))
+    ∙ ap (λ (full : Bool). first_refusal (holding_guards (ownership_in c.args.pages.now l.base.0) full e asked (Some (view_of it)))) (ap is_full c.in_ok-found.ensures.own)
+    ∙ ap (λ (o : Option Transaction). first_refusal (holding_guards (ownership_in c.args.pages.now l.base.0) (is_full (buffers_in c.args.buffers.now e)) e asked o)) (sym get))
 
 pub returns-in_err-right-clause-refusal : goal.returns-in_err-right-clause-refusal
 returns-in_err-right-clause-refusal g c =
@@ -58,8 +58,8 @@ returns-in_err-right-clause-refusal g c =
     failed
     ∙ retrieve-asked scene e c.args.call.now.transfer read (Some asked) c.in_ok-found.ensures.refusal is
     (c.in_err-right.ensures.refusal
-    ∙ ap (λ (full : Bool). first_refusal (holding_guards (own_rights_in c.args.pages.now l.base.0) full e asked (Some (view_of it)))) (ap is_full c.in_ok-found.ensures.own)
-    ∙ ap (λ (o : Option Transaction). first_refusal (holding_guards (own_rights_in c.args.pages.now l.base.0) (is_full (buffers_in c.args.buffers.now e)) e asked o)) (sym get))
+    ∙ ap (λ (full : Bool). first_refusal (holding_guards (ownership_in c.args.pages.now l.base.0) full e asked (Some (view_of it)))) (ap is_full c.in_ok-found.ensures.own)
+    ∙ ap (λ (o : Option Transaction). first_refusal (holding_guards (ownership_in c.args.pages.now l.base.0) (is_full (buffers_in c.args.buffers.now e)) e asked o)) (sym get))
 
 pub returns-clause-found : goal.returns-clause-found
 returns-clause-found g c =

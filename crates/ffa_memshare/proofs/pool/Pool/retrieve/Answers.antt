@@ -1,12 +1,12 @@
 -- SPDX-License-Identifier: MIT OR Apache-2.0
 use Rattle.std.proofs.Common.{◌∙◌, ℕ, refl, ap, sym, subst}
+use Rattle.ffa_rxtx.specs.Parts.{ownership_in}
 use Rattle.ffa_model.specs.Buffers.{buffers_in}
 use Rattle.ffa_model.specs.MemoryRetrieve.{response_to, retrieve_guards, right_for}
 use Rattle.ffa_model.specs.RetrieveDescriptor.{retrieve_of}
 use Rattle.ffa_model.specs.State.{Transaction}
 use Rattle.ffa_model.proofs.Guards.{answers-code, answers-pass}
 use Rattle.ffa_memshare.specs.Memory.{memory_of, memory_parts}
-use Rattle.ffa_memshare.specs.Named.{own_rights_in}
 use Rattle.ffa_memshare.specs.Retrieved.{IsResponded}
 use Rattle.ffa_memshare.specs.Scenes.{descriptor_in, scene_in}
 use Rattle.ffa_memshare.specs.Stored.{view_of}
@@ -61,7 +61,7 @@ returns-clause-done g c =
       size = c.hand_over-size.result;
       described = its.described;
       was = asked-open slots found.slot its.asked.handle it (its.transaction, its.slot) c.at-open.ensures.value c.at-open.ensures.open;
-      is = its.right ∙ ap (λ (t : Transaction). right_for (own_rights_in c.args.pages.now l.base.0) t c.args.caller.0 its.asked) (sym same);
+      is = its.right ∙ ap (λ (t : Transaction). right_for (ownership_in c.args.pages.now l.base.0) t c.args.caller.0 its.asked) (sym same);
       slot = c.take.ensures.slot its.asked.handle (view_of it) there;
       open_transactions = c.take.ensures.open_transactions its.asked.handle (view_of it) there;
       pages = c.take.ensures.pages its.asked.handle (view_of it) there;

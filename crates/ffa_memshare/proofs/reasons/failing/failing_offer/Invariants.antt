@@ -3,8 +3,7 @@ use Rattle.std.proofs.Common.{◌≡◌, ℕ, ◌<◌, false}
 use Rattle.std.specs.Prelude.{◌&&◌, not}
 use Rattle.ffa_model.specs.About.{passes}
 use Rattle.ffa_model.specs.SendDescriptor.{send_record}
-use Rattle.ffa_rxtx.specs.Parts.{candidates_in}
-use Rattle.ffa_memshare.specs.Named.{own_rights_in}
+use Rattle.ffa_rxtx.specs.Parts.{ownership_in}
 use Rattle.ffa_memshare.specs.Ranges.{in_ranges}
 use Rattle.ffa_memshare.proofs.reasons.failing.failing_offer.Given as goal
 
@@ -12,4 +11,4 @@ use Rattle.ffa_memshare.proofs.reasons.failing.failing_offer.Given as goal
 abbrev pub invariant-loop-number : goal.invariant-loop-number
 invariant-loop-number g l =
     (k : ℕ) → k < l.number
-    → (in_ranges l.base.0 l.offer.ranges.items k && not (passes l.sender.0 (candidates_in l.pages l.base.0) (own_rights_in l.pages l.base.0) l.buffers (send_record l.offer) l.refusal k)) ≡ false
+    → (in_ranges l.base.0 l.offer.ranges.items k && not (passes l.sender.0 (ownership_in l.pages l.base.0) l.buffers (send_record l.offer) l.refusal k)) ≡ false

@@ -10,5 +10,5 @@ returns-in-Some g c =
     let marked : Entry → Entry = λ e. record e { slot = c.args.slot } in
     c.put.ensures
     ∙ ap (λ (o : Option Entry). slice_set c.args.self.now c.args.page.0 o)
-    (entry_of-marked c.kept-kept.result c.in-Some.standing c.of-standing.result c.args.slot c.in-Some.ensures (c.of-standing.ensures.own_right ∙ c.own_right.ensures) c.of-standing.ensures.slot)
-    ∙ ap (λ (o : Option Entry). slice_set c.args.self.now c.args.page.0 (option_map marked o)) c.kept-kept.ensures
+    (entry_of-marked c.entry-kept.result c.in-Some.standing c.of-standing.result c.args.slot c.in-Some.ensures (c.of-standing.ensures.own_right ∙ c.own_right.ensures) c.of-standing.ensures.slot)
+    ∙ ap (λ (o : Option Entry). slice_set c.args.self.now c.args.page.0 (option_map marked o)) c.entry-kept.ensures

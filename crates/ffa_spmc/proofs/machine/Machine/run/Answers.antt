@@ -1,7 +1,6 @@
 -- SPDX-License-Identifier: MIT OR Apache-2.0
 use Rattle.std.proofs.Common.{subst}
 use Rattle.ffa_model.specs.SoundState.{IsSoundState}
-use Rattle.ffa_laws.specs.OwnAccess.{AreApart}
 use Rattle.ffa_spmc.specs.Cached.{AreWalks}
 use Rattle.ffa_spmc.specs.Snapshot.{Snapshot}
 use Rattle.ffa_spmc.proofs.Chains.{unowned-chained}
@@ -37,8 +36,7 @@ returns-clause-run_integrity g c =
 pub returns-clause-confidential : goal.returns-clause-confidential
 returns-clause-confidential g c =
     run_confidential-now c.args.self.now.state
-    (subst (λ (seen : Snapshot). IsSoundState seen.state) c.self.view_is c.holds.ensures.sound)
-    (subst (λ (seen : Snapshot). AreApart seen.state) c.self.view_is c.holds.ensures.apart) c.args.ops.now
+    (subst (λ (seen : Snapshot). IsSoundState seen.state) c.self.view_is c.holds.ensures.sound) c.args.ops.now
 
 pub returns-clause-forgotten_loans : goal.returns-clause-forgotten_loans
 returns-clause-forgotten_loans g c =

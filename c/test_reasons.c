@@ -1,0 +1,288 @@
+/* SPDX-License-Identifier: MIT OR Apache-2.0 */
+/* Why operations are refused, and names as text. The machine is that of machine.toml.h: 0000 has the 16 pages from
+ * 40010000 on, 8001 those from 40020000 and 8002 those from 40030000. Numbers and texts are the manual's:
+ * docs/CALLS.md, docs/MEMORY.md and docs/COMMANDS.md. Reasons are asked of a struct in memory that can only be read. */
+#define _DEFAULT_SOURCE
+#include <stdio.h>
+#include <stdlib.h>
+#include <string.h>
+#include "../board/calls.h"
+#include "gorseplumb.h"
+#include "machine.toml.h"
+
+#define WIDE UINT32_C(0x40000000)
+
+static struct gorseplumb_machine machine;
+
+#define CHECK(holds) \
+    do { \
+        if (!(holds)) { \
+            fprintf(stderr, "%s:%d: %s\n", __FILE__, __LINE__, #holds); \
+            exit(1); \
+        } \
+    } while (0)
+
+#include "shown.h"
+
+/* The library's memory, for which nothing asks but a boot. */
+static bool boots;
+
+struct gorseplumb_block rattle_alloc(size_t size, size_t align) {
+    CHECK(boots);
+    void *block = malloc(size != 0 ? size : align);
+    CHECK(block != NULL);
+    return (struct gorseplumb_block){true, block};
+}
+
+struct gorseplumb_block rattle_realloc(void *block, size_t kept, size_t size, size_t align) {
+    (void)kept;
+    CHECK(boots);
+    block = realloc(block, size != 0 ? size : align);
+    CHECK(block != NULL);
+    return (struct gorseplumb_block){true, block};
+}
+
+void rattle_dealloc(void *block) { free(block); }
+
+void gorseplumb_settle(uint16_t endpoint, uint64_t address, uint64_t size) {
+    (void)endpoint, (void)address, (void)size;
+}
+
+/* What a call answers in x0, and in x2 where that is FFA_ERROR. The registers that aren't given are zero. */
+static void call(const struct gorseplumb_registers *registers, uint64_t x0, uint64_t x2) {
+    struct gorseplumb_outcome told = gorseplumb_call(&machine, registers);
+    CHECK(told.kind == GORSEPLUMB_KIND_REGISTERS && told.x[0] == x0 && (x0 != FFA_ERROR || told.x[2] == x2));
+}
+
+static void done(uint64_t seen, struct gorseplumb_registers registers) { call(&registers, seen, 0); }
+
+static void stores(uint64_t address, uint64_t value) {
+    CHECK(gorseplumb_store(&machine, address, 8, value).kind == GORSEPLUMB_KIND_DONE);
+}
+
+/* A reason in which every byte is 5A, which is kept where there is none to tell. */
+static struct gorseplumb_reason marked(void) {
+    struct gorseplumb_reason reason;
+    memset(&reason, 0x5A, sizeof reason);
+    return reason;
+}
+
+static bool is_marked(const struct gorseplumb_reason *reason) {
+    struct gorseplumb_reason other = marked();
+    return memcmp(reason, &other, sizeof other) == 0;
+}
+
+/* An answer and what it wrote are those of this reason. All its bytes are its fields'. */
+static void tells(bool answer, const struct gorseplumb_reason *told, struct gorseplumb_reason wanted) {
+    CHECK(answer && memcmp(told, &wanted, sizeof wanted) == 0);
+}
+
+/* A call is refused for this reason, before it is made and again behind it, and its code is what it answers. */
+static void refuses(struct gorseplumb_registers registers, struct gorseplumb_reason wanted) {
+    for (int i = 0; i < 2; i++) {
+        struct gorseplumb_reason reason = marked();
+        tells(gorseplumb_why_call(shown(&machine), &registers, &reason), &reason, wanted);
+        call(&registers, FFA_ERROR, (uint32_t)wanted.error);
+    }
+}
+
+static void refuses_load(uint64_t address, uint32_t size, struct gorseplumb_reason wanted) {
+    struct gorseplumb_reason reason = marked();
+    tells(gorseplumb_why_load(shown(&machine), address, size, &reason), &reason, wanted);
+    struct gorseplumb_outcome told = gorseplumb_load(&machine, address, size);
+    CHECK(told.kind == GORSEPLUMB_KIND_FAULT && told.value == wanted.fault);
+}
+
+static void refuses_store(uint64_t address, uint32_t size, struct gorseplumb_reason wanted) {
+    struct gorseplumb_reason reason = marked();
+    tells(gorseplumb_why_store(shown(&machine), address, size, &reason), &reason, wanted);
+    struct gorseplumb_outcome told = gorseplumb_store(&machine, address, size, 0);
+    CHECK(told.kind == GORSEPLUMB_KIND_FAULT && told.value == wanted.fault);
+}
+
+static void refuses_fetch(uint64_t address, struct gorseplumb_reason wanted) {
+    struct gorseplumb_reason reason = marked();
+    tells(gorseplumb_why_fetch(shown(&machine), address, &reason), &reason, wanted);
+    struct gorseplumb_outcome told = gorseplumb_fetch(&machine, address);
+    CHECK(told.kind == GORSEPLUMB_KIND_FAULT && told.value == wanted.fault);
+}
+
+#define TRANSLATION(...) ((struct gorseplumb_reason){.fault = GORSEPLUMB_FAULT_TRANSLATION, __VA_ARGS__})
+#define FAULT(kind) ((struct gorseplumb_reason){.fault = GORSEPLUMB_FAULT_##kind})
+
+static void accesses(void) {
+    struct gorseplumb_reason reason = marked();
+    CHECK(!gorseplumb_why_load(shown(&machine), 0x40010000, 8, &reason) &&
+          !gorseplumb_why_store(shown(&machine), 0x40010000, 8, &reason));
+    for (uint32_t size = 0; size < 20; size++) {
+        if (size == 1 || size == 2 || size == 4 || size == 8) continue;
+        CHECK(!gorseplumb_why_load(shown(&machine), 0x40020000, size, &reason) &&
+              !gorseplumb_why_store(shown(&machine), 0x40020000, size, &reason));
+    }
+    CHECK(is_marked(&reason));
+    refuses_load(0x40020FFF, 1, TRANSLATION(.obstacle = GORSEPLUMB_OBSTACLE_OWNED_BY, .owner = 0x8001));
+    refuses_store(0x40030008, 8, TRANSLATION(.obstacle = GORSEPLUMB_OBSTACLE_OWNED_BY, .owner = 0x8002));
+    refuses_load(0x40000000, 8, TRANSLATION(.obstacle = GORSEPLUMB_OBSTACLE_MANAGERS_PAGE));
+    refuses_fetch(0x3FFFFFFC, TRANSLATION(.obstacle = GORSEPLUMB_OBSTACLE_OUTSIDE_RAM));
+    refuses_load(0x100000000, 1, TRANSLATION(.obstacle = GORSEPLUMB_OBSTACLE_NONE));
+    refuses_load(0x40010001, 2, FAULT(ALIGNMENT));
+    refuses_store(0x40020004, 8, FAULT(ALIGNMENT));
+    refuses_fetch(0x40010000, FAULT(PERMISSION));
+}
+
+/* Where the normal world may read its pages alone, a store is refused that a load isn't. */
+static void reads_alone(void) {
+    struct gorseplumb_lent untouched = {0};
+    struct gorseplumb_manifest manifest = {
+        .ram_base = 0x40000000,
+        .ram_blocks = 1,
+        .endpoint_count = 1,
+        .endpoints = {{.properties = 6, .region_count = 1, .regions = {{0x40010000, 16, GORSEPLUMB_READ}}}},
+    };
+    struct gorseplumb_reason reason = marked();
+    boots = true;
+    CHECK(gorseplumb_boot_manifest(&machine, &manifest) == GORSEPLUMB_OK);
+    boots = false;
+    CHECK(!gorseplumb_why_load(shown(&machine), 0x40010000, 1, &reason) && is_marked(&reason));
+    refuses_store(0x40010000, 1, FAULT(PERMISSION));
+    CHECK(gorseplumb_free(&machine, &untouched) == GORSEPLUMB_OK);
+}
+
+#define CALL(...) ((struct gorseplumb_registers){{__VA_ARGS__}})
+#define REASON(check_, error_, ...) \
+    ((struct gorseplumb_reason){.check = GORSEPLUMB_CHECK_##check_, .error = (error_), __VA_ARGS__})
+
+static void calls(void) {
+    struct gorseplumb_reason reason = marked();
+    CHECK(!gorseplumb_why_call(shown(&machine), &CALL(FFA_ID_GET), &reason) && is_marked(&reason));
+    refuses(CALL(0x84000099),
+            REASON(FUNCTION_UNKNOWN, -1, .about = GORSEPLUMB_ABOUT_REGISTER, .value = 0x84000099, .has_value = 1));
+    refuses(CALL(FFA_RX_RELEASE), REASON(RX_EMPTY, -6, .about = GORSEPLUMB_ABOUT_NOTHING));
+    refuses(CALL(FFA_RUN, 0x80030000),
+            REASON(TARGET_UNKNOWN, -2, .about = GORSEPLUMB_ABOUT_ENDPOINT, .endpoint = 0x8003));
+    refuses(CALL(FFA_RXTX_MAP, 0x4001E000, 0x4001F000, 5),
+            REASON(BUFFER_PAGE_COUNT, -2, .about = GORSEPLUMB_ABOUT_REGISTER, .number = 3, .value = 5, .has_value = 1));
+    refuses(CALL(FFA_RXTX_MAP, 0x40020000, 0x4001F000, 1),
+            REASON(TX_UNUSABLE, -6, .about = GORSEPLUMB_ABOUT_PAGE, .page = 32,
+                   .obstacle = GORSEPLUMB_OBSTACLE_OWNED_BY, .owner = 0x8001));
+    refuses(CALL(FFA_MEM_RECLAIM, 7, 0x8001),
+            REASON(NOT_THE_SENDERS, -2, .about = GORSEPLUMB_ABOUT_HANDLE, .handle = 0x0000800100000007));
+    refuses(CALL(FFA_NOTIFICATION_SET, 0x00008001, 0, 0x28),
+            REASON(BITS_NOT_THE_CALLERS, -6, .about = GORSEPLUMB_ABOUT_BIT, .number = 3));
+    /* It is what the runner would be told: of 8001 the normal world's call is another's. */
+    done(FFA_RUN, CALL(FFA_RUN, 0x80010000));
+    refuses(CALL(FFA_RUN, 0x80020000), REASON(NOT_NORMAL_WORLD, -6, .about = GORSEPLUMB_ABOUT_NOTHING));
+    done(FFA_MSG_WAIT, CALL(FFA_MSG_WAIT));
+}
+
+/* The normal world lends the first page of its region, and asks for it. */
+static void descriptors(void) {
+    done(FFA_SUCCESS, CALL(FFA_RXTX_MAP, 0x4001E000, 0x4001F000, 1));
+    /* TX is zeros, where the size of an access descriptor has 4 bytes from 24 on. */
+    refuses(CALL(FFA_MEM_LEND, 0x60, 0x60),
+            REASON(DESCRIPTOR_MALFORMED, -2, .about = GORSEPLUMB_ABOUT_FIELD,
+                   .flaw = GORSEPLUMB_FLAW_HEADER_ACCESS_SIZE, .first = 24, .size = 4, .has_value = 1));
+    /* To two receivers, of which the second would have permissions that are none: its descriptor begins at 64. */
+    stores(0x4001E000, 0x002F0000);
+    stores(0x4001E018, 0x0000000200000010);
+    stores(0x4001E020, 0x30);
+    stores(0x4001E030, 0x0000005000018001);
+    stores(0x4001E040, 0x00000050000F8002);
+    stores(0x4001E050, 0x0000000100000001);
+    stores(0x4001E060, 0x40010000);
+    stores(0x4001E068, 1);
+    refuses(CALL(FFA_MEM_LEND, 0x70, 0x70), REASON(DESCRIPTOR_MALFORMED, -2, .about = GORSEPLUMB_ABOUT_FIELD,
+                                                   .flaw = GORSEPLUMB_FLAW_ACCESS_PERMISSIONS, .index = 1, .first = 66,
+                                                   .size = 1, .value = 0x0F, .has_value = 1));
+    /* The reserved part of a header has 12 bytes from 36 on, which are no number. */
+    stores(0x4001E040, 0x0000005000018002);
+    stores(0x4001E020, 0x0000000100000030);
+    refuses(CALL(FFA_MEM_LEND, 0x70, 0x70), REASON(DESCRIPTOR_MALFORMED, -2, .about = GORSEPLUMB_ABOUT_FIELD,
+                                                   .flaw = GORSEPLUMB_FLAW_HEADER_RESERVED, .first = 36, .size = 12));
+    stores(0x4001E020, 0x30);
+    done(FFA_SUCCESS, CALL(FFA_MEM_LEND, 0x70, 0x70));
+    /* The first handle of the normal world is 1. */
+    refuses_load(0x40010008, 8, TRANSLATION(.obstacle = GORSEPLUMB_OBSTACLE_IN_TRANSACTION, .transaction = 1));
+    refuses(CALL(FFA_MEM_LEND, 0x70, 0x70), REASON(PAGE_UNSENDABLE, -6, .about = GORSEPLUMB_ABOUT_PAGE, .page = 16,
+                                                   .obstacle = GORSEPLUMB_OBSTACLE_IN_TRANSACTION, .transaction = 1));
+    done(FFA_SUCCESS, CALL(FFA_MEM_RECLAIM, 1));
+}
+
+static void without_a_machine(void) {
+    struct gorseplumb_machine none = {0};
+    struct gorseplumb_reason reason = marked();
+    CHECK(!gorseplumb_why_call(shown(&none), &CALL(0x84000099), &reason) &&
+          !gorseplumb_why_load(shown(&none), 0, 1, &reason));
+    CHECK(!gorseplumb_why_store(shown(&none), 0, 1, &reason) && !gorseplumb_why_fetch(shown(&none), 0, &reason));
+    CHECK(is_marked(&reason) && !none.live && none.at == NULL);
+}
+
+static bool is(const char *name, const char *wanted) { return strcmp(name, wanted) == 0; }
+
+static void names(void) {
+    CHECK(is(gorseplumb_call_name(FFA_RUN), "FFA_RUN") && is(gorseplumb_call_name(FFA_MSG_SEND2), "FFA_MSG_SEND2"));
+    CHECK(is(gorseplumb_call_name(FFA_MEM_SHARE | WIDE), "FFA_MEM_SHARE") &&
+          is(gorseplumb_call_name(FFA_ERROR), "FFA_ERROR"));
+    CHECK(is(gorseplumb_call_name(FFA_RUN | WIDE), "") && is(gorseplumb_call_name(0), "") &&
+          is(gorseplumb_call_name(UINT32_MAX), ""));
+    CHECK(is(gorseplumb_error_name(-1), "NOT_SUPPORTED") && is(gorseplumb_error_name(-6), "DENIED"));
+    CHECK(is(gorseplumb_error_name(-9), "NO_DATA"));
+    CHECK(is(gorseplumb_error_name(0), "") && is(gorseplumb_error_name(-10), "") && is(gorseplumb_error_name(1), ""));
+    CHECK(is(gorseplumb_error_name(INT32_MIN), "") && is(gorseplumb_error_name(INT32_MAX), ""));
+    CHECK(is(gorseplumb_check_name(GORSEPLUMB_CHECK_PAGE_UNSENDABLE),
+             "a page is not the caller's own, or is in an open transaction or a buffer"));
+    CHECK(is(gorseplumb_flaw_name(GORSEPLUMB_FLAW_ACCESS_PERMISSIONS),
+             "the permissions are none that this call may grant"));
+    CHECK(is(gorseplumb_fault_name(GORSEPLUMB_FAULT_ALIGNMENT), "alignment"));
+    CHECK(is(gorseplumb_fault_name(GORSEPLUMB_FAULT_OUTSIDE_RAM), "outside-ram"));
+    CHECK(is(gorseplumb_answer_name(GORSEPLUMB_MANIFEST_RAM_BASE), "M6 RamBase"));
+    CHECK(is(gorseplumb_answer_name(GORSEPLUMB_MANIFEST_VERSION), "M14 Version"));
+    for (uint32_t check = 1; check <= GORSEPLUMB_CHECK_STILL_HELD; check++)
+        CHECK(*gorseplumb_check_name(check) != '\0');
+    for (uint32_t flaw = 1; flaw <= GORSEPLUMB_FLAW_RELINQUISH_ENDPOINT_COUNT; flaw++)
+        CHECK(*gorseplumb_flaw_name(flaw) != '\0');
+    for (uint32_t answer = 0; answer <= GORSEPLUMB_WRONG_COUNT; answer++)
+        CHECK(*gorseplumb_answer_name(answer) != '\0');
+    static const uint32_t none[] = {0, 1000, UINT32_MAX};
+    for (int i = 0; i < 3; i++) {
+        CHECK(is(gorseplumb_check_name(none[i]), "") && is(gorseplumb_flaw_name(none[i]), "") &&
+              is(gorseplumb_fault_name(none[i]), ""));
+        CHECK(none[i] == 0 || is(gorseplumb_answer_name(none[i]), ""));
+    }
+    CHECK(is(gorseplumb_check_name(GORSEPLUMB_CHECK_STILL_HELD + 1), ""));
+    CHECK(is(gorseplumb_fault_name(GORSEPLUMB_FAULT_OUTSIDE_RAM + 1), ""));
+    CHECK(is(gorseplumb_flaw_name(GORSEPLUMB_FLAW_RELINQUISH_ENDPOINT_COUNT + 1), ""));
+}
+
+/* The number of a check in the manual's list of its call. */
+static void check_numbers(void) {
+    CHECK(gorseplumb_check_number(FFA_MEM_LEND, GORSEPLUMB_CHECK_PAGE_UNSENDABLE) == 10);
+    CHECK(gorseplumb_check_number(FFA_MEM_LEND | WIDE, GORSEPLUMB_CHECK_BUFFERS_MISSING) == 1);
+    CHECK(gorseplumb_check_number(FFA_RXTX_MAP, GORSEPLUMB_CHECK_BUFFER_PAGE_COUNT) == 2);
+    CHECK(gorseplumb_check_number(FFA_NOTIFICATION_SET, GORSEPLUMB_CHECK_BITS_NOT_THE_CALLERS) == 6);
+    CHECK(gorseplumb_check_number(FFA_MSG_SEND2, GORSEPLUMB_CHECK_RECEIVER_RX_SMALL) == 14);
+    CHECK(gorseplumb_check_number(0x84000099, GORSEPLUMB_CHECK_FUNCTION_UNKNOWN) == 1);
+    CHECK(gorseplumb_check_number(FFA_RUN | WIDE, GORSEPLUMB_CHECK_FUNCTION_UNKNOWN) == 1);
+    CHECK(gorseplumb_check_number(FFA_ID_GET, GORSEPLUMB_CHECK_FUNCTION_UNKNOWN) == 0);
+    CHECK(gorseplumb_check_number(FFA_MEM_LEND, GORSEPLUMB_CHECK_NOT_HELD) == 0 &&
+          gorseplumb_check_number(FFA_MEM_LEND, 0) == 0);
+    CHECK(gorseplumb_check_number(0x84000099, 0) == 0 && gorseplumb_check_number(FFA_MSG_SEND2, UINT32_MAX) == 0);
+}
+
+int main(void) {
+    struct gorseplumb_lent untouched = {0};
+    CHECK(sizeof(struct gorseplumb_reason) == 12 * sizeof(uint32_t) + 5 * sizeof(uint64_t));
+    without_a_machine();
+    reads_alone();
+    boots = true;
+    CHECK(gorseplumb_boot(&machine, (const uint8_t *)manifest_text, sizeof manifest_text - 1) == GORSEPLUMB_OK);
+    boots = false;
+    accesses();
+    calls();
+    descriptors();
+    CHECK(gorseplumb_free(&machine, &untouched) == GORSEPLUMB_OK);
+    names();
+    check_numbers();
+    puts("ok");
+    return 0;
+}

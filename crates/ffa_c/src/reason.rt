@@ -1,0 +1,239 @@
+// SPDX-License-Identifier: MIT OR Apache-2.0
+//! Why an operation is refused, as C sees it.
+ghost use Rattle.std.specs.Prelude.{◌≡◌, IfSome, false, is_some};
+ghost use Rattle.std.specs.Int.{cast_signed, w32};
+ghost use Rattle.ffa_model.specs.Calls.{code_number};
+ghost use Rattle.ffa_c.specs.Border.{fault_number};
+ghost use Rattle.ffa_c.specs.Why.{about_told, check_number, field_told, flaw_number, index_in, no_reason, obstacle_told, reason_told, value_told};
+
+use crate::codes::{
+    ABOUT_BIT, ABOUT_ENDPOINT, ABOUT_FIELD, ABOUT_HANDLE, ABOUT_NOTHING, ABOUT_PAGE,
+    ABOUT_REGISTER, OBSTACLE_IN_TRANSACTION, OBSTACLE_MANAGERS_PAGE, OBSTACLE_NONE,
+    OBSTACLE_OUTSIDE_RAM, OBSTACLE_OWNED_BY,
+};
+use crate::outcome::fault_code;
+use ffa_model::{About, ErrorCode, FieldPlace, Flaw, Obstacle, Refusal, Why};
+
+/// Why an operation is refused. What its tags don't name is zero.
+#[repr(C)]
+#[derive(Clone, Copy)]
+pub struct CReason {
+    /// The fault of an access, as one of `FAULT_TRANSLATION` to `FAULT_OUTSIDE_RAM`; 0 of a call.
+    pub fault: u32,
+    /// The check of a call that fails: its place among the variants of `Refusal`, counted from 1; 0 of an access.
+    pub check: u32,
+    /// The error code of a call; 0 of an access.
+    pub error: i32,
+    /// What a call's check is about, as one of `ABOUT_NOTHING` to `ABOUT_FIELD`.
+    pub about: u32,
+    /// What stands in the way of an access or at a page, as one of `OBSTACLE_NONE` to `OBSTACLE_IN_TRANSACTION`.
+    pub obstacle: u32,
+    /// With `ABOUT_PAGE`: the page.
+    pub page: u32,
+    /// With `ABOUT_ENDPOINT`: the endpoint.
+    pub endpoint: u32,
+    /// With `OBSTACLE_OWNED_BY`: the owner.
+    pub owner: u32,
+    /// With `ABOUT_REGISTER` and `ABOUT_BIT`: which.
+    pub number: u32,
+    /// With `ABOUT_FIELD`: the condition that is broken, counted through from 1.
+    pub flaw: u32,
+    /// With `ABOUT_FIELD`: which access descriptor or which range, if the field is of one.
+    pub index: u32,
+    /// Whether `value` is told: 1 with `ABOUT_REGISTER`, and with `ABOUT_FIELD` where the field's number is.
+    pub has_value: u32,
+    /// With `ABOUT_HANDLE`: the handle.
+    pub handle: u64,
+    /// With `OBSTACLE_IN_TRANSACTION`: the open transaction's handle.
+    pub transaction: u64,
+    /// With `has_value`: the number in the register or in the field.
+    pub value: u64,
+    /// With `ABOUT_FIELD`: the place of its first byte.
+    pub first: u64,
+    /// With `ABOUT_FIELD`: how many bytes it has.
+    pub size: u64,
+}
+
+impl CReason {
+    fn none() -> CReason
+        ensures { result ≡ no_reason }
+    {
+        CReason {
+            fault: 0,
+            check: 0,
+            error: 0,
+            about: ABOUT_NOTHING,
+            obstacle: OBSTACLE_NONE,
+            page: 0,
+            endpoint: 0,
+            owner: 0,
+            number: 0,
+            flaw: 0,
+            index: 0,
+            has_value: 0,
+            handle: 0,
+            transaction: 0,
+            value: 0,
+            first: 0,
+            size: 0,
+        }
+    }
+
+    /// A reason for C.
+    pub fn of(why: &Why) -> CReason
+        ensures { result ≡ reason_told why.now }
+    {
+        let mut reason = CReason::none();
+        match *why {
+            Why::Refused { refusal, about } => {
+                reason.check = number_of(refusal);
+                reason.error = error_code(refusal.code());
+                reason.tell_about(about);
+            }
+            Why::Fault { kind, obstacle } => {
+                reason.fault = fault_code(kind);
+                reason.tell_obstacle(obstacle);
+            }
+        }
+        reason
+    }
+
+    /// Takes a reason on, if there is one, and says whether there is.
+    pub fn fill(&mut self, why: Option<Why>) -> bool
+        ensures there { result ≡ is_some why }
+        ensures told { IfSome why (λ why. self.new ≡ reason_told why) }
+        ensures kept { result ≡ false → self.new ≡ self.old }
+    {
+        match why {
+            Some(why) => {
+                *self = CReason::of(&why);
+                true
+            }
+            None => false,
+        }
+    }
+
+    // What the check is about.
+    fn tell_about(&mut self, about: Option<About>)
+        ensures { self.new ≡ about_told about self.old }
+    {
+        match about {
+            None => {}
+            Some(About::Page { page, obstacle }) => {
+                self.about = ABOUT_PAGE;
+                self.page = page.0;
+                self.tell_obstacle(obstacle);
+            }
+            Some(About::Endpoint(endpoint)) => {
+                self.about = ABOUT_ENDPOINT;
+                self.endpoint = u32::from(endpoint.0);
+            }
+            Some(About::Handle(handle)) => {
+                self.about = ABOUT_HANDLE;
+                self.handle = handle;
+            }
+            Some(About::Register { register, value }) => {
+                self.about = ABOUT_REGISTER;
+                self.number = register;
+                self.tell_value(Some(value));
+            }
+            Some(About::Bit(number)) => {
+                self.about = ABOUT_BIT;
+                self.number = number;
+            }
+            Some(About::Field { flaw, place, value }) => {
+                self.about = ABOUT_FIELD;
+                self.tell_field(flaw, place);
+                self.tell_value(value);
+            }
+        }
+    }
+
+    // What stands in the way.
+    fn tell_obstacle(&mut self, obstacle: Option<Obstacle>)
+        ensures { self.new ≡ obstacle_told obstacle self.old }
+    {
+        match obstacle {
+            None => {}
+            Some(Obstacle::OutsideRam) => self.obstacle = OBSTACLE_OUTSIDE_RAM,
+            Some(Obstacle::ManagersPage) => self.obstacle = OBSTACLE_MANAGERS_PAGE,
+            Some(Obstacle::OwnedBy(owner)) => {
+                self.obstacle = OBSTACLE_OWNED_BY;
+                self.owner = u32::from(owner.0);
+            }
+            Some(Obstacle::InTransaction(handle)) => {
+                self.obstacle = OBSTACLE_IN_TRANSACTION;
+                self.transaction = handle;
+            }
+        }
+    }
+
+    // The condition that is broken, and where the field stands.
+    fn tell_field(&mut self, flaw: Flaw, place: FieldPlace)
+        ensures { self.new ≡ field_told flaw place self.old }
+    {
+        self.flaw = number_of_flaw(flaw);
+        self.index = index_in(flaw);
+        self.first = place.first;
+        self.size = place.size;
+    }
+
+    // A number, if it is told.
+    fn tell_value(&mut self, value: Option<u64>)
+        ensures { self.new ≡ value_told value self.old }
+    {
+        if let Some(value) = value {
+            self.has_value = 1;
+            self.value = value;
+        }
+    }
+}
+
+// The number of a check.
+fn number_of(refusal: Refusal) -> u32
+    ensures { result ≡ check_number refusal }
+{
+    u32::from(refusal as u8) + 1
+}
+
+// FF-A's number of a code (DEN0077A, 11.2).
+fn error_code(code: ErrorCode) -> i32
+    ensures { result ≡ cast_signed w32 (code_number code) }
+{
+    match code {
+        ErrorCode::NotSupported => -1,
+        ErrorCode::InvalidParameters => -2,
+        ErrorCode::NoMemory => -3,
+        ErrorCode::Busy => -4,
+        ErrorCode::Denied => -6,
+    }
+}
+
+// The number of a condition.
+fn number_of_flaw(flaw: Flaw) -> u32
+    ensures { result ≡ flaw_number flaw }
+{
+    match flaw {
+        Flaw::Header(flaw) => 1 + u32::from(flaw as u8),
+        Flaw::Send(flaw) => 7 + u32::from(flaw as u8),
+        Flaw::Access(_, flaw) => 12 + u32::from(flaw as u8),
+        Flaw::Composite(flaw) => 18 + u32::from(flaw as u8),
+        Flaw::Range(_, flaw) => 26 + u32::from(flaw as u8),
+        Flaw::Retrieve(flaw) => 31 + u32::from(flaw as u8),
+        Flaw::Relinquish(flaw) => 41 + u32::from(flaw as u8),
+    }
+}
+
+// The index of the access descriptor or of the range, or 0.
+fn index_in(flaw: Flaw) -> u32
+    ensures { result ≡ index_in flaw }
+{
+    match flaw {
+        Flaw::Access(index, _) | Flaw::Range(index, _) => index,
+        Flaw::Header(_)
+        | Flaw::Send(_)
+        | Flaw::Composite(_)
+        | Flaw::Retrieve(_)
+        | Flaw::Relinquish(_) => 0,
+    }
+}

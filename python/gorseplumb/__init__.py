@@ -1,0 +1,150 @@
+# SPDX-License-Identifier: MIT OR Apache-2.0
+"""Gorseplumb from Python: a proved partition manager core of FF-A 1.1, as a machine that does one operation at a time.
+
+    with Machine(Path("examples/partitions.toml")) as machine:
+        machine.do(Function.FFA_RUN, partition=0x8001)
+        machine.write(0x40028000, b"hello")
+"""
+from .access import AccessMap, Cell, Run
+from .batch import Batch, Outcomes
+from .checks import Check, Flaw
+from .codes import MANAGER, NORMAL_WORLD, PAGE_SIZE
+from .codes import About, Cause, ErrorCode, Fault, Form, Function, GrantKind, Kind, Obstacle, Properties, Right
+from .descriptors import DataAccess, InstructionAccess, Offer, PageRange, Receiver
+from .descriptors import Relinquish, Retrieve, RetrieveResponse
+from .errors import (
+    AccessFault,
+    AccessFlagFault,
+    Aborted,
+    AlignmentFault,
+    BadLine,
+    Busy,
+    CallRefused,
+    Denied,
+    GorseplumbError,
+    GuardUnmet,
+    Interrupted,
+    InvalidParameters,
+    LibraryError,
+    MachineEnded,
+    MalformedDescriptor,
+    ManifestRefused,
+    NoData,
+    NoMemory,
+    NoSuchEndpoint,
+    NoSuchPage,
+    NotRecordable,
+    NotSupported,
+    OutOfMemory,
+    OutsideRamFault,
+    PermissionFault,
+    RamLent,
+    Retry,
+    TranslationFault,
+    WrongRamSize,
+)
+from .machine import Machine, Watcher
+from .manifest import Endpoint, Manifest, Region
+from .messages import IndirectMessage, PartitionInfo, read_partitions
+from .outcomes import Call, Data, Done, Faulted, Fetch, Load, Operation, Outcome, Registers, Store
+from .questions import Change, Grant
+from .ram import Ram
+from .reasons import Hindrance, Reason, Subject
+from .recording import JsonRecording, TraceRecording
+from .registers import NamedRegisters, decode, encode
+from .trace import Difference, compare, play
+
+__version__ = "0.1.0"
+
+__all__ = [
+    "Aborted",
+    "About",
+    "AccessFault",
+    "AccessFlagFault",
+    "AccessMap",
+    "AlignmentFault",
+    "BadLine",
+    "Batch",
+    "Busy",
+    "Call",
+    "CallRefused",
+    "Cause",
+    "Cell",
+    "Change",
+    "Check",
+    "Data",
+    "DataAccess",
+    "Denied",
+    "Difference",
+    "Done",
+    "Endpoint",
+    "ErrorCode",
+    "Fault",
+    "Faulted",
+    "Fetch",
+    "Flaw",
+    "Form",
+    "Function",
+    "GorseplumbError",
+    "Grant",
+    "GrantKind",
+    "GuardUnmet",
+    "Hindrance",
+    "IndirectMessage",
+    "InstructionAccess",
+    "Interrupted",
+    "InvalidParameters",
+    "JsonRecording",
+    "Kind",
+    "LibraryError",
+    "Load",
+    "MANAGER",
+    "Machine",
+    "MachineEnded",
+    "MalformedDescriptor",
+    "Manifest",
+    "ManifestRefused",
+    "NORMAL_WORLD",
+    "NamedRegisters",
+    "NoData",
+    "NoMemory",
+    "NoSuchEndpoint",
+    "NoSuchPage",
+    "NotRecordable",
+    "NotSupported",
+    "Obstacle",
+    "Offer",
+    "Operation",
+    "OutOfMemory",
+    "Outcome",
+    "Outcomes",
+    "OutsideRamFault",
+    "PAGE_SIZE",
+    "PageRange",
+    "PartitionInfo",
+    "PermissionFault",
+    "Properties",
+    "Ram",
+    "RamLent",
+    "Reason",
+    "Receiver",
+    "Region",
+    "Registers",
+    "Relinquish",
+    "Retrieve",
+    "RetrieveResponse",
+    "Retry",
+    "Right",
+    "Run",
+    "Store",
+    "Subject",
+    "TraceRecording",
+    "TranslationFault",
+    "Watcher",
+    "WrongRamSize",
+    "compare",
+    "decode",
+    "encode",
+    "play",
+    "read_partitions",
+]

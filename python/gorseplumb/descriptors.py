@@ -1,0 +1,346 @@
+# SPDX-License-Identifier: MIT OR Apache-2.0
+"""Descriptors of memory transactions (DEN0077A, 5.11 and 16): as values, as bytes, and as operations."""
+from __future__ import annotations
+
+import struct
+from dataclasses import dataclass
+from enum import IntEnum
+from typing import Iterator, NamedTuple, Sequence
+
+from .checks import Flaw
+from .codes import PAGE_SIZE, Form, Function, Kind
+from .errors import MalformedDescriptor
+from .outcomes import Call, Operation, Store
+
+NORMAL_MEMORY = 0x2F
+MOST_RECEIVERS = 4
+MOST_RANGES = 64
+ENTRY_SIZE = 16
+"""The size of an access descriptor, of a composite without its ranges, and of a range."""
+
+_HEADER = struct.Struct("<HHIQQII")
+_REST = struct.Struct("<IIQ")
+_ACCESS = struct.Struct("<HBBIQ")
+_COMPOSITE = struct.Struct("<IIQ")
+_RANGE = struct.Struct("<QII")
+_RELINQUISH = struct.Struct("<QIIH")
+
+
+class DataAccess(IntEnum):
+    """What a permission says of loads and stores."""
+
+    UNSPECIFIED = 0
+    RO = 1
+    RW = 2
+
+
+class InstructionAccess(IntEnum):
+    """What a permission says of fetches."""
+
+    UNSPECIFIED = 0
+    NX = 1
+    X = 2
+
+
+@dataclass(frozen=True, slots=True)
+class Receiver:
+    """An endpoint of a transaction, with what it is granted, asks for, or holds."""
+
+    endpoint: int
+    data: DataAccess = DataAccess.UNSPECIFIED
+    instructions: InstructionAccess = InstructionAccess.UNSPECIFIED
+
+    @property
+    def permissions(self) -> int:
+        return self.data | self.instructions << 2
+
+
+@dataclass(frozen=True, slots=True)
+class PageRange:
+    """Pages that stand side by side, by the address of the first."""
+
+    address: int
+    pages: int
+
+    @property
+    def end(self) -> int:
+        return self.address + PAGE_SIZE * self.pages
+
+
+@dataclass(frozen=True, slots=True)
+class Offer:
+    """What a sender offers by FFA_MEM_DONATE, FFA_MEM_LEND or FFA_MEM_SHARE."""
+
+    kind: Kind
+    sender: int
+    receivers: tuple[Receiver, ...]
+    ranges: tuple[PageRange, ...]
+    zero: bool = False
+    tag: int = 0
+
+    def to_bytes(self, form: Form = Form.FFA_1_1, *, checked: bool = True) -> bytes:
+        """The descriptor. Where the machine would find it malformed, that is raised, unless it isn't to be checked."""
+        size = header_size(form)
+        composite = size + ENTRY_SIZE * len(self.receivers)
+        attributes = _attributes(self.kind, len(self.receivers))
+        data = (
+            _pack_header(form, self.sender, attributes, int(self.zero), 0, self.tag, len(self.receivers))
+            + b"".join(_pack(_ACCESS, it.endpoint, it.permissions, 0, composite, 0) for it in self.receivers)
+            + _pack_composite(self.ranges)
+        )
+        if checked:
+            Offer.from_bytes(data, self.kind, form)
+        return data
+
+    @classmethod
+    def from_bytes(cls, data: bytes, kind: Kind, form: Form = Form.FFA_1_1) -> Offer:
+        """What a descriptor of this kind says."""
+        header = _read_header(data, form)
+        _check_send(kind, header)
+        composite = _u32(data, header.array + 4)
+        receivers: list[Receiver] = []
+        for index in range(header.entries):
+            receivers.append(_read_receiver(data, kind, header, composite, index, receivers))
+        count = _read_range_count(data, header, composite)
+        ranges: list[PageRange] = []
+        for index in range(count):
+            ranges.append(_read_range(data, composite + ENTRY_SIZE * (1 + index), index, ranges))
+        _require(sum(it.pages for it in ranges) == _u32(data, composite), Flaw.COMPOSITE_TOTAL)
+        return cls(kind, header.sender, tuple(receivers), tuple(ranges), header.flags == 1, header.tag)
+
+    def operations(self, tx: int, form: Form = Form.FFA_1_1, *, checked: bool = True) -> list[Operation]:
+        """The stores that write it to TX, and its call."""
+        return _stores_and_call(tx, self.to_bytes(form, checked=checked), self.kind.function)
+
+
+@dataclass(frozen=True, slots=True)
+class Retrieve:
+    """What a receiver asks for by FFA_MEM_RETRIEVE_REQ. Without a kind any kind will do."""
+
+    sender: int
+    handle: int
+    receiver: Receiver
+    tag: int = 0
+    kind: Kind | None = None
+
+    def to_bytes(self, form: Form = Form.FFA_1_1, *, checked: bool = True) -> bytes:
+        """The descriptor, checked as that of an offer is."""
+        flags = (self.kind or 0) << 3
+        data = _pack_header(form, self.sender, 0, flags, self.handle, self.tag, 1) + _pack(
+            _ACCESS, self.receiver.endpoint, self.receiver.permissions, 0, 0, 0
+        )
+        if checked:
+            Retrieve.from_bytes(data, self.receiver.endpoint, form)
+        return data
+
+    @classmethod
+    def from_bytes(cls, data: bytes, endpoint: int, form: Form = Form.FFA_1_1) -> Retrieve:
+        """What a retrieve descriptor of this endpoint says."""
+        header = _read_header(data, form)
+        _require(header.attributes in (0, NORMAL_MEMORY), Flaw.RETRIEVE_ATTRIBUTES)
+        _require(header.flags & ~0x18 == 0, Flaw.RETRIEVE_FLAGS)
+        _require(header.entries == 1, Flaw.RETRIEVE_ACCESS_COUNT)
+        named, permissions, flags, composite, reserved = _ACCESS.unpack_from(data, header.array)
+        _require(named == endpoint, Flaw.RETRIEVE_RECEIVER_IS_ANOTHER)
+        _require(permissions & 3 != 3, Flaw.RETRIEVE_DATA_PERMISSION)
+        _require(permissions >> 2 & 3 != 3, Flaw.RETRIEVE_INSTRUCTION_PERMISSION)
+        _require(permissions >> 4 == 0, Flaw.RETRIEVE_PERMISSIONS_RESERVED)
+        _require(flags == 0, Flaw.RETRIEVE_ACCESS_FLAGS)
+        _require(composite == 0, Flaw.RETRIEVE_COMPOSITE_TOLD)
+        _require(reserved == 0, Flaw.RETRIEVE_ACCESS_RESERVED)
+        kind = Kind(header.flags >> 3) if header.flags else None
+        return cls(header.sender, header.handle, _receiver(named, permissions), header.tag, kind)
+
+    def operations(self, tx: int, form: Form = Form.FFA_1_1, *, checked: bool = True) -> list[Operation]:
+        """The stores that write it to TX, and its call."""
+        return _stores_and_call(tx, self.to_bytes(form, checked=checked), Function.FFA_MEM_RETRIEVE_REQ)
+
+
+@dataclass(frozen=True, slots=True)
+class RetrieveResponse:
+    """What FFA_MEM_RETRIEVE_RESP leaves in RX: `receiver` has the right that it holds from now on."""
+
+    kind: Kind
+    sender: int
+    handle: int
+    receiver: Receiver
+    ranges: tuple[PageRange, ...]
+    zeroed: bool = False
+    tag: int = 0
+
+    def to_bytes(self, form: Form = Form.FFA_1_1) -> bytes:
+        """The response, as the machine writes it."""
+        composite = header_size(form) + ENTRY_SIZE
+        flags = self.kind << 3 | int(self.zeroed)
+        return (
+            _pack_header(form, self.sender, NORMAL_MEMORY, flags, self.handle, self.tag, 1)
+            + _pack(_ACCESS, self.receiver.endpoint, self.receiver.permissions, 0, composite, 0)
+            + _pack_composite(self.ranges)
+        )
+
+    @classmethod
+    def from_bytes(cls, data: bytes, form: Form = Form.FFA_1_1) -> RetrieveResponse:
+        """What the bytes of RX say, of which those behind the response may be anything."""
+        header = _read_header(data, form)
+        _require(header.entries == 1, Flaw.RETRIEVE_ACCESS_COUNT)
+        named, permissions, _, composite, _ = _ACCESS.unpack_from(data, header.array)
+        _require(permissions & 3 != 3, Flaw.RETRIEVE_DATA_PERMISSION)
+        _require(permissions >> 2 & 3 != 3, Flaw.RETRIEVE_INSTRUCTION_PERMISSION)
+        _require(header.flags >> 3 & 3 != 0, Flaw.RETRIEVE_FLAGS)
+        count = _read_range_count(data, header, composite)
+        ranges = tuple(
+            PageRange(*_RANGE.unpack_from(data, composite + ENTRY_SIZE * (1 + index))[:2]) for index in range(count)
+        )
+        kind = Kind(header.flags >> 3 & 3)
+        receiver = _receiver(named, permissions)
+        return cls(kind, header.sender, header.handle, receiver, ranges, bool(header.flags & 1), header.tag)
+
+
+@dataclass(frozen=True, slots=True)
+class Relinquish:
+    """What an endpoint gives up by FFA_MEM_RELINQUISH. It has one form."""
+
+    handle: int
+    endpoint: int
+    zero: bool = False
+
+    def to_bytes(self) -> bytes:
+        """The descriptor."""
+        return _pack(_RELINQUISH, self.handle, int(self.zero), 1, self.endpoint)
+
+    @classmethod
+    def from_bytes(cls, data: bytes) -> Relinquish:
+        """What TX begins with."""
+        _require(len(data) >= _RELINQUISH.size, Flaw.RELINQUISH_SHORT)
+        handle, flags, count, endpoint = _RELINQUISH.unpack_from(data)
+        _require(flags <= 1, Flaw.RELINQUISH_FLAGS)
+        _require(count == 1, Flaw.RELINQUISH_ENDPOINT_COUNT)
+        return cls(handle, endpoint, flags == 1)
+
+    def operations(self, tx: int, form: Form = Form.FFA_1_1) -> list[Operation]:
+        """The stores that write it to TX, and its call."""
+        return [*stores(tx, self.to_bytes()), Call((Function.FFA_MEM_RELINQUISH,))]
+
+
+def header_size(form: Form) -> int:
+    """How many bytes a transaction header has."""
+    return 48 if form is Form.FFA_1_1 else 32
+
+
+def stores(address: int, data: bytes) -> Iterator[Store]:
+    """Stores that write these bytes, each as large as its address and what is left let it be."""
+    at = 0
+    while at < len(data):
+        size = 8
+        while (address + at) % size or at + size > len(data):
+            size //= 2
+        yield Store(address + at, size, int.from_bytes(data[at : at + size], "little"))
+        at += size
+
+
+class _Header(NamedTuple):
+    sender: int
+    attributes: int
+    flags: int
+    handle: int
+    tag: int
+    entries: int
+    array: int
+
+
+def _require(holds: bool, flaw: Flaw, index: int = 0) -> None:
+    if not holds:
+        raise MalformedDescriptor(flaw, index)
+
+
+def _pack(form: struct.Struct, *fields: int) -> bytes:
+    try:
+        return form.pack(*fields)
+    except struct.error as wrong:
+        raise ValueError(f"a field of the descriptor doesn't hold its number: {wrong}") from None
+
+
+def _pack_header(form: Form, sender: int, attributes: int, flags: int, handle: int, tag: int, count: int) -> bytes:
+    told = ENTRY_SIZE if form is Form.FFA_1_1 else 0
+    front = _pack(_HEADER, sender, attributes, flags, handle, tag, told, count)
+    return front + (_pack(_REST, 48, 0, 0) if form is Form.FFA_1_1 else b"")
+
+
+def _pack_composite(ranges: Sequence[PageRange]) -> bytes:
+    total = sum(it.pages for it in ranges)
+    return _pack(_COMPOSITE, total, len(ranges), 0) + b"".join(_pack(_RANGE, it.address, it.pages, 0) for it in ranges)
+
+
+def _stores_and_call(tx: int, data: bytes, function: Function) -> list[Operation]:
+    return [*stores(tx, data), Call((function, len(data), len(data)))]
+
+
+def _u32(data: bytes, at: int) -> int:
+    return int.from_bytes(data[at : at + 4], "little")
+
+
+def _receiver(endpoint: int, permissions: int) -> Receiver:
+    return Receiver(endpoint, DataAccess(permissions & 3), InstructionAccess(permissions >> 2 & 3))
+
+
+def _attributes(kind: Kind, receivers: int) -> int:
+    is_left_open = kind is Kind.DONATE or kind is Kind.LEND and receivers == 1
+    return 0 if is_left_open else NORMAL_MEMORY
+
+
+def _read_header(data: bytes, form: Form) -> _Header:
+    size = header_size(form)
+    _require(len(data) >= size, Flaw.HEADER_SHORT)
+    sender, attributes, flags, handle, tag, told, count = _HEADER.unpack_from(data)
+    array, low, high = _REST.unpack_from(data, _HEADER.size) if form is Form.FFA_1_1 else (size, 0, 0)
+    _require(told == (ENTRY_SIZE if form is Form.FFA_1_1 else 0), Flaw.HEADER_ACCESS_SIZE)
+    _require(array % 16 == 0, Flaw.HEADER_ARRAY_UNALIGNED)
+    _require(array >= size, Flaw.HEADER_ARRAY_IN_HEADER)
+    _require(array + ENTRY_SIZE * count <= len(data), Flaw.HEADER_ARRAY_OUTSIDE)
+    _require(low == high == 0, Flaw.HEADER_RESERVED)
+    return _Header(sender, attributes, flags, handle, tag, count, array)
+
+
+def _check_send(kind: Kind, header: _Header) -> None:
+    _require(header.attributes == _attributes(kind, header.entries), Flaw.SEND_ATTRIBUTES)
+    _require(header.flags <= (0 if kind is Kind.SHARE else 1), Flaw.SEND_FLAGS)
+    _require(header.handle == 0, Flaw.SEND_HANDLE)
+    _require(header.entries >= 1, Flaw.SEND_NO_RECEIVER)
+    _require(header.entries <= (1 if kind is Kind.DONATE else MOST_RECEIVERS), Flaw.SEND_MANY_RECEIVERS)
+
+
+def _read_receiver(
+    data: bytes, kind: Kind, header: _Header, composite: int, index: int, earlier: Sequence[Receiver]
+) -> Receiver:
+    endpoint, permissions, flags, told, reserved = _ACCESS.unpack_from(data, header.array + ENTRY_SIZE * index)
+    _require(permissions in ((0,) if kind is Kind.DONATE else (1, 2)), Flaw.ACCESS_PERMISSIONS, index)
+    _require(flags == 0, Flaw.ACCESS_FLAGS, index)
+    _require(told == composite, Flaw.ACCESS_OTHER_COMPOSITE, index)
+    _require(reserved == 0, Flaw.ACCESS_RESERVED, index)
+    _require(endpoint != header.sender, Flaw.ACCESS_RECEIVER_IS_SENDER, index)
+    _require(all(endpoint != it.endpoint for it in earlier), Flaw.ACCESS_RECEIVER_TWICE, index)
+    return _receiver(endpoint, permissions)
+
+
+def _read_range_count(data: bytes, header: _Header, composite: int) -> int:
+    first = composite + ENTRY_SIZE
+    _require(first <= len(data), Flaw.COMPOSITE_OUTSIDE)
+    _require(composite % 16 == 0, Flaw.COMPOSITE_UNALIGNED)
+    _require(header.array + ENTRY_SIZE * header.entries <= composite, Flaw.COMPOSITE_IN_ARRAY)
+    _, count, reserved = _COMPOSITE.unpack_from(data, composite)
+    _require(count >= 1, Flaw.COMPOSITE_NO_RANGE)
+    _require(count <= MOST_RANGES, Flaw.COMPOSITE_MANY_RANGES)
+    _require(reserved == 0, Flaw.COMPOSITE_RESERVED)
+    _require(first + ENTRY_SIZE * count <= len(data), Flaw.COMPOSITE_RANGES_OUTSIDE)
+    return int(count)
+
+
+def _read_range(data: bytes, at: int, index: int, earlier: Sequence[PageRange]) -> PageRange:
+    address, pages, reserved = _RANGE.unpack_from(data, at)
+    found = PageRange(address, pages)
+    _require(pages >= 1, Flaw.RANGE_EMPTY, index)
+    _require(address % PAGE_SIZE == 0, Flaw.RANGE_UNALIGNED, index)
+    _require(found.end <= 1 << 48, Flaw.RANGE_TOO_HIGH, index)
+    _require(reserved == 0, Flaw.RANGE_RESERVED, index)
+    _require(all(found.end <= it.address or it.end <= address for it in earlier), Flaw.RANGE_OVERLAP, index)
+    return found

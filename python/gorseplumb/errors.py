@@ -1,0 +1,225 @@
+# SPDX-License-Identifier: MIT OR Apache-2.0
+"""What may go wrong, as exceptions by name. All are GorseplumbError."""
+from __future__ import annotations
+
+from typing import TYPE_CHECKING
+
+from .checks import Check, Flaw
+from .codes import Cause, ErrorCode, Fault, Function
+
+if TYPE_CHECKING:
+    from .reasons import Reason
+
+
+class GorseplumbError(Exception):
+    """Any error of this package."""
+
+
+class LibraryError(GorseplumbError):
+    """The shared library can't be used: it isn't there, has other declarations, or lacks what is asked."""
+
+
+class MachineEnded(GorseplumbError):
+    """The machine was closed."""
+
+
+class RamLent(GorseplumbError):
+    """The RAM is lent to a machine, which has it alone until it ends."""
+
+
+class OutOfMemory(GorseplumbError, MemoryError):
+    """An allocation was refused. Nothing has changed."""
+
+
+class ManifestRefused(GorseplumbError, ValueError):
+    """A manifest makes no machine: `cause` is the first that applies."""
+
+    def __init__(self, cause: Cause) -> None:
+        super().__init__(cause.text)
+        self.cause = cause
+
+
+class WrongRamSize(GorseplumbError, ValueError):
+    """The RAM that was given has another size than the manifest's."""
+
+
+class NoSuchEndpoint(GorseplumbError, LookupError):
+    """The machine has no endpoint of this identifier."""
+
+    def __init__(self, endpoint: int) -> None:
+        super().__init__(f"the machine has no endpoint {endpoint:04X}")
+        self.endpoint = endpoint
+
+
+class NoSuchPage(GorseplumbError, IndexError):
+    """RAM has no page of this number."""
+
+
+class BadLine(GorseplumbError, ValueError):
+    """A line is none of a trace or of a log. `number` and `column` count from 1; 0 is none."""
+
+    def __init__(self, why: str, column: int = 0, number: int = 0) -> None:
+        super().__init__(why, column, number)
+        self.why, self.column, self.number = why, column, number
+
+    def __str__(self) -> str:
+        places = [f"line {self.number}"] if self.number else []
+        places += [f"column {self.column}"] if self.column else []
+        return ": ".join([", ".join(places), self.why] if places else [self.why])
+
+
+class GuardUnmet(GorseplumbError, AssertionError):
+    """A guard of a trace asks for another text than there is."""
+
+    def __init__(self, number: int, wanted: str, got: str | None) -> None:
+        told = "nothing" if got is None else f'"{got}"'
+        super().__init__(f'line {number}: wanted "{wanted}", got {told}')
+        self.number, self.wanted, self.got = number, wanted, got
+
+
+class NotRecordable(GorseplumbError):
+    """A trace can't have what is asked. Nothing was done."""
+
+
+class MalformedDescriptor(GorseplumbError, ValueError):
+    """Bytes are no descriptor: `flaw` is the first condition that they break, and `index` tells whose."""
+
+    def __init__(self, flaw: Flaw, index: int = 0) -> None:
+        super().__init__(flaw, index)
+        self.flaw, self.index = flaw, index
+
+    def __str__(self) -> str:
+        return flaw_text(self.flaw, self.index)
+
+
+def flaw_text(flaw: Flaw, index: int) -> str:
+    """The words of a flaw, behind the access descriptor or the range of which they are."""
+    if Flaw.ACCESS_PERMISSIONS <= flaw <= Flaw.ACCESS_RECEIVER_TWICE:
+        return f"access descriptor {index}: {flaw.words}"
+    if Flaw.RANGE_EMPTY <= flaw <= Flaw.RANGE_OVERLAP:
+        return f"range {index}: {flaw.words}"
+    return flaw.words
+
+
+class AccessFault(GorseplumbError):
+    """A load, a store or a fetch that wasn't done. There is a class for each kind of fault."""
+
+    def __init__(self, fault: Fault, address: int, endpoint: int, reason: Reason | None = None) -> None:
+        digits = 8 if address >> 32 == 0 else 16
+        words = f": {reason}" if reason is not None else ""
+        super().__init__(f"{fault.text} fault of {endpoint:04X} at {address:0{digits}X}{words}")
+        self.fault, self.address, self.endpoint, self.reason = fault, address, endpoint, reason
+
+
+class TranslationFault(AccessFault):
+    """The endpoint doesn't reach the page."""
+
+
+class PermissionFault(AccessFault):
+    """The endpoint reaches the page, without the right to do this."""
+
+
+class AlignmentFault(AccessFault):
+    """The address is no multiple of the size."""
+
+
+class AccessFlagFault(AccessFault):
+    """A leaf lacks the access flag. No table that the machine writes has such a leaf."""
+
+
+class OutsideRamFault(AccessFault):
+    """A leaf points out of RAM. No table that the machine writes has such a leaf."""
+
+
+class CallRefused(GorseplumbError):
+    """A call that was answered FFA_ERROR. There is a class for each code, with the code's name."""
+
+    def __init__(
+        self, code: ErrorCode | int, x0: int | None = None, caller: int | None = None, reason: Reason | None = None
+    ) -> None:
+        name = code.name if isinstance(code, ErrorCode) else f"error {code}"
+        by = f"{caller:04X}: " if caller is not None else ""
+        asked = f"{call_name(x0)}: " if x0 is not None else ""
+        super().__init__(f"{by}{asked}{name}" + (f": {reason}" if reason is not None else ""))
+        self.code, self.x0, self.caller, self.reason = code, x0, caller, reason
+
+    @property
+    def check(self) -> Check | None:
+        """The check that failed, where the library told it."""
+        return self.reason.check if self.reason is not None else None
+
+
+class NotSupported(CallRefused):
+    pass
+
+
+class InvalidParameters(CallRefused):
+    pass
+
+
+class NoMemory(CallRefused):
+    """A limit is reached, or RX is too small. (The host's memory is OutOfMemory.)"""
+
+
+class Busy(CallRefused):
+    pass
+
+
+class Interrupted(CallRefused):
+    pass
+
+
+class Denied(CallRefused):
+    pass
+
+
+class Retry(CallRefused):
+    pass
+
+
+class Aborted(CallRefused):
+    pass
+
+
+class NoData(CallRefused):
+    pass
+
+
+_FAULTS: dict[Fault, type[AccessFault]] = {
+    Fault.TRANSLATION: TranslationFault,
+    Fault.PERMISSION: PermissionFault,
+    Fault.ALIGNMENT: AlignmentFault,
+    Fault.ACCESS_FLAG: AccessFlagFault,
+    Fault.OUTSIDE_RAM: OutsideRamFault,
+}
+
+_REFUSALS: dict[ErrorCode, type[CallRefused]] = {
+    ErrorCode.NOT_SUPPORTED: NotSupported,
+    ErrorCode.INVALID_PARAMETERS: InvalidParameters,
+    ErrorCode.NO_MEMORY: NoMemory,
+    ErrorCode.BUSY: Busy,
+    ErrorCode.INTERRUPTED: Interrupted,
+    ErrorCode.DENIED: Denied,
+    ErrorCode.RETRY: Retry,
+    ErrorCode.ABORTED: Aborted,
+    ErrorCode.NO_DATA: NoData,
+}
+
+
+def call_name(x0: int) -> str:
+    """The name of the call that x0 holds, or its number."""
+    function = Function.of(x0)
+    return function.call_name if function is not None else f"{x0 & 0xFFFFFFFF:08X}"
+
+
+def access_fault(fault: Fault, address: int, endpoint: int, reason: Reason | None = None) -> AccessFault:
+    """The exception of a fault."""
+    return _FAULTS[fault](fault, address, endpoint, reason)
+
+
+def call_refused(
+    code: ErrorCode | int, x0: int | None = None, caller: int | None = None, reason: Reason | None = None
+) -> CallRefused:
+    """The exception of an error code."""
+    kind: type[CallRefused] = _REFUSALS[code] if isinstance(code, ErrorCode) else CallRefused
+    return kind(code, x0, caller, reason)

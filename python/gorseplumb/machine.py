@@ -1,0 +1,382 @@
+# SPDX-License-Identifier: MIT OR Apache-2.0
+"""The machine."""
+from __future__ import annotations
+
+import ctypes
+import os
+import struct
+import weakref
+from pathlib import Path
+from typing import TYPE_CHECKING, Callable, Iterable, Iterator, NoReturn
+
+from . import _library as c
+from ._library import library
+from .batch import Batch, Outcomes
+from .codes import Answer, Fault, Form, Function
+from .descriptors import Offer, Relinquish, Retrieve, stores
+from .errors import LibraryError, ManifestRefused, access_fault, call_refused
+from .manifest import Manifest, checked_boot
+from .messages import IndirectMessage
+from .outcomes import DONE, FAULTED, SIZES, Call, Data, Done, Faulted, Fetch, Load, Operation, Outcome, Registers, Store
+from .questions import Questions
+from .ram import Ram
+from .reasons import Reason
+from .registers import encode
+
+if TYPE_CHECKING:
+    from .recording import JsonRecording, TraceRecording
+
+
+class Watcher:
+    """Who is told of each operation of a machine."""
+
+    def before(self, machine: Machine, by: int, operation: Operation) -> None:
+        """An operation that is asked of an endpoint is about to be done. An exception stops it."""
+
+    def after(self, machine: Machine, by: int | None, operation: Operation, outcome: Outcome) -> None:
+        """An operation was done, or refused: of the endpoint that was asked for, or of the runner, which is None."""
+
+
+class _First(Watcher):
+    """Sees that a machine isn't as it booted any more."""
+
+    def after(self, machine: Machine, by: int | None, operation: Operation, outcome: Outcome) -> None:
+        machine.unwatch(self)
+
+
+_FIRST = _First()
+
+# What one operation needs, as it takes least time: a frozen dataclass is filled by its slots, and a call is handed its
+# two addresses as they are.
+_call = library.bare("call")
+_load, _store, _fetch = library.load, library.store, library.fetch
+_pack = c.REGISTERS.pack
+_unpack = struct.Struct("<16x8Q").unpack
+_new = object.__new__
+_set_runner: Callable[[Registers, int], None] = Registers.__dict__["runner"].__set__
+_set_x: Callable[[Registers, tuple[int, ...]], None] = Registers.__dict__["x"].__set__
+_set_value: Callable[[Data, int], None] = Data.__dict__["value"].__set__
+_set_size: Callable[[Data, int], None] = Data.__dict__["size"].__set__
+
+
+class Machine(Questions):
+    """A machine, of which one endpoint runs. It ends by `close`, at the end of a `with`, or when nobody has it.
+
+    Its manifest is a text, a path to one, or a Manifest. Its RAM is of the heap, or a Ram, of which all is zeros then
+    but the tables; with `keep` the pages of regions keep the bytes that they have."""
+
+    __slots__ = ("_at", "_ram", "_manifest", "_values", "_watchers", "__weakref__")
+
+    def __init__(
+        self, manifest: str | bytes | os.PathLike[str] | Manifest, ram: Ram | None = None, *, keep: bool = False
+    ) -> None:
+        if keep and ram is None:
+            raise ValueError("RAM of the heap has no bytes to keep: give a Ram")
+        self._manifest = Path(manifest).read_bytes() if isinstance(manifest, os.PathLike) else manifest
+        self._values = self._manifest if isinstance(self._manifest, Manifest) else None
+        self._raw, self._ram = c.Held(), ram
+        try:
+            self._boot(self._manifest, keep)
+        except ManifestRefused as wrong:
+            if isinstance(manifest, str) and "=" not in manifest:
+                wrong.add_note("a str is a manifest's text: to name a file give a pathlib.Path")
+            raise
+        self._end = weakref.finalize(self, _end, self._raw, ram)
+        self._at = ctypes.byref(self._raw)
+        self._endpoints = tuple(place and 0x8000 + place for place in range(library.endpoints(self._raw)))
+        self._watchers: list[Watcher] = [_FIRST]
+
+    def _boot(self, manifest: str | bytes | Manifest, keep: bool) -> None:
+        kind = "boot" if self._ram is None else "boot_held" if keep else "boot_lent"
+        told: tuple[object, ...]
+        if isinstance(manifest, Manifest):
+            kind, told = f"{kind}_manifest", (manifest.raw(),)
+        else:
+            text = manifest.encode() if isinstance(manifest, str) else bytes(manifest)
+            told = (text, len(text))
+        boot = getattr(library, kind)
+        if self._ram is None:
+            checked_boot(boot(self._raw, *told))
+            return
+        lent = self._ram.lend()
+        try:
+            checked_boot(boot(self._raw, lent, *told))
+        except BaseException:
+            self._ram.take_back()
+            raise
+
+    def close(self) -> None:
+        """Ends the machine. A Ram that was lent is the caller's again, with the bytes that it has in the end."""
+        self._end()
+
+    def __enter__(self) -> Machine:
+        return self
+
+    def __exit__(self, *_: object) -> None:
+        self.close()
+
+    def __repr__(self) -> str:
+        if not self._end.alive:
+            return "<Machine, ended>"
+        return f"<Machine of {len(self._endpoints)} endpoints, {self.runner:04X} runs>"
+
+    @property
+    def manifest_text(self) -> bytes:
+        """The text of its manifest, as the program takes it."""
+        manifest = self._manifest
+        if isinstance(manifest, Manifest):
+            return manifest.text().encode()
+        return manifest.encode() if isinstance(manifest, str) else bytes(manifest)
+
+    @property
+    def manifest(self) -> Manifest:
+        """Its manifest, as values."""
+        if self._values is None:
+            self._values = Manifest.read(self.manifest_text)
+        return self._values
+
+    def form(self, endpoint: int) -> Form:
+        """The form of an endpoint's descriptors."""
+        self._check_endpoint(endpoint)
+        if self._values is None and "read_manifest" in library.lacks:
+            return Form.FFA_1_1
+        return self.manifest.endpoints[self._endpoints.index(endpoint)].form
+
+    # OPERATIONS of the endpoint that runs. One that is refused is an outcome, and no exception.
+
+    def call(
+        self, x0: int, x1: int = 0, x2: int = 0, x3: int = 0, x4: int = 0, x5: int = 0, x6: int = 0, x7: int = 0
+    ) -> Registers:
+        """A call with these registers."""
+        try:
+            told = _call(self._at, _pack(x0, x1, x2, x3, x4, x5, x6, x7))
+        except struct.error:
+            Call((x0, x1, x2, x3, x4, x5, x6, x7))  # says which has no room
+            raise
+        if told.kind:
+            self._refuse_kind(told.kind)
+        answer = _new(Registers)
+        _set_runner(answer, told.runner)
+        _set_x(answer, _unpack(told))
+        if self._watchers:
+            self._tell(None, Call((x0, x1, x2, x3, x4, x5, x6, x7)), answer)
+        return answer
+
+    def load(self, address: int, size: int) -> Data | Faulted:
+        """A load of 1, 2, 4 or 8 bytes."""
+        if address >> 64 or size not in SIZES:
+            Load(address, size)  # says which is wrong
+        found = self._accessed(_load(self._raw, address, size), size)
+        if self._watchers:
+            self._tell(None, Load(address, size), found)
+        return found
+
+    def store(self, address: int, size: int, value: int) -> Done | Faulted:
+        """A store of a value of 1, 2, 4 or 8 bytes."""
+        if address >> 64 or size not in SIZES or value >> 8 * size:
+            Store(address, size, value)
+        found = self._stored(_store(self._raw, address, size, value))
+        if self._watchers:
+            self._tell(None, Store(address, size, value), found)
+        return found
+
+    def fetch(self, address: int) -> Data | Faulted:
+        """A fetch of one instruction, which is 4 bytes."""
+        if address >> 64:
+            Fetch(address)
+        found = self._accessed(_fetch(self._raw, address), 4)
+        if self._watchers:
+            self._tell(None, Fetch(address), found)
+        return found
+
+    # THE SAME of any endpoint, as where another processor runs it
+
+    def call_as(self, endpoint: int, *x: int) -> Registers:
+        """A call of an endpoint. Where it isn't the runner it is answered BUSY, and nothing changes."""
+        call = Call(x)
+        self._warn(endpoint, call)
+        told = library.call_as(self._raw, endpoint, _pack(*call.x))
+        if told.kind != c.KIND_REGISTERS:
+            self._refuse_kind(told.kind)
+        answer = Registers(told.runner, tuple(told.x))
+        self._tell(endpoint, call, answer)
+        return answer
+
+    def load_as(self, endpoint: int, address: int, size: int) -> Data | Faulted:
+        """A load of an endpoint, by its own table."""
+        operation = Load(address, size)
+        self._warn(endpoint, operation)
+        found = self._accessed(library.load_as(self._raw, endpoint, address, size), size)
+        self._tell(endpoint, operation, found)
+        return found
+
+    def store_as(self, endpoint: int, address: int, size: int, value: int) -> Done | Faulted:
+        """A store of an endpoint, by its own table."""
+        operation = Store(address, size, value)
+        self._warn(endpoint, operation)
+        found = self._stored(library.store_as(self._raw, endpoint, address, size, value))
+        self._tell(endpoint, operation, found)
+        return found
+
+    def fetch_as(self, endpoint: int, address: int) -> Data | Faulted:
+        """A fetch of an endpoint, by its own table."""
+        operation = Fetch(address)
+        self._warn(endpoint, operation)
+        found = self._accessed(library.fetch_as(self._raw, endpoint, address), 4)
+        self._tell(endpoint, operation, found)
+        return found
+
+    # MANY OPERATIONS, and operations that raise where they are refused
+
+    def perform(self, operation: Operation) -> Outcome:
+        """One operation of the endpoint that runs."""
+        if isinstance(operation, Call):
+            return self.call(*operation.x)
+        if isinstance(operation, Load):
+            return self.load(operation.address, operation.size)
+        if isinstance(operation, Store):
+            return self.store(operation.address, operation.size, operation.value)
+        return self.fetch(operation.address)
+
+    def run(self, operations: Batch | Iterable[Operation]) -> Outcomes:
+        """Operations one behind the other, by one call of the library."""
+        batch = operations if isinstance(operations, Batch) else Batch(operations)
+        self._check_alive()
+        outcomes = Outcomes(batch)
+        done = library.run(self._raw, batch.packed, len(batch), outcomes.raw, len(batch))
+        if done != len(batch):
+            raise LibraryError(f"{done} of {len(batch)} operations were done")
+        if self._watchers:
+            for operation, outcome in zip(batch.operations, outcomes):
+                self._tell(None, operation, outcome)
+        return outcomes
+
+    def do(self, function: Function, /, **arguments: int) -> Registers:
+        """A call by the names of its arguments, as `registers` has them. Where it is refused, that is raised."""
+        return self.require(Call(encode(function, **arguments)))
+
+    def require(self, call: Call) -> Registers:
+        """A call which, where it is refused, is raised with its reason."""
+        caller = self.runner
+        answer = self.call(*call.x)
+        code = answer.code
+        if code is not None:
+            raise call_refused(code, call.x[0], caller, self._reason_of(call))
+        return answer
+
+    def send(self, request: Offer | Retrieve | Relinquish | IndirectMessage, tx: int) -> Registers:
+        """Writes a descriptor or a message to TX of the runner, in its form, and makes its call. Where a store or the
+        call is refused, that is raised."""
+        for operation in request.operations(tx, self.form(self.runner)):
+            if isinstance(operation, Call):
+                answer = self.require(operation)
+            elif isinstance(operation, Store):
+                self._require_store(operation)
+        return answer
+
+    def read(self, address: int, size: int) -> bytes:
+        """Bytes of any place and length, by the runner's loads, each as large as it can be. A fault is raised."""
+        found = bytearray()
+        for at, piece in _pieces(address, size):
+            told = self.load(at, piece)
+            if isinstance(told, Faulted):
+                raise access_fault(told.fault, at, self.runner, self._reason_of(Load(at, piece)))
+            found += bytes(told)
+        return bytes(found)
+
+    def write(self, address: int, data: bytes) -> None:
+        """Stores bytes to any place, as `read` reads them. A fault is raised; what stands before it was stored."""
+        if address < 0 or address + len(data) > 1 << 64:
+            raise ValueError(f"{len(data)} bytes at {address:#x} aren't all in 64 bits")
+        for store in stores(address, data):
+            self._require_store(store)
+
+    def _require_store(self, store: Store) -> None:
+        told = self.store(store.address, store.size, store.value)
+        if isinstance(told, Faulted):
+            raise access_fault(told.fault, store.address, self.runner, self._reason_of(store))
+
+    # WATCHING
+
+    @property
+    def is_fresh(self) -> bool:
+        """Whether nothing was done since the boot."""
+        return _FIRST in self._watchers
+
+    def watch(self, watcher: Watcher) -> None:
+        """From now on the watcher is told of each operation."""
+        self._watchers.append(watcher)
+
+    def unwatch(self, watcher: Watcher) -> None:
+        """It isn't told any more."""
+        self._watchers.remove(watcher)
+
+    def record(self, path: os.PathLike[str] | str | None = None) -> TraceRecording:
+        """Writes what is done from now on as a trace with guards, to a path or to its `text`."""
+        from .recording import TraceRecording
+
+        return TraceRecording(self, path)
+
+    def record_json(self, path: os.PathLike[str] | str | None = None) -> JsonRecording:
+        """Writes what is done from now on as lines of JSON."""
+        from .recording import JsonRecording
+
+        return JsonRecording(self, path)
+
+    def _warn(self, endpoint: int, operation: Operation) -> None:
+        self._check_endpoint(endpoint)
+        for watcher in self._watchers:
+            watcher.before(self, endpoint, operation)
+
+    def _tell(self, by: int | None, operation: Operation, outcome: Outcome) -> None:
+        for watcher in tuple(self._watchers):
+            watcher.after(self, by, operation, outcome)
+
+    def _accessed(self, told: c.Outcome, size: int) -> Data | Faulted:
+        if told.kind == c.KIND_DATA:
+            found = _new(Data)
+            _set_value(found, told.value)
+            _set_size(found, size)
+            return found
+        if told.kind != c.KIND_FAULT:
+            self._refuse_kind(told.kind)
+        return FAULTED[Fault(told.value)]
+
+    def _stored(self, told: c.Outcome) -> Done | Faulted:
+        if told.kind == c.KIND_DONE:
+            return DONE
+        if told.kind != c.KIND_FAULT:
+            self._refuse_kind(told.kind)
+        return FAULTED[Fault(told.value)]
+
+    def _refuse_kind(self, kind: int) -> NoReturn:
+        if kind == c.KIND_NO_MACHINE:
+            self._refuse_ended()
+        raise LibraryError(f"the library answers an outcome of kind {kind}")
+
+    def _reason_of(self, operation: Operation) -> Reason | None:
+        return self.why(operation) if self.tells_why else None
+
+
+def _end(raw: c.Held, ram: Ram | None) -> None:
+    if ram is not None:
+        answer = library.free(raw, ram.lent)
+    else:
+        answer = library.end(raw) if "end" not in library.lacks else library.free(raw, c.Held())
+    if answer != Answer.OK:
+        raise LibraryError(f"the end of a machine answers {answer}")
+    if ram is not None:
+        ram.take_back()
+
+
+def _pieces(address: int, size: int) -> Iterator[tuple[int, int]]:
+    """Where the largest aligned accesses begin that make up these bytes, and how large each is."""
+    if size < 0 or address < 0 or address + size > 1 << 64:
+        raise ValueError(f"{size} bytes at {address:#x} aren't all in 64 bits")
+    end = address + size
+    while address < end:
+        piece = 8
+        while address % piece or address + piece > end:
+            piece //= 2
+        yield address, piece
+        address += piece

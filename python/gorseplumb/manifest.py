@@ -1,0 +1,117 @@
+# SPDX-License-Identifier: MIT OR Apache-2.0
+"""A manifest as values, from which a machine boots without a text."""
+from __future__ import annotations
+
+import uuid as uuids
+from dataclasses import dataclass
+from typing import Sequence
+
+from . import _library as c
+from ._library import library
+from .codes import Answer, Cause, Form, Properties, Right
+from .errors import LibraryError, ManifestRefused, OutOfMemory, WrongRamSize
+
+_NIL = uuids.UUID(int=0)
+_RIGHTS = {Right.RO: "ro", Right.RW: "rw", Right.ROX: "rox", Right.RWX: "rwx"}
+
+
+@dataclass(frozen=True, slots=True)
+class Region:
+    """Pages in a row that an endpoint owns from the start, by the address of the first."""
+
+    base: int
+    pages: int
+    rights: Right = Right.RW
+
+
+@dataclass(frozen=True)
+class Endpoint:
+    """An endpoint. The first of a manifest is the normal world, which has no UUID."""
+
+    regions: Sequence[Region]
+    properties: Properties = Properties(0)
+    uuid: uuids.UUID | None = None
+    form: Form = Form.FFA_1_1
+
+
+@dataclass(frozen=True)
+class Manifest:
+    """RAM, from `ram_base` on in blocks of 2 MiB, and the endpoints in their order."""
+
+    ram_base: int
+    ram_blocks: int
+    endpoints: Sequence[Endpoint]
+
+    @classmethod
+    def read(cls, text: str | bytes) -> Manifest:
+        """What a manifest's text says. A text that can't be read is refused by its cause, as a boot does."""
+        data = text.encode() if isinstance(text, str) else text
+        raw = c.Manifest()
+        checked_boot(library.read_manifest(data, len(data), raw))
+        endpoints = [_endpoint(it, place) for place, it in enumerate(raw.endpoints[: raw.endpoint_count])]
+        return cls(raw.ram_base, raw.ram_blocks, endpoints)
+
+    def text(self) -> str:
+        """The same as the text of a manifest."""
+        lines = [f"ram_base = 0x{self.ram_base:08X}", f"ram_blocks = {self.ram_blocks}"]
+        for endpoint in self.endpoints:
+            lines += ["", "[[endpoint]]", f'version = "{endpoint.form.text}"']
+            lines += [f'uuid = "{endpoint.uuid}"'] if endpoint.uuid is not None else []
+            lines += [f"properties = {int(endpoint.properties)}", "regions = ["]
+            lines += [
+                f'    {{ base = 0x{it.base:08X}, pages = {it.pages}, rights = "{_RIGHTS.get(it.rights, "none")}" }},'
+                for it in endpoint.regions
+            ]
+            lines.append("]")
+        return "\n".join(lines) + "\n"
+
+    def raw(self) -> c.Manifest:
+        """The same for the library. What has no room there is refused by the cause that it has."""
+        if len(self.endpoints) > c.MOST_ENDPOINTS:
+            raise ManifestRefused(Cause.ENDPOINT_COUNT)
+        raw = c.Manifest(
+            _fit(self.ram_base, Cause.RAM_BASE), _fit(self.ram_blocks, Cause.RAM_BLOCKS), len(self.endpoints)
+        )
+        for place, endpoint in zip(raw.endpoints, self.endpoints):
+            _put_endpoint(place, endpoint)
+        return raw
+
+
+def checked_boot(answer: int) -> None:
+    """Raises what a boot answers, where it isn't that it is done."""
+    if answer == Answer.OK:
+        return
+    if answer == Answer.NO_MEMORY:
+        raise OutOfMemory("an allocation was refused")
+    if answer == Answer.WRONG_COUNT:
+        raise WrongRamSize("the RAM has another size than the manifest says")
+    try:
+        cause = Cause(answer)
+    except ValueError:
+        raise LibraryError(f"a boot answers {answer}") from None
+    raise ManifestRefused(cause)
+
+
+def _fit(number: int, cause: Cause) -> int:
+    if number >> 32:
+        raise ManifestRefused(cause)
+    return number
+
+
+def _put_endpoint(place: c.Endpoint, endpoint: Endpoint) -> None:
+    if len(endpoint.regions) > c.MOST_REGIONS:
+        raise ManifestRefused(Cause.REGION_COUNT)
+    place.version = int(endpoint.form)
+    place.properties = _fit(int(endpoint.properties), Cause.PROPERTY)
+    place.uuid[:] = (endpoint.uuid or _NIL).bytes
+    place.region_count = len(endpoint.regions)
+    for slot, region in zip(place.regions, endpoint.regions):
+        slot.base = _fit(region.base, Cause.REGION_OUTSIDE)
+        slot.pages = _fit(region.pages, Cause.REGION_OUTSIDE)
+        slot.rights = int(region.rights)
+
+
+def _endpoint(raw: c.Endpoint, place: int) -> Endpoint:
+    regions = [Region(it.base, it.pages, Right(it.rights)) for it in raw.regions[: raw.region_count]]
+    named = uuids.UUID(bytes=bytes(raw.uuid)) if place else None
+    return Endpoint(regions, Properties(raw.properties), named, Form(raw.version))

@@ -1,0 +1,173 @@
+# SPDX-License-Identifier: MIT OR Apache-2.0
+"""Operations, and what comes of them. `str` of each is its line: that of a trace, or that which the program prints.
+
+An operation whose numbers have no room is a ValueError when it is made."""
+from __future__ import annotations
+
+from dataclasses import dataclass
+from typing import Union
+
+from .codes import ErrorCode, Fault, Function
+from .errors import call_refused
+
+SIZES = (1, 2, 4, 8)
+
+
+def _check_access(address: int, size: int) -> None:
+    if address >> 64:
+        raise ValueError(f"an address has 64 bits, and is {address:#x}")
+    if size not in SIZES:
+        raise ValueError(f"an access has 1, 2, 4 or 8 bytes, and not {size}")
+
+
+@dataclass(frozen=True, slots=True)
+class Call:
+    """A call with these registers, x0 first. Those that aren't given are 0."""
+
+    x: tuple[int, ...]
+
+    def __post_init__(self) -> None:
+        if not 1 <= len(self.x) <= 8:
+            raise ValueError(f"a call has one to eight registers, and not {len(self.x)}")
+        for place, register in enumerate(self.x):
+            if register >> 64:
+                raise ValueError(f"x{place} has 64 bits, and is {register:#x}")
+        if len(self.x) < 8:
+            object.__setattr__(self, "x", (*self.x, *(0,) * (8 - len(self.x))))
+
+    def __str__(self) -> str:
+        used = max((place for place, register in enumerate(self.x, 1) if register), default=1)
+        return "call " + " ".join(f"{register:X}" for register in self.x[:used])
+
+
+@dataclass(frozen=True, slots=True)
+class Load:
+    """A load of 1, 2, 4 or 8 bytes."""
+
+    address: int
+    size: int
+
+    def __post_init__(self) -> None:
+        _check_access(self.address, self.size)
+
+    def __str__(self) -> str:
+        return f"load {self.address:08X} {self.size}"
+
+
+@dataclass(frozen=True, slots=True)
+class Store:
+    """A store of the lowest 1, 2, 4 or 8 bytes of a value."""
+
+    address: int
+    size: int
+    value: int
+
+    def __post_init__(self) -> None:
+        _check_access(self.address, self.size)
+        if self.value >> 8 * self.size:
+            raise ValueError(f"{self.value:#x} doesn't fit in {self.size} bytes")
+
+    def __str__(self) -> str:
+        return f"store {self.address:08X} {self.value:0{2 * self.size}X}"
+
+
+@dataclass(frozen=True, slots=True)
+class Fetch:
+    """A fetch of one instruction, which is 4 bytes."""
+
+    address: int
+
+    def __post_init__(self) -> None:
+        _check_access(self.address, 4)
+
+    def __str__(self) -> str:
+        return f"fetch {self.address:08X}"
+
+
+Operation = Union[Call, Load, Store, Fetch]
+
+
+@dataclass(frozen=True, slots=True)
+class Registers:
+    """What a call gives: `runner` runs next, and sees the eight registers `x`."""
+
+    runner: int
+    x: tuple[int, ...]
+
+    def __str__(self) -> str:
+        return f"regs {self.runner:04X} " + " ".join(f"{register:016X}" for register in self.x)
+
+    @property
+    def function(self) -> Function | None:
+        """What w0 names."""
+        return Function.of(self.x[0])
+
+    @property
+    def code(self) -> ErrorCode | int | None:
+        """The code of an FFA_ERROR, as a plain number where the standard has none such; else none."""
+        if self.x[0] & 0xFFFFFFFF != Function.FFA_ERROR:
+            return None
+        code = ErrorCode.of(self.x[2])
+        return code if code is not None else self.x[2] & 0xFFFFFFFF
+
+    @property
+    def is_error(self) -> bool:
+        return self.x[0] & 0xFFFFFFFF == Function.FFA_ERROR
+
+    @property
+    def handle(self) -> int:
+        """The handle in w2 and w3, where this answers an offer of memory."""
+        return self.x[2] & 0xFFFFFFFF | (self.x[3] & 0xFFFFFFFF) << 32
+
+    @property
+    def names(self) -> str:
+        """The names of the call that these registers are and of its error, as `--names` has them, or an empty text."""
+        function = self.function
+        if function is None:
+            return ""
+        code = ErrorCode.of(self.x[2]) if self.is_error else None
+        return function.call_name + (f" {code.name}" if code is not None else "")
+
+    def ok(self) -> Registers:
+        """Itself, where it is no FFA_ERROR; else the exception of its code."""
+        code = self.code
+        if code is not None:
+            raise call_refused(code)
+        return self
+
+
+@dataclass(frozen=True, slots=True)
+class Data:
+    """What a load or a fetch gives: `size` bytes, the lowest first."""
+
+    value: int
+    size: int
+
+    def __str__(self) -> str:
+        return f"data {self.value:0{2 * self.size}X}"
+
+    def __bytes__(self) -> bytes:
+        return self.value.to_bytes(self.size, "little")
+
+
+@dataclass(frozen=True, slots=True)
+class Done:
+    """A store was done."""
+
+    def __str__(self) -> str:
+        return "done"
+
+
+@dataclass(frozen=True, slots=True)
+class Faulted:
+    """An access wasn't done, and changed nothing."""
+
+    fault: Fault
+
+    def __str__(self) -> str:
+        return f"fault {self.fault.text}"
+
+
+Outcome = Union[Registers, Data, Done, Faulted]
+DONE = Done()
+FAULTED = {fault: Faulted(fault) for fault in Fault}

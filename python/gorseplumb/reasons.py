@@ -1,0 +1,117 @@
+# SPDX-License-Identifier: MIT OR Apache-2.0
+"""Why an operation is refused."""
+from __future__ import annotations
+
+from dataclasses import dataclass
+
+from .checks import Check, Flaw
+from .codes import MANAGER, About, ErrorCode, Fault, Function, Obstacle
+from .errors import call_name, flaw_text
+from .outcomes import Call, Fetch, Load, Operation, Store
+from .registers import is_read_whole
+
+
+@dataclass(frozen=True, slots=True)
+class Hindrance:
+    """What stands in the way at a page: who owns it, or the open transaction in which it stands."""
+
+    obstacle: Obstacle
+    owner: int = MANAGER
+    transaction: int = 0
+
+    def __str__(self) -> str:
+        return {
+            Obstacle.NONE: "",
+            Obstacle.OUTSIDE_RAM: " is outside RAM",
+            Obstacle.MANAGERS_PAGE: " belongs to the manager",
+            Obstacle.OWNED_BY: f" belongs to {self.owner:04X}",
+            Obstacle.IN_TRANSACTION: f" is in the open transaction {self.transaction:016X}",
+        }[self.obstacle]
+
+
+@dataclass(frozen=True, slots=True)
+class Subject:
+    """What a check speaks of. Only what `about` says has a meaning."""
+
+    about: About
+    address: int = 0
+    """PAGE: of its first byte"""
+    endpoint: int = 0
+    handle: int = 0
+    number: int = 0
+    """REGISTER: which; BIT: which; FIELD: the index of the access descriptor or of the range"""
+    flaw: Flaw | None = None
+    value: int | None = None
+    """REGISTER, FIELD: what is there, where that can be told"""
+    first: int = 0
+    size: int = 0
+
+
+@dataclass(frozen=True, slots=True)
+class Reason:
+    """Why an operation is refused. `str` is what the program says of it with `--explain`."""
+
+    operation: Operation
+    fault: Fault | None
+    check: Check | None
+    check_number: int
+    """The number of the check in the manual's list of the call; 0 where there is none."""
+    code: ErrorCode | None
+    subject: Subject
+    hindrance: Hindrance
+
+    def __str__(self) -> str:
+        if isinstance(self.operation, Call):
+            return _call_text(self.operation, self)
+        return _access_text(self.operation, self)
+
+
+def _address(address: int) -> str:
+    return f"{address:08X}" if address >> 32 == 0 else f"{address:016X}"
+
+
+def _call_text(call: Call, reason: Reason) -> str:
+    name = f"{call_name(call.x[0])} " if Function.of(call.x[0]) is not None else ""
+    number = f"check {reason.check_number}: " if reason.check_number else ""
+    words = reason.check.words if reason.check is not None else ""
+    told = _subject_text(call, reason)
+    return f"{name}{number}{words}" + (f": {told}" if told else "")
+
+
+def _subject_text(call: Call, reason: Reason) -> str:
+    it = reason.subject
+    if it.about is About.PAGE:
+        return f"{_address(it.address)}{reason.hindrance}"
+    if it.about is About.ENDPOINT:
+        return f"endpoint {it.endpoint:04X}"
+    if it.about is About.HANDLE:
+        return f"handle {it.handle:016X}"
+    if it.about is About.REGISTER:
+        letter = "x" if is_read_whole(call.x[0], it.number) else "w"
+        return f"{letter}{it.number} is {_address(it.value or 0)}"
+    if it.about is About.BIT:
+        return f"bit {it.number}"
+    return _field_text(it) if it.about is About.FIELD else ""
+
+
+def _field_text(it: Subject) -> str:
+    words = flaw_text(it.flaw, it.number) if it.flaw is not None else ""
+    if it.size <= 1:
+        place, verb = f"byte {it.first}", "is"
+    else:
+        place, verb = f"bytes {it.first} to {it.first + it.size - 1}", "are"
+    value = f" {verb} {it.value:0{2 * it.size}X}" if it.value is not None else ""
+    return f"{words}: {place}{value}"
+
+
+def _access_text(operation: Load | Store | Fetch, reason: Reason) -> str:
+    size = 4 if isinstance(operation, Fetch) else operation.size
+    verb = {Load: "read", Store: "written", Fetch: "executed"}[type(operation)]
+    words = {
+        Fault.TRANSLATION: str(reason.hindrance) or " has more than 32 bits",
+        Fault.PERMISSION: f" may not be {verb}",
+        Fault.ALIGNMENT: f" is no multiple of {size}",
+        Fault.ACCESS_FLAG: " has no access flag",
+        Fault.OUTSIDE_RAM: " leads out of RAM",
+    }
+    return _address(operation.address) + (words[reason.fault] if reason.fault is not None else "")

@@ -1,0 +1,108 @@
+# SPDX-License-Identifier: MIT OR Apache-2.0
+"""What is done with a machine, written down: as a trace with guards, or as lines of JSON."""
+from __future__ import annotations
+
+import io
+import os
+from pathlib import Path
+from typing import Self, TextIO
+
+from . import jsonlines
+from .errors import NotRecordable
+from .machine import Machine, Watcher
+from .outcomes import Operation, Outcome, Registers, Store
+
+
+class Recording(Watcher):
+    """Writes each operation of a machine as it is done, until it is stopped: to a path, or to `text`."""
+
+    def __init__(self, machine: Machine, path: os.PathLike[str] | str | None = None) -> None:
+        self.machine = machine
+        self._file = _opened(path)
+        self._is_watching = True
+        machine.watch(self)
+
+    @property
+    def text(self) -> str:
+        """What was written so far, where it wasn't written to a path."""
+        if not isinstance(self._file, io.StringIO):
+            raise ValueError("it was written to a path")
+        return self._file.getvalue()
+
+    def stop(self) -> None:
+        """Nothing more is written. What was is in the file."""
+        if not self._is_watching:
+            return
+        self._is_watching = False
+        self.machine.unwatch(self)
+        if not isinstance(self._file, io.StringIO):
+            self._file.close()
+
+    def __enter__(self) -> Self:
+        return self
+
+    def __exit__(self, *_: object) -> None:
+        self.stop()
+
+    def _put(self, line: str) -> None:
+        self._file.write(line + "\n")
+
+
+def _opened(path: os.PathLike[str] | str | None) -> TextIO:
+    # Line by line, so that what was done is there even where the process doesn't end well.
+    return io.StringIO() if path is None else Path(path).open("w", 1, encoding="ascii", newline="\n")
+
+
+class TraceRecording(Recording):
+    """A trace in which each answer is a guard: `ffaplay run --strict` plays it where it answers the same."""
+
+    def __init__(self, machine: Machine, path: os.PathLike[str] | str | None = None) -> None:
+        if not machine.is_fresh:
+            raise NotRecordable("a trace begins at the boot, and this machine has done something already")
+        super().__init__(machine, path)
+        self._told: int | None = None
+        self._runner = machine.runner
+
+    def before(self, machine: Machine, by: int, operation: Operation) -> None:
+        if isinstance(operation, Store) and by != self._runner:
+            raise NotRecordable(f"a trace has stores of the endpoint that runs alone, which is {self._runner:04X}")
+
+    def after(self, machine: Machine, by: int | None, operation: Operation, outcome: Outcome) -> None:
+        if by is not None and by != self._runner:
+            self.note(f"{by:04X}, which doesn't run: {operation}: {outcome}")
+            return
+        if self._told != self._runner:
+            self._put(f"#@ {self._runner:04X}")
+            self._told = self._runner
+        self._put(str(operation))
+        self._put(f"#= {outcome}")
+        if isinstance(outcome, Registers):
+            self._runner = outcome.runner
+
+    def note(self, words: str) -> None:
+        """A comment."""
+        for line in words.splitlines():
+            self._put(f"# {line}".encode("ascii", "backslashreplace").decode())
+
+    def show(self) -> list[str]:
+        """Asks `show`, and writes it with what it prints."""
+        return self._ask("show", self.machine.show())
+
+    def audit(self) -> list[str]:
+        """Asks `audit`, and writes it with what it prints."""
+        return self._ask("audit", self.machine.certificate())
+
+    def _ask(self, question: str, told: list[str]) -> list[str]:
+        self._put(question)
+        for line in told:
+            self._put(f"#= {line}")
+        return told
+
+
+class JsonRecording(Recording):
+    """Lines of JSON, one for each operation and its outcome."""
+
+    def after(self, machine: Machine, by: int | None, operation: Operation, outcome: Outcome) -> None:
+        self._put(jsonlines.dumps(operation, outcome, by))
+
+

@@ -1,0 +1,174 @@
+# SPDX-License-Identifier: MIT OR Apache-2.0
+"""Registers by name: what each call takes and answers, read from eight registers or written to them."""
+from __future__ import annotations
+
+from dataclasses import dataclass
+from typing import Mapping
+
+from .codes import ErrorCode, Function
+from .errors import call_name
+
+Place = tuple[tuple[int, int, int], ...]
+"""Where a number stands: pieces of a register each, as (register, lowest bit, bits), the lowest piece first."""
+
+
+def _word(register: int) -> Place:
+    return ((register, 0, 32),)
+
+
+def _bits(register: int, highest: int, lowest: int) -> Place:
+    return ((register, lowest, highest - lowest + 1),)
+
+
+def _pair(register: int) -> Place:
+    return ((register, 0, 32), (register + 1, 0, 32))
+
+
+_PAIR_OF_ENDPOINTS = {"sender": _bits(1, 31, 16), "receiver": _bits(1, 15, 0)}
+_TARGET = {"partition": _bits(1, 31, 16), "context": _bits(1, 15, 0)}
+_DESCRIPTOR = {"length": _word(1), "fragment": _word(2), "address": _word(3), "pages": _word(4)}
+_MESSAGE = {**_PAIR_OF_ENDPOINTS, "flags": _word(2), **{f"payload{i}": _word(3 + i) for i in range(5)}}
+_BITS = {**_PAIR_OF_ENDPOINTS, "flags": _word(2), "bits": _pair(3)}
+
+ARGUMENTS: Mapping[Function, Mapping[str, Place]] = {
+    Function.FFA_ERROR: {"code": _word(2)},
+    Function.FFA_SUCCESS: {},
+    Function.FFA_VERSION: {"major": _bits(1, 30, 16), "minor": _bits(1, 15, 0)},
+    Function.FFA_FEATURES: {"feature": _word(1)},
+    Function.FFA_RX_RELEASE: {},
+    Function.FFA_RXTX_MAP: {"tx": _word(1), "rx": _word(2), "pages": _word(3)},
+    Function.FFA_RXTX_UNMAP: {"endpoint": _word(1)},
+    Function.FFA_PARTITION_INFO_GET: {
+        "uuid": ((1, 0, 32), (2, 0, 32), (3, 0, 32), (4, 0, 32)),
+        "count_only": _bits(5, 0, 0),
+    },
+    Function.FFA_ID_GET: {},
+    Function.FFA_MSG_WAIT: _TARGET,
+    Function.FFA_YIELD: _TARGET,
+    Function.FFA_RUN: _TARGET,
+    Function.FFA_MSG_SEND_DIRECT_REQ: _MESSAGE,
+    Function.FFA_MSG_SEND_DIRECT_RESP: _MESSAGE,
+    Function.FFA_MEM_DONATE: _DESCRIPTOR,
+    Function.FFA_MEM_LEND: _DESCRIPTOR,
+    Function.FFA_MEM_SHARE: _DESCRIPTOR,
+    Function.FFA_MEM_RETRIEVE_REQ: _DESCRIPTOR,
+    Function.FFA_MEM_RETRIEVE_RESP: {"length": _word(1), "fragment": _word(2)},
+    Function.FFA_MEM_RELINQUISH: {},
+    Function.FFA_MEM_RECLAIM: {"handle": _pair(1), "flags": _word(3)},
+    Function.FFA_NOTIFICATION_BITMAP_CREATE: {"endpoint": _word(1), "contexts": _word(2)},
+    Function.FFA_NOTIFICATION_BITMAP_DESTROY: {"endpoint": _word(1)},
+    Function.FFA_NOTIFICATION_BIND: _BITS,
+    Function.FFA_NOTIFICATION_UNBIND: _BITS,
+    Function.FFA_NOTIFICATION_SET: _BITS,
+    Function.FFA_NOTIFICATION_GET: {"receiver": _bits(1, 15, 0), "context": _bits(1, 31, 16), "flags": _word(2)},
+    Function.FFA_SPM_ID_GET: {},
+    Function.FFA_MSG_SEND2: {},
+}
+"""What the registers of each call and answer hold, in the 32-bit form."""
+
+RESULTS: Mapping[Function, Mapping[str, Place]] = {
+    Function.FFA_FEATURES: {"properties": _word(2)},
+    Function.FFA_PARTITION_INFO_GET: {"count": _word(2), "size": _word(3)},
+    Function.FFA_ID_GET: {"endpoint": _word(2)},
+    Function.FFA_SPM_ID_GET: {"endpoint": _word(2)},
+    Function.FFA_MEM_DONATE: {"handle": _pair(2)},
+    Function.FFA_MEM_LEND: {"handle": _pair(2)},
+    Function.FFA_MEM_SHARE: {"handle": _pair(2)},
+    Function.FFA_NOTIFICATION_GET: {"partitions": _pair(2), "normal_world": _pair(4), "manager": _word(6)},
+}
+"""What an FFA_SUCCESS holds that answers a call."""
+
+_READ_WHOLE: Mapping[Function, frozenset[int]] = {
+    Function.FFA_RXTX_MAP_64: frozenset({1, 2}),
+    Function.FFA_MSG_SEND_DIRECT_REQ_64: frozenset({3, 4, 5, 6, 7}),
+    Function.FFA_MSG_SEND_DIRECT_RESP_64: frozenset({3, 4, 5, 6, 7}),
+    Function.FFA_MEM_DONATE_64: frozenset({3}),
+    Function.FFA_MEM_LEND_64: frozenset({3}),
+    Function.FFA_MEM_SHARE_64: frozenset({3}),
+    Function.FFA_MEM_RETRIEVE_REQ_64: frozenset({3}),
+}
+
+
+@dataclass(frozen=True)
+class NamedRegisters:
+    """The function of eight registers, and what they hold, by name."""
+
+    function: Function
+    arguments: Mapping[str, int]
+
+    def __str__(self) -> str:
+        told = [f"{name}={_text(self.function, name, value)}" for name, value in self.arguments.items()]
+        return " ".join([self.function.call_name, *told])
+
+
+def is_read_whole(x0: int, register: int) -> bool:
+    """Whether a call reads all 64 bits of a register."""
+    function = Function.of(x0)
+    return function is not None and register in _READ_WHOLE.get(function, ())
+
+
+def places(function: Function) -> Mapping[str, Place]:
+    """Where the arguments of a call stand, in the form that it is."""
+    narrow = ARGUMENTS[Function[function.call_name]]
+    whole = _READ_WHOLE.get(function, frozenset())
+    return {
+        name: tuple((register, low, 64 if register in whole else bits) for register, low, bits in place)
+        for name, place in narrow.items()
+    }
+
+
+def encode(function: Function, /, **arguments: int) -> tuple[int, ...]:
+    """Eight registers that make a call. Arguments that aren't given are 0, but for `fragment`, which is `length`."""
+    known = places(function)
+    unknown = [name for name in arguments if name not in known]
+    if unknown:
+        has = ", ".join(known) or "no arguments"
+        raise TypeError(f"{function.call_name} has no argument {unknown[0]!r}: it has {has}")
+    if "fragment" in known and "fragment" not in arguments:
+        arguments["fragment"] = arguments.get("length", 0)
+    x = [int(function), *(0,) * 7]
+    for name, value in arguments.items():
+        _write(x, known[name], value, name)
+    return tuple(x)
+
+
+def decode(x: tuple[int, ...], answers: int | None = None) -> NamedRegisters | None:
+    """What registers hold, by name; none where w0 names nothing. `answers` is the w0 of the call that they answer."""
+    function = Function.of(x[0])
+    if function is None:
+        return None
+    found = places(function)
+    asked = Function.of(answers) if answers is not None else None
+    if function is Function.FFA_SUCCESS and asked is not None:
+        found = RESULTS.get(Function[asked.call_name], {})
+    return NamedRegisters(function, {name: _read(x, place) for name, place in found.items()})
+
+
+def _read(x: tuple[int, ...], place: Place) -> int:
+    value, at = 0, 0
+    for register, low, bits in place:
+        value |= (x[register] >> low & (1 << bits) - 1) << at
+        at += bits
+    return value
+
+
+def _write(x: list[int], place: Place, value: int, name: str) -> None:
+    room = sum(bits for _, _, bits in place)
+    if value >> room:
+        raise ValueError(f"{name} has {room} bits, and is {value:#x}")
+    for register, low, bits in place:
+        x[register] |= (value & (1 << bits) - 1) << low
+        value >>= bits
+
+
+def _text(function: Function, name: str, value: int) -> str:
+    if function is Function.FFA_ERROR and name == "code":
+        code = ErrorCode.of(value)
+        return code.name if code is not None else f"{value:08X}"
+    if name == "feature":
+        return call_name(value)
+    if name == "uuid":
+        return value.to_bytes(16, "little").hex()
+    if name in ("sender", "receiver", "partition", "endpoint"):
+        return f"{value:04X}"
+    return f"{value:016X}" if name == "handle" else f"{value:X}"

@@ -1,0 +1,197 @@
+# SPDX-License-Identifier: MIT OR Apache-2.0
+"""Descriptors: the bytes that the manual's traces store, each form, and the first condition that bytes break."""
+from __future__ import annotations
+
+import struct
+
+import pytest
+
+from gorseplumb import DataAccess, Flaw, Form, InstructionAccess, Kind, MalformedDescriptor, Offer, PageRange
+from gorseplumb import Receiver, Relinquish, Retrieve, RetrieveResponse, Store
+
+FORMS = [Form.FFA_1_1, Form.COMPACT]
+RW = DataAccess.RW
+LEND = Offer(Kind.LEND, 0x8001, (Receiver(0x8002, RW),), (PageRange(0x40021000, 1),))
+TO_TWO = Offer(
+    Kind.SHARE,
+    0x8001,
+    (Receiver(0x8002, RW), Receiver(0x8003, DataAccess.RO)),
+    (PageRange(0x40021000, 2), PageRange(0x40028000, 1)),
+    tag=0x1122334455667788,
+)
+
+
+def test_writes_the_lend_that_the_manual_has() -> None:
+    # docs/COMMANDS.md, "Descriptors from words"
+    told = """store 4002E000 0000000000008001
+store 4002E008 0000000000000000
+store 4002E010 0000000000000000
+store 4002E018 0000000100000010
+store 4002E020 0000000000000030
+store 4002E028 0000000000000000
+store 4002E030 0000004000028002
+store 4002E038 0000000000000000
+store 4002E040 0000000100000001
+store 4002E048 0000000000000000
+store 4002E050 0000000040021000
+store 4002E058 0000000000000001
+call 84000072 60 60"""
+    assert [str(it) for it in LEND.operations(0x4002E000)] == told.split("\n")
+
+
+def test_writes_the_descriptors_of_the_shared_page() -> None:
+    # examples/sharing.trace stores those of their words that aren't zeros
+    share = Offer(Kind.SHARE, 0x8001, (Receiver(0x8002, DataAccess.RO),), (PageRange(0x40028000, 1),))
+    assert words(share.to_bytes()) == {
+        0x00: 0x00000000002F8001,
+        0x18: 0x0000000100000010,
+        0x20: 0x0000000000000030,
+        0x30: 0x0000004000018002,
+        0x40: 0x0000000100000001,
+        0x50: 0x0000000040028000,
+        0x58: 0x0000000000000001,
+    }
+    retrieve = Retrieve(0x8001, 0x0000800100000001, Receiver(0x8002))
+    assert words(retrieve.to_bytes()) == {
+        0x00: 0x8001,
+        0x08: 0x0000800100000001,
+        0x18: 0x0000000100000010,
+        0x20: 0x30,
+        0x30: 0x8002,
+    }
+    given_up = Relinquish(0x0000800100000001, 0x8002).operations(0x40206000)
+    assert given_up[0] == Store(0x40206000, 8, 0x0000800100000001)
+    assert [str(it) for it in given_up] == [
+        "store 40206000 0000800100000001",
+        "store 40206008 0000000100000000",
+        "store 40206010 8002",
+        "call 84000076",
+    ]
+
+
+def words(data: bytes) -> dict[int, int]:
+    """The words of some bytes that aren't zero, by their place."""
+    return {8 * place: word for place, (word,) in enumerate(struct.iter_unpack("<Q", data)) if word}
+
+
+@pytest.mark.parametrize("form", FORMS)
+@pytest.mark.parametrize("offer", [LEND, TO_TWO, Offer(Kind.DONATE, 1, (Receiver(2),), (PageRange(4096, 3),), True, 9)])
+def test_reads_what_it_writes(offer: Offer, form: Form) -> None:
+    assert Offer.from_bytes(offer.to_bytes(form), offer.kind, form) == offer
+    with pytest.raises(MalformedDescriptor):
+        Offer.from_bytes(offer.to_bytes(form), offer.kind, FORMS[form is Form.FFA_1_1])
+
+
+@pytest.mark.parametrize("form", FORMS)
+def test_reads_retrieves_and_responses(form: Form) -> None:
+    asked = Retrieve(1, 2, Receiver(3, RW, InstructionAccess.X), tag=4, kind=Kind.DONATE)
+    assert Retrieve.from_bytes(asked.to_bytes(form), 3, form) == asked
+    answered = RetrieveResponse(Kind.LEND, 1, 2, Receiver(3, RW, InstructionAccess.NX), (PageRange(4096, 1),), True, 4)
+    data = answered.to_bytes(form)
+    assert len(data) == (80 if form is Form.FFA_1_1 else 64) + 16
+    assert RetrieveResponse.from_bytes(data + b"rest", form) == answered
+    given_up = Relinquish(5, 6, zero=True)
+    assert Relinquish.from_bytes(given_up.to_bytes() + b"rest") == given_up
+
+
+def test_compact_header_is_that_of_the_manual() -> None:
+    data = LEND.to_bytes(Form.COMPACT)
+    assert struct.unpack_from("<HHIQQII", data) == (0x8001, 0, 0, 0, 0, 0, 1)
+    assert struct.unpack_from("<HBBIQ", data, 32) == (0x8002, 2, 0, 48, 0)
+    assert struct.unpack_from("<IIQ", data, 48) == (1, 1, 0)
+    assert len(data) == 80
+
+
+# Each condition by a change of the share to two: places are those of the manual's tables, and the composite is at 80.
+SENDS = [
+    (0, 0, Flaw.HEADER_SHORT, 0),
+    (24, 17, Flaw.HEADER_ACCESS_SIZE, 0),
+    (32, 56, Flaw.HEADER_ARRAY_UNALIGNED, 0),
+    (32, 32, Flaw.HEADER_ARRAY_IN_HEADER, 0),
+    (28, 7, Flaw.HEADER_ARRAY_OUTSIDE, 0),
+    (40, 1, Flaw.HEADER_RESERVED, 0),
+    (2, 0, Flaw.SEND_ATTRIBUTES, 0),
+    (4, 1, Flaw.SEND_FLAGS, 0),
+    (8, 1, Flaw.SEND_HANDLE, 0),
+    (28, 0, Flaw.SEND_NO_RECEIVER, 0),
+    (28, 5, Flaw.SEND_MANY_RECEIVERS, 0),
+    (66, 0x0F, Flaw.ACCESS_PERMISSIONS, 1),
+    (67, 1, Flaw.ACCESS_FLAGS, 1),
+    (68, 96, Flaw.ACCESS_OTHER_COMPOSITE, 1),
+    (72, 1, Flaw.ACCESS_RESERVED, 1),
+    (48, 0x8001, Flaw.ACCESS_RECEIVER_IS_SENDER, 0),
+    (64, 0x8002, Flaw.ACCESS_RECEIVER_TWICE, 1),
+    (84, 0, Flaw.COMPOSITE_NO_RANGE, 0),
+    (84, 65, Flaw.COMPOSITE_MANY_RANGES, 0),
+    (88, 1, Flaw.COMPOSITE_RESERVED, 0),
+    (84, 3, Flaw.COMPOSITE_RANGES_OUTSIDE, 0),
+    (80, 4, Flaw.COMPOSITE_TOTAL, 0),
+    (104, 0, Flaw.RANGE_EMPTY, 0),
+    (96, 0x21, Flaw.RANGE_UNALIGNED, 0),
+    (102, 1, Flaw.RANGE_TOO_HIGH, 0),
+    (108, 1, Flaw.RANGE_RESERVED, 0),
+    (113, 0x20, Flaw.RANGE_OVERLAP, 1),
+]
+
+
+@pytest.mark.parametrize("at, value, flaw, index", SENDS)
+def test_names_the_first_condition_that_a_send_breaks(at: int, value: int, flaw: Flaw, index: int) -> None:
+    data = bytearray(TO_TWO.to_bytes())
+    size = max(1, (value.bit_length() + 7) // 8)
+    data[at : at + size] = b"" if flaw is Flaw.HEADER_SHORT else value.to_bytes(size, "little")
+    if flaw is Flaw.HEADER_SHORT:
+        del data[47:]
+    with pytest.raises(MalformedDescriptor) as wrong:
+        Offer.from_bytes(bytes(data), Kind.SHARE)
+    assert (wrong.value.flaw, wrong.value.index) == (flaw, index)
+
+
+@pytest.mark.parametrize("composite, flaw", [(0x1000, "OUTSIDE"), (0x48, "UNALIGNED"), (0x30, "IN_ARRAY")])
+def test_names_what_is_wrong_with_a_composites_place(composite: int, flaw: str) -> None:
+    data = bytearray(LEND.to_bytes())
+    data[52:56] = composite.to_bytes(4, "little")
+    with pytest.raises(MalformedDescriptor) as wrong:
+        Offer.from_bytes(bytes(data), Kind.LEND)
+    assert wrong.value.flaw is Flaw[f"COMPOSITE_{flaw}"]
+
+
+RETRIEVES = [
+    (2, 1, "ATTRIBUTES"),
+    (4, 1, "FLAGS"),
+    (28, 0, "ACCESS_COUNT"),
+    (48, 0x03, "RECEIVER_IS_ANOTHER"),
+    (50, 3, "DATA_PERMISSION"),
+    (50, 0x0C, "INSTRUCTION_PERMISSION"),
+    (50, 0x10, "PERMISSIONS_RESERVED"),
+    (51, 1, "ACCESS_FLAGS"),
+    (52, 1, "COMPOSITE_TOLD"),
+    (56, 1, "ACCESS_RESERVED"),
+]
+
+
+@pytest.mark.parametrize("at, value, flaw", RETRIEVES)
+def test_names_the_first_condition_that_a_retrieve_breaks(at: int, value: int, flaw: str) -> None:
+    data = bytearray(Retrieve(0x8001, 1, Receiver(0x8002)).to_bytes())
+    data[at] = value
+    with pytest.raises(MalformedDescriptor) as wrong:
+        Retrieve.from_bytes(bytes(data), 0x8002)
+    assert wrong.value.flaw is Flaw[f"RETRIEVE_{flaw}"]
+
+
+@pytest.mark.parametrize("data, flaw", [(b"\0" * 17, "SHORT"), (b"\2", "FLAGS"), (b"\1", "ENDPOINT_COUNT")])
+def test_names_the_first_condition_that_a_relinquish_breaks(data: bytes, flaw: str) -> None:
+    whole = data if len(data) == 17 else b"\0" * 8 + data + b"\0" * 3 + b"\2\0\0\0" + b"\2\x80"
+    with pytest.raises(MalformedDescriptor) as wrong:
+        Relinquish.from_bytes(whole)
+    assert wrong.value.flaw is Flaw[f"RELINQUISH_{flaw}"]
+
+
+def test_refuses_what_no_descriptor_can_say() -> None:
+    with pytest.raises(MalformedDescriptor, match="a flag is set that this call does not have"):
+        Offer(Kind.SHARE, 1, (Receiver(2, RW),), (PageRange(4096, 1),), zero=True).to_bytes()
+    with pytest.raises(MalformedDescriptor, match="access descriptor 0: it names the sender"):
+        Offer(Kind.LEND, 1, (Receiver(1, RW),), (PageRange(4096, 1),)).to_bytes()
+    with pytest.raises(ValueError, match="doesn't hold its number"):
+        Offer(Kind.LEND, 0x10000, (Receiver(1, RW),), (PageRange(4096, 1),)).to_bytes()
+    malformed = Offer(Kind.LEND, 1, (Receiver(1, RW),), (PageRange(4096, 1),)).to_bytes(checked=False)
+    assert len(malformed) == 96

@@ -1,0 +1,51 @@
+# SPDX-License-Identifier: MIT OR Apache-2.0
+"""Manifests: what a text says, and a text of what values say."""
+from __future__ import annotations
+
+from uuid import UUID
+
+import pytest
+from conftest import EXAMPLES, needs
+
+from gorseplumb import Cause, Endpoint, Form, Manifest, ManifestRefused, Properties, Region, Right
+
+PARTITIONS = Manifest(
+    0x40000000,
+    2,
+    [
+        Endpoint([Region(0x40010000, 16, Right.RW)], Properties(6)),
+        Endpoint(
+            [Region(0x40020000, 8, Right.ROX), Region(0x40028000, 8, Right.RW)],
+            Properties(7),
+            UUID("00112233-4455-6677-8899-aabbccddeeff"),
+        ),
+        Endpoint(
+            [Region(0x40200000, 8, Right.RWX), Region(0x40208000, 8, Right.RO)],
+            Properties(5),
+            UUID("10112233-4455-6677-8899-aabbccddeeff"),
+        ),
+    ],
+)
+COMPACT = Manifest(0x40000000, 1, [Endpoint([Region(0x40010000, 1)], form=Form.COMPACT)])
+
+
+def test_writes_its_text() -> None:
+    assert COMPACT.text() == (
+        'ram_base = 0x40000000\nram_blocks = 1\n\n[[endpoint]]\nversion = "compact"\nproperties = 0\nregions = [\n'
+        '    { base = 0x40010000, pages = 1, rights = "rw" },\n]\n'
+    )
+
+
+@needs("read_manifest")
+def test_reads_what_a_text_says() -> None:
+    assert Manifest.read((EXAMPLES / "partitions.toml").read_bytes()) == PARTITIONS
+    for manifest in (PARTITIONS, COMPACT):
+        assert Manifest.read(manifest.text()) == manifest
+
+
+@needs("read_manifest")
+def test_says_why_a_text_is_refused() -> None:
+    for text, cause in [("ram", Cause.TOML), ("", Cause.MISSING_KEY), ("ram_base = 1", Cause.RAM_BASE)]:
+        with pytest.raises(ManifestRefused) as refused:
+            Manifest.read(text)
+        assert refused.value.cause is cause

@@ -1,0 +1,141 @@
+# SPDX-License-Identifier: MIT OR Apache-2.0
+"""Names, numbers and words against the manual, the core's lists, the program's words and C's header."""
+from __future__ import annotations
+
+import re
+import tomllib
+from enum import IntEnum
+
+import pytest
+from conftest import TOP, needs
+
+import gorseplumb
+from gorseplumb import About, Cause, Check, ErrorCode, Fault, Flaw, Form, Function, GrantKind, Obstacle, Right
+from gorseplumb import _library as c
+from gorseplumb._library import library
+from gorseplumb.codes import Answer
+
+HEADER = (TOP / "c" / "gorseplumb.h").read_text()
+
+
+def source(path: str) -> str:
+    return (TOP / "crates" / path).read_text()
+
+
+def snake(name: str) -> str:
+    return re.sub(r"(?<=[a-z])(?=[A-Z])", "_", name).upper()
+
+
+def variants(text: str, name: str) -> list[str]:
+    body = re.search(rf"pub enum {name} \{{(.*?)\n\}}", text, re.S)
+    assert body is not None
+    return re.findall(r"^    (\w+),$", body[1], re.M)
+
+
+def test_functions_are_those_of_the_manual() -> None:
+    rows = re.findall(r"\| (84\w{6}) \| (C4\w{6})? ?\| (FFA_\w+) (?=\|)", (TOP / "docs" / "USING.md").read_text())
+    told = {name: int(number, 16) for number, _, name in rows}
+    told |= {f"{name}_64": int(wide, 16) for _, wide, name in rows if wide}
+    assert told == {function.name: int(function) for function in Function}
+
+
+def test_error_codes_are_those_of_the_core() -> None:
+    told = re.findall(r'0x(FFFF_FFF\w) => "(\w+)"', source("ffa_abi/src/names.rt"))
+    assert {name: int(number.replace("_", ""), 16) - (1 << 32) for number, name in told} == {
+        code.name: int(code) for code in ErrorCode
+    }
+
+
+def test_checks_are_those_of_the_core_with_the_programs_words() -> None:
+    text = source("ffa_model/src/refusal.rt")
+    assert [check.name for check in Check] == [snake(name) for name in variants(text, "Refusal")]
+    assert [int(check) for check in Check] == list(range(1, len(Check) + 1))
+    words = re.findall(r'Refusal::(\w+) => (?:\{\s*)?"([^"]+)"', source("play_reasons/src/sentences.rt"))
+    assert {snake(name): told for name, told in words} == {check.name: check.words for check in Check}
+
+
+def test_flaws_are_those_of_the_core_with_the_programs_words() -> None:
+    text, words = source("ffa_model/src/flaw.rt"), source("play_reasons/src/flaws.rt")
+    parts = re.findall(r"^    (\w+)\((?:u32, )?(\w+Flaw)\),$", text, re.M)
+    told = {
+        f"{part.upper()}_{snake(name)}": re.search(rf'{kind}::{name} => (?:\{{\s*)?"([^"]+)"', words)
+        for part, kind in parts
+        for name in variants(text, kind)
+    }
+    assert list(told) == [flaw.name for flaw in Flaw]
+    assert [it[1] if it else None for it in told.values()] == [flaw.words for flaw in Flaw]
+
+
+def test_causes_are_those_of_the_manual() -> None:
+    told = re.findall(r"^\| (M\d+ \w+) \|", (TOP / "docs" / "FORMATS.md").read_text(), re.M)
+    assert [cause.text for cause in Cause] == told[1:]
+    assert told[0] == "M1 NoMemory"
+
+
+def test_words_of_faults_rights_and_versions_are_those_of_the_manual() -> None:
+    page = (TOP / "docs" / "FORMATS.md").read_text()
+    for fault in Fault:
+        assert f"`fault {fault.text}`" in page
+    for right in Right:
+        assert f"`{right.text}`" in page
+    assert all(f'`"{form.text}"`' in page for form in Form)
+
+
+def test_numbers_are_those_of_the_header() -> None:
+    told = {name: int(number) for name, number in re.findall(r"GORSEPLUMB_(\w+) = (\d+)", HEADER)}
+    assert {it.name: told.get(it.name, int(it)) for it in Answer} == {it.name: int(it) for it in Answer}
+    groups: dict[str, type[IntEnum]] = {
+        "MANIFEST_": Cause,
+        "FAULT_": Fault,
+        "CHECK_": Check,
+        "FLAW_": Flaw,
+        "ABOUT_": About,
+        "OBSTACLE_": Obstacle,
+        "GRANT_": GrantKind,
+    }
+    for start, members in groups.items():
+        of_header = {name: number for name, number in told.items() if name.startswith(start)}
+        assert of_header in ({f"{start}{it.name}": int(it) for it in members}, {}), start
+    kinds = {name: number for name, number in told.items() if name.startswith(("KIND_", "OPERATION_"))}
+    assert kinds == {name: getattr(c, name) for name in kinds} and kinds
+    for name in ("MOST_REGIONS", "MOST_ENDPOINTS", "MOST_BLOCKS", "MOST_RANGES"):
+        assert re.search(rf"#define GORSEPLUMB_{name} {getattr(c, name)}$", HEADER, re.M), name
+
+
+@needs("call_name", "error_name", "check_name", "fault_name", "flaw_name", "answer_name")
+def test_names_are_those_of_the_library() -> None:
+    for function in Function:
+        assert library.call_name(function).decode() == function.call_name
+    for code in ErrorCode:
+        assert library.error_name(code).decode() == code.name
+    for fault in Fault:
+        assert library.fault_name(fault).decode() == fault.text
+    for check in Check:
+        assert library.check_name(check).decode() == check.words
+    for flaw in Flaw:
+        assert library.flaw_name(flaw).decode() == flaw.words
+    for cause in Cause:
+        assert library.answer_name(cause).decode() == cause.text
+    assert library.call_name(0) == library.error_name(0) == library.check_name(0) == library.fault_name(0) == b""
+
+
+@needs("check_number")
+def test_numbers_of_checks_are_those_of_the_manual() -> None:
+    # docs/MEMORY.md and docs/CALLS.md
+    assert library.check_number(Function.FFA_MEM_LEND, Check.PAGE_UNSENDABLE) == 10
+    assert library.check_number(Function.FFA_RXTX_MAP, Check.BUFFERS_MAPPED) == 1
+    assert library.check_number(Function.FFA_MSG_SEND2, Check.RECEIVER_RX_SMALL) == 14
+    assert library.check_number(Function.FFA_RUN, Check.RX_FULL) == 0
+
+
+def test_the_declarations_are_those_that_the_package_has() -> None:
+    told = re.search(r"#define GORSEPLUMB_DECLARATIONS (\d+)", HEADER)
+    if told is None:
+        pytest.skip("the header has no number of its declarations yet")
+    assert int(told[1]) == c.DECLARATIONS
+
+
+def test_the_version_is_the_programs() -> None:
+    told = re.search(r'pub const VERSION: &str = "([^"]+)"', source("play_arguments/src/program.rt"))
+    project = tomllib.loads((TOP / "python" / "pyproject.toml").read_text())["project"]
+    assert told is not None and told[1] == project["version"] == gorseplumb.__version__

@@ -1,0 +1,180 @@
+# SPDX-License-Identifier: MIT OR Apache-2.0
+"""Reasons: why an operation is refused, in the program's words."""
+from __future__ import annotations
+
+import re
+
+import pytest
+from conftest import EXAMPLES, TELLS_WHY, Program
+
+from gorseplumb import About, AccessFault, Call, Check, DataAccess, Denied, ErrorCode, Fault, Fetch, Flaw, Form
+from gorseplumb import Function, Hindrance, InstructionAccess, InvalidParameters, Kind, Load, Machine
+from gorseplumb import MalformedDescriptor, Obstacle, Offer, Operation, PageRange, Reason, Receiver, Relinquish
+from gorseplumb import Retrieve, Store, Subject, play
+
+NOBODY = Hindrance(Obstacle.NONE)
+MANIFEST = EXAMPLES / "partitions.toml"
+
+
+def refused(call: Call, check: Check, number: int, subject: Subject, hindrance: Hindrance = NOBODY) -> str:
+    return str(Reason(call, None, check, number, None, subject, hindrance))
+
+
+def test_has_the_programs_words() -> None:
+    # docs/COMMANDS.md, "Reasons"
+    in_way = Hindrance(Obstacle.IN_TRANSACTION, 0, 0x0000800100000001)
+    lend = Call((Function.FFA_MEM_LEND, 0x60, 0x60))
+    page = Subject(About.PAGE, address=0x40029000)
+    assert refused(lend, Check.PAGE_UNSENDABLE, 10, page, in_way) == (
+        "FFA_MEM_LEND check 10: a page is not the caller's own, or is in an open transaction or a buffer: "
+        "40029000 is in the open transaction 0000800100000001"
+    )
+    mapped = Call((Function.FFA_RXTX_MAP, 0, 0, 5))
+    told = "FFA_RXTX_MAP check 2: a buffer has no page, or more than it may have: w3 is 00000005"
+    assert refused(mapped, Check.BUFFER_PAGE_COUNT, 2, Subject(About.REGISTER, number=3, value=5)) == told
+    wide = Call((Function.FFA_RXTX_MAP_64, 0x14001E000))
+    x1 = Subject(About.REGISTER, number=1, value=0x14001E000)
+    assert refused(wide, Check.TX_MISPLACED, 3, x1).endswith("x1 is 000000014001E000")
+    field = Subject(About.FIELD, number=0, flaw=Flaw.ACCESS_PERMISSIONS, value=0x0F, first=50, size=1)
+    assert refused(lend, Check.DESCRIPTOR_MALFORMED, 6, field).endswith(
+        "access descriptor 0: the permissions are none that this call may grant: byte 50 is 0F"
+    )
+    unknown = Call((0x84000083,))
+    w0 = Subject(About.REGISTER, number=0, value=0x84000083)
+    assert refused(unknown, Check.FUNCTION_UNKNOWN, 1, w0) == "check 1: no such function is served: w0 is 84000083"
+    handle, bit = Subject(About.HANDLE, handle=0x0000800100000001), Subject(About.BIT, number=2)
+    assert refused(lend, Check.HANDLE_UNKNOWN, 7, handle).endswith(": handle 0000800100000001")
+    assert refused(lend, Check.BITS_TAKEN, 7, bit).endswith(": bit 2")
+    endpoint = Subject(About.ENDPOINT, endpoint=0x8003)
+    assert refused(lend, Check.RECEIVER_UNKNOWN, 8, endpoint).endswith(": endpoint 8003")
+    nothing = refused(lend, Check.BUFFERS_MISSING, 1, Subject(About.NOTHING))
+    assert nothing == "FFA_MEM_LEND check 1: the caller has no RX and TX"
+
+
+@pytest.mark.parametrize(
+    "operation, fault, hindrance, told",
+    [
+        (Load(0x40200000, 1), Fault.TRANSLATION, Hindrance(Obstacle.OWNED_BY, 0x8002), "40200000 belongs to 8002"),
+        (Load(0x40000000, 1), Fault.TRANSLATION, Hindrance(Obstacle.MANAGERS_PAGE), "40000000 belongs to the manager"),
+        (Load(0x3FFFFFFC, 1), Fault.TRANSLATION, Hindrance(Obstacle.OUTSIDE_RAM), "3FFFFFFC is outside RAM"),
+        (Load(0x100000000, 1), Fault.TRANSLATION, NOBODY, "0000000100000000 has more than 32 bits"),
+        (Store(0x40020000, 1, 0), Fault.PERMISSION, NOBODY, "40020000 may not be written"),
+        (Fetch(0x40028000), Fault.PERMISSION, NOBODY, "40028000 may not be executed"),
+        (Load(0x40028001, 2), Fault.ALIGNMENT, NOBODY, "40028001 is no multiple of 2"),
+        (Fetch(0x40028002), Fault.ALIGNMENT, NOBODY, "40028002 is no multiple of 4"),
+    ],
+)
+def test_has_the_programs_words_of_faults(
+    operation: Load | Store | Fetch, fault: Fault, hindrance: Hindrance, told: str
+) -> None:
+    assert str(Reason(operation, fault, None, 0, None, Subject(About.NOTHING), hindrance)) == told
+
+
+@TELLS_WHY
+def test_prints_the_refused_example(partitions: Machine) -> None:
+    played = "".join(f"{line}\n" for line in play(partitions, EXAMPLES / "refused.trace", explain=True))
+    assert played == (EXAMPLES / "refused.out").read_text()
+
+
+@TELLS_WHY
+def test_prints_what_the_program_explains(program: Program) -> None:
+    for manifest in (MANIFEST, EXAMPLES / "machine.toml"):
+        lines = program("generate", "--seed", 5, "--lines", 20_000, manifest).stdout
+        trace = re.sub(rb"^(?:show|audit)\n", b"", lines, flags=re.M)
+        wanted = program.lines("run", "--explain", manifest, "-", text=trace)
+        assert sum(line.startswith("# refused: ") for line in wanted) > 1000
+        with Machine(manifest) as machine:
+            assert list(play(machine, trace, explain=True)) == wanted
+
+
+@TELLS_WHY
+def test_raises_with_the_reason(partitions: Machine) -> None:
+    with pytest.raises(InvalidParameters, match="0000: FFA_RUN: INVALID_PARAMETERS: FFA_RUN check 2: ") as wrong:
+        partitions.do(Function.FFA_RUN, partition=0x8009)
+    assert wrong.value.check is Check.TARGET_UNKNOWN
+    with pytest.raises(AccessFault, match="at 40020000: 40020000 belongs to 8001") as fault:
+        partitions.read(0x40020000, 1)
+    assert fault.value.reason is not None
+    assert fault.value.reason.hindrance == Hindrance(Obstacle.OWNED_BY, 0x8001)
+    with pytest.raises(Denied) as denied:
+        partitions.do(Function.FFA_MSG_WAIT)
+    assert denied.value.reason is not None and denied.value.reason.code is ErrorCode.DENIED
+
+
+@TELLS_WHY
+def test_says_why_before_it_is_done(partitions: Machine) -> None:
+    assert partitions.why(Load(0x40010000, 8)) is None and partitions.why(Store(0x40010000, 1, 1)) is None
+    assert partitions.why(Call((Function.FFA_ID_GET,))) is None
+    reason = partitions.why(Fetch(0x40010000))
+    assert reason is not None and reason.fault is Fault.PERMISSION and partitions.is_fresh
+
+
+SHARE = Offer(
+    Kind.SHARE,
+    0x8001,
+    (Receiver(0x8002, DataAccess.RW), Receiver(0x0000, DataAccess.RO)),
+    (PageRange(0x40028000, 1), PageRange(0x4002A000, 2)),
+)
+LEND = Offer(Kind.LEND, 0x8001, (Receiver(0x8002, DataAccess.RW),), (PageRange(0x40028000, 1),), zero=True)
+DONATE = Offer(Kind.DONATE, 0x8001, (Receiver(0x8002),), (PageRange(0x40028000, 1),))
+RETRIEVE = Retrieve(0x8002, 1, Receiver(0x8001, DataAccess.RW, InstructionAccess.NX), kind=Kind.LEND)
+TX = 0x4002E000
+
+
+def ours(request: Offer | Retrieve, data: bytes, form: Form) -> tuple[Flaw, int] | None:
+    """The first condition that our reader finds broken."""
+    try:
+        if isinstance(request, Offer):
+            Offer.from_bytes(data, request.kind, form)
+        else:
+            Retrieve.from_bytes(data, request.receiver.endpoint, form)
+    except MalformedDescriptor as wrong:
+        return wrong.flaw, wrong.index
+    return None
+
+
+def cores(machine: Machine, call: Operation) -> tuple[Flaw | None, int] | None:
+    """The first condition that the core finds broken."""
+    reason = machine.why(call)
+    is_about_bytes = reason is not None and reason.check is Check.DESCRIPTOR_MALFORMED
+    return (reason.subject.flaw, reason.subject.number) if reason is not None and is_about_bytes else None
+
+
+@TELLS_WHY
+@pytest.mark.parametrize("form", [Form.FFA_1_1, Form.COMPACT])
+@pytest.mark.parametrize("request_of", [SHARE, LEND, DONATE, RETRIEVE])
+def test_readers_find_the_condition_that_the_core_finds(request_of: Offer | Retrieve, form: Form) -> None:
+    first, version, others = MANIFEST.read_text().partition("[[endpoint]] # the partition 8001")
+    text = first + version + others.replace('version = "1.1"', f'version = "{form.text}"', 1)
+    found = set()
+    with Machine(text) as machine:
+        machine.do(Function.FFA_RUN, partition=0x8001)
+        machine.do(Function.FFA_RXTX_MAP, tx=TX, rx=0x4002F000, pages=1)
+        *_, call = request_of.operations(TX, form)
+        whole = request_of.to_bytes(form)
+        for place in range(len(whole)):
+            for value in (0, 1, 2, 3, 0x0F, 0x10, 0x30, 0x80, 0xFF):
+                data = whole[:place] + bytes([value]) + whole[place + 1 :]
+                machine.write(TX, data)
+                told = ours(request_of, data, form)
+                assert told == cores(machine, call), (place, value)
+                found.add(told[0] if told is not None else None)
+    assert len(found) > 10
+
+
+@TELLS_WHY
+def test_reader_of_relinquish_finds_the_condition_that_the_core_finds(partitions: Machine) -> None:
+    partitions.do(Function.FFA_RUN, partition=0x8001)
+    partitions.do(Function.FFA_RXTX_MAP, tx=TX, rx=0x4002F000, pages=1)
+    call = Call((Function.FFA_MEM_RELINQUISH,))
+    whole = Relinquish(1, 0x8001).to_bytes()
+    for place in range(len(whole)):
+        for value in (0, 1, 2, 0xFF):
+            data = whole[:place] + bytes([value]) + whole[place + 1 :]
+            partitions.write(TX, data)
+            try:
+                Relinquish.from_bytes(data)
+                told = None
+            except MalformedDescriptor as wrong:
+                told = wrong.flaw, wrong.index
+            assert told == cores(partitions, call)

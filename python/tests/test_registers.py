@@ -1,0 +1,124 @@
+# SPDX-License-Identifier: MIT OR Apache-2.0
+"""Registers by name, messages and partition information: values from the manual's pages."""
+from __future__ import annotations
+
+import uuid
+
+import pytest
+
+from gorseplumb import Call, Form, Function, IndirectMessage, PartitionInfo, Properties, Registers, decode, encode
+from gorseplumb import read_partitions
+from gorseplumb.registers import ARGUMENTS, is_read_whole
+
+
+@pytest.mark.parametrize(
+    "line, function, arguments",
+    [
+        ("call 8400006D 80010000", Function.FFA_RUN, {"partition": 0x8001}),
+        ("call 84000066 4001E000 4001F000 1", Function.FFA_RXTX_MAP, {"tx": 0x4001E000, "rx": 0x4001F000, "pages": 1}),
+        ("call 84000072 60 60", Function.FFA_MEM_LEND, {"length": 0x60}),
+        ("call 84000077 1 8001", Function.FFA_MEM_RECLAIM, {"handle": 0x0000800100000001}),
+        (
+            "call 8400006F 8001 0 AA BB",
+            Function.FFA_MSG_SEND_DIRECT_REQ,
+            {"sender": 0, "receiver": 0x8001, "payload0": 0xAA, "payload1": 0xBB},
+        ),
+        (
+            "call 84000070 80010000 0 CC",
+            Function.FFA_MSG_SEND_DIRECT_RESP,
+            {"sender": 0x8001, "receiver": 0, "payload0": 0xCC},
+        ),
+        (
+            "call 84000068 33221100 77665544 BBAA9988 FFEEDDCC 1",
+            Function.FFA_PARTITION_INFO_GET,
+            {
+                "uuid": int.from_bytes(uuid.UUID("00112233-4455-6677-8899-aabbccddeeff").bytes, "little"),
+                "count_only": 1,
+            },
+        ),
+        (
+            "call 8400007F 80028001 0 3 40000000",
+            Function.FFA_NOTIFICATION_BIND,
+            {"sender": 0x8002, "receiver": 0x8001, "bits": 0x4000000000000003},
+        ),
+    ],
+)
+def test_writes_and_reads_what_a_call_takes(line: str, function: Function, arguments: dict[str, int]) -> None:
+    x = encode(function, **arguments)
+    assert str(Call(x)) == line
+    named = decode(x)
+    assert named is not None and named.function is function
+    told = {name: value for name, value in named.arguments.items() if value and name != "fragment"}
+    assert told == {name: value for name, value in arguments.items() if value}
+
+
+def test_reads_what_an_answer_holds_by_the_call_that_it_answers() -> None:
+    success = (Function.FFA_SUCCESS, 0, 1, 0x8001, 0, 0, 0, 0)
+    for_share = decode(success, Function.FFA_MEM_SHARE)
+    assert for_share is not None and for_share.arguments == {"handle": 0x0000800100000001}
+    for_list = decode((Function.FFA_SUCCESS, 0, 2, 0x18, 0, 0, 0, 0), Function.FFA_PARTITION_INFO_GET)
+    assert str(for_list) == "FFA_SUCCESS count=2 size=18"
+    assert str(decode((Function.FFA_ERROR, 0, 0xFFFFFFFA, 0, 0, 0, 0, 0))) == "FFA_ERROR code=DENIED"
+    assert str(decode((0x8400006B, 0x80010000, 0, 0, 0, 0, 0, 0))) == "FFA_MSG_WAIT partition=8001 context=0"
+    assert decode((0x00010001, 0, 0, 0, 0, 0, 0, 0)) is None
+
+
+def test_reads_all_of_a_register_where_the_64_bit_form_does() -> None:
+    x = encode(Function.FFA_RXTX_MAP_64, tx=0x140000000, rx=0x4001F000, pages=1)
+    assert x[1] == 0x140000000
+    assert is_read_whole(0xC4000066, 1) and not is_read_whole(0xC4000066, 3) and not is_read_whole(0x84000066, 1)
+    with pytest.raises(ValueError, match="tx has 32 bits"):
+        encode(Function.FFA_RXTX_MAP, tx=0x140000000)
+
+
+def test_refuses_what_a_call_does_not_take() -> None:
+    with pytest.raises(TypeError, match="FFA_RUN has no argument 'endpoint': it has partition, context"):
+        encode(Function.FFA_RUN, endpoint=0x8001)
+    with pytest.raises(ValueError, match="partition has 16 bits, and is 0x10000"):
+        encode(Function.FFA_RUN, partition=0x10000)
+    with pytest.raises(ValueError):
+        encode(Function.FFA_RUN, partition=-1)
+
+
+def test_names_registers_as_the_program_does() -> None:
+    # docs/COMMANDS.md, "Numbers and names"
+    assert Registers(0, (0x84000061, 0, 0, 0, 0, 0, 0, 0)).names == "FFA_SUCCESS"
+    assert Registers(0, (0x84000060, 0, 0xFFFFFFFE, 0, 0, 0, 0, 0)).names == "FFA_ERROR INVALID_PARAMETERS"
+    assert Registers(0, (0xC4000072, 0, 0, 0, 0, 0, 0, 0)).names == "FFA_MEM_LEND"
+    assert Registers(0, (0x00010001, 0, 0, 0, 0, 0, 0, 0)).names == ""
+
+
+def test_every_call_has_its_arguments() -> None:
+    assert {function.call_name for function in Function} == {function.name for function in ARGUMENTS}
+
+
+def test_writes_the_message_of_the_worked_example() -> None:
+    # examples/messages.trace: offset 24, receiver 8002, sender 8001, 8 bytes
+    message = IndirectMessage(0x8001, 0x8002, (0x1122334455667788).to_bytes(8, "little"), 24)
+    data = message.to_bytes()
+    assert len(data) == 32
+    assert int.from_bytes(data[8:16], "little") == 0x8001800200000018
+    assert IndirectMessage.from_bytes(data + b"rest") == message
+    with pytest.raises(ValueError, match="inside its header"):
+        IndirectMessage(1, 2, b"x", 19).to_bytes()
+    for wrong in (data[:19], b"\1" + data[1:], data[:31], data[:16] + b"\0\0\0\0" + data[20:]):
+        with pytest.raises(ValueError):
+            IndirectMessage.from_bytes(wrong)
+
+
+def test_reads_the_partitions_of_the_worked_example() -> None:
+    # docs/EXAMPLE.md: data 0000010700018001 and 0000010500018002 are the first eight bytes of each
+    named = [uuid.UUID("00112233-4455-6677-8899-aabbccddeeff"), uuid.UUID("10112233-4455-6677-8899-aabbccddeeff")]
+    first = (0x0000010700018001).to_bytes(8, "little") + named[0].bytes
+    second = (0x0000010500018002).to_bytes(8, "little") + named[1].bytes
+    told = read_partitions(first + second + b"rest", 2)
+    assert told == (
+        PartitionInfo(0x8001, Properties(7), named[0]),
+        PartitionInfo(0x8002, Properties(5), named[1]),
+    )
+    assert [it.to_bytes() for it in told] == [first, second]
+    compact = PartitionInfo(0x8001, Properties(7))
+    assert compact.to_bytes(Form.COMPACT) == (0x0000000700018001).to_bytes(8, "little")
+    assert PartitionInfo.from_bytes(compact.to_bytes(Form.COMPACT), Form.COMPACT) == compact
+    with pytest.raises(ValueError, match="has 24 bytes, and there are 23"):
+        PartitionInfo.from_bytes(first[:23])

@@ -1,0 +1,137 @@
+# SPDX-License-Identifier: MIT OR Apache-2.0
+"""Lines of a trace: what they say, and what is wrong with others, in the program's words."""
+from __future__ import annotations
+
+import pytest
+from conftest import BUILT_IN, EXAMPLES, SHOWS, Program
+
+from gorseplumb import BadLine, Call, Difference, Fetch, GuardUnmet, Load, Machine, Store, compare, play
+from gorseplumb.trace import Trace, parse
+
+
+
+def test_reads_each_kind_of_line() -> None:
+    assert parse("call 84000069") == Call((0x84000069, 0, 0, 0, 0, 0, 0, 0))
+    assert parse("call 1 2 3 4 5 6 7 FFFFFFFFFFFFFFFF") == Call((1, 2, 3, 4, 5, 6, 7, (1 << 64) - 1))
+    assert parse("load 0000000040010000 8") == Load(0x40010000, 8)
+    assert parse("store 40010000 aBcD") == Store(0x40010000, 2, 0xABCD)
+    assert parse("fetch 4") == Fetch(4)
+    assert (parse("show"), parse("audit"), parse(""), parse("#= \x80\r")) == ("show", "audit", None, None)
+
+
+BAD = [
+    ("", None),
+    ("call", "0 registers"),
+    ("call 1 2 3 4 5 6 7 8 9", "9 registers"),
+    ("call 12345678901234567", "a number of more than 16 digits"),
+    ("call 0x1", "no hexadecimal number"),
+    ("call 1_0", "no hexadecimal number"),
+    ("call  1", "an empty word"),
+    ("call 1 ", "an empty word"),
+    (" call 1", "an empty word"),
+    ("Call 1", "an unknown command"),
+    ("call\t1", "an unknown command"),
+    ("load 1", "a word is missing"),
+    ("load 1 3", "a size that is none of 1, 2, 4 and 8"),
+    ("load 1 1 1", "a word too many"),
+    ("store 1 1", "a value of 1 digit, which is none of 2, 4, 8 and 16"),
+    ("store 1 123", "a value of 3 digits, which are none of 2, 4, 8 and 16"),
+    ("fetch 1 2", "a word too many"),
+    ("show 1", "a word too many"),
+    ("show\r", "a CR before the line's end"),
+]
+
+
+@pytest.mark.parametrize("line, why", BAD[1:])
+def test_says_what_is_wrong_with_a_line(line: str, why: str) -> None:
+    with pytest.raises(BadLine) as wrong:
+        parse(line)
+    assert wrong.value.why == why
+
+
+@pytest.mark.parametrize("line, why", BAD[1:])
+def test_says_it_as_the_program_does(program: Program, line: str, why: str) -> None:
+    done = program("demo", "--verbose", "-", text=f"show\n{line}\n".encode())
+    assert done.returncode == 2
+    told = done.stderr.decode().splitlines()[-1].removeprefix("ffaplay: ")
+    with pytest.raises(BadLine) as wrong:
+        parse(line)
+    assert str(wrong.value) == told
+
+
+def test_judges_a_line_when_it_is_reached() -> None:
+    with Machine(BUILT_IN) as machine:
+        played = play(machine, "store 40010000 2A\nload 40010000 1\nload 40010000\n")
+        assert next(played) == "done" and next(played) == "data 2A"
+        with pytest.raises(BadLine, match="line 3, column 14: a word is missing"):
+            next(played)
+        with pytest.raises(BadLine, match="line 1: no line end") as wrong:
+            list(play(machine, "examples/first.trace"))
+        assert wrong.value.__notes__ == ["a str is a trace's text: to name a file give a pathlib.Path"]
+        with pytest.raises(BadLine, match="line 2: no line end"):
+            list(play(machine, b"# \xff\nload 40010000 1"))
+        assert list(play(machine, ["load 40010000 1"], numbers=True)) == ["1: data 2A"]
+        named = list(play(machine, ["call 84000069", "call 84000083", "call 84000063 10001"], names=True))
+        assert [line.partition(" #")[2] for line in named] == [" FFA_SUCCESS", " FFA_ERROR NOT_SUPPORTED", ""]
+
+
+@SHOWS
+def test_stops_at_a_guard_that_is_not_met() -> None:
+    text = (EXAMPLES / "guards.trace").read_text()
+    with Machine(BUILT_IN) as machine:
+        assert list(play(machine, text, strict=True))
+    with Machine(BUILT_IN) as machine:
+        with pytest.raises(GuardUnmet, match='line 10: wanted "data 00", got "fault translation"'):
+            list(play(machine, text.replace("#= fault translation", "#= data 00"), strict=True))
+        with pytest.raises(GuardUnmet, match='line 1: wanted "done", got nothing'):
+            list(play(machine, "#= done\n", strict=True))
+        with pytest.raises(GuardUnmet, match='line 1: wanted "0000", got "8001"'):
+            list(play(machine, "#@ 0000\n", strict=True))
+        assert list(play(machine, "#= done\n")) == []
+
+
+@pytest.mark.parametrize(
+    "text",
+    [
+        "#= done\n",
+        "#@ 8001\n",
+        "store 40010000 2A\n\n#@ 0000\n#=done\n#= done\n",
+        "load 40010000 1\n#=  data 00\n",
+        "load 40010000 1\n#=\n",
+        "load 40010000 1\n#@0000\n#@ 0\n",
+    ],
+)
+def test_says_which_guard_is_not_met_as_the_program_does(program: Program, text: str) -> None:
+    done = program("demo", "--strict", "-", text=text.encode())
+    assert done.returncode == 5
+    with Machine(BUILT_IN) as machine:
+        with pytest.raises(GuardUnmet) as unmet:
+            list(play(machine, text, strict=True))
+    assert f"ffaplay: {unmet.value}" == done.stderr.decode().splitlines()[-1]
+
+
+def test_finds_the_first_difference_as_the_program_does(program: Program) -> None:
+    manifest, trace = EXAMPLES / "partitions.toml", EXAMPLES / "messages.trace"
+    whole = (EXAMPLES / "messages.out").read_text()
+    lines = whole.splitlines()
+    texts = [
+        whole.replace("data 1122334455667788", "data 1122334455667789"),
+        whole.replace("regs 8001 0000000084000060", "regs 8002 0000000084000061"),
+        "".join(f"{line}\n" for line in lines[:-1]),
+        whole + "done\n",
+        "",
+    ]
+    for text in texts:
+        done = program("compare", manifest, trace, "-", text=text.encode())
+        with Machine(manifest) as machine:
+            difference = compare(machine, trace, text)
+        assert done.returncode == 4 and f"{difference}\n" == done.stdout.decode()
+    same: list[Trace] = [lines, whole, EXAMPLES / "messages.out"]
+    for expected in same:
+        with Machine(manifest) as machine, trace.open() as file:
+            assert compare(machine, file, expected) is None
+
+
+def test_names_the_registers_that_differ() -> None:
+    told = Difference(4, "call 84000069", "regs 8001 01 02 03", "regs 0000 01 02 04")
+    assert str(told).endswith("differ:   runner, x2")
