@@ -33,6 +33,12 @@
 extern "C" {
 #endif
 
+/* The number of these declarations, raised by each change that a caller has to know of. Who loads the library while a
+ * program runs compares it with gorseplumb_declarations, which answers the number that the library was built by. */
+#define GORSEPLUMB_DECLARATIONS 2
+
+uint32_t gorseplumb_declarations(void);
+
 #define GORSEPLUMB_PAGE_SIZE 4096
 
 /* A machine, or none. { 0 } is none. */
@@ -201,7 +207,8 @@ enum gorseplumb_answer {
     GORSEPLUMB_NO_PAGE = 17,    /* there is no page in the slot, in the span or in the list */
     GORSEPLUMB_HAS_PAGES = 18,  /* the list has pages still */
     GORSEPLUMB_NO_MACHINE = 19, /* there is no machine */
-    GORSEPLUMB_WRONG_COUNT = 20 /* the list has more pages than the manifest's RAM, or fewer */
+    GORSEPLUMB_WRONG_COUNT = 20, /* the list has more pages than the manifest's RAM, or fewer */
+    GORSEPLUMB_LENT = 22 /* the machine's RAM is lent: gorseplumb_free gives it back */
 };
 
 /* What a question that asks for a number answers where there is no machine, gorseplumb_owner also where there is no
@@ -350,6 +357,10 @@ bool gorseplumb_read_page(const struct gorseplumb_machine *machine, uint32_t pag
  * memory, so the next boot in the list takes none. GORSEPLUMB_OK: there is no machine any more. Else nothing has
  * changed: GORSEPLUMB_NO_MACHINE, and where RAM was lent GORSEPLUMB_NO_LIST or GORSEPLUMB_HAS_PAGES. */
 enum gorseplumb_answer gorseplumb_free(struct gorseplumb_machine *machine, struct gorseplumb_lent *lent);
+
+/* The same of a machine whose RAM is of the heap, without a list. GORSEPLUMB_OK: there is no machine any more. Else
+ * nothing has changed: GORSEPLUMB_NO_MACHINE, or GORSEPLUMB_LENT, where RAM was lent and gorseplumb_free ends it. */
+enum gorseplumb_answer gorseplumb_end(struct gorseplumb_machine *machine);
 
 /* Makes an empty list with room for so many pages, in seven pieces of memory: the list, its pages' addresses, and of
  * the machine that is booted in it its place, its records, four bytes for each page, 78 KiB of slots for open

@@ -83,7 +83,7 @@ archive native
 "$player" check "$top/examples/machine.toml" >/dev/null
 for compiler in gcc clang; do
     has $compiler || continue
-    for test in test test_questions; do
+    for test in test test_questions test_runs; do
         $compiler $strict $sanitized "$here/$test.c" "$here/settle.c" "$to/native.a" -o "$to/$test"
         says "$compiler, $test, sanitized" "$to/$test"
         $compiler $strict -O2 "$here/$test.c" "$here/settle.c" "$to/native.a" -o "$to/$test"
@@ -110,7 +110,7 @@ if has g++; then
 fi
 # The archive isn't instrumented by the sanitizers: valgrind looks at what it reads and writes, too.
 if has gcc && has valgrind; then
-    for test in test test_questions; do
+    for test in test test_questions test_runs; do
         gcc $strict -O1 -g "$here/$test.c" "$here/settle.c" "$to/native.a" -o "$to/$test"
         says "valgrind, $test" valgrind -q --error-exitcode=9 --leak-check=full "$to/$test"
     done
@@ -124,7 +124,7 @@ if [[ $others ]]; then echo "names of the archive that don't begin with gorseplu
 if has aarch64-linux-gnu-gcc && has qemu-aarch64-static; then
     archive arm --target aarch64-unknown-linux-gnu
     arm="aarch64-linux-gnu-gcc $strict -O2 -static"
-    for test in test test_questions; do
+    for test in test test_questions test_runs; do
         $arm "$here/$test.c" "$here/settle.c" "$to/arm.a" -o "$to/$test"
         says "AArch64, $test" qemu-aarch64-static "$to/$test"
     done

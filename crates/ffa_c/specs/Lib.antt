@@ -3,7 +3,9 @@ pub mod Border
 pub mod Elsewhere
 pub mod Boarded
 pub mod Booting
+pub mod CertRuns
 pub mod Changes
+pub mod Ending
 pub mod Given
 pub mod LentPages
 pub mod Readiness
@@ -11,5 +13,4 @@ pub mod Lending
 pub mod Spans
 pub mod Follows
 pub mod Grants
-pub mod CertRuns
 pub mod Runs

@@ -2,6 +2,9 @@
 //! The numbers that C is told, each by the name that C has for it behind `GORSEPLUMB_`. None is an error code of FF-A,
 //! which a call answers in its registers.
 
+/// The number of the header's declarations, raised by each change that a caller has to know of.
+pub const DECLARATIONS: u32 = 2;
+
 /// It was done.
 pub const OK: u32 = 0;
 
@@ -64,6 +67,9 @@ pub const NO_MACHINE: u32 = 19;
 
 /// The list has more pages than the manifest's RAM, or fewer.
 pub const WRONG_COUNT: u32 = 20;
+
+/// The machine's RAM is lent.
+pub const LENT: u32 = 22;
 
 /// What a question answers where there is no machine, no such page or no such endpoint.
 pub const NOTHING: u32 = 0xFFFF_FFFF;

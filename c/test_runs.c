@@ -1,0 +1,93 @@
+/* SPDX-License-Identifier: MIT OR Apache-2.0 */
+/* A machine that ends without a list. Numbers and answers are by reasoning, or the manual's, as in test.c. */
+#include <stdio.h>
+#include <stdlib.h>
+#include <string.h>
+#include "../board/calls.h"
+#include "gorseplumb.h"
+#include "lending.h"
+#include "machine.toml.h"
+
+#define CHECK(holds) \
+    do { \
+        if (!(holds)) { \
+            fprintf(stderr, "%s:%d: %s\n", __FILE__, __LINE__, #holds); \
+            exit(1); \
+        } \
+    } while (0)
+
+static struct gorseplumb_machine machine;
+static struct gorseplumb_page pages[512];
+static struct gorseplumb_lent list;
+
+/* The library's memory: counts the pieces that it has, and refuses the one of a number. */
+static size_t pieces, asked, refused;
+
+/* What a list has of them, with all that a machine in it takes. */
+enum { LIST_PIECES = 7 };
+
+static struct gorseplumb_block block_at(void *at) {
+    static char nothing;
+    return (struct gorseplumb_block){at != NULL, at != NULL ? at : &nothing};
+}
+
+struct gorseplumb_block rattle_alloc(size_t size, size_t align) {
+    if (++asked == refused) return block_at(NULL);
+    pieces++;
+    return block_at(malloc(size != 0 ? size : align));
+}
+
+struct gorseplumb_block rattle_realloc(void *block, size_t kept, size_t size, size_t align) {
+    (void)kept;
+    return block_at(++asked == refused ? NULL : realloc(block, size != 0 ? size : align));
+}
+
+void rattle_dealloc(void *block) {
+    pieces--;
+    free(block);
+}
+
+void gorseplumb_settle(uint16_t endpoint, uint64_t address, uint64_t size) {
+    (void)endpoint, (void)address, (void)size; /* no processor walks the tables */
+}
+
+static void loads(uint64_t address, uint32_t size, uint64_t value) {
+    struct gorseplumb_outcome told = gorseplumb_load(&machine, address, size);
+    CHECK(told.kind == GORSEPLUMB_KIND_DATA && told.value == value);
+}
+
+/* The machine of machine.toml.h as numbers. */
+static struct gorseplumb_manifest row_manifest(void) {
+    struct gorseplumb_manifest manifest = {.ram_base = 0x40000000, .ram_blocks = 1, .endpoint_count = 3};
+    static const uint8_t uuid[16] = {0x00, 0x11, 0x22, 0x33, 0x44, 0x55, 0x66, 0x77, 0x88, 0x99, 0xAA, 0xBB, 0xCC, 0xDD, 0xEE, 0xFF};
+    for (uint32_t place = 0; place < 3; place++) {
+        struct gorseplumb_endpoint *endpoint = &manifest.endpoints[place];
+        endpoint->properties = place == 0 ? 6 : 15;
+        endpoint->region_count = 1;
+        endpoint->regions[0] = (struct gorseplumb_region){0x40010000 + 0x10000 * place, 16, GORSEPLUMB_WRITE};
+        if (place != 0) memcpy(endpoint->uuid, uuid, sizeof uuid);
+    }
+    manifest.endpoints[1].regions[0].rights |= GORSEPLUMB_EXECUTE;
+    manifest.endpoints[2].uuid[0] = 0x10;
+    return manifest;
+}
+
+/* A machine in RAM of the heap needs no list to end, and one in lent RAM does. */
+static void ends(void) {
+    struct gorseplumb_manifest manifest = row_manifest();
+    CHECK(gorseplumb_end(&machine) == GORSEPLUMB_NO_MACHINE && gorseplumb_boot_manifest(&machine, &manifest) == GORSEPLUMB_OK);
+    CHECK(gorseplumb_end(&machine) == GORSEPLUMB_OK && !machine.live && machine.at == NULL && pieces == 0);
+    CHECK(gorseplumb_lend_all(&list, pages, 512) == GORSEPLUMB_OK &&
+          gorseplumb_boot_lent_manifest(&machine, &list, &manifest) == GORSEPLUMB_OK);
+    CHECK(gorseplumb_end(&machine) == GORSEPLUMB_LENT && machine.live && pieces == LIST_PIECES);
+    loads(0x40010000, 1, 0);
+    CHECK(gorseplumb_free(&machine, &list) == GORSEPLUMB_OK && gorseplumb_take_all_back(&list, pages, 512) && pieces == 0);
+}
+
+int main(void) {
+    CHECK(gorseplumb_declarations() == GORSEPLUMB_DECLARATIONS);
+    ends();
+    CHECK(pieces == 0);
+    puts("ok");
+    return 0;
+}
