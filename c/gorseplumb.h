@@ -246,6 +246,12 @@ enum gorseplumb_answer gorseplumb_boot_held(struct gorseplumb_machine *machine, 
 enum gorseplumb_answer gorseplumb_boot_held_manifest(struct gorseplumb_machine *machine, struct gorseplumb_lent *lent,
                                                      const struct gorseplumb_manifest *manifest);
 
+/* Reads a manifest's text of `size` bytes into numbers, which a boot would go by, so that RAM can be lent that has the
+ * size which the text describes. GORSEPLUMB_OK: `manifest` gives what the text describes, and what stands behind the
+ * endpoints and regions that it counts is zeros. Else `manifest` stays: GORSEPLUMB_NO_MEMORY, since reading takes
+ * memory, all of which it gives back, or the cause for which gorseplumb_boot would refuse the text. */
+enum gorseplumb_answer gorseplumb_read_manifest(const uint8_t *text, size_t size, struct gorseplumb_manifest *manifest);
+
 /* One operation of the endpoint that runs: a call with eight registers, a load of 1, 2, 4 or 8 bytes, a store of the
  * value's lowest bytes, as many as `size` says, and a fetch of one instruction. The outcome and the machine's next
  * state are those of the definition of the machine, and with them goes every promise that the machine's own operations

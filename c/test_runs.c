@@ -1,5 +1,6 @@
 /* SPDX-License-Identifier: MIT OR Apache-2.0 */
-/* A machine that ends without a list. Numbers and answers are by reasoning, or the manual's, as in test.c. */
+/* A manifest's text as numbers, and a machine that ends without a list, also where memory is refused. Numbers and answers are by
+ * reasoning, or the manual's, as in test.c. */
 #include <stdio.h>
 #include <stdlib.h>
 #include <string.h>
@@ -51,6 +52,9 @@ void gorseplumb_settle(uint16_t endpoint, uint64_t address, uint64_t size) {
     (void)endpoint, (void)address, (void)size; /* no processor walks the tables */
 }
 
+static const uint8_t *text = (const uint8_t *)manifest_text;
+static const size_t text_size = sizeof manifest_text - 1;
+
 static void loads(uint64_t address, uint32_t size, uint64_t value) {
     struct gorseplumb_outcome told = gorseplumb_load(&machine, address, size);
     CHECK(told.kind == GORSEPLUMB_KIND_DATA && told.value == value);
@@ -72,6 +76,27 @@ static struct gorseplumb_manifest row_manifest(void) {
     return manifest;
 }
 
+/* A text is read into the numbers that say the same, with zeros behind what they count; what is refused leaves all as it was. */
+static void reads(void) {
+    static struct gorseplumb_manifest manifest;
+    const struct gorseplumb_manifest right = row_manifest();
+    memset(&manifest, 0x5A, sizeof manifest);
+    const struct gorseplumb_manifest before = manifest;
+    CHECK(gorseplumb_read_manifest((const uint8_t *)"", 0, &manifest) == GORSEPLUMB_MANIFEST_MISSING_KEY);
+    CHECK(gorseplumb_read_manifest((const uint8_t *)"\xFF", 1, &manifest) == GORSEPLUMB_MANIFEST_TOML);
+    CHECK(gorseplumb_read_manifest((const uint8_t *)"ram_base = 1", 12, &manifest) == GORSEPLUMB_MANIFEST_RAM_BASE);
+    uint32_t answer = GORSEPLUMB_NO_MEMORY;
+    for (size_t turn = 0; answer != GORSEPLUMB_OK; turn++) {
+        CHECK(memcmp(&manifest, &before, sizeof manifest) == 0);
+        asked = 0;
+        refused = turn + 1;
+        answer = gorseplumb_read_manifest(text, text_size, &manifest);
+        refused = 0;
+        CHECK((answer == GORSEPLUMB_OK || answer == GORSEPLUMB_NO_MEMORY) && pieces == 0);
+    }
+    CHECK(asked > 0 && memcmp(&manifest, &right, sizeof manifest) == 0);
+}
+
 /* A machine in RAM of the heap needs no list to end, and one in lent RAM does. */
 static void ends(void) {
     struct gorseplumb_manifest manifest = row_manifest();
@@ -86,6 +111,7 @@ static void ends(void) {
 
 int main(void) {
     CHECK(gorseplumb_declarations() == GORSEPLUMB_DECLARATIONS);
+    reads();
     ends();
     CHECK(pieces == 0);
     puts("ok");

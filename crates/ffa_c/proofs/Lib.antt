@@ -5,3 +5,4 @@ pub mod Heap
 pub mod HeldSteps
 pub mod HeldListSteps
 pub mod Given
+pub mod Numbers

@@ -10,6 +10,8 @@ pub mod Given
 pub mod LentPages
 pub mod Readiness
 pub mod Lending
+pub mod Numbers
+pub mod Reading
 pub mod Spans
 pub mod Follows
 pub mod Grants

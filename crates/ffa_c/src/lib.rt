@@ -25,5 +25,6 @@ pub mod machine;
 pub mod manifest;
 pub mod outcome;
 pub mod questions;
+pub mod reading;
 pub mod seat;
 pub mod spans;
