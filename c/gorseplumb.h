@@ -120,7 +120,8 @@ enum gorseplumb_kind {
     GORSEPLUMB_KIND_DONE = 2,       /* a store was done */
     GORSEPLUMB_KIND_FAULT = 3,      /* `value` is an enum gorseplumb_fault */
     GORSEPLUMB_KIND_NO_MACHINE = 4, /* there is no machine, and nothing was done */
-    GORSEPLUMB_KIND_BAD_SIZE = 5,   /* the size is none of 1, 2, 4 and 8, with a machine or without one, and nothing was done */
+    GORSEPLUMB_KIND_BAD_SIZE = 5,   /* the size is none of 1, 2, 4 and 8, or of gorseplumb_run the kind is unknown, with a
+                                     * machine or without one, and nothing was done */
     GORSEPLUMB_KIND_NO_ENDPOINT = 6 /* the machine has no such endpoint, and nothing was done */
 };
 
@@ -263,7 +264,30 @@ struct gorseplumb_outcome gorseplumb_load(struct gorseplumb_machine *machine, ui
 struct gorseplumb_outcome gorseplumb_store(struct gorseplumb_machine *machine, uint64_t address, uint32_t size, uint64_t value);
 struct gorseplumb_outcome gorseplumb_fetch(struct gorseplumb_machine *machine, uint64_t address);
 
-/* The same of any endpoint, whoever runs, as where another processor runs it: of the runner they are the four above. A
+enum gorseplumb_operation_kind {
+    GORSEPLUMB_OPERATION_CALL = 0,
+    GORSEPLUMB_OPERATION_LOAD = 1,
+    GORSEPLUMB_OPERATION_STORE = 2,
+    GORSEPLUMB_OPERATION_FETCH = 3
+};
+
+/* An operation in a list. What its kind doesn't name is not read. */
+struct gorseplumb_operation {
+    uint32_t kind;    /* enum gorseplumb_operation_kind */
+    uint32_t size;    /* of a load and of a store */
+    uint64_t address; /* of a load, a store and a fetch */
+    uint64_t value;   /* of a store */
+    uint64_t x[8];    /* of a call */
+};
+
+/* Operations one after another, each of the endpoint that runs then: as many as both lists have places, which it
+ * answers. Each has the outcome of its own call above, and does what that does, so nothing of what is promised of these
+ * is lost; an unknown kind is answered as an unknown size, by GORSEPLUMB_KIND_BAD_SIZE, and the next operation is done.
+ * Places of `outcomes` behind those stay. */
+size_t gorseplumb_run(struct gorseplumb_machine *machine, const struct gorseplumb_operation *operations, size_t count,
+                      struct gorseplumb_outcome *outcomes, size_t places);
+
+/* The four above of any endpoint, whoever runs, as where another processor runs it: of the runner they are these. A
  * call of another is answered FFA_ERROR with BUSY, `runner` names that endpoint, which isn't the machine's runner, and
  * nothing changes; its loads, stores and fetches go by its own table. Where the machine has no such endpoint the answer
  * is GORSEPLUMB_KIND_NO_ENDPOINT. */

@@ -1,6 +1,6 @@
 /* SPDX-License-Identifier: MIT OR Apache-2.0 */
-/* A manifest's text as numbers, and a machine that ends without a list, also where memory is refused. Numbers and answers are by
- * reasoning, or the manual's, as in test.c. */
+/* A manifest's text as numbers, a machine that ends without a list, and operations that are given in a list, also where memory is
+ * refused. Numbers and answers are by reasoning, or the manual's, as in test.c. */
 #include <stdio.h>
 #include <stdlib.h>
 #include <string.h>
@@ -60,6 +60,10 @@ static void loads(uint64_t address, uint32_t size, uint64_t value) {
     CHECK(told.kind == GORSEPLUMB_KIND_DATA && told.value == value);
 }
 
+static void stores(uint64_t address, uint64_t value) {
+    CHECK(gorseplumb_store(&machine, address, 8, value).kind == GORSEPLUMB_KIND_DONE);
+}
+
 /* The machine of machine.toml.h as numbers. */
 static struct gorseplumb_manifest row_manifest(void) {
     struct gorseplumb_manifest manifest = {.ram_base = 0x40000000, .ram_blocks = 1, .endpoint_count = 3};
@@ -109,10 +113,50 @@ static void ends(void) {
     CHECK(gorseplumb_free(&machine, &list) == GORSEPLUMB_OK && gorseplumb_take_all_back(&list, pages, 512) && pieces == 0);
 }
 
+/* Operations of a list are done one after another, each as by its own call. */
+static void runs(void) {
+    static const struct gorseplumb_operation operations[] = {
+        {GORSEPLUMB_OPERATION_CALL, 0, 0, 0, {FFA_ID_GET}},
+        {GORSEPLUMB_OPERATION_STORE, 2, 0x40010000, 0x123456, {0}},
+        {4, 1, 0x40010000, 0, {0}},
+        {GORSEPLUMB_OPERATION_LOAD, 3, 0x40010000, 0, {0}},
+        {GORSEPLUMB_OPERATION_LOAD, 4, 0x40010000, 0, {0}},
+        {GORSEPLUMB_OPERATION_FETCH, 0, 0x40010000, 0, {0}},
+        {GORSEPLUMB_OPERATION_CALL, 0, 0, 0, {FFA_RUN, 0x80010000}},
+        {GORSEPLUMB_OPERATION_FETCH, 0, 0x40020000, 0, {0}},
+        {GORSEPLUMB_OPERATION_STORE, 1, 0x40020000, 1, {0}},
+    };
+    enum { COUNT = sizeof operations / sizeof operations[0] };
+    static const uint32_t kinds[COUNT] = {GORSEPLUMB_KIND_REGISTERS, GORSEPLUMB_KIND_DONE,      GORSEPLUMB_KIND_BAD_SIZE,
+                                          GORSEPLUMB_KIND_BAD_SIZE,  GORSEPLUMB_KIND_DATA,      GORSEPLUMB_KIND_FAULT,
+                                          GORSEPLUMB_KIND_REGISTERS, GORSEPLUMB_KIND_DATA,      GORSEPLUMB_KIND_DONE};
+    static struct gorseplumb_outcome told[COUNT + 1];
+    memset(told, 0x5A, sizeof told);
+    CHECK(gorseplumb_run(&machine, operations, COUNT, told, COUNT) == COUNT);
+    for (size_t i = 0; i < COUNT; i++) {
+        CHECK(told[i].kind == (kinds[i] == GORSEPLUMB_KIND_BAD_SIZE ? GORSEPLUMB_KIND_BAD_SIZE : GORSEPLUMB_KIND_NO_MACHINE));
+    }
+    CHECK(gorseplumb_boot(&machine, text, text_size) == GORSEPLUMB_OK);
+    memset(told, 0x5A, sizeof told);
+    CHECK(gorseplumb_run(&machine, operations, COUNT, told, 0) == 0 && gorseplumb_run(&machine, operations, 0, told, COUNT) == 0);
+    CHECK(told[0].kind == 0x5A5A5A5A && gorseplumb_runner(&machine) == 0);
+    CHECK(gorseplumb_run(&machine, operations, COUNT, told, 2) == 2 && told[2].kind == 0x5A5A5A5A);
+    loads(0x40010000, 8, 0x3456);
+    stores(0x40010000, 0);
+    CHECK(gorseplumb_run(&machine, operations, 6, told, COUNT + 1) == 6 && told[6].kind == 0x5A5A5A5A);
+    CHECK(gorseplumb_run(&machine, operations, COUNT, told, COUNT + 1) == COUNT && told[COUNT].kind == 0x5A5A5A5A);
+    for (size_t i = 0; i < COUNT; i++) CHECK(told[i].kind == kinds[i]);
+    CHECK(told[0].x[0] == FFA_SUCCESS && told[0].x[2] == 0 && told[4].value == 0x3456 && told[5].value == GORSEPLUMB_FAULT_PERMISSION);
+    CHECK(told[6].runner == 0x8001 && told[7].value == 0 && gorseplumb_runner(&machine) == 0x8001);
+    loads(0x40020000, 1, 1);
+    CHECK(gorseplumb_end(&machine) == GORSEPLUMB_OK && pieces == 0);
+}
+
 int main(void) {
     CHECK(gorseplumb_declarations() == GORSEPLUMB_DECLARATIONS);
     reads();
     ends();
+    runs();
     CHECK(pieces == 0);
     puts("ok");
     return 0;

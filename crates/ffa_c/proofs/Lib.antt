@@ -6,3 +6,4 @@ pub mod HeldSteps
 pub mod HeldListSteps
 pub mod Given
 pub mod Numbers
+pub mod RunSteps

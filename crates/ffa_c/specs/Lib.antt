@@ -11,6 +11,7 @@ pub mod LentPages
 pub mod Readiness
 pub mod Lending
 pub mod Numbers
+pub mod Operations
 pub mod Reading
 pub mod Spans
 pub mod Follows

@@ -89,11 +89,23 @@ pub const KIND_FAULT: u32 = 3;
 /// Of an outcome: there is no machine, and nothing was done.
 pub const KIND_NO_MACHINE: u32 = 4;
 
-/// Of an outcome: there is no access of such a size, and nothing was done.
+/// Of an outcome: there is no access of such a size, or no operation of such a kind, and nothing was done.
 pub const KIND_BAD_SIZE: u32 = 5;
 
 /// Of an outcome: the machine has no such endpoint, and nothing was done.
 pub const KIND_NO_ENDPOINT: u32 = 6;
+
+/// An operation is a call, with registers.
+pub const OPERATION_CALL: u32 = 0;
+
+/// An operation is a load.
+pub const OPERATION_LOAD: u32 = 1;
+
+/// An operation is a store.
+pub const OPERATION_STORE: u32 = 2;
+
+/// An operation is a fetch.
+pub const OPERATION_FETCH: u32 = 3;
 
 /// No descriptor maps the address.
 pub const FAULT_TRANSLATION: u64 = 1;

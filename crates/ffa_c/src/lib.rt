@@ -23,6 +23,7 @@ pub mod lending;
 pub mod lent_list;
 pub mod machine;
 pub mod manifest;
+pub mod operations;
 pub mod outcome;
 pub mod questions;
 pub mod reading;
