@@ -209,7 +209,10 @@ enum gorseplumb_answer {
     GORSEPLUMB_HAS_PAGES = 18,  /* the list has pages still */
     GORSEPLUMB_NO_MACHINE = 19, /* there is no machine */
     GORSEPLUMB_WRONG_COUNT = 20, /* the list has more pages than the manifest's RAM, or fewer */
-    GORSEPLUMB_LENT = 22 /* the machine's RAM is lent: gorseplumb_free gives it back */
+    GORSEPLUMB_NOT_CERTIFIED = 21, /* the tables don't give what the runs say */
+    GORSEPLUMB_LENT = 22,          /* the machine's RAM is lent: gorseplumb_free gives it back */
+    GORSEPLUMB_BAD_BASE = 23,      /* RAM of so many pages can't stand at the address */
+    GORSEPLUMB_BAD_ROOTS = 24      /* there are more than endpoints of a machine, or one is at no page of RAM */
 };
 
 /* What a question that asks for a number answers where there is no machine, gorseplumb_owner also where there is no
@@ -381,6 +384,22 @@ bool gorseplumb_pending(const struct gorseplumb_machine *machine, uint16_t endpo
 /* Copies the bytes of a page of RAM: true. False: there is no machine, or a machine without such a page, which the
  * answer doesn't tell apart, and `bytes` stays. */
 bool gorseplumb_read_page(const struct gorseplumb_machine *machine, uint32_t page, struct gorseplumb_page *bytes);
+
+/* Whether runs are a certificate that the machine's tables give: they follow one another from RAM's first page to its
+ * last, none of them empty, and the walks from each endpoint's level 1 table, over the bytes of RAM alone, give at every
+ * address below 4 GiB exactly the access that the runs say, and nothing outside RAM. No table tells owners and handles:
+ * they are not looked at. GORSEPLUMB_OK or GORSEPLUMB_NOT_CERTIFIED; but GORSEPLUMB_NO_MACHINE, or GORSEPLUMB_NO_MEMORY,
+ * since the runs are copied, in one piece, which is given back. The machine stays. */
+enum gorseplumb_answer gorseplumb_audit(const struct gorseplumb_machine *machine, const struct gorseplumb_cert_run *runs, size_t count);
+
+/* The checker alone, for who trusts no manager: the same of the tables that begin at `roots`, the addresses of level 1
+ * tables by the endpoints' places, in RAM at the address `base` whose pages are those of the list, in order.
+ * GORSEPLUMB_NO_LIST where there is no list; else GORSEPLUMB_BAD_BASE where `base` is no multiple of 4096, or so many
+ * pages from there on would end above 4 GiB; else GORSEPLUMB_BAD_ROOTS where there are more roots than
+ * GORSEPLUMB_MOST_ENDPOINTS, or one is not the address of a page of RAM; else GORSEPLUMB_OK, GORSEPLUMB_NOT_CERTIFIED or
+ * GORSEPLUMB_NO_MEMORY. The list keeps its pages, with the bytes that they have, and where nothing is judged it is as it was. */
+enum gorseplumb_answer gorseplumb_audit_tables(struct gorseplumb_lent *lent, uint32_t base, const uint32_t *roots, size_t root_count,
+                                               const struct gorseplumb_cert_run *runs, size_t count);
 
 /* Ends the machine. RAM of the heap goes back to the heap, and `lent` stays as it is (it may be { 0 }). RAM that was
  * lent goes whole to `lent`, an empty list: every page, in order, with the bytes that it has; and so does the machine's

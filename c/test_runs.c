@@ -1,6 +1,7 @@
 /* SPDX-License-Identifier: MIT OR Apache-2.0 */
-/* A manifest's text as numbers, a machine that ends without a list, and operations that are given in a list, also where memory is
- * refused. Numbers and answers are by reasoning, or the manual's, as in test.c. */
+/* A manifest's text as numbers, a machine that ends without a list, operations that are given in a list, and runs of pages that are
+ * judged, of a machine and of tables in pages that are lent, also where memory is refused. Numbers and answers are by reasoning, or
+ * the manual's, as in test.c. */
 #include <stdio.h>
 #include <stdlib.h>
 #include <string.h>
@@ -152,11 +153,139 @@ static void runs(void) {
     CHECK(gorseplumb_end(&machine) == GORSEPLUMB_OK && pieces == 0);
 }
 
+/* The certificate of the row's machine, and the tables of its endpoints: a level 1 page, a level 2 page and a level 3 page each. */
+enum { RUNS = 5 };
+static const struct gorseplumb_cert_run first_runs[RUNS] = {
+    {0, 15, 0x8000, 0, 0, {0}},          {16, 31, 0, 0, 0, {3}},       {32, 47, 0x8001, 0, 0, {0, 7}},
+    {48, 63, 0x8002, 0, 0, {0, 0, 3}},   {64, 511, 0x8000, 0, 0, {0}},
+};
+static const uint32_t roots[3] = {0x40000000, 0x40003000, 0x40006000};
+
+/* What the machine's tables, or those in the list, answer to the certificate with one thing changed. */
+#define AUDITED(answer_, ...) \
+    do { \
+        struct gorseplumb_cert_run told[RUNS]; \
+        size_t count = RUNS; \
+        memcpy(told, first_runs, sizeof told); \
+        __VA_ARGS__; \
+        CHECK(audited(told, count) == (answer_)); \
+    } while (0)
+
+static uint32_t audited(const struct gorseplumb_cert_run *told, size_t count) {
+    if (machine.live) return gorseplumb_audit(&machine, told, count);
+    return gorseplumb_audit_tables(&list, 0x40000000, roots, 3, told, count);
+}
+
+static void audits(void) {
+    AUDITED(GORSEPLUMB_OK, (void)0);
+    AUDITED(GORSEPLUMB_OK, told[1].owner = 0x12345, told[2].has_handle = 7, told[2].handle = 1); /* no table tells these */
+    AUDITED(GORSEPLUMB_NOT_CERTIFIED, count = 0);
+    AUDITED(GORSEPLUMB_NOT_CERTIFIED, count = 4);
+    AUDITED(GORSEPLUMB_NOT_CERTIFIED, told[4].last = 510);
+    AUDITED(GORSEPLUMB_NOT_CERTIFIED, told[4].last = 512);
+    AUDITED(GORSEPLUMB_NOT_CERTIFIED, told[0].first = 1);
+    AUDITED(GORSEPLUMB_NOT_CERTIFIED, told[1].last = 32);
+    AUDITED(GORSEPLUMB_NOT_CERTIFIED, told[1].last = 32, told[2].first = 33);
+    AUDITED(GORSEPLUMB_NOT_CERTIFIED, told[1].access[0] = 1);
+    AUDITED(GORSEPLUMB_NOT_CERTIFIED, told[1].access[0] = 2); /* no code */
+    AUDITED(GORSEPLUMB_NOT_CERTIFIED, told[0].access[7] = 8);
+    AUDITED(GORSEPLUMB_OK, told[0].access[7] = 3); /* there is no such endpoint */
+    AUDITED(GORSEPLUMB_NOT_CERTIFIED, told[2].access[1] = 3);
+    AUDITED(GORSEPLUMB_NOT_CERTIFIED, told[3].access[1] = 1);
+}
+
+/* While memory is refused nothing is judged, and what was taken is given back. */
+static void audits_nothing(void) {
+    size_t before = pieces;
+    asked = 0;
+    refused = 1;
+    AUDITED(GORSEPLUMB_NO_MEMORY, (void)0);
+    refused = 0;
+    AUDITED(GORSEPLUMB_OK, (void)0);
+    CHECK(asked == 2 && pieces == before);
+}
+
+static uint32_t tables(uint32_t base, const uint32_t *at, size_t count) {
+    return gorseplumb_audit_tables(&list, base, at, count, first_runs, RUNS);
+}
+
+/* 8001 lends page 33 and has it no more: the first certificate is wrong from then on, and one that says so is right. */
+static void lends(void) {
+    enum { COUNT = 10 };
+    static const struct gorseplumb_operation operations[COUNT] = {
+        {GORSEPLUMB_OPERATION_CALL, 0, 0, 0, {FFA_RUN, 0x80010000}},
+        {GORSEPLUMB_OPERATION_CALL, 0, 0, 0, {FFA_RXTX_MAP, 0x4002E000, 0x4002F000, 1}},
+        {GORSEPLUMB_OPERATION_STORE, 8, 0x4002E000, 0x8001, {0}},
+        {GORSEPLUMB_OPERATION_STORE, 8, 0x4002E018, 0x0000000100000010, {0}},
+        {GORSEPLUMB_OPERATION_STORE, 8, 0x4002E020, 0x30, {0}},
+        {GORSEPLUMB_OPERATION_STORE, 8, 0x4002E030, 0x0000004000028002, {0}},
+        {GORSEPLUMB_OPERATION_STORE, 8, 0x4002E040, 0x0000000100000001, {0}},
+        {GORSEPLUMB_OPERATION_STORE, 8, 0x4002E050, 0x40021000, {0}},
+        {GORSEPLUMB_OPERATION_STORE, 8, 0x4002E058, 1, {0}},
+        {GORSEPLUMB_OPERATION_CALL, 0, 0, 0, {FFA_MEM_LEND, 0x60, 0x60}},
+    };
+    static struct gorseplumb_outcome outcomes[COUNT];
+    CHECK(gorseplumb_run(&machine, operations, COUNT, outcomes, COUNT) == COUNT);
+    const struct gorseplumb_outcome *lent = &outcomes[COUNT - 1];
+    CHECK(lent->kind == GORSEPLUMB_KIND_REGISTERS && lent->x[0] == FFA_SUCCESS && lent->x[2] == 1 && lent->x[3] == 0x8001);
+    AUDITED(GORSEPLUMB_NOT_CERTIFIED, (void)0);
+    struct gorseplumb_cert_run split[RUNS + 2];
+    memcpy(split, first_runs, 3 * sizeof split[0]);
+    memcpy(split + 4, first_runs + 2, 3 * sizeof split[0]);
+    split[2].last = 32;
+    split[3] = (struct gorseplumb_cert_run){33, 33, 0x8001, 1, 0x0000800100000001, {0}};
+    split[4].first = 34;
+    CHECK(gorseplumb_audit(&machine, split, RUNS + 2) == GORSEPLUMB_OK);
+    /* So is the machine's own. */
+    struct gorseplumb_cert_run own[RUNS + 2];
+    uint32_t page = 0;
+    for (size_t i = 0; i < RUNS + 2; i++) {
+        CHECK(gorseplumb_cert_run(&machine, page, &own[i]) && own[i].first == split[i].first && own[i].last == split[i].last);
+        page = own[i].last + 1;
+    }
+    CHECK(page == 512 && gorseplumb_audit(&machine, own, RUNS + 2) == GORSEPLUMB_OK);
+}
+
+static void certificates(void) {
+    struct gorseplumb_manifest manifest = row_manifest();
+    CHECK(gorseplumb_audit(&machine, first_runs, RUNS) == GORSEPLUMB_NO_MACHINE);
+    CHECK(tables(1, roots, 3) == GORSEPLUMB_NO_LIST && gorseplumb_boot(&machine, text, text_size) == GORSEPLUMB_OK);
+    audits();
+    audits_nothing();
+    lends();
+    memset(pages, 0, sizeof pages);
+    CHECK(gorseplumb_end(&machine) == GORSEPLUMB_OK && gorseplumb_lend_all(&list, pages, 512) == GORSEPLUMB_OK);
+    CHECK(tables(0x40000000, roots, 3) == GORSEPLUMB_NOT_CERTIFIED);
+    CHECK(gorseplumb_boot_lent_manifest(&machine, &list, &manifest) == GORSEPLUMB_OK);
+    audits();
+    CHECK(gorseplumb_free(&machine, &list) == GORSEPLUMB_OK);
+    audits();
+    audits_nothing();
+    CHECK(tables(0x40000000, roots, 0) == GORSEPLUMB_OK && tables(0x40000000, roots, 1) == GORSEPLUMB_OK);
+    const uint32_t swapped[9] = {roots[0], roots[2], roots[1]};
+    CHECK(tables(0x40000000, swapped, 3) == GORSEPLUMB_NOT_CERTIFIED && tables(0x40000000, swapped, 9) == GORSEPLUMB_BAD_ROOTS);
+    CHECK(tables(0x40000800, roots, 3) == GORSEPLUMB_BAD_BASE && tables(0xFFE01000, roots, 9) == GORSEPLUMB_BAD_BASE);
+    static const uint32_t others[] = {0x40000008, 0x40200000, 0x3FFFF000, 0, 0xFFFFF000};
+    for (size_t i = 0; i < sizeof others / sizeof others[0]; i++) CHECK(tables(0x40000000, &others[i], 1) == GORSEPLUMB_BAD_ROOTS);
+    CHECK(tables(0xFFE00000, roots, 3) == GORSEPLUMB_BAD_ROOTS && tables(0xFFE00000, roots, 0) == GORSEPLUMB_OK);
+    /* One bit of one word of 8002's level 3 page gives page 63 away, or takes it. */
+    CHECK(gorseplumb_lent_pages(&list) == 512 && gorseplumb_take_all_back(&list, pages, 512) && pieces == 0);
+    for (int bit = 6; bit < 8; bit++) {
+        pages[8].bytes[8 * 63] ^= (uint8_t)(1 << bit);
+        CHECK(gorseplumb_lend_all(&list, pages, 512) == GORSEPLUMB_OK && tables(0x40000000, roots, 3) == GORSEPLUMB_NOT_CERTIFIED);
+        CHECK(gorseplumb_take_all_back(&list, pages, 512));
+        pages[8].bytes[8 * 63] ^= (uint8_t)(1 << bit);
+    }
+    CHECK(gorseplumb_lend_all(&list, pages, 512) == GORSEPLUMB_OK && tables(0x40000000, roots, 3) == GORSEPLUMB_OK);
+    CHECK(gorseplumb_take_all_back(&list, pages, 512) && pieces == 0);
+}
+
 int main(void) {
     CHECK(gorseplumb_declarations() == GORSEPLUMB_DECLARATIONS);
     reads();
     ends();
     runs();
+    certificates();
     CHECK(pieces == 0);
     puts("ok");
     return 0;

@@ -1,4 +1,5 @@
 -- SPDX-License-Identifier: MIT OR Apache-2.0
+pub mod Audit
 pub mod Border
 pub mod Elsewhere
 pub mod Boarded

@@ -68,8 +68,17 @@ pub const NO_MACHINE: u32 = 19;
 /// The list has more pages than the manifest's RAM, or fewer.
 pub const WRONG_COUNT: u32 = 20;
 
+/// The tables don't give what the runs say.
+pub const NOT_CERTIFIED: u32 = 21;
+
 /// The machine's RAM is lent.
 pub const LENT: u32 = 22;
+
+/// RAM of so many pages can't stand at the address.
+pub const BAD_BASE: u32 = 23;
+
+/// More tables are named than a machine has endpoints, or one that is at no page of RAM.
+pub const BAD_ROOTS: u32 = 24;
 
 /// What a question answers where there is no machine, no such page or no such endpoint.
 pub const NOTHING: u32 = 0xFFFF_FFFF;

@@ -5,6 +5,7 @@
 //! `CMachine` here, and so on.
 #![tactic(auto)]
 
+pub mod audit;
 pub mod board;
 pub mod booting;
 pub mod cert_run;
