@@ -1,8 +1,8 @@
 /* SPDX-License-Identifier: MIT OR Apache-2.0 */
-/* The questions, asked of a struct in memory that can only be read: of the machine of machine.toml.h, whose endpoint
- * 0000 has the 16 pages from 40010000 on, 8001 those from 40020000 and 8002 those from 40030000, while 8001 lends a
- * page to 8002 and shares one with it; and of no machine. Addresses of tables are as docs/FORMATS.md has them, handles
- * and descriptors as docs/MEMORY.md. */
+/* The questions, asked of a struct in memory that can only be read: how many pages a list has; and of the machine of
+ * machine.toml.h, whose endpoint 0000 has the 16 pages from 40010000 on, 8001 those from 40020000 and 8002 those from
+ * 40030000, while 8001 lends a page to 8002 and shares one with it; and of no machine. Addresses of tables are as
+ * docs/FORMATS.md has them, handles and descriptors as docs/MEMORY.md. */
 #define _DEFAULT_SOURCE
 #include <stdio.h>
 #include <stdlib.h>
@@ -45,18 +45,20 @@ void gorseplumb_settle(uint16_t endpoint, uint64_t address, uint64_t size) {
     CHECK(false); /* RAM is of the heap */
 }
 
-/* The machine's struct in memory that can only be read: it moves there for a question, and back for an operation. */
-static const struct gorseplumb_machine *shown(void) {
-    static struct gorseplumb_machine *place;
+/* A struct in memory that can only be read: it moves there for a question, and back for an operation. */
+static const void *read_only(const void *it, size_t size) {
+    static void *place;
     if (place == NULL) {
         place = mmap(NULL, ROOM, PROT_READ | PROT_WRITE, MAP_PRIVATE | MAP_ANONYMOUS, -1, 0);
         CHECK(place != MAP_FAILED);
     }
     CHECK(mprotect(place, ROOM, PROT_READ | PROT_WRITE) == 0);
-    *place = machine;
+    memcpy(place, it, size);
     CHECK(mprotect(place, ROOM, PROT_READ) == 0);
     return place;
 }
+
+static const struct gorseplumb_machine *shown(void) { return read_only(&machine, sizeof machine); }
 
 static void calls(uint16_t runner, uint32_t answer, struct gorseplumb_registers given) {
     struct gorseplumb_outcome told = gorseplumb_call(&machine, &given);
@@ -218,8 +220,27 @@ static void elsewhere(void) {
     runs(513, 1023, 0x8000, 0, 0, 0, 0);
 }
 
+static uint64_t lent_pages(const struct gorseplumb_lent *list) {
+    return gorseplumb_lent_pages(read_only(list, sizeof *list));
+}
+
+static void lists(void) {
+    static struct gorseplumb_page pages[3];
+    struct gorseplumb_lent list = {0};
+    struct gorseplumb_span span = {pages, 3};
+    CHECK(lent_pages(&list) == 0);
+    CHECK(gorseplumb_begin_lending(&list, 3) == GORSEPLUMB_OK && lent_pages(&list) == 0);
+    CHECK(gorseplumb_lend_span(&list, &span) == GORSEPLUMB_OK && lent_pages(&list) == 3);
+    for (uint64_t left = 3; left > 0; left--) {
+        struct gorseplumb_slot slot = {0};
+        CHECK(gorseplumb_take_back(&list, &slot) == GORSEPLUMB_OK && lent_pages(&list) == left - 1);
+    }
+    CHECK(gorseplumb_end_lending(&list) == GORSEPLUMB_OK && lent_pages(&list) == 0);
+}
+
 int main(void) {
     struct gorseplumb_lent none = {0};
+    lists();
     without();
     CHECK(gorseplumb_boot(&machine, (const uint8_t *)manifest_text, sizeof manifest_text - 1) == GORSEPLUMB_OK);
     first_state();

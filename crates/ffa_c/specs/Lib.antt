@@ -10,6 +10,7 @@ pub mod Readiness
 pub mod Lending
 pub mod Spans
 pub mod Follows
+pub mod ListFollows
 pub mod Grants
 pub mod CertRuns
 pub mod Runs
