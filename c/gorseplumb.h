@@ -69,12 +69,12 @@ struct gorseplumb_span {
     size_t pages;
 };
 
-/* The library's memory. The program defines these three functions, heap.c over malloc and array.c over an array, and
- * nothing else is asked for memory. They are called within a call of the library, one at a time for each call that is
- * on its way, and may not call the library. */
+/* The library's memory: it asks these three functions for all of it, and the program defines them. heap.c has them over
+ * malloc, array.c over an array. They are called while a call of the library is on its way, and may not call it; where
+ * calls on two machines overlap, so may theirs. */
 struct gorseplumb_block {
     bool ok;  /* whether there is memory */
-    void *at; /* where; never null, and where there is none any address that nobody follows */
+    void *at; /* where it is; where there is none an address that isn't followed. It is never null */
 };
 
 /* A new block of at least `size` bytes, which may be 0, at a multiple of `align`, which is a power of two up to 16. It
@@ -228,7 +228,8 @@ enum gorseplumb_answer gorseplumb_boot(struct gorseplumb_machine *machine, const
 /* The same of a manifest as numbers, for which no memory is needed but the machine's own and its RAM. Refused first, in
  * this order: more endpoints than places; then for each endpoint an unknown version, more regions than places, unknown
  * rights. After that come the causes of a text, in the order in which it would be read. */
-enum gorseplumb_answer gorseplumb_boot_manifest(struct gorseplumb_machine *machine, const struct gorseplumb_manifest *manifest);
+enum gorseplumb_answer gorseplumb_boot_manifest(struct gorseplumb_machine *machine,
+                                                const struct gorseplumb_manifest *manifest);
 
 /* The same in RAM that is lent: the pages of the list, in order. GORSEPLUMB_OK: the list is empty then, and all pages
  * behind the tables are zeros. Else nothing has changed: GORSEPLUMB_OCCUPIED, GORSEPLUMB_NO_LIST, GORSEPLUMB_NO_MEMORY,
@@ -236,8 +237,8 @@ enum gorseplumb_answer gorseplumb_boot_manifest(struct gorseplumb_machine *machi
  * block). The machine's memory is the list's: of numbers a boot takes none, so GORSEPLUMB_NO_MEMORY comes only where
  * the list lacks some, since it has more pages than it was begun for, or another machine that was booted in it has
  * that. While a text is read memory is taken, and given back. */
-enum gorseplumb_answer gorseplumb_boot_lent(struct gorseplumb_machine *machine, struct gorseplumb_lent *lent, const uint8_t *text,
-                                            size_t size);
+enum gorseplumb_answer gorseplumb_boot_lent(struct gorseplumb_machine *machine, struct gorseplumb_lent *lent,
+                                            const uint8_t *text, size_t size);
 enum gorseplumb_answer gorseplumb_boot_lent_manifest(struct gorseplumb_machine *machine, struct gorseplumb_lent *lent,
                                                      const struct gorseplumb_manifest *manifest);
 
@@ -245,8 +246,8 @@ enum gorseplumb_answer gorseplumb_boot_lent_manifest(struct gorseplumb_machine *
  * kernel that was put there is there before the first operation, and a region that nobody may write to can have any
  * bytes. All other pages behind the tables are zeros, and whatever stood where the tables are built is gone. A boot
  * that is refused changes no byte. */
-enum gorseplumb_answer gorseplumb_boot_held(struct gorseplumb_machine *machine, struct gorseplumb_lent *lent, const uint8_t *text,
-                                            size_t size);
+enum gorseplumb_answer gorseplumb_boot_held(struct gorseplumb_machine *machine, struct gorseplumb_lent *lent,
+                                            const uint8_t *text, size_t size);
 enum gorseplumb_answer gorseplumb_boot_held_manifest(struct gorseplumb_machine *machine, struct gorseplumb_lent *lent,
                                                      const struct gorseplumb_manifest *manifest);
 
@@ -322,8 +323,8 @@ struct gorseplumb_change {
  * changed; what the access is now, gorseplumb_access answers. */
 bool gorseplumb_changed(struct gorseplumb_machine *machine, struct gorseplumb_change *change);
 
-/* Questions, which change nothing and write nothing to the machine. Those that answer a number answer GORSEPLUMB_NOTHING
- * where there is no machine.
+/* Questions, which change nothing and write nothing to the machine. Those that answer a number answer
+ * GORSEPLUMB_NOTHING where there is no machine.
  *
  * The endpoint that runs, and how many there are. */
 uint32_t gorseplumb_runner(const struct gorseplumb_machine *machine);
@@ -369,7 +370,7 @@ struct gorseplumb_cert_run {
     uint32_t owner;      /* 0x8000 is the manager */
     uint32_t has_handle; /* 1 where the pages stand in the open transaction `handle`; else 0, and `handle` is 0 */
     uint64_t handle;
-    uint32_t access[GORSEPLUMB_MOST_ENDPOINTS]; /* by the endpoints' places in the manifest, as gorseplumb_access answers; 0 behind the last */
+    uint32_t access[GORSEPLUMB_MOST_ENDPOINTS]; /* by place in the manifest, as gorseplumb_access answers; else 0 */
 };
 
 /* The run from a page on: true. False: there is no machine, or a machine without such a page, and `run` stays. The runs
@@ -642,8 +643,8 @@ enum gorseplumb_answer gorseplumb_lend_span(struct gorseplumb_lent *lent, struct
  * isn't GORSEPLUMB_OK nothing has changed. */
 enum gorseplumb_answer gorseplumb_take_back(struct gorseplumb_lent *lent, struct gorseplumb_slot *slot);
 
-/* The number of pages in the list; 0 where there is no list. */
-uint64_t gorseplumb_lent_pages(struct gorseplumb_lent *lent);
+/* The number of pages in the list; 0 where there is no list. It writes nothing to `lent`. */
+uint64_t gorseplumb_lent_pages(const struct gorseplumb_lent *lent);
 
 /* Ends an empty list, and gives all memory back that it has; there is none then. GORSEPLUMB_NO_LIST where there is no
  * list; else GORSEPLUMB_HAS_PAGES where it has pages; else GORSEPLUMB_OK. Where it isn't GORSEPLUMB_OK nothing has

@@ -17,5 +17,6 @@ pub mod Reading
 pub mod Spans
 pub mod Why
 pub mod Follows
+pub mod ListFollows
 pub mod Grants
 pub mod Runs
