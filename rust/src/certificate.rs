@@ -177,6 +177,19 @@ impl<R: Ram> Machine<R> {
     }
 
     /// All runs, from RAM's first page to its last: the machine's certificate.
+    ///
+    /// ```
+    /// # use gorseplumb::*;
+    /// # const RAM: u32 = 0x4000_0000;
+    /// # const WORLD: Endpoint =
+    /// #     Endpoint::normal_world(Version::V1_1, Properties::NONE, &[Region::new(RAM + 0x10000, 16, Rights::Rw)]);
+    /// let machine = Machine::boot(&Manifest::new(RAM, 1, &[WORLD]))?;
+    /// let runs: Vec<PageRun> = machine.certificate().collect();
+    /// assert_eq!((runs[1].first(), runs[1].last(), runs[1].access(0)), (16, 31, Some(Rights::Rw)));
+    /// assert_eq!(machine.audit(&runs), Ok(()));
+    /// assert_eq!(machine.audit(&runs[1..]), Err(AuditError::NotCertified));
+    /// # Ok::<(), BootError>(())
+    /// ```
     pub fn certificate(&self) -> impl Iterator<Item = PageRun> + '_ {
         iter::successors(self.run_from(0), |run| self.run_from(run.last() + 1))
     }

@@ -2,18 +2,15 @@
 //! The three functions by which the library asks for memory, over the program's global allocator. That one is told a
 //! block's size where it is given back, and the library tells none: so it stands in sixteen bytes in front of the
 //! block.
+use crate::raw::Block;
 use alloc::alloc::{alloc, dealloc, realloc, Layout};
 use core::ffi::c_void;
 
 /// What each block is aligned to, and what its front takes.
 const FRONT: usize = 16;
 
-/// Whether there is memory, and where; the pointer is never null.
-#[repr(C)]
-struct Tried {
-    ok: bool,
-    at: *mut c_void,
-}
+/// No memory, and a pointer that isn't null.
+const NONE: Block = Block { ok: false, at: FRONT as *mut c_void };
 
 /// A block of so many bytes with its front, if there may be one.
 fn layout(size: usize, align: usize) -> Option<Layout> {
@@ -27,14 +24,14 @@ fn layout(size: usize, align: usize) -> Option<Layout> {
 ///
 /// # Safety
 /// `front` is null, or points to memory of this layout that nobody else has.
-unsafe fn block(front: *mut u8, layout: Layout) -> Tried {
+unsafe fn block(front: *mut u8, layout: Layout) -> Block {
     if front.is_null() {
-        return Tried { ok: false, at: FRONT as *mut c_void };
+        return NONE;
     }
     // SAFETY: the memory has room for its front, and is aligned to more than a `usize`.
     unsafe {
         front.cast::<usize>().write(layout.size());
-        Tried { ok: true, at: front.add(FRONT).cast() }
+        Block { ok: true, at: front.add(FRONT).cast() }
     }
 }
 
@@ -51,23 +48,23 @@ unsafe fn front(block: *mut c_void) -> (*mut u8, Layout) {
 }
 
 #[no_mangle]
-unsafe extern "C" fn rattle_alloc(size: usize, align: usize) -> Tried {
+unsafe extern "C" fn rattle_alloc(size: usize, align: usize) -> Block {
     match layout(size, align) {
         // SAFETY: a layout has at least the sixteen bytes of its front.
         Some(layout) => unsafe { block(alloc(layout), layout) },
-        None => Tried { ok: false, at: FRONT as *mut c_void },
+        None => NONE,
     }
 }
 
 #[no_mangle]
-unsafe extern "C" fn rattle_realloc(old: *mut c_void, _kept: usize, size: usize, align: usize) -> Tried {
+unsafe extern "C" fn rattle_realloc(old: *mut c_void, _kept: usize, size: usize, align: usize) -> Block {
     match layout(size, align) {
         // SAFETY: the library hands over a block that it has, which is gone only where another is given.
         Some(layout) => unsafe {
             let (front, before) = front(old);
             block(realloc(front, before, layout.size()), layout)
         },
-        None => Tried { ok: false, at: FRONT as *mut c_void },
+        None => NONE,
     }
 }
 

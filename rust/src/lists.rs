@@ -82,6 +82,19 @@ impl fmt::Debug for Outcome {
 
 impl<R: Ram> Machine<R> {
     /// Does operations one behind the other, as many as both lists have places, and says how many.
+    ///
+    /// ```
+    /// # use gorseplumb::*;
+    /// # const RAM: u32 = 0x4000_0000;
+    /// # const WORLD: Endpoint =
+    /// #     Endpoint::normal_world(Version::V1_1, Properties::NONE, &[Region::new(RAM + 0x10000, 16, Rights::Rw)]);
+    /// # let mut machine = Machine::boot(&Manifest::new(RAM, 1, &[WORLD]))?;
+    /// let list = [Operation::store(0x4001_0000, Size::B1, 42), Operation::load(0x4001_0000, Size::B1)];
+    /// let mut outcomes = [Outcome::NONE; 2];
+    /// assert_eq!(machine.run(&list, &mut outcomes), 2);
+    /// assert_eq!(outcomes.map(|outcome| outcome.told()), [Told::Done, Told::Data(42)]);
+    /// # Ok::<(), BootError>(())
+    /// ```
     pub fn run(&mut self, operations: &[Operation], outcomes: &mut [Outcome]) -> usize {
         let (given, places) = (operations.as_ptr().cast(), outcomes.as_mut_ptr().cast());
         // SAFETY: the machine and the outcomes are borrowed for this one call, and both lists are as long as is said.
@@ -91,6 +104,22 @@ impl<R: Ram> Machine<R> {
 
 impl Manifest {
     /// The manifest of a text, as numbers. A machine boots from one as from the other.
+    ///
+    /// ```
+    /// # use gorseplumb::*;
+    /// let text = r#"
+    ///     ram_base = 0x40000000
+    ///     ram_blocks = 1
+    ///     [[endpoint]]
+    ///     version = "1.1"
+    ///     properties = 2
+    ///     regions = [{ base = 0x40010000, pages = 16, rights = "rw" }]
+    /// "#;
+    /// const DATA: Region = Region::new(0x4001_0000, 16, Rights::Rw);
+    /// const WORLD: Endpoint = Endpoint::normal_world(Version::V1_1, Properties::SENDS_REQUESTS, &[DATA]);
+    /// assert_eq!(Manifest::read(text), Ok(Manifest::new(0x4000_0000, 1, &[WORLD])));
+    /// assert_eq!(Manifest::read(""), Err(BootError::Refused(Cause::MissingKey)));
+    /// ```
     ///
     /// # Errors
     /// [`BootError::NoMemory`], or the cause for which the text is refused.

@@ -4,7 +4,6 @@ use crate::codes::{AccessError, BootError, Cause, Fault, NoEndpoint};
 use crate::operation::{accessed, accessed_by, known, Answer, Registers, Size};
 use crate::ram::{Heap, Lent, Page, Ram};
 use crate::{raw, Id, Manifest};
-use core::cell::UnsafeCell;
 use core::fmt;
 use core::mem::ManuallyDrop;
 use core::ptr;
@@ -87,9 +86,9 @@ pub(crate) fn booted(answer: u32) -> Result<(), BootError> {
 /// There is always one: what has none is the error of a boot. It does one operation at a time, by `&mut self`, and is
 /// asked by `&self`. It may go to another thread, and is shared with none. When it is dropped its RAM goes back to the
 /// heap, or to whom it belongs.
-// In a cell: the header wants one call at a time, a question too, so no thread may ask while another one does.
+// No `Sync`, which its pointer keeps it from: the header wants one call at a time, and no two questions either.
 pub struct Machine<R: Ram = Heap> {
-    at: UnsafeCell<raw::Machine>,
+    at: raw::Machine,
     ram: R,
 }
 
@@ -106,7 +105,7 @@ impl Machine {
         let mut at = raw::Machine::NONE;
         // SAFETY: the struct is live, and holds no machine.
         booted(unsafe { description.boot(&mut at) })?;
-        Ok(Machine { at: UnsafeCell::new(at), ram: Heap(raw::Lent::NONE) })
+        Ok(Machine { at, ram: Heap(raw::Lent::NONE) })
     }
 }
 
@@ -144,7 +143,7 @@ impl<R: Ram> Machine<R> {
         let mut at = raw::Machine::NONE;
         // SAFETY: the struct is live and holds no machine, and the list is another's.
         booted(unsafe { description.boot_lent(&mut at, ram.list()) })?;
-        Ok(Machine { at: UnsafeCell::new(at), ram })
+        Ok(Machine { at, ram })
     }
 
     pub(crate) fn boot_held_in<D>(description: &D, mut ram: R) -> Result<Machine<R>, BootError>
@@ -154,14 +153,14 @@ impl<R: Ram> Machine<R> {
         let mut at = raw::Machine::NONE;
         // SAFETY: as above.
         booted(unsafe { description.boot_held(&mut at, ram.list()) })?;
-        Ok(Machine { at: UnsafeCell::new(at), ram })
+        Ok(Machine { at, ram })
     }
 
     /// A call of the endpoint that runs.
     #[inline]
     pub fn call(&mut self, registers: &Registers) -> Answer {
         // SAFETY: the machine is borrowed for this one call, and eight registers are what C has in a struct.
-        Answer::of(unsafe { raw::gorseplumb_call(self.at.get(), of(registers)) })
+        Answer::of(unsafe { raw::gorseplumb_call(&mut self.at, of(registers)) })
     }
 
     /// A load of the endpoint that runs, the lowest byte first.
@@ -171,7 +170,7 @@ impl<R: Ram> Machine<R> {
     #[inline]
     pub fn load(&mut self, address: u64, size: Size) -> Result<u64, Fault> {
         // SAFETY: the machine is borrowed for this one call.
-        accessed(&unsafe { raw::gorseplumb_load(self.at.get(), address, size as u32) })
+        accessed(&unsafe { raw::gorseplumb_load(&mut self.at, address, size as u32) })
     }
 
     /// A store of the value's lowest bytes.
@@ -181,7 +180,7 @@ impl<R: Ram> Machine<R> {
     #[inline]
     pub fn store(&mut self, address: u64, size: Size, value: u64) -> Result<(), Fault> {
         // SAFETY: as above.
-        accessed(&unsafe { raw::gorseplumb_store(self.at.get(), address, size as u32, value) }).map(drop)
+        accessed(&unsafe { raw::gorseplumb_store(&mut self.at, address, size as u32, value) }).map(drop)
     }
 
     /// A fetch of one instruction.
@@ -191,7 +190,7 @@ impl<R: Ram> Machine<R> {
     #[inline]
     pub fn fetch(&mut self, address: u64) -> Result<u32, Fault> {
         // SAFETY: as above.
-        accessed(&unsafe { raw::gorseplumb_fetch(self.at.get(), address) }).map(|word| word as u32)
+        accessed(&unsafe { raw::gorseplumb_fetch(&mut self.at, address) }).map(|word| word as u32)
     }
 
     /// A call of any endpoint, whoever runs, as where another processor runs it. One that isn't the runner is answered
@@ -202,7 +201,7 @@ impl<R: Ram> Machine<R> {
     #[inline]
     pub fn call_as(&mut self, endpoint: Id, registers: &Registers) -> Result<Answer, NoEndpoint> {
         // SAFETY: as above.
-        Answer::of_endpoint(unsafe { raw::gorseplumb_call_as(self.at.get(), endpoint.0, of(registers)) })
+        Answer::of_endpoint(unsafe { raw::gorseplumb_call_as(&mut self.at, endpoint.0, of(registers)) })
     }
 
     /// A load of any endpoint, by its own table.
@@ -212,7 +211,7 @@ impl<R: Ram> Machine<R> {
     #[inline]
     pub fn load_as(&mut self, endpoint: Id, address: u64, size: Size) -> Result<u64, AccessError> {
         // SAFETY: as above.
-        accessed_by(&unsafe { raw::gorseplumb_load_as(self.at.get(), endpoint.0, address, size as u32) })
+        accessed_by(&unsafe { raw::gorseplumb_load_as(&mut self.at, endpoint.0, address, size as u32) })
     }
 
     /// A store of any endpoint.
@@ -222,7 +221,7 @@ impl<R: Ram> Machine<R> {
     #[inline]
     pub fn store_as(&mut self, endpoint: Id, address: u64, size: Size, value: u64) -> Result<(), AccessError> {
         // SAFETY: as above.
-        let outcome = unsafe { raw::gorseplumb_store_as(self.at.get(), endpoint.0, address, size as u32, value) };
+        let outcome = unsafe { raw::gorseplumb_store_as(&mut self.at, endpoint.0, address, size as u32, value) };
         accessed_by(&outcome).map(drop)
     }
 
@@ -233,14 +232,14 @@ impl<R: Ram> Machine<R> {
     #[inline]
     pub fn fetch_as(&mut self, endpoint: Id, address: u64) -> Result<u32, AccessError> {
         // SAFETY: as above.
-        accessed_by(&unsafe { raw::gorseplumb_fetch_as(self.at.get(), endpoint.0, address) }).map(|word| word as u32)
+        accessed_by(&unsafe { raw::gorseplumb_fetch_as(&mut self.at, endpoint.0, address) }).map(|word| word as u32)
     }
 
     /// What the last call on memory that was done has changed of access, told once.
     pub fn changed(&mut self) -> Option<Change> {
         let mut change = Change::NONE;
         // SAFETY: as above, and the change is live.
-        unsafe { raw::gorseplumb_changed(self.at.get(), &mut change.0) }.then_some(change)
+        unsafe { raw::gorseplumb_changed(&mut self.at, &mut change.0) }.then_some(change)
     }
 
     /// Ends the machine, and gives back where its RAM is: of [`Lent`] pages the list, which has them all again.
@@ -253,20 +252,20 @@ impl<R: Ram> Machine<R> {
 
     fn free(&mut self) {
         // SAFETY: the machine is there and nobody else's, and the list is the one that its pages came from.
-        let answer = unsafe { raw::gorseplumb_free(self.at.get(), self.ram.list()) };
+        let answer = unsafe { raw::gorseplumb_free(&mut self.at, self.ram.list()) };
         debug_assert_eq!(answer, raw::OK);
     }
 
     #[cfg(declarations_2)]
     /// The machine, for an operation.
     pub(crate) fn place(&mut self) -> *mut raw::Machine {
-        self.at.get()
+        &mut self.at
     }
 
     /// The machine, for a question.
     #[inline]
     pub(crate) fn asked(&self) -> *const raw::Machine {
-        self.at.get()
+        &self.at
     }
 }
 

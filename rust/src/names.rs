@@ -11,7 +11,12 @@ pub fn declarations() -> u32 {
     unsafe { raw::gorseplumb_declarations() }
 }
 
-/// The name of a call in the standard, by its identifier in w0, as `FFA_RUN`. None: it is none that is served.
+/// The name of a call in the standard, by its identifier in w0. None: it is none that is served.
+///
+/// ```
+/// assert_eq!(gorseplumb::call_name(0x8400_006D), Some("FFA_RUN"));
+/// assert_eq!(gorseplumb::call_name(0x8400_0083), None);
+/// ```
 #[must_use]
 pub fn call_name(function: u32) -> Option<&'static str> {
     // SAFETY: it takes a number.

@@ -46,6 +46,14 @@ pub struct Span {
     pub pages: usize,
 }
 
+/// What the library is given where it asks for memory: whether there is some, and where. `at` is never null.
+#[derive(Debug)]
+#[repr(C)]
+pub struct Block {
+    pub ok: bool,
+    pub at: *mut c_void,
+}
+
 #[derive(Clone, Copy, Debug, PartialEq, Eq)]
 #[repr(C)]
 pub struct Registers {

@@ -184,6 +184,20 @@ impl Obstacle {
 impl<R: Ram> Machine<R> {
     /// Why this call of the runner would be refused now, or was refused just before: a refused call changes nothing.
     /// None: it would be done.
+    ///
+    /// ```
+    /// # use gorseplumb::*;
+    /// # const RAM: u32 = 0x4000_0000;
+    /// # const WORLD: Endpoint =
+    /// #     Endpoint::normal_world(Version::V1_1, Properties::NONE, &[Region::new(RAM + 0x10000, 16, Rights::Rw)]);
+    /// # let mut machine = Machine::boot(&Manifest::new(RAM, 1, &[WORLD]))?;
+    /// let map = registers([0x8400_0066, 0x4001_0000, 0x4001_0000, 1]); // FFA_RXTX_MAP
+    /// assert_eq!(machine.call(&map).error(), Some(ErrorCode::InvalidParameters));
+    /// let reason = machine.why_call(&map).unwrap();
+    /// assert_eq!((reason.check, reason.check.number_in(0x8400_0066)), (Check::BuffersOverlap, Some(5)));
+    /// assert_eq!(reason.to_string(), "RX and TX have a page in common: register 2 is 40010000");
+    /// # Ok::<(), BootError>(())
+    /// ```
     #[must_use]
     pub fn why_call(&self, registers: &Registers) -> Option<CallReason> {
         let mut told = raw::Reason::default();

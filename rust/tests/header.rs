@@ -41,6 +41,7 @@ fn structs() -> Vec<(String, i64)> {
     rows.extend(fields!(Lent, "lent", live at));
     rows.extend(fields!(Slot, "slot", live at));
     rows.extend(fields!(Span, "span", at pages));
+    rows.extend(fields!(Block, "block", ok at));
     rows.extend(fields!(Registers, "registers", x));
     rows.extend(fields!(Outcome, "outcome", kind runner value x));
     rows.extend(fields!(Region, "region", base pages rights));

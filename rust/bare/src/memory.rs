@@ -4,6 +4,7 @@
 use core::cell::UnsafeCell;
 use core::ffi::c_void;
 use core::sync::atomic::{AtomicUsize, Ordering::Relaxed};
+use gorseplumb::raw::Block;
 
 const SIZE: usize = 0x40000;
 const ALIGN: usize = 16;
@@ -18,12 +19,6 @@ static MEMORY: Memory = Memory(UnsafeCell::new([0; SIZE]));
 static USED: AtomicUsize = AtomicUsize::new(0);
 static ASKED: AtomicUsize = AtomicUsize::new(0);
 static GIVEN_BACK: AtomicUsize = AtomicUsize::new(0);
-
-#[repr(C)]
-struct Tried {
-    ok: bool,
-    at: *mut c_void,
-}
 
 /// One more, in a program of one thread.
 pub fn count(counter: &AtomicUsize) {
@@ -41,22 +36,22 @@ pub fn given_back() -> bool {
 }
 
 #[no_mangle]
-extern "C" fn rattle_alloc(size: usize, align: usize) -> Tried {
+extern "C" fn rattle_alloc(size: usize, align: usize) -> Block {
     let first = USED.load(Relaxed);
     let array: *mut u8 = MEMORY.0.get().cast();
     if align > ALIGN || size > SIZE - first {
-        return Tried { ok: false, at: array.cast() };
+        return Block { ok: false, at: array.cast() };
     }
     USED.store(SIZE.min(first + (size + ALIGN - 1) / ALIGN * ALIGN), Relaxed);
     count(&ASKED);
     // SAFETY: the block lies in the array.
-    Tried { ok: true, at: unsafe { array.add(first) }.cast() }
+    Block { ok: true, at: unsafe { array.add(first) }.cast() }
 }
 
 /// Nothing here grows a block: lists of pages are begun with room for all.
 #[no_mangle]
-extern "C" fn rattle_realloc(block: *mut c_void, _kept: usize, _size: usize, _align: usize) -> Tried {
-    Tried { ok: false, at: block }
+extern "C" fn rattle_realloc(block: *mut c_void, _kept: usize, _size: usize, _align: usize) -> Block {
+    Block { ok: false, at: block }
 }
 
 #[no_mangle]
