@@ -85,12 +85,10 @@ def measure_operations(machine: Machine) -> float:
 
 def measure_more(machine: Machine) -> None:
     """What is done by many at once."""
-    if "run" not in library.lacks:
-        batch = Batch([Call((Function.FFA_ID_GET,))] * 1000)
-        show("call in a batch of 1000", best(lambda: machine.run(batch), 1) / len(batch))
-        show("the same, with its outcome read", best(lambda: list(machine.run(batch)), 1) / len(batch))
-    if "cert_run" not in library.lacks:
-        show("who reaches each of 512 pages", best(machine.access_map, 10))
+    batch = Batch([Call((Function.FFA_ID_GET,))] * 1000)
+    show("call in a batch of 1000", best(lambda: machine.run(batch), 1) / len(batch))
+    show("the same, with its outcome read", best(lambda: list(machine.run(batch)), 1) / len(batch))
+    show("who reaches each of 512 pages", best(machine.access_map, 10))
 
 
 if __name__ == "__main__":

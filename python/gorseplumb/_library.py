@@ -9,7 +9,7 @@ import sys
 from ctypes import POINTER, Structure, c_bool, c_char_p, c_size_t, c_void_p
 from ctypes import c_int32, c_uint8, c_uint16, c_uint32, c_uint64
 from pathlib import Path
-from typing import Any, Callable, NoReturn
+from typing import Any, Callable
 
 from .errors import LibraryError
 
@@ -184,45 +184,31 @@ class Library:
             self._library = ctypes.PyDLL(str(path))
         except OSError as wrong:
             raise LibraryError(f"{path} can't be loaded: {wrong}; python/backend.py makes it") from None
-        self.path = path
-        self.lacks = {name for name in _DECLARED if not hasattr(self._library, f"gorseplumb_{name}")}
-        self._compare()
+        self._compare(path)
 
-    def _compare(self) -> None:
-        if "declarations" in self.lacks:
-            return
-        told = self.declarations()
+    def _compare(self, path: Path) -> None:
+        try:
+            told = self.declarations()
+        except AttributeError:
+            why = "it was made from an older archive"
+            raise LibraryError(f"{path} tells no number of its declarations: {why}") from None
         if told != DECLARATIONS:
-            raise LibraryError(f"{self.path} has declarations {told}, and this package is written for {DECLARATIONS}")
+            raise LibraryError(f"{path} has declarations {told}, and this package is written for {DECLARATIONS}")
 
     def __getattr__(self, name: str) -> Callable[..., Any]:
         """Binds a function when it is first asked for."""
         if name not in _DECLARED:
             raise AttributeError(name)
-        found = self._bound(name)
+        found = self.bare(name)
+        setattr(found, "argtypes", _DECLARED[name][1:])
         setattr(self, name, found)
         return found
 
-    def _bound(self, name: str) -> Callable[..., Any]:
-        function = self.bare(name)
-        if name not in self.lacks:
-            setattr(function, "argtypes", _DECLARED[name][1:])
-        return function
-
     def bare(self, name: str) -> Callable[..., Any]:
         """A function that takes addresses alone, by byref and as bytes, and looks at none: so it is called faster."""
-        if name in self.lacks:
-            return _lacking(name, self.path)
         function = self._library[f"gorseplumb_{name}"]
         function.restype = _DECLARED[name][0]
         return function
-
-
-def _lacking(name: str, path: Path) -> Callable[..., Any]:
-    def lacking(*_: object) -> NoReturn:
-        raise LibraryError(f"{path} has no gorseplumb_{name}: it was made from an older archive")
-
-    return lacking
 
 
 def _path() -> Path:

@@ -20,7 +20,6 @@ from .messages import IndirectMessage
 from .outcomes import DONE, FAULTED, SIZES, Call, Data, Done, Faulted, Fetch, Load, Operation, Outcome, Registers, Store
 from .questions import Questions
 from .ram import Ram
-from .reasons import Reason
 from .registers import encode
 
 if TYPE_CHECKING:
@@ -138,8 +137,6 @@ class Machine(Questions):
     def form(self, endpoint: int) -> Form:
         """The form of an endpoint's descriptors."""
         self._check_endpoint(endpoint)
-        if self._values is None and "read_manifest" in library.lacks:
-            return Form.FFA_1_1
         return self.manifest.endpoints[self._endpoints.index(endpoint)].form
 
     # OPERATIONS of the endpoint that runs. One that is refused is an outcome, and no exception.
@@ -261,7 +258,7 @@ class Machine(Questions):
         answer = self.call(*call.x)
         code = answer.code
         if code is not None:
-            raise call_refused(code, call.x[0], caller, self._reason_of(call))
+            raise call_refused(code, call.x[0], caller, self.why(call))
         return answer
 
     def send(self, request: Offer | Retrieve | Relinquish | IndirectMessage, tx: int) -> Registers:
@@ -280,7 +277,7 @@ class Machine(Questions):
         for at, piece in _pieces(address, size):
             told = self.load(at, piece)
             if isinstance(told, Faulted):
-                raise access_fault(told.fault, at, self.runner, self._reason_of(Load(at, piece)))
+                raise access_fault(told.fault, at, self.runner, self.why(Load(at, piece)))
             found += bytes(told)
         return bytes(found)
 
@@ -294,7 +291,7 @@ class Machine(Questions):
     def _require_store(self, store: Store) -> None:
         told = self.store(store.address, store.size, store.value)
         if isinstance(told, Faulted):
-            raise access_fault(told.fault, store.address, self.runner, self._reason_of(store))
+            raise access_fault(told.fault, store.address, self.runner, self.why(store))
 
     # WATCHING
 
@@ -354,15 +351,9 @@ class Machine(Questions):
             self._refuse_ended()
         raise LibraryError(f"the library answers an outcome of kind {kind}")
 
-    def _reason_of(self, operation: Operation) -> Reason | None:
-        return self.why(operation) if self.tells_why else None
-
 
 def _end(raw: c.Held, ram: Ram | None) -> None:
-    if ram is not None:
-        answer = library.free(raw, ram.lent)
-    else:
-        answer = library.end(raw) if "end" not in library.lacks else library.free(raw, c.Held())
+    answer = library.end(raw) if ram is None else library.free(raw, ram.lent)
     if answer != Answer.OK:
         raise LibraryError(f"the end of a machine answers {answer}")
     if ram is not None:

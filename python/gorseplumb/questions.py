@@ -198,11 +198,6 @@ class Questions:
             refused = library.why_fetch(self._raw, operation.address, raw)
         return self._reason(operation, raw) if refused else None
 
-    @property
-    def tells_why(self) -> bool:
-        """Whether the library has reasons."""
-        return "why_call" not in library.lacks
-
     def _reason(self, operation: Operation, raw: c.Reason) -> Reason:
         number = 0
         if isinstance(operation, Call):

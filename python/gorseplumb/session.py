@@ -94,7 +94,7 @@ class Session:
             named = decode(outcome.x, operation.x[0] if isinstance(operation, Call) else None)
             told += [f"# {outcome.runner:04X} sees {named}"] if named is not None else []
         is_refused = isinstance(outcome, Faulted) or isinstance(outcome, Registers) and outcome.is_error
-        if is_refused and self.machine.tells_why:
+        if is_refused:
             told.append(f"# refused: {self.machine.why(operation)}")
         return told
 

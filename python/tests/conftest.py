@@ -12,7 +12,6 @@ from uuid import UUID
 import pytest
 
 from gorseplumb import Endpoint, Machine, Manifest, Properties, Ram, Region, Right
-from gorseplumb._library import library
 
 TOP = Path(__file__).resolve().parents[2]
 EXAMPLES = TOP / "examples"
@@ -31,17 +30,6 @@ BUILT_IN = Manifest(
     ],
 )
 """The machine of `ffaplay demo` (docs/COMMANDS.md)."""
-
-
-def needs(*names: str) -> pytest.MarkDecorator:
-    """Skips where the library lacks one of these functions."""
-    lacking = [name for name in names if name in library.lacks]
-    return pytest.mark.skipif(bool(lacking), reason=f"the library has no gorseplumb_{lacking[0] if lacking else ''}")
-
-
-SHOWS = needs("ram_base", "ram_blocks", "cert_run")
-AUDITS = needs("ram_base", "ram_blocks", "cert_run", "root", "audit")
-TELLS_WHY = needs("ram_base", "why_call", "why_load", "why_store", "why_fetch", "check_number")
 
 
 class Program:

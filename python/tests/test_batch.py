@@ -3,7 +3,7 @@
 from __future__ import annotations
 
 import pytest
-from conftest import EXAMPLES, Program, needs
+from conftest import EXAMPLES, Program
 
 from gorseplumb import Batch, Call, Data, Done, Fault, Faulted, Fetch, Function, Load, Machine, MachineEnded
 from gorseplumb import Operation, Store
@@ -12,7 +12,6 @@ from gorseplumb.trace import lines, parse
 MANIFEST = EXAMPLES / "partitions.toml"
 
 
-@needs("run")
 def test_gives_each_outcome(partitions: Machine) -> None:
     identity = Call((Function.FFA_ID_GET,))
     asked: list[Operation] = [Store(0x40010000, 2, 0xABCD), Load(0x40010001, 1), Fetch(0x40010000), identity]
@@ -24,7 +23,6 @@ def test_gives_each_outcome(partitions: Machine) -> None:
     assert len(partitions.run([])) == 0 and not partitions.is_fresh
 
 
-@needs("run")
 def test_gives_the_outcomes_of_a_generated_trace(program: Program) -> None:
     trace = program("generate", "--seed", 3, "--lines", 100_000, MANIFEST).stdout
     commands = [parse(line) for _, line in lines(trace)]
@@ -34,7 +32,6 @@ def test_gives_the_outcomes_of_a_generated_trace(program: Program) -> None:
         assert [str(it) for it in machine.run(batch)] == program.lines("run", MANIFEST, "-", text=plain)
 
 
-@needs("run")
 def test_is_recorded_and_refused_as_one_by_one() -> None:
     machine = Machine(MANIFEST)
     with machine.record() as recording:

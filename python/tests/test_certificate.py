@@ -5,13 +5,12 @@ from __future__ import annotations
 from dataclasses import replace
 
 import pytest
-from conftest import AUDITS, EXAMPLES, SHOWS, Program, needs
+from conftest import EXAMPLES, Program
 
 from gorseplumb import Grant, GrantKind, Machine, NoSuchEndpoint, NoSuchPage, Ram, Right, Run, play
 
 MANIFEST = EXAMPLES / "partitions.toml"
 HANDLE = 0x0000800100000001
-pytestmark = SHOWS
 
 
 def shared(machine: Machine) -> Machine:
@@ -30,7 +29,6 @@ def test_tells_of_ram(partitions: Machine) -> None:
     assert partitions.peek(0x40010FFF, 2) == b"ab" and partitions.peek(0x40010FFF, 0) == b""
 
 
-@needs("root")
 def test_tells_of_roots(partitions: Machine) -> None:
     # docs/FORMATS.md, `layout` of this manifest
     assert [partitions.root(endpoint) for endpoint in partitions.endpoints] == [0x40000000, 0x40004000, 0x40008000]
@@ -56,7 +54,6 @@ def test_tells_the_open_transaction(partitions: Machine) -> None:
     assert partitions.run_at(0x28) == Run(0x28, 0x28, 0x8001, HANDLE, (Right.NONE, Right.RW, Right.RO))
 
 
-@needs("granted")
 def test_tells_by_what_a_page_is_reached(partitions: Machine) -> None:
     shared(partitions)
     assert partitions.granted(0x8001, 0x28) == Grant(GrantKind.SHARED, HANDLE)
@@ -65,7 +62,6 @@ def test_tells_by_what_a_page_is_reached(partitions: Machine) -> None:
     assert partitions.granted(0, 0x28) == Grant(GrantKind.NONE, None)
 
 
-@AUDITS
 def test_judges_certificates(partitions: Machine) -> None:
     shared(partitions)
     runs = list(partitions.runs())
@@ -78,14 +74,12 @@ def test_judges_certificates(partitions: Machine) -> None:
         partitions.audit([replace(runs[0], last=-1)])
 
 
-@AUDITS
 def test_prints_what_the_program_audits(program: Program) -> None:
     trace = (EXAMPLES / "sharing.trace").read_text().replace("show\n", "audit\nshow\n") + "audit\n"
     with Machine(MANIFEST) as machine:
         assert list(play(machine, trace)) == program.lines("run", MANIFEST, "-", text=trace.encode())
 
 
-@needs("audit_tables", "root")
 def test_judges_the_tables_in_any_bytes() -> None:
     ram = Ram(2)
     with Machine(MANIFEST, ram) as machine:

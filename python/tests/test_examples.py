@@ -3,14 +3,12 @@
 from __future__ import annotations
 
 import pytest
-from conftest import BUILT_IN, EXAMPLES, SHOWS, TOP, Program
+from conftest import BUILT_IN, EXAMPLES, TOP, Program
 
 from gorseplumb import Machine, play
 
 
-@pytest.mark.parametrize(
-    "name", [pytest.param("accesses", marks=SHOWS), "messages", pytest.param("sharing", marks=SHOWS)]
-)
+@pytest.mark.parametrize("name", ["accesses", "messages", "sharing"])
 def test_prints_what_the_manual_has(partitions: Machine, name: str) -> None:
     printed = [f"{line}\n" for line in play(partitions, EXAMPLES / f"{name}.trace")]
     assert "".join(printed) == (EXAMPLES / f"{name}.out").read_text()
@@ -22,7 +20,6 @@ def test_prints_what_is_refused(partitions: Machine) -> None:
     assert list(play(partitions, EXAMPLES / "refused.trace")) == wanted
 
 
-@SHOWS
 def test_prints_what_the_front_page_has() -> None:
     with Machine(BUILT_IN) as machine:
         printed = list(play(machine, EXAMPLES / "first.trace"))
@@ -33,7 +30,6 @@ def test_prints_what_the_front_page_has() -> None:
     assert printed[0].startswith(wanted[0].removesuffix(" .."))
 
 
-@SHOWS
 @pytest.mark.parametrize("name", ["calls", "first", "guards"])
 def test_prints_what_the_program_prints(program: Program, name: str) -> None:
     manifest, trace = EXAMPLES / "machine.toml", EXAMPLES / f"{name}.trace"

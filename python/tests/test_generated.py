@@ -6,7 +6,7 @@ import re
 from typing import NamedTuple
 
 import pytest
-from conftest import AUDITS, EXAMPLES, TOP, Program
+from conftest import EXAMPLES, TOP, Program
 
 from gorseplumb import Machine, Ram, play
 
@@ -37,7 +37,6 @@ def test_operations_give_the_programs_bytes(operations: Played, blocks: int) -> 
         assert text_of(machine, operations.trace) == operations.text
 
 
-@AUDITS
 @pytest.mark.parametrize("name", ["examples/partitions.toml", "board/scenes/generators.toml"])
 def test_lines_give_the_programs_bytes(program: Program, name: str) -> None:
     trace = program("generate", "--seed", 11, "--lines", LINES, TOP / name).stdout

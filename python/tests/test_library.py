@@ -42,12 +42,10 @@ def test_refuses_one_with_other_declarations(tmp_path: Path) -> None:
         Library(other)
 
 
-def test_says_which_function_an_older_one_lacks(tmp_path: Path) -> None:
-    older = Library(library_of(tmp_path, "int gorseplumb_nothing(void) { return 0; }\n"))
-    with pytest.raises(LibraryError, match="has no gorseplumb_ram_base: it was made from an older archive"):
-        older.ram_base(None)
-    with pytest.raises(AttributeError):
-        older.nothing_of_this_name
+def test_refuses_one_that_tells_no_number(tmp_path: Path) -> None:
+    older = library_of(tmp_path, "int gorseplumb_nothing(void) { return 0; }\n")
+    with pytest.raises(LibraryError, match="tells no number of its declarations: it was made from an older archive"):
+        Library(older)
 
 
 def test_calls_of_threads_do_not_meet() -> None:

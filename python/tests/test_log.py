@@ -7,7 +7,7 @@ import sys
 from pathlib import Path
 
 import pytest
-from conftest import EXAMPLES, SHOWS
+from conftest import EXAMPLES
 
 from gorseplumb import BadLine, Call, Function, Load, Machine, Registers, Store, encode
 from gorseplumb.log import play, read_ftrace, read_log
@@ -129,7 +129,6 @@ and more
 """
 
 
-@SHOWS
 def test_plays_what_the_board_prints() -> None:
     with Machine(MANIFEST) as machine:
         assert play(machine, read_log(BOARD)) is None

@@ -5,7 +5,7 @@ from __future__ import annotations
 from uuid import UUID
 
 import pytest
-from conftest import EXAMPLES, needs
+from conftest import EXAMPLES
 
 from gorseplumb import Cause, Endpoint, Form, Manifest, ManifestRefused, Properties, Region, Right
 
@@ -36,14 +36,12 @@ def test_writes_its_text() -> None:
     )
 
 
-@needs("read_manifest")
 def test_reads_what_a_text_says() -> None:
     assert Manifest.read((EXAMPLES / "partitions.toml").read_bytes()) == PARTITIONS
     for manifest in (PARTITIONS, COMPACT):
         assert Manifest.read(manifest.text()) == manifest
 
 
-@needs("read_manifest")
 def test_says_why_a_text_is_refused() -> None:
     for text, cause in [("ram", Cause.TOML), ("", Cause.MISSING_KEY), ("ram_base = 1", Cause.RAM_BASE)]:
         with pytest.raises(ManifestRefused) as refused:

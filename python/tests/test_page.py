@@ -7,7 +7,7 @@ import io
 import re
 
 import pytest
-from conftest import EXAMPLES, TELLS_WHY, TOP
+from conftest import EXAMPLES, TOP
 
 import gorseplumb
 from gorseplumb import GorseplumbError, Machine, jsonlines
@@ -34,7 +34,6 @@ def test_the_first_example_prints_what_it_says(monkeypatch: pytest.MonkeyPatch) 
     assert printed.getvalue().splitlines() == told and len(told) == 2
 
 
-@TELLS_WHY
 def test_the_session_answers_what_it_shows() -> None:
     session = Session(EXAMPLES / "partitions.toml")
     printed: list[str] = []

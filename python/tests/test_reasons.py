@@ -5,7 +5,7 @@ from __future__ import annotations
 import re
 
 import pytest
-from conftest import EXAMPLES, TELLS_WHY, Program
+from conftest import EXAMPLES, Program
 
 from gorseplumb import About, AccessFault, Call, Check, DataAccess, Denied, ErrorCode, Fault, Fetch, Flaw, Form
 from gorseplumb import Function, Hindrance, InstructionAccess, InvalidParameters, Kind, Load, Machine
@@ -70,13 +70,11 @@ def test_has_the_programs_words_of_faults(
     assert str(Reason(operation, fault, None, 0, None, Subject(About.NOTHING), hindrance)) == told
 
 
-@TELLS_WHY
 def test_prints_the_refused_example(partitions: Machine) -> None:
     played = "".join(f"{line}\n" for line in play(partitions, EXAMPLES / "refused.trace", explain=True))
     assert played == (EXAMPLES / "refused.out").read_text()
 
 
-@TELLS_WHY
 def test_prints_what_the_program_explains(program: Program) -> None:
     for manifest in (MANIFEST, EXAMPLES / "machine.toml"):
         lines = program("generate", "--seed", 5, "--lines", 20_000, manifest).stdout
@@ -87,7 +85,6 @@ def test_prints_what_the_program_explains(program: Program) -> None:
             assert list(play(machine, trace, explain=True)) == wanted
 
 
-@TELLS_WHY
 def test_raises_with_the_reason(partitions: Machine) -> None:
     with pytest.raises(InvalidParameters, match="0000: FFA_RUN: INVALID_PARAMETERS: FFA_RUN check 2: ") as wrong:
         partitions.do(Function.FFA_RUN, partition=0x8009)
@@ -101,7 +98,6 @@ def test_raises_with_the_reason(partitions: Machine) -> None:
     assert denied.value.reason is not None and denied.value.reason.code is ErrorCode.DENIED
 
 
-@TELLS_WHY
 def test_says_why_before_it_is_done(partitions: Machine) -> None:
     assert partitions.why(Load(0x40010000, 8)) is None and partitions.why(Store(0x40010000, 1, 1)) is None
     assert partitions.why(Call((Function.FFA_ID_GET,))) is None
@@ -140,7 +136,6 @@ def cores(machine: Machine, call: Operation) -> tuple[Flaw | None, int] | None:
     return (reason.subject.flaw, reason.subject.number) if reason is not None and is_about_bytes else None
 
 
-@TELLS_WHY
 @pytest.mark.parametrize("form", [Form.FFA_1_1, Form.COMPACT])
 @pytest.mark.parametrize("request_of", [SHARE, LEND, DONATE, RETRIEVE])
 def test_readers_find_the_condition_that_the_core_finds(request_of: Offer | Retrieve, form: Form) -> None:
@@ -162,7 +157,6 @@ def test_readers_find_the_condition_that_the_core_finds(request_of: Offer | Retr
     assert len(found) > 10
 
 
-@TELLS_WHY
 def test_reader_of_relinquish_finds_the_condition_that_the_core_finds(partitions: Machine) -> None:
     partitions.do(Function.FFA_RUN, partition=0x8001)
     partitions.do(Function.FFA_RXTX_MAP, tx=TX, rx=0x4002F000, pages=1)

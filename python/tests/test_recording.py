@@ -5,7 +5,7 @@ from __future__ import annotations
 from pathlib import Path
 
 import pytest
-from conftest import AUDITS, EXAMPLES, Program
+from conftest import EXAMPLES, Program
 
 from gorseplumb import Call, DataAccess, Fault, Faulted, Function, IndirectMessage, Kind, Machine, NotRecordable
 from gorseplumb import Offer, PageRange, Receiver, jsonlines, play
@@ -43,7 +43,6 @@ def test_is_played_by_the_program_to_the_same_answers(program: Program, tmp_path
     assert done.returncode == 5 and b'wanted "data 00", got "fault translation"' in done.stderr
 
 
-@AUDITS
 def test_has_what_show_and_audit_print(program: Program) -> None:
     with Machine(MANIFEST) as machine, machine.record() as recording:
         bench(machine)

@@ -3,7 +3,7 @@
 from __future__ import annotations
 
 import pytest
-from conftest import BUILT_IN, EXAMPLES, SHOWS, Program
+from conftest import BUILT_IN, EXAMPLES, Program
 
 from gorseplumb import BadLine, Call, Difference, Fetch, GuardUnmet, Load, Machine, Store, compare, play
 from gorseplumb.trace import Trace, parse
@@ -75,7 +75,6 @@ def test_judges_a_line_when_it_is_reached() -> None:
         assert [line.partition(" #")[2] for line in named] == [" FFA_SUCCESS", " FFA_ERROR NOT_SUPPORTED", ""]
 
 
-@SHOWS
 def test_stops_at_a_guard_that_is_not_met() -> None:
     text = (EXAMPLES / "guards.trace").read_text()
     with Machine(BUILT_IN) as machine:
