@@ -90,22 +90,27 @@ bytes() { size "$1" | awk 'NR == 2 { print $4 }'; }
 plays() {
     local name=$1 machine kind
     shift
-    for pair in machine:first machine:calls partitions:accesses partitions:messages partitions:sharing; do
+    for pair in machine:first machine:calls partitions:accesses partitions:messages partitions:sharing partitions:generated; do
         machine=$top/examples/${pair%:*}.toml
-        { cat "$top/examples/${pair#*:}.trace" && echo audit; } >"$to/trace"
+        case $pair in
+        *:generated) cat "$to/generated" ;;
+        *) cat "$top/examples/${pair#*:}.trace" && echo audit ;;
+        esac >"$to/trace"
         "$player" run "$machine" "$to/trace" >"$to/expected"
         for kind in heap lent; do
             "$@" $kind "$machine" "$to/trace" >"$to/played"
             cmp "$to/expected" "$to/played" || { echo "$name: $kind: $pair differs" >&2; exit 1; }
         done
     done
-    echo "$name: five traces, on the heap's RAM and on lent pages: as the program prints them"
+    echo "$name: five traces and $(wc -l <"$to/generated") generated lines, on the heap's RAM and on lent pages: as the program prints them"
 }
 
 make_archive x86_64-unknown-linux-gnu
 native=$made
 [ -n "${FFAPLAY:-}" ] || "$top/ffaplay" prove
 "$player" check "$top/examples/machine.toml" >/dev/null
+# (rust/test.sh and python/test.sh play the same)
+"$player" generate --seed 7 --lines 101000 "$top/examples/partitions.toml" >"$to/generated"
 for compiler in gcc clang; do
     has $compiler || continue
     for test in test test_questions test_reasons test_runs; do

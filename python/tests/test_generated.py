@@ -10,7 +10,7 @@ from conftest import EXAMPLES, TOP, Program
 
 from gorseplumb import Machine, Ram, play
 
-LINES = 100_000
+LINES = 101_000
 MANIFEST = EXAMPLES / "partitions.toml"
 
 
@@ -27,7 +27,7 @@ def operations(program: Program) -> Played:
     lines = program("generate", "--seed", 7, "--lines", LINES, MANIFEST).stdout
     assert lines.count(b"\n") == LINES
     trace = re.sub(rb"^(?:show|audit)\n", b"", lines, flags=re.M)
-    assert trace.count(b"\n") > 0.9 * LINES
+    assert trace.count(b"\n") >= 100_000
     return Played(trace, program("run", MANIFEST, "-", text=trace).stdout)
 
 

@@ -79,7 +79,7 @@ fn the_examples_give_what_the_program_prints() {
 #[test]
 #[ignore = "needs the program ffaplay"]
 fn generated_operations_give_what_the_program_prints() {
-    for (machine, manifest, seed) in [("machine", &MACHINE, "1"), ("partitions", &PARTITIONS, "2")] {
+    for (machine, manifest, seed) in [("machine", &MACHINE, "1"), ("partitions", &PARTITIONS, "7")] {
         let file = top().join(format!("examples/{machine}.toml"));
         let (trace, expected) = generated(file.to_str().unwrap(), seed, &[]);
         plays(machine, &example(&format!("{machine}.toml")), manifest, &trace, &expected);
