@@ -33,6 +33,12 @@
 extern "C" {
 #endif
 
+/* The number of these declarations, raised by each change that a caller has to know of. Who loads the library while a
+ * program runs compares it with gorseplumb_declarations, which answers the number that the library was built by. */
+#define GORSEPLUMB_DECLARATIONS 2
+
+uint32_t gorseplumb_declarations(void);
+
 #define GORSEPLUMB_PAGE_SIZE 4096
 
 /* A machine, or none. { 0 } is none. */
@@ -63,12 +69,12 @@ struct gorseplumb_span {
     size_t pages;
 };
 
-/* The library's memory. The program defines these three functions, heap.c over malloc and array.c over an array, and
- * nothing else is asked for memory. They are called within a call of the library, one at a time for each call that is
- * on its way, and may not call the library. */
+/* The library's memory: it asks these three functions for all of it, and the program defines them. heap.c has them over
+ * malloc, array.c over an array. They are called while a call of the library is on its way, and may not call it; where
+ * calls on two machines overlap, so may theirs. */
 struct gorseplumb_block {
     bool ok;  /* whether there is memory */
-    void *at; /* where; never null, and where there is none any address that nobody follows */
+    void *at; /* where it is; where there is none an address that isn't followed. It is never null */
 };
 
 /* A new block of at least `size` bytes, which may be 0, at a multiple of `align`, which is a power of two up to 16. It
@@ -114,7 +120,8 @@ enum gorseplumb_kind {
     GORSEPLUMB_KIND_DONE = 2,       /* a store was done */
     GORSEPLUMB_KIND_FAULT = 3,      /* `value` is an enum gorseplumb_fault */
     GORSEPLUMB_KIND_NO_MACHINE = 4, /* there is no machine, and nothing was done */
-    GORSEPLUMB_KIND_BAD_SIZE = 5,   /* the size is none of 1, 2, 4 and 8, with a machine or without one, and nothing was done */
+    GORSEPLUMB_KIND_BAD_SIZE = 5,   /* the size is none of 1, 2, 4 and 8, or of gorseplumb_run the kind is unknown, with a
+                                     * machine or without one, and nothing was done */
     GORSEPLUMB_KIND_NO_ENDPOINT = 6 /* the machine has no such endpoint, and nothing was done */
 };
 
@@ -201,7 +208,11 @@ enum gorseplumb_answer {
     GORSEPLUMB_NO_PAGE = 17,    /* there is no page in the slot, in the span or in the list */
     GORSEPLUMB_HAS_PAGES = 18,  /* the list has pages still */
     GORSEPLUMB_NO_MACHINE = 19, /* there is no machine */
-    GORSEPLUMB_WRONG_COUNT = 20 /* the list has more pages than the manifest's RAM, or fewer */
+    GORSEPLUMB_WRONG_COUNT = 20, /* the list has more pages than the manifest's RAM, or fewer */
+    GORSEPLUMB_NOT_CERTIFIED = 21, /* the tables don't give what the runs say */
+    GORSEPLUMB_LENT = 22,          /* the machine's RAM is lent: gorseplumb_free gives it back */
+    GORSEPLUMB_BAD_BASE = 23,      /* RAM of so many pages can't stand at the address */
+    GORSEPLUMB_BAD_ROOTS = 24      /* there are more than endpoints of a machine, or one is at no page of RAM */
 };
 
 /* What a question that asks for a number answers where there is no machine, gorseplumb_owner also where there is no
@@ -217,7 +228,8 @@ enum gorseplumb_answer gorseplumb_boot(struct gorseplumb_machine *machine, const
 /* The same of a manifest as numbers, for which no memory is needed but the machine's own and its RAM. Refused first, in
  * this order: more endpoints than places; then for each endpoint an unknown version, more regions than places, unknown
  * rights. After that come the causes of a text, in the order in which it would be read. */
-enum gorseplumb_answer gorseplumb_boot_manifest(struct gorseplumb_machine *machine, const struct gorseplumb_manifest *manifest);
+enum gorseplumb_answer gorseplumb_boot_manifest(struct gorseplumb_machine *machine,
+                                                const struct gorseplumb_manifest *manifest);
 
 /* The same in RAM that is lent: the pages of the list, in order. GORSEPLUMB_OK: the list is empty then, and all pages
  * behind the tables are zeros. Else nothing has changed: GORSEPLUMB_OCCUPIED, GORSEPLUMB_NO_LIST, GORSEPLUMB_NO_MEMORY,
@@ -225,8 +237,8 @@ enum gorseplumb_answer gorseplumb_boot_manifest(struct gorseplumb_machine *machi
  * block). The machine's memory is the list's: of numbers a boot takes none, so GORSEPLUMB_NO_MEMORY comes only where
  * the list lacks some, since it has more pages than it was begun for, or another machine that was booted in it has
  * that. While a text is read memory is taken, and given back. */
-enum gorseplumb_answer gorseplumb_boot_lent(struct gorseplumb_machine *machine, struct gorseplumb_lent *lent, const uint8_t *text,
-                                            size_t size);
+enum gorseplumb_answer gorseplumb_boot_lent(struct gorseplumb_machine *machine, struct gorseplumb_lent *lent,
+                                            const uint8_t *text, size_t size);
 enum gorseplumb_answer gorseplumb_boot_lent_manifest(struct gorseplumb_machine *machine, struct gorseplumb_lent *lent,
                                                      const struct gorseplumb_manifest *manifest);
 
@@ -234,10 +246,16 @@ enum gorseplumb_answer gorseplumb_boot_lent_manifest(struct gorseplumb_machine *
  * kernel that was put there is there before the first operation, and a region that nobody may write to can have any
  * bytes. All other pages behind the tables are zeros, and whatever stood where the tables are built is gone. A boot
  * that is refused changes no byte. */
-enum gorseplumb_answer gorseplumb_boot_held(struct gorseplumb_machine *machine, struct gorseplumb_lent *lent, const uint8_t *text,
-                                            size_t size);
+enum gorseplumb_answer gorseplumb_boot_held(struct gorseplumb_machine *machine, struct gorseplumb_lent *lent,
+                                            const uint8_t *text, size_t size);
 enum gorseplumb_answer gorseplumb_boot_held_manifest(struct gorseplumb_machine *machine, struct gorseplumb_lent *lent,
                                                      const struct gorseplumb_manifest *manifest);
+
+/* Reads a manifest's text of `size` bytes into numbers, which a boot would go by, so that RAM can be lent that has the
+ * size which the text describes. GORSEPLUMB_OK: `manifest` gives what the text describes, and what stands behind the
+ * endpoints and regions that it counts is zeros. Else `manifest` stays: GORSEPLUMB_NO_MEMORY, since reading takes
+ * memory, all of which it gives back, or the cause for which gorseplumb_boot would refuse the text. */
+enum gorseplumb_answer gorseplumb_read_manifest(const uint8_t *text, size_t size, struct gorseplumb_manifest *manifest);
 
 /* One operation of the endpoint that runs: a call with eight registers, a load of 1, 2, 4 or 8 bytes, a store of the
  * value's lowest bytes, as many as `size` says, and a fetch of one instruction. The outcome and the machine's next
@@ -250,7 +268,30 @@ struct gorseplumb_outcome gorseplumb_load(struct gorseplumb_machine *machine, ui
 struct gorseplumb_outcome gorseplumb_store(struct gorseplumb_machine *machine, uint64_t address, uint32_t size, uint64_t value);
 struct gorseplumb_outcome gorseplumb_fetch(struct gorseplumb_machine *machine, uint64_t address);
 
-/* The same of any endpoint, whoever runs, as where another processor runs it: of the runner they are the four above. A
+enum gorseplumb_operation_kind {
+    GORSEPLUMB_OPERATION_CALL = 0,
+    GORSEPLUMB_OPERATION_LOAD = 1,
+    GORSEPLUMB_OPERATION_STORE = 2,
+    GORSEPLUMB_OPERATION_FETCH = 3
+};
+
+/* An operation in a list. What its kind doesn't name is not read. */
+struct gorseplumb_operation {
+    uint32_t kind;    /* enum gorseplumb_operation_kind */
+    uint32_t size;    /* of a load and of a store */
+    uint64_t address; /* of a load, a store and a fetch */
+    uint64_t value;   /* of a store */
+    uint64_t x[8];    /* of a call */
+};
+
+/* Operations one after another, each of the endpoint that runs then: as many as both lists have places, which it
+ * answers. Each has the outcome of its own call above, and does what that does, so nothing of what is promised of these
+ * is lost; an unknown kind is answered as an unknown size, by GORSEPLUMB_KIND_BAD_SIZE, and the next operation is done.
+ * Places of `outcomes` behind those stay. */
+size_t gorseplumb_run(struct gorseplumb_machine *machine, const struct gorseplumb_operation *operations, size_t count,
+                      struct gorseplumb_outcome *outcomes, size_t places);
+
+/* The four above of any endpoint, whoever runs, as where another processor runs it: of the runner they are these. A
  * call of another is answered FFA_ERROR with BUSY, `runner` names that endpoint, which isn't the machine's runner, and
  * nothing changes; its loads, stores and fetches go by its own table. Where the machine has no such endpoint the answer
  * is GORSEPLUMB_KIND_NO_ENDPOINT. */
@@ -282,8 +323,8 @@ struct gorseplumb_change {
  * changed; what the access is now, gorseplumb_access answers. */
 bool gorseplumb_changed(struct gorseplumb_machine *machine, struct gorseplumb_change *change);
 
-/* Questions, which change nothing and write nothing to the machine. Those that answer a number answer GORSEPLUMB_NOTHING
- * where there is no machine.
+/* Questions, which change nothing and write nothing to the machine. Those that answer a number answer
+ * GORSEPLUMB_NOTHING where there is no machine.
  *
  * The endpoint that runs, and how many there are. */
 uint32_t gorseplumb_runner(const struct gorseplumb_machine *machine);
@@ -329,7 +370,7 @@ struct gorseplumb_cert_run {
     uint32_t owner;      /* 0x8000 is the manager */
     uint32_t has_handle; /* 1 where the pages stand in the open transaction `handle`; else 0, and `handle` is 0 */
     uint64_t handle;
-    uint32_t access[GORSEPLUMB_MOST_ENDPOINTS]; /* by the endpoints' places in the manifest, as gorseplumb_access answers; 0 behind the last */
+    uint32_t access[GORSEPLUMB_MOST_ENDPOINTS]; /* by place in the manifest, as gorseplumb_access answers; else 0 */
 };
 
 /* The run from a page on: true. False: there is no machine, or a machine without such a page, and `run` stays. The runs
@@ -551,11 +592,31 @@ const char *gorseplumb_fault_name(uint32_t fault);
  * program names them, "M6 RamBase" and the like. */
 const char *gorseplumb_answer_name(uint32_t answer);
 
+/* Whether runs are a certificate that the machine's tables give: they follow one another from RAM's first page to its
+ * last, none of them empty, and the walks from each endpoint's level 1 table, over the bytes of RAM alone, give at every
+ * address below 4 GiB exactly the access that the runs say, and nothing outside RAM. No table tells owners and handles:
+ * they are not looked at. GORSEPLUMB_OK or GORSEPLUMB_NOT_CERTIFIED; but GORSEPLUMB_NO_MACHINE, or GORSEPLUMB_NO_MEMORY,
+ * since the runs are copied, in one piece, which is given back. The machine stays. */
+enum gorseplumb_answer gorseplumb_audit(const struct gorseplumb_machine *machine, const struct gorseplumb_cert_run *runs, size_t count);
+
+/* The checker alone, for who trusts no manager: the same of the tables that begin at `roots`, the addresses of level 1
+ * tables by the endpoints' places, in RAM at the address `base` whose pages are those of the list, in order.
+ * GORSEPLUMB_NO_LIST where there is no list; else GORSEPLUMB_BAD_BASE where `base` is no multiple of 4096, or so many
+ * pages from there on would end above 4 GiB; else GORSEPLUMB_BAD_ROOTS where there are more roots than
+ * GORSEPLUMB_MOST_ENDPOINTS, or one is not the address of a page of RAM; else GORSEPLUMB_OK, GORSEPLUMB_NOT_CERTIFIED or
+ * GORSEPLUMB_NO_MEMORY. The list keeps its pages, with the bytes that they have, and where nothing is judged it is as it was. */
+enum gorseplumb_answer gorseplumb_audit_tables(struct gorseplumb_lent *lent, uint32_t base, const uint32_t *roots, size_t root_count,
+                                               const struct gorseplumb_cert_run *runs, size_t count);
+
 /* Ends the machine. RAM of the heap goes back to the heap, and `lent` stays as it is (it may be { 0 }). RAM that was
  * lent goes whole to `lent`, an empty list: every page, in order, with the bytes that it has; and so does the machine's
  * memory, so the next boot in the list takes none. GORSEPLUMB_OK: there is no machine any more. Else nothing has
  * changed: GORSEPLUMB_NO_MACHINE, and where RAM was lent GORSEPLUMB_NO_LIST or GORSEPLUMB_HAS_PAGES. */
 enum gorseplumb_answer gorseplumb_free(struct gorseplumb_machine *machine, struct gorseplumb_lent *lent);
+
+/* The same of a machine whose RAM is of the heap, without a list. GORSEPLUMB_OK: there is no machine any more. Else
+ * nothing has changed: GORSEPLUMB_NO_MACHINE, or GORSEPLUMB_LENT, where RAM was lent and gorseplumb_free ends it. */
+enum gorseplumb_answer gorseplumb_end(struct gorseplumb_machine *machine);
 
 /* Makes an empty list with room for so many pages, in seven pieces of memory: the list, its pages' addresses, and of
  * the machine that is booted in it its place, its records, four bytes for each page, 78 KiB of slots for open
@@ -582,8 +643,8 @@ enum gorseplumb_answer gorseplumb_lend_span(struct gorseplumb_lent *lent, struct
  * isn't GORSEPLUMB_OK nothing has changed. */
 enum gorseplumb_answer gorseplumb_take_back(struct gorseplumb_lent *lent, struct gorseplumb_slot *slot);
 
-/* The number of pages in the list; 0 where there is no list. */
-uint64_t gorseplumb_lent_pages(struct gorseplumb_lent *lent);
+/* The number of pages in the list; 0 where there is no list. It writes nothing to `lent`. */
+uint64_t gorseplumb_lent_pages(const struct gorseplumb_lent *lent);
 
 /* Ends an empty list, and gives all memory back that it has; there is none then. GORSEPLUMB_NO_LIST where there is no
  * list; else GORSEPLUMB_HAS_PAGES where it has pages; else GORSEPLUMB_OK. Where it isn't GORSEPLUMB_OK nothing has

@@ -1,7 +1,6 @@
 /* SPDX-License-Identifier: MIT OR Apache-2.0 */
 /* Plays a trace through the border, and prints what the program prints: play heap|lent MANIFEST TRACE. With `lent` the machine
- * stands in pages of this program. RAM is taken to begin at 40000000, as in each manifest of examples/. Of `audit` the runs are left
- * out, since the library tells no handles; whether the tables agree with gorseplumb_access is found by a walk of their bytes. */
+ * stands in pages of this program. Whether the tables agree with gorseplumb_access is found by a walk of their bytes. */
 #include <inttypes.h>
 #include <stdio.h>
 #include <stdlib.h>
@@ -9,7 +8,6 @@
 #include "gorseplumb.h"
 #include "lending.h"
 
-#define RAM_BASE UINT32_C(0x40000000)
 #define PAGES_OF_BLOCK 512
 #define MOST_PAGES (GORSEPLUMB_MOST_BLOCKS * PAGES_OF_BLOCK)
 
@@ -73,15 +71,14 @@ static void print_outcome(struct gorseplumb_outcome told, unsigned size) {
 
 static uint16_t identifier(uint32_t place) { return place == 0 ? 0 : (uint16_t)(0x8000 + place); }
 
-static uint32_t pages_of_ram(void) {
-    uint32_t pages = 0;
-    while (gorseplumb_owner(&machine, pages) != GORSEPLUMB_NOTHING) pages++;
-    return pages;
-}
+static uint32_t pages_of_ram(void) { return PAGES_OF_BLOCK * gorseplumb_ram_blocks(&machine); }
+
+/* The address of a page's first byte. */
+static uint64_t address_of(uint32_t page) { return gorseplumb_ram_base(&machine) + (uint64_t)GORSEPLUMB_PAGE_SIZE * page; }
 
 /* The number of a page of RAM; one that RAM doesn't have for an address outside. */
 static uint32_t page_of(uint64_t address) {
-    uint64_t page = (address - RAM_BASE) / GORSEPLUMB_PAGE_SIZE;
+    uint64_t page = (address - gorseplumb_ram_base(&machine)) / GORSEPLUMB_PAGE_SIZE;
     return page < MOST_PAGES ? (uint32_t)page : MOST_PAGES;
 }
 
@@ -94,16 +91,16 @@ static bool is_as_before(uint32_t page, uint32_t endpoints) {
     return true;
 }
 
+static const char *const rights[] = {"---", "r--", "", "rw-", "", "r-x", "", "rwx"};
+
 static void show(void) {
-    static const char *const rights[] = {"---", "r--", "", "rw-", "", "r-x", "", "rwx"};
     uint32_t endpoints = gorseplumb_endpoints(&machine);
     printf("runner %04" PRIX32 "\n", gorseplumb_runner(&machine));
     uint32_t first = 0;
     while (gorseplumb_owner(&machine, first) != GORSEPLUMB_NOTHING) {
         uint32_t behind = first + 1;
         while (gorseplumb_owner(&machine, behind) != GORSEPLUMB_NOTHING && is_as_before(behind, endpoints)) behind++;
-        uint64_t start = RAM_BASE + (uint64_t)GORSEPLUMB_PAGE_SIZE * first, end = RAM_BASE + (uint64_t)GORSEPLUMB_PAGE_SIZE * behind;
-        printf("pages %08" PRIX64 " %08" PRIX64 " %04" PRIX32, start, end - 1, gorseplumb_owner(&machine, first));
+        printf("pages %08" PRIX64 " %08" PRIX64 " %04" PRIX32, address_of(first), address_of(behind) - 1, gorseplumb_owner(&machine, first));
         for (uint32_t place = 0; place < endpoints; place++) {
             printf(" %s", rights[gorseplumb_access(&machine, identifier(place), first)]);
         }
@@ -141,16 +138,25 @@ static bool agrees(uint16_t endpoint, uint64_t table, int level, uint64_t first)
     return true;
 }
 
+static void print_run(const struct gorseplumb_cert_run *run, uint32_t endpoints) {
+    printf("pages %08" PRIX64 " %08" PRIX64 " %04" PRIX32, address_of(run->first), address_of(run->last + 1) - 1, run->owner);
+    if (run->has_handle) printf(" %016" PRIX64, run->handle);
+    else printf(" -");
+    for (uint32_t place = 0; place < endpoints; place++) printf(" %s", rights[run->access[place]]);
+    printf("\n");
+}
+
 static void audit(void) {
-    uint32_t pages = pages_of_ram(), endpoints = gorseplumb_endpoints(&machine);
-    uint64_t end = RAM_BASE + (uint64_t)GORSEPLUMB_PAGE_SIZE * pages;
+    uint32_t endpoints = gorseplumb_endpoints(&machine);
+    struct gorseplumb_cert_run run;
     bool all_agree = true;
-    printf("cert %08" PRIX32 " %08" PRIX64 " %" PRIX32 "\n", RAM_BASE, end - 1, endpoints);
+    printf("cert %08" PRIX64 " %08" PRIX64 " %" PRIX32 "\n", address_of(0), address_of(pages_of_ram()) - 1, endpoints);
     for (uint32_t place = 0; place < endpoints; place++) {
-        uint64_t root = RAM_BASE + (uint64_t)GORSEPLUMB_PAGE_SIZE * place * (2 + pages / PAGES_OF_BLOCK);
-        printf("root %04" PRIX16 " %08" PRIX64 "\n", identifier(place), root);
+        uint32_t root = gorseplumb_root(&machine, identifier(place));
+        printf("root %04" PRIX16 " %08" PRIX32 "\n", identifier(place), root);
         all_agree = all_agree && agrees(identifier(place), root, 1, 0);
     }
+    for (uint32_t page = 0; gorseplumb_cert_run(&machine, page, &run); page = run.last + 1) print_run(&run, endpoints);
     printf(all_agree ? "agrees\n" : "differs\n");
 }
 

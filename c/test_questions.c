@@ -1,8 +1,8 @@
 /* SPDX-License-Identifier: MIT OR Apache-2.0 */
-/* The questions, asked of a struct in memory that can only be read: of the machine of machine.toml.h, whose endpoint
- * 0000 has the 16 pages from 40010000 on, 8001 those from 40020000 and 8002 those from 40030000, while 8001 lends a
- * page to 8002 and shares one with it; and of no machine. Addresses of tables are as docs/FORMATS.md has them, handles
- * and descriptors as docs/MEMORY.md. */
+/* The questions, asked of a struct in memory that can only be read: how many pages a list has; and of the machine of
+ * machine.toml.h, whose endpoint 0000 has the 16 pages from 40010000 on, 8001 those from 40020000 and 8002 those from
+ * 40030000, while 8001 lends a page to 8002 and shares one with it; and of no machine. Addresses of tables are as
+ * docs/FORMATS.md has them, handles and descriptors as docs/MEMORY.md. */
 #define _DEFAULT_SOURCE
 #include <stdio.h>
 #include <stdlib.h>
@@ -206,8 +206,27 @@ static void elsewhere(void) {
     runs(513, 1023, 0x8000, 0, 0, 0, 0);
 }
 
+static uint64_t lent_pages(const struct gorseplumb_lent *list) {
+    return gorseplumb_lent_pages(read_only(list, sizeof *list));
+}
+
+static void lists(void) {
+    static struct gorseplumb_page pages[3];
+    struct gorseplumb_lent list = {0};
+    struct gorseplumb_span span = {pages, 3};
+    CHECK(lent_pages(&list) == 0);
+    CHECK(gorseplumb_begin_lending(&list, 3) == GORSEPLUMB_OK && lent_pages(&list) == 0);
+    CHECK(gorseplumb_lend_span(&list, &span) == GORSEPLUMB_OK && lent_pages(&list) == 3);
+    for (uint64_t left = 3; left > 0; left--) {
+        struct gorseplumb_slot slot = {0};
+        CHECK(gorseplumb_take_back(&list, &slot) == GORSEPLUMB_OK && lent_pages(&list) == left - 1);
+    }
+    CHECK(gorseplumb_end_lending(&list) == GORSEPLUMB_OK && lent_pages(&list) == 0);
+}
+
 int main(void) {
     struct gorseplumb_lent none = {0};
+    lists();
     without();
     CHECK(gorseplumb_boot(&machine, (const uint8_t *)manifest_text, sizeof manifest_text - 1) == GORSEPLUMB_OK);
     first_state();

@@ -4,4 +4,7 @@ pub mod Reasons
 pub mod Heap
 pub mod HeldSteps
 pub mod HeldListSteps
+pub mod Audits
 pub mod Given
+pub mod Numbers
+pub mod RunSteps

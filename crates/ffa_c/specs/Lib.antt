@@ -1,16 +1,22 @@
 -- SPDX-License-Identifier: MIT OR Apache-2.0
+pub mod Audit
 pub mod Border
 pub mod Elsewhere
 pub mod Boarded
 pub mod Booting
+pub mod CertRuns
 pub mod Changes
+pub mod Ending
 pub mod Given
 pub mod LentPages
 pub mod Readiness
 pub mod Lending
+pub mod Numbers
+pub mod Operations
+pub mod Reading
 pub mod Spans
 pub mod Why
 pub mod Follows
+pub mod ListFollows
 pub mod Grants
-pub mod CertRuns
 pub mod Runs

@@ -1,8 +1,9 @@
 // SPDX-License-Identifier: MIT OR Apache-2.0
 //! A machine with the outcomes that C sees, whichever RAM it has.
-ghost use Rattle.std.specs.Prelude.{◌≡◌, ◌≢◌, ◌<◌, ◌*◌, true, false, is_some, length};
+ghost use Rattle.std.specs.Prelude.{◌≡◌, ◌≢◌, ◌<◌, ◌≤◌, ◌*◌, ◌↔◌, IsTrue, true, false, length, is_some};
 ghost use Rattle.ffa_model.specs.Access.{access};
-ghost use Rattle.ffa_model.specs.Agreement.{blocks_of};
+ghost use Rattle.ffa_model.specs.Agreement.{Agrees, blocks_of, roots_of};
+ghost use Rattle.ffa_model.specs.Certified.{IsCertified};
 ghost use Rattle.ffa_model.specs.Notifications.{has_pending, notifications_of};
 ghost use Rattle.ffa_model.specs.Ram.{page_of, zero_ram};
 ghost use Rattle.ffa_model.specs.Refusals.{is_refusal};
@@ -19,13 +20,13 @@ ghost use Rattle.ffa_c.specs.Runs.{run_at};
 
 use crate::codes::KIND_NO_ENDPOINT;
 use crate::kind::{
-    BoardMachine, access_by, acted_by, base_of, blocks_of, done_among, done_by, endpoints_of,
-    owner_by, page_in, pages_of, root_by, run_by, runner_of,
+    BoardMachine, access_by, acted_by, audited_by, base_of, blocks_of, done_among, done_by,
+    endpoints_of, owner_by, page_in, pages_of, root_by, run_by, runner_of,
 };
 use crate::outcome::COutcome;
 use ffa_lent::{Frames, LentRam};
 use ffa_memshare::Changed;
-use ffa_model::{CertRun, EndpointId, Grant, Manifest, Op, PageNo, Why};
+use ffa_model::{CertRun, EndpointId, Grant, MOST_ENDPOINTS, Manifest, Op, PageNo, Why};
 use ffa_physmem::{FlatRam, PhysMem};
 use ffa_spmc::{Given, Machine, Storage};
 use ffa_tlb::NoTlb;
@@ -278,6 +279,18 @@ impl Board {
         match &self.kind {
             BoardMachine::Heap(machine) => machine.has_pending(EndpointId(endpoint)),
             BoardMachine::Lent(machine) => machine.has_pending(EndpointId(endpoint)),
+        }
+    }
+
+    /// Whether runs of pages are a certificate that the machine's tables give.
+    pub fn audit(&self, runs: &[CertRun]) -> bool
+        ensures certified { let s = self.now.machine in IsTrue result ↔ IsCertified s.ram (roots_of s.state) runs.now }
+        ensures agrees { Agrees self.now.machine.ram self.now.machine.state }
+        ensures few { length self.now.machine.state.parties ≤ MOST_ENDPOINTS }
+    {
+        match &self.kind {
+            BoardMachine::Heap(machine) => audited_by(machine, runs),
+            BoardMachine::Lent(machine) => audited_by(machine, runs),
         }
     }
 

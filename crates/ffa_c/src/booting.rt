@@ -198,7 +198,7 @@ pub extern "C" fn gorseplumb_boot_held_manifest(
     }
 }
 
-fn number_of(cause: ManifestError) -> u32
+pub(crate) fn number_of(cause: ManifestError) -> u32
     ensures number { result ≡ cause_number cause }
     ensures positive { result ≢ 0 }
 {

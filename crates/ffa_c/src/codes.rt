@@ -2,6 +2,9 @@
 //! The numbers that C is told, each by the name that C has for it behind `GORSEPLUMB_`. None is an error code of FF-A,
 //! which a call answers in its registers.
 
+/// The number of the header's declarations, raised by each change that a caller has to know of.
+pub const DECLARATIONS: u32 = 2;
+
 /// It was done.
 pub const OK: u32 = 0;
 
@@ -65,6 +68,18 @@ pub const NO_MACHINE: u32 = 19;
 /// The list has more pages than the manifest's RAM, or fewer.
 pub const WRONG_COUNT: u32 = 20;
 
+/// The tables don't give what the runs say.
+pub const NOT_CERTIFIED: u32 = 21;
+
+/// The machine's RAM is lent.
+pub const LENT: u32 = 22;
+
+/// RAM of so many pages can't stand at the address.
+pub const BAD_BASE: u32 = 23;
+
+/// More tables are named than a machine has endpoints, or one that is at no page of RAM.
+pub const BAD_ROOTS: u32 = 24;
+
 /// What a question answers where there is no machine, no such page or no such endpoint.
 pub const NOTHING: u32 = 0xFFFF_FFFF;
 
@@ -83,11 +98,23 @@ pub const KIND_FAULT: u32 = 3;
 /// Of an outcome: there is no machine, and nothing was done.
 pub const KIND_NO_MACHINE: u32 = 4;
 
-/// Of an outcome: there is no access of such a size, and nothing was done.
+/// Of an outcome: there is no access of such a size, or no operation of such a kind, and nothing was done.
 pub const KIND_BAD_SIZE: u32 = 5;
 
 /// Of an outcome: the machine has no such endpoint, and nothing was done.
 pub const KIND_NO_ENDPOINT: u32 = 6;
+
+/// An operation is a call, with registers.
+pub const OPERATION_CALL: u32 = 0;
+
+/// An operation is a load.
+pub const OPERATION_LOAD: u32 = 1;
+
+/// An operation is a store.
+pub const OPERATION_STORE: u32 = 2;
+
+/// An operation is a fetch.
+pub const OPERATION_FETCH: u32 = 3;
 
 /// No descriptor maps the address.
 pub const FAULT_TRANSLATION: u32 = 1;

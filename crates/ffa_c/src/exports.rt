@@ -70,7 +70,7 @@ pub extern "C" fn gorseplumb_fetch(alloc: Global, machine: &mut CMachine, addr: 
 }
 
 #[inline]
-fn operate(alloc: Global, machine: &mut CMachine, op: &Op) -> COutcome
+pub(crate) fn operate(alloc: Global, machine: &mut CMachine, op: &Op) -> COutcome
     ensures { Operated machine.old.held.value machine.new.held.value op.now result }
 {
     match take(machine, alloc) {

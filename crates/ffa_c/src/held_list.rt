@@ -26,6 +26,9 @@ impl Model for HeldList {
 }
 
 impl HeldList {
+    ghost use Rattle.std.specs.Borrow.{sem};
+    ghost use Rattle.ffa_c.specs.ListFollows.{keeps_list, list_follows};
+
     /// A null pointer, which owns nothing.
     pub fn none(alloc: Global) -> HeldList
         ensures { result.value ≡ None }
@@ -54,6 +57,24 @@ impl HeldList {
     {
         let HeldList { at, alloc } = self;
         unsafe { Box::from_raw(alloc, at as *mut LentList) }
+    }
+
+    // The list, where it is.
+    fn list_mut(&mut self) -> &mut LentList
+        requires { IsSome self.old.value }
+        ensures* writes_back { sem 𝓛 (list_follows self.entry result) }
+        ensures value { self.old.value ≡ Some result.now }
+    {
+        unsafe { &mut *(self.at as *mut LentList) }
+    }
+
+    /// The list, to be read where it is.
+    pub fn list(&mut self) -> &LentList
+        requires { IsSome self.old.value }
+        ensures* same { sem 𝓛 (keeps_list self.entry) }
+        ensures value { self.old.value ≡ Some result.now }
+    {
+        self.list_mut()
     }
 
     /// Lets a pointer go that owns nothing.

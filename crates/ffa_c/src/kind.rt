@@ -1,8 +1,9 @@
 // SPDX-License-Identifier: MIT OR Apache-2.0
 //! A machine by where its RAM comes from, and what C asks of any machine.
-ghost use Rattle.std.specs.Prelude.{◌≡◌, ◌<◌, true, length};
+ghost use Rattle.std.specs.Prelude.{◌≡◌, ◌<◌, ◌≤◌, ◌↔◌, IsTrue, true, length};
 ghost use Rattle.ffa_model.specs.Access.{access};
-ghost use Rattle.ffa_model.specs.Agreement.{blocks_of};
+ghost use Rattle.ffa_model.specs.Agreement.{Agrees, blocks_of, roots_of};
+ghost use Rattle.ffa_model.specs.Certified.{IsCertified};
 ghost use Rattle.ffa_model.specs.Ram.{page_of};
 ghost use Rattle.ffa_model.specs.State.{is_known};
 ghost use Rattle.ffa_c.specs.Border.{HasDone, HasDoneAmong, access_code, exec_code, level_code, owner_number, root_number};
@@ -12,7 +13,7 @@ ghost use Rattle.ffa_c.specs.Runs.{run_at};
 use crate::codes::{EXECUTE, NOTHING, READ, WRITE};
 use crate::outcome::COutcome;
 use ffa_lent::LentRam;
-use ffa_model::{CertRun, Data, EndpointId, Op, PageNo, Rights};
+use ffa_model::{CertRun, Data, EndpointId, MOST_ENDPOINTS, Op, PageNo, Rights};
 use ffa_physmem::{FlatRam, PhysMem};
 use ffa_spmc::{Given, Machine, Store};
 use ffa_tlb::NoTlb;
@@ -119,6 +120,21 @@ pub(crate) fn page_in<M: PhysMem + Drop, S: Store>(
     ensures { result.now ≡ page_of machine.now.ram page.0 }
 {
     machine.ram().page(page)
+}
+
+/// Whether runs of pages are a certificate that the machine's tables give.
+pub(crate) fn audited_by<M: PhysMem + Drop, S: Store>(
+    machine: &Machine<M, NoTlb, S>,
+    runs: &[CertRun],
+) -> bool
+    ensures certified { let s = machine.now in IsTrue result ↔ IsCertified s.ram (roots_of s.state) runs.now }
+    ensures agrees { Agrees machine.now.ram machine.now.state }
+    ensures few { length machine.now.state.parties ≤ MOST_ENDPOINTS }
+{
+    // Proof step: the tables agree with the state, and there are no more endpoints than there may be.
+    let _ = machine.ram();
+    let _ = machine.endpoints();
+    machine.audit(runs)
 }
 
 /// The owner of a page, or `NOTHING` where there is no such page; 0x8000 is the manager.

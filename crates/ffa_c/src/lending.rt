@@ -214,17 +214,14 @@ fn take_from(list: &mut LentList, slot: &mut CSlot) -> u32
 
 /// The number of pages in the list; 0 where there is none.
 #[unsafe(no_mangle)]
-pub extern "C" fn gorseplumb_lent_pages(alloc: Global, lent: &mut CLent) -> u64
+pub extern "C" fn gorseplumb_lent_pages(lent: &mut CLent) -> u64
     ensures same { lent.new.held.value ≡ lent.old.held.value }
     ensures count { result ≡ page_count (pages_of lent.old.held.value) }
 {
-    match take_list(lent, alloc) {
-        None => 0,
-        Some(list) => {
-            let pages = list.pages() as u64;
-            put_list(lent, list);
-            pages
-        }
+    if lent.live {
+        lent.held.list().pages() as u64
+    } else {
+        0
     }
 }
 

@@ -1,9 +1,12 @@
 // SPDX-License-Identifier: MIT OR Apache-2.0
 //! The list of lent pages, with what a machine in them needs.
-ghost use Rattle.std.specs.Prelude.{◌≡◌, ◌+◌, ◌*◌, ◌<◌, ◌≤◌, ◌++◌, ◌∷◌, [], true, false, Some, None, IfOk, IfErr, IfSome, is_ok, length, if◌then◌else◌};
+ghost use Rattle.std.specs.Prelude.{◌≡◌, ◌↔◌, ◌+◌, ◌*◌, ◌%◌, ◌^◌, ◌<◌, ◌≤◌, ◌++◌, ◌∷◌, [], All, true, false, Some, None, IfOk, IfErr, IfSome, IsTrue, is_ok, length, if◌then◌else◌};
 ghost use Rattle.std.specs.Option.{option_map, option_to_list};
 ghost use Rattle.ffa_manifest.specs.Document.{parts_of};
+ghost use Rattle.ffa_model.specs.Certified.{IsCertified};
+ghost use Rattle.ffa_model.specs.Walk.{is_page_address};
 ghost use Rattle.ffa_spmc.specs.Storages.{IsRoomFor};
+ghost use Rattle.ffa_c.specs.Audit.{ram_at};
 ghost use Rattle.ffa_c.specs.Boarded.{lends, ram_pages};
 ghost use Rattle.ffa_c.specs.Booting.{HasBegun, IsFirstBy};
 ghost use Rattle.ffa_c.specs.LentPages.{empty};
@@ -12,7 +15,7 @@ ghost use Rattle.ffa_c.specs.Readiness.{storage_pages};
 use crate::board::{Board, FirstBytes};
 use crate::seat::Seat;
 use ffa_lent::{Frames, Lent, LentRam, Span};
-use ffa_model::{MOST_ENDPOINTS, MOST_PAGES, Manifest};
+use ffa_model::{Address, CertRun, MOST_ENDPOINTS, MOST_PAGES, Manifest};
 use ffa_spmc::{Given, Storage};
 use std::alloc::{AllocError, Global};
 use std::marker::Model;
@@ -131,6 +134,39 @@ impl LentList {
                 self.frames = frames;
                 self.seat = Some(seat);
                 self.storage = Some(storage);
+                Err(AllocError)
+            }
+        }
+    }
+
+    /// Whether the tables from these roots give what runs of pages say, in RAM at this address whose pages are those of
+    /// the list. It takes memory only for what the list lacks, and where that is refused the list is as before.
+    pub fn audit(
+        &mut self,
+        alloc: Global,
+        base: Address,
+        roots: &[u32],
+        runs: &[CertRun],
+    ) -> Result<bool, AllocError>
+        requires aligned { base.0 % 4096 ≡ 0 }
+        requires fits { base.0 + 4096 * length self.old.pages ≤ 2 ^ 32 }
+        requires few { length roots.now ≤ MOST_ENDPOINTS }
+        requires roots { All (λ root. is_page_address (ram_at base.0 self.old.pages) root ≡ true) roots.now }
+        ensures certified { let ram = ram_at base.0 self.old.pages in
+            IfOk result (λ is. IsTrue is ↔ IsCertified ram roots.now runs.now) }
+        ensures pages { self.new.pages ≡ self.old.pages }
+        ensures ready { self.old.ready_for ≤ self.new.ready_for }
+        ensures refused { IfErr result (λ _. self.new ≡ self.old) }
+    {
+        let frames = mem::replace(&mut self.frames, Frames::none(alloc));
+        match LentRam::new(alloc, base, frames) {
+            Ok(ram) => {
+                let certified = ffa_walker::audit(&ram, roots, runs);
+                self.frames = ram.into_frames();
+                Ok(certified)
+            }
+            Err(frames) => {
+                self.frames = frames;
                 Err(AllocError)
             }
         }

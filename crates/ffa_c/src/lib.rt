@@ -5,13 +5,16 @@
 //! `CMachine` here, and so on.
 #![tactic(auto)]
 
+pub mod audit;
 pub mod board;
 pub mod booting;
 pub mod cert_run;
 pub mod certificate;
 pub mod changes;
 pub mod codes;
+pub mod declarations;
 pub mod elsewhere;
+pub mod ending;
 pub mod exports;
 pub mod grants;
 pub mod held;
@@ -21,8 +24,10 @@ pub mod lending;
 pub mod lent_list;
 pub mod machine;
 pub mod manifest;
+pub mod operations;
 pub mod outcome;
 pub mod questions;
+pub mod reading;
 pub mod reason;
 pub mod seat;
 pub mod spans;

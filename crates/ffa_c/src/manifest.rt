@@ -52,7 +52,7 @@ pub struct CManifest {
     pub endpoints: [CEndpoint; MOST_ENDPOINTS],
 }
 
-fn rights_of(code: u32) -> Option<Rights>
+pub(crate) fn rights_of(code: u32) -> Option<Rights>
     ensures { result ≡ rights_given code }
 {
     let (level, exec) = match code {

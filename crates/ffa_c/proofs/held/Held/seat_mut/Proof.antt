@@ -1,6 +1,6 @@
 -- SPDX-License-Identifier: MIT OR Apache-2.0
 -- `seat_mut` lends what is behind the pointer, and what is held follows it.
-use Rattle.ffa_lent.proofs.Steps.{◌≡◌, ℕ, List, [], ◌∷◌, Option, None, Some, IsSome, refl, sym, ap, ◌∙◌, full_share, id⊢, ftrue, flft, sem, bare, shows, lone, named, Val, vptr, fact, tables, proved, ‵, raw, ◌⊛◌, some, later, at_ret, ◌$◌, ◌∵◌, !, qed, done, move, keep, use1, split, join, fsplit, fjoin, pick, await, rewrite, suffices, group, enter, of_opd, stop, fld, first, blocks, exec, returns, alloc_all, pass_all, free_all, look_at, get, sets, env, sub, whole, Ptr, block_ptr, RattleType, owns, plain, nothing, peeks, heard, Stays, walk_of, says, stay_dropped, ends_at}
+use Rattle.ffa_lent.proofs.Steps.{◌≡◌, ℕ, List, [], ◌∷◌, None, Some, IsSome, refl, sym, ap, ◌∙◌, full_share, id⊢, ftrue, flft, sem, bare, shows, lone, named, Val, vptr, fact, tables, proved, ‵, raw, ◌⊛◌, some, later, at_ret, ◌$◌, ◌∵◌, !, qed, done, move, keep, use1, split, join, fsplit, fjoin, pick, await, rewrite, suffices, group, enter, of_opd, stop, fld, first, blocks, exec, returns, alloc_all, pass_all, free_all, look_at, get, sets, env, sub, whole, Ptr, block_ptr, RattleType, owns, plain, nothing, peeks, heard, Stays, walk_of, says, stay_dropped, ends_at}
 use Rattle.ffa_lent.proofs.Owners.{slot_out}
 use Rattle.ffa_lent.specs.Slots.{slot_owns}
 use Rattle.std.specs.Box.Ownership.{box_owns}

@@ -1,0 +1,80 @@
+// SPDX-License-Identifier: MIT OR Apache-2.0
+//! Operations that C gives in a list.
+ghost use Rattle.std.specs.Prelude.{◌≡◌, drop, length, min, take};
+ghost use Rattle.ffa_c.specs.Operations.{HaveRun, OperatedGiven, op_given};
+
+use crate::codes::{
+    KIND_BAD_SIZE, OPERATION_CALL, OPERATION_FETCH, OPERATION_LOAD, OPERATION_STORE,
+};
+use crate::exports::{operate, size_of};
+use crate::machine::CMachine;
+use crate::outcome::COutcome;
+use ffa_model::Op;
+use std::alloc::Global;
+
+/// An operation of the endpoint that runs. What its kind doesn't name is not read.
+#[repr(C)]
+#[derive(Clone, Copy)]
+pub struct COperation {
+    /// What it is, as one of `OPERATION_CALL` to `OPERATION_FETCH`.
+    pub kind: u32,
+    /// Of a load and of a store: how many bytes.
+    pub size: u32,
+    /// Of a load, a store and a fetch.
+    pub address: u64,
+    /// Of a store.
+    pub value: u64,
+    /// Of a call: its registers.
+    pub x: [u64; 8],
+}
+
+/// Does operations one after another, each of the endpoint that runs then, and each as the call for it alone, as many
+/// as both lists have places: so many it answers. Of a kind that there isn't, and of a size that there isn't, nothing
+/// is done, and the rest goes on.
+#[unsafe(no_mangle)]
+pub extern "C" fn gorseplumb_run(
+    alloc: Global,
+    machine: &mut CMachine,
+    operations: &[COperation],
+    outcomes: &mut [COutcome],
+) -> usize
+    ensures count { result ≡ min (length operations.now) (length outcomes.old) }
+    ensures run { let given = take result operations.now in let told = take result outcomes.new in
+        HaveRun machine.old.held.value given told machine.new.held.value }
+    ensures rest { drop result outcomes.new ≡ drop result outcomes.old }
+{
+    let count = operations.len().min(outcomes.len());
+    for place in 0..count {
+        outcomes[place] = do_given(alloc, machine, &operations[place]);
+    }
+    count
+}
+
+fn do_given(alloc: Global, machine: &mut CMachine, operation: &COperation) -> COutcome
+    ensures { OperatedGiven (op_given operation.now) machine.old.held.value machine.new.held.value result }
+{
+    match op_of(operation) {
+        Some(op) => operate(alloc, machine, &op),
+        None => COutcome::nothing(KIND_BAD_SIZE),
+    }
+}
+
+fn op_of(operation: &COperation) -> Option<Op>
+    ensures { result ≡ op_given operation.now }
+{
+    let addr = operation.address;
+    match operation.kind {
+        OPERATION_CALL => Some(Op::Call(operation.x)),
+        OPERATION_LOAD => {
+            let size = size_of(operation.size)?;
+            Some(Op::Load { addr, size })
+        }
+        OPERATION_STORE => {
+            let size = size_of(operation.size)?;
+            let value = operation.value;
+            Some(Op::Store { addr, size, value })
+        }
+        OPERATION_FETCH => Some(Op::Fetch { addr }),
+        _ => None,
+    }
+}
