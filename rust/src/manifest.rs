@@ -258,8 +258,6 @@ impl Manifest {
     pub(crate) const fn raw(&self) -> &raw::Manifest {
         &self.0
     }
-
-    #[cfg(declarations_2)]
     pub(crate) fn raw_mut(&mut self) -> &mut raw::Manifest {
         &mut self.0
     }

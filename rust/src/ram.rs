@@ -109,8 +109,6 @@ impl<'ram> Lent<'ram> {
     {
         Machine::boot_held_in(description, self)
     }
-
-    #[cfg(declarations_2)]
     /// The list, for the library.
     pub(crate) fn raw(&mut self) -> *mut raw::Lent {
         &mut self.list

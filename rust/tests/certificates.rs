@@ -1,6 +1,5 @@
 // SPDX-License-Identifier: MIT OR Apache-2.0
 //! What a machine's tables give, and whether runs say it.
-#![cfg(declarations_2)]
 mod common;
 
 use common::explained::explain;

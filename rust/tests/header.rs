@@ -57,7 +57,6 @@ fn structs() -> Vec<(String, i64)> {
     rows
 }
 
-#[cfg(declarations_2)]
 fn next() -> Vec<(String, i64)> {
     let mut rows = fields!(Grant, "grant", kind handle);
     rows.extend(fields!(CertRun, "cert_run", first last owner has_handle handle access));
@@ -78,11 +77,6 @@ fn next() -> Vec<(String, i64)> {
     rows.extend(gorseplumb::Check::ALL.iter().map(|it| (name("CHECK", &format!("{it:?}")), it.number().into())));
     rows.extend(gorseplumb::Flaw::ALL.iter().map(|it| (name("FLAW", &format!("{it:?}")), it.number().into())));
     rows
-}
-
-#[cfg(not(declarations_2))]
-fn next() -> Vec<(String, i64)> {
-    Vec::new()
 }
 
 /// What the C compiler makes of expressions.
@@ -125,9 +119,5 @@ fn functions_are_the_headers() {
     let mut there = functions(&header);
     assert!(there.remove("gorseplumb_settle"), "firmware has it");
     let here = functions(include_str!("../src/raw.rs"));
-    let lacking: Vec<_> = there.difference(&here).collect();
-    assert!(lacking.is_empty(), "raw.rs lacks {lacking:?}");
-    if cfg!(declarations_2) {
-        assert_eq!(here, there);
-    }
+    assert_eq!(here, there);
 }
