@@ -106,6 +106,7 @@
 extern crate alloc;
 #[cfg(feature = "std")]
 extern crate std;
+
 mod certificate;
 mod checks;
 mod codes;
@@ -121,6 +122,7 @@ mod ram;
 pub mod raw;
 mod reasons;
 mod settling;
+
 pub use certificate::{AuditError, Grant, PageRun};
 pub use checks::{Check, Flaw};
 pub use codes::{AccessError, BootError, Cause, ErrorCode, Fault, NoEndpoint};

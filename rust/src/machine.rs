@@ -255,6 +255,7 @@ impl<R: Ram> Machine<R> {
         let answer = unsafe { raw::gorseplumb_free(&mut self.at, self.ram.list()) };
         debug_assert_eq!(answer, raw::OK);
     }
+
     /// The machine, for an operation.
     pub(crate) fn place(&mut self) -> *mut raw::Machine {
         &mut self.at

@@ -258,6 +258,7 @@ impl Manifest {
     pub(crate) const fn raw(&self) -> &raw::Manifest {
         &self.0
     }
+
     pub(crate) fn raw_mut(&mut self) -> &mut raw::Manifest {
         &mut self.0
     }

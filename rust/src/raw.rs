@@ -2,7 +2,7 @@
 //! What `c/gorseplumb.h` declares, by the names that it has there without their first word. The rest of this crate is
 //! safe and stands on it; who calls these functions owes what the header says.
 //!
-//! Questions take `*const Machine`, as they change nothing.
+//! Questions take a pointer to const, as they write nothing.
 #![allow(missing_docs)]
 
 use core::ffi::c_void;
@@ -253,7 +253,7 @@ extern "C" {
     pub fn gorseplumb_lend(lent: *mut Lent, slot: *mut Slot) -> u32;
     pub fn gorseplumb_lend_span(lent: *mut Lent, span: *mut Span) -> u32;
     pub fn gorseplumb_take_back(lent: *mut Lent, slot: *mut Slot) -> u32;
-    pub fn gorseplumb_lent_pages(lent: *mut Lent) -> u64;
+    pub fn gorseplumb_lent_pages(lent: *const Lent) -> u64;
     pub fn gorseplumb_end_lending(lent: *mut Lent) -> u32;
 
     pub fn gorseplumb_declarations() -> u32;
