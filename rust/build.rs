@@ -1,7 +1,7 @@
 // SPDX-License-Identifier: MIT OR Apache-2.0
 //! Finds the archive `libgorseplumb.a` and links it: in the folder GORSEPLUMB_LIB_DIR where that is set, else where
-//! `c/archive` leaves it in the repository that this crate stands in, `out/<target>`. Where GORSEPLUMB_MAKE is set it has
-//! `c/archive` make one that is missing, which may prove all crates below first. An archive of another processor is
+//! `c/archive` leaves it in the repository that this crate stands in, `out/<target>`. Where GORSEPLUMB_MAKE is set it
+//! has `c/archive` make one that is missing, which may prove all crates below first. An archive of another processor is
 //! refused.
 use std::path::{Path, PathBuf};
 use std::process::{exit, Command};
