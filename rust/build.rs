@@ -1,7 +1,7 @@
 // SPDX-License-Identifier: MIT OR Apache-2.0
 //! Finds the archive `libgorseplumb.a` and links it: in the folder GORSEPLUMB_LIB_DIR where that is set, else where
-//! `c/archive` leaves it in the repository that this crate stands in, `out/<target>`. Where GORSEPLUMB_MAKE is set it has
-//! `c/archive` make one that is missing, which may prove all crates below first. An archive of another processor is
+//! `c/archive` leaves it in the repository that this crate stands in, `out/<target>`. Where GORSEPLUMB_MAKE is set it
+//! has `c/archive` make one that is missing, which may prove all crates below first. An archive of another processor is
 //! refused.
 use std::path::{Path, PathBuf};
 use std::process::{exit, Command};
@@ -17,11 +17,6 @@ fn main() {
         exit(1)
     });
     println!("cargo:rerun-if-changed={}", archive.display());
-    // Until every archive has what raw.rs declares in its second part: whether this one has it.
-    println!("cargo:rustc-check-cfg=cfg(declarations_2)");
-    if fs::read(&archive).map_or(false, |bytes| has(&bytes, b"gorseplumb_declarations")) {
-        println!("cargo:rustc-cfg=declarations_2");
-    }
     let folder = archive.parent().expect("an archive stands in a folder");
     println!("cargo:rustc-link-search=native={}", folder.display());
     println!("cargo:rustc-link-lib=static=gorseplumb");
@@ -85,10 +80,6 @@ fn for_this_target(archive: PathBuf) -> Result<PathBuf, String> {
         name_of(has),
         variable("TARGET")
     ))
-}
-
-fn has(bytes: &[u8], name: &[u8]) -> bool {
-    bytes.windows(name.len()).any(|window| window == name)
 }
 
 /// A processor as Rust names it, by the field `e_machine` of an ELF file.

@@ -107,41 +107,33 @@ extern crate alloc;
 #[cfg(feature = "std")]
 extern crate std;
 
-#[cfg(declarations_2)]
 mod certificate;
 mod checks;
 mod codes;
 #[cfg(feature = "heap")]
 mod heap;
-#[cfg(declarations_2)]
 mod lists;
 mod machine;
 mod manifest;
-#[cfg(declarations_2)]
 mod names;
 mod operation;
 mod questions;
 mod ram;
 pub mod raw;
-#[cfg(declarations_2)]
 mod reasons;
 mod settling;
 
-#[cfg(declarations_2)]
 pub use certificate::{AuditError, Grant, PageRun};
 pub use checks::{Check, Flaw};
 pub use codes::{AccessError, BootError, Cause, ErrorCode, Fault, NoEndpoint};
-#[cfg(declarations_2)]
 pub use lists::{Operation, Outcome, Told};
 pub use machine::{Change, Description, Machine, Range};
 pub use manifest::{
     CountError, Endpoint, Manifest, Properties, Region, Rights, Version, MOST_BLOCKS, MOST_ENDPOINTS, MOST_REGIONS,
 };
-#[cfg(declarations_2)]
 pub use names::{call_name, declarations};
 pub use operation::{registers, Answer, Registers, Size};
 pub use ram::{Heap, Lent, Page, Ram, PAGE_SIZE};
-#[cfg(declarations_2)]
 pub use reasons::{About, AccessReason, CallReason, Obstacle};
 #[doc(hidden)]
 pub use settling::settling;

@@ -256,7 +256,6 @@ impl<R: Ram> Machine<R> {
         debug_assert_eq!(answer, raw::OK);
     }
 
-    #[cfg(declarations_2)]
     /// The machine, for an operation.
     pub(crate) fn place(&mut self) -> *mut raw::Machine {
         &mut self.at

@@ -259,7 +259,6 @@ impl Manifest {
         &self.0
     }
 
-    #[cfg(declarations_2)]
     pub(crate) fn raw_mut(&mut self) -> &mut raw::Manifest {
         &mut self.0
     }

@@ -110,7 +110,6 @@ impl<'ram> Lent<'ram> {
         Machine::boot_held_in(description, self)
     }
 
-    #[cfg(declarations_2)]
     /// The list, for the library.
     pub(crate) fn raw(&mut self) -> *mut raw::Lent {
         &mut self.list
@@ -142,7 +141,7 @@ impl Drop for Lent<'_> {
     fn drop(&mut self) {
         // SAFETY: the list is this value's, and the slot is live. Of a list that isn't there both answer so.
         unsafe {
-            while raw::gorseplumb_lent_pages(&mut self.list) > 0 {
+            while raw::gorseplumb_lent_pages(&self.list) > 0 {
                 let mut slot = raw::Slot::NONE;
                 raw::gorseplumb_take_back(&mut self.list, &mut slot);
             }

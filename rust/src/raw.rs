@@ -2,7 +2,7 @@
 //! What `c/gorseplumb.h` declares, by the names that it has there without their first word. The rest of this crate is
 //! safe and stands on it; who calls these functions owes what the header says.
 //!
-//! Questions take `*const Machine`, as they change nothing.
+//! Questions take a pointer to const, as they write nothing.
 #![allow(missing_docs)]
 
 use core::ffi::c_void;
@@ -149,40 +149,6 @@ pub struct Settling {
 /// The descriptor to which the library writes what is to be settled.
 pub const SETTLES: i32 = -0xFFA;
 
-extern "C" {
-    pub fn gorseplumb_boot(machine: *mut Machine, text: *const u8, size: usize) -> u32;
-    pub fn gorseplumb_boot_manifest(machine: *mut Machine, manifest: *const Manifest) -> u32;
-    pub fn gorseplumb_boot_lent(machine: *mut Machine, lent: *mut Lent, text: *const u8, size: usize) -> u32;
-    pub fn gorseplumb_boot_lent_manifest(machine: *mut Machine, lent: *mut Lent, manifest: *const Manifest) -> u32;
-    pub fn gorseplumb_boot_held(machine: *mut Machine, lent: *mut Lent, text: *const u8, size: usize) -> u32;
-    pub fn gorseplumb_boot_held_manifest(machine: *mut Machine, lent: *mut Lent, manifest: *const Manifest) -> u32;
-
-    pub fn gorseplumb_call(machine: *mut Machine, registers: *const Registers) -> Outcome;
-    pub fn gorseplumb_load(machine: *mut Machine, address: u64, size: u32) -> Outcome;
-    pub fn gorseplumb_store(machine: *mut Machine, address: u64, size: u32, value: u64) -> Outcome;
-    pub fn gorseplumb_fetch(machine: *mut Machine, address: u64) -> Outcome;
-    pub fn gorseplumb_call_as(machine: *mut Machine, endpoint: u16, registers: *const Registers) -> Outcome;
-    pub fn gorseplumb_load_as(machine: *mut Machine, endpoint: u16, address: u64, size: u32) -> Outcome;
-    pub fn gorseplumb_store_as(machine: *mut Machine, endpoint: u16, address: u64, size: u32, value: u64) -> Outcome;
-    pub fn gorseplumb_fetch_as(machine: *mut Machine, endpoint: u16, address: u64) -> Outcome;
-    pub fn gorseplumb_changed(machine: *mut Machine, change: *mut Change) -> bool;
-
-    pub fn gorseplumb_runner(machine: *const Machine) -> u32;
-    pub fn gorseplumb_endpoints(machine: *const Machine) -> u32;
-    pub fn gorseplumb_owner(machine: *const Machine, page: u32) -> u32;
-    pub fn gorseplumb_access(machine: *const Machine, endpoint: u16, page: u32) -> u32;
-    pub fn gorseplumb_pending(machine: *const Machine, endpoint: u16) -> bool;
-    pub fn gorseplumb_read_page(machine: *const Machine, page: u32, bytes: *mut crate::Page) -> bool;
-
-    pub fn gorseplumb_free(machine: *mut Machine, lent: *mut Lent) -> u32;
-    pub fn gorseplumb_begin_lending(lent: *mut Lent, pages: u32) -> u32;
-    pub fn gorseplumb_lend(lent: *mut Lent, slot: *mut Slot) -> u32;
-    pub fn gorseplumb_lend_span(lent: *mut Lent, span: *mut Span) -> u32;
-    pub fn gorseplumb_take_back(lent: *mut Lent, slot: *mut Slot) -> u32;
-    pub fn gorseplumb_lent_pages(lent: *mut Lent) -> u64;
-    pub fn gorseplumb_end_lending(lent: *mut Lent) -> u32;
-}
-
 #[derive(Clone, Copy, Debug, PartialEq, Eq)]
 #[repr(C)]
 pub struct Grant {
@@ -258,6 +224,38 @@ pub const OPERATION_STORE: u32 = 2;
 pub const OPERATION_FETCH: u32 = 3;
 
 extern "C" {
+    pub fn gorseplumb_boot(machine: *mut Machine, text: *const u8, size: usize) -> u32;
+    pub fn gorseplumb_boot_manifest(machine: *mut Machine, manifest: *const Manifest) -> u32;
+    pub fn gorseplumb_boot_lent(machine: *mut Machine, lent: *mut Lent, text: *const u8, size: usize) -> u32;
+    pub fn gorseplumb_boot_lent_manifest(machine: *mut Machine, lent: *mut Lent, manifest: *const Manifest) -> u32;
+    pub fn gorseplumb_boot_held(machine: *mut Machine, lent: *mut Lent, text: *const u8, size: usize) -> u32;
+    pub fn gorseplumb_boot_held_manifest(machine: *mut Machine, lent: *mut Lent, manifest: *const Manifest) -> u32;
+
+    pub fn gorseplumb_call(machine: *mut Machine, registers: *const Registers) -> Outcome;
+    pub fn gorseplumb_load(machine: *mut Machine, address: u64, size: u32) -> Outcome;
+    pub fn gorseplumb_store(machine: *mut Machine, address: u64, size: u32, value: u64) -> Outcome;
+    pub fn gorseplumb_fetch(machine: *mut Machine, address: u64) -> Outcome;
+    pub fn gorseplumb_call_as(machine: *mut Machine, endpoint: u16, registers: *const Registers) -> Outcome;
+    pub fn gorseplumb_load_as(machine: *mut Machine, endpoint: u16, address: u64, size: u32) -> Outcome;
+    pub fn gorseplumb_store_as(machine: *mut Machine, endpoint: u16, address: u64, size: u32, value: u64) -> Outcome;
+    pub fn gorseplumb_fetch_as(machine: *mut Machine, endpoint: u16, address: u64) -> Outcome;
+    pub fn gorseplumb_changed(machine: *mut Machine, change: *mut Change) -> bool;
+
+    pub fn gorseplumb_runner(machine: *const Machine) -> u32;
+    pub fn gorseplumb_endpoints(machine: *const Machine) -> u32;
+    pub fn gorseplumb_owner(machine: *const Machine, page: u32) -> u32;
+    pub fn gorseplumb_access(machine: *const Machine, endpoint: u16, page: u32) -> u32;
+    pub fn gorseplumb_pending(machine: *const Machine, endpoint: u16) -> bool;
+    pub fn gorseplumb_read_page(machine: *const Machine, page: u32, bytes: *mut crate::Page) -> bool;
+
+    pub fn gorseplumb_free(machine: *mut Machine, lent: *mut Lent) -> u32;
+    pub fn gorseplumb_begin_lending(lent: *mut Lent, pages: u32) -> u32;
+    pub fn gorseplumb_lend(lent: *mut Lent, slot: *mut Slot) -> u32;
+    pub fn gorseplumb_lend_span(lent: *mut Lent, span: *mut Span) -> u32;
+    pub fn gorseplumb_take_back(lent: *mut Lent, slot: *mut Slot) -> u32;
+    pub fn gorseplumb_lent_pages(lent: *const Lent) -> u64;
+    pub fn gorseplumb_end_lending(lent: *mut Lent) -> u32;
+
     pub fn gorseplumb_declarations() -> u32;
     pub fn gorseplumb_ram_base(machine: *const Machine) -> u32;
     pub fn gorseplumb_ram_blocks(machine: *const Machine) -> u32;

@@ -1,6 +1,5 @@
 // SPDX-License-Identifier: MIT OR Apache-2.0
 //! What a machine's tables give, and whether runs say it.
-#![cfg(declarations_2)]
 mod common;
 
 use common::explained::explain;
@@ -103,6 +102,11 @@ fn what_is_certified() {
     let place = runs.iter().position(|run| run.first() == 40).unwrap();
     let access: Vec<Option<Rights>> = (0..3).map(|endpoint| runs[place].access(endpoint)).collect();
     assert_eq!(machine.audit(&runs), Ok(()));
+    let made = runs.iter().map(|run| {
+        let access = [0, 1, 2].map(|endpoint| run.access(endpoint));
+        PageRun::new(run.first(), run.last(), run.owner(), run.transaction(), &access).unwrap()
+    });
+    assert_eq!(made.collect::<Vec<_>>(), runs);
     assert_eq!(machine.audit(&with(&runs, place, Id(0), &access)), Ok(()), "no table holds an owner");
     let more = [access[0], access[1], Some(Rights::Rw)];
     assert_eq!(machine.audit(&with(&runs, place, FIRST, &more)), Err(AuditError::NotCertified));

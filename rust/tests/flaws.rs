@@ -1,6 +1,5 @@
 // SPDX-License-Identifier: MIT OR Apache-2.0
 //! Each condition of a descriptor, broken by the smallest change of one that is good. docs/MEMORY.md has the forms.
-#![cfg(declarations_2)]
 mod common;
 
 use common::refusals::MACHINE;

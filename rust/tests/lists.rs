@@ -1,6 +1,5 @@
 // SPDX-License-Identifier: MIT OR Apache-2.0
 //! Operations in a list, and manifests that are read.
-#![cfg(declarations_2)]
 mod common;
 
 use common::example;

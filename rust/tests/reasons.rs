@@ -1,6 +1,5 @@
 // SPDX-License-Identifier: MIT OR Apache-2.0
 //! Why operations are refused: the manual's reasons, and the check of each call that fails.
-#![cfg(declarations_2)]
 mod common;
 
 use common::explained::explain;

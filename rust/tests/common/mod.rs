@@ -2,7 +2,6 @@
 //! Plays lines of a trace on a machine, and says what the program would print of them. docs/FORMATS.md has the lines.
 #![allow(dead_code)] // each test takes a part of it
 
-#[cfg(declarations_2)]
 pub mod explained;
 pub mod machines;
 pub mod refusals;
@@ -46,7 +45,6 @@ pub fn generated(manifest: &str, seed: &str, flags: &[&str]) -> (String, String)
     let is_operation = |line: &&str| ["call", "load", "stor", "fetc"].iter().any(|word| line.starts_with(word));
     let operations = trace.lines().filter(is_operation).count();
     assert!(operations >= 100_000, "{operations} operations");
-    let trace = if cfg!(declarations_2) { trace } else { trace.replace("\naudit\n", "\n") };
     let path = env::temp_dir().join(format!("gorseplumb-{}-{seed}.trace", process::id()));
     fs::write(&path, &trace).unwrap();
     let expected = run(&[&["run"], flags, &[manifest, path.to_str().unwrap()]].concat());
@@ -84,7 +82,6 @@ pub fn play_line<R: Ram>(machine: &mut Machine<R>, line: &str) -> String {
         },
         "fetch" => data(machine.fetch(number(1)).map(u64::from), 4),
         "show" => show(machine),
-        #[cfg(declarations_2)]
         "audit" => explained::audit(machine),
         _ => panic!("{line}: not a line of a trace"),
     }
