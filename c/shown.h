@@ -1,11 +1,12 @@
 /* SPDX-License-Identifier: MIT OR Apache-2.0 */
 /* A struct in memory that can only be read, for tests of questions. It moves there for a question, and what it is copied
- * from is used again for an operation. Who includes this has CHECK, and defines _DEFAULT_SOURCE. */
+ * from is used again for an operation. Who includes this defines _DEFAULT_SOURCE. */
 #ifndef GORSEPLUMB_SHOWN_H
 #define GORSEPLUMB_SHOWN_H
 
 #include <string.h>
 #include <sys/mman.h>
+#include "check.h"
 #include "gorseplumb.h"
 
 static const void *read_only(const void *it, size_t size) {

@@ -5,6 +5,7 @@
 #include <stdio.h>
 #include <stdlib.h>
 #include <string.h>
+#include "check.h"
 #include "gorseplumb.h"
 #include "lending.h"
 #include "machine.toml.h"
@@ -53,14 +54,6 @@ void gorseplumb_settle(uint16_t endpoint, uint64_t address, uint64_t size) {
     if (settlings < MOST_SETTLED) settled[settlings] = (struct gorseplumb_settling){endpoint, address, size};
     settlings++;
 }
-
-#define CHECK(holds) \
-    do { \
-        if (!(holds)) { \
-            fprintf(stderr, "%s:%d: %s\n", __FILE__, __LINE__, #holds); \
-            exit(1); \
-        } \
-    } while (0)
 
 /* A call, which is to give these registers to this runner. Registers that aren't given are zero. */
 #define CALL(runner_, x0, x1, x2, x3, ...) \

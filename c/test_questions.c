@@ -8,16 +8,9 @@
 #include <stdlib.h>
 #include <string.h>
 #include "../board/calls.h"
+#include "check.h"
 #include "gorseplumb.h"
 #include "machine.toml.h"
-
-#define CHECK(holds) \
-    do { \
-        if (!(holds)) { \
-            fprintf(stderr, "%s:%d: %s\n", __FILE__, __LINE__, #holds); \
-            exit(1); \
-        } \
-    } while (0)
 
 #include "shown.h"
 

@@ -7,20 +7,13 @@
 #include <stdlib.h>
 #include <string.h>
 #include "../board/calls.h"
+#include "check.h"
 #include "gorseplumb.h"
 #include "machine.toml.h"
 
 #define WIDE UINT32_C(0x40000000)
 
 static struct gorseplumb_machine machine;
-
-#define CHECK(holds) \
-    do { \
-        if (!(holds)) { \
-            fprintf(stderr, "%s:%d: %s\n", __FILE__, __LINE__, #holds); \
-            exit(1); \
-        } \
-    } while (0)
 
 #include "shown.h"
 

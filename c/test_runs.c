@@ -6,17 +6,10 @@
 #include <stdlib.h>
 #include <string.h>
 #include "../board/calls.h"
+#include "check.h"
 #include "gorseplumb.h"
 #include "lending.h"
 #include "machine.toml.h"
-
-#define CHECK(holds) \
-    do { \
-        if (!(holds)) { \
-            fprintf(stderr, "%s:%d: %s\n", __FILE__, __LINE__, #holds); \
-            exit(1); \
-        } \
-    } while (0)
 
 static struct gorseplumb_machine machine;
 static struct gorseplumb_page pages[512];
