@@ -2,8 +2,8 @@
 //! Worked command lines.
 use crate::checks::{holds_at, same, same_at};
 use play_arguments::{
-    DescriptorWords, ErrorKind, MachineOptions, Request, STANDARD_INPUT, TOOLCHAIN, TextOptions,
-    VERSION, request,
+    DescriptorWords, ErrorKind, MachineOptions, PictureOptions, Request, STANDARD_INPUT, TOOLCHAIN,
+    TextOptions, VERSION, request,
 };
 use std::alloc::{AllocError, Global};
 use std::process::Abort;
@@ -37,8 +37,9 @@ fn push_text(words: &mut String, text: TextOptions) -> Result<(), AllocError> {
 
 // The words of a descriptor: what it is for, where TX stands, and each other that is given behind its name.
 fn push_record(words: &mut String, record: &DescriptorWords<'_>) -> Result<(), AllocError> {
-    write!(words, "descriptor {} {}", record.kind, record.tx)?;
+    write!(words, "descriptor {}", record.kind)?;
     for (name, value) in [
+        ("tx", record.tx),
         ("from", record.from),
         ("to", record.to),
         ("pages", record.pages),
@@ -62,39 +63,57 @@ fn push_request(words: &mut String, request: &Request<'_>) -> Result<(), AllocEr
             machine,
             text,
             strict,
+            interactive,
             ..
         } => {
             write!(words, "run {manifest} {trace}")?;
             push_machine(words, machine)?;
             push_text(words, text)?;
-            push_flags(words, &[("strict", strict)])
+            push_flags(words, &[("strict", strict), ("interactive", interactive)])
         }
         Request::Demo {
             trace,
             machine,
             text,
             strict,
+            interactive,
             ..
         } => {
             write!(words, "demo {trace}")?;
             push_machine(words, machine)?;
             push_text(words, text)?;
-            push_flags(words, &[("strict", strict)])
+            push_flags(words, &[("strict", strict), ("interactive", interactive)])
+        }
+        Request::Record {
+            manifest,
+            trace,
+            machine,
+            ..
+        } => {
+            write!(words, "record {manifest} {trace}")?;
+            push_machine(words, machine)
         }
         Request::Compare {
             manifest,
             machine,
-            explain,
+            text,
             ..
         } => {
             let trace = request.trace().unwrap_or_default();
             let expected = request.expected().unwrap_or_default();
             write!(words, "compare {manifest} {trace} {expected}")?;
             push_machine(words, machine)?;
-            push_flags(words, &[("explain", explain)])
+            push_text(words, text)
         }
         Request::Check { manifest, .. } => write!(words, "check {manifest}"),
-        Request::Layout { manifest, .. } => write!(words, "layout {manifest}"),
+        Request::Layout {
+            manifest,
+            regions,
+            ..
+        } => {
+            write!(words, "layout {manifest}")?;
+            push_flags(words, &[("regions", regions)])
+        }
         Request::Descriptor { words: record } => push_record(words, &record),
         Request::Generate {
             manifest,
@@ -109,9 +128,18 @@ fn push_request(words: &mut String, request: &Request<'_>) -> Result<(), AllocEr
         Request::Picture {
             manifest,
             trace,
-            every,
+            drawing,
             ..
-        } => write!(words, "picture {manifest} {trace} {every}"),
+        } => {
+            let PictureOptions {
+                every,
+                width,
+                refused,
+                page,
+            } = drawing;
+            write!(words, "picture {manifest} {trace} {every} {width}")?;
+            push_flags(words, &[("refused", refused), ("page", page)])
+        }
     }
 }
 
@@ -193,8 +221,14 @@ ffaplay demo --verbose first.trace => demo first.trace --verbose
 ffaplay compare --tlb a --frames b c => compare a b c --frames --tlb
 ffaplay compare a b c --verbose => compare a b c --verbose
 ffaplay compare --explain a b c => compare a b c --explain
+ffaplay compare --names a --number b c => compare a b c --number --names
+ffaplay record --tlb row.toml first.trace => record row.toml first.trace --tlb
+ffaplay record row.toml - --verbose --frames => record row.toml - --frames --verbose
+ffaplay run row.toml first.trace --interactive => run row.toml first.trace --interactive --at-once
+ffaplay demo --interactive first.trace --number => demo first.trace --number --interactive --at-once
 ffaplay check --verbose row.toml => check row.toml --verbose
 ffaplay layout row.toml --verbose => layout row.toml --verbose
+ffaplay layout --regions row.toml => layout row.toml --regions
 ";
     check(&rt, rt.alloc(), rows)
 }
@@ -202,19 +236,27 @@ ffaplay layout row.toml --verbose => layout row.toml --verbose
 #[test]
 fn commands_that_write(rt: HostRuntime) -> Result<(), Fail> {
     let rows = "\
-ffaplay descriptor lend --tx 4002E000 --from 8001 --to 8002:rw --pages 40021000+1 => descriptor lend 4002E000 from 8001 to 8002:rw pages 40021000+1
-ffaplay descriptor relinquish --handle 100000001 --zero --tx=1000 --to 0 => descriptor relinquish 1000 to 0 handle 100000001 --zero
-ffaplay descriptor --compact retrieve --of lend --tag 7 --tx 0 => descriptor retrieve 0 tag 7 of lend --compact
+ffaplay descriptor lend --tx 4002E000 --from 8001 --to 8002:rw --pages 40021000+1 => descriptor lend tx 4002E000 from 8001 to 8002:rw pages 40021000+1
+ffaplay descriptor relinquish --handle 100000001 --zero --tx=1000 --to 0 => descriptor relinquish tx 1000 to 0 handle 100000001 --zero
+ffaplay descriptor --compact retrieve --of lend --tag 7 --tx 0 => descriptor retrieve tx 0 tag 7 of lend --compact
 ffaplay generate row.toml => generate row.toml 1 1000
 ffaplay generate --seed 18446744073709551615 --lines 0 row.toml => generate row.toml 18446744073709551615 0
 ffaplay generate - --count --lines 20000 --verbose => generate - 1 20000 --count --verbose
-ffaplay picture row.toml row.trace => picture row.toml row.trace 0
-ffaplay picture - --every 100 row.trace --verbose => picture - row.trace 100 --verbose
+ffaplay descriptor reclaim --handle 100000001 => descriptor reclaim handle 100000001
+ffaplay picture row.toml row.trace => picture row.toml row.trace 0 0
+ffaplay picture - --every 100 row.trace --verbose => picture - row.trace 100 0 --verbose
+ffaplay picture --page row.toml row.trace --refused --width 800 => picture row.toml row.trace 0 800 --refused --page
 ffaplay picture row.toml => MissingRequiredArgument
 ffaplay picture row.toml row.trace --every some => ValueValidation
-ffaplay descriptor lend --from 8001 => MissingRequiredArgument
+ffaplay descriptor --from 8001 => MissingRequiredArgument
 ffaplay descriptor lend --tx => InvalidValue
+ffaplay generate row.toml --seed 0xFFFFFFFFFFFFFFFF --lines 0x3e8 => generate row.toml 18446744073709551615 1000
+ffaplay picture row.toml row.trace --every 0x10 --width 0x400 => picture row.toml row.trace 16 1024
 ffaplay generate row.toml --lines ten => ValueValidation
+ffaplay generate row.toml --lines 0x => ValueValidation
+ffaplay generate row.toml --lines 1x10 => ValueValidation
+ffaplay generate row.toml --lines= => ValueValidation
+ffaplay generate row.toml --seed 0x10000000000000000 => ValueValidation
 ffaplay generate row.toml --seed 18446744073709551616 => ValueValidation
 ffaplay generate row.toml --strict => UnknownArgument
 ";
@@ -232,7 +274,9 @@ ffaplay compare row.toml first.trace => MissingRequiredArgument
 ffaplay demo a b => UnknownArgument
 ffaplay check --frames a => UnknownArgument
 ffaplay layout --tlb a => UnknownArgument
-ffaplay compare --number a b c => UnknownArgument
+ffaplay compare --line-buffered a b c => UnknownArgument
+ffaplay compare --interactive a b c => UnknownArgument
+ffaplay record --strict a b => UnknownArgument
 ffaplay compare --strict a b c => UnknownArgument
 ffaplay check --names a => UnknownArgument
 ffaplay check --explain a => UnknownArgument
@@ -244,9 +288,25 @@ ffaplay demo --names --names a => ArgumentConflict
 }
 
 #[test]
+fn flags_that_exclude_one_another(rt: HostRuntime) -> Result<(), Fail> {
+    let rows = "\
+ffaplay run a b --strict --interactive => ArgumentConflict
+ffaplay demo --interactive --strict b => ArgumentConflict
+";
+    check(&rt, rt.alloc(), rows)?;
+    let words = ["ffaplay", "demo", "--strict", "--interactive", "a"];
+    let text = text_for(rt.alloc(), &words, ErrorKind::ArgumentConflict)?;
+    let part =
+        "error: '--strict' ends a play that '--interactive' would have live on: give one of them\n";
+    has_parts(&rt, text.as_str(), part);
+    Ok(())
+}
+
+#[test]
 fn standard_input_twice(rt: HostRuntime) -> Result<(), Fail> {
     let rows = "\
 ffaplay run - - => ArgumentConflict
+ffaplay record - - => ArgumentConflict
 ffaplay compare - - c => ArgumentConflict
 ffaplay compare - b - => ArgumentConflict
 ffaplay compare a - - => ArgumentConflict
@@ -280,6 +340,17 @@ fn standard_input_twice_is_named(rt: HostRuntime) -> Result<(), Fail> {
 }
 
 #[test]
+fn a_word_that_is_no_number_is_named(rt: HostRuntime) -> Result<(), Fail> {
+    let words = [
+        "ffaplay", "generate", "--lines", "1000", "--seed", "1O", "a",
+    ];
+    let text = text_for(rt.alloc(), &words, ErrorKind::ValueValidation)?;
+    let part = "error: '--seed' takes a number below 2^64, as 1000 or 0x3E8\n";
+    has_parts(&rt, text.as_str(), part);
+    Ok(())
+}
+
+#[test]
 fn version_names_the_toolchain(rt: HostRuntime) -> Result<(), Fail> {
     let alloc = rt.alloc();
     let wanted = format!(in alloc; "ffaplay {VERSION} ({TOOLCHAIN})\n")?;
@@ -299,10 +370,11 @@ fn help_names_each_command(rt: HostRuntime) -> Result<(), Fail> {
 Usage: ffaplay <COMMAND>
 |  run         Plays a trace on the machine of a manifest
 |  demo        Plays a trace on the built-in machine
+|  record      Prints a trace with the guards of its own play on the machine of a manifest
 |  compare     Compares what a trace prints with what is expected
 |  check       Says whether a manifest is accepted
 |  layout      Prints where each endpoint's tables stand
-|  descriptor  Prints the lines of a trace that write a descriptor and make its call
+|  descriptor  Prints the lines of a trace that write a descriptor and make its call, or the call of a reclaim
 |  generate    Prints a trace for the machine of a manifest
 |  picture     Prints a picture, as SVG, of who reaches which page along a trace
 |
@@ -325,7 +397,7 @@ fn help_of_a_command_names_its_words(rt: HostRuntime) -> Result<(), Fail> {
 Usage: ffaplay run [OPTIONS] <manifest> <trace>
 |  <manifest>  The machine's manifest, a TOML file; - is standard input
 |  <trace>     The trace: a line for each operation; - is standard input
-|  --frames |  --tlb |  --line-buffered |  --number |  --names |  --explain |  --strict |  --verbose ";
+|  --frames |  --tlb |  --line-buffered |  --number |  --names |  --explain |  --strict |  --interactive |  --verbose ";
     has_parts(&rt, help.as_str(), parts);
     Ok(())
 }

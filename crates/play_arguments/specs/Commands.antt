@@ -1,21 +1,20 @@
 -- SPDX-License-Identifier: MIT OR Apache-2.0
 -- The command line of the program, and what its words ask for.
-use Rattle.std.specs.Prelude.{◌≡◌, ◌⊎◌, ◌∷◌, ℕ, ◌-◌, ◌^◌, List, [], Bool, true, false, ◌||◌, Option, Some, None, codes, if◌then◌else◌, nat_le, option_and_then, option_map}
-use Rattle.std.specs.List.{count_by}
+use Rattle.std.specs.Prelude.{◌≡◌, ◌⊎◌, ◌∷◌, ℕ, ◌^◌, List, [], drop, length, nat_eq, nat_lt, Bool, true, false, ◌||◌, ◌&&◌, not, Option, Some, None, codes, if◌then◌else◌, nat_le, option_and_then, option_map}
+use Rattle.std.specs.Char.{digit_value}
+use Rattle.std.specs.List.{count_by, list_all, starts_with}
 use Rattle.std.specs.Str.{bytes_eq}
 use Rattle.std.specs.Str.Parse.{digits_value, without_leading_plus}
 use Rattle.std.specs.Option.{option_map_or}
 use Rattle.clap.specs.Words.{App, HasKind, Row, Rule, Text, fault_of, first_of, new_app, new_rule, subcommand_of, with_rule, with_subcommand}
-use Rattle.clap.specs.ValueTests.{accepts}
 use Rattle.clap.specs.declared.builder.action.ArgAction.TheVariants.{Set, SetTrue}
-use Rattle.clap.specs.declared.builder.value_parser.ValueParser.{ValueParser}
-use Rattle.clap.specs.declared.builder.value_parser.ValueParser.TheVariants.{Unsigned}
 use Rattle.clap.specs.declared.error.Error.{Error}
 use Rattle.play_arguments.specs.declared.command_line.DescriptorWords.{DescriptorWords}
 use Rattle.play_arguments.specs.declared.command_line.MachineOptions.{MachineOptions}
+use Rattle.play_arguments.specs.declared.command_line.PictureOptions.{PictureOptions}
 use Rattle.play_arguments.specs.declared.command_line.TextOptions.{TextOptions}
 use Rattle.play_arguments.specs.declared.command_line.Request.{Request}
-use Rattle.play_arguments.specs.declared.command_line.Request.TheVariants.{Run, Demo, Compare, Check, Layout, Descriptor, Generate, Picture}
+use Rattle.play_arguments.specs.declared.command_line.Request.TheVariants.{Run, Demo, Record, Compare, Check, Layout, Descriptor, Generate, Picture}
 
 -- a path that has to be given
 abbrev pub path_rule : Text → Rule
@@ -25,18 +24,13 @@ path_rule id = record (new_rule id) { required = true }
 abbrev pub flag_rule : Text → Rule
 flag_rule id = record (new_rule id) { long = Some id; action = Some SetTrue }
 
--- a value behind its name, which has to be given or need not be
-abbrev pub value_rule : Text → Bool → Rule
-value_rule id needed = record (new_rule id) { long = Some id; action = Some Set; required = needed }
+-- a value behind its name, which need not be given
+abbrev pub value_rule : Text → Rule
+value_rule id = record (new_rule id) { long = Some id; action = Some Set }
 
--- the decimal numbers below 2^64
-abbrev pub numbers : ValueParser
-numbers = Unsigned 0 (2 ^ 64 - 1)
-
--- such a number behind its name, and the one that stands for it where none is given
+-- a number behind its name, and the one that stands for it where none is given
 abbrev pub number_rule : Text → Text → Rule
-number_rule id usual =
-    record (new_rule id) { long = Some id; action = Some Set; parser = Some numbers; defaults = usual ∷ [] }
+number_rule id usual = record (new_rule id) { long = Some id; action = Some Set; defaults = usual ∷ [] }
 
 abbrev pub with_manifest : App → App
 with_manifest app = with_rule app (path_rule (codes "manifest"))
@@ -54,44 +48,48 @@ with_flag id app = with_rule app (flag_rule id)
 abbrev pub with_machine_flags : App → App
 with_machine_flags app = with_flag (codes "tlb") (with_flag (codes "frames") app)
 
-abbrev pub with_explain : App → App
-with_explain app = with_flag (codes "explain") app
+-- what stands in a text: numbers of lines, names, and the reasons of refusals
+abbrev pub with_form_flags : App → App
+with_form_flags app = with_flag (codes "explain") (with_flag (codes "names") (with_flag (codes "number") app))
 
--- how the text is written: line by line, with numbers of lines, with names, and with the reasons of refusals
+-- how it is written: line by line, and with these
 abbrev pub with_text_flags : App → App
-with_text_flags app =
-    with_explain (with_flag (codes "names") (with_flag (codes "number") (with_flag (codes "line-buffered") app)))
+with_text_flags app = with_form_flags (with_flag (codes "line-buffered") app)
 
-abbrev pub with_strict : App → App
-with_strict app = with_flag (codes "strict") app
+-- where a play ends: at a guard that isn't met, and not at a bad line
+abbrev pub with_end_flags : App → App
+with_end_flags app = with_flag (codes "interactive") (with_flag (codes "strict") app)
 
 abbrev pub with_verbose : App → App
 with_verbose app = with_flag (codes "verbose") app
 
 unfoldable pub run_app : App
 run_app =
-    with_verbose (with_strict (with_text_flags (with_machine_flags (with_trace (with_manifest (new_app (codes "run")))))))
+    with_verbose (with_end_flags (with_text_flags (with_machine_flags (with_trace (with_manifest (new_app (codes "run")))))))
 
 unfoldable pub demo_app : App
-demo_app = with_verbose (with_strict (with_text_flags (with_machine_flags (with_trace (new_app (codes "demo"))))))
+demo_app = with_verbose (with_end_flags (with_text_flags (with_machine_flags (with_trace (new_app (codes "demo"))))))
+
+unfoldable pub record_app : App
+record_app = with_verbose (with_machine_flags (with_trace (with_manifest (new_app (codes "record")))))
 
 unfoldable pub compare_app : App
 compare_app =
     with_verbose
-    (with_explain (with_machine_flags (with_expected (with_trace (with_manifest (new_app (codes "compare")))))))
+    (with_form_flags (with_machine_flags (with_expected (with_trace (with_manifest (new_app (codes "compare")))))))
 
 unfoldable pub check_app : App
 check_app = with_verbose (with_manifest (new_app (codes "check")))
 
 unfoldable pub layout_app : App
-layout_app = with_verbose (with_manifest (new_app (codes "layout")))
+layout_app = with_verbose (with_flag (codes "regions") (with_manifest (new_app (codes "layout"))))
 
 -- what a descriptor is for and where TX stands, and what it is to hold
-abbrev pub with_place : App → App
-with_place app = with_rule (with_rule app (path_rule (codes "kind"))) (value_rule (codes "tx") true)
-
 abbrev pub with_optional : Text → App → App
-with_optional id app = with_rule app (value_rule id false)
+with_optional id app = with_rule app (value_rule id)
+
+abbrev pub with_place : App → App
+with_place app = with_optional (codes "tx") (with_rule app (path_rule (codes "kind")))
 
 abbrev pub with_pages : App → App
 with_pages app = with_optional (codes "pages") (with_optional (codes "to") (with_optional (codes "from") app))
@@ -115,10 +113,14 @@ with_size app = with_number (codes "lines") (codes "1000") (with_number (codes "
 unfoldable pub generate_app : App
 generate_app = with_verbose (with_flag (codes "count") (with_size (with_manifest (new_app (codes "generate")))))
 
--- which lines have a row
+-- which lines have a row, and what is drawn of them
+abbrev pub with_rows : App → App
+with_rows app =
+    with_flag (codes "refused") (with_number (codes "width") (codes "0") (with_number (codes "every") (codes "0") app))
+
 unfoldable pub picture_app : App
 picture_app =
-    with_verbose (with_number (codes "every") (codes "0") (with_trace (with_manifest (new_app (codes "picture")))))
+    with_verbose (with_flag (codes "page") (with_rows (with_trace (with_manifest (new_app (codes "picture"))))))
 
 -- the program, which has a version and has to be given a command
 unfoldable pub bare : App
@@ -128,7 +130,10 @@ bare =
 
 -- the program with its commands
 abbrev pub with_plays : App → App
-with_plays app = with_subcommand (with_subcommand (with_subcommand app run_app.top) demo_app.top) compare_app.top
+with_plays app = with_subcommand (with_subcommand app run_app.top) demo_app.top
+
+abbrev pub with_texts : App → App
+with_texts app = with_subcommand (with_subcommand app record_app.top) compare_app.top
 
 abbrev pub with_manifests : App → App
 with_manifests app = with_subcommand (with_subcommand app check_app.top) layout_app.top
@@ -137,12 +142,12 @@ abbrev pub with_writers : App → App
 with_writers app = with_subcommand (with_subcommand app descriptor_app.top) generate_app.top
 
 unfoldable pub program : App
-program = with_subcommand (with_writers (with_manifests (with_plays bare))) picture_app.top
+program = with_subcommand (with_writers (with_manifests (with_texts (with_plays bare)))) picture_app.top
 
 -- what a descriptor is to hold, in words
 pub record Described : Type 0 where
   pub kind : Text
-  pub tx : Text
+  pub tx : Option Text
   pub from : Option Text
   pub to : Option Text
   pub pages : Option Text
@@ -155,7 +160,7 @@ pub record Described : Type 0 where
 abbrev pub words_of : DescriptorWords → Described
 words_of w = record {
   kind = w.kind.now;
-  tx = w.tx.now;
+  tx = option_map (λ s. s.now) w.tx;
   from = option_map (λ s. s.now) w.from;
   to = option_map (λ s. s.now) w.to;
   pages = option_map (λ s. s.now) w.pages;
@@ -168,57 +173,63 @@ words_of w = record {
 
 -- a command with its paths and what its flags say
 pub data Ask : Type 0 where
-  run : Text → Text → MachineOptions → TextOptions → (strict verbose : Bool) → Ask
-  demo : Text → MachineOptions → TextOptions → (strict verbose : Bool) → Ask
-  compare : Text → Text → Text → MachineOptions → (explain verbose : Bool) → Ask
+  run : Text → Text → MachineOptions → TextOptions → (strict interactive verbose : Bool) → Ask
+  demo : Text → MachineOptions → TextOptions → (strict interactive verbose : Bool) → Ask
+  record_trace : Text → Text → MachineOptions → Bool → Ask
+  compare : Text → Text → Text → MachineOptions → TextOptions → Bool → Ask
   check : Text → Bool → Ask
-  layout : Text → Bool → Ask
+  layout : Text → (regions verbose : Bool) → Ask
   descriptor : Described → Ask
   generate : Text → (seed lines : ℕ) → (count verbose : Bool) → Ask
-  picture : Text → Text → (every : ℕ) → Bool → Ask
+  picture : Text → Text → PictureOptions → Bool → Ask
 
 abbrev pub ask_of : Request → Ask
-ask_of (Run manifest trace machine text strict verbose) = run manifest.now trace.now machine text strict verbose
-ask_of (Demo trace machine text strict verbose) = demo trace.now machine text strict verbose
-ask_of (Compare manifest trace expected machine explain verbose) =
-    compare manifest.now trace.now expected.now machine explain verbose
+ask_of (Run manifest trace machine text strict interactive verbose) =
+    run manifest.now trace.now machine text strict interactive verbose
+ask_of (Demo trace machine text strict interactive verbose) = demo trace.now machine text strict interactive verbose
+ask_of (Record manifest trace machine verbose) = record_trace manifest.now trace.now machine verbose
+ask_of (Compare manifest trace expected machine text verbose) =
+    compare manifest.now trace.now expected.now machine text verbose
 ask_of (Check manifest verbose) = check manifest.now verbose
-ask_of (Layout manifest verbose) = layout manifest.now verbose
+ask_of (Layout manifest regions verbose) = layout manifest.now regions verbose
 ask_of (Descriptor words) = descriptor (words_of words)
 ask_of (Generate manifest seed lines count verbose) = generate manifest.now seed lines count verbose
-ask_of (Picture manifest trace every verbose) = picture manifest.now trace.now every verbose
+ask_of (Picture manifest trace drawing verbose) = picture manifest.now trace.now drawing verbose
 
 -- the path of the manifest that is asked for, that of the trace, and that of the expected text
 abbrev pub manifest_of : Ask → Option Text
-manifest_of (run manifest trace machine text strict verbose) = Some manifest
-manifest_of (compare manifest trace expected machine explain verbose) = Some manifest
+manifest_of (run manifest trace machine text strict interactive verbose) = Some manifest
+manifest_of (record_trace manifest trace machine verbose) = Some manifest
+manifest_of (compare manifest trace expected machine text verbose) = Some manifest
 manifest_of (check manifest verbose) = Some manifest
-manifest_of (layout manifest verbose) = Some manifest
+manifest_of (layout manifest regions verbose) = Some manifest
 manifest_of (generate manifest seed lines count verbose) = Some manifest
-manifest_of (picture manifest trace every verbose) = Some manifest
+manifest_of (picture manifest trace drawing verbose) = Some manifest
 manifest_of _ = None
 
 abbrev pub trace_of : Ask → Option Text
-trace_of (run manifest trace machine text strict verbose) = Some trace
-trace_of (demo trace machine text strict verbose) = Some trace
-trace_of (compare manifest trace expected machine explain verbose) = Some trace
-trace_of (picture manifest trace every verbose) = Some trace
+trace_of (run manifest trace machine text strict interactive verbose) = Some trace
+trace_of (demo trace machine text strict interactive verbose) = Some trace
+trace_of (record_trace manifest trace machine verbose) = Some trace
+trace_of (compare manifest trace expected machine text verbose) = Some trace
+trace_of (picture manifest trace drawing verbose) = Some trace
 trace_of _ = None
 
 abbrev pub expected_of : Ask → Option Text
-expected_of (compare manifest trace expected machine explain verbose) = Some expected
+expected_of (compare manifest trace expected machine text verbose) = Some expected
 expected_of _ = None
 
 -- whether more is to be said of what is refused
 abbrev pub verbose_of : Ask → Bool
-verbose_of (run manifest trace machine text strict verbose) = verbose
-verbose_of (demo trace machine text strict verbose) = verbose
-verbose_of (compare manifest trace expected machine explain verbose) = verbose
+verbose_of (run manifest trace machine text strict interactive verbose) = verbose
+verbose_of (demo trace machine text strict interactive verbose) = verbose
+verbose_of (record_trace manifest trace machine verbose) = verbose
+verbose_of (compare manifest trace expected machine text verbose) = verbose
 verbose_of (check manifest verbose) = verbose
-verbose_of (layout manifest verbose) = verbose
+verbose_of (layout manifest regions verbose) = verbose
 verbose_of (descriptor words) = false
 verbose_of (generate manifest seed lines count verbose) = verbose
-verbose_of (picture manifest trace every verbose) = verbose
+verbose_of (picture manifest trace drawing verbose) = verbose
 
 -- whether a path is given and is `-`, which stands for standard input
 unfoldable pub is_input : Option Text → Bool
@@ -226,21 +237,42 @@ is_input path = option_map_or (λ p. bytes_eq p (codes "-")) path false
 
 -- whether each text is to be written before more of the trace is read
 abbrev pub answers_at_once : Ask → Bool
-answers_at_once (run manifest trace machine text strict verbose) = text.line_buffered || is_input (Some trace)
-answers_at_once (demo trace machine text strict verbose) = text.line_buffered || is_input (Some trace)
+answers_at_once (run manifest trace machine text strict interactive verbose) =
+    text.line_buffered || (interactive || is_input (Some trace))
+answers_at_once (demo trace machine text strict interactive verbose) =
+    text.line_buffered || (interactive || is_input (Some trace))
 answers_at_once _ = false
 
 -- standard input can be read once: at most one of the paths is `-`
 unfoldable pub reads_once : Ask → Bool
 reads_once ask = nat_le (count_by is_input (manifest_of ask ∷ trace_of ask ∷ expected_of ask ∷ [])) 1
 
+-- flags that exclude one another: a play that ends at a guard that isn't met, and one that lives on
+abbrev pub excludes_none : Ask → Bool
+excludes_none (run manifest trace machine text strict interactive verbose) = not (strict && interactive)
+excludes_none (demo trace machine text strict interactive verbose) = not (strict && interactive)
+excludes_none _ = true
+
 -- whether a flag was given
 abbrev pub is_given : Text → List Row → Bool
 is_given id rows = option_map_or (λ value. bytes_eq value (codes "true")) (first_of id rows) false
 
--- the number that decimal digits write, where it is below 2^64
+-- one digit of a base or more, and nothing else
+abbrev pub are_digits : ℕ → Text → Bool
+are_digits base text = nat_lt 0 (length text) && list_all (λ d. nat_lt (digit_value d) base) text
+
+-- the number that digits of a base write, before which a plus may stand, where it is below 2^64
+abbrev pub numeral_of : ℕ → Text → Option ℕ
+numeral_of base text =
+    let digits = without_leading_plus text in
+    if are_digits base digits && nat_lt (digits_value base digits) (2 ^ 64)
+    then Some (digits_value base digits)
+    else None
+
+-- the number that a word writes: hexadecimal digits behind 0x, and else decimal ones
 unfoldable pub number_of : Text → Option ℕ
-number_of text = if accepts false numbers text then Some (digits_value 10 (without_leading_plus text)) else None
+number_of text =
+    if starts_with nat_eq text (codes "0x") then numeral_of 16 (drop 2 text) else numeral_of 10 text
 
 -- what the flags of a command say
 unfoldable pub machine_in : List Row → MachineOptions
@@ -268,19 +300,27 @@ unfoldable pub run_in : List Row → Option Ask
 run_in rows = do
   manifest ← first_of (codes "manifest") rows
   trace ← first_of (codes "trace") rows
-  Some (run manifest trace (machine_in rows) (text_in rows) (is_given (codes "strict") rows) (is_given (codes "verbose") rows))
+  Some (run manifest trace (machine_in rows) (text_in rows)
+      (is_given (codes "strict") rows) (is_given (codes "interactive") rows) (is_given (codes "verbose") rows))
 
 unfoldable pub demo_in : List Row → Option Ask
 demo_in rows = do
   trace ← first_of (codes "trace") rows
-  Some (demo trace (machine_in rows) (text_in rows) (is_given (codes "strict") rows) (is_given (codes "verbose") rows))
+  Some (demo trace (machine_in rows) (text_in rows)
+      (is_given (codes "strict") rows) (is_given (codes "interactive") rows) (is_given (codes "verbose") rows))
+
+unfoldable pub record_in : List Row → Option Ask
+record_in rows = do
+  manifest ← first_of (codes "manifest") rows
+  trace ← first_of (codes "trace") rows
+  Some (record_trace manifest trace (machine_in rows) (is_given (codes "verbose") rows))
 
 unfoldable pub compare_in : List Row → Option Ask
 compare_in rows = do
   manifest ← first_of (codes "manifest") rows
   trace ← first_of (codes "trace") rows
   expected ← first_of (codes "expected") rows
-  Some (compare manifest trace expected (machine_in rows) (is_given (codes "explain") rows) (is_given (codes "verbose") rows))
+  Some (compare manifest trace expected (machine_in rows) (text_in rows) (is_given (codes "verbose") rows))
 
 unfoldable pub check_in : List Row → Option Ask
 check_in rows = do
@@ -290,12 +330,12 @@ check_in rows = do
 unfoldable pub layout_in : List Row → Option Ask
 layout_in rows = do
   manifest ← first_of (codes "manifest") rows
-  Some (layout manifest (is_given (codes "verbose") rows))
+  Some (layout manifest (is_given (codes "regions") rows) (is_given (codes "verbose") rows))
 
-unfoldable pub words_in : List Row → (kind tx : Text) → Described
-words_in rows kind tx = record {
+unfoldable pub words_in : List Row → (kind : Text) → Described
+words_in rows kind = record {
   kind = kind;
-  tx = tx;
+  tx = first_of (codes "tx") rows;
   from = first_of (codes "from") rows;
   to = first_of (codes "to") rows;
   pages = first_of (codes "pages") rows;
@@ -309,8 +349,7 @@ words_in rows kind tx = record {
 unfoldable pub descriptor_in : List Row → Option Ask
 descriptor_in rows = do
   kind ← first_of (codes "kind") rows
-  tx ← first_of (codes "tx") rows
-  Some (descriptor (words_in rows kind tx))
+  Some (descriptor (words_in rows kind))
 
 unfoldable pub generate_in : List Row → Option Ask
 generate_in rows = do
@@ -319,17 +358,29 @@ generate_in rows = do
   lines ← number_in (codes "lines") rows
   Some (generate manifest seed lines (is_given (codes "count") rows) (is_given (codes "verbose") rows))
 
+unfoldable pub drawing_in : List Row → Option PictureOptions
+drawing_in rows = do
+  every ← number_in (codes "every") rows
+  width ← number_in (codes "width") rows
+  Some (record {
+    every = every;
+    width = width;
+    refused = is_given (codes "refused") rows;
+    page = is_given (codes "page") rows;
+  })
+
 unfoldable pub picture_in : List Row → Option Ask
 picture_in rows = do
   manifest ← first_of (codes "manifest") rows
   trace ← first_of (codes "trace") rows
-  every ← number_in (codes "every") rows
-  Some (picture manifest trace every (is_given (codes "verbose") rows))
+  drawing ← drawing_in rows
+  Some (picture manifest trace drawing (is_given (codes "verbose") rows))
 
 unfoldable pub ask_in : Text → List Row → Option Ask
 ask_in name rows =
     if bytes_eq name (codes "run") then run_in rows
     else if bytes_eq name (codes "demo") then demo_in rows
+    else if bytes_eq name (codes "record") then record_in rows
     else if bytes_eq name (codes "compare") then compare_in rows
     else if bytes_eq name (codes "check") then check_in rows
     else if bytes_eq name (codes "layout") then layout_in rows
@@ -342,9 +393,9 @@ ask_in name rows =
 abbrev pub ask_met : Option (Text × List Row) → Option Ask
 ask_met met = option_and_then (λ command. ask_in command.0 command.1) met
 
--- what is named is asked for, where standard input can be read as often as it names it
+-- what is named is asked for, where standard input can be read as often as it names it, and its flags go together
 abbrev pub asked_for : Ask → Option Ask
-asked_for ask = if reads_once ask then Some ask else None
+asked_for ask = if reads_once ask && excludes_none ask then Some ask else None
 
 abbrev pub asked_in : Option (Text × List Row) → Option Ask
 asked_in met = option_and_then asked_for (ask_met met)

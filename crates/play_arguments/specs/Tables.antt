@@ -12,7 +12,7 @@ use Rattle.play_arguments.specs.declared.program.Word.TheVariants.{Path, Flag, V
 abbrev pub rule_for : Word → Rule
 rule_for (Path id help) = path_rule id.now
 rule_for (Flag id help) = flag_rule id.now
-rule_for (Value id help needed) = value_rule id.now needed
+rule_for (Value id help) = value_rule id.now
 rule_for (Number id help usual) = number_rule id.now usual.now
 
 -- the command with these words

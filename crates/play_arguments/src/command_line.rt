@@ -1,10 +1,31 @@
 // SPDX-License-Identifier: MIT OR Apache-2.0
 //! What the command line asks for.
-ghost use Rattle.std.specs.Prelude.{◌≡◌, option_map};
+ghost use Rattle.std.specs.Prelude.{◌≡◌, option_map, codes, drop, nat_eq, true};
+ghost use Rattle.std.specs.List.{starts_with};
 ghost use Rattle.clap.specs.Words.{found_of, first_of, rows_of, subcommand_rows_of};
-ghost use Rattle.play_arguments.specs.Commands.{ask_of, words_of, manifest_of, trace_of, expected_of, verbose_of, answers_at_once, is_input, reads_once, asked_in, is_given, number_of, machine_in, text_in, words_in, ask_in, ask_met, number_in, run_in, demo_in, compare_in, check_in, layout_in, descriptor_in, generate_in, picture_in};
+ghost use Rattle.play_arguments.specs.Commands.{ask_of, words_of, manifest_of, trace_of, expected_of, verbose_of, answers_at_once, is_input, reads_once, asked_in, is_given, number_of, numeral_of, machine_in, text_in, words_in, ask_in, ask_met, number_in, run_in, demo_in, record_in, compare_in, check_in, layout_in, descriptor_in, generate_in, picture_in, drawing_in, excludes_none};
 
 use clap::ArgMatches;
+
+// The words that are numbers, with what they take.
+const NUMBERS: [(&str, &str); 4] = [
+    (
+        "seed",
+        "'--seed' takes a number below 2^64, as 1000 or 0x3E8",
+    ),
+    (
+        "lines",
+        "'--lines' takes a number below 2^64, as 1000 or 0x3E8",
+    ),
+    (
+        "every",
+        "'--every' takes a number below 2^64, as 1000 or 0x3E8",
+    ),
+    (
+        "width",
+        "'--width' takes a number below 2^64, as 1000 or 0x3E8",
+    ),
+];
 
 /// The word that stands for standard input in a path's place.
 pub const STANDARD_INPUT: &str = "-";
@@ -36,8 +57,8 @@ pub struct TextOptions {
 pub struct DescriptorWords<'a> {
     /// What the descriptor is for: a call on memory, by the last word of its name.
     pub kind: &'a str,
-    /// Where TX stands.
-    pub tx: &'a str,
+    /// Where TX stands, which a reclaim needn't say.
+    pub tx: Option<&'a str>,
     /// The transaction's sender.
     pub from: Option<&'a str>,
     /// The transaction's receivers, each with its right.
@@ -54,11 +75,24 @@ pub struct DescriptorWords<'a> {
     pub compact: bool,
 }
 
+/// What a picture is to show, and how.
+#[derive(Clone, Copy, PartialEq, Eq)]
+pub struct PictureOptions {
+    /// Each line whose number is a multiple of this one has a row; where it is 0, those that change the certificate.
+    pub every: u64,
+    /// How many pixels it is wide at most; where it is 0, as many as its columns take.
+    pub width: u64,
+    /// Calls that are refused have a row, too.
+    pub refused: bool,
+    /// It is a page to look at operation by operation, in place of an SVG.
+    pub page: bool,
+}
+
 /// A command with its paths, which are words of the command line, and what its flags say.
 ///
-/// At most one of its paths is `STANDARD_INPUT`. Where `strict` is set, the trace's guards are checked. Where `explain` is set, a
-/// difference is told with why the operation is refused at which it is. Where `verbose` is set, more is said on standard error
-/// of what is refused.
+/// At most one of its paths is `STANDARD_INPUT`. Where `strict` is set, the trace's guards are checked; where `interactive` is
+/// set, a bad line is told and the play goes on; at most one of them is. Where `verbose` is set, more is said on standard error of
+/// what is refused.
 #[derive(Clone, Copy)]
 pub enum Request<'a> {
     /// To play a trace on the machine of a manifest.
@@ -68,6 +102,7 @@ pub enum Request<'a> {
         machine: MachineOptions,
         text: TextOptions,
         strict: bool,
+        interactive: bool,
         verbose: bool,
     },
     /// To play a trace on the built-in machine.
@@ -76,15 +111,24 @@ pub enum Request<'a> {
         machine: MachineOptions,
         text: TextOptions,
         strict: bool,
+        interactive: bool,
         verbose: bool,
     },
-    /// To compare what a trace prints on the machine of a manifest with what is expected.
+    /// To print a trace with the guards of its own play on the machine of a manifest.
+    Record {
+        manifest: &'a str,
+        trace: &'a str,
+        machine: MachineOptions,
+        verbose: bool,
+    },
+    /// To compare what a trace prints on the machine of a manifest with what is expected. A difference is told with why the
+    /// operation is refused at which it is, where reasons are asked for.
     Compare {
         manifest: &'a str,
         trace: &'a str,
         expected: &'a str,
         machine: MachineOptions,
-        explain: bool,
+        text: TextOptions,
         verbose: bool,
     },
     /// To say whether a manifest is accepted.
@@ -92,9 +136,10 @@ pub enum Request<'a> {
         manifest: &'a str,
         verbose: bool,
     },
-    /// To print where the tables of a manifest's machine stand.
+    /// To print where the tables of a manifest's machine stand, and where that is asked for its regions and RAM.
     Layout {
         manifest: &'a str,
+        regions: bool,
         verbose: bool,
     },
     /// To print the lines of a trace that write a descriptor and make its call.
@@ -109,12 +154,11 @@ pub enum Request<'a> {
         count: bool,
         verbose: bool,
     },
-    /// To print a picture of who reaches which page along a trace on the machine of a manifest: with a row for each line whose
-    /// number is a multiple of `every`, or where that is 0 for each line that changes the certificate.
+    /// To print a picture of who reaches which page along a trace on the machine of a manifest.
     Picture {
         manifest: &'a str,
         trace: &'a str,
-        every: u64,
+        drawing: PictureOptions,
         verbose: bool,
     },
 }
@@ -126,6 +170,7 @@ impl<'a> Request<'a> {
     {
         match *self {
             Request::Run { manifest, .. }
+            | Request::Record { manifest, .. }
             | Request::Compare { manifest, .. }
             | Request::Check { manifest, .. }
             | Request::Layout { manifest, .. }
@@ -142,6 +187,7 @@ impl<'a> Request<'a> {
         match *self {
             Request::Run { trace, .. }
             | Request::Demo { trace, .. }
+            | Request::Record { trace, .. }
             | Request::Compare { trace, .. }
             | Request::Picture { trace, .. } => Some(trace),
             Request::Check { .. }
@@ -168,6 +214,7 @@ impl<'a> Request<'a> {
         match *self {
             Request::Run { verbose, .. }
             | Request::Demo { verbose, .. }
+            | Request::Record { verbose, .. }
             | Request::Compare { verbose, .. }
             | Request::Check { verbose, .. }
             | Request::Layout { verbose, .. }
@@ -178,16 +225,26 @@ impl<'a> Request<'a> {
     }
 
     /// Whether the text of each line is to be written before more of the trace is read: where the trace is standard input,
-    /// since who writes it may wait for the answer, and where that is asked for.
+    /// since who writes it may wait for the answer, where the play is interactive, and where that is asked for.
     #[tactic(auto, unfolding(crate::specs::Commands::is_input))]
     pub fn answers_at_once(&self) -> bool
         ensures { result ≡ answers_at_once (ask_of self.now) }
     {
         match *self {
-            Request::Run { trace, text, .. } | Request::Demo { trace, text, .. } => {
-                text.line_buffered || is_input(Some(trace))
+            Request::Run {
+                trace,
+                text,
+                interactive,
+                ..
             }
-            Request::Compare { .. }
+            | Request::Demo {
+                trace,
+                text,
+                interactive,
+                ..
+            } => text.line_buffered || interactive || is_input(Some(trace)),
+            Request::Record { .. }
+            | Request::Compare { .. }
             | Request::Check { .. }
             | Request::Layout { .. }
             | Request::Descriptor { .. }
@@ -196,15 +253,34 @@ impl<'a> Request<'a> {
         }
     }
 
-    // Whether at most one of the paths is standard input, which can be read once only.
+    /// Whether at most one of the paths is standard input, which can be read once only.
     #[tactic(auto, unfolding(crate::specs::Commands::reads_once))]
-    fn reads_once(&self) -> bool
+    pub(crate) fn reads_once(&self) -> bool
         ensures { result ≡ reads_once (ask_of self.now) }
     {
         let manifest = is_input(self.manifest());
         let trace = is_input(self.trace());
         let expected = is_input(self.expected());
         u8::from(manifest) + u8::from(trace) + u8::from(expected) <= 1
+    }
+
+    // Whether its flags go together: a play that ends at the first guard that isn't met isn't one that lives on.
+    fn excludes_none(&self) -> bool
+        ensures { result ≡ excludes_none (ask_of self.now) }
+    {
+        match *self {
+            Request::Run {
+                strict,
+                interactive,
+                ..
+            }
+            | Request::Demo {
+                strict,
+                interactive,
+                ..
+            } => !(strict && interactive),
+            _ => true,
+        }
     }
 }
 
@@ -228,11 +304,45 @@ fn is_given(matches: &ArgMatches<'_>, id: &str) -> bool
     text_of(matches, id) == Some("true")
 }
 
-// The decimal number that a text writes.
+// The number that a text writes, which is hexadecimal behind 0x.
+#[tactic(auto, unfolding(crate::specs::Commands::number_of))]
 fn read_number(text: &str) -> Option<u64>
     ensures { result ≡ number_of text.now }
 {
+    match text.as_bytes() {
+        [b'0', b'x', ..] => read_hexadecimal(text),
+        _ => read_decimal(text),
+    }
+}
+
+fn read_decimal(text: &str) -> Option<u64>
+    ensures { result ≡ numeral_of 10 text.now }
+{
     text.parse().ok()
+}
+
+// The number that is written behind the first x.
+fn read_hexadecimal(text: &str) -> Option<u64>
+    requires { starts_with nat_eq text.now (codes "0x") ≡ true }
+    ensures { result ≡ numeral_of 16 (drop 2 text.now) }
+{
+    match text.split_once('x') {
+        Some((_, digits)) => u64::from_str_radix(digits, 16).ok(),
+        None => None,
+    }
+}
+
+/// What is wanted of the first word that is no number where one has to be.
+pub(crate) fn unread_number(matches: &ArgMatches<'_>) -> Option<&'static str> {
+    let (_, inner) = matches.subcommand()?;
+    for (id, wanted) in NUMBERS {
+        if let Some(text) = text_of(inner, id)
+            && read_number(text).is_none()
+        {
+            return Some(wanted);
+        }
+    }
+    None
 }
 
 // The number that was given, or that stands for one that wasn't.
@@ -276,6 +386,7 @@ fn run_in<'a>(matches: &ArgMatches<'a>) -> Option<Request<'a>>
         machine: machine_in(matches),
         text: text_in(matches),
         strict: is_given(matches, "strict"),
+        interactive: is_given(matches, "interactive"),
         verbose: is_given(matches, "verbose"),
     })
 }
@@ -290,6 +401,21 @@ fn demo_in<'a>(matches: &ArgMatches<'a>) -> Option<Request<'a>>
         machine: machine_in(matches),
         text: text_in(matches),
         strict: is_given(matches, "strict"),
+        interactive: is_given(matches, "interactive"),
+        verbose: is_given(matches, "verbose"),
+    })
+}
+
+#[tactic(auto, unfolding(crate::specs::Commands::record_in))]
+fn record_in<'a>(matches: &ArgMatches<'a>) -> Option<Request<'a>>
+    ensures { option_map ask_of result ≡ record_in (rows_of (found_of matches.now)) }
+{
+    let manifest = text_of(matches, "manifest")?;
+    let trace = text_of(matches, "trace")?;
+    Some(Request::Record {
+        manifest,
+        trace,
+        machine: machine_in(matches),
         verbose: is_given(matches, "verbose"),
     })
 }
@@ -306,7 +432,7 @@ fn compare_in<'a>(matches: &ArgMatches<'a>) -> Option<Request<'a>>
         trace,
         expected,
         machine: machine_in(matches),
-        explain: is_given(matches, "explain"),
+        text: text_in(matches),
         verbose: is_given(matches, "verbose"),
     })
 }
@@ -325,17 +451,20 @@ fn layout_in<'a>(matches: &ArgMatches<'a>) -> Option<Request<'a>>
     ensures { option_map ask_of result ≡ layout_in (rows_of (found_of matches.now)) }
 {
     let manifest = text_of(matches, "manifest")?;
-    let verbose = is_given(matches, "verbose");
-    Some(Request::Layout { manifest, verbose })
+    Some(Request::Layout {
+        manifest,
+        regions: is_given(matches, "regions"),
+        verbose: is_given(matches, "verbose"),
+    })
 }
 
 #[tactic(auto, unfolding(crate::specs::Commands::words_in))]
-fn words_in<'a>(matches: &ArgMatches<'a>, kind: &'a str, tx: &'a str) -> DescriptorWords<'a>
-    ensures { words_of result ≡ words_in (rows_of (found_of matches.now)) kind.entry.now tx.entry.now }
+fn words_in<'a>(matches: &ArgMatches<'a>, kind: &'a str) -> DescriptorWords<'a>
+    ensures { words_of result ≡ words_in (rows_of (found_of matches.now)) kind.entry.now }
 {
     DescriptorWords {
         kind,
-        tx,
+        tx: text_of(matches, "tx"),
         from: text_of(matches, "from"),
         to: text_of(matches, "to"),
         pages: text_of(matches, "pages"),
@@ -352,8 +481,7 @@ fn descriptor_in<'a>(matches: &ArgMatches<'a>) -> Option<Request<'a>>
     ensures { option_map ask_of result ≡ descriptor_in (rows_of (found_of matches.now)) }
 {
     let kind = text_of(matches, "kind")?;
-    let tx = text_of(matches, "tx")?;
-    let words = words_in(matches, kind, tx);
+    let words = words_in(matches, kind);
     Some(Request::Descriptor { words })
 }
 
@@ -373,17 +501,31 @@ fn generate_in<'a>(matches: &ArgMatches<'a>) -> Option<Request<'a>>
     })
 }
 
+#[tactic(auto, unfolding(crate::specs::Commands::drawing_in))]
+fn drawing_in(matches: &ArgMatches<'_>) -> Option<PictureOptions>
+    ensures { result ≡ drawing_in (rows_of (found_of matches.now)) }
+{
+    let every = number_in(matches, "every")?;
+    let width = number_in(matches, "width")?;
+    Some(PictureOptions {
+        every,
+        width,
+        refused: is_given(matches, "refused"),
+        page: is_given(matches, "page"),
+    })
+}
+
 #[tactic(auto, unfolding(crate::specs::Commands::picture_in))]
 fn picture_in<'a>(matches: &ArgMatches<'a>) -> Option<Request<'a>>
     ensures { option_map ask_of result ≡ picture_in (rows_of (found_of matches.now)) }
 {
     let manifest = text_of(matches, "manifest")?;
     let trace = text_of(matches, "trace")?;
-    let every = number_in(matches, "every")?;
+    let drawing = drawing_in(matches)?;
     Some(Request::Picture {
         manifest,
         trace,
-        every,
+        drawing,
         verbose: is_given(matches, "verbose"),
     })
 }
@@ -396,6 +538,8 @@ fn request_in<'a>(name: &str, matches: &ArgMatches<'a>) -> Option<Request<'a>>
         run_in(matches)
     } else if name == "demo" {
         demo_in(matches)
+    } else if name == "record" {
+        record_in(matches)
     } else if name == "compare" {
         compare_in(matches)
     } else if name == "check" {
@@ -413,7 +557,8 @@ fn request_in<'a>(name: &str, matches: &ArgMatches<'a>) -> Option<Request<'a>>
     }
 }
 
-/// What the matches of the program's command line name, however often that reads standard input.
+/// What the matches of the program's command line name, however often that reads standard input, and whether its flags go
+/// together or not.
 pub(crate) fn request_of<'a>(matches: &ArgMatches<'a>) -> Option<Request<'a>>
     ensures { option_map ask_of result ≡ ask_met (subcommand_rows_of matches.now) }
 {
@@ -421,9 +566,10 @@ pub(crate) fn request_of<'a>(matches: &ArgMatches<'a>) -> Option<Request<'a>>
     request_in(name, inner)
 }
 
-/// What the matches of the program's command line ask for, where that reads standard input once at most.
+/// What the matches of the program's command line ask for, where that reads standard input once at most and its flags go
+/// together.
 pub(crate) fn fit_request_of<'a>(matches: &ArgMatches<'a>) -> Option<Request<'a>>
     ensures { option_map ask_of result ≡ asked_in (subcommand_rows_of matches.now) }
 {
-    request_of(matches).filter(|request| request.reads_once())
+    request_of(matches).filter(|request| request.reads_once() && request.excludes_none())
 }

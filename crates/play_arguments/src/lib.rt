@@ -11,7 +11,9 @@ mod program;
 
 pub use clap::error::ErrorKind;
 use clap::{ArgMatches, Command, Error};
-pub use command_line::{DescriptorWords, MachineOptions, Request, STANDARD_INPUT, TextOptions};
+pub use command_line::{
+    DescriptorWords, MachineOptions, PictureOptions, Request, STANDARD_INPUT, TextOptions,
+};
 pub use program::{TOOLCHAIN, VERSION};
 use std::alloc::{AllocError, Global};
 
@@ -19,7 +21,8 @@ use std::alloc::{AllocError, Global};
 ///
 /// An error with the kind `OutOfMemory` is want of memory, whatever the words are. One with the kind `DisplayHelp` has
 /// the help that was asked for, and one with the kind `DisplayVersion` the version. Any other says what is wrong with
-/// the words: that of `STANDARD_INPUT` in the place of two paths has the kind `ArgumentConflict`.
+/// the words: that of `STANDARD_INPUT` in the place of two paths, and that of flags that exclude one another, have the kind
+/// `ArgumentConflict`.
 pub fn request<'a>(alloc: Global, words: &'a [&'a str]) -> Result<Request<'a>, Error>
     // The command, its paths and its flags are clap's matches of the words.
     ensures asked { IfOk result (λ r. asked_by (map (λ w. w.now) words.entry.now) ≡ Some (ask_of r)) }
@@ -58,8 +61,15 @@ fn read_matches<'a>(
 // What is wrong with words in which `clap` finds no fault, and which ask for nothing.
 fn refusal(command: &mut Command<'_>, matches: &ArgMatches<'_>) -> Result<Error, AllocError> {
     let twice = "'-' stands for standard input, which can be given once only";
+    let flags = "'--strict' ends a play that '--interactive' would have live on: give one of them";
     match command_line::request_of(matches) {
+        Some(request) if request.reads_once() => {
+            command.error(ErrorKind::ArgumentConflict, flags)
+        }
         Some(_) => command.error(ErrorKind::ArgumentConflict, twice),
-        None => command.error(ErrorKind::MissingSubcommand, "no command was given"),
+        None => match command_line::unread_number(matches) {
+            Some(wanted) => command.error(ErrorKind::ValueValidation, wanted),
+            None => command.error(ErrorKind::MissingSubcommand, "no command was given"),
+        },
     }
 }

@@ -6,7 +6,6 @@ ghost use Rattle.clap.specs.declared.builder.command.Command.TheViews.{out-Comma
 ghost use Rattle.play_arguments.specs.Commands.{bare, program};
 ghost use Rattle.play_arguments.specs.Tables.{rule_for, with_words, with_commands, app_for};
 
-use clap::builder::ValueParser;
 use clap::{Arg, ArgAction, Command};
 use std::alloc::{AllocError, Global};
 
@@ -43,13 +42,12 @@ enum Word<'a> {
         id: &'a str,
         help: &'a str,
     },
-    // A value, which is given behind its name, and may be left out where it isn't needed.
+    // A value, which may be given behind its name.
     Value {
         id: &'a str,
         help: &'a str,
-        needed: bool,
     },
-    // A decimal number below 2^64, which may be given behind its name, and which stands for it otherwise.
+    // A number below 2^64, which may be given behind its name, and which stands for it otherwise.
     Number {
         id: &'a str,
         help: &'a str,
@@ -115,6 +113,11 @@ const STRICT: Word = Word::Flag {
     help: "Checks guards: `#= TEXT`, which the line before prints, and `#@ ENDPOINT`, which runs",
 };
 
+const INTERACTIVE: Word = Word::Flag {
+    id: "interactive",
+    help: "Tells of a bad line, and goes on; writes the text of each line at once",
+};
+
 const VERBOSE: Word = Word::Flag {
     id: "verbose",
     help: "Says more on standard error of what is refused",
@@ -133,6 +136,7 @@ const RUN: Entry = Entry {
         NAMES,
         EXPLAIN,
         STRICT,
+        INTERACTIVE,
         VERBOSE,
     ],
 };
@@ -149,14 +153,23 @@ const DEMO: Entry = Entry {
         NAMES,
         EXPLAIN,
         STRICT,
+        INTERACTIVE,
         VERBOSE,
     ],
+};
+
+const RECORD: Entry = Entry {
+    name: "record",
+    about: "Prints a trace with the guards of its own play on the machine of a manifest",
+    words: &[MANIFEST, TRACE, FRAMES, TLB, VERBOSE],
 };
 
 const COMPARE: Entry = Entry {
     name: "compare",
     about: "Compares what a trace prints with what is expected",
-    words: &[MANIFEST, TRACE, EXPECTED, FRAMES, TLB, EXPLAIN, VERBOSE],
+    words: &[
+        MANIFEST, TRACE, EXPECTED, FRAMES, TLB, NUMBER, NAMES, EXPLAIN, VERBOSE,
+    ],
 };
 
 const CHECK: Entry = Entry {
@@ -165,62 +178,60 @@ const CHECK: Entry = Entry {
     words: &[MANIFEST, VERBOSE],
 };
 
+const REGIONS: Word = Word::Flag {
+    id: "regions",
+    help: "Prints the regions, the first page behind the tables and the end of RAM, too",
+};
+
 const LAYOUT: Entry = Entry {
     name: "layout",
     about: "Prints where each endpoint's tables stand",
-    words: &[MANIFEST, VERBOSE],
+    words: &[MANIFEST, REGIONS, VERBOSE],
 };
 
 const KIND: Word = Word::Path {
     id: "kind",
-    help: "What it is for: donate, lend, share, retrieve or relinquish",
+    help: "What it is for: donate, lend, share, retrieve, relinquish or reclaim",
 };
 
 const TX_ADDRESS: Word = Word::Value {
     id: "tx",
-    help: "The address of TX of the endpoint that calls, as 4002E000",
-    needed: true,
+    help: "The address of TX of the endpoint that calls, as 4002E000; a reclaim needs none",
 };
 
 const FROM: Word = Word::Value {
     id: "from",
     help: "The transaction's sender, as 8001",
-    needed: false,
 };
 
 const TO: Word = Word::Value {
     id: "to",
-    help: "Its receivers, each with its right: 8002:rw,8003:ro",
-    needed: false,
+    help: "Its receivers, each with the right that a lend or a share grants or a retrieve asks for: 8002:rw,8003:ro",
 };
 
 const PAGES: Word = Word::Value {
     id: "pages",
-    help: "Its ranges, each with how many pages, in hexadecimal: 40021000+1,40025000+2",
-    needed: false,
+    help: "Its ranges, each with how many pages, in hexadecimal, with 0x or without: 40021000+1,40025000+2",
 };
 
 const HANDLE: Word = Word::Value {
     id: "handle",
-    help: "The handle of what is retrieved or relinquished, as 0000800100000001",
-    needed: false,
+    help: "The handle of what is retrieved, relinquished or reclaimed, as 0000800100000001",
 };
 
 const TAG: Word = Word::Value {
     id: "tag",
     help: "The tag; 0 where it isn't given",
-    needed: false,
 };
 
 const OF: Word = Word::Value {
     id: "of",
     help: "The kind of what is retrieved: share, lend or donate; left open where it isn't given",
-    needed: false,
 };
 
 const ZERO: Word = Word::Flag {
     id: "zero",
-    help: "Asks for zeroed pages",
+    help: "Zeroes the pages as they are donated, lent, relinquished or reclaimed",
 };
 
 const COMPACT: Word = Word::Flag {
@@ -247,7 +258,7 @@ const COUNT: Word = Word::Flag {
 
 const DESCRIPTOR: Entry = Entry {
     name: "descriptor",
-    about: "Prints the lines of a trace that write a descriptor and make its call",
+    about: "Prints the lines of a trace that write a descriptor and make its call, or the call of a reclaim",
     words: &[
         KIND, TX_ADDRESS, FROM, TO, PAGES, HANDLE, TAG, OF, ZERO, COMPACT,
     ],
@@ -265,10 +276,26 @@ const EVERY: Word = Word::Number {
     usual: "0",
 };
 
+const WIDTH: Word = Word::Number {
+    id: "width",
+    help: "The width in pixels that it is to fit; with 0 as its columns take it",
+    usual: "0",
+};
+
+const REFUSED: Word = Word::Flag {
+    id: "refused",
+    help: "A row for each call that is refused, too",
+};
+
+const PAGE: Word = Word::Flag {
+    id: "page",
+    help: "Prints a page of HTML to look at line by line, in place of an SVG",
+};
+
 const PICTURE: Entry = Entry {
     name: "picture",
     about: "Prints a picture, as SVG, of who reaches which page along a trace",
-    words: &[MANIFEST, TRACE, EVERY, VERBOSE],
+    words: &[MANIFEST, TRACE, EVERY, WIDTH, REFUSED, PAGE, VERBOSE],
 };
 
 fn arg<'a>(alloc: Global, word: &Word<'a>) -> Arg<'a>
@@ -281,15 +308,13 @@ fn arg<'a>(alloc: Global, word: &Word<'a>) -> Arg<'a>
             .long(id)
             .action(ArgAction::SetTrue)
             .help(help),
-        Word::Value { id, help, needed } => Arg::new(alloc, id)
+        Word::Value { id, help } => Arg::new(alloc, id)
             .long(id)
             .action(ArgAction::Set)
-            .required(needed)
             .help(help),
         Word::Number { id, help, usual } => Arg::new(alloc, id)
             .long(id)
             .action(ArgAction::Set)
-            .value_parser(ValueParser::unsigned(0, u64::MAX))
             .default_value(usual)
             .help(help),
     }
@@ -347,14 +372,14 @@ fn with_commands<'a>(alloc: Global, entries: &[Entry<'a>]) -> Result<Command<'a>
 }
 
 /// The program's command line.
-#[tactic(auto, unfolding(crate::specs::Commands::program, crate::specs::Commands::run_app, crate::specs::Commands::demo_app, crate::specs::Commands::compare_app, crate::specs::Commands::check_app, crate::specs::Commands::layout_app, crate::specs::Commands::descriptor_app, crate::specs::Commands::generate_app, crate::specs::Commands::picture_app))]
+#[tactic(auto, unfolding(crate::specs::Commands::program, crate::specs::Commands::run_app, crate::specs::Commands::demo_app, crate::specs::Commands::record_app, crate::specs::Commands::compare_app, crate::specs::Commands::check_app, crate::specs::Commands::layout_app, crate::specs::Commands::descriptor_app, crate::specs::Commands::generate_app, crate::specs::Commands::picture_app))]
 pub(crate) fn program<'a>(alloc: Global) -> Result<Command<'a>, AllocError>
     ensures { IfOk result (λ c. app_of c ≡ program) }
 {
     with_commands(
         alloc,
         &[
-            RUN, DEMO, COMPARE, CHECK, LAYOUT, DESCRIPTOR, GENERATE, PICTURE,
+            RUN, DEMO, RECORD, COMPARE, CHECK, LAYOUT, DESCRIPTOR, GENERATE, PICTURE,
         ],
     )
 }
