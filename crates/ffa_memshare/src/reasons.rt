@@ -4,6 +4,7 @@
 
 mod about;
 mod failing;
+mod mend;
 
 pub use about::{about_relinquish, about_retrieve, about_send};
 pub use failing::{failing_reclaim, failing_send};

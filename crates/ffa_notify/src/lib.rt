@@ -7,6 +7,7 @@ mod calls;
 mod checks;
 mod class;
 mod first;
+mod mends;
 mod questions;
 mod reasons;
 mod words;

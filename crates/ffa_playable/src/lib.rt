@@ -11,7 +11,9 @@ ghost use Rattle.ffa_model.specs.Refusals.{is_refusal};
 ghost use Rattle.ffa_model.specs.State.{State, owner_of};
 ghost use Rattle.ffa_model.specs.Step.{step};
 ghost use Rattle.ffa_model.specs.Why.{outcome_of, why};
+ghost use Rattle.ffa_mend.specs.Mend.{mend};
 
+use ffa_mend::Mend;
 use ffa_model::{Address, CertRun, EndpointId, Op, Outcome, PageNo, Rights, Why};
 
 /// A machine that traces can be played on: what it answers and how it changes is what the small machine does from the
@@ -31,6 +33,10 @@ pub trait Playable: Drop {
         ensures refused { is_some result ≡ is_refusal (step (state self.now) op.now).outcome }
         ensures outcome { IfSome result (λ reason.
             (step (state self.now) op.now).outcome ≡ outcome_of (state self.now) reason) };
+
+    /// What is to be mended where an operation of the runner is refused, as far as the machine knows it. It changes nothing.
+    fn mend(&self, op: &Op) -> Option<Mend>
+        ensures { result ≡ mend (state self.now) op.now };
 
     /// The endpoint that runs.
     fn runner(&self) -> EndpointId

@@ -40,4 +40,5 @@ pub mod Sizes
 pub mod Chains
 pub mod Reasons
 pub mod Abouts
+pub mod Mends
 pub mod Moments

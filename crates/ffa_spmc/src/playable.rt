@@ -2,6 +2,7 @@
 //! The machine as a player sees it.
 use crate::machine::Machine;
 use crate::storage::Store;
+use ffa_mend::Mend;
 use ffa_model::{Address, CertRun, EndpointId, Op, Outcome, PageNo, Rights, Why};
 use ffa_physmem::PhysMem;
 use ffa_playable::Playable;
@@ -17,6 +18,10 @@ impl<M: PhysMem + Drop, T: Translations + Drop, S: Store> Playable for Machine<M
 
     fn why(&self, op: &Op) -> Option<Why> {
         Machine::why(self, op)
+    }
+
+    fn mend(&self, op: &Op) -> Option<Mend> {
+        Machine::mend(self, op)
     }
 
     fn runner(&self) -> EndpointId {

@@ -75,7 +75,7 @@ impl OpenTransaction {
 
     // The data right that an endpoint is granted, if the transaction is offered to it: ro where none is named.
     #[tactic(auto, using(crate::proofs::Receivers::found_any))]
-    fn grant_to(&self, endpoint: EndpointId) -> Option<Data>
+    pub(crate) fn grant_to(&self, endpoint: EndpointId) -> Option<Data>
         ensures known { is_some result ≡ is_receiver endpoint.0 (view_of self.now) }
         ensures granted { IfSome result (λ granted. granted ≡ grant_to (view_of self.now) endpoint.0) }
     {
@@ -84,7 +84,7 @@ impl OpenTransaction {
     }
 
     // The most that an endpoint may hold that is granted this data right.
-    fn ceiling<P: Room<KeptPage> + Drop>(
+    pub(crate) fn ceiling<P: Room<KeptPage> + Drop>(
         &self,
         pages: &PageTable<P>,
         base: Address,
@@ -151,7 +151,7 @@ impl OpenTransaction {
 }
 
 // What is asked: data that aren't specified are the most, and instructions that aren't are not executed.
-fn asked_right(most: Rights, asked: &RetrieveDesc) -> Rights
+pub(crate) fn asked_right(most: Rights, asked: &RetrieveDesc) -> Rights
     ensures { result ≡ asked_right most asked.now }
 {
     Rights {

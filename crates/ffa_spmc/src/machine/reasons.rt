@@ -5,10 +5,12 @@ ghost use Rattle.ffa_model.specs.Access.{access};
 ghost use Rattle.ffa_model.specs.Refusals.{is_refusal};
 ghost use Rattle.ffa_model.specs.Step.{step};
 ghost use Rattle.ffa_model.specs.Why.{granted, outcome_of, why, why_fault};
+ghost use Rattle.ffa_mend.specs.Mend.{address_of, call_of, mend, mend_why};
 
 use super::Machine;
 use crate::storage::Store;
-use ffa_model::{EndpointId, FaultKind, Grant, Op, PageNo, Why};
+use ffa_mend::Mend;
+use ffa_model::{Call, EndpointId, FaultKind, Grant, Op, PageNo, Why};
 use ffa_physmem::PhysMem;
 use ffa_tlb::Translations;
 
@@ -27,6 +29,16 @@ impl<M: PhysMem + Drop, T: Translations + Drop, S: Store> Machine<M, T, S> {
             ≡ outcome_of self.now.state reason) }
     {
         self.reason(op)
+    }
+
+    /// What is to be mended where an operation of the runner is refused, beside what its reason names: a buffer, a right, a value
+    /// that is wanted, or which of two causes it has. Nothing where the operation isn't refused, or where nothing more is known. It
+    /// changes nothing, takes no memory, and walks the tables.
+    pub fn mend(&self, op: &Op) -> Option<Mend>
+        ensures mend { result ≡ mend self.now.state op.now }
+    {
+        let why = self.reason(op)?;
+        self.mend_why(op, why)
     }
 
     /// By what an endpoint has its access to a page: its own page, or the open transaction by which it has it. Nothing outside
@@ -54,6 +66,18 @@ impl<M: PhysMem + Drop, T: Translations + Drop, S: Store> Machine<M, T, S> {
         }
     }
 
+    // What is to be mended, where the reason is known.
+    fn mend_why(&self, op: &Op, why: Why) -> Option<Mend>
+        ensures { result ≡ mend_why self.now.state op.now why }
+    {
+        match why {
+            Why::Refused { refusal, about } => {
+                self.manager.mend_check(call_of(op), refusal, about)
+            }
+            Why::Fault { kind, obstacle: _ } => self.manager.mend_fault(address_of(op), kind),
+        }
+    }
+
     // Of a call, in its registers.
     fn why_call(&self, x: [u64; 8]) -> Option<Why>
         ensures { result ≡ why self.now.state (Op.Call x) }
@@ -77,5 +101,25 @@ impl<M: PhysMem + Drop, T: Translations + Drop, S: Store> Machine<M, T, S> {
             kind,
             obstacle: self.manager.obstacle(addr, kind),
         })
+    }
+}
+
+// The call that an operation is, if it is one.
+fn call_of(op: &Op) -> Call
+    ensures { result ≡ call_of op.now }
+{
+    match *op {
+        Op::Call(x) => ffa_abi::decode(x),
+        Op::Load { .. } | Op::Store { .. } | Op::Fetch { .. } => Call::Unknown,
+    }
+}
+
+// The address of an access.
+fn address_of(op: &Op) -> u64
+    ensures { result ≡ address_of op.now }
+{
+    match *op {
+        Op::Call(_) => 0,
+        Op::Load { addr, .. } | Op::Store { addr, .. } | Op::Fetch { addr } => addr,
     }
 }

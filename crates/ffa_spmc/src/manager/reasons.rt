@@ -20,6 +20,7 @@ ghost use Rattle.ffa_spmc.specs.Replies.{fault_in};
 
 mod abouts;
 mod contents;
+mod mends;
 
 use super::Manager;
 use crate::storage::Store;

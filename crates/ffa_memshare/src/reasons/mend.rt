@@ -1,0 +1,180 @@
+// SPDX-License-Identifier: MIT OR Apache-2.0
+//! What is to be mended where a call on an open transaction was refused: what the transaction has, beside what the call names.
+ghost use Rattle.std.specs.Prelude.{◌≡◌, Some, None, length, if◌then◌else◌};
+ghost use Rattle.std.specs.Option.{option_map};
+ghost use Rattle.std.specs.FinMap as finite;
+ghost use Rattle.ffa_model.specs.Access.{is_receiver};
+ghost use Rattle.ffa_model.specs.Buffers.{buffers_in};
+ghost use Rattle.ffa_model.specs.MemoryRetrieve.{right_for};
+ghost use Rattle.ffa_model.specs.State.{Buffers as Own};
+ghost use Rattle.ffa_model.specs.Transactions.{ceiling};
+ghost use Rattle.ffa_mend.specs.Mend.{mend_asked, mend_offered, mend_retrieve, mend_return, mend_sent, mend_zeros};
+ghost use Rattle.ffa_rxtx.specs.Parts.{IsInRam, ownership_in};
+ghost use Rattle.ffa_memshare.specs.Ranges.{ArePlaced};
+ghost use Rattle.ffa_memshare.specs.Scenes.{descriptor_in};
+ghost use Rattle.ffa_memshare.specs.Shared.{AreRangesInRam};
+ghost use Rattle.ffa_memshare.specs.Stored.{map_in, view_of};
+
+use crate::checks::retrieve::asked_right;
+use crate::descriptor_call::DescriptorCall;
+use crate::open_slot::OpenSlot;
+use crate::page_run::read_retrieve;
+use crate::pool::Pool;
+use crate::transaction::OpenTransaction;
+use ffa_mend::{Cause, Mend};
+use ffa_model::{Address, EndpointId, Kind, Refusal, RetrieveDesc, Room};
+use ffa_pages::{KeptPage, PageTable};
+use ffa_physmem::PhysMem;
+use ffa_rxtx::Buffers;
+
+impl<O: Room<OpenSlot> + Drop> Pool<O> {
+    /// What is to be mended where a check of FFA_MEM_RETRIEVE_REQ of an endpoint fails that compares the descriptor in its TX with
+    /// the transaction that this names. Of other checks nothing.
+    pub fn mend_retrieve<M: PhysMem, P: Room<KeptPage> + Drop>(
+        &self,
+        ram: &M,
+        base: Address,
+        pages: &PageTable<P>,
+        buffers: &Buffers,
+        caller: EndpointId,
+        call: &DescriptorCall,
+        refusal: Refusal,
+    ) -> Option<Mend>
+        requires placed { AreRangesInRam self.now.slots base.0 (length pages.now) }
+        requires tx { (b : Own) → buffers_in buffers.now caller.0 ≡ Some b → IsInRam (length (M.ram ram.now).pages) b }
+        ensures { let owners = ownership_in pages.now base.0 in
+            let named = finite.get (map_in self.now.slots) in
+            let bytes = descriptor_in (M.ram ram.now) buffers.now caller.0 call.now in
+            result ≡ mend_asked buffers.now owners named caller.0 call.now.transfer bytes refusal }
+    {
+        let Ok(found) = call.descriptor(ram, buffers, caller) else {
+            return None;
+        };
+        let Ok(asked) = read_retrieve(&found.bytes, call.version, caller) else {
+            return None;
+        };
+        let Some(slot) = self.find(asked.handle) else {
+            return None;
+        };
+        self.at(slot)
+            .mend_retrieve(pages, base, caller, &asked, refusal)
+    }
+
+    /// What is to be mended where a check of FFA_MEM_RELINQUISH or FFA_MEM_RECLAIM of an endpoint fails that asks for a transaction
+    /// with this handle. Of other checks nothing.
+    pub fn mend_return(&self, handle: u64, caller: EndpointId, refusal: Refusal) -> Option<Mend>
+        ensures { result ≡ mend_return caller.0 refusal (finite.get (map_in self.now.slots) handle) }
+    {
+        let its = self.named(handle);
+        match refusal {
+            Refusal::NotOffered => Some(mend_offered(its)),
+            Refusal::NotTheSenders => Some(mend_sent(its)),
+            Refusal::ZerosNotAllowed => mend_zeros(its, caller),
+            _ => None,
+        }
+    }
+
+    // The transaction with this handle, if it is open.
+    fn named(&self, handle: u64) -> Option<&OpenTransaction>
+        ensures { option_map (λ t. view_of t.now) result ≡ finite.get (map_in self.now.slots) handle }
+    {
+        match self.find(handle) {
+            Some(slot) => Some(self.at(slot)),
+            None => None,
+        }
+    }
+}
+
+impl OpenTransaction {
+    // What a receiver names in a retrieve that the transaction has otherwise.
+    fn mend_retrieve<P: Room<KeptPage> + Drop>(
+        &self,
+        pages: &PageTable<P>,
+        base: Address,
+        caller: EndpointId,
+        asked: &RetrieveDesc,
+        refusal: Refusal,
+    ) -> Option<Mend>
+        requires { ArePlaced base.0 (length pages.now) self.now.ranges }
+        ensures { let owners = ownership_in pages.now base.0 in
+            result ≡ mend_retrieve owners caller.0 asked.now refusal (view_of self.now) }
+    {
+        match refusal {
+            Refusal::TransactionSenderDiffers => Some(Mend::Sender(self.sender)),
+            Refusal::TagDiffers => Some(Mend::Tag {
+                found: asked.tag,
+                wanted: self.tag,
+            }),
+            Refusal::KindDiffers => mend_kind(asked.kind, self.kind),
+            Refusal::RightTooMuch => self.mend_right(pages, base, caller, asked),
+            _ => None,
+        }
+    }
+
+    // The right that a receiver asks for, and the most that it may hold.
+    fn mend_right<P: Room<KeptPage> + Drop>(
+        &self,
+        pages: &PageTable<P>,
+        base: Address,
+        caller: EndpointId,
+        asked: &RetrieveDesc,
+    ) -> Option<Mend>
+        requires { ArePlaced base.0 (length pages.now) self.now.ranges }
+        ensures { let owners = ownership_in pages.now base.0 in
+            let its = view_of self.now in
+            result ≡ (if is_receiver caller.0 its
+            then Some (Mend.Asked (right_for owners its caller.0 asked.now) (ceiling owners its caller.0))
+            else None) }
+    {
+        let granted = self.grant_to(caller)?;
+        let most = self.ceiling(pages, base, granted);
+        Some(Mend::Asked {
+            asked: asked_right(most, asked),
+            most,
+        })
+    }
+}
+
+// The kind that is named, where one is, and the transaction's.
+fn mend_kind(found: Option<Kind>, wanted: Kind) -> Option<Mend>
+    ensures { result ≡ option_map (λ k. Mend.Kind k wanted) found }
+{
+    match found {
+        Some(found) => Some(Mend::Kind { found, wanted }),
+        None => None,
+    }
+}
+
+// Why a handle is none of a transaction that is offered to the caller.
+fn mend_offered(its: Option<&OpenTransaction>) -> Mend
+    ensures { Some result ≡ mend_offered (option_map (λ t. view_of t.now) its.entry) }
+{
+    match its {
+        Some(_) => Mend::Cause(Cause::NotReceiver),
+        None => Mend::Cause(Cause::HandleUnknown),
+    }
+}
+
+// Why a handle is none of a transaction of the caller's.
+fn mend_sent(its: Option<&OpenTransaction>) -> Mend
+    ensures { Some result ≡ mend_sent (option_map (λ t. view_of t.now) its.entry) }
+{
+    match its {
+        Some(its) => Mend::Sender(its.sender),
+        None => Mend::Cause(Cause::HandleUnknown),
+    }
+}
+
+// Why the pages of a transaction that the caller holds can't become zeros.
+fn mend_zeros(its: Option<&OpenTransaction>, caller: EndpointId) -> Option<Mend>
+    ensures { result ≡ mend_zeros caller.0 (option_map (λ t. view_of t.now) its.entry) }
+{
+    let its = its?;
+    if its.kind != Kind::Lend {
+        return Some(Mend::Cause(Cause::NotLent));
+    }
+    match its.held_right(caller) {
+        Some(right) => Some(Mend::Held(right)),
+        None => None,
+    }
+}

@@ -1,0 +1,187 @@
+-- SPDX-License-Identifier: MIT OR Apache-2.0
+-- What is to be mended where an operation is refused: a buffer, a right, a value that is wanted, or which of two causes it has.
+use Rattle.std.specs.Prelude.{ℕ, ◌&&◌, is_none, is_some, length, nat_lt, List, Option, Some, None, if◌then◌else◌}
+use Rattle.std.specs.Option.{option_and_then, option_map}
+use Rattle.ffa_model.specs.declared.call.Call.{Call}
+use Rattle.ffa_model.specs.declared.call.Call.TheVariants as calls
+use Rattle.ffa_model.specs.declared.call.Transfer.{Transfer}
+use Rattle.ffa_model.specs.declared.descriptor.RetrieveDesc.{RetrieveDesc}
+use Rattle.ffa_model.specs.declared.operation.FaultKind.{FaultKind}
+use Rattle.ffa_model.specs.declared.operation.FaultKind.TheVariants.{Permission}
+use Rattle.ffa_model.specs.declared.operation.Op.{Op}
+use Rattle.ffa_model.specs.declared.operation.Op.TheVariants.{Call as Calls, Load, Store, Fetch}
+use Rattle.ffa_model.specs.declared.refusal.Refusal.{Refusal}
+use Rattle.ffa_model.specs.declared.refusal.Refusal.TheVariants.{SenderIsAnother, ReceiverIsAnother, TxUnusable, RxUnusable, RxEmpty, ReceiverRxSmall, BitsTaken, BitsNotTheSenders, DescriptorTooLong, PageUnsendable, GrantTooMuch, ZerosUnwritable, TransactionSenderDiffers, TagDiffers, KindDiffers, RightTooMuch, EndpointIsAnother, NotOffered, ZerosNotAllowed, NotTheSenders}
+use Rattle.ffa_model.specs.declared.why.About.{About}
+use Rattle.ffa_model.specs.declared.why.About.TheVariants as abouts
+use Rattle.ffa_model.specs.declared.why.Obstacle.{Obstacle}
+use Rattle.ffa_model.specs.declared.why.Why.{Why}
+use Rattle.ffa_model.specs.declared.why.Why.TheVariants.{Refused, Fault}
+use Rattle.ffa_model.specs.Numbers.{Bit, HandleNumber, Identifier, PageIndex}
+use Rattle.ffa_model.specs.Access.{Ownership, held_by, is_receiver, ownership_of}
+use Rattle.ffa_model.specs.Buffers.{room_of}
+use Rattle.ffa_model.specs.Calls.{first_refusal}
+use Rattle.ffa_model.specs.DescriptorPlaces.{Versioned}
+use Rattle.ffa_model.specs.Lists.{is_in_run}
+use Rattle.ffa_model.specs.Memory.{access_at}
+use Rattle.ffa_model.specs.MemoryRetrieve.{right_for}
+use Rattle.ffa_model.specs.MemorySend.{descriptor_in, transfer_guards}
+use Rattle.ffa_model.specs.Notifications.{Notifications, class_of, is_pending, notifications_of}
+use Rattle.ffa_model.specs.Registers.{decode}
+use Rattle.ffa_model.specs.RetrieveDescriptor.{retrieve_of}
+use Rattle.ffa_model.specs.Rights.{is_lend}
+use Rattle.ffa_model.specs.State.{State, Buffers, Transaction, buffers_of, is_known_among, own_right_of, transaction_of}
+use Rattle.ffa_model.specs.Transactions.{ceiling}
+use Rattle.ffa_model.specs.Why.{why}
+use Rattle.ffa_mend.specs.declared.Cause.{Cause}
+use Rattle.ffa_mend.specs.declared.Cause.TheVariants.{BuffersMissing, RxNotFull, BitPending, BitTaken, BitUnbound, HandleUnknown, NotReceiver, NotLent}
+use Rattle.ffa_mend.specs.declared.Mend.{Mend}
+use Rattle.ffa_mend.specs.declared.Mend.TheVariants.{Buffer, OwnRight, Granted, Access, Caller, Sender, Tag, Kind, Asked, Held, Room, Cause as Because}
+use Rattle.ffa_mend.specs.declared.Side.{Side}
+use Rattle.ffa_mend.specs.declared.Side.TheVariants.{Tx, Rx}
+
+-- PAGES
+-- in which of its buffers e has a page, if it has it in one
+abbrev pub side_of : PageIndex → Buffers → Option Side
+side_of p b = if is_in_run b.tx b.pages p then Some Tx else if is_in_run b.rx b.pages p then Some Rx else None
+
+abbrev pub in_buffer : Identifier → Option Buffers → PageIndex → Option Mend
+in_buffer e own p = option_map (Buffer (record { 0 = e })) (option_and_then (side_of p) own)
+
+-- of a page of the runner's own that stands in no open transaction, its buffer or its own right; and of another page its own
+-- right where that is too little for zeros. What is granted and is more than an own right is rw
+abbrev pub mend_own_page : State → Refusal → PageIndex → Option Mend
+mend_own_page s PageUnsendable p = in_buffer s.runner (buffers_of s s.runner) p
+mend_own_page s TxUnusable p = option_map OwnRight (own_right_of s p)
+mend_own_page s RxUnusable p = option_map OwnRight (own_right_of s p)
+mend_own_page s GrantTooMuch p = option_map Granted (own_right_of s p)
+mend_own_page s ZerosUnwritable p = option_map OwnRight (own_right_of s p)
+mend_own_page s refusal p = None
+
+abbrev pub mend_page : State → Refusal → PageIndex → Option Obstacle → Option Mend
+mend_page s refusal p None = mend_own_page s refusal p
+mend_page s ZerosUnwritable p (Some obstacle) = option_map OwnRight (own_right_of s p)
+mend_page s refusal p (Some obstacle) = None
+
+-- OPEN TRANSACTIONS
+-- what e may mend of a transaction with a handle, which is open or isn't
+abbrev pub mend_offered : Option Transaction → Option Mend
+mend_offered None = Some (Because HandleUnknown)
+mend_offered (Some t) = Some (Because NotReceiver)
+
+abbrev pub mend_sent : Option Transaction → Option Mend
+mend_sent None = Some (Because HandleUnknown)
+mend_sent (Some t) = Some (Sender (record { 0 = t.sender }))
+
+abbrev pub mend_zeros : Identifier → Option Transaction → Option Mend
+mend_zeros e None = None
+mend_zeros e (Some t) = if is_lend t.kind then option_map Held (held_by t e) else Some (Because NotLent)
+
+abbrev pub mend_return : Identifier → Refusal → Option Transaction → Option Mend
+mend_return e NotOffered t = mend_offered t
+mend_return e NotTheSenders t = mend_sent t
+mend_return e ZerosNotAllowed t = mend_zeros e t
+mend_return e refusal t = None
+
+-- what e names of a transaction in a retrieve, and what the transaction has
+abbrev pub mend_retrieve : Ownership → Identifier → RetrieveDesc → Refusal → Transaction → Option Mend
+mend_retrieve ram e d TransactionSenderDiffers t = Some (Sender (record { 0 = t.sender }))
+mend_retrieve ram e d TagDiffers t = Some (Tag d.tag t.tag)
+mend_retrieve ram e d KindDiffers t = option_map (λ k. Kind k t.kind) d.kind
+mend_retrieve ram e d RightTooMuch t =
+    if is_receiver e t then Some (Asked (right_for ram t e d) (ceiling ram t e)) else None
+mend_retrieve ram e d refusal t = None
+
+-- of the descriptor that stands whole in TX of e
+abbrev pub mend_asked : List (Option Buffers) → Ownership → (HandleNumber → Option Transaction) → Identifier → Transfer
+    → Versioned → Refusal → Option Mend
+mend_asked buffers ram named e transfer bytes refusal =
+    if is_none (first_refusal (transfer_guards buffers e transfer))
+    then option_and_then (λ d. option_and_then (mend_retrieve ram e d refusal) (named d.handle)) (retrieve_of e bytes)
+    else None
+
+-- NOTIFICATIONS
+-- one of the 64 bits of e, which a sender gets or loses: it is pending, or else this is the cause
+abbrev pub mend_bit : ℕ → Notifications → Identifier → Identifier → Bit → Cause → Option Mend
+mend_bit endpoints n e sender bit cause =
+    if nat_lt bit 64 && is_known_among endpoints sender
+    then Some (Because (if is_pending n e (class_of sender) bit then BitPending else cause))
+    else None
+
+abbrev pub mend_bind : ℕ → Notifications → Identifier → Identifier → Bit → Refusal → Option Mend
+mend_bind endpoints n e sender bit BitsTaken = mend_bit endpoints n e sender bit BitTaken
+mend_bind endpoints n e sender bit refusal = None
+
+abbrev pub mend_unbind : ℕ → Notifications → Identifier → Identifier → Bit → Refusal → Option Mend
+mend_unbind endpoints n e sender bit BitsNotTheSenders = mend_bit endpoints n e sender bit BitUnbound
+mend_unbind endpoints n e sender bit refusal = None
+
+abbrev pub mend_bits : ℕ → Notifications → Identifier → Call → Refusal → Bit → Option Mend
+mend_bits endpoints n e (calls.NotificationBind its) refusal bit = mend_bind endpoints n e its.sender.0 bit refusal
+mend_bits endpoints n e (calls.NotificationUnbind its) refusal bit = mend_unbind endpoints n e its.sender.0 bit refusal
+mend_bits endpoints n e call refusal bit = None
+
+-- ON A STATE
+abbrev pub mend_retrieved : State → Call → Refusal → Option Mend
+mend_retrieved s (calls.MemRetrieve transfer) refusal =
+    mend_asked s.buffers (ownership_of s) (transaction_of s) s.runner transfer (descriptor_in s transfer.total) refusal
+mend_retrieved s call refusal = None
+
+-- a check that is about an endpoint, and about a handle
+abbrev pub mend_endpoint : State → Call → Refusal → Identifier → Option Mend
+mend_endpoint s call SenderIsAnother e = Some (Caller (record { 0 = s.runner }))
+mend_endpoint s call ReceiverIsAnother e = Some (Caller (record { 0 = s.runner }))
+mend_endpoint s call EndpointIsAnother e = Some (Caller (record { 0 = s.runner }))
+mend_endpoint s call ReceiverRxSmall e = Some (Room (room_of (buffers_of s e)))
+mend_endpoint s call refusal e = mend_retrieved s call refusal
+
+abbrev pub mend_handle : State → Call → Refusal → HandleNumber → Option Mend
+mend_handle s (calls.MemRetrieve transfer) refusal h = mend_retrieved s (calls.MemRetrieve transfer) refusal
+mend_handle s call refusal h = mend_return s.runner refusal (transaction_of s h)
+
+-- a descriptor that is longer than TX, and an RX that can't be released
+abbrev pub mend_register : State → Refusal → Option Mend
+mend_register s DescriptorTooLong = Some (Room (room_of (buffers_of s s.runner)))
+mend_register s refusal = None
+
+abbrev pub mend_bare : State → Refusal → Option Mend
+mend_bare s RxEmpty = Some (Because (if is_some (buffers_of s s.runner) then RxNotFull else BuffersMissing))
+mend_bare s refusal = None
+
+-- a check of a call that fails, by what it is about
+abbrev pub mend_check : State → Call → Refusal → Option About → Option Mend
+mend_check s call refusal (Some (abouts.Page page obstacle)) = mend_page s refusal page.0 obstacle
+mend_check s call refusal (Some (abouts.Endpoint e)) = mend_endpoint s call refusal e.0
+mend_check s call refusal (Some (abouts.Handle h)) = mend_handle s call refusal h
+mend_check s call refusal (Some (abouts.Bit k)) =
+    mend_bits (length s.parties) (notifications_of s) s.runner call refusal k
+mend_check s call refusal (Some (abouts.Register number value)) = mend_register s refusal
+mend_check s call refusal (Some (abouts.Field flaw place value)) = None
+mend_check s call refusal None = mend_bare s refusal
+
+-- a fault at an address, where the runner reaches the page without the right
+abbrev pub mend_access : State → ℕ → Option Mend
+mend_access s address =
+    option_map (Access (record { 0 = s.runner })) (access_at s s.runner address)
+
+abbrev pub mend_fault : State → ℕ → FaultKind → Option Mend
+mend_fault s address Permission = mend_access s address
+mend_fault s address kind = None
+
+abbrev pub address_of : Op → ℕ
+address_of (Calls x) = 0
+address_of (Load address size) = address
+address_of (Store address size value) = address
+address_of (Fetch address) = address
+
+abbrev pub call_of : Op → Call
+call_of (Calls x) = decode x
+call_of op = calls.Unknown
+
+abbrev pub mend_why : State → Op → Why → Option Mend
+mend_why s op (Refused refusal about) = mend_check s (call_of op) refusal about
+mend_why s op (Fault kind obstacle) = mend_fault s (address_of op) kind
+
+-- what is to be mended where an operation of the runner is refused
+abbrev pub mend : State → Op → Option Mend
+mend s op = option_and_then (mend_why s op) (why s op)

@@ -1,0 +1,63 @@
+// SPDX-License-Identifier: MIT OR Apache-2.0
+//! What is to be mended where an operation is refused: what stands in the machine beside what the refusal names. It serves
+//! diagnostics alone, and no call is done by it.
+#![tactic(auto)]
+
+use ffa_model::{EndpointId, Kind, Rights};
+
+/// What a machine tells of an operation that is refused, beside why it is.
+#[derive(Clone, Copy)]
+pub enum Mend {
+    /// The page is in this buffer of an endpoint.
+    Buffer { endpoint: EndpointId, side: Side },
+    /// The owner's own right to the page.
+    OwnRight(Rights),
+    /// The owner's own right to the page, to which more is granted: to read and write.
+    Granted(Rights),
+    /// What an endpoint may do at the address.
+    Access { endpoint: EndpointId, right: Rights },
+    /// The caller, where another endpoint is named.
+    Caller(EndpointId),
+    /// The transaction's sender, where another endpoint is named, or is the caller.
+    Sender(EndpointId),
+    /// The tag that is named, and the transaction's.
+    Tag { found: u64, wanted: u64 },
+    /// The kind that is named, and the transaction's.
+    Kind { found: Kind, wanted: Kind },
+    /// The right that is asked for, and the most that the caller may get.
+    Asked { asked: Rights, most: Rights },
+    /// The right by which the caller holds the transaction.
+    Held(Rights),
+    /// How many bytes the buffer has.
+    Room(u64),
+    /// Which of two causes the check has.
+    Cause(Cause),
+}
+
+/// A buffer of an endpoint.
+#[derive(Clone, Copy, PartialEq, Eq)]
+pub enum Side {
+    Tx,
+    Rx,
+}
+
+/// Which of two causes a check has.
+#[derive(Clone, Copy, PartialEq, Eq)]
+pub enum Cause {
+    /// The caller has no buffers.
+    BuffersMissing,
+    /// The caller's RX is not full.
+    RxNotFull,
+    /// The bit is pending.
+    BitPending,
+    /// Another sender has the bit.
+    BitTaken,
+    /// The sender doesn't have the bit.
+    BitUnbound,
+    /// No open transaction has the handle.
+    HandleUnknown,
+    /// The caller is no receiver of the transaction.
+    NotReceiver,
+    /// The transaction is no lend.
+    NotLent,
+}
