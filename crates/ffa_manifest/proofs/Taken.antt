@@ -1,6 +1,7 @@
 -- SPDX-License-Identifier: MIT OR Apache-2.0
 -- A region beside those that are taken.
-use Rattle.std.proofs.Common.{◌≡◌, Bool, ◌&&◌, List, [], ◌∷◌, ◌++◌, refl}
+use Rattle.std.proofs.Common.{◌≡◌, ◌≤◌, ℕ, Bool, true, ◌&&◌, List, [], ◌∷◌, ◌++◌, length, take, refl, sym, ap, ◌∙◌}
+use Rattle.std.proofs.lemmas.List.{take_all}
 use Rattle.std.specs.List.{list_all}
 use Rattle.std.proofs.lemmas.List.Folds.{list_all-append}
 use Rattle.ffa_model.specs.declared.endpoint.Region.{Region}
@@ -17,3 +18,10 @@ all_regions p (e ∷ es) = rw (list_all-append p e.regions.items (regions_of es)
 pub is_free_of_both : (r : Region) (es : List Endpoint) (own : List Region)
     → is_free (regions_of es ++ own) r ≡ (list_all (λ (e : Endpoint). is_free e.regions.items r) es && is_free own r)
 is_free_of_both r es own = rw (list_all-append (is_apart r) (regions_of es) own, all_regions (is_apart r) es) refl
+
+-- where no endpoint's region meets it and no own one does
+pub free_of_both : (r : Region) (es : List Endpoint) (own : List Region) (count : ℕ) → length es ≤ count
+    → list_all (λ (e : Endpoint). is_free e.regions.items r) (take count es) ≡ true → is_free own r ≡ true → is_free (regions_of es ++ own) r ≡ true
+free_of_both r es own count whole free own_free =
+    let every : list_all (λ (e : Endpoint). is_free e.regions.items r) es ≡ true = sym (ap (list_all (λ (e : Endpoint). is_free e.regions.items r)) (take_all count es whole)) ∙ free in
+    is_free_of_both r es own ∙ ap (λ b. b && is_free own r) every ∙ own_free

@@ -6,3 +6,4 @@ pub mod Regions
 pub mod Endpoints
 pub mod Document
 pub mod Parts
+pub mod Meeting

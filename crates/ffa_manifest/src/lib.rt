@@ -4,6 +4,7 @@
 
 ghost use Rattle.std.specs.Prelude.{◌≡◌, ◌≢◌, Ok, Err, IfOk, IfErr};
 ghost use Rattle.ffa_manifest.specs.Document.{machine_of, parts_of};
+ghost use Rattle.ffa_manifest.specs.Meeting.{SharesPage};
 
 mod document;
 mod endpoints;
@@ -11,6 +12,7 @@ pub mod error;
 mod identifier;
 mod keys;
 mod locate;
+mod met;
 mod parts;
 pub mod refusal;
 mod region_space;
@@ -41,8 +43,8 @@ pub fn read(alloc: Global, text: &str) -> Result<Manifest, ManifestError>
 /// Reads a text as `read` does, and of one that is refused finds where.
 ///
 /// The cause is the one that `read` answers. The place is where reading ends, with the key and the value that stand
-/// there. Endpoints and regions count from 1: endpoint 1 is the normal world. The clauses say nothing of the place, which
-/// tests show.
+/// there, or the region that another one meets, which does have a page of it. The clauses say nothing else of the place,
+/// which tests show.
 ///
 /// # Errors
 ///
@@ -51,6 +53,7 @@ pub fn read(alloc: Global, text: &str) -> Result<Manifest, ManifestError>
 pub fn explain(alloc: Global, text: &str) -> Result<Result<Manifest, ManifestRefusal>, AllocError>
     ensures accepted { IfOk result (λ read. IfOk read (λ m. machine_of text.now ≡ Ok (parts_of m))) }
     ensures refused { IfOk result (λ read. IfErr read (λ r. machine_of text.now ≡ Err r.cause)) }
+    ensures met { IfOk result (λ read. IfErr read (λ r. SharesPage r.place.found)) }
 {
     let table = match toml::table_from_str(alloc, text) {
         Ok(table) => table,

@@ -4,21 +4,23 @@
 //! This is a second walk over its tables, by the functions that read them and in their order, up to the first that
 //! refuses: they say which value that is, and what stands here is the words for what is wrong with it. That the walk
 //! ends where the cause applies is shown by tests.
-ghost use Rattle.std.specs.Prelude.{◌≤◌, length};
+ghost use Rattle.std.specs.Prelude.{◌≡◌, ◌≤◌, IfOk, length};
+ghost use Rattle.ffa_manifest.specs.Meeting.{SharesPage};
 
 use crate::document::{TOP_KEYS, endpoint_items, ram_base_at, ram_blocks_at, top_keys};
 use crate::endpoints::{
     NORMAL_WORLD_KEYS, PARTITION_KEYS, endpoints_from, next_endpoint, normal_world_keys,
     normal_world_properties, partition_keys, properties_at, uuid_at, version_at,
 };
-use crate::keys::is_among;
+use crate::keys::{integer_at, is_among};
+use crate::met::met_region;
 use crate::refusal::{Fault, Found, Location};
 use crate::region_space::RegionSpace;
 use crate::regions::{
     REGION_KEYS, base_at, next_region, pages_at, region, region_items, region_keys, regions_from,
     rights_at,
 };
-use ffa_model::{Endpoint, MOST_ENDPOINTS};
+use ffa_model::{Endpoint, EndpointId, MOST_ENDPOINTS, MOST_REGIONS, Region};
 use std::alloc::{AllocError, Global};
 use std::fmt::InlineText;
 use toml::{Table, Value};
@@ -27,32 +29,37 @@ use toml::{Table, Value};
 const SHOWN: usize = 60;
 
 /// Where a text is no TOML: all that its parser says, on one line.
-pub(crate) fn in_text(alloc: Global, error: &toml::de::Error) -> Result<Location, AllocError> {
+pub(crate) fn in_text(alloc: Global, error: &toml::de::Error) -> Result<Location, AllocError>
+    ensures { IfOk result (λ place. SharesPage place.found) }
+{
     let said = error.to_string(alloc)?;
-    let found = Found::NoToml(said.as_str().trim_end().replace(alloc, "\n", ": ")?);
-    Ok(Location {
+    let said = said.as_str().trim_end().replace(alloc, "\n", ": ")?;
+    Ok(in_no_endpoint(Found::NoToml(said)))
+}
+
+fn in_no_endpoint(found: Found) -> Location
+    ensures { result.found ≡ found }
+{
+    Location {
         endpoint: None,
         region: None,
         found,
-    })
+    }
 }
 
 /// Where the document of a top table is refused.
-pub(crate) fn in_top(alloc: Global, table: &Table) -> Result<Location, AllocError> {
+pub(crate) fn in_top(alloc: Global, table: &Table) -> Result<Location, AllocError>
+    ensures { IfOk result (λ place. SharesPage place.found) }
+{
     let found = match (
         ram_base_at(table),
         ram_blocks_at(table),
         endpoint_items(table),
     ) {
         _ if top_keys(table).is_err() => unknown_key(alloc, table, &TOP_KEYS)?,
-        (Err(_), ..) => at_faulty_key(alloc, table, "ram_base", Fault::NoRamBase)?,
-        (_, Err(_), _) => at_faulty_key(alloc, table, "ram_blocks", Fault::NoBlockCount)?,
-        (_, _, Err(_)) => at_key(
-            alloc,
-            table,
-            "endpoint",
-            "no array, or too few or too many tables",
-        )?,
+        (Err(_), ..) => at_number(alloc, table, "ram_base", Fault::RamBase)?,
+        (_, Err(_), _) => at_key(alloc, table, "ram_blocks", Fault::BlockCount)?,
+        (_, _, Err(_)) => at_array(alloc, table, "endpoint", MOST_ENDPOINTS)?,
         (Ok(base), Ok(blocks), Ok(values)) => {
             let space = RegionSpace {
                 base,
@@ -62,11 +69,7 @@ pub(crate) fn in_top(alloc: Global, table: &Table) -> Result<Location, AllocErro
             return in_endpoints(alloc, table, values, &space);
         }
     };
-    Ok(Location {
-        endpoint: None,
-        region: None,
-        found,
-    })
+    Ok(in_no_endpoint(found))
 }
 
 // Where the endpoints of a top table are refused.
@@ -77,6 +80,7 @@ fn in_endpoints(
     space: &RegionSpace,
 ) -> Result<Location, AllocError>
     requires { length values.now ≤ MOST_ENDPOINTS }
+    ensures { IfOk result (λ place. SharesPage place.found) }
 {
     for (index, value) in values.iter().enumerate() {
         let Ok(before) = endpoints_from(&values[..index], space) else {
@@ -85,22 +89,14 @@ fn in_endpoints(
         if next_endpoint(value, space, before.as_slice()).is_err() {
             let (region, found) = in_endpoint(alloc, value, space, before.as_slice())?;
             return Ok(Location {
-                endpoint: Some(index + 1),
+                endpoint: Some(EndpointId::at(index)),
                 region,
                 found,
             });
         }
     }
-    Ok(Location {
-        endpoint: None,
-        region: None,
-        found: at_key(
-            alloc,
-            table,
-            "endpoint",
-            "no array, or too few or too many tables",
-        )?,
-    })
+    let found = at_array(alloc, table, "endpoint", MOST_ENDPOINTS)?;
+    Ok(in_no_endpoint(found))
 }
 
 // In which region an endpoint is refused after those before it, where it's in one.
@@ -109,9 +105,12 @@ fn in_endpoint(
     value: &Value,
     space: &RegionSpace,
     before: &[Endpoint],
-) -> Result<(Option<usize>, Found), AllocError> {
+) -> Result<(Option<usize>, Found), AllocError>
+    requires { length before.now ≤ MOST_ENDPOINTS }
+    ensures { IfOk result (λ place. SharesPage place.1) }
+{
     let Some(table) = value.as_table() else {
-        return Ok((None, whole(alloc, value, "no table")?));
+        return Ok((None, no_table(alloc, value)?));
     };
     let is_first = before.is_empty();
     let found = if is_first && normal_world_keys(table).is_err() {
@@ -119,13 +118,15 @@ fn in_endpoint(
     } else if !is_first && partition_keys(table).is_err() {
         unknown_key(alloc, table, &PARTITION_KEYS)?
     } else if version_at(table).is_err() {
-        at_key(alloc, table, "version", "neither \"1.1\" nor \"compact\"")?
+        let fault = Fault::Words("neither \"1.1\" nor \"compact\"");
+        at_key(alloc, table, "version", fault)?
     } else if !is_first && uuid_at(table).is_err() {
-        at_key(alloc, table, "uuid", "no UUID, or the Nil UUID")?
+        let fault = Fault::Words("no UUID, or the Nil UUID");
+        at_key(alloc, table, "uuid", fault)?
     } else if !is_first && properties_at(table).is_err() {
-        at_key(alloc, table, "properties", "no number from 0 to 15")?
+        at_key(alloc, table, "properties", Fault::Words("0 to 15"))?
     } else if is_first && normal_world_properties(table).is_err() {
-        at_key(alloc, table, "properties", "none of 0, 2, 4 and 6")?
+        at_key(alloc, table, "properties", Fault::Words("0, 2, 4 or 6"))?
     } else {
         return in_regions(alloc, table, space, before);
     };
@@ -138,59 +139,98 @@ fn in_regions(
     table: &Table,
     space: &RegionSpace,
     before: &[Endpoint],
-) -> Result<(Option<usize>, Found), AllocError> {
+) -> Result<(Option<usize>, Found), AllocError>
+    requires { length before.now ≤ MOST_ENDPOINTS }
+    ensures { IfOk result (λ place. SharesPage place.1) }
+{
     if let Ok(values) = region_items(table) {
         for (index, value) in values.iter().enumerate() {
             let Ok(own) = regions_from(&values[..index], space, before) else {
                 break;
             };
             if next_region(value, space, before, own.as_slice()).is_err() {
-                return Ok((Some(index + 1), in_region(alloc, value, space)?));
+                let found = in_region(alloc, value, space, before, own.as_slice())?;
+                return Ok((Some(index + 1), found));
             }
         }
     }
-    Ok((
-        None,
-        at_key(
-            alloc,
-            table,
-            "regions",
-            "no array, or too few or too many tables",
-        )?,
-    ))
+    Ok((None, at_array(alloc, table, "regions", MOST_REGIONS)?))
 }
 
-// What is refused in a region.
-fn in_region(alloc: Global, value: &Value, space: &RegionSpace) -> Result<Found, AllocError> {
+// What is refused in a region, after the regions of these endpoints and own ones.
+fn in_region(
+    alloc: Global,
+    value: &Value,
+    space: &RegionSpace,
+    before: &[Endpoint],
+    own: &[Region],
+) -> Result<Found, AllocError>
+    requires { length before.now ≤ MOST_ENDPOINTS }
+    ensures { IfOk result SharesPage }
+{
     let Some(table) = value.as_table() else {
-        return whole(alloc, value, "no table");
+        return no_table(alloc, value);
     };
     if region_keys(table).is_err() {
         unknown_key(alloc, table, &REGION_KEYS)
     } else if base_at(table).is_err() {
-        at_key(alloc, table, "base", "no integer")
+        at_key(alloc, table, "base", Fault::Words("no integer"))
     } else if pages_at(table).is_err() {
-        at_key(alloc, table, "pages", "no integer")
+        at_key(alloc, table, "pages", Fault::Words("no integer"))
     } else if rights_at(table).is_err() {
-        at_key(
-            alloc,
-            table,
-            "rights",
-            "none of \"ro\", \"rw\", \"rox\" and \"rwx\"",
-        )
-    } else if region(table, space).is_err() {
-        whole(
-            alloc,
-            value,
-            "not whole pages, at least one, in RAM behind the tables",
-        )
+        let fault = Fault::Words("none of \"ro\", \"rw\", \"rox\" and \"rwx\"");
+        at_key(alloc, table, "rights", fault)
     } else {
-        whole(alloc, value, "a page of it is in a region before it")
+        match region(table, space) {
+            Ok(region) => in_place(alloc, table, space, &region, before, own),
+            Err(_) => out_of_place(alloc, table, space),
+        }
+    }
+}
+
+// What is refused in the table of a region that lies where regions may.
+fn in_place(
+    alloc: Global,
+    table: &Table,
+    space: &RegionSpace,
+    region: &Region,
+    before: &[Endpoint],
+    own: &[Region],
+) -> Result<Found, AllocError>
+    requires { length before.now ≤ MOST_ENDPOINTS }
+    ensures { IfOk result SharesPage }
+{
+    match met_region(region, before, own) {
+        Some(met) => Ok(Found::Overlap {
+            region: *region,
+            met,
+        }),
+        None => out_of_place(alloc, table, space),
+    }
+}
+
+// What is refused in the table of a region that lies elsewhere: its base, the count of its pages, or where they end.
+fn out_of_place(alloc: Global, table: &Table, space: &RegionSpace) -> Result<Found, AllocError>
+    ensures { IfOk result SharesPage }
+{
+    let bounds = space.bounds();
+    match (base_at(table), pages_at(table)) {
+        (Ok(Some(base)), Ok(Some(pages))) if base % 4096 == 0 && 1 <= pages => Ok(Found::Outside {
+            base,
+            pages,
+            bounds,
+        }),
+        (Ok(Some(base)), _) if base % 4096 == 0 => {
+            at_number(alloc, table, "pages", Fault::PageCount)
+        }
+        _ => at_number(alloc, table, "base", Fault::RegionBase(bounds)),
     }
 }
 
 // The first key of a table that isn't one of these.
-fn unknown_key(alloc: Global, table: &Table, names: &[&str]) -> Result<Found, AllocError> {
+fn unknown_key(alloc: Global, table: &Table, names: &[&str]) -> Result<Found, AllocError>
+    ensures { IfOk result SharesPage }
+{
     for key in table.keys() {
         if !is_among(key.as_str(), names) {
             let shown = InlineText::<SHOWN>::of(key.as_str().escape_debug());
@@ -200,23 +240,15 @@ fn unknown_key(alloc: Global, table: &Table, names: &[&str]) -> Result<Found, Al
     Ok(Found::UnknownKey(String::new(alloc)))
 }
 
-// What stands at a key of a table, and what is wrong with it.
+// The key that a table lacks, or its value with what is wrong with that.
 fn at_key(
     alloc: Global,
     table: &Table,
     key: &'static str,
-    words: &'static str,
-) -> Result<Found, AllocError> {
-    at_faulty_key(alloc, table, key, Fault::Words(words))
-}
-
-// The key that a table lacks, or its value with what is wrong with that.
-fn at_faulty_key(
-    alloc: Global,
-    table: &Table,
-    key: &'static str,
     fault: Fault,
-) -> Result<Found, AllocError> {
+) -> Result<Found, AllocError>
+    ensures { IfOk result SharesPage }
+{
     match table.get(key) {
         None => Ok(Found::MissingKey(key)),
         Some(value) => Ok(Found::Value {
@@ -227,11 +259,44 @@ fn at_faulty_key(
     }
 }
 
-fn whole(alloc: Global, value: &Value, fault: &'static str) -> Result<Found, AllocError> {
-    Ok(Found::Whole {
-        value: text_of(alloc, value)?,
-        fault,
-    })
+// The same of a key whose value is to be an address or a count of pages.
+fn at_number(
+    alloc: Global,
+    table: &Table,
+    key: &'static str,
+    fault: Fault,
+) -> Result<Found, AllocError>
+    ensures { IfOk result SharesPage }
+{
+    match integer_at(table, key) {
+        Ok(Some(number)) => Ok(Found::Number { key, number, fault }),
+        _ => at_key(alloc, table, key, fault),
+    }
+}
+
+// The same of a key whose value is to be an array of at most so many tables.
+fn at_array(
+    alloc: Global,
+    table: &Table,
+    key: &'static str,
+    most: usize,
+) -> Result<Found, AllocError>
+    ensures { IfOk result SharesPage }
+{
+    match table.get(key).and_then(|value| value.as_array()) {
+        Some(values) => Ok(Found::Count {
+            key,
+            count: values.len(),
+            most,
+        }),
+        None => at_key(alloc, table, key, Fault::Words("no array")),
+    }
+}
+
+fn no_table(alloc: Global, value: &Value) -> Result<Found, AllocError>
+    ensures { IfOk result SharesPage }
+{
+    Ok(Found::NoTable(text_of(alloc, value)?))
 }
 
 // A value as TOML, on one line.

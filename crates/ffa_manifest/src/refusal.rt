@@ -1,8 +1,11 @@
 // SPDX-License-Identifier: MIT OR Apache-2.0
 //! What is told of a manifest that is refused.
+//!
+//! Addresses and counts of pages are told as a trace has numbers, hexadecimal in upper case without a prefix, and endpoints by
+//! their identifiers.
 
 use crate::error::ManifestError;
-use ffa_model::{MOST_BLOCKS, MOST_RAM};
+use ffa_model::{EndpointId, MOST_BLOCKS, MOST_RAM, Region};
 use std::fmt;
 
 /// Why a manifest is refused, and where. It prints as one line.
@@ -14,19 +17,19 @@ pub struct ManifestRefusal {
     pub place: Location,
 }
 
-/// Where a manifest is refused. Endpoints count from 1, the normal world, and so do the regions of each endpoint.
+/// Where a manifest is refused.
 #[derive(Debug, Drop)]
 pub struct Location {
     /// The endpoint, or `None` in the top table.
-    pub endpoint: Option<usize>,
-    /// The endpoint's region, or `None` in the endpoint's own table.
+    pub endpoint: Option<EndpointId>,
+    /// The endpoint's region, counted from 1, or `None` in the endpoint's own table.
     pub region: Option<usize>,
     /// What stands there.
     pub found: Found,
 }
 
-/// What is refused in a manifest. Keys and values of the text stand on one line, values as TOML, and end in `...` where
-/// they are cut.
+/// What is refused in a manifest. Keys and values that are no numbers stand on one line, values as TOML, and end in `...`
+/// where they are cut.
 #[derive(Debug, Drop)]
 pub enum Found {
     /// The text is no TOML: what the parser says of it, with a line and a column that count from 1.
@@ -41,20 +44,60 @@ pub enum Found {
         value: String,
         fault: Fault,
     },
-    /// The value that stands for the whole endpoint or region, and what is wrong with it.
-    Whole {
-        value: String,
-        fault: &'static str,
+    /// The number at one of the table's keys that is an address or counts pages, and what is wrong with it.
+    Number {
+        key: &'static str,
+        number: u64,
+        fault: Fault,
     },
+    /// The array at one of the table's keys has so many members, and not 1 to `most`.
+    Count {
+        key: &'static str,
+        count: usize,
+        most: usize,
+    },
+    /// What stands in the place of the table of an endpoint or a region.
+    NoTable(String),
+    /// Whole pages that don't all lie where regions may.
+    Outside {
+        base: u64,
+        pages: u64,
+        bounds: Bounds,
+    },
+    /// A region, and one before it that has a page of it too.
+    Overlap {
+        region: Region,
+        met: MetRegion,
+    },
+}
+
+/// A region that was read before, and where it stands in the manifest.
+#[derive(Clone, Copy, Debug, PartialEq, Eq)]
+pub struct MetRegion {
+    pub endpoint: EndpointId,
+    /// Its place among the endpoint's regions, from 0.
+    pub place: usize,
+    pub region: Region,
+}
+
+/// Where the regions of a machine may lie: the addresses of the first byte and behind the last.
+#[derive(Clone, Copy, Debug, PartialEq, Eq)]
+pub struct Bounds {
+    pub first: u64,
+    pub end: u64,
 }
 
 /// What is wrong with a value.
 #[derive(Clone, Copy, Debug)]
 pub enum Fault {
     /// No RAM begins there.
-    NoRamBase,
+    RamBase,
     /// No RAM has so many blocks.
-    NoBlockCount,
+    BlockCount,
+    /// No region begins there.
+    RegionBase(Bounds),
+    /// No region has so many pages.
+    PageCount,
     /// What these words say.
     Words(&'static str),
 }
@@ -62,34 +105,111 @@ pub enum Fault {
 impl fmt::Display for Fault {
     fn fmt<W: fmt::Write>(&self, f: &mut fmt::Formatter<W>) -> fmt::Result {
         match self {
-            Fault::NoRamBase => {
+            Fault::RamBase => {
                 let (least, most) = (MOST_RAM, (1 << 32) - MOST_RAM);
-                let unit = MOST_RAM / 0x10_0000;
                 write!(
                     f,
-                    "no multiple of {unit} MiB from {least:#010X} to {most:#010X}"
+                    "a multiple of {least:08X} from {least:08X} to {most:08X}"
                 )
             }
-            Fault::NoBlockCount => write!(f, "no number from 1 to {MOST_BLOCKS}"),
+            Fault::BlockCount => write!(f, "1 to {MOST_BLOCKS}"),
+            Fault::RegionBase(bounds) => write!(f, "a multiple of 1000 in {bounds}"),
+            Fault::PageCount => write!(f, "1 or more"),
             Fault::Words(words) => write!(f, "{words}"),
         }
     }
 }
 
-impl fmt::Display for ManifestRefusal {
+// A place, from 0, in words: 1st, 2nd and so on, as far as endpoints go.
+#[derive(Clone, Copy)]
+struct Nth(usize);
+
+impl fmt::Display for Nth {
     fn fmt<W: fmt::Write>(&self, f: &mut fmt::Formatter<W>) -> fmt::Result {
-        let found = &self.place.found;
-        match (self.place.endpoint, self.place.region) {
-            (None, _) => write!(f, "{found}"),
-            (Some(endpoint), None) => write!(f, "endpoint {endpoint}: {found}"),
-            (Some(endpoint), Some(region)) => {
-                write!(f, "endpoint {endpoint}, region {region}: {found}")
-            }
+        match self.0 {
+            0 => write!(f, "1st"),
+            1 => write!(f, "2nd"),
+            2 => write!(f, "3rd"),
+            place => write!(f, "{}th", place.saturating_add(1)),
         }
     }
 }
 
+// A number as a trace has it, with the decimal digits behind it where they are others.
+#[derive(Clone, Copy)]
+struct Number(u64);
+
+impl fmt::Display for Number {
+    fn fmt<W: fmt::Write>(&self, f: &mut fmt::Formatter<W>) -> fmt::Result {
+        match self.0 {
+            number @ 0..10 => write!(f, "{number}"),
+            number => write!(f, "{number:X} (decimal {number})"),
+        }
+    }
+}
+
+// The addresses of the first and the last byte of pages.
+#[derive(Clone, Copy)]
+struct Pages {
+    base: u64,
+    pages: u64,
+}
+
+impl fmt::Display for Pages {
+    fn fmt<W: fmt::Write>(&self, f: &mut fmt::Formatter<W>) -> fmt::Result {
+        let end = u128::from(self.base) + 4096 * u128::from(self.pages);
+        write!(f, "{:08X} to {:08X}", self.base, end.saturating_sub(1))
+    }
+}
+
+impl fmt::Display for Bounds {
+    fn fmt<W: fmt::Write>(&self, f: &mut fmt::Formatter<W>) -> fmt::Result {
+        write!(
+            f,
+            "{:08X} to {:08X}",
+            self.first,
+            self.end.saturating_sub(1)
+        )
+    }
+}
+
+impl fmt::Display for MetRegion {
+    fn fmt<W: fmt::Write>(&self, f: &mut fmt::Formatter<W>) -> fmt::Result {
+        let pages = Pages {
+            base: u64::from(self.region.base),
+            pages: u64::from(self.region.pages),
+        };
+        let number = self.place.saturating_add(1);
+        write!(
+            f,
+            "endpoint {:04X}, region {number} has {pages}",
+            self.endpoint.0
+        )
+    }
+}
+
+impl fmt::Display for ManifestRefusal {
+    fn fmt<W: fmt::Write>(&self, f: &mut fmt::Formatter<W>) -> fmt::Result {
+        if let Some(endpoint) = self.place.endpoint {
+            let nth = Nth(endpoint.place());
+            write!(f, "endpoint {:04X} (the {nth} [[endpoint]])", endpoint.0)?;
+            if let Some(region) = self.place.region {
+                write!(f, ", region {region}")?;
+            }
+            write!(f, ": ")?;
+        }
+        write!(f, "{}", self.place.found)
+    }
+}
+
 impl std::error::Error for ManifestRefusal {}
+
+// The base and the pages of a region as the manifest has them, and the addresses of its first and its last byte.
+fn write_region<W: fmt::Write>(f: &mut fmt::Formatter<W>, base: u64, pages: u64) -> fmt::Result {
+    let (first, count) = (Number(base), Number(pages));
+    let all = Pages { base, pages };
+    write!(f, "base = {first}, pages = {count}: {all}")
+}
 
 impl fmt::Display for Found {
     fn fmt<W: fmt::Write>(&self, f: &mut fmt::Formatter<W>) -> fmt::Result {
@@ -98,7 +218,25 @@ impl fmt::Display for Found {
             Found::UnknownKey(key) => write!(f, "key '{key}' is unknown"),
             Found::MissingKey(key) => write!(f, "'{key}' is missing"),
             Found::Value { key, value, fault } => write!(f, "{key} = {value}: {fault}"),
-            Found::Whole { value, fault } => write!(f, "{value}: {fault}"),
+            Found::Number { key, number, fault } => {
+                write!(f, "{key} = {}: {fault}", Number(*number))
+            }
+            Found::Count { key, count, most } => {
+                write!(f, "{key} has {count} members: 1 to {most}")
+            }
+            Found::NoTable(value) => write!(f, "{value}: no table"),
+            Found::Outside {
+                base,
+                pages,
+                bounds,
+            } => {
+                write_region(f, *base, *pages)?;
+                write!(f, "; regions lie in {bounds}")
+            }
+            Found::Overlap { region, met } => {
+                write_region(f, u64::from(region.base), u64::from(region.pages))?;
+                write!(f, "; {met}")
+            }
         }
     }
 }

@@ -2,8 +2,9 @@
 //! Where the regions of a machine may lie.
 ghost use Rattle.std.specs.Prelude.{◌≡◌, ◌-◌, ◌^◌, ◌≤◌};
 ghost use Rattle.ffa_model.specs.declared.limits.TheConstants.{MOST_BLOCKS, MOST_ENDPOINTS, MOST_RAM};
-ghost use Rattle.ffa_model.specs.Manifest.{is_ram_base as is_ram_base_in};
+ghost use Rattle.ffa_model.specs.Manifest.{is_ram_base as is_ram_base_in, ram_end, tables_end};
 
+use crate::refusal::Bounds;
 use ffa_model::{MOST_RAM, Region, Rights};
 
 /// Whether RAM may begin at this address: a multiple of the largest RAM, but not 0, from which
@@ -31,16 +32,26 @@ pub(crate) struct RegionSpace {
 impl RegionSpace {
     ghost use Rattle.ffa_manifest.specs.RegionSpace.{placed};
 
+    /// Where regions may lie: behind the table pages, and in RAM.
+    pub(crate) fn bounds(&self) -> Bounds
+        ensures first { result.first ≡ tables_end self.now.base self.now.blocks self.now.endpoints }
+        ensures end { result.end ≡ ram_end self.now.base self.now.blocks }
+    {
+        let base = u64::from(self.base);
+        Bounds {
+            first: base + 4096 * u64::from(self.endpoints * (2 + self.blocks)),
+            end: base + 0x20_0000 * u64::from(self.blocks),
+        }
+    }
+
     /// The region of these numbers, where it's of whole pages, at least one, that all lie in RAM behind the table
     /// pages.
     pub(crate) fn region(&self, base: u64, pages: u64, rights: Rights) -> Option<Region>
         ensures { result ≡ placed self.now (record { base = base; pages = pages; rights = rights }) }
     {
-        let start = u64::from(self.base);
-        let free = start + 4096 * u64::from(self.endpoints * (2 + self.blocks));
-        let end = start + 0x20_0000 * u64::from(self.blocks);
+        let Bounds { first, end } = self.bounds();
         let region_end = u128::from(base) + 4096 * u128::from(pages);
-        if base % 4096 == 0 && 1 <= pages && free <= base && region_end <= u128::from(end) {
+        if base % 4096 == 0 && 1 <= pages && first <= base && region_end <= u128::from(end) {
             let (base, pages) = (base as u32, pages as u32);
             Some(Region {
                 base,
