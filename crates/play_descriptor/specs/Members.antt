@@ -1,8 +1,8 @@
 -- SPDX-License-Identifier: MIT OR Apache-2.0
 -- What each word of a descriptor says by itself, where it can be read.
-use Rattle.std.specs.Prelude.{ℕ, ◌^◌, ◌%◌, ◌==◌, ◌&&◌, Bool, true, false, nat_lt, List, [], ◌∷◌, codes, Option, Some, None, if◌then◌else◌, option_map, option_and_then}
+use Rattle.std.specs.Prelude.{ℕ, ◌^◌, ◌%◌, ◌==◌, ◌&&◌, ◌||◌, Bool, false, nat_lt, List, [], ◌∷◌, drop, codes, Option, Some, None, if◌then◌else◌, option_map, option_and_then}
 use Rattle.std.specs.Str.{bytes_eq}
-use Rattle.std.specs.List.{slice_split}
+use Rattle.std.specs.List.{slice_split, starts_with}
 use Rattle.play_syntax.specs.TraceLines.{number_of}
 use Rattle.ffa_model.specs.declared.endpoint.Address.{Address}
 use Rattle.ffa_model.specs.declared.endpoint.EndpointId.{EndpointId}
@@ -12,7 +12,10 @@ use Rattle.ffa_model.specs.declared.rights.Kind.{Kind}
 use Rattle.ffa_model.specs.declared.rights.Kind.TheVariants.{Share, Lend, Donate}
 use Rattle.ffa_model.specs.declared.transaction.Range.{Range}
 use Rattle.ffa_model.specs.declared.transaction.Receiver.{Receiver}
+use Rattle.play_descriptor.specs.declared.fault.Form.{Form}
 use Rattle.play_descriptor.specs.declared.members.Asker.{Asker}
+use Rattle.play_descriptor.specs.declared.right.Right.{Right}
+use Rattle.play_descriptor.specs.Forms.{asked_by, has_place, right_named}
 
 abbrev pub plus : ℕ
 plus = 43
@@ -42,28 +45,36 @@ each read (part ∷ parts) = option_and_then (λ a. option_map (λ rest. a ∷ r
 
 -- NUMBERS
 
+-- `0x` or `0X` stands in front
+abbrev pub is_marked : List ℕ → Bool
+is_marked word = starts_with (λ a b. a == b) word (codes "0x") || starts_with (λ a b. a == b) word (codes "0X")
+
+-- the number that 1 to 16 digits write, with such a mark before them or without
+unfoldable pub number_in : List ℕ → Option ℕ
+number_in word = number_of (if is_marked word then drop 2 word else word)
+
 abbrev pub below : ℕ → ℕ → Option ℕ
 below bound n = if nat_lt n bound then Some n else None
 
 unfoldable pub identifier_of : List ℕ → Option EndpointId
-identifier_of word = option_map (λ n. record { 0 = n }) (option_and_then (below (2 ^ 16)) (number_of word))
+identifier_of word = option_map (λ n. record { 0 = n }) (option_and_then (below (2 ^ 16)) (number_in word))
 
 unfoldable pub page_count_of : List ℕ → Option ℕ
-page_count_of word = option_and_then (below (2 ^ 32)) (number_of word)
+page_count_of word = option_and_then (below (2 ^ 32)) (number_in word)
 
 -- the address of a page, below 2 ^ 32
 unfoldable pub tx_of : List ℕ → Option Address
 tx_of word =
     option_and_then
     (λ n. if nat_lt n (2 ^ 32) && (n % 4096 == 0) then Some (record { 0 = n }) else None)
-    (number_of word)
+    (number_in word)
 
 -- `ADDRESS+PAGES`
 abbrev pub range_in : List ℕ × Option (List ℕ) → Option Range
 range_in (first, Some second) =
     option_and_then
     (λ address. option_map (λ pages. record { address = address; pages = pages }) (page_count_of second))
-    (number_of first)
+    (number_in first)
 range_in (first, None) = None
 
 unfoldable pub range_of : List ℕ → Option Range
@@ -86,14 +97,8 @@ grant_of word =
     else None
 
 -- a right to data or none that is specified, and whether instructions may be fetched
-unfoldable pub right_of : List ℕ → Option (Option Data × Bool)
-right_of word =
-    if bytes_eq word (codes "ro") then Some (Some Ro, false)
-    else if bytes_eq word (codes "rw") then Some (Some Rw, false)
-    else if bytes_eq word (codes "rox") then Some (Some Ro, true)
-    else if bytes_eq word (codes "rwx") then Some (Some Rw, true)
-    else if bytes_eq word (codes "x") then Some (None, true)
-    else None
+abbrev pub right_of : List ℕ → Option (Option Data × Bool)
+right_of word = option_map asked_by (right_named word)
 
 -- RECEIVERS
 
@@ -118,3 +123,24 @@ asker_in (first, Some right) =
 
 unfoldable pub asker_of : List ℕ → Option Asker
 asker_of word = option_and_then asker_in (one_or_two (slice_split (λ c. c == colon) word))
+
+-- RIGHTS THAT HAVE NO PLACE
+
+-- the right beside an endpoint, where it is one that has no place there
+abbrev pub misplaced_in : Form → List ℕ × Option (List ℕ) → Option Right
+misplaced_in form (first, None) = None
+misplaced_in form (first, Some second) =
+    option_and_then (λ right. if has_place form right then None else Some right) (right_named second)
+
+unfoldable pub misplaced_of : Form → List ℕ → Option Right
+misplaced_of form word = option_and_then (misplaced_in form) (one_or_two (slice_split (λ c. c == colon) word))
+
+-- this one, or else the next
+abbrev pub or_else : {A : Type 0} → Option A → Option A → Option A
+or_else (Some a) next = Some a
+or_else None next = next
+
+-- the first of a list's members
+abbrev pub first_misplaced : Form → List (List ℕ) → Option Right
+first_misplaced form [] = None
+first_misplaced form (part ∷ parts) = or_else (misplaced_of form part) (first_misplaced form parts)

@@ -1,10 +1,9 @@
 -- SPDX-License-Identifier: MIT OR Apache-2.0
 -- What the words of a descriptor say, and what is wrong first with them.
-use Rattle.std.specs.Prelude.{◌≡◌, ℕ, Bool, true, false, is_some, nat_le, length, List, codes, Option, Some, None, Result, Ok, Err, option_map, if◌then◌else◌}
+use Rattle.std.specs.Prelude.{◌≡◌, ℕ, ◌%◌, ⊤, Bool, true, false, is_some, nat_le, length, List, codes, Option, Some, None, Result, Ok, Err, option_map, if◌then◌else◌}
 use Rattle.std.specs.Option.{ok_or}
 use Rattle.std.specs.Str.{bytes_eq}
 use Rattle.play_arguments.specs.Commands.{Described}
-use Rattle.play_syntax.specs.TraceLines.{number_of}
 use Rattle.ffa_model.specs.declared.endpoint.EndpointId.{EndpointId}
 use Rattle.ffa_model.specs.declared.endpoint.Address.{Address}
 use Rattle.ffa_model.specs.declared.endpoint.Version.{Version}
@@ -14,12 +13,19 @@ use Rattle.ffa_model.specs.declared.rights.Kind.{Kind}
 use Rattle.ffa_model.specs.declared.transaction.Range.{Range}
 use Rattle.ffa_model.specs.declared.transaction.Receiver.{Receiver}
 use Rattle.play_writer.specs.declared.descriptor.DescriptorContents.TheVariants.{Send, Retrieve, Relinquish}
-use Rattle.play_descriptor.specs.Members.{asker_of, each, identifier_of, kind_of, members_of, range_of, receiver_of, tx_of}
+use Rattle.play_writer.specs.declared.reclaim.Reclaim.{Reclaim}
+use Rattle.play_descriptor.specs.Forms.{form_of}
+use Rattle.play_descriptor.specs.Members.{asker_of, each, first_misplaced, identifier_of, kind_of, members_of, number_in, range_of, receiver_of, tx_of}
+use Rattle.play_descriptor.specs.declared.fault.Form.{Form}
+use Rattle.play_descriptor.specs.declared.fault.Form.TheVariants as form
 use Rattle.play_descriptor.specs.declared.fault.Word.{Word}
 use Rattle.play_descriptor.specs.declared.fault.Word.TheVariants as words
 use Rattle.play_descriptor.specs.declared.fault.WordsFault.{WordsFault}
-use Rattle.play_descriptor.specs.declared.fault.WordsFault.TheVariants.{UnknownKind, OutOfPlace, Missing, TooMany, Unreadable}
+use Rattle.play_descriptor.specs.declared.fault.WordsFault.TheVariants.{UnknownKind, OutOfPlace, Missing, TooMany, RightOutOfPlace, Unreadable}
 use Rattle.play_descriptor.specs.declared.members.Asker.{Asker}
+use Rattle.play_descriptor.specs.declared.right.Right.{Right}
+use Rattle.play_descriptor.specs.declared.told.Asked.{Asked}
+use Rattle.play_descriptor.specs.declared.told.Asked.TheVariants as variant
 use Rattle.play_descriptor.specs.declared.told.Told.{Told}
 
 -- what follows, where nothing is wrong so far
@@ -36,9 +42,9 @@ Exact seen (Err e) read = read ≡ Err e
 -- WORDS
 
 -- a word that has no place
-abbrev pub refuse : Word → Bool → Result (Unit {0}) WordsFault
-refuse word true = Err (OutOfPlace word)
-refuse word false = Ok tt
+abbrev pub refuse : Form → Word → Bool → Result (Unit {0}) WordsFault
+refuse form word true = Err (OutOfPlace word form)
+refuse form word false = Ok tt
 
 -- a word that has to be given
 abbrev pub require : Word → Option (List ℕ) → Result (List ℕ) WordsFault
@@ -53,25 +59,35 @@ read_or usual read word (Some text) = ok_or (read text) (Unreadable word)
 abbrev pub at_most : ℕ → Word → List ℕ → Result (Unit {0}) WordsFault
 at_most most word text = if nat_le (length (members_of text)) most then Ok tt else Err (TooMany word)
 
-unfoldable pub tx_in : Described → Result Address WordsFault
-tx_in d = ok_or (tx_of d.tx) (Unreadable words.Tx)
+-- a right that has no place, where there is one
+abbrev pub refused : Form → Option Right → Result (Unit {0}) WordsFault
+refused form None = Ok tt
+refused form (Some right) = Err (RightOutOfPlace right form)
+
+-- a list of endpoints of which none has a right that has no place there
+abbrev pub only_rights : Form → List ℕ → Result (Unit {0}) WordsFault
+only_rights form text = refused form (first_misplaced form (members_of text))
+
+unfoldable pub tx_in : List ℕ → Result Address WordsFault
+tx_in text = ok_or (tx_of text) (Unreadable words.Tx)
 
 unfoldable pub sender_in : List ℕ → Result EndpointId WordsFault
 sender_in text = ok_or (identifier_of text) (Unreadable words.From)
 
 unfoldable pub handle_in : List ℕ → Result ℕ WordsFault
-handle_in text = ok_or (number_of text) (Unreadable words.Handle)
+handle_in text = ok_or (number_in text) (Unreadable words.Handle)
 
 unfoldable pub tag_in : Described → Result ℕ WordsFault
-tag_in d = read_or 0 number_of words.Tag d.tag
+tag_in d = read_or 0 number_in words.Tag d.tag
 
 -- the kind of the transaction that is retrieved, if it is told
 unfoldable pub of_in : Described → Result (Option Kind) WordsFault
 of_in d = read_or None (λ text. option_map (λ kind. Some kind) (kind_of text)) words.Of d.of
 
-unfoldable pub receivers_in : List ℕ → Result (List Receiver) WordsFault
-receivers_in text = do
+unfoldable pub receivers_in : Form → List ℕ → Result (List Receiver) WordsFault
+receivers_in form text = do
   few ← at_most MOST_RECEIVERS words.To text
+  rights ← only_rights form text
   ok_or (each receiver_of (members_of text)) (Unreadable words.To)
 
 unfoldable pub ranges_in : List ℕ → Result (List Range) WordsFault
@@ -88,6 +104,7 @@ asker_in text = do
 unfoldable pub endpoint_in : List ℕ → Result EndpointId WordsFault
 endpoint_in text = do
   one ← at_most 1 words.To text
+  none ← only_rights form.Relinquish text
   ok_or (identifier_of text) (Unreadable words.To)
 
 -- DESCRIPTORS
@@ -98,14 +115,15 @@ version_in d = if d.compact then Compact else V1_1
 -- a donate, a lend or a share
 unfoldable pub send_told : Kind → Described → Result Told WordsFault
 send_told kind d = do
-  no_handle ← refuse words.Handle (is_some d.handle)
-  no_of ← refuse words.Of (is_some d.of)
+  no_handle ← refuse (form_of kind) words.Handle (is_some d.handle)
+  no_of ← refuse (form_of kind) words.Of (is_some d.of)
+  tx_word ← require words.Tx d.tx
   from ← require words.From d.from
   to ← require words.To d.to
   pages ← require words.Pages d.pages
-  tx ← tx_in d
+  tx ← tx_in tx_word
   sender ← sender_in from
-  receivers ← receivers_in to
+  receivers ← receivers_in (form_of kind) to
   ranges ← ranges_in pages
   tag ← tag_in d
   Ok (record {
@@ -122,12 +140,13 @@ send_told kind d = do
 
 unfoldable pub retrieve_told : Described → Result Told WordsFault
 retrieve_told d = do
-  no_pages ← refuse words.Pages (is_some d.pages)
-  no_zero ← refuse words.Zero d.zero
+  no_pages ← refuse form.Retrieve words.Pages (is_some d.pages)
+  no_zero ← refuse form.Retrieve words.Zero d.zero
+  tx_word ← require words.Tx d.tx
   from ← require words.From d.from
   to ← require words.To d.to
   handle_word ← require words.Handle d.handle
-  tx ← tx_in d
+  tx ← tx_in tx_word
   sender ← sender_in from
   asker ← asker_in to
   handle ← handle_in handle_word
@@ -148,13 +167,14 @@ retrieve_told d = do
 
 unfoldable pub relinquish_told : Described → Result Told WordsFault
 relinquish_told d = do
-  no_from ← refuse words.From (is_some d.from)
-  no_pages ← refuse words.Pages (is_some d.pages)
-  no_tag ← refuse words.Tag (is_some d.tag)
-  no_of ← refuse words.Of (is_some d.of)
+  no_from ← refuse form.Relinquish words.From (is_some d.from)
+  no_pages ← refuse form.Relinquish words.Pages (is_some d.pages)
+  no_tag ← refuse form.Relinquish words.Tag (is_some d.tag)
+  no_of ← refuse form.Relinquish words.Of (is_some d.of)
+  tx_word ← require words.Tx d.tx
   to ← require words.To d.to
   handle_word ← require words.Handle d.handle
-  tx ← tx_in d
+  tx ← tx_in tx_word
   endpoint ← endpoint_in to
   handle ← handle_in handle_word
   Ok (record {
@@ -168,3 +188,29 @@ told d =
     if bytes_eq d.kind (codes "retrieve") then retrieve_told d
     else if bytes_eq d.kind (codes "relinquish") then relinquish_told d
     else (ok_or (kind_of d.kind) UnknownKind >>= λ kind. send_told kind d)
+
+-- RECLAIMS
+
+unfoldable pub reclaim_told : Described → Result Reclaim WordsFault
+reclaim_told d = do
+  no_tx ← refuse form.Reclaim words.Tx (is_some d.tx)
+  no_from ← refuse form.Reclaim words.From (is_some d.from)
+  no_to ← refuse form.Reclaim words.To (is_some d.to)
+  no_pages ← refuse form.Reclaim words.Pages (is_some d.pages)
+  no_tag ← refuse form.Reclaim words.Tag (is_some d.tag)
+  no_of ← refuse form.Reclaim words.Of (is_some d.of)
+  no_compact ← refuse form.Reclaim words.Compact d.compact
+  handle_word ← require words.Handle d.handle
+  handle ← handle_in handle_word
+  Ok (record { handle = handle; zero = d.zero })
+
+-- a reclaim, or else a descriptor
+unfoldable pub asked : Described → Result Asked WordsFault
+asked d =
+    if bytes_eq d.kind (codes "reclaim") then (reclaim_told d >>= λ r. Ok (variant.Reclaim r))
+    else (told d >>= λ t. Ok (variant.Descriptor t))
+
+-- TX begins a page, where there is one
+abbrev pub HasAlignedTx : Asked → Type 0
+HasAlignedTx (variant.Descriptor t) = t.tx.0 % 4096 ≡ 0
+HasAlignedTx (variant.Reclaim r) = ⊤

@@ -1,6 +1,10 @@
 // SPDX-License-Identifier: MIT OR Apache-2.0
 //! What is wrong with words.
+ghost use Rattle.std.specs.Prelude.{◌≡◌};
+ghost use Rattle.play_descriptor.specs.Forms.{form_of};
 
+use crate::right::Right;
+use ffa_model::Kind;
 use std::error::Error;
 use std::fmt;
 
@@ -15,21 +19,35 @@ pub enum Word {
     Tag,
     Of,
     Zero,
+    Compact,
+}
+
+/// What words are for: a descriptor and its call, or a reclaim, which has no descriptor. It prints as the command's word.
+#[derive(Clone, Copy, Debug, PartialEq, Eq)]
+pub enum Form {
+    Donate,
+    Lend,
+    Share,
+    Retrieve,
+    Relinquish,
+    Reclaim,
 }
 
 /// What is wrong first with the words of a descriptor. It prints as one line.
 ///
 /// A kind that is unknown comes first, then words that have no place, then those that are missing, and then those that can't
-/// be read or are too many: each in the order in which `Word` has them.
+/// be read or are too many, or have a right that has no place: each in the order in which `Word` has them.
 #[derive(Clone, Copy, Debug, PartialEq, Eq)]
 pub enum WordsFault {
     UnknownKind,
-    /// The word has no place in a descriptor of this kind.
-    OutOfPlace(Word),
-    /// A descriptor of this kind needs the word.
+    /// The word has no place where the words are for this.
+    OutOfPlace(Word, Form),
+    /// A descriptor of this kind needs the word, or a reclaim does.
     Missing(Word),
     /// The list has more members than a descriptor of this kind can have.
     TooMany(Word),
+    /// An endpoint has this right beside it, which has no place there.
+    RightOutOfPlace(Right, Form),
     Unreadable(Word),
 }
 
@@ -44,6 +62,7 @@ impl Word {
             Word::Tag => "--tag",
             Word::Of => "--of",
             Word::Zero => "--zero",
+            Word::Compact => "--compact",
         }
     }
 
@@ -56,7 +75,54 @@ impl Word {
             Word::Pages => "none of the form 40021000+1",
             Word::Handle | Word::Tag => "no hexadecimal number of 1 to 16 digits",
             Word::Of => "none of donate, lend and share",
-            Word::Zero => "no flag",
+            Word::Zero | Word::Compact => "no flag",
+        }
+    }
+}
+
+impl Form {
+    /// The form of a send of this kind.
+    pub fn of_send(kind: Kind) -> Form
+        ensures { result ≡ form_of kind }
+    {
+        match kind {
+            Kind::Donate => Form::Donate,
+            Kind::Lend => Form::Lend,
+            Kind::Share => Form::Share,
+        }
+    }
+
+    fn name(self) -> &'static str {
+        match self {
+            Form::Donate => "donate",
+            Form::Lend => "lend",
+            Form::Share => "share",
+            Form::Retrieve => "retrieve",
+            Form::Relinquish => "relinquish",
+            Form::Reclaim => "reclaim",
+        }
+    }
+
+    // Which rights have a place beside an endpoint, and what is to be known of others.
+    fn rights(self) -> &'static str {
+        match self {
+            Form::Donate => "grants no right; its receiver asks for one at the retrieve",
+            Form::Lend => "grants ro or rw; execution is asked for at the retrieve",
+            Form::Share => "grants ro or rw; no receiver of a share may execute",
+            Form::Retrieve => "asks for ro, rw, rox, rwx or x",
+            Form::Relinquish => "takes no right; it gives up all that was retrieved",
+            Form::Reclaim => "takes no right",
+        }
+    }
+
+    // What is to be known of a word that has no place.
+    fn place(self, word: Word) -> &'static str {
+        match (self, word) {
+            (Form::Reclaim, _) => "a reclaim, which takes --handle and --zero",
+            (Form::Retrieve, Word::Zero) => {
+                "this descriptor: pages are zeroed by the donate, lend, relinquish or reclaim that asks for it"
+            }
+            _ => "this descriptor",
         }
     }
 }
@@ -67,16 +133,28 @@ impl fmt::Display for Word {
     }
 }
 
+impl fmt::Display for Form {
+    fn fmt<W: fmt::Write>(&self, f: &mut fmt::Formatter<W>) -> fmt::Result {
+        f.write_str(self.name())
+    }
+}
+
 impl fmt::Display for WordsFault {
     fn fmt<W: fmt::Write>(&self, f: &mut fmt::Formatter<W>) -> fmt::Result {
         match self {
             WordsFault::UnknownKind => write!(
                 f,
-                "the kind is none of donate, lend, share, retrieve and relinquish"
+                "the kind is none of donate, lend, share, retrieve, relinquish and reclaim"
             ),
-            WordsFault::OutOfPlace(word) => write!(f, "{word} has no place in this descriptor"),
+            WordsFault::OutOfPlace(word, form) => {
+                write!(f, "{word} has no place in {}", form.place(*word))
+            }
             WordsFault::Missing(word) => write!(f, "{word} is missing"),
             WordsFault::TooMany(word) => write!(f, "{word}: more than this descriptor can have"),
+            WordsFault::RightOutOfPlace(right, form) => {
+                let rights = form.rights();
+                write!(f, "--to: {right} has no place in a {form}, which {rights}")
+            }
             WordsFault::Unreadable(word) => write!(f, "{word}: {}", word.form()),
         }
     }

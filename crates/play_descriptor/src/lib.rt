@@ -5,7 +5,9 @@
 mod fault;
 mod members;
 mod parts;
+mod right;
 mod told;
 
-pub use fault::{Word, WordsFault};
-pub use told::{Told, read_words};
+pub use fault::{Form, Word, WordsFault};
+pub use right::Right;
+pub use told::{Asked, Told, read_words};

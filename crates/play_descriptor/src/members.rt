@@ -1,9 +1,11 @@
 // SPDX-License-Identifier: MIT OR Apache-2.0
 //! Words that are read by themselves.
 ghost use Rattle.std.specs.Prelude.{◌≡◌, ◌%◌, ◌≤◌, length, option_map, IfSome};
-ghost use Rattle.play_descriptor.specs.Members.{asker_of, each, grant_of, identifier_of, kind_of, members_of, page_count_of, range_of, receiver_of, right_of, tx_of};
+ghost use Rattle.play_descriptor.specs.Members.{asker_of, each, first_misplaced, grant_of, identifier_of, kind_of, members_of, misplaced_of, page_count_of, range_of, receiver_of, right_of, tx_of};
 
+use crate::fault::Form;
 use crate::parts::{cut, number, one_or_two};
+use crate::right::Right;
 use arrayvec::ArrayVec;
 use ffa_model::{Address, Data, EndpointId, Kind, MOST_RANGES, MOST_RECEIVERS, Range, Receiver};
 
@@ -82,18 +84,42 @@ fn read_grant(word: &str) -> Option<Data>
     }
 }
 
-#[tactic(auto, unfolding(crate::specs::Members::right_of))]
 fn read_right(word: &str) -> Option<(Option<Data>, bool)>
     ensures { result ≡ right_of word.now }
 {
-    match word {
-        "ro" => Some((Some(Data::Ro), false)),
-        "rw" => Some((Some(Data::Rw), false)),
-        "rox" => Some((Some(Data::Ro), true)),
-        "rwx" => Some((Some(Data::Rw), true)),
-        "x" => Some((None, true)),
-        _ => None,
+    match Right::read(word) {
+        None => None,
+        Some(right) => Some(right.asked()),
     }
+}
+
+// The right beside an endpoint, where it is one that has no place there.
+#[tactic(auto, unfolding(crate::specs::Members::misplaced_of))]
+fn misplaced(form: Form, word: &str) -> Option<Right>
+    ensures { result ≡ misplaced_of form word.now }
+{
+    let (_, right) = one_or_two(word, ':')?;
+    let right = Right::read(right?)?;
+    if right.has_place(form) {
+        None
+    } else {
+        Some(right)
+    }
+}
+
+/// The first right in a list of endpoints that has no place there.
+pub(crate) fn first_misplaced(form: Form, text: &str) -> Option<Right>
+    ensures { result ≡ first_misplaced form (members_of text.now) }
+{
+    let mut rest = Some(text);
+    'members: while let Some(left) = rest {
+        let (word, behind) = cut(left, ',');
+        if let Some(right) = misplaced(form, word) {
+            return Some(right);
+        }
+        rest = behind;
+    }
+    None
 }
 
 #[tactic(auto, unfolding(crate::specs::Members::receiver_of))]

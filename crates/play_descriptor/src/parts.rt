@@ -1,9 +1,9 @@
 // SPDX-License-Identifier: MIT OR Apache-2.0
 //! The parts of a word: those between its commas, those round a colon or a plus, and numbers.
-ghost use Rattle.std.specs.Prelude.{◌≡◌, ◌+◌, ◌<◌, ◌≤◌, ◌==◌, ◌∷◌, length, fold, IfSome, Some, option_map};
+ghost use Rattle.std.specs.Prelude.{◌≡◌, ◌+◌, ◌<◌, ◌≤◌, ◌==◌, ◌∷◌, drop, length, fold, IfSome, Some, option_map, if◌then◌else◌};
 ghost use Rattle.std.specs.List.{slice_split};
-ghost use Rattle.play_syntax.specs.TraceLines.{digit_value, number_of, with_digit};
-ghost use Rattle.play_descriptor.specs.Members.{comma, one_or_two};
+ghost use Rattle.play_syntax.specs.TraceLines.{digit_value, with_digit};
+ghost use Rattle.play_descriptor.specs.Members.{comma, is_marked, number_in, one_or_two};
 ghost use Rattle.play_descriptor.specs.Cuts.{parts_left};
 
 /// What stands before the first mark, and behind it where there is one.
@@ -59,15 +59,29 @@ fn digit(byte: u8) -> Option<u64>
     }
 }
 
-/// The number that 1 to 16 hexadecimal digits write.
-#[tactic(auto, unfolding(play_syntax::specs::TraceLines::number_of))]
-pub(crate) fn number(word: &str) -> Option<u64>
-    ensures { result ≡ number_of word.now }
+// What stands behind `0x` or `0X`, or the whole word where neither stands in front.
+fn without_mark(word: &[u8]) -> &[u8]
+    ensures { result.now ≡ (if is_marked word.now then drop 2 word.now else word.now) }
 {
-    if word.is_empty() || word.len() > 16 {
+    if word.starts_with(b"0x".as_slice()) {
+        &word[2..]
+    } else if word.starts_with(b"0X".as_slice()) {
+        &word[2..]
+    } else {
+        word
+    }
+}
+
+/// The number that 1 to 16 hexadecimal digits write, with `0x` or `0X` before them or without.
+#[tactic(auto, unfolding(play_syntax::specs::TraceLines::number_of, crate::specs::Members::number_in))]
+pub(crate) fn number(word: &str) -> Option<u64>
+    ensures { result ≡ number_in word.now }
+{
+    let written = without_mark(word.as_bytes());
+    if written.is_empty() || written.len() > 16 {
         None
     } else {
-        digits(word.as_bytes())
+        digits(written)
     }
 }
 

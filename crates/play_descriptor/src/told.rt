@@ -2,11 +2,13 @@
 //! What the words of a descriptor say.
 ghost use Rattle.std.specs.Prelude.{◌≡◌, ◌%◌, IfOk, option_map, is_some};
 ghost use Rattle.play_arguments.specs.Commands.{words_of};
-ghost use Rattle.play_descriptor.specs.Told.{Exact, asker_in, at_most, endpoint_in, handle_in, require, of_in, ranges_in, receivers_in, relinquish_told, retrieve_told, send_told, sender_in, tag_in, told, tx_in, refuse, version_in};
+ghost use Rattle.play_descriptor.specs.Forms.{form_of};
+ghost use Rattle.play_descriptor.specs.Told.{Exact, HasAlignedTx, asked, asker_in, at_most, endpoint_in, handle_in, only_rights, require, of_in, ranges_in, receivers_in, reclaim_told, relinquish_told, retrieve_told, send_told, sender_in, tag_in, told, tx_in, refuse, version_in};
 
-use crate::fault::{Word, WordsFault};
+use crate::fault::{Form, Word, WordsFault};
 use crate::members::{
-    Asker, read_asker, read_identifier, read_kind, read_ranges, read_receivers, read_tx,
+    Asker, first_misplaced, read_asker, read_identifier, read_kind, read_ranges, read_receivers,
+    read_tx,
 };
 use crate::parts::{commas, number};
 use arrayvec::ArrayVec;
@@ -15,7 +17,7 @@ use ffa_model::{
     RetrieveDesc, SendDesc, Version,
 };
 use play_arguments::DescriptorWords;
-use play_writer::DescriptorContents;
+use play_writer::{DescriptorContents, Reclaim};
 
 /// What words say: a descriptor, its form, and where TX stands.
 #[derive(Drop)]
@@ -26,14 +28,34 @@ pub struct Told {
     pub tx: Address,
 }
 
-/// Reads the words of a descriptor, or says what is wrong first with them.
+/// What words ask for: a descriptor and its call, or a call that has none.
+#[derive(Drop)]
+pub enum Asked {
+    Descriptor(Told),
+    Reclaim(Reclaim),
+}
+
+/// Reads the words of a descriptor or of a reclaim, or says what is wrong first with them.
 ///
-/// Numbers are hexadecimal, of 1 to 16 digits. A donate, a lend and a share need the sender, the receivers and the pages, and may
-/// have a tag and be zeroed; a receiver may have a right to data. A retrieve needs the sender, the one receiver, which may have
-/// a right to data and to instructions, and the handle, and may have a tag and the kind of the transaction. A relinquish needs
-/// the one receiver and the handle, and may be zeroed.
+/// Numbers are hexadecimal, of 1 to 16 digits, and may have `0x` or `0X` before them. Each descriptor needs where TX stands. A
+/// donate, a lend and a share need the sender, the receivers and the pages, and may have a tag and be zeroed; a receiver of a lend
+/// or a share may have a right to data. A retrieve needs the sender, the one receiver, which may have a right to data and to
+/// instructions, and the handle, and may have a tag and the kind of the transaction. A relinquish needs the one receiver and the
+/// handle, and may be zeroed. A reclaim needs the handle alone, and may be zeroed.
+#[tactic(auto, unfolding(crate::specs::Told::asked))]
+pub fn read_words(words: &DescriptorWords<'_>) -> Result<Asked, WordsFault>
+    ensures asked { result ≡ asked (words_of words.now) }
+    ensures aligned { IfOk result HasAlignedTx }
+{
+    if words.kind == "reclaim" {
+        Ok(Asked::Reclaim(reclaim(words)?))
+    } else {
+        Ok(Asked::Descriptor(descriptor(words)?))
+    }
+}
+
 #[tactic(auto, unfolding(crate::specs::Told::told))]
-pub fn read_words(words: &DescriptorWords<'_>) -> Result<Told, WordsFault>
+fn descriptor(words: &DescriptorWords<'_>) -> Result<Told, WordsFault>
     ensures told { result ≡ told (words_of words.now) }
     ensures aligned { IfOk result (λ t. t.tx.0 % 4096 ≡ 0) }
 {
@@ -52,16 +74,18 @@ fn send(kind: Kind, words: &DescriptorWords<'_>) -> Result<Told, WordsFault>
     ensures told { result ≡ send_told kind (words_of words.now) }
     ensures aligned { IfOk result (λ t. t.tx.0 % 4096 ≡ 0) }
 {
-    refuse(Word::Handle, words.handle.is_some())?;
-    refuse(Word::Of, words.of.is_some())?;
+    let form = Form::of_send(kind);
+    refuse(form, Word::Handle, words.handle.is_some())?;
+    refuse(form, Word::Of, words.of.is_some())?;
+    let tx = require(Word::Tx, words.tx)?;
     let from = require(Word::From, words.from)?;
     let to = require(Word::To, words.to)?;
     let pages = require(Word::Pages, words.pages)?;
-    let tx = tx_in(words)?;
+    let tx = tx_in(tx)?;
     let desc = SendDesc {
         sender: sender_in(from)?,
         zero: words.zero,
-        receivers: receivers_in(to)?,
+        receivers: receivers_in(form, to)?,
         ranges: ranges_in(pages)?,
         tag: tag_in(words)?,
     };
@@ -77,12 +101,13 @@ fn retrieve(words: &DescriptorWords<'_>) -> Result<Told, WordsFault>
     ensures told { result ≡ retrieve_told (words_of words.now) }
     ensures aligned { IfOk result (λ t. t.tx.0 % 4096 ≡ 0) }
 {
-    refuse(Word::Pages, words.pages.is_some())?;
-    refuse(Word::Zero, words.zero)?;
+    refuse(Form::Retrieve, Word::Pages, words.pages.is_some())?;
+    refuse(Form::Retrieve, Word::Zero, words.zero)?;
+    let tx = require(Word::Tx, words.tx)?;
     let from = require(Word::From, words.from)?;
     let to = require(Word::To, words.to)?;
     let handle = require(Word::Handle, words.handle)?;
-    let tx = tx_in(words)?;
+    let tx = tx_in(tx)?;
     let sender = sender_in(from)?;
     let asker = asker_in(to)?;
     let desc = RetrieveDesc {
@@ -108,13 +133,14 @@ fn relinquish(words: &DescriptorWords<'_>) -> Result<Told, WordsFault>
     ensures told { result ≡ relinquish_told (words_of words.now) }
     ensures aligned { IfOk result (λ t. t.tx.0 % 4096 ≡ 0) }
 {
-    refuse(Word::From, words.from.is_some())?;
-    refuse(Word::Pages, words.pages.is_some())?;
-    refuse(Word::Tag, words.tag.is_some())?;
-    refuse(Word::Of, words.of.is_some())?;
+    refuse(Form::Relinquish, Word::From, words.from.is_some())?;
+    refuse(Form::Relinquish, Word::Pages, words.pages.is_some())?;
+    refuse(Form::Relinquish, Word::Tag, words.tag.is_some())?;
+    refuse(Form::Relinquish, Word::Of, words.of.is_some())?;
+    let tx = require(Word::Tx, words.tx)?;
     let to = require(Word::To, words.to)?;
     let handle = require(Word::Handle, words.handle)?;
-    let tx = tx_in(words)?;
+    let tx = tx_in(tx)?;
     let endpoint = endpoint_in(to)?;
     let desc = RelinquishDesc {
         handle: handle_in(handle)?,
@@ -128,11 +154,29 @@ fn relinquish(words: &DescriptorWords<'_>) -> Result<Told, WordsFault>
     })
 }
 
-fn refuse(word: Word, is_given: bool) -> Result<(), WordsFault>
-    ensures { result ≡ refuse word is_given }
+#[tactic(auto, unfolding(crate::specs::Told::reclaim_told))]
+fn reclaim(words: &DescriptorWords<'_>) -> Result<Reclaim, WordsFault>
+    ensures { result ≡ reclaim_told (words_of words.now) }
+{
+    refuse(Form::Reclaim, Word::Tx, words.tx.is_some())?;
+    refuse(Form::Reclaim, Word::From, words.from.is_some())?;
+    refuse(Form::Reclaim, Word::To, words.to.is_some())?;
+    refuse(Form::Reclaim, Word::Pages, words.pages.is_some())?;
+    refuse(Form::Reclaim, Word::Tag, words.tag.is_some())?;
+    refuse(Form::Reclaim, Word::Of, words.of.is_some())?;
+    refuse(Form::Reclaim, Word::Compact, words.compact)?;
+    let handle = require(Word::Handle, words.handle)?;
+    Ok(Reclaim {
+        handle: handle_in(handle)?,
+        zero: words.zero,
+    })
+}
+
+fn refuse(form: Form, word: Word, is_given: bool) -> Result<(), WordsFault>
+    ensures { result ≡ refuse form word is_given }
 {
     if is_given {
-        Err(WordsFault::OutOfPlace(word))
+        Err(WordsFault::OutOfPlace(word, form))
     } else {
         Ok(())
     }
@@ -155,6 +199,16 @@ fn at_most(most: usize, word: Word, text: &str) -> Result<(), WordsFault>
     }
 }
 
+// Refuses a list of endpoints with a right that has no place there.
+fn only_rights(form: Form, text: &str) -> Result<(), WordsFault>
+    ensures { result ≡ only_rights form text.now }
+{
+    match first_misplaced(form, text) {
+        None => Ok(()),
+        Some(right) => Err(WordsFault::RightOutOfPlace(right, form)),
+    }
+}
+
 fn version_in(words: &DescriptorWords<'_>) -> Version
     ensures { result ≡ version_in (words_of words.now) }
 {
@@ -166,11 +220,11 @@ fn version_in(words: &DescriptorWords<'_>) -> Version
 }
 
 #[tactic(auto, unfolding(crate::specs::Told::tx_in))]
-fn tx_in(words: &DescriptorWords<'_>) -> Result<Address, WordsFault>
-    ensures value { result ≡ tx_in (words_of words.now) }
+fn tx_in(text: &str) -> Result<Address, WordsFault>
+    ensures value { result ≡ tx_in text.now }
     ensures aligned { IfOk result (λ a. a.0 % 4096 ≡ 0) }
 {
-    read_tx(words.tx).ok_or(WordsFault::Unreadable(Word::Tx))
+    read_tx(text).ok_or(WordsFault::Unreadable(Word::Tx))
 }
 
 #[tactic(auto, unfolding(crate::specs::Told::sender_in))]
@@ -211,10 +265,11 @@ fn of_in(words: &DescriptorWords<'_>) -> Result<Option<Kind>, WordsFault>
 }
 
 #[tactic(auto, unfolding(crate::specs::Told::receivers_in))]
-fn receivers_in(text: &str) -> Result<ArrayVec<Receiver, MOST_RECEIVERS>, WordsFault>
-    ensures { Exact (λ rs. rs.items) result (receivers_in text.now) }
+fn receivers_in(form: Form, text: &str) -> Result<ArrayVec<Receiver, MOST_RECEIVERS>, WordsFault>
+    ensures { Exact (λ rs. rs.items) result (receivers_in form text.now) }
 {
     at_most(MOST_RECEIVERS, Word::To, text)?;
+    only_rights(form, text)?;
     read_receivers(text).ok_or(WordsFault::Unreadable(Word::To))
 }
 
@@ -239,5 +294,6 @@ fn endpoint_in(text: &str) -> Result<EndpointId, WordsFault>
     ensures { result ≡ endpoint_in text.now }
 {
     at_most(1, Word::To, text)?;
+    only_rights(Form::Relinquish, text)?;
     read_identifier(text).ok_or(WordsFault::Unreadable(Word::To))
 }

@@ -1,8 +1,8 @@
 -- SPDX-License-Identifier: MIT OR Apache-2.0
 -- Lines that write a descriptor into TX and make its call.
-use Rattle.std.specs.Prelude.{◌≡◌, ℕ, List, [], ◌∷◌, ◌++◌, length, replicate, Option, Some, None, Result, Ok, Err}
+use Rattle.std.specs.Prelude.{◌≡◌, ℕ, ◌/◌, ◌%◌, ◌^◌, if◌then◌else◌, List, [], ◌∷◌, ◌++◌, length, replicate, Option, Some, None, Result, Ok, Err}
 use Rattle.ffa_model.specs.declared.endpoint.Version.{Version}
-use Rattle.ffa_model.specs.declared.function.TheConstants.{FFA_MEM_DONATE, FFA_MEM_LEND, FFA_MEM_SHARE, FFA_MEM_RETRIEVE_REQ, FFA_MEM_RELINQUISH}
+use Rattle.ffa_model.specs.declared.function.TheConstants.{FFA_MEM_DONATE, FFA_MEM_LEND, FFA_MEM_SHARE, FFA_MEM_RETRIEVE_REQ, FFA_MEM_RELINQUISH, FFA_MEM_RECLAIM}
 use Rattle.ffa_model.specs.declared.operation.Op.TheVariants.{Call}
 use Rattle.ffa_model.specs.declared.rights.Kind.{Kind}
 use Rattle.ffa_model.specs.declared.rights.Kind.TheVariants.{Share, Lend, Donate}
@@ -11,6 +11,7 @@ use Rattle.ffa_model.specs.RelinquishDescriptor.{Relinquish as IsRelinquish}
 use Rattle.ffa_model.specs.RetrieveDescriptor.{Retrieve as IsRetrieve}
 use Rattle.ffa_model.specs.SendDescriptor.{Send as IsSend, send_record}
 use Rattle.play_syntax.specs.TraceLines.{joined}
+use Rattle.play_writer.specs.declared.reclaim.Reclaim.{Reclaim}
 use Rattle.play_writer.specs.declared.unfit.Unfit.{Unfit}
 use Rattle.play_writer.specs.Conditions.{conditions, first_broken}
 use Rattle.play_writer.specs.declared.descriptor.DescriptorContents.{DescriptorContents}
@@ -41,6 +42,11 @@ abbrev pub call_with : DescriptorContents → ℕ → List ℕ
 call_with (Send kind desc) n = sends kind ∷ n ∷ n ∷ replicate 5 0
 call_with (Retrieve desc receiver) n = FFA_MEM_RETRIEVE_REQ ∷ n ∷ n ∷ replicate 5 0
 call_with (Relinquish desc) n = FFA_MEM_RELINQUISH ∷ replicate 7 0
+
+-- the registers of a reclaim: the low half of the handle, its high half, and whether the pages are to be zeroed
+abbrev pub reclaim_with : Reclaim → List ℕ
+reclaim_with r =
+    FFA_MEM_RECLAIM ∷ (r.handle % 2 ^ 32) ∷ (r.handle / 2 ^ 32) ∷ (if r.zero then 1 else 0) ∷ replicate 4 0
 
 -- a text grew by lines that store a descriptor's bytes from an address on, and by the line of its call
 pub record GrowsByDescriptor (version : Version) (descriptor : DescriptorContents) (tx : ℕ) (old new : List ℕ) : Type 0 where

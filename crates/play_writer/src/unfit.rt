@@ -174,7 +174,9 @@ pub fn find_unfit(kind: Kind, desc: &SendDesc) -> Option<Unfit>
 impl fmt::Display for Unfit {
     fn fmt<W: fmt::Write>(&self, f: &mut fmt::Formatter<W>) -> fmt::Result {
         f.write_str(match self {
-            Unfit::ZeroedShare => "a share asks for zeroed pages",
+            Unfit::ZeroedShare => {
+                "a share asks for zeroed pages, and zeroes none: store zeros before it, or lend or donate the pages, which zeroes them at the send"
+            }
             Unfit::NoReceiver => "no receiver is named",
             Unfit::SeveralReceiversOfADonate => "a donate has several receivers",
             Unfit::GrantMissing => "a receiver of a share or a lend is granted no data right",
