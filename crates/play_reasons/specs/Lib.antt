@@ -3,5 +3,6 @@ pub mod Checks
 pub mod FlawWords
 pub mod Words
 pub mod Marks
+pub mod Mends
 pub mod Reasons
 pub mod Whole

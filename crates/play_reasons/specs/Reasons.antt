@@ -1,6 +1,6 @@
 -- SPDX-License-Identifier: MIT OR Apache-2.0
 -- The line that says why an operation is refused.
-use Rattle.std.specs.Prelude.{ℕ, ◌+◌, ◌-◌, ◌*◌, ◌^◌, nat_le, nat_lt, Bool, List, [], ◌++◌, codes, decimal, Option, None, Some, if◌then◌else◌}
+use Rattle.std.specs.Prelude.{ℕ, ◌+◌, ◌-◌, ◌*◌, ◌^◌, min, nat_le, Bool, List, [], ◌++◌, codes, decimal, Option, None, Some, if◌then◌else◌}
 use Rattle.std.specs.Option.{option_map_or}
 use Rattle.ffa_model.specs.declared.flaw.FieldPlace.{FieldPlace}
 use Rattle.ffa_model.specs.declared.flaw.Flaw.{Flaw}
@@ -21,11 +21,15 @@ use Rattle.ffa_model.specs.State.{State}
 use Rattle.play_syntax.specs.TraceLines.{Line, operate, show, audit, skip, line_of}
 use Rattle.play_syntax.specs.TraceText.{bytes_moved, ended, hex}
 use Rattle.ffa_model.specs.Why.{why}
+use Rattle.ffa_mend.specs.declared.Mend.{Mend}
+use Rattle.ffa_mend.specs.Mend.{address_of, call_of, mend}
 use Rattle.ffa_abi.specs.Names.{call_name_of}
 use Rattle.ffa_abi.specs.Widths.{is_read_whole}
 use Rattle.play_reasons.specs.Checks.{number_of}
 use Rattle.play_reasons.specs.FlawWords.{flaw_words_of}
+use Rattle.play_reasons.specs.Mends.{address_text, allowed_field, allowed_text, kind_of, mended_text, short_text, wanted_text}
 use Rattle.play_reasons.specs.Words.{words_of}
+use Rattle.play_reasons.specs.declared.allowed.Allowed.{Allowed}
 use Rattle.play_reasons.specs.declared.reason.Reason.{Reason}
 
 -- each such line begins so
@@ -51,24 +55,11 @@ call_text (Fetch address) refusal = []
 
 -- OF AN ACCESS: its address, and what is so of it
 
-abbrev pub address_of : Op → ℕ
-address_of (Call x) = 0
-address_of (Load address size) = address
-address_of (Store address size value) = address
-address_of (Fetch address) = address
-
--- in 16 digits where 8 are too few
-abbrev pub address_digits : ℕ → ℕ
-address_digits address = if nat_lt address (2 ^ 32) then 8 else 16
-
-abbrev pub address_text : ℕ → List ℕ
-address_text address = hex (address_digits address) address
-
 unfoldable pub transaction_text : ℕ → List ℕ
 transaction_text handle = codes " is in the open transaction " ++ hex 16 handle
 
 abbrev pub obstacle_text : Option Obstacle → List ℕ
-obstacle_text None = codes " has more than 32 bits"
+obstacle_text None = codes " is above FFFFFFFF"
 obstacle_text (Some obstacles.OutsideRam) = codes " is outside RAM"
 obstacle_text (Some obstacles.ManagersPage) = codes " belongs to the manager"
 obstacle_text (Some (obstacles.OwnedBy endpoint)) = codes " belongs to " ++ hex 4 endpoint.0
@@ -114,19 +105,22 @@ unfoldable pub register_text : Op → ℕ → ℕ → List ℕ
 register_text op register value = letter_text op register ++ decimal register ++ codes " is " ++ address_text value
 
 abbrev pub bit_text : ℕ → List ℕ
-bit_text number = codes "bit " ++ decimal number
+bit_text number = codes "bit " ++ short_text number
 
 -- which access descriptor, or which range
 abbrev pub index_text : Flaw → List ℕ
-index_text (Access index flaw) = codes "access descriptor " ++ decimal index ++ codes ": "
-index_text (Range index flaw) = codes "range " ++ decimal index ++ codes ": "
+index_text (Access index flaw) = codes "access descriptor " ++ short_text index ++ codes ": "
+index_text (Range index flaw) = codes "range " ++ short_text index ++ codes ": "
 index_text flaw = []
 
--- its first byte and its last
+-- its first byte and its last, or the last that a number of 64 bits counts
+abbrev pub last_of : ℕ → ℕ → ℕ
+last_of first size = min (first + (size - 1)) (2 ^ 64 - 1)
+
 abbrev pub place_text : ℕ → ℕ → List ℕ
 place_text first size =
-    if nat_le size 1 then codes "byte " ++ decimal first
-    else codes "bytes " ++ decimal first ++ codes " to " ++ decimal (first + (size - 1))
+    if nat_le size 1 then codes "byte " ++ short_text first
+    else codes "bytes " ++ short_text first ++ codes " to " ++ short_text (last_of first size)
 
 abbrev pub verb_text : ℕ → List ℕ
 verb_text size = if nat_le size 1 then codes " is " else codes " are "
@@ -135,38 +129,43 @@ verb_text size = if nat_le size 1 then codes " is " else codes " are "
 abbrev pub field_digits : ℕ → ℕ
 field_digits size = if nat_le size 8 then 2 * size else 16
 
-abbrev pub value_text : ℕ → Option ℕ → List ℕ
-value_text size value = option_map_or (λ v. verb_text size ++ hex (field_digits size) v) value []
+-- with what it may be
+unfoldable pub number_in_field : ℕ → ℕ → Option Allowed → List ℕ
+number_in_field size value allowed =
+    verb_text size ++ hex (field_digits size) value ++ allowed_text (field_digits size) allowed
+
+abbrev pub value_text : ℕ → Option ℕ → Option Allowed → List ℕ
+value_text size value allowed = option_map_or (λ v. number_in_field size v allowed) value []
 
 -- the condition that the descriptor breaks, the field of which it speaks, and the number in that
-unfoldable pub field_text : Flaw → FieldPlace → Option ℕ → List ℕ
-field_text flaw place value =
+unfoldable pub field_text : Op → Flaw → FieldPlace → Option ℕ → List ℕ
+field_text op flaw place value =
     index_text flaw ++ flaw_words_of flaw ++ codes ": " ++ place_text place.first place.size
-    ++ value_text place.size value
+    ++ value_text place.size value (allowed_field (kind_of (call_of op)) flaw)
 
-abbrev pub subject_text : ℕ → Op → About → List ℕ
-subject_text base op (Page page obstacle) = page_text base page.0 obstacle
-subject_text base op (Endpoint endpoint) = named_text endpoint.0
-subject_text base op (Handle handle) = handle_text handle
-subject_text base op (Register register value) = register_text op register value
-subject_text base op (Bit number) = bit_text number
-subject_text base op (Field flaw place value) = field_text flaw place value
+abbrev pub subject_text : ℕ → Op → Refusal → About → List ℕ
+subject_text base op refusal (Page page obstacle) = page_text base page.0 obstacle
+subject_text base op refusal (Endpoint endpoint) = named_text endpoint.0
+subject_text base op refusal (Handle handle) = handle_text handle
+subject_text base op refusal (Register register value) = register_text op register value ++ wanted_text op refusal value
+subject_text base op refusal (Bit number) = bit_text number
+subject_text base op refusal (Field flaw place value) = field_text op flaw place value
 
-abbrev pub about_text : ℕ → Op → Option About → List ℕ
-about_text base op about = option_map_or (λ its. codes ": " ++ subject_text base op its) about []
+abbrev pub about_text : ℕ → Op → Refusal → Option About → List ℕ
+about_text base op refusal about = option_map_or (λ its. codes ": " ++ subject_text base op refusal its) about []
 
 -- OF ANY OPERATION
 
 abbrev pub why_text : ℕ → Op → Why → List ℕ
-why_text base op (Refused refusal about) = call_text op refusal ++ words_of refusal ++ about_text base op about
+why_text base op (Refused refusal about) = call_text op refusal ++ words_of refusal ++ about_text base op refusal about
 why_text base op (Fault kind obstacle) = address_text (address_of op) ++ fault_text op kind obstacle
 
-unfoldable pub reason_line : ℕ → Op → Why → List ℕ
-reason_line base op reason = ended (reason_mark ++ why_text base op reason)
+unfoldable pub reason_line : ℕ → Op → Why → Option Mend → List ℕ
+reason_line base op reason mend = ended (reason_mark ++ why_text base op reason ++ mended_text mend)
 
--- what stands under the text of a line, where it is an operation that is refused in this state
+-- what stands under the text of a line, where it is an operation that is refused in this state, with what is to be mended
 abbrev pub reason_text : State → Line → List ℕ
-reason_text s (operate op) = option_map_or (reason_line s.ram_base op) (why s op) []
+reason_text s (operate op) = option_map_or (λ reason. reason_line s.ram_base op reason (mend s op)) (why s op) []
 reason_text s show = []
 reason_text s audit = []
 reason_text s skip = []
@@ -180,4 +179,4 @@ reason_of_bytes explain s bytes = option_map_or (reason_if explain s) (line_of b
 
 -- the line of a reason that is told, if one is
 abbrev pub told_line : Option Reason → List ℕ
-told_line reason = option_map_or (λ (r : Reason). reason_line r.base.0 r.op r.why) reason []
+told_line reason = option_map_or (λ (r : Reason). reason_line r.base.0 r.op r.why r.mend) reason []

@@ -29,8 +29,8 @@ pub enum WordFault {
     UnknownCommand,
     /// A number is wanted, and a byte of the word is no hexadecimal digit.
     NoNumber,
-    /// The number has more than 16 digits.
-    LongNumber,
+    /// The number has so many digits, which are more than 16.
+    LongNumber(usize),
     /// The bytes to load are none of 1, 2, 4 and 8.
     Size,
     /// So many digits write the value to store, which are none of 2, 4, 8 and 16.
@@ -130,7 +130,7 @@ fn number_fault(word: &[u8]) -> Option<WordFault> {
     if !word.iter().all(u8::is_ascii_hexdigit) {
         Some(WordFault::NoNumber)
     } else if word.len() > 16 {
-        Some(WordFault::LongNumber)
+        Some(WordFault::LongNumber(word.len()))
     } else {
         None
     }
@@ -191,7 +191,9 @@ impl fmt::Display for WordFault {
             WordFault::Empty => "an empty word",
             WordFault::UnknownCommand => "an unknown command",
             WordFault::NoNumber => "no hexadecimal number",
-            WordFault::LongNumber => "a number of more than 16 digits",
+            WordFault::LongNumber(digits) => {
+                return write!(f, "a number of {digits} digits, where 16 are the most");
+            }
             WordFault::Size => "a size that is none of 1, 2, 4 and 8",
             WordFault::Digits(1) => "a value of 1 digit, which is none of 2, 4, 8 and 16",
             WordFault::Digits(digits) => {
@@ -200,7 +202,9 @@ impl fmt::Display for WordFault {
                     "a value of {digits} digits, which are none of 2, 4, 8 and 16"
                 );
             }
-            WordFault::Registers(count) => return write!(f, "{count} registers"),
+            WordFault::Registers(count) => {
+                return write!(f, "{count} registers, where a call has 1 to 8");
+            }
             WordFault::Missing => "a word is missing",
             WordFault::TooMany => "a word too many",
         };

@@ -4,13 +4,17 @@
 //! hold, why an operation is refused, and why a line is none of the format. None of it asks a machine.
 #![tactic(auto)]
 
+mod allowed;
+mod digits;
 mod fault;
 mod flaws;
 pub mod mark;
+mod mend;
 mod numbers;
 mod reason;
 mod sentences;
 
+pub use allowed::Allowed;
 pub use fault::{LineFault, WordFault, line_fault};
 pub use flaws::flaw_words;
 pub use numbers::{check_number, checks};

@@ -1,20 +1,25 @@
 // SPDX-License-Identifier: MIT OR Apache-2.0
 //! Why an operation is refused, as a line under its text.
-ghost use Rattle.std.specs.Prelude.{◌≡◌, ◌++◌, ◌≤◌, IfErr, OnOk, None, Some, option_map};
+ghost use Rattle.std.specs.Prelude.{◌≡◌, ◌++◌, ◌≤◌, IfErr, OnOk, None, Some, codes, option_map};
 ghost use Rattle.ffa_model.specs.Memory.{size_of};
-ghost use Rattle.play_syntax.specs.TraceText.{bytes_moved, hex};
+ghost use Rattle.play_syntax.specs.TraceText.{bytes_moved};
 ghost use Rattle.play_reasons.specs.Words.{words_of};
-ghost use Rattle.play_reasons.specs.Reasons.{about_text, address_digits, address_of, address_text, bit_text, call_text, check_text, fault_text, field_digits, field_text, handle_text, index_text, letter_text, name_text, named_text, number_text, obstacle_text, page_address, page_text, place_text, reason_line, register_text, right_text, subject_text, told_line, transaction_text, value_text, verb_text, why_text};
+ghost use Rattle.ffa_mend.specs.Mend.{address_of};
+ghost use Rattle.play_reasons.specs.Mends.{address_text, mended_text, short_text, wanted_text};
+ghost use Rattle.play_reasons.specs.Reasons.{about_text, bit_text, call_text, check_text, fault_text, field_digits, field_text, handle_text, index_text, letter_text, number_in_field, name_text, named_text, number_text, obstacle_text, page_address, page_text, place_text, reason_line, register_text, right_text, subject_text, told_line, transaction_text, value_text, verb_text, why_text};
 
-use crate::mark::{put, put_bytes};
+use crate::allowed::{Allowed, allowed_field, call_of, kind_of};
+use crate::digits::{put_address, put_digits, put_short};
+use crate::mark::put;
+use crate::mend::{put_allowed, put_mended, put_wanted};
 use crate::{check_number, flaw_words, words};
 use ffa_abi::{call_name, decode, is_read_whole};
+use ffa_mend::Mend;
 use ffa_model::{
     About, Address, EndpointId, FaultKind, FieldPlace, Flaw, Obstacle, Op, PageNo, Refusal, Size,
     Why,
 };
 use play_syntax::PlayError;
-use play_syntax::text::{self, Text};
 use std::alloc::Allocator;
 use std::io::Write;
 
@@ -25,6 +30,8 @@ pub struct Reason {
     pub base: Address,
     pub op: Op,
     pub why: Why,
+    /// What is to be mended, where that is known.
+    pub mend: Option<Mend>,
 }
 
 /// Puts the line that says so behind a text, where there is a reason.
@@ -36,7 +43,14 @@ pub fn put_reason<A: Allocator>(
     ensures failed { IfErr result (λ e. e ≡ PlayError.NoMemory) }
 {
     match reason {
-        Some(Reason { base, op, why }) => put_line(text, base, op, why),
+        Some(
+            Reason {
+                base,
+                op,
+                why,
+                mend,
+            },
+        ) => put_line(text, base, op, why, mend),
         None => Ok(()),
     }
 }
@@ -47,12 +61,14 @@ fn put_line<A: Allocator>(
     base: Address,
     op: Op,
     why: Why,
+    mend: Option<Mend>,
 ) -> Result<(), PlayError>
-    ensures written { OnOk result (text.new.items ≡ text.old.items ++ reason_line base.0 op why) }
+    ensures written { OnOk result (text.new.items ≡ text.old.items ++ reason_line base.0 op why mend) }
     ensures failed { IfErr result (λ e. e ≡ PlayError.NoMemory) }
 {
     put(text, "# refused: ")?;
     put_why(text, base, op, why)?;
+    put_mended(text, mend)?;
     put(text, "\n")
 }
 
@@ -78,13 +94,13 @@ fn put_refused<A: Allocator>(
     refusal: Refusal,
     about: Option<About>,
 ) -> Result<(), PlayError>
-    ensures written { let reason = call_text op refusal ++ words_of refusal ++ about_text base.0 op about in
+    ensures written { let reason = call_text op refusal ++ words_of refusal ++ about_text base.0 op refusal about in
         OnOk result (text.new.items ≡ text.old.items ++ reason) }
     ensures failed { IfErr result (λ e. e ≡ PlayError.NoMemory) }
 {
     put_call(text, op, refusal)?;
     put(text, words(refusal))?;
-    put_about(text, base, op, about)
+    put_about(text, base, op, refusal, about)
 }
 
 fn put_faulted<A: Allocator>(
@@ -97,7 +113,7 @@ fn put_faulted<A: Allocator>(
         OnOk result (text.new.items ≡ text.old.items ++ fault) }
     ensures failed { IfErr result (λ e. e ≡ PlayError.NoMemory) }
 {
-    put_address(text, op)?;
+    put_address(text, address_of(op))?;
     put_fault(text, op, kind, obstacle)
 }
 
@@ -154,34 +170,36 @@ fn put_about<A: Allocator>(
     text: &mut Vec<u8, A>,
     base: Address,
     op: Op,
+    refusal: Refusal,
     about: Option<About>,
 ) -> Result<(), PlayError>
-    ensures written { OnOk result (text.new.items ≡ text.old.items ++ about_text base.0 op about) }
+    ensures written { OnOk result (text.new.items ≡ text.old.items ++ about_text base.0 op refusal about) }
     ensures failed { IfErr result (λ e. e ≡ PlayError.NoMemory) }
 {
     let Some(about) = about else {
         return Ok(());
     };
     put(text, ": ")?;
-    put_subject(text, base, op, about)
+    put_subject(text, base, op, refusal, about)
 }
 
 fn put_subject<A: Allocator>(
     text: &mut Vec<u8, A>,
     base: Address,
     op: Op,
+    refusal: Refusal,
     about: About,
 ) -> Result<(), PlayError>
-    ensures written { OnOk result (text.new.items ≡ text.old.items ++ subject_text base.0 op about) }
+    ensures written { OnOk result (text.new.items ≡ text.old.items ++ subject_text base.0 op refusal about) }
     ensures failed { IfErr result (λ e. e ≡ PlayError.NoMemory) }
 {
     match about {
         About::Page { page, obstacle } => put_page(text, base, page, obstacle),
         About::Endpoint(endpoint) => put_named(text, u64::from(endpoint.0)),
         About::Handle(handle) => put_handle(text, handle),
-        About::Register { register, value } => put_register(text, op, register, value),
+        About::Register { register, value } => put_named_by(text, op, refusal, register, value),
         About::Bit(number) => put_bit(text, number),
-        About::Field { flaw, place, value } => put_field(text, flaw, place, value),
+        About::Field { flaw, place, value } => put_field(text, op, flaw, place, value),
     }
 }
 
@@ -194,8 +212,7 @@ fn put_page<A: Allocator>(
     ensures written { OnOk result (text.new.items ≡ text.old.items ++ page_text base.0 page.0 obstacle) }
     ensures failed { IfErr result (λ e. e ≡ PlayError.NoMemory) }
 {
-    let address = u64::from(base.0) + 4096 * u64::from(page.0);
-    put_digits(text, address_digits(address), address)?;
+    put_address(text, u64::from(base.0) + 4096 * u64::from(page.0))?;
     match obstacle {
         Some(_) => put_obstacle(text, obstacle),
         None => Ok(()),
@@ -220,6 +237,22 @@ fn put_handle<A: Allocator>(text: &mut Vec<u8, A>, handle: u64) -> Result<(), Pl
     put_digits(text, 16, handle)
 }
 
+// Puts a register with its value, and what that may be.
+fn put_named_by<A: Allocator>(
+    text: &mut Vec<u8, A>,
+    op: Op,
+    refusal: Refusal,
+    register: u32,
+    value: u64,
+) -> Result<(), PlayError>
+    ensures written { let told = register_text op register value ++ wanted_text op refusal value in
+        OnOk result (text.new.items ≡ text.old.items ++ told) }
+    ensures failed { IfErr result (λ e. e ≡ PlayError.NoMemory) }
+{
+    put_register(text, op, register, value)?;
+    put_wanted(text, op, refusal, value)
+}
+
 #[tactic(auto, unfolding(crate::specs::Reasons::register_text))]
 fn put_register<A: Allocator>(
     text: &mut Vec<u8, A>,
@@ -232,7 +265,7 @@ fn put_register<A: Allocator>(
 {
     put(text, letter(op, register))?;
     write!(text, "{register} is ").map_err(|_| PlayError::NoMemory)?;
-    put_digits(text, address_digits(value), value)
+    put_address(text, value)
 }
 
 // What stands before the number of a register: x where the call reads it whole, and else w.
@@ -249,25 +282,28 @@ fn put_bit<A: Allocator>(text: &mut Vec<u8, A>, number: u32) -> Result<(), PlayE
     ensures written { OnOk result (text.new.items ≡ text.old.items ++ bit_text number) }
     ensures failed { IfErr result (λ e. e ≡ PlayError.NoMemory) }
 {
-    write!(text, "bit {number}").map_err(|_| PlayError::NoMemory)
+    put(text, "bit ")?;
+    put_short(text, u64::from(number))
 }
 
 // Puts the condition that a descriptor breaks, the field of which it speaks, and the number in that.
 #[tactic(auto, unfolding(crate::specs::Reasons::field_text))]
 fn put_field<A: Allocator>(
     text: &mut Vec<u8, A>,
+    op: Op,
     flaw: Flaw,
     place: FieldPlace,
     value: Option<u64>,
 ) -> Result<(), PlayError>
-    ensures written { OnOk result (text.new.items ≡ text.old.items ++ field_text flaw place value) }
+    ensures written { OnOk result (text.new.items ≡ text.old.items ++ field_text op flaw place value) }
     ensures failed { IfErr result (λ e. e ≡ PlayError.NoMemory) }
 {
     put_index(text, flaw)?;
     put(text, flaw_words(flaw))?;
     put(text, ": ")?;
     put_place(text, place)?;
-    put_value(text, place.size, value)
+    let allowed = allowed_field(kind_of(call_of(op)), flaw);
+    put_value(text, place.size, value, allowed)
 }
 
 // Which access descriptor it is, or which range.
@@ -276,10 +312,8 @@ fn put_index<A: Allocator>(text: &mut Vec<u8, A>, flaw: Flaw) -> Result<(), Play
     ensures failed { IfErr result (λ e. e ≡ PlayError.NoMemory) }
 {
     match flaw {
-        Flaw::Access(index, _) => {
-            write!(text, "access descriptor {index}: ").map_err(|_| PlayError::NoMemory)
-        }
-        Flaw::Range(index, _) => write!(text, "range {index}: ").map_err(|_| PlayError::NoMemory),
+        Flaw::Access(index, _) => put_indexed(text, "access descriptor ", index),
+        Flaw::Range(index, _) => put_indexed(text, "range ", index),
         Flaw::Header(_)
         | Flaw::Send(_)
         | Flaw::Composite(_)
@@ -288,31 +322,58 @@ fn put_index<A: Allocator>(text: &mut Vec<u8, A>, flaw: Flaw) -> Result<(), Play
     }
 }
 
+fn put_indexed<A: Allocator>(text: &mut Vec<u8, A>, word: &str, index: u32) -> Result<(), PlayError>
+    ensures written { OnOk result (text.new.items ≡ text.old.items ++ (word.now ++ short_text index ++ codes ": ")) }
+    ensures failed { IfErr result (λ e. e ≡ PlayError.NoMemory) }
+{
+    put(text, word)?;
+    put_short(text, u64::from(index))?;
+    put(text, ": ")
+}
+
 fn put_place<A: Allocator>(text: &mut Vec<u8, A>, place: FieldPlace) -> Result<(), PlayError>
     ensures written { OnOk result (text.new.items ≡ text.old.items ++ place_text place.first place.size) }
     ensures failed { IfErr result (λ e. e ≡ PlayError.NoMemory) }
 {
     let FieldPlace { first, size } = place;
     if size <= 1 {
-        return write!(text, "byte {first}").map_err(|_| PlayError::NoMemory);
+        put(text, "byte ")?;
+        return put_short(text, first);
     }
-    let last = u128::from(first) + u128::from(size - 1);
-    write!(text, "bytes {first} to {last}").map_err(|_| PlayError::NoMemory)
+    put(text, "bytes ")?;
+    put_short(text, first)?;
+    put(text, " to ")?;
+    put_short(text, first.saturating_add(size - 1))
 }
 
 fn put_value<A: Allocator>(
     text: &mut Vec<u8, A>,
     size: u64,
     value: Option<u64>,
+    allowed: Option<Allowed>,
 ) -> Result<(), PlayError>
-    ensures written { OnOk result (text.new.items ≡ text.old.items ++ value_text size value) }
+    ensures written { OnOk result (text.new.items ≡ text.old.items ++ value_text size value allowed) }
     ensures failed { IfErr result (λ e. e ≡ PlayError.NoMemory) }
 {
-    let Some(value) = value else {
-        return Ok(());
-    };
+    match value {
+        Some(value) => put_number_in_field(text, size, value, allowed),
+        None => Ok(()),
+    }
+}
+
+#[tactic(auto, unfolding(crate::specs::Reasons::number_in_field))]
+fn put_number_in_field<A: Allocator>(
+    text: &mut Vec<u8, A>,
+    size: u64,
+    value: u64,
+    allowed: Option<Allowed>,
+) -> Result<(), PlayError>
+    ensures written { OnOk result (text.new.items ≡ text.old.items ++ number_in_field size value allowed) }
+    ensures failed { IfErr result (λ e. e ≡ PlayError.NoMemory) }
+{
     put(text, verb(size))?;
-    put_digits(text, field_digits(size), value)
+    put_digits(text, field_digits(size), value)?;
+    put_allowed(text, field_digits(size), allowed)
 }
 
 fn verb(size: u64) -> &'static str
@@ -357,7 +418,7 @@ fn put_obstacle<A: Allocator>(
     ensures failed { IfErr result (λ e. e ≡ PlayError.NoMemory) }
 {
     match obstacle {
-        None => put(text, " has more than 32 bits"),
+        None => put(text, " is above FFFFFFFF"),
         Some(Obstacle::OutsideRam) => put(text, " is outside RAM"),
         Some(Obstacle::ManagersPage) => put(text, " belongs to the manager"),
         Some(Obstacle::OwnedBy(endpoint)) => put_owner(text, endpoint),
@@ -424,22 +485,6 @@ fn bytes_of(size: Size) -> u64
     }
 }
 
-fn put_address<A: Allocator>(text: &mut Vec<u8, A>, op: Op) -> Result<(), PlayError>
-    ensures written { OnOk result (text.new.items ≡ text.old.items ++ address_text (address_of op)) }
-    ensures failed { IfErr result (λ e. e ≡ PlayError.NoMemory) }
-{
-    let address = address_of(op);
-    put_digits(text, address_digits(address), address)
-}
-
-// How many digits an address is written in.
-fn address_digits(address: u64) -> u32
-    ensures digits { result ≡ address_digits address }
-    ensures few { result ≤ 16 }
-{
-    if address < 1 << 32 { 8 } else { 16 }
-}
-
 fn address_of(op: Op) -> u64
     ensures { result ≡ address_of op }
 {
@@ -447,15 +492,4 @@ fn address_of(op: Op) -> u64
         Op::Call(_) => 0,
         Op::Load { addr, .. } | Op::Store { addr, .. } | Op::Fetch { addr } => addr,
     }
-}
-
-// Puts the lowest hexadecimal digits of a number.
-fn put_digits<A: Allocator>(text: &mut Vec<u8, A>, digits: u32, value: u64) -> Result<(), PlayError>
-    requires { digits ≤ 16 }
-    ensures written { OnOk result (text.new.items ≡ text.old.items ++ hex digits value) }
-    ensures failed { IfErr result (λ e. e ≡ PlayError.NoMemory) }
-{
-    let mut word = Text::new();
-    text::push_digits(&mut word, digits, value);
-    put_bytes(text, word.as_slice())
 }

@@ -1,0 +1,231 @@
+-- SPDX-License-Identifier: MIT OR Apache-2.0
+-- What stands in the line of a reason behind what the check is about: a value that is wanted, and what is to be mended.
+use Rattle.std.specs.Prelude.{ℕ, ◌*◌, ◌%◌, ◌^◌, ◌==◌, nat_lt, List, [], ◌++◌, codes, Option, Some, None, if◌then◌else◌}
+use Rattle.std.specs.Option.{option_map_or}
+use Rattle.ffa_model.specs.declared.call.Call.{Call}
+use Rattle.ffa_model.specs.declared.call.Call.TheVariants as calls
+use Rattle.ffa_model.specs.declared.call.Transfer.{Transfer}
+use Rattle.ffa_model.specs.declared.flaw.Flaw.{Flaw}
+use Rattle.ffa_model.specs.declared.flaw.Flaw.TheVariants.{Header, Send, Access as AccessOf, Composite, Range as RangeOf, Retrieve, Relinquish}
+use Rattle.ffa_model.specs.declared.flaw.SendFlaw.{SendFlaw}
+use Rattle.ffa_model.specs.declared.flaw.SendFlaw.TheVariants.{Attributes, Flags, Handle as HandleGiven, NoReceiver, ManyReceivers}
+use Rattle.ffa_model.specs.declared.flaw.AccessFlaw.{AccessFlaw}
+use Rattle.ffa_model.specs.declared.flaw.AccessFlaw.TheVariants.{Permissions, Flags as AccessFlags, Reserved as AccessReserved}
+use Rattle.ffa_model.specs.declared.flaw.CompositeFlaw.{CompositeFlaw}
+use Rattle.ffa_model.specs.declared.flaw.CompositeFlaw.TheVariants.{NoRange, ManyRanges, Reserved as CompositeReserved}
+use Rattle.ffa_model.specs.declared.flaw.RangeFlaw.{RangeFlaw}
+use Rattle.ffa_model.specs.declared.flaw.RangeFlaw.TheVariants.{Reserved as RangeReserved}
+use Rattle.ffa_model.specs.declared.flaw.RetrieveFlaw.{RetrieveFlaw}
+use Rattle.ffa_model.specs.declared.flaw.RetrieveFlaw.TheVariants.{Attributes as AskedAttributes, AccessCount, AccessFlags as AskedAccessFlags, CompositeTold, AccessReserved as AskedAccessReserved}
+use Rattle.ffa_model.specs.declared.flaw.RelinquishFlaw.{RelinquishFlaw}
+use Rattle.ffa_model.specs.declared.flaw.RelinquishFlaw.TheVariants.{Flags as RelinquishFlags, EndpointCount}
+use Rattle.ffa_model.specs.declared.limits.TheConstants.{MOST_BUFFER_PAGES, MOST_RANGES}
+use Rattle.ffa_model.specs.declared.operation.Op.{Op}
+use Rattle.ffa_model.specs.declared.refusal.Refusal.{Refusal}
+use Rattle.ffa_model.specs.declared.refusal.Refusal.TheVariants.{FlagsReserved, ContextUnknown, BufferPageCount, TxMisplaced, RxMisplaced, EndpointNotZero, EndpointNotNormalWorld, ContextCount, ClassesUnknown, Fragmented, BufferAddressGiven, BufferPagesGiven}
+use Rattle.ffa_model.specs.declared.rights.Kind.{Kind}
+use Rattle.ffa_model.specs.declared.rights.Kind.TheVariants.{Share, Lend, Donate}
+use Rattle.ffa_model.specs.DescriptorPlaces.{normal_memory}
+use Rattle.ffa_model.specs.SendDescriptor.{most_flags, most_receivers}
+use Rattle.ffa_mend.specs.declared.Cause.{Cause}
+use Rattle.ffa_mend.specs.declared.Cause.TheVariants.{BuffersMissing, RxNotFull, BitPending, BitTaken, BitUnbound, HandleUnknown, NotReceiver, NotLent}
+use Rattle.ffa_mend.specs.declared.Mend.{Mend}
+use Rattle.ffa_mend.specs.declared.Mend.TheVariants as mends
+use Rattle.ffa_mend.specs.declared.Side.{Side}
+use Rattle.ffa_mend.specs.declared.Side.TheVariants.{Tx, Rx}
+use Rattle.ffa_mend.specs.Mend.{call_of}
+use Rattle.play_syntax.specs.TraceText.{hex, rights_text}
+use Rattle.play_reasons.specs.declared.allowed.Allowed.{Allowed}
+use Rattle.play_reasons.specs.declared.allowed.Allowed.TheVariants.{One, Span, Either, Place}
+
+-- NUMBERS, all hexadecimal: as many digits as a value has of 1, 2, 4 or 8 bytes
+
+-- an address, a register or a count of bytes: in 16 digits where 8 are too few
+abbrev pub address_digits : ℕ → ℕ
+address_digits address = if nat_lt address (2 ^ 32) then 8 else 16
+
+abbrev pub address_text : ℕ → List ℕ
+address_text address = hex (address_digits address) address
+
+-- a bit, an index or a place in a descriptor: in two digits where they are enough
+abbrev pub short_digits : ℕ → ℕ
+short_digits n = if nat_lt n (2 ^ 8) then 2 else if nat_lt n (2 ^ 16) then 4 else address_digits n
+
+abbrev pub short_text : ℕ → List ℕ
+short_text n = hex (short_digits n) n
+
+-- VALUES THAT MAY BE
+
+-- what a register may be where a check of a call fails that wants one value, a range or one of two
+abbrev pub allowed_flags : Call → Allowed
+allowed_flags (calls.MemReclaim handle flags) = Span 0 1
+allowed_flags (calls.NotificationSet its) = Either 0 2
+allowed_flags call = One 0
+
+abbrev pub allowed_context : Call → Option Allowed
+allowed_context (calls.Run target context) = Some (One (2 ^ 16 * target.0))
+allowed_context (calls.NotificationGet receiver context flags) = Some (One receiver.0)
+allowed_context call = None
+
+abbrev pub allowed_fragment : Call → Option Allowed
+allowed_fragment (calls.MemDonate transfer) = Some (One transfer.total)
+allowed_fragment (calls.MemLend transfer) = Some (One transfer.total)
+allowed_fragment (calls.MemShare transfer) = Some (One transfer.total)
+allowed_fragment (calls.MemRetrieve transfer) = Some (One transfer.total)
+allowed_fragment call = None
+
+-- where it has this value
+abbrev pub allowed_register : Call → Refusal → ℕ → Option Allowed
+allowed_register call FlagsReserved value = Some (allowed_flags call)
+allowed_register call ContextUnknown value = allowed_context call
+allowed_register call Fragmented value = allowed_fragment call
+allowed_register call BufferPageCount value = Some (Span 1 MOST_BUFFER_PAGES)
+allowed_register call TxMisplaced value = Some (Place value)
+allowed_register call RxMisplaced value = Some (Place value)
+allowed_register call EndpointNotZero value = Some (One 0)
+allowed_register call EndpointNotNormalWorld value = Some (One 0)
+allowed_register call ContextCount value = Some (One 1)
+allowed_register call ClassesUnknown value = Some (Span 0 15)
+allowed_register call BufferAddressGiven value = Some (One 0)
+allowed_register call BufferPagesGiven value = Some (One 0)
+allowed_register call refusal value = None
+
+-- and a field of a descriptor
+abbrev pub allowed_send : Kind → SendFlaw → Option Allowed
+allowed_send Share Attributes = Some (One normal_memory)
+allowed_send Donate Attributes = Some (One 0)
+allowed_send Lend Attributes = None
+allowed_send kind Flags = Some (Span 0 (most_flags kind))
+allowed_send kind HandleGiven = Some (One 0)
+allowed_send kind NoReceiver = Some (Span 1 (most_receivers kind))
+allowed_send kind ManyReceivers = Some (Span 1 (most_receivers kind))
+
+abbrev pub allowed_permissions : Kind → Allowed
+allowed_permissions Share = Span 1 2
+allowed_permissions Lend = Span 1 2
+allowed_permissions Donate = One 0
+
+abbrev pub allowed_access : Kind → AccessFlaw → Option Allowed
+allowed_access kind Permissions = Some (allowed_permissions kind)
+allowed_access kind AccessFlags = Some (One 0)
+allowed_access kind AccessReserved = Some (One 0)
+allowed_access kind flaw = None
+
+abbrev pub allowed_composite : CompositeFlaw → Option Allowed
+allowed_composite NoRange = Some (Span 1 MOST_RANGES)
+allowed_composite ManyRanges = Some (Span 1 MOST_RANGES)
+allowed_composite CompositeReserved = Some (One 0)
+allowed_composite flaw = None
+
+abbrev pub allowed_range : RangeFlaw → Option Allowed
+allowed_range RangeReserved = Some (One 0)
+allowed_range flaw = None
+
+abbrev pub allowed_retrieve : RetrieveFlaw → Option Allowed
+allowed_retrieve AskedAttributes = Some (Either 0 normal_memory)
+allowed_retrieve AccessCount = Some (One 1)
+allowed_retrieve AskedAccessFlags = Some (One 0)
+allowed_retrieve CompositeTold = Some (One 0)
+allowed_retrieve AskedAccessReserved = Some (One 0)
+allowed_retrieve flaw = None
+
+abbrev pub allowed_relinquish : RelinquishFlaw → Option Allowed
+allowed_relinquish RelinquishFlags = Some (Span 0 1)
+allowed_relinquish EndpointCount = Some (One 1)
+allowed_relinquish flaw = None
+
+abbrev pub allowed_field : Kind → Flaw → Option Allowed
+allowed_field kind (Header flaw) = None
+allowed_field kind (Send flaw) = allowed_send kind flaw
+allowed_field kind (AccessOf index flaw) = allowed_access kind flaw
+allowed_field kind (Composite flaw) = allowed_composite flaw
+allowed_field kind (RangeOf index flaw) = allowed_range flaw
+allowed_field kind (Retrieve flaw) = allowed_retrieve flaw
+allowed_field kind (Relinquish flaw) = allowed_relinquish flaw
+
+-- which kind of send a call is, where it is one
+abbrev pub kind_of : Call → Kind
+kind_of (calls.MemDonate transfer) = Donate
+kind_of (calls.MemShare transfer) = Share
+kind_of call = Lend
+
+-- in so many digits
+unfoldable pub one_text : ℕ → ℕ → List ℕ
+one_text digits value = codes ", and must be " ++ hex digits value
+
+unfoldable pub span_text : ℕ → List ℕ → ℕ → ℕ → List ℕ
+span_text digits joint a b = (codes ", and may be " ++ hex digits a) ++ (joint ++ hex digits b)
+
+-- why no buffer can begin at an address
+abbrev pub misplaced_text : ℕ → List ℕ
+misplaced_text address =
+    if address % 4096 == 0 then codes ", where it does not lie in RAM" else codes ", which is not the address of a page"
+
+abbrev pub allowed_by : ℕ → Allowed → List ℕ
+allowed_by digits (One value) = one_text digits value
+allowed_by digits (Span least most) = span_text digits (codes " to ") least most
+allowed_by digits (Either a b) = span_text digits (codes " or ") a b
+allowed_by digits (Place address) = misplaced_text address
+
+abbrev pub allowed_text : ℕ → Option Allowed → List ℕ
+allowed_text digits allowed = option_map_or (allowed_by digits) allowed []
+
+-- behind a register
+abbrev pub wanted_text : Op → Refusal → ℕ → List ℕ
+wanted_text op refusal value = allowed_text 8 (allowed_register (call_of op) refusal value)
+
+-- WHAT IS TO BE MENDED
+
+abbrev pub side_text : Side → List ℕ
+side_text Tx = codes " is TX of "
+side_text Rx = codes " is RX of "
+
+abbrev pub kind_text : Kind → List ℕ
+kind_text Share = codes "share"
+kind_text Lend = codes "lend"
+kind_text Donate = codes "donate"
+
+abbrev pub cause_text : Cause → List ℕ
+cause_text BuffersMissing = codes ": it has none"
+cause_text RxNotFull = codes ": its RX is not full"
+cause_text BitPending = codes ", which is pending"
+cause_text BitTaken = codes ", which another sender has"
+cause_text BitUnbound = codes ", which is not bound to the sender"
+cause_text HandleUnknown = codes ", which no open transaction has"
+cause_text NotReceiver = codes ", which is open, and not offered to the caller"
+cause_text NotLent = codes ", which is not a lend"
+
+unfoldable pub buffer_text : ℕ → Side → List ℕ
+buffer_text endpoint side = side_text side ++ hex 4 endpoint
+
+unfoldable pub access_text : ℕ → List ℕ → List ℕ
+access_text endpoint right = codes ": " ++ hex 4 endpoint ++ codes " has " ++ right
+
+unfoldable pub tag_text : ℕ → ℕ → List ℕ
+tag_text found wanted = codes ", where the tag is " ++ hex 16 wanted ++ codes ", and the descriptor says " ++ hex 16 found
+
+unfoldable pub kinds_text : List ℕ → List ℕ → List ℕ
+kinds_text found wanted = (codes ", where the kind is " ++ wanted) ++ (codes ", and the descriptor says " ++ found)
+
+unfoldable pub asked_text : List ℕ → List ℕ → List ℕ
+asked_text asked most = (codes ", where " ++ asked) ++ ((codes " is asked for, and " ++ most) ++ codes " is the most")
+
+unfoldable pub room_text : ℕ → List ℕ
+room_text bytes = codes ", where the buffer has " ++ address_text bytes ++ codes " bytes"
+
+abbrev pub mend_text : Mend → List ℕ
+mend_text (mends.Buffer endpoint side) = buffer_text endpoint.0 side
+mend_text (mends.OwnRight right) = codes ", to which the owner's own right is " ++ rights_text (Some right)
+mend_text (mends.Granted right) = codes ", where rw- is granted, and the owner's own right is " ++ rights_text (Some right)
+mend_text (mends.Access endpoint right) = access_text endpoint.0 (rights_text (Some right))
+mend_text (mends.Caller endpoint) = codes ", where the caller is " ++ hex 4 endpoint.0
+mend_text (mends.Sender endpoint) = codes ", where the sender is " ++ hex 4 endpoint.0
+mend_text (mends.Tag found wanted) = tag_text found wanted
+mend_text (mends.Kind found wanted) = kinds_text (kind_text found) (kind_text wanted)
+mend_text (mends.Asked asked most) = asked_text (rights_text (Some asked)) (rights_text (Some most))
+mend_text (mends.Held right) = codes ", which the caller holds with " ++ rights_text (Some right)
+mend_text (mends.Room bytes) = room_text bytes
+mend_text (mends.Cause cause) = cause_text cause
+
+abbrev pub mended_text : Option Mend → List ℕ
+mended_text mend = option_map_or mend_text mend []
