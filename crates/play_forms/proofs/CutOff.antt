@@ -193,7 +193,7 @@ spoken_cuts form n s line own =
     subst (CutsTo (front ++ reason_if form.explain s line)) (append-nil (line_text s line))
     (cuts_append front (line_text s line) (reason_if form.explain s line) [] own (reason_cuts form.explain s line))
 
-line_cuts : (form : Form) (n : ℕ) (s : State) (line : Option Line) → CutsTo (option_map_or (line_text_in form n s) line []) (option_map_or (line_text s) line [])
+pub line_cuts : (form : Form) (n : ℕ) (s : State) (line : Option Line) → CutsTo (option_map_or (line_text_in form n s) line []) (option_map_or (line_text s) line [])
 line_cuts form n s None = cuts_none
 line_cuts form n s (Some (operate op)) = spoken_cuts form n s (operate op) (outcome_cuts form n op (step s op).outcome)
 line_cuts form n s (Some show) = spoken_cuts form n s show (show_cuts form n s)

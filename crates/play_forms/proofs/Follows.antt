@@ -1,11 +1,10 @@
 -- SPDX-License-Identifier: MIT OR Apache-2.0
 -- A play line by line.
-use Rattle.std.proofs.Common.{◌≡◌, ◌≢◌, ◌+◌, ◌≤◌, ℕ, Bool, true, List, [], ◌∷◌, ◌++◌, length, Option, None, Some, Ok, Err, inl, inr, sym, ap, ◌∙◌, subst, arith, append_assoc, append-nil, refl}
+use Rattle.std.proofs.Common.{◌≡◌, ◌+◌, ℕ, true, List, [], ◌∷◌, ◌++◌, length, Option, Some, Err, sym, ap, ◌∙◌, subst, arith, append_assoc, append-nil, refl}
 use Rattle.std.specs.Prelude.{is_some}
 use Rattle.std.specs.Option.{option_map_or}
-use Rattle.std.specs.Io.KnownBytes.{Appends, Consumes, IsAtEnd}
+use Rattle.std.specs.Io.KnownBytes.{Appends, Consumes}
 use Rattle.std.proofs.KnownBytes.{Consumes-nil, Consumes-trans}
-use Rattle.std.proofs.lemmas.Bool.{and_from}
 use Rattle.std.proofs.lemmas.List.Folds.{list_all-append}
 use Rattle.ffa_model.specs.State.{State}
 use Rattle.play_syntax.specs.TraceLines.{Line, feed, line_of, is_good, is_line, has_no_feed, joined}
@@ -14,21 +13,18 @@ use Rattle.play_player.proofs.Runs.{joined-append}
 use Rattle.play_syntax.specs.Output.{TookFront}
 use Rattle.play_syntax.specs.declared.output.PlayError.{PlayError}
 use Rattle.play_syntax.specs.declared.output.PlayError.TheVariants.{Read, Write, NoMemory, BadLine}
-use Rattle.play_forms.specs.Followed.{Followed, EndsBadly, FailsToWrite, DiffersAt, PlayedIn, Compared}
+use Rattle.play_forms.specs.Followed.{Followed, EndsBadly, FailsToWrite, PlayedIn}
 use Rattle.play_forms.specs.Forms.{line_text_in, text_of_in, text_in}
 use Rattle.play_forms.proofs.Cuts.{cuts_none}
 use Rattle.play_forms.proofs.CutOff.{cuts_printed}
 use Rattle.play_forms.specs.Reading.{IsBadLine, TakesLine}
-use Rattle.play_forms.specs.Steps.{LeavesOver, PrintsLine}
-use Rattle.play_reasons.specs.Reasons.{reason_if, told_line}
-use Rattle.play_forms.specs.declared.comparison.Mismatch.{Mismatch}
+use Rattle.play_forms.specs.Steps.{PrintsLine}
 use Rattle.play_forms.specs.declared.form.Form.{Form}
-use Rattle.play_reasons.specs.declared.reason.Reason.{Reason}
 
 pub followed_none : (form : Form) (s : State) (had : Option (List ℕ)) → Followed form s s had had [] []
 followed_none form s had = record { each = refl; read = Consumes-nil had; state = refl; said = refl; cut = cuts_none }
 
-after_one : (s : State) (lines : List (List ℕ)) (line : List ℕ) → after_all s (lines ++ line ∷ []) ≡ after (after_all s lines) line
+pub after_one : (s : State) (lines : List (List ℕ)) (line : List ℕ) → after_all s (lines ++ line ∷ []) ≡ after (after_all s lines) line
 after_one s [] line = refl
 after_one s (l ∷ ls) line = after_one (after s l) ls line
 
@@ -96,14 +92,6 @@ module _ (form : Form) (start mid : State) (had has : Option (List ℕ)) (lines 
   untaken_played (BadLine n) then bytes (is, bad) held holds written =
       (text, subst (EndsBadly form start mid had text bytes) (sym is) (ends_at bytes bad), written)
 
-  pub untaken_compared : (e : PlayError) (then : Option (List ℕ)) (bytes : List ℕ) → TakesLine has then bytes number (Err e)
-      → (explain : Bool) (expected more : List ℕ) → expected ≡ text ++ more → Compared form start mid had explain expected bytes (Err e)
-  untaken_compared Read then bytes r explain expected more alike = (has, lines, text, more, alike, f)
-  untaken_compared Write then bytes r explain expected more alike = absurd r
-  untaken_compared NoMemory then bytes r explain expected more alike = tt
-  untaken_compared (BadLine n) then bytes (is, bad) explain expected more alike =
-      (text, more, alike, subst (EndsBadly form start mid had text bytes) (sym is) (ends_at bytes bad))
-
   -- what was done isn't written whole
   pub unwritten_played : (e : PlayError) (now : State) (then : Option (List ℕ)) (line : List ℕ) (meant : Line) → Consumes has then (line ++ feed ∷ []) → has_no_feed line ≡ true → Some meant ≡ line_of line
       → (held between holds : Option (List ℕ)) → Appends held between text → PrintsLine {X = Unit {0}} form mid now number meant between holds (Err e)
@@ -112,47 +100,3 @@ module _ (form : Form) (start mid : State) (had has : Option (List ℕ)) (lines 
   unwritten_played Write now then line meant read single is held between holds written (next, began) = fails_to_write now then line meant read single is next held between holds written began
   unwritten_played NoMemory now then line meant read single is held between holds written r = tt
   unwritten_played (BadLine n) now then line meant read single is held between holds written r = absurd r
-
-  -- a text that doesn't go on as is expected
-  pub differs_in_line : (now : State) (then : Option (List ℕ)) (line : List ℕ) (meant : Line) (said expected more : List ℕ) (place : ℕ) (explain : Bool) (reason : Option Reason) → Consumes has then (line ++ feed ∷ []) → has_no_feed line ≡ true → Some meant ≡ line_of line
-      → now ≡ line_after mid meant → said ≡ line_text_in form number mid meant → expected ≡ text ++ more → place ≡ length text → ((rest : List ℕ) → more ≢ said ++ rest)
-      → told_line reason ≡ reason_if explain mid meant → DiffersAt form start now had explain expected line (record { number = number; place = place; reason = reason })
-  unfolding after text_of_in
-  differs_in_line now then line meant said expected more place explain reason read single is next makes alike at other told = record {
-    state = mid;
-    left = has;
-    lines = lines;
-    text = text;
-    more = more;
-    followed = f;
-    alike = alike;
-    number = count;
-    place = at;
-    differs =
-        let own : said ≡ text_of_in form number mid line = makes ∙ ap (λ l. option_map_or (line_text_in form number mid) l []) is in
-        inl (then, read, and_from _ _ single (ap is_some (sym is)), next ∙ ap (λ l. option_map_or (line_after mid) l mid) is, λ rest same. other rest (same ∙ ap (λ t. t ++ rest) (sym own)), told ∙ ap (λ l. option_map_or (reason_if explain mid) l []) is);
-  }
-
-  -- no line is left, and the expected text goes on
-  pub differs_at_end : (bytes expected more : List ℕ) (place : ℕ) (explain : Bool) → IsAtEnd has → expected ≡ text ++ more → place ≡ length text → 1 ≤ length more
-      → DiffersAt form start mid had explain expected bytes (record { number = number; place = place; reason = None })
-  differs_at_end bytes expected more place explain at_end alike at some = record {
-    state = mid;
-    left = has;
-    lines = lines;
-    text = text;
-    more = more;
-    followed = f;
-    alike = alike;
-    number = count;
-    place = at;
-    differs = inr (at_end, refl, some);
-  }
-
-  -- whether it does or not
-  pub left_over_compared : (bytes expected more : List ℕ) (place : ℕ) (explain : Bool) → IsAtEnd has → expected ≡ text ++ more → place ≡ length text
-      → (mismatch : Option Mismatch) → LeavesOver more number place mismatch → Compared form start mid had explain expected bytes (Ok mismatch)
-  left_over_compared bytes expected more place explain at_end alike at None none =
-      (has, lines, subst (Followed form start mid had has lines) (sym (alike ∙ ap (λ r. text ++ r) none ∙ append-nil text)) f, at_end)
-  left_over_compared bytes expected more place explain at_end alike at (Some mismatch) (some, is) =
-      subst (DiffersAt form start mid had explain expected bytes) (sym is) (differs_at_end bytes expected more place explain at_end alike at some)

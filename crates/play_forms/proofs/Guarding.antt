@@ -1,13 +1,13 @@
 -- SPDX-License-Identifier: MIT OR Apache-2.0
 -- Guards, as lines come one after another.
-use Rattle.std.proofs.Common.{◌≡◌, ◌≢◌, ◌+◌, ℕ, true, false, List, [], ◌∷◌, ◌++◌, length, Option, None, Some, Ok, Err, inl, inr, sym, ap, ◌∙◌, subst, arith, append_assoc, append-nil, length-append, refl}
-use Rattle.std.specs.Prelude.{not, ◌⊎◌}
-use Rattle.std.specs.Borrow.{Bor}
-use Rattle.std.specs.Option.{MatchOption, option_map_or}
+use Rattle.std.proofs.Common.{◌≡◌, ◌+◌, ◌≤◌, ◌<◌, ℕ, true, false, List, [], ◌∷◌, ◌++◌, length, Option, None, Some, Ok, Err, inl, inr, sym, ap, ◌∙◌, subst, arith, append_assoc, length-append, refl}
+use Rattle.std.specs.Prelude.{not, filter, ◌⊎◌}
+use Rattle.std.specs.List.{list_all}
+use Rattle.std.specs.Option.{option_map_or}
 use Rattle.std.specs.Io.KnownBytes.{Appends, Consumes}
-use Rattle.std.proofs.lemmas.Bool.{and_parts, and_from}
-use Rattle.std.proofs.lemmas.Grind.{flat_map-append}
+use Rattle.std.proofs.lemmas.Bool.{and_parts, and_from, cases_Bool}
 use Rattle.std.proofs.lemmas.List.{append_cancel_left}
+use Rattle.std.proofs.lemmas.List.Elements.{filter-append}
 use Rattle.std.proofs.lemmas.List.Folds.{list_all-append}
 use Rattle.ffa_model.specs.State.{State}
 use Rattle.play_syntax.specs.TraceLines.{Line, operate, show, audit, skip, feed, line_of, has_no_feed, joined}
@@ -15,21 +15,18 @@ use Rattle.play_syntax.specs.TraceText.{hex, line_text, text_of, after_all}
 use Rattle.play_player.proofs.Runs.{joined-append}
 use Rattle.play_syntax.specs.declared.output.PlayError.{PlayError}
 use Rattle.play_syntax.specs.declared.output.PlayError.TheVariants.{Read, Write, NoMemory, BadLine}
-use Rattle.play_forms.specs.Asking.{Asked, unasked_by}
+use Rattle.play_forms.specs.Asking.{Asked, came_by, unasked_by}
 use Rattle.play_forms.specs.Followed.{Followed}
-use Rattle.play_forms.specs.Guards.{AreMet, Breaks, GuardedIn, IsFound, IsMet, IsUnasked, Leaves, are_silent, wants_among, wants_of, guard_of, prints, speaks}
+use Rattle.play_forms.specs.Guards.{AreMet, GuardedIn, IsFound, IsMet, IsUnasked, Leaves, Tallies, are_silent, asking_among, asks_line, first_line, guard_of, guards_among, is_guard, is_near, near_from, prints, speaks}
+use Rattle.play_forms.specs.Patterns.{came_of, line_came, meets, nothing}
 use Rattle.play_forms.specs.Reading.{TakesLine}
 use Rattle.play_forms.specs.Steps.{PrintsLine}
 use Rattle.play_forms.specs.declared.form.Form.{Form}
 use Rattle.play_forms.specs.declared.guards.Asks.{Asks}
 use Rattle.play_forms.specs.declared.guards.Asks.TheVariants.{Printed, Runner}
+use Rattle.play_forms.specs.declared.patterns.Came.{Came}
 use Rattle.play_forms.proofs.Follows.{ends_at, fails_to_write}
-
--- an LF behind a line that begins a text
-pub behind_text : (text line more : List ℕ) (r : Option (Bor (List ℕ))) → text ≡ line ++ more → MatchOption r ((rest : List ℕ) → more ≢ feed ∷ rest) (λ rest. more ≡ feed ∷ rest.now)
-    → MatchOption r ((rest : List ℕ) → text ≢ line ++ feed ∷ rest) (λ rest. text ≡ line ++ feed ∷ rest.now)
-behind_text text line more None begins other = λ rest same. other rest (append_cancel_left line more (feed ∷ rest) (sym begins ∙ same))
-behind_text text line more (Some rest) begins fed = begins ∙ ap (λ t. line ++ t) fed
+use Rattle.play_forms.proofs.WordsFit.{first_of_lines}
 
 -- WHERE LINES ARE SPLIT
 
@@ -75,20 +72,41 @@ same_last (c ∷ front) line back (d ∷ front₂) line₂ back₂ same loud sil
     let both = same_last front line back front₂ line₂ back₂ tail loud silent loud₂ silent₂ in
     (ap (λ l. l ∷ front) head ∙ ap (λ ls. d ∷ ls) both.0, both.1, both.2)
 
-same_rest : (start : State) (lines : List (List ℕ)) (rest other : List ℕ) → Leaves start lines rest → Leaves start lines other → rest ≡ other
-same_rest start lines rest other a b =
+-- a line and its LF begin a text in one way
+pub line_same : (x y a b : List ℕ) → has_no_feed x ≡ true → has_no_feed y ≡ true → x ++ feed ∷ a ≡ y ++ feed ∷ b → (x ≡ y) × (a ≡ b)
+line_same x y a b single singly same =
+    let firsts : Some x ≡ Some y = sym (first_of_lines x a single) ∙ ap first_line same ∙ first_of_lines y b singly in
+    let lines : x ≡ y = cc in
+    let rests : feed ∷ a ≡ feed ∷ b = append_cancel_left y (feed ∷ a) (feed ∷ b) (ap (λ l. l ++ feed ∷ a) (sym lines) ∙ same) in
+    (lines, cc)
+
+-- behind as many lines a text goes on in one way
+same_behind : (xs ys : List (List ℕ)) (r s : List ℕ) → list_all has_no_feed xs ≡ true → list_all has_no_feed ys ≡ true → length xs ≡ length ys → joined xs ++ r ≡ joined ys ++ s → r ≡ s
+same_behind [] [] r s each singly count same = same
+same_behind [] (y ∷ ys) r s each singly count same = absurd (omega (arith, count))
+same_behind (x ∷ xs) [] r s each singly count same = absurd (omega (arith, count))
+same_behind (x ∷ xs) (y ∷ ys) r s each singly count same =
+    let one = and_parts (has_no_feed x) (list_all has_no_feed xs) each in
+    let other = and_parts (has_no_feed y) (list_all has_no_feed ys) singly in
+    let both = line_same x y (joined xs ++ r) (joined ys ++ s) one.0 other.0 (sym (append_assoc x (feed ∷ joined xs) r) ∙ same ∙ append_assoc y (feed ∷ joined ys) s) in
+    same_behind xs ys r s one.1 other.1 (omega (arith, count)) both.1
+
+same_rest : (start : State) (lines : List (List ℕ)) (came coming : Came) (rest other : List ℕ) → Leaves start lines came rest → Leaves start lines coming other → (came ≡ coming) × (rest ≡ other)
+same_rest start lines came coming rest other a b =
     let last = same_last a.before a.last a.behind b.before b.last b.behind (sym a.whole ∙ b.whole) a.loud a.silent b.loud b.silent in
-    let texts : joined (wants_among a.behind) ++ rest ≡ joined (wants_among a.behind) ++ other =
-    sym a.said ∙ ap (λ f. text_of (after_all start f) a.last) last.0 ∙ ap (λ l. text_of (after_all start b.before) l) last.1 ∙ b.said
-    ∙ ap (λ ls. joined (wants_among ls) ++ other) (sym last.2) in
-    append_cancel_left (joined (wants_among a.behind)) rest other texts
+    let texts : joined a.asked ++ rest ≡ joined b.asked ++ other =
+    sym a.said ∙ ap (λ f. text_of (after_all start f) a.last) last.0 ∙ ap (λ l. text_of (after_all start b.before) l) last.1 ∙ b.said in
+    let counts : length a.asked ≡ length b.asked = a.count ∙ ap (λ ls. length (asking_among ls)) last.2 ∙ sym b.count in (
+      a.comes ∙ ap (λ f. came_of (after_all start f) a.last) last.0 ∙ ap (λ l. came_of (after_all start b.before) l) last.1 ∙ sym b.comes,
+      same_behind a.asked b.asked rest other a.each b.each counts texts,
+    )
 
 -- GUARDS THAT ARE MET
 
 pub met_none : (start : State) → AreMet start []
 met_none start = λ front line back guard same is. absurd (omega (arith, ap length same, length-append front (line ∷ back)))
 
-met_more : (start : State) (lines : List (List ℕ)) (last : List ℕ) → AreMet start lines → ((guard : Asks × List ℕ) → guard_of last ≡ Some guard → IsMet start lines guard)
+pub met_more : (start : State) (lines : List (List ℕ)) (last : List ℕ) → AreMet start lines → ((guard : Asks × List ℕ) → guard_of last ≡ Some guard → IsMet start lines guard)
     → AreMet start (lines ++ last ∷ [])
 met_more start lines last met one = λ front line back guard same is. of front line guard is (split_last lines last front line back same)
   where
@@ -97,42 +115,48 @@ met_more start lines last met one = λ front line back guard same is. of front l
     of front line guard is (inl (fronts, same)) = subst (λ f. IsMet start f guard) (sym fronts) (one guard (ap guard_of (sym same) ∙ is))
     of front line guard is (inr (more, are)) = met front line more guard are is
 
-module _ (start mid : State) (lines : List (List ℕ)) (state : mid ≡ after_all start lines) (old : List ℕ) (unasked : IsUnasked start lines old) where
-  met_now : (guard : Asks × List ℕ) (new found : List ℕ) → Asked mid (Some guard) old new found (Ok None) → IsMet start lines guard
-  met_now (Printed, wants) new found is = of unasked
+module _ (start mid : State) (lines : List (List ℕ)) (state : mid ≡ after_all start lines) (came : Came) (old : List ℕ) (unasked : IsUnasked start lines came old) where
+  met_now : (guard : Asks × List ℕ) (new found : List ℕ) → Asked mid (Some guard) came old new found (Ok None) → IsMet start lines guard
+  met_now (Printed, wants) new found (line, is, single, meets) = of unasked
     where
-      of : IsUnasked start lines old → IsMet start lines (Printed, wants)
-      of (inl leaves) = (new, subst (Leaves start lines) is leaves)
-      of (inr (silent, none)) = absurd (omega (arith, ap length (sym none ∙ is), length-append wants (feed ∷ new)))
+      of : IsUnasked start lines came old → IsMet start lines (Printed, wants)
+      of (inl leaves) = (came, line, new, subst (Leaves start lines came) is leaves, single, meets)
+      of (inr (silent, none)) = absurd (omega (arith, ap length (sym none ∙ is), length-append line (feed ∷ new)))
   met_now (Runner, wants) new found is = is.0 ∙ ap (λ s. hex 4 s.runner) state
 
-  pub guards_more : AreMet start lines → (line new found : List ℕ) → Asked mid (guard_of line) old new found (Ok None) → AreMet start (lines ++ line ∷ [])
+  pub guards_more : AreMet start lines → (line new found : List ℕ) → Asked mid (guard_of line) came old new found (Ok None) → AreMet start (lines ++ line ∷ [])
   guards_more met line new found is =
-      met_more start lines line met (λ guard same. met_now guard new found (subst (λ g. Asked mid g old new found (Ok None)) same is))
+      met_more start lines line met (λ guard same. met_now guard new found (subst (λ g. Asked mid g came old new found (Ok None)) same is))
 
-  unmet_printed : (wants : List ℕ) → ((rest : List ℕ) → old ≢ wants ++ feed ∷ rest) → IsMet start lines (Printed, wants) → ⊥
-  unmet_printed wants other (rest, met) = of unasked
+  unmet_printed : (wants : List ℕ) → ((line rest : List ℕ) → old ≡ line ++ feed ∷ rest → has_no_feed line ≡ true → meets came wants line ≡ true → ⊥) → IsMet start lines (Printed, wants) → ⊥
+  unmet_printed wants other (coming, line, rest, met, single, meeting) = of unasked
     where
-      of : IsUnasked start lines old → ⊥
-      of (inl leaves) = other rest (same_rest start lines old (wants ++ feed ∷ rest) leaves met)
+      of : IsUnasked start lines came old → ⊥
+      of (inl leaves) =
+          let same = same_rest start lines came coming old (line ++ feed ∷ rest) leaves met in
+          other line rest same.1 single (ap (λ c. meets c wants line) same.0 ∙ meeting)
       of (inr (silent, none)) = loud_inside met.before met.last met.behind met.loud (ap are_silent (sym met.whole) ∙ silent)
 
 -- WHAT IS UNASKED
 
-pub unasked_none : (start : State) → IsUnasked start [] []
-unasked_none start = inr (refl, refl)
+pub unasked_none : (start : State) (came : Came) → IsUnasked start [] came []
+unasked_none start came = inr (refl, refl)
 
 -- a line that prints
-unasked_loud : (start mid : State) (lines : List (List ℕ)) → mid ≡ after_all start lines → (line : List ℕ) (meant : Line) (new : List ℕ) → Some meant ≡ line_of line → speaks meant ≡ true
-    → new ≡ line_text mid meant → IsUnasked start (lines ++ line ∷ []) new
-unfolding text_of
-unasked_loud start mid lines state line meant new is loud makes = inl (record {
+pub unasked_loud : (start mid : State) (lines : List (List ℕ)) → mid ≡ after_all start lines → (line : List ℕ) (meant : Line) (came : Came) (new : List ℕ) → Some meant ≡ line_of line → speaks meant ≡ true
+    → came ≡ line_came mid meant → new ≡ line_text mid meant → IsUnasked start (lines ++ line ∷ []) came new
+unfolding text_of came_of
+unasked_loud start mid lines state line meant came new is loud comes makes = inl (record {
   before = lines;
   last = line;
   behind = [];
   whole = refl;
   loud = ap (λ l. option_map_or speaks l false) (sym is) ∙ loud;
   silent = refl;
+  comes = comes ∙ ap (λ l. option_map_or (line_came mid) l nothing) is ∙ ap (λ s. came_of s line) state;
+  asked = [];
+  each = refl;
+  count = refl;
   said = sym (makes ∙ ap (λ l. option_map_or (line_text mid) l []) is ∙ ap (λ s. text_of s line) state);
 })
 
@@ -140,93 +164,157 @@ nothing_behind : (front back : List ℕ) → front ++ back ≡ [] → back ≡ [
 nothing_behind [] back none = none
 nothing_behind (c ∷ front) back none = absurd (omega (arith, ap length none))
 
+-- the lines that a guard took off: one, or none
+pub record TakesOff (line old new : List ℕ) : Type 0 where
+  pub own : List (List ℕ)
+  pub each : list_all has_no_feed own ≡ true
+  pub count : length own ≡ length (asking_among (line ∷ []))
+  pub is : old ≡ joined own ++ new
+
 -- what a guard that is met takes off
-taken_off : (s : State) (guard : Option (Asks × List ℕ)) (old new found : List ℕ) → Asked s guard old new found (Ok None) → old ≡ joined (wants_of guard) ++ new
-taken_off s None old new found is = sym is
-taken_off s (Some (Printed, wants)) old new found is = is ∙ sym (append_assoc wants (feed ∷ []) new)
-taken_off s (Some (Runner, wants)) old new found is = sym is.1
+taken_off : (s : State) (line : List ℕ) (guard : Option (Asks × List ℕ)) (came : Came) (old new found : List ℕ) → guard_of line ≡ guard → Asked s guard came old new found (Ok None) → TakesOff line old new
+taken_off s line None came old new found same is = record { own = []; each = refl; count = rw same refl; is = sym is }
+taken_off s line (Some (Printed, wants)) came old new found same (first, is, single, meets) = record {
+  own = first ∷ [];
+  each = and_from (has_no_feed first) true single refl;
+  count = rw same refl;
+  is = is ∙ sym (append_assoc first (feed ∷ []) new);
+}
+taken_off s line (Some (Runner, wants)) came old new found same is = record { own = []; each = refl; count = rw same refl; is = sym is.1 }
 
 -- a line that doesn't print
-unasked_silent : (start : State) (lines : List (List ℕ)) (line old new : List ℕ) → prints line ≡ false → old ≡ joined (wants_of (guard_of line)) ++ new
-    → IsUnasked start lines old → IsUnasked start (lines ++ line ∷ []) new
-unasked_silent start lines line old new quiet taken (inl leaves) = inl (record {
+pub unasked_silent : (start : State) (lines : List (List ℕ)) (line : List ℕ) (came : Came) (old new : List ℕ) → prints line ≡ false → TakesOff line old new
+    → IsUnasked start lines came old → IsUnasked start (lines ++ line ∷ []) came new
+unasked_silent start lines line came old new quiet taken (inl leaves) = inl (record {
   before = leaves.before;
   last = leaves.last;
   behind = leaves.behind ++ line ∷ [];
   whole = ap (λ ls. ls ++ line ∷ []) leaves.whole ∙ append_assoc leaves.before (leaves.last ∷ leaves.behind) (line ∷ []);
   loud = leaves.loud;
   silent = list_all-append (λ l. not (prints l)) leaves.behind (line ∷ []) ∙ and_from _ _ leaves.silent (and_from _ _ (ap not quiet) refl);
+  comes = leaves.comes;
+  asked = leaves.asked ++ taken.own;
+  each = list_all-append has_no_feed leaves.asked taken.own ∙ and_from _ _ leaves.each taken.each;
+  count =
+      let behind = asking_among leaves.behind in
+      let more = asking_among (line ∷ []) in
+      let both : length (asking_among (leaves.behind ++ line ∷ [])) ≡ length behind + length more =
+      ap length (filter-append (λ l. asks_line (guard_of l)) leaves.behind (line ∷ [])) ∙ length-append behind more in
+      length-append leaves.asked taken.own ∙ ap (λ n. n + length taken.own) leaves.count ∙ ap (λ n. length behind + n) taken.count ∙ sym both;
   said =
-      let front = joined (wants_among leaves.behind) in
-      let own = wants_of (guard_of line) in
-      let more : wants_among (leaves.behind ++ line ∷ []) ≡ wants_among leaves.behind ++ own =
-      flat_map-append (λ l. wants_of (guard_of l)) leaves.behind (line ∷ []) ∙ ap (λ ls. wants_among leaves.behind ++ ls) (append-nil own) in
-      leaves.said ∙ ap (λ t. front ++ t) taken ∙ sym (append_assoc front (joined own) new)
-      ∙ ap (λ t. t ++ new) (sym (joined-append (wants_among leaves.behind) own) ∙ ap joined (sym more));
+      leaves.said ∙ ap (λ t. joined leaves.asked ++ t) taken.is ∙ sym (append_assoc (joined leaves.asked) (joined taken.own) new)
+      ∙ ap (λ t. t ++ new) (sym (joined-append leaves.asked taken.own));
 })
-unasked_silent start lines line old new quiet taken (inr (silent, none)) =
-    inr (list_all-append (λ l. not (prints l)) lines (line ∷ []) ∙ and_from _ _ silent (and_from _ _ (ap not quiet) refl), nothing_behind (joined (wants_of (guard_of line))) new (sym taken ∙ none))
+unasked_silent start lines line came old new quiet taken (inr (silent, none)) =
+    inr (list_all-append (λ l. not (prints l)) lines (line ∷ []) ∙ and_from _ _ silent (and_from _ _ (ap not quiet) refl), nothing_behind (joined taken.own) new (sym taken.is ∙ none))
 
-pub unasked_more : (start mid : State) (lines : List (List ℕ)) → mid ≡ after_all start lines → (line : List ℕ) (meant : Line) (old between new found : List ℕ) → Some meant ≡ line_of line
-    → IsUnasked start lines old → Asked mid (guard_of line) old between found (Ok None) → new ≡ unasked_by mid meant between → IsUnasked start (lines ++ line ∷ []) new
-unasked_more start mid lines state line (operate op) old between new found is unasked asks makes = unasked_loud start mid lines state line (operate op) new is refl makes
-unasked_more start mid lines state line show old between new found is unasked asks makes = unasked_loud start mid lines state line show new is refl makes
-unasked_more start mid lines state line audit old between new found is unasked asks makes = unasked_loud start mid lines state line audit new is refl makes
-unasked_more start mid lines state line skip old between new found is unasked asks makes =
-    subst (IsUnasked start (lines ++ line ∷ [])) (sym makes)
-    (unasked_silent start lines line old between (ap (λ l. option_map_or speaks l false) (sym is)) (taken_off mid (guard_of line) old between found asks) unasked)
+pub unasked_more : (start mid : State) (lines : List (List ℕ)) → mid ≡ after_all start lines → (line : List ℕ) (meant : Line) (came coming : Came) (old between new found : List ℕ) → Some meant ≡ line_of line
+    → IsUnasked start lines came old → Asked mid (guard_of line) came old between found (Ok None) → new ≡ unasked_by mid meant between → coming ≡ came_by mid meant came → IsUnasked start (lines ++ line ∷ []) coming new
+unasked_more start mid lines state line (operate op) came coming old between new found is unasked asks makes comes = unasked_loud start mid lines state line (operate op) coming new is refl comes makes
+unasked_more start mid lines state line show came coming old between new found is unasked asks makes comes = unasked_loud start mid lines state line show coming new is refl comes makes
+unasked_more start mid lines state line audit came coming old between new found is unasked asks makes comes = unasked_loud start mid lines state line audit coming new is refl comes makes
+unasked_more start mid lines state line skip came coming old between new found is unasked asks makes comes =
+    subst (λ c. IsUnasked start (lines ++ line ∷ []) c new) (sym comes)
+    (subst (IsUnasked start (lines ++ line ∷ []) came) (sym makes)
+    (unasked_silent start lines line came old between (ap (λ l. option_map_or speaks l false) (sym is)) (taken_off mid line (guard_of line) came old between found refl asks) unasked))
+
+-- COUNTS
+
+pub tallies_none : (met : ℕ) (near : List ℕ) → met ≡ 0 → near ≡ [] → Tallies [] met near
+tallies_none met near none empty = (none, empty)
+
+near_split : (n : ℕ) (x : List ℕ) (xs ys : List (List ℕ)) → near_from (n + 1) (xs ++ ys) ≡ near_from (n + 1) xs ++ near_from (n + length (x ∷ xs)) ys
+    → near_from n (x ∷ xs ++ ys) ≡ near_from n (x ∷ xs) ++ near_from (n + length (x ∷ xs)) ys
+near_split n x xs ys more = of (cases_Bool (is_near x))
+  where
+    of : (is_near x ≡ true) ⊎ (is_near x ≡ false) → near_from n (x ∷ xs ++ ys) ≡ near_from n (x ∷ xs) ++ near_from (n + length (x ∷ xs)) ys
+    of (inl so) = rw so (ap (λ ns. n ∷ ns) more)
+    of (inr other) = rw other more
+
+near_from-append : (n : ℕ) (xs ys : List (List ℕ)) → near_from n (xs ++ ys) ≡ near_from n xs ++ near_from (n + length xs) ys
+near_from-append n [] ys = ap (λ k. near_from k ys) (omega arith)
+near_from-append n (x ∷ xs) ys =
+    let count : n + 1 + length xs ≡ n + length (x ∷ xs) = omega arith in
+    near_split n x xs ys (near_from-append (n + 1) xs ys ∙ ap (λ k. near_from (n + 1) xs ++ near_from k ys) count)
+
+pub tallies_more : (lines : List (List ℕ)) (met : ℕ) (near : List ℕ) (number : ℕ) (line : List ℕ) (counted : ℕ) (found : List ℕ) → Tallies lines met near → number ≡ 1 + length lines
+    → counted ≡ met + guards_among (line ∷ []) → found ≡ near ++ near_from number (line ∷ []) → Tallies (lines ++ line ∷ []) counted found
+tallies_more lines met near number line counted found (all, each) count counts finds = (
+  counts ∙ ap (λ n. n + guards_among (line ∷ [])) all
+      ∙ sym (ap length (filter-append is_guard lines (line ∷ [])) ∙ length-append (filter is_guard lines) (filter is_guard (line ∷ []))),
+  finds ∙ ap (λ ns. ns ++ near_from number (line ∷ [])) each ∙ ap (λ n. near_from 1 lines ++ near_from n (line ∷ [])) count ∙ sym (near_from-append 1 lines (line ∷ [])),
+)
+
+one_more_guard : (line : List ℕ) (lines : List (List ℕ)) → guards_among lines ≤ length lines → guards_among (line ∷ lines) ≤ length (line ∷ lines)
+one_more_guard line lines few = of (cases_Bool (is_guard line))
+  where
+    of : (is_guard line ≡ true) ⊎ (is_guard line ≡ false) → guards_among (line ∷ lines) ≤ length (line ∷ lines)
+    of (inl so) = rw so (omega (arith, few))
+    of (inr other) = rw other (omega (arith, few))
+
+few_guards : (lines : List (List ℕ)) → guards_among lines ≤ length lines
+few_guards [] = omega arith
+few_guards (line ∷ lines) = one_more_guard line lines (few_guards lines)
+
+pub fewer_met : (lines : List (List ℕ)) (met : ℕ) (near : List ℕ) (number : ℕ) → Tallies lines met near → number ≡ 1 + length lines → met < number
+fewer_met lines met near number counts count = let few = few_guards lines in omega (arith, few, counts.0, count)
 
 -- WHERE A PLAY STOPS
 
-module _ (form : Form) (start mid : State) (had has : Option (List ℕ)) (lines : List (List ℕ)) (text : List ℕ) (f : Followed form start mid had has lines text) (number : ℕ) (count : number ≡ 1 + length lines) (met : AreMet start lines) where
+module _ (form : Form) (start mid : State) (had has : Option (List ℕ)) (lines : List (List ℕ)) (text : List ℕ) (f : Followed form start mid had has lines text) (number : ℕ) (count : number ≡ 1 + length lines) (met : AreMet start lines) (tallied : ℕ) (near : List ℕ) (counts : Tallies lines tallied near) where
   -- at a guard that isn't met
-  pub breaks : (then : Option (List ℕ)) (line old new found : List ℕ) (asks : Asks) → Consumes has then (line ++ feed ∷ []) → has_no_feed line ≡ true → IsUnasked start lines old
-      → Asked mid (guard_of line) old new found (Ok (Some asks)) → Breaks form start mid had text line found (record { number = number; asks = asks })
-  breaks then line old new found asks read single unasked is = of (guard_of line) refl is
+  pub breaks : (then : Option (List ℕ)) (line : List ℕ) (came : Came) (old new found : List ℕ) (asks : Asks) → Consumes has then (line ++ feed ∷ []) → has_no_feed line ≡ true → IsUnasked start lines came old
+      → Asked mid (guard_of line) came old new found (Ok (Some asks)) → (held holds : Option (List ℕ)) → Appends held holds text → GuardedIn form start mid held holds had line found tallied near (Ok (Some (record { number = number; asks = asks })))
+  breaks then line came old new found asks read single unasked is held holds written = of (guard_of line) refl is
     where
-      at : (a : Asks) (wants : List ℕ) → guard_of line ≡ Some (a, wants) → (IsMet start lines (a, wants) → ⊥) → IsFound start lines a found
-          → Breaks form start mid had text line found (record { number = number; asks = a })
-      at a wants guard unmet is_found = record {
-        left = has;
-        after_guard = then;
-        lines = lines;
-        wants = wants;
-        followed = f;
-        met = met;
-        read = read;
-        single = single;
-        guard = guard;
-        unmet = unmet;
-        is_next = count;
-        finds = is_found;
-      }
+      at : (a : Asks) (wants : List ℕ) → guard_of line ≡ Some (a, wants) → (IsMet start lines (a, wants) → ⊥) → IsFound start lines (a, wants) found
+          → GuardedIn form start mid held holds had line found tallied near (Ok (Some (record { number = number; asks = a })))
+      at a wants guard unmet is_found = (
+        text,
+        record {
+          left = has;
+          after_guard = then;
+          lines = lines;
+          wants = wants;
+          followed = f;
+          met = met;
+          read = read;
+          single = single;
+          guard = guard;
+          unmet = unmet;
+          is_next = count;
+          finds = is_found;
+        },
+        written,
+        counts,
+      )
 
-      of : (guard : Option (Asks × List ℕ)) → guard_of line ≡ guard → Asked mid guard old new found (Ok (Some asks))
-          → Breaks form start mid had text line found (record { number = number; asks = asks })
+      of : (guard : Option (Asks × List ℕ)) → guard_of line ≡ guard → Asked mid guard came old new found (Ok (Some asks))
+          → GuardedIn form start mid held holds had line found tallied near (Ok (Some (record { number = number; asks = asks })))
       of None same is = absurd is
       of (Some (Printed, wants)) same (its_kind, both) =
-          subst (λ a. Breaks form start mid had text line found (record { number = number; asks = a })) (sym its_kind)
-          (at Printed wants same (unmet_printed start mid lines f.state old unasked wants both.0) (old, unasked, both.1))
+          subst (λ a. GuardedIn form start mid held holds had line found tallied near (Ok (Some (record { number = number; asks = a })))) (sym its_kind)
+          (at Printed wants same (unmet_printed start mid lines f.state came old unasked wants both.0) (came, old, unasked, both.1))
       of (Some (Runner, wants)) same (its_kind, both) =
           let runs : hex 4 mid.runner ≡ hex 4 (after_all start lines).runner = ap (λ s. hex 4 s.runner) f.state in
-          subst (λ a. Breaks form start mid had text line found (record { number = number; asks = a })) (sym its_kind)
+          subst (λ a. GuardedIn form start mid held holds had line found tallied near (Ok (Some (record { number = number; asks = a })))) (sym its_kind)
           (at Runner wants same (λ is. both.0 (is ∙ sym runs)) (both.1 ∙ runs))
 
   -- at what isn't taken
   pub untaken_guarded : (e : PlayError) (then : Option (List ℕ)) (bytes : List ℕ) → TakesLine has then bytes number (Err e)
-      → (held holds : Option (List ℕ)) (found : List ℕ) → Appends held holds text → GuardedIn form start mid held holds had bytes found (Err e)
-  untaken_guarded Read then bytes r held holds found written = (has, lines, text, f, written, met)
+      → (held holds : Option (List ℕ)) (found : List ℕ) → Appends held holds text → GuardedIn form start mid held holds had bytes found tallied near (Err e)
+  untaken_guarded Read then bytes r held holds found written = (has, lines, text, f, written, met, counts)
   untaken_guarded Write then bytes r held holds found written = absurd r
   untaken_guarded NoMemory then bytes r held holds found written = tt
   untaken_guarded (BadLine n) then bytes (is, bad) held holds found written =
-      (text, ends_at form start mid had has lines text f n (is ∙ count) bytes bad, written, met)
+      (text, ends_at form start mid had has lines text f n (is ∙ count) bytes bad, written, met, counts)
 
   -- at what isn't written whole
   pub unwritten_guarded : (e : PlayError) (now : State) (then : Option (List ℕ)) (line : List ℕ) (meant : Line) → Consumes has then (line ++ feed ∷ []) → has_no_feed line ≡ true → Some meant ≡ line_of line
-      → (held between holds : Option (List ℕ)) (found : List ℕ) → Appends held between text → AreMet start (lines ++ line ∷ []) → PrintsLine {X = Unit {0}} form mid now number meant between holds (Err e)
-      → GuardedIn form start now held holds had line found (Err e)
-  unwritten_guarded Read now then line meant read single is held between holds found written more r = absurd r
-  unwritten_guarded Write now then line meant read single is held between holds found written more (next, began) =
-      (fails_to_write form start mid had has lines text f number count now then line meant read single is next held between holds written began, more)
-  unwritten_guarded NoMemory now then line meant read single is held between holds found written more r = tt
-  unwritten_guarded (BadLine n) now then line meant read single is held between holds found written more r = absurd r
+      → (held between holds : Option (List ℕ)) (found : List ℕ) → Appends held between text → AreMet start (lines ++ line ∷ []) → (more : ℕ) (nearer : List ℕ) → Tallies (lines ++ line ∷ []) more nearer
+      → PrintsLine {X = Unit {0}} form mid now number meant between holds (Err e) → GuardedIn form start now held holds had line found more nearer (Err e)
+  unwritten_guarded Read now then line meant read single is held between holds found written met_more more nearer counted r = absurd r
+  unwritten_guarded Write now then line meant read single is held between holds found written met_more more nearer counted (next, began) =
+      (fails_to_write form start mid had has lines text f number count now then line meant read single is next held between holds written began, met_more, counted)
+  unwritten_guarded NoMemory now then line meant read single is held between holds found written met_more more nearer counted r = tt
+  unwritten_guarded (BadLine n) now then line meant read single is held between holds found written met_more more nearer counted r = absurd r

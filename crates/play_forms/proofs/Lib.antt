@@ -1,12 +1,21 @@
 -- SPDX-License-Identifier: MIT OR Apache-2.0
+pub mod Cames
+pub mod Compares
+pub mod Conversing
 pub mod CutOff
 pub mod Cuts
 pub mod Follows
 pub mod Guarding
+pub mod Meetings
 pub mod Names
 pub mod Plain
 pub mod PrintedWords
 pub mod ReadLines
+pub mod Singles
+pub mod MendLines
 pub mod ReasonLines
+pub mod Replaying
+pub mod Rows
 pub mod Unequal
 pub mod Whys
+pub mod WordsFit

@@ -42,7 +42,7 @@ all_through (x ∷ xs) h =
     more differs h = cc
 
 -- the bytes before the last have no LF
-front_free : (front : List ℕ) (last : ℕ) → StopsAt (front ++ last ∷ []) feed → has_no_feed front ≡ true
+pub front_free : (front : List ℕ) (last : ℕ) → StopsAt (front ++ last ∷ []) feed → has_no_feed front ≡ true
 front_free front last stops =
     let count : length (front ++ last ∷ []) - 1 ≡ length front = omega (arith, length-append front (last ∷ [])) in
     free front (subst (All (λ x. x ≢ feed)) (ap (λ n. take n (front ++ last ∷ [])) count ∙ take-append_seam front (last ∷ [])) stops)

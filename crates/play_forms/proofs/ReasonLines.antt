@@ -45,18 +45,15 @@ use Rattle.play_reasons.specs.Checks.{number_of}
 use Rattle.play_reasons.specs.FlawWords.{access_words, composite_words, flaw_words_of, header_words, range_words, relinquish_words, retrieve_words, send_words}
 use Rattle.play_reasons.specs.Words.{words_of}
 use Rattle.play_forms.specs.Cut.{CutsTo}
-use Rattle.play_reasons.specs.Reasons.{about_text, address_digits, address_of, address_text, call_text, check_text, fault_text, field_digits, field_text, handle_text, index_text, letter_text, name_text, named_text, number_text, obstacle_text, page_address, page_text, place_text, reason_if, reason_line, reason_mark, reason_text, register_text, right_text, subject_text, transaction_text, value_text, verb_text, why_text}
+use Rattle.play_reasons.specs.Reasons.{about_text, call_text, check_text, fault_text, field_digits, field_text, handle_text, index_text, last_of, letter_text, name_text, named_text, number_in_field, number_text, obstacle_text, page_address, page_text, place_text, reason_if, reason_line, reason_mark, reason_text, register_text, right_text, subject_text, transaction_text, value_text, verb_text, why_text}
+use Rattle.play_forms.proofs.MendLines.{single_address, single_allowed, single_mended, single_short, single_wanted}
+use Rattle.play_forms.proofs.Singles.{IsSingle, single_append, single_hex}
+use Rattle.ffa_mend.specs.declared.Mend.{Mend}
+use Rattle.ffa_mend.specs.Mend.{address_of, call_of, mend}
+use Rattle.play_reasons.specs.declared.allowed.Allowed.{Allowed}
+use Rattle.play_reasons.specs.Mends.{address_text, allowed_field, allowed_text, kind_of, mended_text, short_text, wanted_text}
 use Rattle.play_forms.proofs.Cuts.{cuts_none, cuts_reason, decimal_digits, digits_single, inner_single}
 use Rattle.play_forms.proofs.PrintedWords.{inner_hex, single_call}
-
-abbrev IsSingle : List ℕ → Type 0
-IsSingle words = has_no_feed words ≡ true
-
-single_append : (xs ys : List ℕ) → IsSingle xs → IsSingle ys → IsSingle (xs ++ ys)
-single_append xs ys p q = list_all-append _ xs ys ∙ and_from _ _ p q
-
-single_hex : (n x : ℕ) → IsSingle (hex n x)
-single_hex n x = inner_single (hex n x) (inner_hex n x)
 
 -- CALLS
 
@@ -155,9 +152,6 @@ single_check (Fetch address) refusal = refl
 
 -- ACCESSES
 
-single_address : (address : ℕ) → IsSingle (address_text address)
-single_address address = single_hex (address_digits address) address
-
 single_obstacle : (obstacle : Option Obstacle) → IsSingle (obstacle_text obstacle)
 unfolding transaction_text
 single_obstacle None = refl
@@ -250,8 +244,8 @@ single_flaw (Relinquish flaw) = single_relinquish flaw
 single_decimal : (n : ℕ) → IsSingle (decimal n)
 single_decimal n = digits_single (decimal n) (decimal_digits n)
 
-single_indexed : (word : List ℕ) (n : ℕ) → IsSingle word → IsSingle (word ++ decimal n ++ codes ": ")
-single_indexed word n h = single_append (word ++ decimal n) (codes ": ") (single_append word (decimal n) h (single_decimal n)) refl
+single_indexed : (word : List ℕ) (n : ℕ) → IsSingle word → IsSingle (word ++ short_text n ++ codes ": ")
+single_indexed word n h = single_append (word ++ short_text n) (codes ": ") (single_append word (short_text n) h (single_short n)) refl
 
 single_index : (flaw : Flaw) → IsSingle (index_text flaw)
 single_index (Header flaw) = refl
@@ -265,10 +259,10 @@ single_index (Relinquish flaw) = refl
 single_place : (first size : ℕ) → IsSingle (place_text first size)
 single_place first size =
     elim (cases_Bool (nat_le size 1)) [
-      | inl one ↦ rw one (single_decimal first)
+      | inl one ↦ rw one (single_short first)
       | inr more ↦ rw more
-          (single_append (codes "bytes " ++ decimal first ++ codes " to ") (decimal (first + (size - 1)))
-          (single_append (codes "bytes " ++ decimal first) (codes " to ") (single_decimal first) refl) (single_decimal (first + (size - 1))))
+          (single_append (codes "bytes " ++ short_text first ++ codes " to ") (short_text (last_of first size))
+          (single_append (codes "bytes " ++ short_text first) (codes " to ") (single_short first) refl) (single_short (last_of first size)))
     ]
 
 single_verb : (size : ℕ) → IsSingle (verb_text size)
@@ -278,20 +272,27 @@ single_verb size =
       | inr more ↦ rw more refl
     ]
 
-single_value : (size : ℕ) (value : Option ℕ) → IsSingle (value_text size value)
-single_value size None = refl
-single_value size (Some value) =
-    single_append (verb_text size) (hex (field_digits size) value) (single_verb size) (single_hex (field_digits size) value)
+single_in_field : (size value : ℕ) (allowed : Option Allowed) → IsSingle (number_in_field size value allowed)
+unfolding number_in_field
+single_in_field size value allowed =
+    single_append (verb_text size ++ hex (field_digits size) value) (allowed_text (field_digits size) allowed)
+    (single_append (verb_text size) (hex (field_digits size) value) (single_verb size) (single_hex (field_digits size) value))
+    (single_allowed (field_digits size) allowed)
 
-single_field : (flaw : Flaw) (place : FieldPlace) (value : Option ℕ) → IsSingle (field_text flaw place value)
+single_value : (size : ℕ) (value : Option ℕ) (allowed : Option Allowed) → IsSingle (value_text size value allowed)
+single_value size None allowed = refl
+single_value size (Some value) allowed = single_in_field size value allowed
+
+single_field : (op : Op) (flaw : Flaw) (place : FieldPlace) (value : Option ℕ) → IsSingle (field_text op flaw place value)
 unfolding field_text
-single_field flaw place value =
+single_field op flaw place value =
     let at = place_text place.first place.size in
-    single_append (index_text flaw ++ flaw_words_of flaw ++ codes ": " ++ at) (value_text place.size value)
+    let allowed = allowed_field (kind_of (call_of op)) flaw in
+    single_append (index_text flaw ++ flaw_words_of flaw ++ codes ": " ++ at) (value_text place.size value allowed)
     (single_append (index_text flaw ++ flaw_words_of flaw ++ codes ": ") at
     (single_append (index_text flaw ++ flaw_words_of flaw) (codes ": ")
     (single_append (index_text flaw) (flaw_words_of flaw) (single_index flaw) (single_flaw flaw)) refl)
-    (single_place place.first place.size)) (single_value place.size value)
+    (single_place place.first place.size)) (single_value place.size value allowed)
 
 -- WHAT A CHECK IS ABOUT
 
@@ -326,37 +327,40 @@ single_register op register value =
     (single_append (letter ++ decimal register) (codes " is ") (single_append letter (decimal register) (single_letter op register) (single_decimal register)) refl)
     (single_address value)
 
-single_subject : (base : ℕ) (op : Op) (about : About) → IsSingle (subject_text base op about)
-single_subject base op (Page page obstacle) = single_page base page.0 obstacle
-single_subject base op (Endpoint endpoint) = single_named endpoint.0
-single_subject base op (Handle handle) = single_handle handle
-single_subject base op (Register register value) = single_register op register value
-single_subject base op (Bit number) = single_decimal number
-single_subject base op (Field flaw place value) = single_field flaw place value
+single_subject : (base : ℕ) (op : Op) (refusal : Refusal) (about : About) → IsSingle (subject_text base op refusal about)
+single_subject base op refusal (Page page obstacle) = single_page base page.0 obstacle
+single_subject base op refusal (Endpoint endpoint) = single_named endpoint.0
+single_subject base op refusal (Handle handle) = single_handle handle
+single_subject base op refusal (Register register value) =
+    single_append (register_text op register value) (wanted_text op refusal value) (single_register op register value) (single_wanted op refusal value)
+single_subject base op refusal (Bit number) = single_short number
+single_subject base op refusal (Field flaw place value) = single_field op flaw place value
 
-single_about : (base : ℕ) (op : Op) (about : Option About) → IsSingle (about_text base op about)
-single_about base op None = refl
-single_about base op (Some about) = single_subject base op about
+single_about : (base : ℕ) (op : Op) (refusal : Refusal) (about : Option About) → IsSingle (about_text base op refusal about)
+single_about base op refusal None = refl
+single_about base op refusal (Some about) = single_subject base op refusal about
 
 -- LINES
 
 single_why : (base : ℕ) (op : Op) (reason : Why) → IsSingle (why_text base op reason)
 single_why base op (Refused refusal about) =
-    single_append (call_text op refusal ++ words_of refusal) (about_text base op about)
-    (single_append (call_text op refusal) (words_of refusal) (single_check op refusal) (single_words refusal)) (single_about base op about)
+    single_append (call_text op refusal ++ words_of refusal) (about_text base op refusal about)
+    (single_append (call_text op refusal) (words_of refusal) (single_check op refusal) (single_words refusal)) (single_about base op refusal about)
 single_why base op (Fault kind obstacle) =
     single_append (address_text (address_of op)) (fault_text op kind obstacle) (single_address (address_of op)) (single_fault op kind obstacle)
 
-line_cuts : (base : ℕ) (op : Op) (reason : Why) → CutsTo (reason_line base op reason) []
+line_cuts : (base : ℕ) (op : Op) (reason : Why) (mend : Option Mend) → CutsTo (reason_line base op reason mend) []
 unfolding reason_line
-line_cuts base op reason = cuts_reason (reason_mark ++ why_text base op reason) (single_why base op reason) refl
+line_cuts base op reason mend =
+    cuts_reason (reason_mark ++ why_text base op reason ++ mended_text mend)
+    (single_append (why_text base op reason) (mended_text mend) (single_why base op reason) (single_mended mend)) refl
 
-some_cuts : (base : ℕ) (op : Op) (reason : Option Why) → CutsTo (option_map_or (reason_line base op) reason []) []
-some_cuts base op None = cuts_none
-some_cuts base op (Some reason) = line_cuts base op reason
+some_cuts : (base : ℕ) (op : Op) (mend : Option Mend) (reason : Option Why) → CutsTo (option_map_or (λ why. reason_line base op why mend) reason []) []
+some_cuts base op mend None = cuts_none
+some_cuts base op mend (Some reason) = line_cuts base op reason mend
 
 told_cuts : (s : State) (line : Line) → CutsTo (reason_text s line) []
-told_cuts s (operate op) = some_cuts s.ram_base op (why s op)
+told_cuts s (operate op) = some_cuts s.ram_base op (mend s op) (why s op)
 told_cuts s show = cuts_none
 told_cuts s audit = cuts_none
 told_cuts s skip = cuts_none

@@ -10,6 +10,8 @@ use Rattle.ffa_model.specs.Refusals.{is_refusal}
 use Rattle.ffa_model.specs.State.{State}
 use Rattle.ffa_model.specs.Step.{step}
 use Rattle.ffa_model.specs.Why.{why}
+use Rattle.ffa_mend.specs.declared.Mend.{Mend}
+use Rattle.ffa_mend.specs.Mend.{mend}
 use Rattle.ffa_model.proofs.Reasons.{refused-unchanged, why-not}
 use Rattle.play_syntax.specs.TraceLines.{Line, operate, show, audit, skip}
 use Rattle.play_reasons.specs.Reasons.{reason_if, reason_line, reason_text, told_line}
@@ -27,7 +29,7 @@ says_unasked explain now line outcome unasked = λ start next came. ap (λ b. re
 pub says_nothing : (explain : Bool) (now : State) (line : Line) (outcome : Option Outcome) → option_map_or is_refusal outcome false ≡ false → SaysWhy explain now line outcome None
 says_nothing false now line outcome plain = λ start next came. refl
 says_nothing true now (operate op) outcome plain =
-    λ start next came. ap (λ o. option_map_or (reason_line start.ram_base op) o []) (sym (why-not start op (came_refused outcome (step start op).outcome false came plain)))
+    λ start next came. ap (λ o. option_map_or (λ reason. reason_line start.ram_base op reason (mend start op)) o []) (sym (why-not start op (came_refused outcome (step start op).outcome false came plain)))
 says_nothing true now show outcome plain = λ start next came. refl
 says_nothing true now audit outcome plain = λ start next came. refl
 says_nothing true now skip outcome plain = λ start next came. refl
@@ -40,10 +42,13 @@ module _ (explain : Bool) (now : State) (op : Op) (outcome : Option Outcome) (as
       let stays : now ≡ start = next ∙ refused-unchanged start op (came_refused outcome (step start op).outcome true came refused) in
       tells ∙ ap (λ s. reason_text s (operate op)) stays ∙ ap (λ b. reason_if b start (operate op)) (sym asked)
 
-  pub says_why : (base : Address) (reason : Why) → base.0 ≡ now.ram_base → Some reason ≡ why now op → SaysWhy explain now (operate op) outcome (Some (record { base = base; op = op; why = reason }))
-  says_why base reason begins is =
-      as_before (Some (record { base = base; op = op; why = reason }))
-      (ap (λ b. reason_line b op reason) begins ∙ ap (λ o. option_map_or (reason_line now.ram_base op) o []) is)
+  pub says_why : (base : Address) (reason : Why) (its : Option Mend) → base.0 ≡ now.ram_base → Some reason ≡ why now op → its ≡ mend now op
+      → SaysWhy explain now (operate op) outcome (Some (record { base = base; op = op; why = reason; mend = its }))
+  says_why base reason its begins is mended =
+      as_before (Some (record { base = base; op = op; why = reason; mend = its }))
+      (ap (λ b. reason_line b op reason its) begins
+      ∙ ap (reason_line now.ram_base op reason) mended
+      ∙ ap (λ o. option_map_or (λ reason. reason_line now.ram_base op reason (mend now op)) o []) is)
 
   pub says_none : None ≡ why now op → SaysWhy explain now (operate op) outcome None
-  says_none is = as_before None (ap (λ o. option_map_or (reason_line now.ram_base op) o []) is)
+  says_none is = as_before None (ap (λ o. option_map_or (λ reason. reason_line now.ram_base op reason (mend now op)) o []) is)

@@ -1,24 +1,63 @@
 -- SPDX-License-Identifier: MIT OR Apache-2.0
 -- FOR PROOFS ALONE
 -- The steps of a play that checks guards, which private functions promise one another.
-use Rattle.std.specs.Prelude.{◌≡◌, ◌≢◌, ℕ, Bool, true, false, List, ◌∷◌, ◌++◌, Option, None, Some, Result, Ok, Err}
+use Rattle.std.specs.Prelude.{◌≡◌, ◌≢◌, ℕ, Bool, true, false, List, [], ◌∷◌, ◌++◌, Option, None, Some, Result, Ok, Err}
+use Rattle.ffa_model.specs.declared.operation.Op.{Op}
+use Rattle.ffa_model.specs.declared.operation.Outcome.{Outcome}
 use Rattle.ffa_model.specs.State.{State}
-use Rattle.play_syntax.specs.TraceLines.{Line, operate, show, audit, skip, feed}
-use Rattle.play_syntax.specs.TraceText.{hex, line_text}
+use Rattle.ffa_model.specs.Step.{step}
+use Rattle.play_syntax.specs.TraceLines.{Line, operate, show, audit, skip, feed, has_no_feed, words_of}
+use Rattle.play_syntax.specs.TraceText.{hex, line_text, line_after}
+use Rattle.play_syntax.specs.Lines.{outcome_of}
 use Rattle.play_syntax.specs.declared.output.PlayError.{PlayError}
 use Rattle.play_syntax.specs.declared.output.PlayError.TheVariants.{NoMemory}
 use Rattle.play_forms.specs.declared.guards.Asks.{Asks}
 use Rattle.play_forms.specs.declared.guards.Asks.TheVariants.{Printed, Runner}
-use Rattle.play_forms.specs.Guards.{first_line}
+use Rattle.play_forms.specs.declared.patterns.Came.{Came}
+use Rattle.play_forms.specs.Guards.{told_first}
+use Rattle.play_forms.specs.Patterns.{check_of, line_came, meets}
+
+-- WORDS
+
+-- a text is this word, or this word, a space, and the rest
+abbrev pub AreWords : List ℕ → List ℕ → Option (List ℕ) → Type 0
+AreWords text word None = words_of text ≡ word ∷ []
+AreWords text word (Some rest) = words_of text ≡ word ∷ words_of rest
+
+-- WHAT A LINE CAME TO
+
+-- whichever state an operation was done in, where this came of it: the check is the one that refused it there
+abbrev pub SaysCheck : State → Op → Option Outcome → Option ℕ → Type 0
+SaysCheck now op outcome check =
+    (start : State) → now ≡ line_after start (operate op) → outcome ≡ Some (step start op).outcome
+    → check ≡ check_of start op
+
+-- what a line came to in this state, or what another did, where it says nothing
+abbrev pub came_by : State → Line → Came → Came
+came_by s (operate op) before = line_came s (operate op)
+came_by s show before = line_came s show
+came_by s audit before = line_came s audit
+came_by s skip before = before
+
+-- the same, whichever state the line was done in, where this came of it
+abbrev pub SaysCame : State → Line → Option Outcome → Came → Came → Type 0
+SaysCame now line outcome before came =
+    (start : State) → now ≡ line_after start line → outcome ≡ outcome_of start line → came ≡ came_by start line before
+
+-- WHAT IS ASKED
 
 -- What follows speaks of what was unasked before and now (`old`, `new`), and of what was found in place of what is
 -- wanted.
 
--- a line is wanted of a printed text: it begins the text, and was taken off, or it doesn't
-abbrev pub AsksPrinted : List ℕ → List ℕ → List ℕ → List ℕ → Result Bool PlayError → Type 0
-AsksPrinted wants old new found (Ok true) = old ≡ wants ++ feed ∷ new
-AsksPrinted wants old new found (Ok false) = ((rest : List ℕ) → old ≢ wants ++ feed ∷ rest) × (found ≡ first_line old)
-AsksPrinted wants old new found (Err e) = e ≡ NoMemory
+-- a line is wanted of a printed text that came to this: one that meets what is wanted begins the text, and was taken
+-- off, or none does
+abbrev pub AsksPrinted : List ℕ → Came → List ℕ → List ℕ → List ℕ → Result Bool PlayError → Type 0
+AsksPrinted wants came old new found (Ok true) =
+    (line : List ℕ) × (old ≡ line ++ feed ∷ new) × (has_no_feed line ≡ true) × (meets came wants line ≡ true)
+AsksPrinted wants came old new found (Ok false) =
+    ((line rest : List ℕ) → old ≡ line ++ feed ∷ rest → has_no_feed line ≡ true → meets came wants line ≡ true → ⊥)
+    × (found ≡ told_first wants came old)
+AsksPrinted wants came old new found (Err e) = e ≡ NoMemory
 
 -- an identifier is wanted of the endpoint that runs
 abbrev pub AsksRunner : State → List ℕ → List ℕ → Result Bool PlayError → Type 0
@@ -27,15 +66,17 @@ AsksRunner s wants found (Ok false) = (wants ≢ hex 4 s.runner) × (found ≡ h
 AsksRunner s wants found (Err e) = e ≡ NoMemory
 
 -- a line was asked, which is this guard or none: it is met, or it is the guard that isn't
-abbrev pub Asked : State → Option (Asks × List ℕ) → List ℕ → List ℕ → List ℕ → Result (Option Asks) PlayError → Type 0
-Asked s guard old new found (Err e) = e ≡ NoMemory
-Asked s None old new found (Ok None) = new ≡ old
-Asked s None old new found (Ok (Some asks)) = ⊥
-Asked s (Some (Printed, wants)) old new found (Ok None) = AsksPrinted wants old new found (Ok true)
-Asked s (Some (Printed, wants)) old new found (Ok (Some asks)) =
-    (asks ≡ Printed) × AsksPrinted wants old new found (Ok false)
-Asked s (Some (Runner, wants)) old new found (Ok None) = AsksRunner s wants found (Ok true) × (new ≡ old)
-Asked s (Some (Runner, wants)) old new found (Ok (Some asks)) = (asks ≡ Runner) × AsksRunner s wants found (Ok false)
+abbrev pub Asked : State → Option (Asks × List ℕ) → Came → List ℕ → List ℕ → List ℕ
+    → Result (Option Asks) PlayError → Type 0
+Asked s guard came old new found (Err e) = e ≡ NoMemory
+Asked s None came old new found (Ok None) = new ≡ old
+Asked s None came old new found (Ok (Some asks)) = ⊥
+Asked s (Some (Printed, wants)) came old new found (Ok None) = AsksPrinted wants came old new found (Ok true)
+Asked s (Some (Printed, wants)) came old new found (Ok (Some asks)) =
+    (asks ≡ Printed) × AsksPrinted wants came old new found (Ok false)
+Asked s (Some (Runner, wants)) came old new found (Ok None) = AsksRunner s wants found (Ok true) × (new ≡ old)
+Asked s (Some (Runner, wants)) came old new found (Ok (Some asks)) =
+    (asks ≡ Runner) × AsksRunner s wants found (Ok false)
 
 -- what is unasked behind a line that was done: its own text, or what was, where it says nothing
 abbrev pub unasked_by : State → Line → List ℕ → List ℕ

@@ -1,11 +1,11 @@
 -- SPDX-License-Identifier: MIT OR Apache-2.0
 -- Guards: comments of a trace that ask what the line before them printed, or which endpoint runs.
-use Rattle.std.specs.Prelude.{◌≡◌, ℕ, ◌+◌, Bool, true, false, not, List, [], ◌∷◌, ◌++◌, codes, drop, length, nat_eq, Option, None, Some, Result, Ok, Err, ⊤, ◌==◌, ◌⊎◌, if◌then◌else◌}
+use Rattle.std.specs.Prelude.{◌≡◌, ℕ, ◌+◌, Bool, true, false, not, ◌&&◌, ◌||◌, List, [], ◌∷◌, ◌++◌, codes, drop, filter, is_some, length, nat_eq, option_map, position, take, Option, None, Some, Result, Ok, Err, ⊤, ◌==◌, ◌⊎◌, if◌then◌else◌}
 use Rattle.std.specs.Io.KnownBytes.{Appends, Consumes, IsAtEnd}
-use Rattle.std.specs.List.{before_first, flat_map, list_all, starts_with}
+use Rattle.std.specs.List.{list_all, position_or_len, starts_with}
 use Rattle.std.specs.Option.{option_map_or}
 use Rattle.ffa_model.specs.State.{State}
-use Rattle.play_syntax.specs.TraceLines.{Line, operate, show, audit, skip, feed, has_no_feed, line_of, joined}
+use Rattle.play_syntax.specs.TraceLines.{Line, operate, show, audit, skip, feed, space, has_no_feed, line_of, joined}
 use Rattle.play_syntax.specs.TraceText.{hex, text_of, after_all}
 use Rattle.play_syntax.specs.declared.output.PlayError.{PlayError}
 use Rattle.play_syntax.specs.declared.output.PlayError.TheVariants.{Read, Write, NoMemory, BadLine}
@@ -13,7 +13,9 @@ use Rattle.play_forms.specs.declared.form.Form.{Form}
 use Rattle.play_forms.specs.declared.guards.Asks.{Asks}
 use Rattle.play_forms.specs.declared.guards.Asks.TheVariants.{Printed, Runner}
 use Rattle.play_forms.specs.declared.guards.Breach.{Breach}
+use Rattle.play_forms.specs.declared.patterns.Came.{Came}
 use Rattle.play_forms.specs.Followed.{Followed, EndsBadly, FailsToWrite}
+use Rattle.play_forms.specs.Patterns.{came_of, meets, pattern_of, told}
 
 -- A GUARD
 
@@ -28,15 +30,38 @@ guard_of line =
     else if starts_with nat_eq line (codes "#@") then Some (Runner, without_space (drop 2 line))
     else None
 
--- the printed lines that a guard asks for: one, or none
-abbrev pub wants_of : Option (Asks × List ℕ) → List (List ℕ)
-wants_of None = []
-wants_of (Some (Printed, text)) = text ∷ []
-wants_of (Some (Runner, text)) = []
+abbrev pub is_guard : List ℕ → Bool
+is_guard line = is_some (guard_of line)
 
--- those that the guards among these lines ask for
-abbrev pub wants_among : List (List ℕ) → List (List ℕ)
-wants_among lines = flat_map (λ line. wants_of (guard_of line)) lines
+-- whether a guard asks for a printed line
+abbrev pub asks_line : Option (Asks × List ℕ) → Bool
+asks_line None = false
+asks_line (Some (Printed, text)) = true
+asks_line (Some (Runner, text)) = false
+
+-- those among these lines that do
+abbrev pub asking_among : List (List ℕ) → List (List ℕ)
+asking_among lines = filter (λ line. asks_line (guard_of line)) lines
+
+abbrev pub behind_spaces : List ℕ → List ℕ
+behind_spaces text = drop (position_or_len (λ c. not (c == space)) text) text
+
+-- a comment that is nearly a guard: behind its `#` stand spaces, and then `=` or `@`
+abbrev pub is_near : List ℕ → Bool
+is_near line =
+    let behind = behind_spaces (drop 1 line) in
+    starts_with nat_eq line (codes "# ")
+    && (starts_with nat_eq behind (codes "=") || starts_with nat_eq behind (codes "@"))
+
+-- how many of these lines are guards
+abbrev pub guards_among : List (List ℕ) → ℕ
+guards_among lines = length (filter is_guard lines)
+
+-- the numbers of those that are nearly guards, where the first has this number
+abbrev pub near_from : ℕ → List (List ℕ) → List ℕ
+near_from number [] = []
+near_from number (line ∷ lines) =
+    if is_near line then number ∷ near_from (number + 1) lines else near_from (number + 1) lines
 
 -- WHAT IS UNASKED
 
@@ -53,26 +78,33 @@ prints line = option_map_or speaks (line_of line) false
 abbrev pub are_silent : List (List ℕ) → Bool
 are_silent lines = list_all (λ line. not (prints line)) lines
 
--- the last of these lines that prints printed what the guards behind it ask for, and then this rest
-pub record Leaves (start : State) (lines : List (List ℕ)) (rest : List ℕ) : Type 0 where
+-- The last of these lines that prints came to this, and printed lines and then this rest: each guard behind it has asked
+-- for one of the lines.
+pub record Leaves (start : State) (lines : List (List ℕ)) (came : Came) (rest : List ℕ) : Type 0 where
   pub before : List (List ℕ)
   pub last : List ℕ
   pub behind : List (List ℕ)
   pub whole : lines ≡ before ++ last ∷ behind
   pub loud : prints last ≡ true
   pub silent : are_silent behind ≡ true
-  pub said : text_of (after_all start before) last ≡ joined (wants_among behind) ++ rest
+  pub comes : came ≡ came_of (after_all start before) last
+  pub asked : List (List ℕ)
+  pub each : list_all has_no_feed asked ≡ true
+  pub count : length asked ≡ length (asking_among behind)
+  pub said : text_of (after_all start before) last ≡ joined asked ++ rest
 
 -- what no guard among these lines has asked for: that rest, or nothing where none of them prints
-abbrev pub IsUnasked : State → List (List ℕ) → List ℕ → Type 0
-IsUnasked start lines rest = Leaves start lines rest ⊎ ((are_silent lines ≡ true) × (rest ≡ []))
+abbrev pub IsUnasked : State → List (List ℕ) → Came → List ℕ → Type 0
+IsUnasked start lines came rest = Leaves start lines came rest ⊎ ((are_silent lines ≡ true) × (rest ≡ []))
 
 -- WHICH GUARDS ARE MET
 
--- a guard behind these lines is met: its text is the first line of the rest, or the identifier of the endpoint that
--- runs
+-- a guard behind these lines is met: the first line of the rest meets its text, or its text is the identifier of the
+-- endpoint that runs
 abbrev pub IsMet : State → List (List ℕ) → Asks × List ℕ → Type 0
-IsMet start lines (Printed, text) = (rest : List ℕ) × Leaves start lines (text ++ feed ∷ rest)
+IsMet start lines (Printed, text) =
+    (came : Came) × (line : List ℕ) × (rest : List ℕ) × Leaves start lines came (line ++ feed ∷ rest)
+    × (has_no_feed line ≡ true) × (meets came text line ≡ true)
 IsMet start lines (Runner, text) = text ≡ hex 4 (after_all start lines).runner
 
 abbrev pub AreMet : State → List (List ℕ) → Type 0
@@ -80,14 +112,19 @@ AreMet start lines =
     (front : List (List ℕ)) (line : List ℕ) (back : List (List ℕ)) (guard : Asks × List ℕ)
     → lines ≡ front ++ line ∷ back → guard_of line ≡ Some guard → IsMet start front guard
 
--- the line at the front, without the LF that ends it
-abbrev pub first_line : List ℕ → List ℕ
-first_line text = before_first (λ c. c == feed) text
+-- the line at the front of a text, without the LF that ends it, if there is one
+abbrev pub first_line : List ℕ → Option (List ℕ)
+first_line text = option_map (λ end. take end text) (position (λ c. c == feed) text)
+
+-- what the first line of a text that came to this tells of what is wanted, or nothing where there is none
+abbrev pub told_first : List ℕ → Came → List ℕ → List ℕ
+told_first wants came text = option_map_or (told (pattern_of wants) came) (first_line text) []
 
 -- what a guard behind these lines finds
-abbrev pub IsFound : State → List (List ℕ) → Asks → List ℕ → Type 0
-IsFound start lines Printed found = (rest : List ℕ) × IsUnasked start lines rest × (found ≡ first_line rest)
-IsFound start lines Runner found = found ≡ hex 4 (after_all start lines).runner
+abbrev pub IsFound : State → List (List ℕ) → Asks × List ℕ → List ℕ → Type 0
+IsFound start lines (Printed, wants) found =
+    (came : Came) × (rest : List ℕ) × IsUnasked start lines came rest × (found ≡ told_first wants came rest)
+IsFound start lines (Runner, wants) found = found ≡ hex 4 (after_all start lines).runner
 
 -- A PLAY
 
@@ -108,23 +145,32 @@ pub record Breaks (form : Form) (start now : State) (had : Option (List ℕ)) (t
   pub guard : guard_of bytes ≡ Some (breach.asks, wants)
   pub unmet : IsMet start lines (breach.asks, wants) → ⊥
   pub is_next : breach.number ≡ 1 + length lines
-  pub finds : IsFound start lines breach.asks found
+  pub finds : IsFound start lines (breach.asks, wants) found
+
+-- so many of these lines are guards, and these are the numbers of those that are nearly guards
+abbrev pub Tallies : List (List ℕ) → ℕ → List ℕ → Type 0
+Tallies lines met near = (met ≡ guards_among lines) × (near ≡ near_from 1 lines)
 
 -- A play that writes each text and checks guards: whole, or up to a guard that isn't met, or up to a bad line, or as
--- far as could be read, or as far as could be written. Of what it leaves where there is no memory nothing is said.
+-- far as could be read, or as far as could be written. All guards of these lines were met, so many they are, and these
+-- are nearly guards. Of what it leaves where there is no memory nothing is said.
 abbrev pub GuardedIn : Form → State → State → Option (List ℕ) → Option (List ℕ) → Option (List ℕ) → List ℕ → List ℕ
-    → Result (Option Breach) PlayError → Type 0
-GuardedIn form start now held holds had bytes found (Ok None) =
+    → ℕ → List ℕ → Result (Option Breach) PlayError → Type 0
+GuardedIn form start now held holds had bytes found met near (Ok None) =
     (left : Option (List ℕ)) × (lines : List (List ℕ)) × (text : List ℕ)
     × Followed form start now had left lines text × IsAtEnd left × Appends held holds text × AreMet start lines
-GuardedIn form start now held holds had bytes found (Ok (Some breach)) =
-    (text : List ℕ) × Breaks form start now had text bytes found breach × Appends held holds text
-GuardedIn form start now held holds had bytes found (Err (BadLine n)) =
+    × Tallies lines met near
+GuardedIn form start now held holds had bytes found met near (Ok (Some breach)) =
+    (text : List ℕ) × (breaks : Breaks form start now had text bytes found breach) × Appends held holds text
+    × Tallies breaks.lines met near
+GuardedIn form start now held holds had bytes found met near (Err (BadLine n)) =
     (text : List ℕ) × (ends : EndsBadly form start now had text bytes n) × Appends held holds text
-    × AreMet start ends.lines
-GuardedIn form start now held holds had bytes found (Err Read) =
+    × AreMet start ends.lines × Tallies ends.lines met near
+GuardedIn form start now held holds had bytes found met near (Err Read) =
     (left : Option (List ℕ)) × (lines : List (List ℕ)) × (text : List ℕ)
     × Followed form start now had left lines text × Appends held holds text × AreMet start lines
-GuardedIn form start now held holds had bytes found (Err Write) =
+    × Tallies lines met near
+GuardedIn form start now held holds had bytes found met near (Err Write) =
     (fails : FailsToWrite form start now held holds had) × AreMet start (fails.lines ++ fails.last ∷ [])
-GuardedIn form start now held holds had bytes found (Err NoMemory) = ⊤
+    × Tallies (fails.lines ++ fails.last ∷ []) met near
+GuardedIn form start now held holds had bytes found met near (Err NoMemory) = ⊤

@@ -1,7 +1,7 @@
 -- SPDX-License-Identifier: MIT OR Apache-2.0
 -- FOR PROOFS ALONE
 -- The steps of a play line by line, which private functions promise one another.
-use Rattle.std.specs.Prelude.{◌≡◌, ◌≤◌, ℕ, Bool, List, [], ◌∷◌, ◌++◌, length, Option, None, Some, Result, Ok, Err, ⊤}
+use Rattle.std.specs.Prelude.{◌≡◌, ℕ, Bool, List, [], ◌∷◌, ◌++◌, Option, Result, Ok, Err, ⊤}
 use Rattle.std.specs.Io.KnownBytes.{Appends}
 use Rattle.ffa_model.specs.State.{State}
 use Rattle.ffa_model.specs.declared.operation.Outcome.{Outcome}
@@ -13,7 +13,6 @@ use Rattle.play_syntax.specs.declared.output.PlayError.{PlayError}
 use Rattle.play_syntax.specs.declared.output.PlayError.TheVariants.{Read, Write, NoMemory, BadLine}
 use Rattle.play_reasons.specs.Reasons.{reason_if, told_line}
 use Rattle.play_reasons.specs.declared.reason.Reason.{Reason}
-use Rattle.play_forms.specs.declared.comparison.Mismatch.{Mismatch}
 use Rattle.play_forms.specs.declared.form.Form.{Form}
 use Rattle.play_forms.specs.Forms.{line_text_in, spoken_in, unnumbered_in}
 
@@ -73,11 +72,3 @@ Refuses old new number (Err (BadLine n)) = (n ≡ number) × (new ≡ old ++ fee
 Refuses old new number (Err Read) = ⊥
 Refuses old new number (Err NoMemory) = ⊤
 Refuses old new number (Err Write) = ⊥
-
--- OF A COMPARISON
-
--- no line is left: the expected text ends, or it differs where it goes on
-abbrev pub LeavesOver : List ℕ → ℕ → ℕ → Option Mismatch → Type 0
-LeavesOver rest number place None = rest ≡ []
-LeavesOver rest number place (Some mismatch) =
-    (1 ≤ length rest) × (mismatch ≡ record { number = number; place = place; reason = None })

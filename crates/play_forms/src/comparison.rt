@@ -1,80 +1,267 @@
 // SPDX-License-Identifier: MIT OR Apache-2.0
 //! A play against a text that is expected.
-ghost use Rattle.std.specs.Prelude.{IfOk, IfSome};
-ghost use Rattle.play_forms.specs.Followed.{Compared, NeverPrints};
-ghost use Rattle.play_forms.specs.Forms.{plain};
-ghost use Rattle.play_forms.specs.Steps.{LeavesOver};
+ghost use Rattle.std.specs.Prelude.{◌≡◌, ◌≢◌, ℕ, List, [], ◌∷◌, ◌++◌, IfOk, IfSome};
+ghost use Rattle.std.specs.Option.{MatchOption};
+ghost use Rattle.play_syntax.specs.Lines.{meant, outcome_of};
+ghost use Rattle.play_syntax.specs.TraceLines.{feed};
+ghost use Rattle.play_forms.specs.Compared.{Compared, NeverPrints, unexplained};
+ghost use Rattle.play_forms.specs.Comparing.{AreRows, ComparesEnd, ComparesLine, ReadsRow, TakesText};
+ghost use Rattle.play_forms.specs.Forms.{WritesIn};
 
-use crate::form::put_plain;
+use crate::form::{Form, put_number_in, put_text};
 use crate::read::Lines;
 use crate::reason::reason_of;
+use ffa_model::Outcome;
 use ffa_playable::Playable;
 use play_player::Player;
 use play_reasons::Reason;
-use play_syntax::PlayError;
+use play_syntax::{Line, PlayError};
 use std::alloc::Allocator;
-use std::io::BufRead;
+use std::io::{BufRead, ErrorKind};
+use thiserror::Error;
 
 /// Where a text first differs from what is expected.
 #[derive(Clone, Copy)]
 pub struct Mismatch {
-    /// The number of the line whose text differs, counted from 1, or of the line behind the last, where the expected
-    /// text goes on.
+    /// The number of the trace's line whose text differs, counted from 1, or of the line behind the last, where the
+    /// expected text goes on.
     pub number: u64,
-    /// How many bytes of the expected text the lines before it printed.
+    /// The number of the line of the expected text that differs, counted from 1, or of the line behind the last, where
+    /// the text goes on.
+    pub expected_line: u64,
+    /// How many bytes of the line's text stand before the first line of it that differs.
     pub place: usize,
     /// Why the operation of that line is refused, where that is asked for.
     pub reason: Option<Reason>,
 }
 
-/// Does the lines that the reader gives, one after another, up to the first whose text isn't how the expected text goes
-/// on, and answers where that is. That line is done too. Its bytes stand in `bytes`, without the LF that ends them, and
-/// its plain text in `text`, of which no clause speaks.
-///
-/// At a bad line, and where the reader fails, the lines before it were done, and nothing more, and their text begins
-/// the expected one. The bytes of a bad line stand in `bytes` as they stand in the trace, with the LF that ends them,
-/// where one does. What is left where there is no memory is in no clause.
-pub fn compare<P: Playable, A: Allocator + Copy, R: BufRead>(
-    player: &mut Player<P>,
-    alloc: A,
-    explain: bool,
-    reader: &mut R,
-    expected: &[u8],
-    bytes: &mut Vec<u8, A>,
-    text: &mut Vec<u8, A>,
-) -> Result<Option<Mismatch>, PlayError>
-    ensures compared { let had = R.remaining reader.old in
-        Compared plain player.old.state player.new.state had explain expected.now bytes.new.items result }
-    ensures unequal { let had = R.remaining reader.old in
-        IfOk result (λ d. IfSome d (λ _. NeverPrints plain player.old.state had expected.now)) }
-{
-    let mut rest = expected;
-    let mut lines = Lines::new();
-    while let Some((number, line)) = lines.next(reader, bytes)? {
-        text.clear();
-        let outcome = put_plain(player, alloc, &line, text)?;
-        let Some(more) = rest.strip_prefix(text.as_slice()) else {
-            return Ok(Some(Mismatch {
-                number,
-                place: expected.len() - rest.len(),
-                reason: reason_of(player, explain, &line, outcome),
-            }));
-        };
-        rest = more;
-    }
-    Ok(left_over(rest, lines.number, expected.len() - rest.len()))
+/// Why a comparison stopped.
+#[derive(Clone, Copy, Debug, PartialEq, Eq, Error)]
+pub enum CompareError {
+    /// What stops a play.
+    #[error("{0}")]
+    Play(PlayError),
+    /// The reader of the expected text failed, or that text has more lines than can be counted.
+    #[error("cannot read what is expected")]
+    Expected,
 }
 
-// The difference where no line is left: there is one if the expected text goes on.
-fn left_over(rest: &[u8], number: u64, place: usize) -> Option<Mismatch>
-    ensures { LeavesOver rest.now number place result }
-{
-    if rest.is_empty() {
-        return None;
+impl From<PlayError> for CompareError {
+    ghost use Rattle.play_forms.specs.declared.comparison.CompareError.TheVariants.{Play};
+
+    ghost from_gives = { λ error stopped. stopped ≡ Play error };
+
+    fn from(error: PlayError) -> CompareError {
+        CompareError::Play(error)
     }
-    Some(Mismatch {
-        number,
-        place,
-        reason: None,
-    })
+}
+
+/// What a comparison has read last, on both sides.
+#[derive(Drop)]
+pub struct Sides<A: Allocator> {
+    /// The bytes of the trace's line, without the LF that ends it.
+    pub line: Vec<u8, A>,
+    /// That line's text.
+    pub text: Vec<u8, A>,
+    /// The line of the expected text, with the LF that ends it, where one does. It is empty where that text ends.
+    pub expected: Vec<u8, A>,
+}
+
+impl<A: Allocator + Copy> Sides<A> {
+    /// Nothing yet.
+    pub fn new(alloc: A) -> Sides<A> {
+        Sides {
+            line: Vec::new(alloc),
+            text: Vec::new(alloc),
+            expected: Vec::new(alloc),
+        }
+    }
+}
+
+/// Does the lines that the reader gives, one after another, up to the first whose text isn't how the expected text goes
+/// on, and answers where that is. That line is done too. Both texts are compared line by line: no more than one line of
+/// the expected one is held. A text that is compared has numbers and names where the form asks for them, and reasons
+/// never: why the operation of that line is refused is told where the form asks for it.
+///
+/// At a bad line, and where a reader fails, the lines before it were done, and nothing more, and their text begins the
+/// expected one. The bytes of a bad line stand in `sides` as they stand in the trace, with the LF that ends them, where
+/// one does. Where the expected text can't be read, so much of it was read as begins the text of the lines that were
+/// done. What is left where there is no memory is in no clause.
+pub fn compare<P: Playable, A: Allocator + Copy, R: BufRead, E: BufRead>(
+    player: &mut Player<P>,
+    alloc: A,
+    form: Form,
+    reader: &mut R,
+    expected: &mut E,
+    sides: &mut Sides<A>,
+) -> Result<Option<Mismatch>, CompareError>
+    ensures compared { let had = R.remaining reader.old in
+        let wants = E.remaining expected.old in
+        let now = player.new.state in
+        Compared form player.old.state now had wants sides.new.line.items sides.new.text.items sides.new.expected.items result }
+    ensures unequal { let had = R.remaining reader.old in
+        let wants = E.remaining expected.old in
+        IfOk result (λ d. IfSome d (λ _. NeverPrints (unexplained form) player.old.state had wants)) }
+{
+    let mut lines = Lines::new();
+    let mut rows = Rows { read: 0 };
+    while let Some((number, line)) = lines.next(reader, &mut sides.line)? {
+        let (text, row) = (&mut sides.text, &mut sides.expected);
+        if let Some(mismatch) = rows.compare_line(
+            player, alloc, form, number, &line, expected, text, row,
+        )? {
+            return Ok(Some(mismatch));
+        }
+    }
+    sides.text.clear();
+    rows.compare_end(lines.number, expected, &mut sides.expected)
+}
+
+// The lines of an expected text, one after another.
+#[derive(Drop)]
+struct Rows {
+    // How many were read.
+    read: u64,
+}
+
+impl Rows {
+    // Does the line of this number, and takes its text off what is expected, or answers where that differs.
+    fn compare_line<P: Playable, A: Allocator + Copy, E: BufRead>(
+        &mut self,
+        player: &mut Player<P>,
+        alloc: A,
+        form: Form,
+        number: u64,
+        line: &Line,
+        expected: &mut E,
+        text: &mut Vec<u8, A>,
+        row: &mut Vec<u8, A>,
+    ) -> Result<Option<Mismatch>, CompareError>
+        ensures { let wants = E.remaining expected.old in
+            let has = E.remaining expected.new in
+            let start = player.old.state in
+            let now = player.new.state in
+            ComparesLine form start now number (meant line.now) wants has self.old.read self.new.read text.new.items row.new.items result }
+    {
+        let outcome = make_unexplained(player, alloc, form, number, line, text)?;
+        let Some(place) = self.take_text(expected, text, row)? else {
+            return Ok(None);
+        };
+        Ok(Some(Mismatch {
+            number,
+            expected_line: self.read,
+            place,
+            reason: reason_of(player, form.explain, line, outcome),
+        }))
+    }
+
+    // Where no line is left: the line of this number differs if the expected text goes on.
+    fn compare_end<A: Allocator, E: BufRead>(
+        &mut self,
+        number: u64,
+        expected: &mut E,
+        row: &mut Vec<u8, A>,
+    ) -> Result<Option<Mismatch>, CompareError>
+        ensures { ComparesEnd (E.remaining expected.old) self.old.read number row.new.items result }
+    {
+        self.next(expected, row)?;
+        if row.is_empty() {
+            return Ok(None);
+        }
+        Ok(Some(Mismatch {
+            number,
+            expected_line: self.read,
+            place: 0,
+            reason: None,
+        }))
+    }
+
+    // Takes the lines of a text off what is expected, up to the first that is another there, and answers where in the
+    // text that one begins.
+    fn take_text<A: Allocator, E: BufRead>(
+        &mut self,
+        expected: &mut E,
+        text: &[u8],
+        row: &mut Vec<u8, A>,
+    ) -> Result<Option<usize>, CompareError>
+        requires { AreRows text.now }
+        ensures { let wants = E.remaining expected.old in
+            let has = E.remaining expected.new in
+            TakesText wants has self.old.read self.new.read text.now row.new.items result }
+    {
+        let mut rest = text;
+        while !rest.is_empty() {
+            self.next(expected, row)?;
+            let Some(more) = behind_row(rest, row) else {
+                return Ok(Some(text.len() - rest.len()));
+            };
+            rest = more;
+        }
+        Ok(None)
+    }
+
+    // Reads the next line, with the LF that ends it, where one does.
+    fn next<A: Allocator, E: BufRead>(
+        &mut self,
+        expected: &mut E,
+        row: &mut Vec<u8, A>,
+    ) -> Result<(), CompareError>
+        ensures { let wants = E.remaining expected.old in
+            let has = E.remaining expected.new in
+            ReadsRow wants has self.old.read self.new.read row.new.items result }
+    {
+        if self.read == u64::MAX {
+            return Err(CompareError::Expected);
+        }
+        self.read += 1;
+        row.clear();
+        match expected.read_until(b'\n', row) {
+            Ok(_) => Ok(()),
+            Err(error) if error.kind() == ErrorKind::OutOfMemory => {
+                Err(CompareError::Play(PlayError::NoMemory))
+            }
+            Err(_) => Err(CompareError::Expected),
+        }
+    }
+}
+
+// Does the line of this number, and makes its text, without why its operation is refused. It answers what came of the
+// operation that the line is.
+fn make_unexplained<P: Playable, A: Allocator + Copy>(
+    player: &mut Player<P>,
+    alloc: A,
+    form: Form,
+    number: u64,
+    line: &Line,
+    text: &mut Vec<u8, A>,
+) -> Result<Option<Outcome>, PlayError>
+    ensures made { let start = player.old.state in
+        WritesIn (unexplained form) start player.new.state number (meant line.now) text.new.items result }
+    ensures outcome { IfOk result (λ o. o ≡ outcome_of player.old.state (meant line.now)) }
+{
+    let form = Form {
+        number: form.number,
+        names: form.names,
+        explain: false,
+    };
+    text.clear();
+    match line {
+        Line::Nothing => Ok(None),
+        Line::Operation(_) | Line::Show | Line::Audit => {
+            put_number_in(form, number, text)?;
+            put_text(player, alloc, form, line, text)
+        }
+    }
+}
+
+// What stands behind a line in a text that begins with it, where LF ends the line.
+fn behind_row<'a>(text: &'a [u8], row: &[u8]) -> Option<&'a [u8]>
+    ensures { MatchOption result
+        ((line rest : List ℕ) → row.now ≡ line ++ feed ∷ [] → text.now ≢ row.now ++ rest)
+        (λ rest. (line : List ℕ) × (row.now ≡ line ++ feed ∷ []) × (text.now ≡ row.now ++ rest.now)) }
+{
+    let Some(_line) = row.strip_suffix(b"\n") else {
+        return None;
+    };
+    text.strip_prefix(row)
 }

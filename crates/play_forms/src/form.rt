@@ -64,7 +64,8 @@ fn put_words<P: Playable, A: Allocator + Copy>(
     put_explained(player, alloc, form, line, text)
 }
 
-fn put_number_in<A: Allocator>(
+/// Puts the number of a line behind what stands there, where it is asked for.
+pub(crate) fn put_number_in<A: Allocator>(
     form: Form,
     number: u64,
     text: &mut Vec<u8, A>,
@@ -93,7 +94,8 @@ fn put_explained<P: Playable, A: Allocator + Copy>(
     put_reason(text, reason_of(player, form.explain, line, outcome))
 }
 
-/// As `make_text`, and puts the plain text into `said`, which a line that says nothing leaves as it is.
+/// As `make_text`, and puts the plain text into `said`, which a line that says nothing leaves as it is. It answers what
+/// came of the operation that the line is.
 pub(crate) fn make_texts<P: Playable, A: Allocator + Copy>(
     player: &mut Player<P>,
     alloc: A,
@@ -102,13 +104,14 @@ pub(crate) fn make_texts<P: Playable, A: Allocator + Copy>(
     line: &Line,
     said: &mut Vec<u8, A>,
     text: &mut Vec<u8, A>,
-) -> Result<(), PlayError>
+) -> Result<Option<Outcome>, PlayError>
     ensures made { WritesIn form player.old.state player.new.state number (meant line.now) text.new.items result }
     ensures said { OnOk result (said.new.items ≡ unasked_by player.old.state (meant line.now) said.old.items) }
+    ensures outcome { IfOk result (λ o. o ≡ outcome_of player.old.state (meant line.now)) }
 {
     text.clear();
     match line {
-        Line::Nothing => Ok(()),
+        Line::Nothing => Ok(None),
         Line::Operation(_) | Line::Show | Line::Audit => {
             put_both(player, alloc, form, number, line, said, text)
         }
@@ -124,19 +127,21 @@ fn put_both<P: Playable, A: Allocator + Copy>(
     line: &Line,
     said: &mut Vec<u8, A>,
     text: &mut Vec<u8, A>,
-) -> Result<(), PlayError>
+) -> Result<Option<Outcome>, PlayError>
     ensures spoken { let start = player.old.state in
         let now = player.new.state in
         Speaks form start now number (meant line.now) text.old.items text.new.items result }
     ensures said { OnOk result (said.new.items ≡ line_text player.old.state (meant line.now)) }
+    ensures outcome { IfOk result (λ o. o ≡ outcome_of player.old.state (meant line.now)) }
 {
     put_number_in(form, number, text)?;
     let outcome = put_texts(player, alloc, form, line, said, text)?;
-    put_reason(text, reason_of(player, form.explain, line, outcome))
+    put_reason(text, reason_of(player, form.explain, line, outcome))?;
+    Ok(outcome)
 }
 
-// Does a line, and puts its text behind what stands there. It answers what came of the operation that the line is.
-fn put_text<P: Playable, A: Allocator + Copy>(
+/// Does a line, and puts its text behind what stands there. It answers what came of the operation that the line is.
+pub(crate) fn put_text<P: Playable, A: Allocator + Copy>(
     player: &mut Player<P>,
     alloc: A,
     form: Form,

@@ -1,19 +1,18 @@
 // SPDX-License-Identifier: MIT OR Apache-2.0
 //! A play that checks guards: comments that ask what the line before them printed, or which endpoint runs.
-ghost use Rattle.std.specs.Prelude.{◌≡◌, ◌≢◌, ℕ, List, ◌∷◌, ◌++◌, IfErr, OnOk, drop, length, ◌≤◌, ◌==◌, position, option_map};
-ghost use Rattle.std.specs.Option.{MatchOption};
-ghost use Rattle.play_syntax.specs.TraceLines.{feed};
+ghost use Rattle.std.specs.Prelude.{◌≡◌, ◌==◌, ◌+◌, ◌<◌, IfErr, OnOk, [], ◌∷◌, ◌++◌, not, option_map, position};
+ghost use Rattle.play_syntax.specs.TraceLines.{space};
 ghost use Rattle.play_syntax.specs.Lines.{meant};
-ghost use Rattle.play_syntax.specs.TraceText.{hex};
-ghost use Rattle.play_forms.specs.Asking.{Asked, AsksPrinted, AsksRunner, unasked_by};
-ghost use Rattle.play_forms.specs.Guards.{GuardedIn, first_line, guard_of, without_space};
+ghost use Rattle.play_forms.specs.Asking.{came_by, unasked_by};
+ghost use Rattle.play_forms.specs.Guards.{GuardedIn, behind_spaces, guard_of, guards_among, is_near, near_from, without_space};
 ghost use Rattle.play_forms.specs.Steps.{PrintsLine};
 
+use crate::asking::unmet;
 use crate::form::{Form, make_texts};
+use crate::patterns::Came;
 use crate::read::Lines;
 use ffa_playable::Playable;
 use play_player::Player;
-use play_syntax::text::{self, Text};
 use play_syntax::{Line, PlayError, output};
 use std::alloc::Allocator;
 use std::io::{BufRead, Write};
@@ -56,13 +55,75 @@ fn without_space(text: &[u8]) -> &[u8]
     }
 }
 
+/// What is counted of guards.
+#[derive(Drop)]
+pub struct Tally<A: Allocator> {
+    /// How many were met.
+    pub met: u64,
+    /// The numbers of the lines that are nearly guards, counted from 1.
+    pub near: Vec<u64, A>,
+}
+
+impl<A: Allocator> Tally<A> {
+    /// Of no lines.
+    pub fn new(alloc: A) -> Tally<A>
+        ensures none { result.met ≡ 0 }
+        ensures empty { result.near.items ≡ [] }
+    {
+        Tally {
+            met: 0,
+            near: Vec::new(alloc),
+        }
+    }
+
+    // Counts the line of this number, which is no guard or one that is met.
+    fn count(&mut self, number: u64, line: &[u8]) -> Result<(), PlayError>
+        requires { self.old.met < number }
+        ensures met { OnOk result (self.new.met ≡ self.old.met + guards_among (line.now ∷ [])) }
+        ensures near { OnOk result (self.new.near.items ≡ self.old.near.items ++ near_from number (line.now ∷ [])) }
+        ensures failed { IfErr result (λ e. e ≡ PlayError.NoMemory) }
+    {
+        if guard_text(line).is_some() {
+            self.met += 1;
+        }
+        if is_nearly_guard(line) {
+            return self.near.push(number).map_err(|_| PlayError::NoMemory);
+        }
+        Ok(())
+    }
+}
+
+fn is_nearly_guard(line: &[u8]) -> bool
+    ensures { result ≡ is_near line.now }
+{
+    match line {
+        [b'#', b' ', ..] => matches!(behind_spaces(&line[1..]), [b'=' | b'@', ..]),
+        _ => false,
+    }
+}
+
+fn behind_spaces(text: &[u8]) -> &[u8]
+    ensures { result.now ≡ behind_spaces text.now }
+{
+    match first_other(text) {
+        Some(start) => &text[start..],
+        None => &[],
+    }
+}
+
+fn first_other(text: &[u8]) -> Option<usize>
+    ensures { result ≡ position (λ c. not (c == space)) text.now }
+{
+    text.iter().position(|c| *c != b' ')
+}
+
 /// As `play`, and checks guards: it stops at the first that isn't met.
 ///
 /// Guards of a printed text ask for the lines of the plain text that the last line before them printed, one each and in
 /// order, and guards of the runner for the endpoint that runs. The bytes of a guard that isn't met stand in `bytes`,
-/// without the LF that ends them, and what there is in place of what it wants in `found`: the next line that no guard
-/// has asked for, without its LF, which is empty where there is none; or the identifier of the endpoint that runs. The
-/// guards of the lines that were done are met, also where the play stops for another reason.
+/// without the LF that ends them, and what there is in place of what it wants in `found`: what the next line that no
+/// guard has asked for tells of it, which is empty where there is none; or the identifier of the endpoint that runs. The
+/// guards of the lines that were done are met, also where the play stops for another reason, and `tally` counts them.
 pub fn play_guarded<P: Playable, A: Allocator + Copy, R: BufRead, W: Write>(
     player: &mut Player<P>,
     alloc: A,
@@ -71,19 +132,24 @@ pub fn play_guarded<P: Playable, A: Allocator + Copy, R: BufRead, W: Write>(
     writer: &mut W,
     bytes: &mut Vec<u8, A>,
     found: &mut Vec<u8, A>,
+    tally: &mut Tally<A>,
 ) -> Result<Option<Breach>, PlayError>
+    requires none { tally.old.met ≡ 0 }
+    requires empty { tally.old.near.items ≡ [] }
     ensures { let held = W.contents writer.old in
         let holds = W.contents writer.new in
         let had = R.remaining reader.old in
-        GuardedIn form player.old.state player.new.state held holds had bytes.new.items found.new.items result }
+        let near = tally.new.near.items in
+        GuardedIn form player.old.state player.new.state held holds had bytes.new.items found.new.items tally.new.met near result }
 {
-    let mut unasked = Vec::new(alloc);
+    let mut unasked = Unasked::new(alloc);
     let mut text = Vec::new(alloc);
     let mut lines = Lines::new();
     while let Some((number, line)) = lines.next(reader, bytes)? {
-        if let Some(asks) = unmet(player, bytes, &mut unasked, found)? {
+        if let Some(asks) = unmet(player, bytes, unasked.came, &mut unasked.text, found)? {
             return Ok(Some(Breach { number, asks }));
         }
+        tally.count(number, bytes)?;
         print_asked(
             player,
             alloc,
@@ -98,7 +164,26 @@ pub fn play_guarded<P: Playable, A: Allocator + Copy, R: BufRead, W: Write>(
     Ok(None)
 }
 
-// Does a line and writes its text, which it makes in `text`, and puts the plain text into `said`, where there is one.
+// What the last line that prints came to, and what no guard has asked for of its text.
+#[derive(Drop)]
+struct Unasked<A: Allocator> {
+    text: Vec<u8, A>,
+    came: Came,
+}
+
+impl<A: Allocator> Unasked<A> {
+    // Nothing yet.
+    fn new(alloc: A) -> Unasked<A>
+        ensures { result.text.items ≡ [] }
+    {
+        Unasked {
+            text: Vec::new(alloc),
+            came: Came::NOTHING,
+        }
+    }
+}
+
+// Does a line and writes its text, which it makes in `text`. The plain text is unasked, where there is one.
 fn print_asked<P: Playable, A: Allocator + Copy, W: Write>(
     player: &mut Player<P>,
     alloc: A,
@@ -106,108 +191,16 @@ fn print_asked<P: Playable, A: Allocator + Copy, W: Write>(
     number: u64,
     line: &Line,
     writer: &mut W,
-    said: &mut Vec<u8, A>,
+    unasked: &mut Unasked<A>,
     text: &mut Vec<u8, A>,
 ) -> Result<(), PlayError>
     ensures printed { let held = W.contents writer.old in
         let holds = W.contents writer.new in
         PrintsLine form player.old.state player.new.state number (meant line.now) held holds result }
-    ensures said { OnOk result (said.new.items ≡ unasked_by player.old.state (meant line.now) said.old.items) }
+    ensures said { OnOk result (unasked.new.text.items ≡ unasked_by player.old.state (meant line.now) unasked.old.text.items) }
+    ensures came { OnOk result (unasked.new.came ≡ came_by player.old.state (meant line.now) unasked.old.came) }
 {
-    make_texts(player, alloc, form, number, line, said, text)?;
+    let outcome = make_texts(player, alloc, form, number, line, &mut unasked.text, text)?;
+    unasked.came = unasked.came.behind(player, line, outcome);
     output::write_text(writer, text)
-}
-
-// Asks the guard that a line is, if it is one, and answers what it asks about if it isn't met. What it wants of a
-// printed text is taken off what is unasked.
-fn unmet<P: Playable, A: Allocator>(
-    player: &Player<P>,
-    line: &[u8],
-    unasked: &mut Vec<u8, A>,
-    found: &mut Vec<u8, A>,
-) -> Result<Option<Asks>, PlayError>
-    ensures { Asked player.now.state (guard_of line.now) unasked.old.items unasked.new.items found.new.items result }
-{
-    let Some((asks, wants)) = guard_text(line) else {
-        return Ok(None);
-    };
-    let is_met = match asks {
-        Asks::Printed => ask_printed(wants, unasked, found)?,
-        Asks::Runner => ask_runner(player, wants, found)?,
-    };
-    Ok(if is_met { None } else { Some(asks) })
-}
-
-fn ask_printed<A: Allocator>(
-    wants: &[u8],
-    unasked: &mut Vec<u8, A>,
-    found: &mut Vec<u8, A>,
-) -> Result<bool, PlayError>
-    ensures { AsksPrinted wants.now unasked.old.items unasked.new.items found.new.items result }
-{
-    if let Some(rest) = behind_line(unasked, wants) {
-        let end = unasked.len() - rest.len();
-        take_front(unasked, end);
-        return Ok(true);
-    }
-    put_found(found, front_line(unasked))?;
-    Ok(false)
-}
-
-fn ask_runner<P: Playable, A: Allocator>(
-    player: &Player<P>,
-    wants: &[u8],
-    found: &mut Vec<u8, A>,
-) -> Result<bool, PlayError>
-    ensures { AsksRunner player.now.state wants.now found.new.items result }
-{
-    let mut runner = Text::new();
-    text::push_digits(&mut runner, 4, u64::from(player.machine().runner().0));
-    put_found(found, runner.as_slice())?;
-    Ok(wants == runner.as_slice())
-}
-
-// What stands behind a line and its LF, where a text begins with them.
-fn behind_line<'a>(text: &'a [u8], line: &[u8]) -> Option<&'a [u8]>
-    ensures { MatchOption result
-        ((rest : List ℕ) → text.now ≢ line.now ++ feed ∷ rest)
-        (λ rest. text.now ≡ line.now ++ feed ∷ rest.now) }
-{
-    let Some(rest) = text.strip_prefix(line) else {
-        return None;
-    };
-    rest.strip_prefix(b"\n")
-}
-
-fn front_line(text: &[u8]) -> &[u8]
-    ensures { result.now ≡ first_line text.now }
-{
-    match first_feed(text) {
-        Some(end) => &text[..end],
-        None => text,
-    }
-}
-
-fn first_feed(text: &[u8]) -> Option<usize>
-    ensures { result ≡ position (λ c. c == feed) text.now }
-{
-    text.iter().position(|c| *c == b'\n')
-}
-
-fn take_front<A: Allocator>(text: &mut Vec<u8, A>, end: usize)
-    requires { end ≤ length text.old.items }
-    ensures { text.new.items ≡ drop end text.old.items }
-{
-    text.rotate_left(end);
-    text.truncate(text.len() - end);
-}
-
-fn put_found<A: Allocator>(found: &mut Vec<u8, A>, bytes: &[u8]) -> Result<(), PlayError>
-    ensures written { OnOk result (found.new.items ≡ bytes.now) }
-    ensures failed { IfErr result (λ e. e ≡ PlayError.NoMemory) }
-{
-    found.clear();
-    found
-        .extend_from_slice(bytes)
-        .map_err(|_| PlayError::NoMemory)
 }

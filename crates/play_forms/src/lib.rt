@@ -1,17 +1,26 @@
 // SPDX-License-Identifier: MIT OR Apache-2.0
 //! Plays a trace line by line: with the number of each line, with the names of what registers hold, with the reasons of
-//! refusals, with guards that are checked, or against a text that is expected.
+//! refusals, with guards that are checked or made, past bad lines, or against a text that is expected.
 #![tactic(auto)]
 
+mod asking;
 mod comparison;
 mod form;
 mod guards;
+mod patterns;
 mod playing;
 mod read;
 mod reason;
+mod recording;
+mod session;
+mod telling;
 
-pub use comparison::{Mismatch, compare};
+pub use comparison::{CompareError, Mismatch, Sides, compare};
 pub use form::{Form, make_text};
-pub use guards::{Asks, Breach, guard_text, play_guarded};
+pub use guards::{Asks, Breach, Tally, guard_text, play_guarded};
+pub use patterns::{Came, Pattern};
 pub use playing::play;
 pub use read::{Lines, next_line};
+pub use recording::record;
+pub use session::play_session;
+pub use telling::tell_line;

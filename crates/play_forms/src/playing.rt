@@ -40,8 +40,8 @@ pub fn play<P: Playable, A: Allocator + Copy, R: BufRead, W: Write>(
     Ok(())
 }
 
-// Does a line and writes its text, which it makes in `text`.
-fn print_line<P: Playable, A: Allocator + Copy, W: Write>(
+/// Does a line and writes its text, which it makes in `text`.
+pub(crate) fn print_line<P: Playable, A: Allocator + Copy, W: Write>(
     player: &mut Player<P>,
     alloc: A,
     form: Form,

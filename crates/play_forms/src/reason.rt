@@ -29,14 +29,20 @@ pub(crate) fn reason_of<P: Playable>(
         Line::Operation(op) => {
             let why = player.machine().why(&op)?;
             let base = player.machine().ram_base();
-            Some(Reason { base, op, why })
+            let mend = player.machine().mend(&op);
+            Some(Reason {
+                base,
+                op,
+                why,
+                mend,
+            })
         }
         Line::Show | Line::Audit | Line::Nothing => None,
     }
 }
 
 // Whether an operation came to a refusal, where there was one.
-fn is_refused(outcome: Option<Outcome>) -> bool
+pub(crate) fn is_refused(outcome: Option<Outcome>) -> bool
     ensures { result ≡ option_map_or is_refusal outcome false }
 {
     match outcome {

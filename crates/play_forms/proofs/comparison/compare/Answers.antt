@@ -1,66 +1,73 @@
 -- SPDX-License-Identifier: MIT OR Apache-2.0
-use Rattle.std.proofs.Common.{◌≡◌, refl, ◌≢◌, ◌++◌, ◌∷◌, ℕ, List, [], Ok, sym, ap, ◌∙◌, subst, arith, append_assoc, length, length-append}
-use Rattle.std.specs.Option.{MatchOption}
-use Rattle.std.proofs.lemmas.Bool.Decides.{Decides-eqb}
+use Rattle.std.proofs.Common.{◌++◌, ◌∷◌, [], Ok, ◌∙◌, subst, arith, length-append, refl}
+use Rattle.std.proofs.KnownBytes.{Consumes-nil}
 use Rattle.std.proofs.lemmas.Result.{err_from_is_err_and}
-use Rattle.std.proofs.lemmas.Slice.Eq.{strip_prefix_is}
 use Rattle.play_syntax.specs.Lines.{meant}
+use Rattle.play_forms.specs.Comparing.{ComparesLine}
 use Rattle.play_forms.specs.Reading.{TakesNext}
-use Rattle.play_forms.proofs.Follows.{followed_more, followed_none, untaken_compared, differs_in_line, left_over_compared}
-use Rattle.play_forms.proofs.Plain.{said_plainly}
-use Rattle.play_forms.proofs.Unequal.{compared_unequal, never_prints}
+use Rattle.play_forms.proofs.Compares.{end_any, line_alike, line_differs, line_failed, untaken_compared}
+use Rattle.play_forms.proofs.Follows.{followed_none}
+use Rattle.play_forms.proofs.Unequal.{never_prints, result_unequal}
 use Rattle.play_forms.proofs.comparison.compare.Goals as goal
 
 pub loop-number-init : goal.loop-number-init
-loop-number-init g c = ([], [], followed_none _ _ _, refl, c.new-lines.ensures)
+loop-number-init g c = ([], [], [], followed_none _ _ _, refl, refl, Consumes-nil _, c.new-lines.ensures, refl)
 
 pub returns-in_err-number-clause-compared : goal.returns-in_err-number-clause-compared
 returns-in_err-number-clause-compared g c =
     let i = c.loop-number.invariant in
     let p = err_from_is_err_and c.from_residual.result c.from_residual.ensures.1 in
-    rw (p.1, p.2) (untaken_compared _ _ _ _ _ i.0 i.1 i.2 c.loop-number.lines.number i.4 c.in_err-number.field-0.0 (g.R.Read.remaining c.next.new.reader) c.next.new.bytes.items c.in_err-number.ensures c.args.explain _ c.loop-number.rest.now i.3)
+    rw (p.1, p.2)
+    (untaken_compared c.args.form c.args.player.now.state c.loop-number.player.state (g.R.Read.remaining c.args.reader.now) (g.R.Read.remaining c.loop-number.reader) (g.E.Read.remaining c.args.expected.now)
+    (g.E.Read.remaining c.loop-number.expected) i.0 i.1 i.2 i.3 i.4 i.5 i.6 c.loop-number.lines.number i.7 c.loop-number.rows.read i.8 c.in_err-number.field-0.0 (g.R.Read.remaining c.next.new.reader)
+    c.next.new.bytes.items c.loop-number.sides.text.items c.loop-number.sides.expected.items c.in_err-number.ensures)
 
-pub returns-in_default-strip_prefix-clause-compared : goal.returns-in_default-strip_prefix-clause-compared
-returns-in_default-strip_prefix-clause-compared g c =
+pub returns-in_err-mismatch-clause-compared : goal.returns-in_err-mismatch-clause-compared
+returns-in_err-mismatch-clause-compared g c =
     let i = c.loop-number.invariant in
     let one = subst (λ o. TakesNext c.loop-number.lines.number c.next.new.self.number (g.R.Read.remaining c.loop-number.reader) (g.R.Read.remaining c.next.new.reader) c.next.new.bytes.items (Ok o)) c.in-Some.is c.in_ok-number.ensures in
-    let rest = c.loop-number.rest.now in
-    let said = c.put_plain.new.text.items in
-    let made = c.in_ok-outcome.ensures in
-    let other = subst (λ r. MatchOption r ((words : List ℕ) → rest ≢ c.as_slice.result.now ++ words) (λ x. rest ≡ c.as_slice.result.now ++ x.now)) c.in_default-strip_prefix.is
-    (strip_prefix_is Decides-eqb rest c.as_slice.result.now c.strip_prefix.result c.strip_prefix.ensures.cases) in
-    differs_in_line _ _ _ _ _ i.0 i.1 i.2 c.in-Some.number (one.0 ∙ i.4) c.put_plain.new.player.state _ c.next.new.bytes.items (meant c.in-Some.line) said _ rest _ c.args.explain c.reason_of.result one.2.0 one.2.1 one.2.2
-    made.0 (said_plainly c.in-Some.number c.loop-number.player.state (meant c.in-Some.line) _ said c.clear.ensures.items made.1) i.3 (omega (arith, ap length i.3, length-append i.1 rest))
-    (λ words same. other words (same ∙ ap (λ t. t ++ words) (sym c.as_slice.ensures.value))) (c.reason_of.ensures c.loop-number.player.state made.0 made.2)
+    let p = err_from_is_err_and c.from_residual-in_err-mismatch.result c.from_residual-in_err-mismatch.ensures.1 in
+    rw (p.1, p.2)
+    (line_failed c.args.form c.args.player.now.state c.loop-number.player.state (g.R.Read.remaining c.args.reader.now) (g.R.Read.remaining c.loop-number.reader) (g.E.Read.remaining c.args.expected.now)
+    (g.E.Read.remaining c.loop-number.expected) i.0 i.1 i.2 i.3 i.4 i.5 i.6 c.in-Some.number (one.0 ∙ i.7) c.loop-number.rows.read i.8 c.compare_line.new.player.state (g.R.Read.remaining c.next.new.reader)
+    c.next.new.bytes.items (meant c.in-Some.line) one.2.0 one.2.1 one.2.2 c.in_err-mismatch.field-0.0 (g.E.Read.remaining c.compare_line.new.expected) c.compare_line.new.self.read c.compare_line.new.text.items
+    c.compare_line.new.row.items c.in_err-mismatch.ensures)
 
-pub returns-in_default-strip_prefix-clause-unequal : goal.returns-in_default-strip_prefix-clause-unequal
-returns-in_default-strip_prefix-clause-unequal g c = never_prints _ _ _ _ _ _ _ _ (returns-in_default-strip_prefix-clause-compared g c)
-
-pub returns-clause-compared : goal.returns-clause-compared
-returns-clause-compared g c =
+pub returns-in-Some-2-clause-compared : goal.returns-in-Some-2-clause-compared
+returns-in-Some-2-clause-compared g c =
     let i = c.loop-number.invariant in
-    let end = subst (λ o. TakesNext c.loop-number.lines.number c.next.new.self.number (g.R.Read.remaining c.loop-number.reader) (g.R.Read.remaining c.next.new.reader) c.next.new.bytes.items (Ok o)) c.in_default.is c.in_ok-number.ensures in
-    left_over_compared _ _ _ _ _ i.0 i.1 i.2 c.next.new.self.number (end.0 ∙ i.4) c.next.new.bytes.items _ c.loop-number.rest.now _ c.args.explain end.1 i.3
-    (omega (arith, ap length i.3, length-append i.1 c.loop-number.rest.now)) c.left_over.result c.left_over.ensures
+    let one = subst (λ o. TakesNext c.loop-number.lines.number c.next.new.self.number (g.R.Read.remaining c.loop-number.reader) (g.R.Read.remaining c.next.new.reader) c.next.new.bytes.items (Ok o)) c.in-Some.is c.in_ok-number.ensures in
+    let unread = g.E.Read.remaining c.loop-number.expected in
+    let has = g.E.Read.remaining c.compare_line.new.expected in
+    let found = subst (λ o. ComparesLine c.args.form c.loop-number.player.state c.compare_line.new.player.state c.in-Some.number (meant c.in-Some.line) unread has c.loop-number.rows.read c.compare_line.new.self.read c.compare_line.new.text.items c.compare_line.new.row.items (Ok o)) c.in-Some-2.is c.in_ok-mismatch.ensures in
+    line_differs c.args.form c.args.player.now.state c.loop-number.player.state (g.R.Read.remaining c.args.reader.now) (g.R.Read.remaining c.loop-number.reader) (g.E.Read.remaining c.args.expected.now) unread i.0 i.1 i.2
+    i.3 i.4 i.5 i.6 c.in-Some.number (one.0 ∙ i.7) c.loop-number.rows.read i.8 c.compare_line.new.player.state (g.R.Read.remaining c.next.new.reader) c.next.new.bytes.items (meant c.in-Some.line) one.2.0 one.2.1
+    one.2.2 has c.compare_line.new.self.read c.compare_line.new.text.items c.compare_line.new.row.items c.in-Some-2.mismatch found
 
-pub returns-clause-unequal : goal.returns-clause-unequal
-returns-clause-unequal g c = compared_unequal _ _ _ _ _ _ _ c.left_over.result (returns-clause-compared g c)
+pub returns-in-Some-2-clause-unequal : goal.returns-in-Some-2-clause-unequal
+returns-in-Some-2-clause-unequal g c = never_prints _ _ _ _ _ _ _ _ _ (returns-in-Some-2-clause-compared g c)
 
 pub loop-number-preserved : goal.loop-number-preserved
 loop-number-preserved g c =
     let i = c.loop-number.invariant in
     let one = subst (λ o. TakesNext c.loop-number.lines.number c.next.new.self.number (g.R.Read.remaining c.loop-number.reader) (g.R.Read.remaining c.next.new.reader) c.next.new.bytes.items (Ok o)) c.in-Some.is c.in_ok-number.ensures in
+    let unread = g.E.Read.remaining c.loop-number.expected in
+    let has = g.E.Read.remaining c.compare_line.new.expected in
     let line = c.next.new.bytes.items in
-    let rest = c.loop-number.rest.now in
-    let said = c.put_plain.new.text.items in
-    let made = c.in_ok-outcome.ensures in
-    let begins = subst (λ r. MatchOption r ((words : List ℕ) → rest ≢ c.as_slice.result.now ++ words) (λ x. rest ≡ c.as_slice.result.now ++ x.now)) c.in-Some-strip_prefix.is
-    (strip_prefix_is Decides-eqb rest c.as_slice.result.now c.strip_prefix.result c.strip_prefix.ensures.cases) in
-    let more = c.in-Some-strip_prefix.more.now in (
-      i.0 ++ line ∷ [],
-      i.1 ++ said,
-      followed_more _ _ _ _ _ i.0 i.1 i.2 c.in-Some.number (one.0 ∙ i.4) _ _ line (meant c.in-Some.line) _ one.2.0 one.2.1 one.2.2 made.0
-          (said_plainly c.in-Some.number c.loop-number.player.state (meant c.in-Some.line) _ said c.clear.ensures.items made.1),
-      i.3 ∙ ap (λ r. i.1 ++ r) (begins ∙ ap (λ t. t ++ more) c.as_slice.ensures.value) ∙ sym (append_assoc i.1 said more),
-      omega (arith, i.4, one.1, length-append i.0 (line ∷ [])),
-    )
+    let text = c.compare_line.new.text.items in
+    let alike = subst (λ o. ComparesLine c.args.form c.loop-number.player.state c.compare_line.new.player.state c.in-Some.number (meant c.in-Some.line) unread has c.loop-number.rows.read c.compare_line.new.self.read text c.compare_line.new.row.items (Ok o)) c.in_default-2.is c.in_ok-mismatch.ensures in
+    let more = line_alike c.args.form c.args.player.now.state c.loop-number.player.state (g.R.Read.remaining c.args.reader.now) (g.R.Read.remaining c.loop-number.reader) (g.E.Read.remaining c.args.expected.now) unread i.0
+    i.1 i.2 i.3 i.4 i.5 i.6 c.in-Some.number (one.0 ∙ i.7) c.loop-number.rows.read i.8 c.compare_line.new.player.state (g.R.Read.remaining c.next.new.reader) line (meant c.in-Some.line) one.2.0 one.2.1 one.2.2 has
+    c.compare_line.new.self.read text c.compare_line.new.row.items alike in
+    (i.0 ++ line ∷ [], i.1 ++ text, more.0, more.1, more.2, more.3, more.4, omega (arith, i.7, one.1, length-append i.0 (line ∷ [])), more.5)
+
+pub returns-clause-compared : goal.returns-clause-compared
+returns-clause-compared g c =
+    let i = c.loop-number.invariant in
+    let end = subst (λ o. TakesNext c.loop-number.lines.number c.next.new.self.number (g.R.Read.remaining c.loop-number.reader) (g.R.Read.remaining c.next.new.reader) c.next.new.bytes.items (Ok o)) c.in_default.is c.in_ok-number.ensures in
+    end_any c.args.form c.args.player.now.state c.loop-number.player.state (g.R.Read.remaining c.args.reader.now) (g.R.Read.remaining c.loop-number.reader) (g.E.Read.remaining c.args.expected.now)
+    (g.E.Read.remaining c.loop-number.expected) i.0 i.1 i.2 i.3 i.4 i.5 i.6 c.next.new.self.number (end.0 ∙ i.7) c.loop-number.rows.read i.8 c.next.new.bytes.items _ c.compare_end.new.row.items end.1
+    c.clear.ensures.items c.compare_end.result c.compare_end.ensures
+
+pub returns-clause-unequal : goal.returns-clause-unequal
+returns-clause-unequal g c = result_unequal _ _ _ _ _ _ _ _ c.compare_end.result (returns-clause-compared g c)

@@ -1,60 +1,82 @@
 -- SPDX-License-Identifier: MIT OR Apache-2.0
-use Rattle.std.proofs.Common.{◌++◌, ◌∷◌, [], Ok, ◌∙◌, sym, subst, arith, length-append, refl}
+use Rattle.std.proofs.Common.{◌≡◌, ◌+◌, ◌++◌, ◌∷◌, [], Ok, ◌∙◌, sym, subst, arith, length-append, refl}
 use Rattle.std.proofs.KnownBytes.{Appends-nil, Appends-trans}
 use Rattle.std.proofs.lemmas.Result.{err_from_is_err_and}
 use Rattle.play_syntax.specs.Lines.{meant}
 use Rattle.play_forms.specs.Asking.{Asked}
 use Rattle.play_forms.specs.Forms.{line_text_in}
-use Rattle.play_forms.specs.Guards.{IsUnasked, guard_of}
+use Rattle.play_forms.specs.Guards.{IsUnasked, guard_of, guards_among, near_from}
 use Rattle.play_forms.specs.Reading.{TakesNext}
 use Rattle.play_forms.proofs.Follows.{followed_none, followed_more}
-use Rattle.play_forms.proofs.Guarding.{breaks, guards_more, met_none, unasked_more, unasked_none, untaken_guarded, unwritten_guarded}
+use Rattle.play_forms.proofs.Guarding.{breaks, fewer_met, guards_more, met_none, tallies_more, tallies_none, unasked_more, unasked_none, untaken_guarded, unwritten_guarded}
 use Rattle.play_forms.proofs.guards.play_guarded.Goals as goal
 
 pub loop-text-init : goal.loop-text-init
-loop-text-init g c = ([], [], followed_none _ _ _, Appends-nil _, omega (arith, c.new-lines.ensures), met_none _, subst (IsUnasked c.args.player.now.state []) (sym c.new-unasked.ensures.items) (unasked_none _))
+loop-text-init g c = (
+  [],
+  [],
+  followed_none _ _ _,
+  Appends-nil _,
+  omega (arith, c.new-lines.ensures),
+  met_none _,
+  subst (IsUnasked c.args.player.now.state [] c.new-unasked.result.came) (sym c.new-unasked.ensures) (unasked_none c.args.player.now.state c.new-unasked.result.came),
+  tallies_none _ _ c.requires.none c.requires.empty,
+)
 
 pub returns-in_err-number : goal.returns-in_err-number
 returns-in_err-number g c =
     let i = c.loop-text.invariant in
     let p = err_from_is_err_and c.from_residual.result c.from_residual.ensures.1 in
-    rw (p.1, p.2) (untaken_guarded _ _ _ _ _ i.0 i.1 i.2 c.loop-text.lines.number i.4 i.5 c.in_err-number.field-0.0 (g.R.Read.remaining c.next.new.reader) c.next.new.bytes.items c.in_err-number.ensures
+    rw (p.1, p.2) (untaken_guarded _ _ _ _ _ i.0 i.1 i.2 c.loop-text.lines.number i.4 i.5 c.loop-text.tally.met c.loop-text.tally.near.items i.7 c.in_err-number.field-0.0 (g.R.Read.remaining c.next.new.reader) c.next.new.bytes.items c.in_err-number.ensures
     (g.W.Write.contents c.args.writer.now) (g.W.Write.contents c.loop-text.writer) c.loop-text.found.items i.3)
 
-pub returns-in_err-print_asked : goal.returns-in_err-print_asked
-returns-in_err-print_asked g c =
+pub count-requires : goal.count-requires
+count-requires g c =
     let i = c.loop-text.invariant in
     let one = subst (λ o. TakesNext c.loop-text.lines.number c.next.new.self.number (g.R.Read.remaining c.loop-text.reader) (g.R.Read.remaining c.next.new.reader) c.next.new.bytes.items (Ok o)) c.in-Some.is c.in_ok-number.ensures in
-    let line = c.next.new.bytes.items in
-    let answer = subst (λ l. Asked c.loop-text.player.state (guard_of l) c.loop-text.unasked.items c.unmet.new.unasked.items c.unmet.new.found.items (Ok c.in_ok-asks.field-0)) c.deref.ensures.value c.in_ok-asks.ensures in
-    let met = subst (λ o. Asked c.loop-text.player.state (guard_of line) c.loop-text.unasked.items c.unmet.new.unasked.items c.unmet.new.found.items (Ok o)) c.in_default-2.is answer in
-    let p = err_from_is_err_and c.from_residual-in_err-print_asked.result c.from_residual-in_err-print_asked.ensures.1 in
-    rw (p.1, p.2) (unwritten_guarded _ _ _ _ _ i.0 i.1 i.2 c.in-Some.number (one.0 ∙ i.4) i.5 c.in_err-print_asked.field-0.0 c.print_asked.new.player.state (g.R.Read.remaining c.next.new.reader)
-    line (meant c.in-Some.line) one.2.0 one.2.1 one.2.2 (g.W.Write.contents c.args.writer.now) (g.W.Write.contents c.loop-text.writer) (g.W.Write.contents c.print_asked.new.writer) c.unmet.new.found.items i.3
-    (guards_more c.args.player.now.state c.loop-text.player.state i.0 i.2.state c.loop-text.unasked.items i.6 i.5 line c.unmet.new.unasked.items c.unmet.new.found.items met) c.in_err-print_asked.ensures.printed)
+    fewer_met i.0 c.loop-text.tally.met c.loop-text.tally.near.items c.in-Some.number i.7 (one.0 ∙ i.4)
 
 pub returns-in-Some-2 : goal.returns-in-Some-2
 returns-in-Some-2 g c =
     let i = c.loop-text.invariant in
     let one = subst (λ o. TakesNext c.loop-text.lines.number c.next.new.self.number (g.R.Read.remaining c.loop-text.reader) (g.R.Read.remaining c.next.new.reader) c.next.new.bytes.items (Ok o)) c.in-Some.is c.in_ok-number.ensures in
     let line = c.next.new.bytes.items in
-    let answer = subst (λ l. Asked c.loop-text.player.state (guard_of l) c.loop-text.unasked.items c.unmet.new.unasked.items c.unmet.new.found.items (Ok c.in_ok-asks.field-0)) c.deref.ensures.value c.in_ok-asks.ensures in
-    let unmet = subst (λ o. Asked c.loop-text.player.state (guard_of line) c.loop-text.unasked.items c.unmet.new.unasked.items c.unmet.new.found.items (Ok o)) c.in-Some-2.is answer in
-    (i.1, breaks _ _ _ _ _ i.0 i.1 i.2 c.in-Some.number (one.0 ∙ i.4) i.5 _ line _ _ _ c.in-Some-2.asks one.2.0 one.2.1 i.6 unmet, i.3)
+    let answer = subst (λ l. Asked c.loop-text.player.state (guard_of l) c.loop-text.unasked.came c.loop-text.unasked.text.items c.unmet.new.unasked.items c.unmet.new.found.items (Ok c.in_ok-asks.field-0)) c.deref.ensures.value c.in_ok-asks.ensures in
+    let unmet = subst (λ o. Asked c.loop-text.player.state (guard_of line) c.loop-text.unasked.came c.loop-text.unasked.text.items c.unmet.new.unasked.items c.unmet.new.found.items (Ok o)) c.in-Some-2.is answer in
+    breaks _ _ _ _ _ i.0 i.1 i.2 c.in-Some.number (one.0 ∙ i.4) i.5 c.loop-text.tally.met c.loop-text.tally.near.items i.7 _ line _ _ _ _ c.in-Some-2.asks one.2.0 one.2.1 i.6 unmet (g.W.Write.contents c.args.writer.now) (g.W.Write.contents c.loop-text.writer) i.3
+
+pub returns-in_err-print_asked : goal.returns-in_err-print_asked
+returns-in_err-print_asked g c =
+    let i = c.loop-text.invariant in
+    let one = subst (λ o. TakesNext c.loop-text.lines.number c.next.new.self.number (g.R.Read.remaining c.loop-text.reader) (g.R.Read.remaining c.next.new.reader) c.next.new.bytes.items (Ok o)) c.in-Some.is c.in_ok-number.ensures in
+    let line = c.next.new.bytes.items in
+    let answer = subst (λ l. Asked c.loop-text.player.state (guard_of l) c.loop-text.unasked.came c.loop-text.unasked.text.items c.unmet.new.unasked.items c.unmet.new.found.items (Ok c.in_ok-asks.field-0)) c.deref.ensures.value c.in_ok-asks.ensures in
+    let met = subst (λ o. Asked c.loop-text.player.state (guard_of line) c.loop-text.unasked.came c.loop-text.unasked.text.items c.unmet.new.unasked.items c.unmet.new.found.items (Ok o)) c.in_default-2.is answer in
+    let counts = subst (λ l. c.count.new.self.met ≡ c.loop-text.tally.met + guards_among (l ∷ [])) c.deref-in-Some.ensures.value c.in_ok-count.ensures.met in
+    let nears = subst (λ l. c.count.new.self.near.items ≡ c.loop-text.tally.near.items ++ near_from c.in-Some.number (l ∷ [])) c.deref-in-Some.ensures.value c.in_ok-count.ensures.near in
+    let counted = tallies_more i.0 c.loop-text.tally.met c.loop-text.tally.near.items c.in-Some.number line c.count.new.self.met c.count.new.self.near.items i.7 (one.0 ∙ i.4) counts nears in
+    let p = err_from_is_err_and c.from_residual-in_err-print_asked.result c.from_residual-in_err-print_asked.ensures.1 in
+    rw (p.1, p.2) (unwritten_guarded _ _ _ _ _ i.0 i.1 i.2 c.in-Some.number (one.0 ∙ i.4) i.5 c.loop-text.tally.met c.loop-text.tally.near.items i.7 c.in_err-print_asked.field-0.0 c.print_asked.new.player.state (g.R.Read.remaining c.next.new.reader)
+    line (meant c.in-Some.line) one.2.0 one.2.1 one.2.2 (g.W.Write.contents c.args.writer.now) (g.W.Write.contents c.loop-text.writer) (g.W.Write.contents c.print_asked.new.writer) c.unmet.new.found.items i.3
+    (guards_more c.args.player.now.state c.loop-text.player.state i.0 i.2.state c.loop-text.unasked.came c.loop-text.unasked.text.items i.6 i.5 line c.unmet.new.unasked.items c.unmet.new.found.items met)
+    c.count.new.self.met c.count.new.self.near.items counted c.in_err-print_asked.ensures.printed)
 
 pub loop-text-preserved : goal.loop-text-preserved
 loop-text-preserved g c =
     let i = c.loop-text.invariant in
     let one = subst (λ o. TakesNext c.loop-text.lines.number c.next.new.self.number (g.R.Read.remaining c.loop-text.reader) (g.R.Read.remaining c.next.new.reader) c.next.new.bytes.items (Ok o)) c.in-Some.is c.in_ok-number.ensures in
     let line = c.next.new.bytes.items in
-    let answer = subst (λ l. Asked c.loop-text.player.state (guard_of l) c.loop-text.unasked.items c.unmet.new.unasked.items c.unmet.new.found.items (Ok c.in_ok-asks.field-0)) c.deref.ensures.value c.in_ok-asks.ensures in
-    let met = subst (λ o. Asked c.loop-text.player.state (guard_of line) c.loop-text.unasked.items c.unmet.new.unasked.items c.unmet.new.found.items (Ok o)) c.in_default-2.is answer in
+    let answer = subst (λ l. Asked c.loop-text.player.state (guard_of l) c.loop-text.unasked.came c.loop-text.unasked.text.items c.unmet.new.unasked.items c.unmet.new.found.items (Ok c.in_ok-asks.field-0)) c.deref.ensures.value c.in_ok-asks.ensures in
+    let met = subst (λ o. Asked c.loop-text.player.state (guard_of line) c.loop-text.unasked.came c.loop-text.unasked.text.items c.unmet.new.unasked.items c.unmet.new.found.items (Ok o)) c.in_default-2.is answer in
+    let counts = subst (λ l. c.count.new.self.met ≡ c.loop-text.tally.met + guards_among (l ∷ [])) c.deref-in-Some.ensures.value c.in_ok-count.ensures.met in
+    let nears = subst (λ l. c.count.new.self.near.items ≡ c.loop-text.tally.near.items ++ near_from c.in-Some.number (l ∷ [])) c.deref-in-Some.ensures.value c.in_ok-count.ensures.near in
     let made = c.in_ok-print_asked.ensures in (
       i.0 ++ line ∷ [],
       i.1 ++ line_text_in c.args.form c.in-Some.number c.loop-text.player.state (meant c.in-Some.line),
       followed_more _ _ _ _ _ i.0 i.1 i.2 c.in-Some.number (one.0 ∙ i.4) _ _ line (meant c.in-Some.line) _ one.2.0 one.2.1 one.2.2 made.printed.0 refl,
       Appends-trans _ _ _ _ _ i.3 made.printed.1,
       omega (arith, i.4, one.1, length-append i.0 (line ∷ [])),
-      guards_more c.args.player.now.state c.loop-text.player.state i.0 i.2.state c.loop-text.unasked.items i.6 i.5 line c.unmet.new.unasked.items c.unmet.new.found.items met,
-      unasked_more c.args.player.now.state c.loop-text.player.state i.0 i.2.state line (meant c.in-Some.line) c.loop-text.unasked.items c.unmet.new.unasked.items c.print_asked.new.said.items c.unmet.new.found.items one.2.2 i.6 met made.said,
+      guards_more c.args.player.now.state c.loop-text.player.state i.0 i.2.state c.loop-text.unasked.came c.loop-text.unasked.text.items i.6 i.5 line c.unmet.new.unasked.items c.unmet.new.found.items met,
+      unasked_more c.args.player.now.state c.loop-text.player.state i.0 i.2.state line (meant c.in-Some.line) c.loop-text.unasked.came c.print_asked.new.unasked.came c.loop-text.unasked.text.items c.unmet.new.unasked.items c.print_asked.new.unasked.text.items c.unmet.new.found.items one.2.2 i.6 met made.said made.came,
+      tallies_more i.0 c.loop-text.tally.met c.loop-text.tally.near.items c.in-Some.number line c.count.new.self.met c.count.new.self.near.items i.7 (one.0 ∙ i.4) counts nears,
     )

@@ -1,0 +1,180 @@
+-- SPDX-License-Identifier: MIT OR Apache-2.0
+-- A session, line by line: a bad line prints nothing and changes nothing.
+use Rattle.std.proofs.Common.{◌≡◌, ℕ, ◌+◌, ◌<◌, ◌^◌, Bool, true, false, List, [], ◌∷◌, ◌++◌, length, Option, None, Some, Result, Ok, Err, inl, inr, sym, ap, ◌∙◌, subst, refl}
+use Rattle.std.specs.Prelude.{IfErr, is_some}
+use Rattle.std.specs.Option.{option_map_or}
+use Rattle.std.specs.Io.KnownBytes.{Appends, Consumes}
+use Rattle.std.specs.List.{list_all}
+use Rattle.std.proofs.KnownBytes.{Appends-nil, Consumes-trans}
+use Rattle.std.proofs.lemmas.Bool.{and_from, cases_Bool}
+use Rattle.std.proofs.lemmas.List.Folds.{list_all-append}
+use Rattle.ffa_model.specs.State.{State}
+use Rattle.play_syntax.specs.TraceLines.{Line, feed, has_no_feed, is_good, joined, line_of}
+use Rattle.play_syntax.specs.TraceText.{after, after_all, line_after, line_text, text, text_of}
+use Rattle.play_syntax.specs.Output.{TookFront}
+use Rattle.play_syntax.specs.declared.output.PlayError.{PlayError}
+use Rattle.play_syntax.specs.declared.output.PlayError.TheVariants.{Read, Write, NoMemory, BadLine}
+use Rattle.play_player.proofs.Runs.{joined-append}
+use Rattle.play_forms.specs.Cut.{CutsTo}
+use Rattle.play_forms.specs.Forms.{line_text_in, text_in, text_of_in}
+use Rattle.play_forms.specs.Sessions.{Conversed, IsOver, SessionIn, good_lines, good_text_in}
+use Rattle.play_forms.specs.SessionSteps.{AnswersLine, HearsLine}
+use Rattle.play_forms.specs.Steps.{PrintsLine}
+use Rattle.play_forms.specs.declared.form.Form.{Form}
+use Rattle.play_forms.proofs.CutOff.{cuts_text}
+use Rattle.play_forms.proofs.Follows.{after_one, text_one}
+
+-- BAD LINES
+
+no_line : (line : Option Line) → is_some line ≡ false → line ≡ None
+no_line None bad = refl
+no_line (Some line) bad = absurd cc
+
+pub bad_after : (s : State) (line : List ℕ) → is_good line ≡ false → after s line ≡ s
+unfolding after
+bad_after s line bad = ap (λ l. option_map_or (line_after s) l s) (no_line (line_of line) bad)
+
+pub bad_text_in : (form : Form) (n : ℕ) (s : State) (line : List ℕ) → is_good line ≡ false → text_of_in form n s line ≡ []
+unfolding text_of_in
+bad_text_in form n s line bad = ap (λ l. option_map_or (line_text_in form n s) l []) (no_line (line_of line) bad)
+
+bad_text : (s : State) (line : List ℕ) → is_good line ≡ false → text_of s line ≡ []
+unfolding text_of
+bad_text s line bad = ap (λ l. option_map_or (line_text s) l []) (no_line (line_of line) bad)
+
+good_after : (s : State) (lines : List (List ℕ)) → after_all s lines ≡ after_all s (good_lines lines)
+good_after s [] = refl
+good_after s (line ∷ lines) =
+    elim (cases_Bool (is_good line)) [
+      | inl good ↦ rw good (good_after (after s line) lines)
+      | inr bad ↦ rw bad (ap (λ t. after_all t lines) (bad_after s line bad) ∙ good_after s lines)
+    ]
+
+good_text : (form : Form) (n : ℕ) (s : State) (lines : List (List ℕ)) → text_in form n s lines ≡ good_text_in form n s lines
+good_text form n s [] = refl
+good_text form n s (line ∷ lines) =
+    elim (cases_Bool (is_good line)) [
+      | inl good ↦ rw good (ap (λ t. text_of_in form n s line ++ t) (good_text form (n + 1) (after s line) lines))
+      | inr bad ↦
+          rw bad
+          (ap (λ t. t ++ text_in form (n + 1) (after s line) lines) (bad_text_in form n s line bad) ∙ ap (λ t. text_in form (n + 1) t lines) (bad_after s line bad)
+          ∙ good_text form (n + 1) s lines)
+    ]
+
+plain_text : (s : State) (lines : List (List ℕ)) → text s lines ≡ text s (good_lines lines)
+plain_text s [] = refl
+plain_text s (line ∷ lines) =
+    elim (cases_Bool (is_good line)) [
+      | inl good ↦ rw good (ap (λ t. text_of s line ++ t) (plain_text (after s line) lines))
+      | inr bad ↦ rw bad (ap (λ t. t ++ text (after s line) lines) (bad_text s line bad) ∙ ap (λ t. text t lines) (bad_after s line bad) ∙ plain_text s lines)
+    ]
+
+-- ONE LINE
+
+-- a line that is taken was done and written, or wasn't written whole
+pub answers_good : (form : Form) (start now : State) (number : ℕ) (bytes : List ℕ) (line : Line) (held holds : Option (List ℕ)) → Some line ≡ line_of bytes
+    → (r : Result (Unit {0}) PlayError) → PrintsLine form start now number line held holds r → AnswersLine form start now number bytes held holds r
+unfolding after text_of_in
+answers_good form start now number bytes line held holds is (Ok x) (next, written) = (
+  next ∙ ap (λ l. option_map_or (line_after start) l start) is,
+  subst (Appends held holds) (ap (λ l. option_map_or (line_text_in form number start) l []) is) written,
+)
+answers_good form start now number bytes line held holds is (Err Write) (next, began) = (
+  next ∙ ap (λ l. option_map_or (line_after start) l start) is,
+  ap is_some (sym is),
+  subst (TookFront held holds) (ap (λ l. option_map_or (line_text_in form number start) l []) is) began,
+)
+answers_good form start now number bytes line held holds is (Err Read) r = absurd r
+answers_good form start now number bytes line held holds is (Err NoMemory) r = tt
+answers_good form start now number bytes line held holds is (Err (BadLine n)) r = absurd r
+
+-- a bad line was told, or there is no memory for that
+pub answers_bad : (form : Form) (start : State) (number : ℕ) (bytes : List ℕ) (held : Option (List ℕ)) → None ≡ line_of bytes
+    → (r : Result (Unit {0}) PlayError) → IfErr r (λ e. e ≡ NoMemory) → AnswersLine form start start number bytes held held r
+answers_bad form start number bytes held none (Ok x) short =
+    let bad : is_good bytes ≡ false = ap is_some (sym none) in
+    (sym (bad_after start bytes bad), subst (Appends held held) (sym (bad_text_in form number start bytes bad)) (Appends-nil held))
+answers_bad form start number bytes held none (Err e) short = subst (λ e. AnswersLine {X = Unit {0}} form start start number bytes held held (Err e)) (sym short) tt
+
+-- there is a line
+pub heard : (had has : Option (List ℕ)) (line : List ℕ) (number : ℕ) (b : Bool) → b ≡ true → HearsLine had has line number (Ok b)
+    → Consumes had has (line ++ feed ∷ []) × (has_no_feed line ≡ true) × (number + 1 < 2 ^ 64)
+heard had has line number true h r = r
+heard had has line number false h r = absurd cc
+
+-- there is none
+pub over : (had has : Option (List ℕ)) (line : List ℕ) (number : ℕ) (b : Bool) → b ≡ false → HearsLine had has line number (Ok b) → IsOver had
+over had has line number true h r = absurd cc
+over had has line number false h r = r
+
+-- A SESSION
+
+-- These lines were read, good ones and bad ones.
+module _ (form : Form) (start mid : State) (had has : Option (List ℕ)) (lines : List (List ℕ)) (printed : List ℕ) (each : list_all has_no_feed lines ≡ true) (read : Consumes had has (joined lines)) (state : mid ≡ after_all start lines) (said : printed ≡ text_in form 1 start lines) where
+  pub conversed : Conversed form start mid had has lines printed
+  conversed =
+      let is = said ∙ good_text form 1 start lines in
+      record {
+        each = each;
+        read = read;
+        state = state ∙ good_after start lines;
+        said = is;
+        cut = subst (CutsTo printed) (plain_text start lines) (subst (λ t. CutsTo t (text start lines)) (sym said) (cuts_text form 1 start lines));
+      }
+
+  pub unheard : (e : PlayError) (then : Option (List ℕ)) (bytes : List ℕ) (number : ℕ) (held holds : Option (List ℕ)) → Appends held holds printed → HearsLine has then bytes number (Err e)
+      → SessionIn {X = Unit {0}} form start mid held holds had (Err e)
+  unheard Read then bytes number held holds written r = (has, lines, printed, conversed, written)
+  unheard NoMemory then bytes number held holds written r = tt
+  unheard Write then bytes number held holds written r = absurd r
+  unheard (BadLine n) then bytes number held holds written r = absurd r
+
+  -- one more
+  module _ (now : State) (then : Option (List ℕ)) (line : List ℕ) (number : ℕ) (count : number ≡ 1 + length lines) (taken : Consumes has then (line ++ feed ∷ [])) (single : has_no_feed line ≡ true) where
+    more_each : list_all has_no_feed (lines ++ line ∷ []) ≡ true
+    more_each = list_all-append has_no_feed lines (line ∷ []) ∙ and_from _ _ each (and_from _ _ single refl)
+
+    more_read : Consumes had then (joined (lines ++ line ∷ []))
+    more_read = subst (Consumes had then) (sym (joined-append lines (line ∷ []))) (Consumes-trans had has then (joined lines) (line ++ feed ∷ []) read taken)
+
+    more_state : now ≡ after mid line → now ≡ after_all start (lines ++ line ∷ [])
+    more_state next = next ∙ ap (λ s. after s line) state ∙ sym (after_one start lines line)
+
+    own_is : text_of_in form number mid line ≡ text_of_in form (1 + length lines) (after_all start lines) line
+    own_is = ap (λ n. text_of_in form n mid line) count ∙ ap (λ s. text_of_in form (1 + length lines) s line) state
+
+    more_said : printed ++ text_of_in form number mid line ≡ text_in form 1 start (lines ++ line ∷ [])
+    more_said = ap (λ t. t ++ text_of_in form number mid line) said ∙ ap (λ t. text_in form 1 start lines ++ t) own_is ∙ sym (text_one form 1 start lines line)
+
+    pub more : now ≡ after mid line → (list_all has_no_feed (lines ++ line ∷ []) ≡ true) × Consumes had then (joined (lines ++ line ∷ [])) × (now ≡ after_all start (lines ++ line ∷ []))
+        × (printed ++ text_of_in form number mid line ≡ text_in form 1 start (lines ++ line ∷ []))
+    more next = (more_each, more_read, more_state next, more_said)
+
+    pub unanswered : (e : PlayError) (held between holds : Option (List ℕ)) → Appends held between printed → AnswersLine {X = Unit {0}} form mid now number line between holds (Err e)
+        → SessionIn {X = Unit {0}} form start now held holds had (Err e)
+    unanswered Write held between holds written (moves, good, began) = record {
+      left = then;
+      lines = lines;
+      last = line;
+      printed = printed ++ text_of_in form number mid line;
+      between = between;
+      conversed = conversed_more;
+      good = good;
+      written = subst (Appends held between) (said ∙ good_text form 1 start lines) written;
+      began = subst (TookFront between holds) (own_is ∙ ap (λ s. text_of_in form (1 + length lines) s line) (good_after start lines)) began;
+    }
+      where
+        conversed_more : Conversed form start now had then (lines ++ line ∷ []) (printed ++ text_of_in form number mid line)
+        conversed_more =
+            let all = lines ++ line ∷ [] in
+            let whole = printed ++ text_of_in form number mid line in
+            record {
+              each = more_each;
+              read = more_read;
+              state = more_state moves ∙ good_after start all;
+              said = more_said ∙ good_text form 1 start all;
+              cut = subst (CutsTo whole) (plain_text start all) (subst (λ t. CutsTo t (text start all)) (sym more_said) (cuts_text form 1 start all));
+            }
+    unanswered NoMemory held between holds written r = tt
+    unanswered Read held between holds written r = absurd r
+    unanswered (BadLine n) held between holds written r = absurd r

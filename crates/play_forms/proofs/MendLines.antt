@@ -1,0 +1,139 @@
+-- SPDX-License-Identifier: MIT OR Apache-2.0
+-- What stands in a reason behind what the check is about has no LF.
+use Rattle.std.proofs.Common.{◌≡◌, ℕ, ◌%◌, Bool, true, false, List, ◌++◌, Option, None, Some, inl, inr, refl}
+use Rattle.std.specs.Prelude.{◌==◌, codes}
+use Rattle.std.proofs.lemmas.Bool.{cases_Bool}
+use Rattle.ffa_model.specs.declared.operation.Op.{Op}
+use Rattle.ffa_model.specs.declared.refusal.Refusal.{Refusal}
+use Rattle.ffa_model.specs.declared.rights.Data.{Data}
+use Rattle.ffa_model.specs.declared.rights.Data.TheVariants.{Ro, Rw}
+use Rattle.ffa_model.specs.declared.rights.Kind.{Kind}
+use Rattle.ffa_model.specs.declared.rights.Kind.TheVariants.{Share, Lend, Donate}
+use Rattle.ffa_model.specs.declared.rights.Rights.{Rights}
+use Rattle.ffa_mend.specs.declared.Cause.{Cause}
+use Rattle.ffa_mend.specs.declared.Cause.TheVariants.{BuffersMissing, RxNotFull, BitPending, BitTaken, BitUnbound, HandleUnknown, NotReceiver, NotLent}
+use Rattle.ffa_mend.specs.declared.Mend.{Mend}
+use Rattle.ffa_mend.specs.declared.Mend.TheVariants as mends
+use Rattle.ffa_mend.specs.declared.Side.{Side}
+use Rattle.ffa_mend.specs.declared.Side.TheVariants.{Tx, Rx}
+use Rattle.ffa_mend.specs.Mend.{call_of}
+use Rattle.play_syntax.specs.TraceText.{hex, rights_text}
+use Rattle.play_reasons.specs.declared.allowed.Allowed.{Allowed}
+use Rattle.play_reasons.specs.declared.allowed.Allowed.TheVariants.{One, Span, Either, Place}
+use Rattle.play_reasons.specs.Mends.{access_text, address_digits, address_text, allowed_by, allowed_register, allowed_text, asked_text, buffer_text, cause_text, kind_text, kinds_text, mend_text, mended_text, misplaced_text, one_text, room_text, short_digits, short_text, side_text, span_text, tag_text, wanted_text}
+use Rattle.play_forms.proofs.Singles.{IsSingle, single_append, single_hex}
+
+pub single_address : (address : ℕ) → IsSingle (address_text address)
+single_address address = single_hex (address_digits address) address
+
+pub single_short : (n : ℕ) → IsSingle (short_text n)
+single_short n = single_hex (short_digits n) n
+
+-- VALUES THAT MAY BE
+
+single_span : (digits : ℕ) (joint : List ℕ) (a b : ℕ) → IsSingle joint → IsSingle (span_text digits joint a b)
+unfolding span_text
+single_span digits joint a b h =
+    single_append (codes ", and may be " ++ hex digits a) (joint ++ hex digits b) (single_hex digits a)
+    (single_append joint (hex digits b) h (single_hex digits b))
+
+single_one : (digits value : ℕ) → IsSingle (one_text digits value)
+unfolding one_text
+single_one digits value = single_hex digits value
+
+single_misplaced : (address : ℕ) → IsSingle (misplaced_text address)
+single_misplaced address =
+    elim (cases_Bool (address % 4096 == 0)) [
+      | inl page ↦ rw page refl
+      | inr inside ↦ rw inside refl
+    ]
+
+single_values : (digits : ℕ) (allowed : Allowed) → IsSingle (allowed_by digits allowed)
+single_values digits (One value) = single_one digits value
+single_values digits (Span least most) = single_span digits (codes " to ") least most refl
+single_values digits (Either a b) = single_span digits (codes " or ") a b refl
+single_values digits (Place address) = single_misplaced address
+
+pub single_allowed : (digits : ℕ) (allowed : Option Allowed) → IsSingle (allowed_text digits allowed)
+single_allowed digits None = refl
+single_allowed digits (Some allowed) = single_values digits allowed
+
+pub single_wanted : (op : Op) (refusal : Refusal) (value : ℕ) → IsSingle (wanted_text op refusal value)
+single_wanted op refusal value = single_allowed 8 (allowed_register (call_of op) refusal value)
+
+-- WHAT IS TO BE MENDED
+
+single_letters : (right : Rights) → IsSingle (rights_text (Some right))
+single_letters right = of right.level right.exec
+  where
+    of : (level : Data) (exec : Bool) → IsSingle (rights_text (Some (record { level = level; exec = exec })))
+    of Ro true = refl
+    of Ro false = refl
+    of Rw true = refl
+    of Rw false = refl
+
+single_kind : (kind : Kind) → IsSingle (kind_text kind)
+single_kind Share = refl
+single_kind Lend = refl
+single_kind Donate = refl
+
+single_buffer : (endpoint : ℕ) (side : Side) → IsSingle (buffer_text endpoint side)
+unfolding buffer_text
+single_buffer endpoint Tx = single_hex 4 endpoint
+single_buffer endpoint Rx = single_hex 4 endpoint
+
+single_cause : (cause : Cause) → IsSingle (cause_text cause)
+single_cause BuffersMissing = refl
+single_cause RxNotFull = refl
+single_cause BitPending = refl
+single_cause BitTaken = refl
+single_cause BitUnbound = refl
+single_cause HandleUnknown = refl
+single_cause NotReceiver = refl
+single_cause NotLent = refl
+
+single_has : (endpoint : ℕ) (right : List ℕ) → IsSingle right → IsSingle (access_text endpoint right)
+unfolding access_text
+single_has endpoint right h =
+    single_append (codes ": " ++ hex 4 endpoint ++ codes " has ") right (single_append (codes ": " ++ hex 4 endpoint) (codes " has ") (single_hex 4 endpoint) refl) h
+
+single_tag : (found wanted : ℕ) → IsSingle (tag_text found wanted)
+unfolding tag_text
+single_tag found wanted =
+    let tag = codes ", where the tag is " ++ hex 16 wanted in
+    let says = codes ", and the descriptor says " in
+    single_append (tag ++ says) (hex 16 found) (single_append tag says (single_hex 16 wanted) refl) (single_hex 16 found)
+
+single_kinds : (found wanted : List ℕ) → IsSingle found → IsSingle wanted → IsSingle (kinds_text found wanted)
+unfolding kinds_text
+single_kinds found wanted f w =
+    single_append (codes ", where the kind is " ++ wanted) (codes ", and the descriptor says " ++ found) w f
+
+single_asked : (asked most : List ℕ) → IsSingle asked → IsSingle most → IsSingle (asked_text asked most)
+unfolding asked_text
+single_asked asked most a m =
+    let is_asked = codes " is asked for, and " ++ most in
+    single_append (codes ", where " ++ asked) (is_asked ++ codes " is the most") a (single_append is_asked (codes " is the most") m refl)
+
+single_room : (bytes : ℕ) → IsSingle (room_text bytes)
+unfolding room_text
+single_room bytes = single_append (codes ", where the buffer has " ++ address_text bytes) (codes " bytes") (single_address bytes) refl
+
+single_mend : (mend : Mend) → IsSingle (mend_text mend)
+single_mend (mends.Buffer endpoint side) = single_buffer endpoint.0 side
+single_mend (mends.OwnRight right) = single_letters right
+single_mend (mends.Granted right) = single_letters right
+single_mend (mends.Access endpoint right) = single_has endpoint.0 (rights_text (Some right)) (single_letters right)
+single_mend (mends.Caller endpoint) = single_hex 4 endpoint.0
+single_mend (mends.Sender endpoint) = single_hex 4 endpoint.0
+single_mend (mends.Tag found wanted) = single_tag found wanted
+single_mend (mends.Kind found wanted) = single_kinds (kind_text found) (kind_text wanted) (single_kind found) (single_kind wanted)
+single_mend (mends.Asked asked most) =
+    single_asked (rights_text (Some asked)) (rights_text (Some most)) (single_letters asked) (single_letters most)
+single_mend (mends.Held right) = single_letters right
+single_mend (mends.Room bytes) = single_room bytes
+single_mend (mends.Cause cause) = single_cause cause
+
+pub single_mended : (mend : Option Mend) → IsSingle (mended_text mend)
+single_mended None = refl
+single_mended (Some mend) = single_mend mend

@@ -1,0 +1,276 @@
+-- SPDX-License-Identifier: MIT OR Apache-2.0
+-- What is written of a trace with the guards of its own play: its guards are met, and it plays as the trace.
+use Rattle.std.proofs.Common.{◌≡◌, ℕ, ◌+◌, true, false, List, [], ◌∷◌, ◌++◌, length, map, take, drop, Option, None, Some, Err, inl, inr, sym, ap, ◌∙◌, subst, append_assoc, append-nil, refl}
+use Rattle.std.specs.Prelude.{◌==◌, ◌⊎◌, not, nat_eq, position, is_some}
+use Rattle.std.specs.List.{list_all, take_while}
+use Rattle.std.specs.Option.{option_map_or}
+use Rattle.std.specs.Str.{bytes_eq}
+use Rattle.std.specs.Io.KnownBytes.{Appends, Consumes}
+use Rattle.std.proofs.KnownBytes.{Appends-trans}
+use Rattle.std.proofs.lemmas.Bool.{and_parts, and_from, cases_Bool, eqb-true, not-true, or_left}
+use Rattle.std.proofs.lemmas.List.Folds.{list_all-append}
+use Rattle.std.proofs.lemmas.Slice.Eq.{bytes_eq-Decides}
+use Rattle.std.proofs.Math.Seq.{take-length}
+use Rattle.ffa_model.specs.State.{State}
+use Rattle.play_syntax.specs.TraceLines.{Line, operate, show, audit, skip, feed, hash, has_no_feed, is_good, is_line, are_lines, joined, line_of}
+use Rattle.play_syntax.specs.TraceText.{after, after_all, line_after, line_text, text, text_of}
+use Rattle.play_syntax.specs.Output.{TookFront}
+use Rattle.play_player.proofs.Runs.{joined-append}
+use Rattle.play_syntax.specs.declared.output.PlayError.{PlayError}
+use Rattle.play_syntax.specs.declared.output.PlayError.TheVariants.{Read, Write, NoMemory, BadLine}
+use Rattle.play_forms.specs.Followed.{Followed}
+use Rattle.play_forms.specs.Forms.{plain, line_text_in}
+use Rattle.play_forms.specs.Guards.{AreMet, IsUnasked, is_guard}
+use Rattle.play_forms.specs.Patterns.{line_came, meets}
+use Rattle.play_forms.specs.Reading.{TakesLine}
+use Rattle.play_forms.specs.Recorded.{RecordedIn, RecordsLine, Replays, guard_for, line_recorded, lines_in, onto_line, recorded}
+use Rattle.play_forms.specs.declared.patterns.Came.{Came}
+use Rattle.play_forms.proofs.CutOff.{cuts_text}
+use Rattle.play_forms.proofs.Follows.{after_one, ends_at, followed_more}
+use Rattle.play_forms.proofs.Guarding.{guards_more, met_more, met_none, unasked_loud, unasked_more}
+use Rattle.play_forms.proofs.Plain.{plain_text}
+use Rattle.play_forms.proofs.WordsFit.{all_taken, ends_line, position_none}
+
+-- THE LINES OF A TEXT
+
+pub lines_in-line : (line rest : List ℕ) → has_no_feed line ≡ true → lines_in (line ++ feed ∷ rest) ≡ line ∷ lines_in rest
+lines_in-line [] rest single = refl
+lines_in-line (c ∷ line) rest single =
+    let parts = and_parts (not (c == feed)) (has_no_feed line) single in
+    rw (not-true (c == feed) parts.0) (ap (onto_line c) (lines_in-line line rest parts.1))
+
+lines_in-none : (text : List ℕ) → has_no_feed text ≡ true → lines_in text ≡ []
+lines_in-none [] single = refl
+lines_in-none (c ∷ text) single =
+    let parts = and_parts (not (c == feed)) (has_no_feed text) single in
+    rw (not-true (c == feed) parts.0) (ap (onto_line c) (lines_in-none text parts.1))
+
+lines_in-joined : (lines : List (List ℕ)) → list_all has_no_feed lines ≡ true → lines_in (joined lines) ≡ lines
+lines_in-joined [] each = refl
+lines_in-joined (line ∷ lines) each =
+    let parts = and_parts (has_no_feed line) (list_all has_no_feed lines) each in
+    lines_in-line line (joined lines) parts.0 ∙ ap (λ ls. line ∷ ls) (lines_in-joined lines parts.1)
+
+-- by where the first LF stands
+pub lines_in-some : (text : List ℕ) (end : ℕ) → position (λ c. c == feed) text ≡ Some end → lines_in text ≡ take end text ∷ lines_in (drop (end + 1) text)
+lines_in-some text end is =
+    let ends = ends_line text end is in
+    ap lines_in ends.whole ∙ lines_in-line (take end text) (drop (end + 1) text) ends.single
+
+pub lines_in-end : (text : List ℕ) → position (λ c. c == feed) text ≡ None → lines_in text ≡ []
+lines_in-end text is =
+    let all : take_while (λ c. not (c == feed)) text ≡ text = ap (λ n. take n text) (position_none (λ c. c == feed) text is) ∙ take-length text in
+    lines_in-none text (ap has_no_feed (sym all) ∙ all_taken (λ c. not (c == feed)) text)
+
+-- one guard more was put behind a text
+pub put_more : (text said : List ℕ) (end : ℕ) → position (λ c. c == feed) said ≡ Some end
+    → (text ++ joined (guard_for (take end said) ∷ [])) ++ joined (map guard_for (lines_in (drop (end + 1) said))) ≡ text ++ joined (map guard_for (lines_in said))
+put_more text said end is =
+    let guard = guard_for (take end said) in
+    let more = map guard_for (lines_in (drop (end + 1) said)) in
+    append_assoc text (joined (guard ∷ [])) (joined more)
+    ∙ ap (λ t. text ++ t) (sym (joined-append (guard ∷ []) more) ∙ ap (λ ls. joined (map guard_for ls)) (sym (lines_in-some said end is)))
+
+-- GUARDS
+
+guards_itself : (came : Came) (line : List ℕ) → meets came line line ≡ true
+unfolding meets
+guards_itself came line = or_left (bytes_eq line line) _ ((bytes_eq-Decides line line).1 refl)
+
+guard_is_skip : (printed : List ℕ) → Some skip ≡ line_of (guard_for printed)
+unfolding line_of
+guard_is_skip printed = refl
+
+-- a guard is a comment
+hash_first : (c : ℕ) (line : List ℕ) → is_guard (c ∷ line) ≡ true → c ≡ hash
+hash_first c line guards = of (cases_Bool (nat_eq 35 c))
+  where
+    of : (nat_eq 35 c ≡ true) ⊎ (nat_eq 35 c ≡ false) → c ≡ hash
+    of (inl so) = sym (eqb-true 35 c so)
+    of (inr other) =
+        let none : is_guard (c ∷ line) ≡ false = rw other refl in
+        let both : true ≡ false = sym guards ∙ none in
+        absurd cc
+
+comment_is_skip : (line : List ℕ) → line_of (hash ∷ line) ≡ Some skip
+unfolding line_of
+comment_is_skip line = refl
+
+guard_skips : (line : List ℕ) → is_guard line ≡ true → line_of line ≡ Some skip
+guard_skips [] guards = absurd (cc guards)
+guard_skips (c ∷ line) guards = ap (λ d. line_of (d ∷ line)) (hash_first c line guards) ∙ comment_is_skip line
+
+after_skip : (s : State) (line : List ℕ) → line_of line ≡ Some skip → after s line ≡ s
+unfolding after
+after_skip s line is = ap (λ l. option_map_or (line_after s) l s) is
+
+text_skip : (s : State) (line : List ℕ) → line_of line ≡ Some skip → text_of s line ≡ []
+unfolding text_of
+text_skip s line is = ap (λ l. option_map_or (line_text s) l []) is
+
+text_meant : (s : State) (line : List ℕ) (meant : Line) → Some meant ≡ line_of line → line_text s meant ≡ text_of s line
+unfolding text_of
+text_meant s line meant is = ap (λ l. option_map_or (line_text s) l []) is
+
+after_meant : (s : State) (line : List ℕ) (meant : Line) → Some meant ≡ line_of line → line_after s meant ≡ after s line
+unfolding after
+after_meant s line meant is = ap (λ l. option_map_or (line_after s) l s) is
+
+text_last : (s : State) (lines : List (List ℕ)) (line : List ℕ) → text s (lines ++ line ∷ []) ≡ text s lines ++ text_of (after_all s lines) line
+text_last s [] line = append-nil (text_of s line)
+text_last s (l ∷ lines) line = ap (λ t. text_of s l ++ t) (text_last (after s l) lines line) ∙ sym (append_assoc (text_of s l) (text (after s l) lines) (text_of (after_all (after s l) lines) line))
+
+-- WHAT IS WRITTEN SO FAR
+
+-- these lines leave this state, and print this, and their guards are met
+pub record Stands (start : State) (written : List (List ℕ)) (mid : State) (said : List ℕ) : Type 0 where
+  pub each : are_lines written ≡ true
+  pub leaves : after_all start written ≡ mid
+  pub prints : text start written ≡ said
+  pub met : AreMet start written
+
+stands_none : (start : State) → Stands start [] start []
+stands_none start = record { each = refl; leaves = refl; prints = refl; met = met_none start }
+
+-- with guards for lines that are unasked
+stands_guards : (start : State) (written : List (List ℕ)) (mid : State) (said : List ℕ) (came : Came) (printed : List (List ℕ)) → list_all has_no_feed printed ≡ true → Stands start written mid said
+    → IsUnasked start written came (joined printed) → Stands start (written ++ map guard_for printed) mid said
+stands_guards start written mid said came [] each stands unasked = subst (λ w. Stands start w mid said) (sym (append-nil written)) stands
+stands_guards start written mid said came (line ∷ lines) each stands unasked =
+    let parts = and_parts (has_no_feed line) (list_all has_no_feed lines) each in
+    let guard = guard_for line in
+    let skips = guard_is_skip line in
+    let state : mid ≡ after_all start written = sym stands.leaves in
+    let one : Stands start (written ++ guard ∷ []) mid said = record {
+      each = list_all-append is_line written (guard ∷ []) ∙ and_from _ _ stands.each (and_from _ _ (and_from _ _ parts.0 (ap is_some (sym skips))) refl);
+      leaves = after_one start written guard ∙ after_skip (after_all start written) guard (sym skips) ∙ stands.leaves;
+      prints = text_last start written guard ∙ ap (λ t. text start written ++ t) (text_skip (after_all start written) guard (sym skips)) ∙ append-nil (text start written) ∙ stands.prints;
+      met = guards_more start mid written state came (joined (line ∷ lines)) unasked stands.met guard (joined lines) [] (line, refl, parts.0, guards_itself came line);
+    } in
+    let more : IsUnasked start (written ++ guard ∷ []) came (joined lines) =
+    unasked_more start mid written state guard skip came came (joined (line ∷ lines)) (joined lines) (joined lines) [] skips unasked (line, refl, parts.0, guards_itself came line) refl refl in
+    subst (λ w. Stands start w mid said) (append_assoc written (guard ∷ []) (map guard_for lines))
+    (stands_guards start (written ++ guard ∷ []) mid said came lines parts.1 one more)
+
+-- with a line that is no guard
+stands_line : (start : State) (written : List (List ℕ)) (mid : State) (said line : List ℕ) → is_line line ≡ true → is_guard line ≡ false → Stands start written mid said
+    → Stands start (written ++ line ∷ []) (after mid line) (said ++ text_of mid line)
+stands_line start written mid said line good other stands = record {
+  each = list_all-append is_line written (line ∷ []) ∙ and_from _ _ stands.each (and_from _ _ good refl);
+  leaves = after_one start written line ∙ ap (λ s. after s line) stands.leaves;
+  prints = text_last start written line ∙ ap (λ t. t ++ text_of (after_all start written) line) stands.prints ∙ ap (λ s. said ++ text_of s line) stands.leaves;
+  met = met_more start written line stands.met (λ guard is. absurd (never (ap is_some (sym is) ∙ other)));
+}
+  where
+    never : true ≡ false → ⊥
+    never same = cc
+
+-- with the line and its guards
+stands_loud : (start : State) (written : List (List ℕ)) (mid : State) (said line : List ℕ) (meant : Line) → Some meant ≡ line_of line → is_line line ≡ true → is_guard line ≡ false
+    → IsUnasked start (written ++ line ∷ []) (line_came mid meant) (line_text mid meant) → Stands start written mid said
+    → Stands start (written ++ line ∷ map guard_for (lines_in (text_of mid line))) (after mid line) (said ++ text_of mid line)
+stands_loud start written mid said line meant is good other unasked stands =
+    let cuts = cuts_text plain 1 mid (line ∷ []) in
+    let whole : text_of mid line ≡ joined cuts.lines = sym (append-nil (text_of mid line)) ∙ sym (plain_text 1 mid (line ∷ [])) ∙ cuts.whole in
+    let printed : lines_in (text_of mid line) ≡ cuts.lines = ap lines_in whole ∙ lines_in-joined cuts.lines cuts.each in
+    let left : IsUnasked start (written ++ line ∷ []) (line_came mid meant) (joined cuts.lines) =
+    subst (IsUnasked start (written ++ line ∷ []) (line_came mid meant)) (text_meant mid line meant is ∙ whole) unasked in
+    subst (λ w. Stands start w (after mid line) (said ++ text_of mid line))
+    (append_assoc written (line ∷ []) (map guard_for cuts.lines) ∙ ap (λ ls. written ++ line ∷ map guard_for ls) (sym printed))
+    (stands_guards start (written ++ line ∷ []) (after mid line) (said ++ text_of mid line) (line_came mid meant) cuts.lines cuts.each (stands_line start written mid said line good other stands) left)
+
+stands_meant : (start : State) (written : List (List ℕ)) (mid : State) (said line : List ℕ) (meant : Option Line) → meant ≡ line_of line → is_line line ≡ true → is_guard line ≡ false → Stands start written mid said
+    → Stands start (written ++ line ∷ map guard_for (lines_in (text_of mid line))) (after mid line) (said ++ text_of mid line)
+stands_meant start written mid said line None is good other stands =
+    let none : is_good line ≡ false = ap is_some (sym is) in
+    let both : false ≡ true = sym none ∙ (and_parts (has_no_feed line) (is_good line) good).1 in
+    absurd cc
+stands_meant start written mid said line (Some (operate op)) is good other stands =
+    stands_loud start written mid said line (operate op) is good other (unasked_loud start mid written (sym stands.leaves) line (operate op) (line_came mid (operate op)) (line_text mid (operate op)) is refl refl refl) stands
+stands_meant start written mid said line (Some show) is good other stands =
+    stands_loud start written mid said line show is good other (unasked_loud start mid written (sym stands.leaves) line show (line_came mid show) (line_text mid show) is refl refl refl) stands
+stands_meant start written mid said line (Some audit) is good other stands =
+    stands_loud start written mid said line audit is good other (unasked_loud start mid written (sym stands.leaves) line audit (line_came mid audit) (line_text mid audit) is refl refl refl) stands
+stands_meant start written mid said line (Some skip) is good other stands =
+    let silent : lines_in (text_of mid line) ≡ [] = ap lines_in (text_skip mid line (sym is)) in
+    subst (λ ls. Stands start (written ++ line ∷ map guard_for ls) (after mid line) (said ++ text_of mid line)) (sym silent) (stands_line start written mid said line good other stands)
+
+stands_one : (start : State) (written : List (List ℕ)) (mid : State) (said line : List ℕ) → is_line line ≡ true → Stands start written mid said
+    → Stands start (written ++ line_recorded line (text_of mid line)) (after mid line) (said ++ text_of mid line)
+stands_one start written mid said line good stands = of (cases_Bool (is_guard line))
+  where
+    of : (is_guard line ≡ true) ⊎ (is_guard line ≡ false) → Stands start (written ++ line_recorded line (text_of mid line)) (after mid line) (said ++ text_of mid line)
+    of (inl guards) =
+        let none : line_recorded line (text_of mid line) ≡ [] = rw guards refl in
+        let skips = guard_skips line guards in
+        let stays : Stands start written (after mid line) said = subst (λ s. Stands start written s said) (sym (after_skip mid line skips)) stands in
+        let silent : said ≡ said ++ text_of mid line = sym (append-nil said) ∙ ap (λ t. said ++ t) (sym (text_skip mid line skips)) in
+        subst (λ w. Stands start w (after mid line) (said ++ text_of mid line)) (sym (append-nil written) ∙ ap (λ ls. written ++ ls) (sym none))
+        (subst (Stands start written (after mid line)) silent stays)
+    of (inr other) =
+        let own : line_recorded line (text_of mid line) ≡ line ∷ map guard_for (lines_in (text_of mid line)) = rw other refl in
+        subst (λ ls. Stands start (written ++ ls) (after mid line) (said ++ text_of mid line)) (sym own) (stands_meant start written mid said line (line_of line) refl good other stands)
+
+stands_all : (start : State) (written : List (List ℕ)) (mid : State) (said : List ℕ) (lines : List (List ℕ)) → are_lines lines ≡ true → Stands start written mid said
+    → Stands start (written ++ recorded mid lines) (after_all mid lines) (said ++ text mid lines)
+stands_all start written mid said [] each stands =
+    subst (λ w. Stands start w mid (said ++ [])) (sym (append-nil written)) (subst (Stands start written mid) (sym (append-nil said)) stands)
+stands_all start written mid said (line ∷ lines) each stands =
+    let parts = and_parts (is_line line) (are_lines lines) each in
+    let own = line_recorded line (text_of mid line) in
+    let more = stands_all start (written ++ own) (after mid line) (said ++ text_of mid line) lines parts.1 (stands_one start written mid said line parts.0 stands) in
+    subst (λ w. Stands start w (after_all mid (line ∷ lines)) (said ++ text mid (line ∷ lines))) (append_assoc written own (recorded (after mid line) lines))
+    (subst (Stands start ((written ++ own) ++ recorded (after mid line) lines) (after_all mid (line ∷ lines))) (append_assoc said (text_of mid line) (text (after mid line) lines)) more)
+
+-- what is written of a trace plays as the trace, and all its guards are met
+pub replays : (start : State) (lines : List (List ℕ)) → are_lines lines ≡ true → Replays start lines
+replays start lines each =
+    let stands = stands_all start [] start [] lines each (stands_none start) in
+    record { each = stands.each; prints = stands.prints; leaves = stands.leaves; met = stands.met }
+
+-- A RECORD
+
+pub recorded-last : (s : State) (lines : List (List ℕ)) (line : List ℕ) → recorded s (lines ++ line ∷ []) ≡ recorded s lines ++ line_recorded line (text_of (after_all s lines) line)
+recorded-last s [] line = append-nil (line_recorded line (text_of s line))
+recorded-last s (l ∷ lines) line =
+    ap (λ ls. line_recorded l (text_of s l) ++ ls) (recorded-last (after s l) lines line)
+    ∙ sym (append_assoc (line_recorded l (text_of s l)) (recorded (after s l) lines) (line_recorded line (text_of (after_all (after s l) lines) line)))
+
+module _ (start mid : State) (had has : Option (List ℕ)) (lines : List (List ℕ)) (said : List ℕ) (f : Followed plain start mid had has lines said) (number : ℕ) (count : number ≡ 1 + length lines) where
+  -- what is written of a line more
+  pub own_record : (line : List ℕ) (meant : Line) → Some meant ≡ line_of line → line_recorded line (line_text mid meant) ≡ line_recorded line (text_of (after_all start lines) line)
+  own_record line meant is = ap (line_recorded line) (text_meant mid line meant is ∙ ap (λ s. text_of s line) f.state)
+
+  pub written_more : (held between holds : Option (List ℕ)) (line : List ℕ) (meant : Line) → Some meant ≡ line_of line → Appends held between (joined (recorded start lines))
+      → Appends between holds (joined (line_recorded line (line_text mid meant))) → Appends held holds (joined (recorded start (lines ++ line ∷ [])))
+  written_more held between holds line meant is before behind =
+      let own = line_recorded line (text_of (after_all start lines) line) in
+      subst (Appends held holds) (sym (ap joined (recorded-last start lines line) ∙ joined-append (recorded start lines) own))
+      (Appends-trans held between holds (joined (recorded start lines)) (joined own) before (subst (λ ls. Appends between holds (joined ls)) (own_record line meant is) behind))
+
+  -- at what isn't taken
+  pub untaken_recorded : (e : PlayError) (then : Option (List ℕ)) (bytes : List ℕ) → TakesLine has then bytes number (Err e)
+      → (held holds : Option (List ℕ)) → Appends held holds (joined (recorded start lines)) → RecordedIn {X = Unit {0}} start mid held holds had bytes (Err e)
+  untaken_recorded Read then bytes r held holds written = (has, lines, said, f, written, replays start lines f.each)
+  untaken_recorded Write then bytes r held holds written = absurd r
+  untaken_recorded NoMemory then bytes r held holds written = tt
+  untaken_recorded (BadLine n) then bytes (is, bad) held holds written =
+      (said, ends_at plain start mid had has lines said f n (is ∙ count) bytes bad, written, replays start lines f.each)
+
+  -- at what isn't written whole
+  pub unwritten_recorded : (e : PlayError) (now : State) (then : Option (List ℕ)) (line : List ℕ) (meant : Line) → Consumes has then (line ++ feed ∷ []) → has_no_feed line ≡ true → Some meant ≡ line_of line
+      → (held between holds : Option (List ℕ)) → Appends held between (joined (recorded start lines)) → RecordsLine {X = Unit {0}} mid now line meant between holds (Err e)
+      → RecordedIn {X = Unit {0}} start now held holds had line (Err e)
+  unwritten_recorded Read now then line meant read single is held between holds written r = absurd r
+  unwritten_recorded Write now then line meant read single is held between holds written (next, began) = record {
+    left = then;
+    lines = lines;
+    last = line;
+    said = said ++ line_text_in plain number mid meant;
+    between = between;
+    followed = followed_more plain start mid had has lines said f number count now then line meant (line_text_in plain number mid meant) read single is next refl;
+    written = written;
+    began = subst (λ ls. TookFront between holds (joined ls)) (own_record line meant is) began;
+  }
+  unwritten_recorded NoMemory now then line meant read single is held between holds written r = tt
+  unwritten_recorded (BadLine n) now then line meant read single is held between holds written r = absurd r

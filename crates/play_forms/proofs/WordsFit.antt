@@ -1,0 +1,147 @@
+-- SPDX-License-Identifier: MIT OR Apache-2.0
+-- The first element that passes a test, and words that are compared one by one.
+use Rattle.std.proofs.Common.{◌≡◌, ℕ, ◌+◌, ◌<◌, Bool, true, false, List, [], ◌∷◌, ◌++◌, length, take, drop, Option, None, Some, inl, inr, sym, ap, ◌∙◌, subst, arith, length-append, refl}
+use Rattle.std.specs.Prelude.{◌==◌, ◌&&◌, ◌≤◌, ◌⊎◌, not, position, option_map}
+use Rattle.std.specs.List.{list_all, position_or_len, take_while}
+use Rattle.std.proofs.lemmas.Bool.{cases_lt, cases_Bool, and_parts, and_from, and_left, eqb-true, le-ltb, lt-ltb}
+use Rattle.std.proofs.lemmas.List.Sums.{passes_at_first, prefix_len-le-length, split_at_first, take_while-cons}
+use Rattle.std.proofs.Math.Seq.{take-append_seam}
+use Rattle.play_syntax.specs.TraceLines.{feed, space, has_no_feed, words_of}
+use Rattle.play_syntax.proofs.LineWords.{more_words, one_word, some_word}
+use Rattle.play_forms.specs.Asking.{AreWords}
+use Rattle.play_forms.specs.Guards.{first_line}
+use Rattle.play_forms.specs.Patterns.{fit, is_alike}
+
+-- THE FIRST THAT PASSES
+
+pub position_some : (p : ℕ → Bool) (xs : List ℕ) (end : ℕ) → position p xs ≡ Some end → (position_or_len p xs ≡ end) × (end < length xs)
+position_some p xs end is = of (cases_lt (position_or_len p xs) (length xs))
+  where
+    of : (position_or_len p xs < length xs) ⊎ (length xs ≤ position_or_len p xs) → (position_or_len p xs ≡ end) × (end < length xs)
+    of (inl below) =
+        let at : position p xs ≡ Some (position_or_len p xs) = rw (lt-ltb (position_or_len p xs) (length xs) below) refl in
+        let both : Some (position_or_len p xs) ≡ Some end = sym at ∙ is in
+        let same : position_or_len p xs ≡ end = cc in
+        (same, subst (λ n. n < length xs) same below)
+    of (inr beyond) =
+        let at : position p xs ≡ None = rw (le-ltb (position_or_len p xs) (length xs) beyond) refl in
+        let both : ◌≡◌ {A = Option ℕ} None (Some end) = sym at ∙ is in
+        absurd cc
+
+pub position_none : (p : ℕ → Bool) (xs : List ℕ) → position p xs ≡ None → position_or_len p xs ≡ length xs
+position_none p xs is = of (cases_lt (position_or_len p xs) (length xs))
+  where
+    of : (position_or_len p xs < length xs) ⊎ (length xs ≤ position_or_len p xs) → position_or_len p xs ≡ length xs
+    of (inl below) =
+        let at : position p xs ≡ Some (position_or_len p xs) = rw (lt-ltb (position_or_len p xs) (length xs) below) refl in
+        let both : ◌≡◌ {A = Option ℕ} None (Some (position_or_len p xs)) = sym is ∙ at in
+        absurd cc
+    of (inr beyond) = omega (arith, beyond, prefix_len-le-length (λ c. not (p c)) xs)
+
+-- THE FIRST LINE
+
+taken_more : (p : ℕ → Bool) (x : ℕ) (xs : List ℕ) → list_all p (take_while p xs) ≡ true → list_all p (take_while p (x ∷ xs)) ≡ true
+taken_more p x xs more = of (cases_Bool (p x))
+  where
+    of : (p x ≡ true) ⊎ (p x ≡ false) → list_all p (take_while p (x ∷ xs)) ≡ true
+    of (inl so) =
+        let taken : take_while p (x ∷ xs) ≡ x ∷ take_while p xs = take_while-cons p x xs ∙ rw so refl in
+        ap (list_all p) taken ∙ and_from (p x) (list_all p (take_while p xs)) so more
+    of (inr other) =
+        let taken : take_while p (x ∷ xs) ≡ [] = take_while-cons p x xs ∙ rw other refl in
+        ap (list_all p) taken
+
+pub all_taken : (p : ℕ → Bool) (xs : List ℕ) → list_all p (take_while p xs) ≡ true
+all_taken p [] = refl
+all_taken p (x ∷ xs) = taken_more p x xs (all_taken p xs)
+
+position_feed : (line rest : List ℕ) → has_no_feed line ≡ true → position_or_len (λ c. c == feed) (line ++ feed ∷ rest) ≡ length line
+position_feed [] rest single = refl
+position_feed (c ∷ line) rest single =
+    let parts = and_parts (not (c == feed)) (has_no_feed line) single in
+    let more = position_feed line rest parts.1 in
+    rw parts.0 (omega (arith, more))
+
+-- a text that begins with a line and its LF
+pub first_of_lines : (line rest : List ℕ) → has_no_feed line ≡ true → first_line (line ++ feed ∷ rest) ≡ Some line
+first_of_lines line rest single =
+    let at = position_feed line rest single in
+    let below : length line < length (line ++ feed ∷ rest) = omega (arith, length-append line (feed ∷ rest)) in
+    rw (at, lt-ltb (length line) (length (line ++ feed ∷ rest)) below) (ap Some (take-append_seam line (feed ∷ rest)))
+
+-- a line ends where the first LF of a text stands
+pub record EndsLine (text : List ℕ) (end : ℕ) : Type 0 where
+  pub whole : text ≡ take end text ++ feed ∷ drop (end + 1) text
+  pub single : has_no_feed (take end text) ≡ true
+  pub first : first_line text ≡ Some (take end text)
+  pub inside : end < length text
+
+pub ends_line : (text : List ℕ) (end : ℕ) → position (λ c. c == feed) text ≡ Some end → EndsLine text end
+ends_line text end is =
+    let at = position_some (λ c. c == feed) text end is in
+    let below : position_or_len (λ c. c == feed) text < length text = subst (λ n. n < length text) (sym at.0) at.1 in
+    let split = split_at_first (λ c. c == feed) text 0 below ∙ ap (λ c. take (position_or_len (λ x. x == feed) text) text ++ c ∷ drop (position_or_len (λ x. x == feed) text + 1) text) (eqb-true _ _ (passes_at_first (λ c. c == feed) text 0 below)) in
+    record {
+      whole = subst (λ n. text ≡ take n text ++ feed ∷ drop (n + 1) text) at.0 split;
+      single = subst (λ n. has_no_feed (take n text) ≡ true) at.0 (all_taken (λ c. not (c == feed)) text);
+      first = ap (option_map (λ n. take n text)) is;
+      inside = at.1;
+    }
+
+-- WORDS
+
+pub cut_some : (text : List ℕ) (end : ℕ) → position (λ c. c == space) text ≡ Some end → words_of text ≡ take end text ∷ words_of (drop (end + 1) text)
+cut_some text end is =
+    let at = position_some (λ c. c == space) text end is in
+    subst (λ n. words_of text ≡ take n text ∷ words_of (drop (n + 1) text)) at.0
+    (more_words text (subst (λ n. n < length text) (sym at.0) at.1))
+
+pub cut_none : (text : List ℕ) → position (λ c. c == space) text ≡ None → words_of text ≡ text ∷ []
+cut_none text is = one_word text (position_none (λ c. c == space) text is)
+
+-- the words of what stands behind a word, if something does
+abbrev pub option_words : Option (List ℕ) → List (List ℕ)
+option_words None = []
+option_words (Some rest) = words_of rest
+
+module _ (numbers loose : Bool) where
+  -- what is left to compare
+  abbrev pub fit_rest : Option (List ℕ) → Option (List ℕ) → Bool
+  fit_rest None None = true
+  fit_rest None (Some rest) = loose
+  fit_rest (Some more) None = false
+  fit_rest (Some more) (Some rest) = fit numbers loose (words_of more) (words_of rest)
+
+  fit_some : (words : List (List ℕ)) → (words ≡ [] → ⊥) → fit numbers loose [] words ≡ loose
+  fit_some [] none = absurd (none refl)
+  fit_some (word ∷ words) some = refl
+
+  fit_short : (words : List (List ℕ)) → (words ≡ [] → ⊥) → fit numbers loose words [] ≡ false
+  fit_short [] none = absurd (none refl)
+  fit_short (word ∷ words) some = refl
+
+  behind : (more rest : Option (List ℕ)) (words its : List (List ℕ)) → option_words more ≡ words → option_words rest ≡ its → fit numbers loose words its ≡ fit_rest more rest
+  behind None None words its is are = sym (ap (λ w. fit numbers loose w (option_words None)) is ∙ ap (fit numbers loose words) are)
+  behind None (Some rest) words its is are =
+      sym (ap (λ w. fit numbers loose w (words_of rest)) is ∙ ap (fit numbers loose words) are) ∙ fit_some (words_of rest) (some_word rest)
+  behind (Some more) None words its is are =
+      sym (ap (λ w. fit numbers loose w (option_words None)) is ∙ ap (fit numbers loose words) are) ∙ fit_short (words_of more) (some_word more)
+  behind (Some more) (Some rest) words its is are = sym (ap (λ w. fit numbers loose w (words_of rest)) is ∙ ap (fit numbers loose words) are)
+
+  words_split : (text word : List ℕ) (more : Option (List ℕ)) → AreWords text word more → words_of text ≡ word ∷ option_words more
+  words_split text word None is = is
+  words_split text word (Some more) is = is
+
+  first_two : (text line word its : List ℕ) (more rest : Option (List ℕ)) → AreWords text word more → AreWords line its rest
+      → fit numbers loose (words_of text) (words_of line) ≡ (is_alike numbers word its && fit_rest more rest)
+  first_two text line word its more rest is are =
+      ap (λ w. fit numbers loose w (words_of line)) (words_split text word more is) ∙ ap (fit numbers loose (word ∷ option_words more)) (words_split line its rest are)
+      ∙ ap (λ b. is_alike numbers word its && b) (behind more rest (option_words more) (option_words rest) refl refl)
+
+  pub fit_unlike : (text line word its : List ℕ) (more rest : Option (List ℕ)) → AreWords text word more → AreWords line its rest → is_alike numbers word its ≡ false
+      → fit numbers loose (words_of text) (words_of line) ≡ false
+  fit_unlike text line word its more rest is are unlike = first_two text line word its more rest is are ∙ and_left (is_alike numbers word its) (fit_rest more rest) unlike
+
+  pub fit_alike : (text line word its : List ℕ) (more rest : Option (List ℕ)) → AreWords text word more → AreWords line its rest → is_alike numbers word its ≡ true
+      → fit numbers loose (words_of text) (words_of line) ≡ fit_rest more rest
+  fit_alike text line word its more rest is are alike = first_two text line word its more rest is are ∙ rw alike refl

@@ -1,0 +1,16 @@
+-- SPDX-License-Identifier: MIT OR Apache-2.0
+use Rattle.std.proofs.Common.{◌≡◌, ◌+◌, ◌-◌, ◌^◌, ℕ, List, length}
+use Rattle.std.specs.Io.KnownBytes.{Appends}
+use Rattle.play_syntax.specs.TraceLines.{joined}
+use Rattle.play_forms.specs.Followed.{Followed}
+use Rattle.play_forms.specs.Forms.{plain}
+use Rattle.play_forms.specs.Recorded.{recorded}
+use Rattle.play_forms.proofs.recording.record.Given as goal
+
+abbrev pub invariant-loop-said : goal.invariant-loop-said
+invariant-loop-said g l =
+    (lines : List (List ℕ)) × (said : List ℕ) × Followed plain l.fn.player.state l.player.state (g.R.Read.remaining l.fn.reader) (g.R.Read.remaining l.reader) lines said
+    × Appends (g.W.Write.contents l.fn.writer) (g.W.Write.contents l.writer) (joined (recorded l.fn.player.state lines)) × (l.lines.number ≡ 1 + length lines)
+
+abbrev pub decreases-loop-said : goal.decreases-loop-said
+decreases-loop-said g l = 2 ^ 64 - l.lines.number

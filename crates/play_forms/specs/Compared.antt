@@ -1,0 +1,91 @@
+-- SPDX-License-Identifier: MIT OR Apache-2.0
+-- What a comparison of a play with an expected text leaves.
+use Rattle.std.specs.Prelude.{◌≡◌, ◌≢◌, ◌≤◌, ◌⊎◌, ℕ, ◌+◌, true, false, List, [], ◌∷◌, ◌++◌, length, Option, None, Some, IfSome, Result, Ok, Err, ⊤}
+use Rattle.std.specs.Io.BufRead.{take_through}
+use Rattle.std.specs.Io.KnownBytes.{Consumes, IsAtEnd}
+use Rattle.std.specs.List.{list_all}
+use Rattle.ffa_model.specs.State.{State}
+use Rattle.play_syntax.specs.TraceLines.{feed, has_no_feed, is_line, are_lines, joined}
+use Rattle.play_syntax.specs.TraceText.{after}
+use Rattle.play_syntax.specs.declared.output.PlayError.TheVariants.{Read, Write, NoMemory, BadLine}
+use Rattle.play_reasons.specs.Reasons.{reason_of_bytes, told_line}
+use Rattle.play_forms.specs.declared.comparison.CompareError.{CompareError}
+use Rattle.play_forms.specs.declared.comparison.CompareError.TheVariants.{Play, Expected}
+use Rattle.play_forms.specs.declared.comparison.Mismatch.{Mismatch}
+use Rattle.play_forms.specs.declared.form.Form.{Form}
+use Rattle.play_forms.specs.Followed.{EndsBadly, Followed}
+use Rattle.play_forms.specs.Forms.{text_in, text_of_in}
+use Rattle.play_forms.specs.Reading.{IsAll}
+
+-- numbers and names are compared where they are asked for, and reasons never
+abbrev pub unexplained : Form → Form
+unexplained form = record { number = form.number; names = form.names; explain = false }
+
+-- the next of these lines with its LF, or nothing where none is left
+abbrev pub next_row : List (List ℕ) → List ℕ
+next_row [] = []
+next_row (row ∷ rows) = row ++ feed ∷ []
+
+-- What follows speaks of the machine's state before and now (`start`, `now`), of what was unread of the trace before
+-- (`had`), and of what was unread of the expected text before (`wants`). Last come what was read of the trace last, the
+-- text of that line, and what was read of the expected text last.
+
+-- the next line was done, which has this number and these bytes, and this is its text, of which these rows are left, and
+-- why its operation is refused is told where that is asked for; or no line is left, and no text
+abbrev pub IsNext : Form → ℕ → List ℕ → State → State → Option (List ℕ) → List ℕ → List ℕ → List (List ℕ) → Type 0
+IsNext form number told state now left bytes text behind =
+    ((after_line : Option (List ℕ)) × Consumes left after_line (bytes ++ feed ∷ []) × (is_line bytes ≡ true)
+    × (now ≡ after state bytes) × (text ≡ text_of_in (unexplained form) number state bytes) × (1 ≤ length behind)
+    × (told ≡ reason_of_bytes form.explain state bytes))
+    ⊎ (IsAtEnd left × (now ≡ state) × (text ≡ []) × (behind ≡ []))
+
+-- These lines were done and print this, and what is next prints this text. The first rows of both together begin what
+-- is expected, and then the next row of the expected text, which is `wanted`, is another than the next of those behind.
+pub record DiffersAt (form : Form) (start now : State) (had wants : Option (List ℕ)) (bytes text wanted : List ℕ)
+    (mismatch : Mismatch) : Type 0 where
+  pub state : State
+  pub left : Option (List ℕ)
+  pub lines : List (List ℕ)
+  pub printed : List ℕ
+  pub rows : List (List ℕ)
+  pub behind : List (List ℕ)
+  pub more : Option (List ℕ)
+  pub followed : Followed (unexplained form) start state had left lines printed
+  pub is_next : IsNext form mismatch.number (told_line mismatch.reason) state now left bytes text behind
+  pub whole : printed ++ text ≡ joined (rows ++ behind)
+  pub each : list_all has_no_feed (rows ++ behind) ≡ true
+  pub alike : Consumes wants more (joined rows)
+  pub next : IfSome more (λ rest. wanted ≡ take_through feed rest)
+  pub other : wanted ≢ next_row behind
+  pub number : mismatch.number ≡ 1 + length lines
+  pub expected_line : mismatch.expected_line ≡ 1 + length rows
+  pub place : length printed + mismatch.place ≡ length (joined rows)
+
+-- A comparison: the whole text is what is expected, or it differs, or a line is bad, or no more could be read of the
+-- trace, or of the expected text, which goes on with a beginning of what these lines print. It writes nothing, and of
+-- what it leaves where there is no memory nothing is said.
+abbrev pub Compared : Form → State → State → (had wants : Option (List ℕ)) → (bytes text wanted : List ℕ)
+    → Result (Option Mismatch) CompareError → Type 0
+Compared form start now had wants bytes text wanted (Ok None) =
+    (left : Option (List ℕ)) × (lines : List (List ℕ)) × (printed : List ℕ)
+    × Followed (unexplained form) start now had left lines printed × IsAtEnd left × IsAll wants printed
+Compared form start now had wants bytes text wanted (Ok (Some mismatch)) =
+    DiffersAt form start now had wants bytes text wanted mismatch
+Compared form start now had wants bytes text wanted (Err (Play (BadLine n))) =
+    (printed : List ℕ) × (more : Option (List ℕ)) × Consumes wants more printed
+    × EndsBadly (unexplained form) start now had printed bytes n
+Compared form start now had wants bytes text wanted (Err (Play Read)) =
+    (left : Option (List ℕ)) × (lines : List (List ℕ)) × (printed : List ℕ) × (more : Option (List ℕ))
+    × Consumes wants more printed × Followed (unexplained form) start now had left lines printed
+Compared form start now had wants bytes text wanted (Err (Play Write)) = ⊥
+Compared form start now had wants bytes text wanted (Err (Play NoMemory)) = ⊤
+Compared form start now had wants bytes text wanted (Err Expected) =
+    (left : Option (List ℕ)) × (lines : List (List ℕ)) × (front back : List ℕ) × (more : Option (List ℕ))
+    × Consumes wants more front × Followed (unexplained form) start now had left lines (front ++ back)
+
+-- of all lines that a reader of known bytes can give, none print what is expected
+abbrev pub NeverPrints : Form → State → (had wants : Option (List ℕ)) → Type 0
+NeverPrints form start None wants = ⊤
+NeverPrints form start (Some trace) None = ⊤
+NeverPrints form start (Some trace) (Some expected) =
+    (lines : List (List ℕ)) → are_lines lines ≡ true → trace ≡ joined lines → text_in form 1 start lines ≢ expected

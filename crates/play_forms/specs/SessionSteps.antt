@@ -1,0 +1,35 @@
+-- SPDX-License-Identifier: MIT OR Apache-2.0
+-- FOR PROOFS ALONE
+-- The steps of a session, which private functions promise one another.
+use Rattle.std.specs.Prelude.{◌≡◌, ◌<◌, ◌-◌, ◌^◌, ℕ, ◌+◌, Bool, true, false, List, [], ◌∷◌, ◌++◌, Option, Result, Ok, Err, ⊤}
+use Rattle.std.specs.Io.KnownBytes.{Appends, Consumes}
+use Rattle.ffa_model.specs.State.{State}
+use Rattle.play_syntax.specs.TraceLines.{feed, has_no_feed, is_good}
+use Rattle.play_syntax.specs.TraceText.{after}
+use Rattle.play_syntax.specs.Output.{TookFront}
+use Rattle.play_syntax.specs.declared.output.PlayError.{PlayError}
+use Rattle.play_syntax.specs.declared.output.PlayError.TheVariants.{Read, Write, NoMemory, BadLine}
+use Rattle.play_forms.specs.declared.form.Form.{Form}
+use Rattle.play_forms.specs.Forms.{text_of_in}
+use Rattle.play_forms.specs.Sessions.{IsOver}
+
+-- a line of this number was read, which leaves a number for the next; or none is left
+abbrev pub HearsLine : Option (List ℕ) → Option (List ℕ) → List ℕ → ℕ → Result Bool PlayError → Type 0
+HearsLine had has line number (Ok true) =
+    Consumes had has (line ++ feed ∷ []) × (has_no_feed line ≡ true) × (number + 1 < 2 ^ 64)
+HearsLine had has line number (Ok false) = IsOver had
+HearsLine had has line number (Err Read) = ⊤
+HearsLine had has line number (Err NoMemory) = ⊤
+HearsLine had has line number (Err Write) = ⊥
+HearsLine had has line number (Err (BadLine n)) = ⊥
+
+-- a line was done and its text was written, or a beginning of it; or it is bad, and prints nothing
+abbrev pub AnswersLine : {X : Type 0} → Form → State → State → ℕ → List ℕ → (held holds : Option (List ℕ))
+    → Result X PlayError → Type 0
+AnswersLine form start now number line held holds (Ok _) =
+    (now ≡ after start line) × Appends held holds (text_of_in form number start line)
+AnswersLine form start now number line held holds (Err Write) =
+    (now ≡ after start line) × (is_good line ≡ true) × TookFront held holds (text_of_in form number start line)
+AnswersLine form start now number line held holds (Err NoMemory) = ⊤
+AnswersLine form start now number line held holds (Err Read) = ⊥
+AnswersLine form start now number line held holds (Err (BadLine n)) = ⊥

@@ -1,0 +1,245 @@
+// SPDX-License-Identifier: MIT OR Apache-2.0
+//! What a guard wants of a printed line: to be its text, or to fit a pattern.
+ghost use Rattle.std.specs.Prelude.{◌≡◌, ◌++◌, ◌==◌, ◌<◌, IfErr, IfSome, OnOk, codes, decimal, length, not, option_map, position};
+ghost use Rattle.ffa_abi.specs.Names.{call_name_of, error_name_of};
+ghost use Rattle.play_syntax.specs.Lines.{meant};
+ghost use Rattle.play_syntax.specs.TraceLines.{space, words_of};
+ghost use Rattle.play_syntax.specs.TraceText.{spaced};
+ghost use Rattle.play_forms.specs.Asking.{AreWords, SaysCame, SaysCheck};
+ghost use Rattle.play_forms.specs.Patterns.{error_behind, fit, fits, is_alike, meets, named, pattern_of, told, told_by_name, without_zeros};
+
+use crate::reason::is_refused;
+use ffa_abi::{call_name, decode, error_name};
+use ffa_model::{Op, Outcome, Why};
+use ffa_playable::Playable;
+use play_player::Player;
+use play_reasons::check_number;
+use play_reasons::mark::put_bytes;
+use play_syntax::{Line, PlayError};
+use std::alloc::Allocator;
+use std::io::Write;
+
+/// What the words of a guard's text are compared with.
+#[derive(Clone, Copy, PartialEq, Eq)]
+pub enum Pattern {
+    /// The words of the printed line.
+    Words,
+    /// The name of the call that the line's registers are, and that of their error: `FFA_ERROR DENIED`.
+    Name,
+    /// The number of the check by which the call is refused: `check 12`.
+    Check,
+}
+
+impl Pattern {
+    /// What this text is.
+    pub fn of(text: &[u8]) -> Pattern
+        ensures { result ≡ pattern_of text.now }
+    {
+        if text.starts_with(b"FFA_") {
+            Pattern::Name
+        } else if text.starts_with(b"check ") {
+            Pattern::Check
+        } else {
+            Pattern::Words
+        }
+    }
+}
+
+/// What a line came to, beside its text.
+#[derive(Clone, Copy)]
+pub struct Came {
+    /// The outcome of the operation that the line is.
+    pub outcome: Option<Outcome>,
+    /// The number of the check by which its call is refused.
+    pub check: Option<usize>,
+}
+
+impl Came {
+    /// Nothing, as of a line that is no operation.
+    pub(crate) const NOTHING: Came = Came {
+        outcome: None,
+        check: None,
+    };
+
+    /// What a line came to that was done, where this was its outcome. A line that says nothing leaves what there was.
+    pub(crate) fn behind<P: Playable>(
+        self,
+        player: &Player<P>,
+        line: &Line,
+        outcome: Option<Outcome>,
+    ) -> Came
+        ensures { SaysCame player.now.state (meant line.now) outcome self result }
+    {
+        match line {
+            Line::Nothing => self,
+            Line::Show | Line::Audit => Came::NOTHING,
+            Line::Operation(op) => Came {
+                outcome,
+                check: check_of(player, op, outcome),
+            },
+        }
+    }
+}
+
+// The number of the check by which an operation that was done is refused, where it is a call and this was its outcome. A
+// refusal changes nothing, so the machine still stands as the operation found it.
+fn check_of<P: Playable>(player: &Player<P>, op: &Op, outcome: Option<Outcome>) -> Option<usize>
+    ensures { SaysCheck player.now.state op.now outcome result }
+{
+    if !is_refused(outcome) {
+        return None;
+    }
+    let Op::Call(x) = *op else {
+        return None;
+    };
+    match player.machine().why(op)? {
+        Why::Refused { refusal, .. } => check_number(&decode(x), refusal),
+        Why::Fault { .. } => None,
+    }
+}
+
+/// Puts into `found` what a pattern is compared with at a line that came to this.
+pub(crate) fn put_told<A: Allocator>(
+    pattern: Pattern,
+    came: Came,
+    line: &[u8],
+    found: &mut Vec<u8, A>,
+) -> Result<(), PlayError>
+    ensures written { OnOk result (found.new.items ≡ told pattern came line.now) }
+    ensures failed { IfErr result (λ e. e ≡ PlayError.NoMemory) }
+{
+    found.clear();
+    match (pattern, came.check) {
+        (Pattern::Words, _) => put_bytes(found, line),
+        (Pattern::Check, Some(number)) => put_check(found, number),
+        (Pattern::Name, _) | (Pattern::Check, None) => put_named(came.outcome, line, found),
+    }
+}
+
+fn put_check<A: Allocator>(found: &mut Vec<u8, A>, number: usize) -> Result<(), PlayError>
+    ensures written { OnOk result (found.new.items ≡ found.old.items ++ (codes "check " ++ decimal number)) }
+    ensures failed { IfErr result (λ e. e ≡ PlayError.NoMemory) }
+{
+    write!(found, "check {number}").map_err(|_| PlayError::NoMemory)
+}
+
+// Puts the names of registers, or the line, where there are none.
+fn put_named<A: Allocator>(
+    outcome: Option<Outcome>,
+    line: &[u8],
+    found: &mut Vec<u8, A>,
+) -> Result<(), PlayError>
+    ensures written { OnOk result (found.new.items ≡ found.old.items ++ told_by_name outcome line.now) }
+    ensures failed { IfErr result (λ e. e ≡ PlayError.NoMemory) }
+{
+    match outcome {
+        Some(Outcome::Regs { x, .. }) => put_names_of(&x, line, found),
+        _ => put_bytes(found, line),
+    }
+}
+
+fn put_names_of<A: Allocator>(
+    x: &[u64; 8],
+    line: &[u8],
+    found: &mut Vec<u8, A>,
+) -> Result<(), PlayError>
+    ensures written { OnOk result (found.new.items ≡ found.old.items ++ named x.now line.now) }
+    ensures failed { IfErr result (λ e. e ≡ PlayError.NoMemory) }
+{
+    let Some(name) = call_name(x) else {
+        return put_bytes(found, line);
+    };
+    put_bytes(found, name.as_bytes())?;
+    put_error(x, found)
+}
+
+fn put_error<A: Allocator>(x: &[u64; 8], found: &mut Vec<u8, A>) -> Result<(), PlayError>
+    ensures written { OnOk result (found.new.items ≡ found.old.items ++ error_behind x.now) }
+    ensures failed { IfErr result (λ e. e ≡ PlayError.NoMemory) }
+{
+    let Some(error) = error_name(x) else {
+        return Ok(());
+    };
+    put_bytes(found, b" ")?;
+    put_bytes(found, error.as_bytes())
+}
+
+/// Whether a line meets a text, where this is what its pattern is compared with.
+pub(crate) fn is_met(text: &[u8], line: &[u8], found: &[u8]) -> bool
+    ensures { (came : Came) → found.now ≡ told (pattern_of text.now) came line.now → result ≡ meets came text.now line.now }
+{
+    text == line || text_fits(text, found)
+}
+
+fn text_fits(text: &[u8], line: &[u8]) -> bool
+    ensures { result ≡ fits text.now line.now }
+{
+    let numbers = text.starts_with(b"regs ");
+    match text.strip_suffix(b" ..") {
+        Some(front) => words_fit(numbers, true, front, line),
+        None => words_fit(numbers, text.starts_with(b"FFA_"), text, line),
+    }
+}
+
+// Whether words are those of a line, which may go on behind them where they are loose.
+fn words_fit(numbers: bool, loose: bool, text: &[u8], line: &[u8]) -> bool
+    ensures { result ≡ fit numbers loose (words_of text.now) (words_of line.now) }
+{
+    let mut wanted = text;
+    let mut own = line;
+    loop {
+        let (word, more) = cut_word(wanted);
+        let (its, rest) = cut_word(own);
+        if !word_is_alike(numbers, word, its) {
+            return false;
+        }
+        match (more, rest) {
+            (Some(more), Some(rest)) => {
+                wanted = more;
+                own = rest;
+            }
+            (Some(_), None) => return false,
+            (None, Some(_)) => return loose,
+            (None, None) => return true,
+        }
+    }
+}
+
+// The first word, and what stands behind the space after it.
+fn cut_word(text: &[u8]) -> (&[u8], Option<&[u8]>)
+    ensures words { AreWords text.now result.0.now (option_map (λ rest. rest.now) result.1) }
+    ensures shorter { IfSome result.1 (λ rest. length rest.now < length text.now) }
+{
+    match first_space(text) {
+        Some(end) => (&text[..end], Some(&text[end + 1..])),
+        None => (text, None),
+    }
+}
+
+fn first_space(text: &[u8]) -> Option<usize>
+    ensures { result ≡ position (λ c. c == space) text.now }
+{
+    text.iter().position(|c| *c == b' ')
+}
+
+fn word_is_alike(numbers: bool, wanted: &[u8], word: &[u8]) -> bool
+    ensures { result ≡ is_alike numbers wanted.now word.now }
+{
+    wanted == word || numbers && !wanted.is_empty() && leading_cut(wanted) == leading_cut(word)
+}
+
+// A word without the zeros at its front.
+fn leading_cut(word: &[u8]) -> &[u8]
+    ensures { result.now ≡ without_zeros word.now }
+{
+    match first_other(word) {
+        Some(start) => &word[start..],
+        None => &[],
+    }
+}
+
+fn first_other(word: &[u8]) -> Option<usize>
+    ensures { result ≡ position (λ c. not (c == 48)) word.now }
+{
+    word.iter().position(|c| *c != b'0')
+}

@@ -1,0 +1,105 @@
+// SPDX-License-Identifier: MIT OR Apache-2.0
+//! A trace, written with the guards of its own play.
+ghost use Rattle.std.specs.Prelude.{◌≡◌, ◌∷◌, [], ◌++◌, IfErr, OnOk, map};
+ghost use Rattle.play_syntax.specs.TraceLines.{feed, joined};
+ghost use Rattle.play_syntax.specs.Lines.{meant};
+ghost use Rattle.play_forms.specs.Recorded.{RecordedIn, RecordsLine, guard_for, line_recorded, lines_in};
+
+use crate::asking::first_feed;
+use crate::form::put_plain;
+use crate::guards::guard_text;
+use crate::read::Lines;
+use ffa_playable::Playable;
+use play_player::Player;
+use play_reasons::mark::put_bytes;
+use play_syntax::{Line, PlayError, output};
+use std::alloc::Allocator;
+use std::io::{BufRead, Write};
+
+/// Does the lines that the reader gives, one after another, and writes each as it stands, and behind it a guard for each
+/// line that it prints. Guards that the trace has are left out.
+///
+/// What is written plays as the trace does, and all its guards are met. At a bad line, and where the reader fails, the
+/// lines before it were done, and nothing more, and what is written of them was written; where the writer fails, it took
+/// a beginning of what is written of the line that was done last. The bytes of a bad line stand in `bytes` as they stand
+/// in the trace. What is left where there is no memory is in no clause.
+pub fn record<P: Playable, A: Allocator + Copy, R: BufRead, W: Write>(
+    player: &mut Player<P>,
+    alloc: A,
+    reader: &mut R,
+    writer: &mut W,
+    bytes: &mut Vec<u8, A>,
+) -> Result<(), PlayError>
+    ensures { let held = W.contents writer.old in
+        let holds = W.contents writer.new in
+        let had = R.remaining reader.old in
+        RecordedIn player.old.state player.new.state held holds had bytes.new.items result }
+{
+    let mut text = Vec::new(alloc);
+    let mut said = Vec::new(alloc);
+    let mut lines = Lines::new();
+    while let Some((_, line)) = lines.next(reader, bytes)? {
+        record_line(player, alloc, bytes, &line, writer, &mut said, &mut text)?;
+    }
+    Ok(())
+}
+
+// Does the line that these bytes are, and writes it with its guards. It makes its plain text in `said`, and what is
+// written in `text`.
+fn record_line<P: Playable, A: Allocator + Copy, W: Write>(
+    player: &mut Player<P>,
+    alloc: A,
+    bytes: &[u8],
+    line: &Line,
+    writer: &mut W,
+    said: &mut Vec<u8, A>,
+    text: &mut Vec<u8, A>,
+) -> Result<(), PlayError>
+    ensures { let held = W.contents writer.old in
+        let holds = W.contents writer.new in
+        RecordsLine player.old.state player.new.state bytes.now (meant line.now) held holds result }
+{
+    said.clear();
+    put_plain(player, alloc, line, said)?;
+    text.clear();
+    put_recorded(bytes, said, text)?;
+    output::write_text(writer, text)
+}
+
+// Puts a line behind a text, with a guard for each line of what it printed, or nothing, where it is a guard.
+fn put_recorded<A: Allocator>(
+    line: &[u8],
+    printed: &[u8],
+    text: &mut Vec<u8, A>,
+) -> Result<(), PlayError>
+    ensures written { OnOk result (text.new.items ≡ text.old.items ++ joined (line_recorded line.now printed.now)) }
+    ensures failed { IfErr result (λ e. e ≡ PlayError.NoMemory) }
+{
+    if guard_text(line).is_some() {
+        return Ok(());
+    }
+    put_bytes(text, line)?;
+    put_bytes(text, b"\n")?;
+    put_guards(printed, text)
+}
+
+fn put_guards<A: Allocator>(printed: &[u8], text: &mut Vec<u8, A>) -> Result<(), PlayError>
+    ensures written { OnOk result (text.new.items ≡ text.old.items ++ joined (map guard_for (lines_in printed.now))) }
+    ensures failed { IfErr result (λ e. e ≡ PlayError.NoMemory) }
+{
+    let mut rest = printed;
+    while let Some(end) = first_feed(rest) {
+        put_guard(&rest[..end], text)?;
+        rest = &rest[end + 1..];
+    }
+    Ok(())
+}
+
+fn put_guard<A: Allocator>(printed: &[u8], text: &mut Vec<u8, A>) -> Result<(), PlayError>
+    ensures written { OnOk result (text.new.items ≡ text.old.items ++ joined (guard_for printed.now ∷ [])) }
+    ensures failed { IfErr result (λ e. e ≡ PlayError.NoMemory) }
+{
+    put_bytes(text, b"#= ")?;
+    put_bytes(text, printed)?;
+    put_bytes(text, b"\n")
+}
