@@ -1,4 +1,5 @@
 -- SPDX-License-Identifier: MIT OR Apache-2.0
+pub mod CertificateKept
 pub mod ColumnSteps
 pub mod Kept
 pub mod RowsAmong

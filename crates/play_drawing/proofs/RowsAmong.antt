@@ -1,6 +1,6 @@
 -- SPDX-License-Identifier: MIT OR Apache-2.0
 -- Each row has the certificate behind its line.
-use Rattle.std.proofs.Common.{◌≡◌, ◌∙◌, ℕ, ◌+◌, List, [], ◌∷◌, ◌++◌, length, refl, sym, ap, arith}
+use Rattle.std.proofs.Common.{Bool, false, ◌≡◌, ◌∙◌, ℕ, ◌+◌, List, [], ◌∷◌, ◌++◌, length, refl, sym, ap, arith}
 use Rattle.std.specs.List.{All}
 use Rattle.std.proofs.lemmas.List.{length_push, take-append-le, take_all}
 use Rattle.std.proofs.lemmas.List.Elements.{All-cons, All-nil, All-push, All-weaker}
@@ -9,12 +9,13 @@ use Rattle.ffa_model.specs.State.{State}
 use Rattle.play_syntax.specs.TraceText.{after_all}
 use Rattle.play_drawing.specs.declared.row.Keep.{Keep}
 use Rattle.play_drawing.specs.declared.row.Row.{Row}
+use Rattle.play_drawing.specs.Effects.{is_refused}
 use Rattle.play_drawing.specs.Rows.{AreRows, IsRow, IsRowAmong, begun, state_behind, with_row, without}
 
 module _ {A : Type 0} (start : State) where
   -- the last line's row
-  row-last : (lines : List (List ℕ)) (bytes : List ℕ) (n : ℕ) (row : Row A) → n ≡ length lines → IsRow n bytes (after_all start lines) row → IsRowAmong start lines row
-  row-last lines bytes n row last is =
+  row-last : (lines : List (List ℕ)) (bytes : List ℕ) (n : ℕ) (refused : Bool) (row : Row A) → n ≡ length lines → IsRow n bytes refused (after_all start lines) row → IsRowAmong start lines row
+  row-last lines bytes n refused row last is =
       let all : state_behind start lines row.number ≡ after_all start lines = ap (after_all start) (take_all row.number lines (omega (arith, is.number))) in
       record {
         number = omega (arith, is.number);
@@ -34,10 +35,10 @@ module _ {A : Type 0} (start : State) where
       }
 
   pub rows-among : (keep : Keep) (lines : List (List ℕ)) (rows : List (Row A)) → AreRows keep start lines rows → All (IsRowAmong start lines) rows
-  rows-among keep lines rows (begun row is) = All-cons (IsRowAmong start []) row [] (row-last [] [] 0 row refl is) (All-nil (IsRowAmong start []))
+  rows-among keep lines rows (begun row is) = All-cons (IsRowAmong start []) row [] (row-last [] [] 0 false row refl is) (All-nil (IsRowAmong start []))
   rows-among keep lines rows (with_row ls rs line row are has is) =
       All-push (IsRowAmong start (ls ++ line ∷ [])) rs row
       (All-weaker (IsRowAmong start ls) (IsRowAmong start (ls ++ line ∷ [])) (row-before ls line) rs (rows-among keep ls rs are))
-      (row-last (ls ++ line ∷ []) line (1 + length ls) row (omega (arith, length_push ls line)) is)
+      (row-last (ls ++ line ∷ []) line (1 + length ls) (is_refused (after_all start ls) line) row (omega (arith, length_push ls line)) is)
   rows-among keep lines rows (without ls rs line are none) =
       All-weaker (IsRowAmong start ls) (IsRowAmong start (ls ++ line ∷ [])) (row-before ls line) rs (rows-among keep ls rs are)

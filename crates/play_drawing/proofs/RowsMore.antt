@@ -1,31 +1,43 @@
 -- SPDX-License-Identifier: MIT OR Apache-2.0
 -- The rows of one line more.
-use Rattle.std.proofs.Common.{◌≡◌, ◌∙◌, ◌+◌, ℕ, List, [], ◌∷◌, ◌++◌, length, inl, inr, sym, ap, subst}
+use Rattle.std.proofs.Common.{Bool, ◌≡◌, ◌∙◌, ◌+◌, ℕ, List, [], ◌∷◌, ◌++◌, length, inl, inr, sym, ap, subst}
 use Rattle.ffa_model.specs.declared.certificate.CertRun.{CertRun}
 use Rattle.ffa_model.specs.Certificate.{certificate}
 use Rattle.ffa_model.specs.State.{State}
 use Rattle.play_syntax.specs.TraceText.{after_all}
 use Rattle.play_drawing.specs.declared.row.Keep.{Keep}
 use Rattle.play_drawing.specs.declared.row.Row.{Row}
+use Rattle.play_drawing.specs.Effects.{is_refused}
 use Rattle.play_drawing.specs.Rows.{AreRows, HasRow, HasRowBehind, PutsRow, with_row, without}
 
-module _ (keep : Keep) (start : State) (lines : List (List ℕ)) (line : List ℕ) (mid now : State) (n : ℕ) (before behind : List CertRun)
+module _ (keep : Keep) (start : State) (lines : List (List ℕ)) (line : List ℕ) (mid now : State) (n : ℕ) (refused : Bool) (before behind : List CertRun)
     (at_mid : mid ≡ after_all start lines) (at_now : now ≡ after_all start (lines ++ line ∷ [])) (count : n ≡ 1 + length lines)
-    (first : before ≡ certificate mid) (last : behind ≡ certificate now) where
-  has_behind : HasRow keep n before behind → HasRowBehind keep start lines line
-  has_behind has =
-      subst (λ k. HasRow keep k (certificate (after_all start lines)) (certificate (after_all start (lines ++ line ∷ [])))) count
-      (subst (λ rs. HasRow keep n rs (certificate (after_all start (lines ++ line ∷ [])))) (first ∙ ap certificate at_mid)
-      (subst (λ rs. HasRow keep n before rs) (last ∙ ap certificate at_now) has))
+    (was : refused ≡ is_refused mid line) (first : before ≡ certificate mid) (last : behind ≡ certificate now) where
+  then_refused : refused ≡ is_refused (after_all start lines) line
+  then_refused = was ∙ ap (λ (s : State). is_refused s line) at_mid
 
-  behind_has : HasRowBehind keep start lines line → HasRow keep n before behind
+  then_before : before ≡ certificate (after_all start lines)
+  then_before = first ∙ ap certificate at_mid
+
+  then_behind : behind ≡ certificate (after_all start (lines ++ line ∷ []))
+  then_behind = last ∙ ap certificate at_now
+
+  has_behind : HasRow keep n refused before behind → HasRowBehind keep start lines line
+  has_behind has =
+      subst (λ k. HasRow keep k (is_refused (after_all start lines) line) (certificate (after_all start lines)) (certificate (after_all start (lines ++ line ∷ [])))) count
+      (subst (λ r. HasRow keep n r (certificate (after_all start lines)) (certificate (after_all start (lines ++ line ∷ [])))) then_refused
+      (subst (λ rs. HasRow keep n refused rs (certificate (after_all start (lines ++ line ∷ [])))) then_before
+      (subst (HasRow keep n refused before) then_behind has)))
+
+  behind_has : HasRowBehind keep start lines line → HasRow keep n refused before behind
   behind_has has =
-      subst (λ rs. HasRow keep n before rs) (sym (last ∙ ap certificate at_now))
-      (subst (λ rs. HasRow keep n rs (certificate (after_all start (lines ++ line ∷ [])))) (sym (first ∙ ap certificate at_mid))
-      (subst (λ k. HasRow keep k (certificate (after_all start lines)) (certificate (after_all start (lines ++ line ∷ [])))) (sym count) has))
+      subst (HasRow keep n refused before) (sym then_behind)
+      (subst (λ rs. HasRow keep n refused rs (certificate (after_all start (lines ++ line ∷ [])))) (sym then_before)
+      (subst (λ r. HasRow keep n r (certificate (after_all start lines)) (certificate (after_all start (lines ++ line ∷ [])))) (sym then_refused)
+      (subst (λ k. HasRow keep k (is_refused (after_all start lines) line) (certificate (after_all start lines)) (certificate (after_all start (lines ++ line ∷ [])))) (sym count) has)))
 
   -- the rows once a line more was done
-  pub rows_more : {A : Type 0} (runner : ℕ) → runner ≡ now.runner → (old new : List (Row A)) → AreRows keep start lines old → PutsRow keep n line runner before behind old new
+  pub rows_more : {A : Type 0} (runner : ℕ) → runner ≡ now.runner → (old new : List (Row A)) → AreRows keep start lines old → PutsRow keep n line runner refused before behind old new
       → AreRows keep start (lines ++ line ∷ []) new
   rows_more runner who old new are (inl (has, (row, is, put))) =
       subst (AreRows keep start (lines ++ line ∷ [])) (sym put)
@@ -34,7 +46,8 @@ module _ (keep : Keep) (start : State) (lines : List (List ℕ)) (line : List �
         number = is.number ∙ count;
         line = is.line;
         runner = is.runner ∙ who ∙ ap (λ (s : State). s.runner) at_now;
-        runs = is.runs ∙ last ∙ ap certificate at_now;
+        refused = is.refused ∙ then_refused;
+        runs = is.runs ∙ then_behind;
       }))
   rows_more runner who old new are (inr (none, put)) =
       subst (AreRows keep start (lines ++ line ∷ [])) (sym put) (without lines old line are (λ has. none (behind_has has)))

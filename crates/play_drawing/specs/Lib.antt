@@ -1,5 +1,7 @@
 -- SPDX-License-Identifier: MIT OR Apache-2.0
 pub mod Cells
 pub mod Columns
+pub mod Effects
 pub mod Pictures
 pub mod Rows
+pub mod Sizes

@@ -1,52 +1,61 @@
 -- SPDX-License-Identifier: MIT OR Apache-2.0
 -- Rows: a machine behind lines of a trace.
-use Rattle.std.specs.Prelude.{◌≡◌, ◌≢◌, ◌≤◌, ◌⊎◌, ℕ, ◌+◌, ◌%◌, List, [], ◌∷◌, ◌++◌, length, take}
+use Rattle.std.specs.Prelude.{◌≡◌, ◌≢◌, ◌≤◌, ◌⊎◌, ℕ, ◌+◌, ◌%◌, Bool, false, IsTrue, List, [], ◌∷◌, ◌++◌, length, take}
 use Rattle.ffa_model.specs.declared.certificate.CertRun.{CertRun}
 use Rattle.ffa_model.specs.Certificate.{certificate}
 use Rattle.ffa_model.specs.State.{State}
 use Rattle.play_syntax.specs.TraceText.{after_all}
 use Rattle.play_drawing.specs.declared.row.Keep.{Keep}
-use Rattle.play_drawing.specs.declared.row.Keep.TheVariants.{Changes, Every}
+use Rattle.play_drawing.specs.declared.row.Pace.{Pace}
+use Rattle.play_drawing.specs.declared.row.Pace.TheVariants.{Changes, Every}
 use Rattle.play_drawing.specs.declared.row.Row.{Row}
+use Rattle.play_drawing.specs.Effects.{is_refused}
 
 -- a row is that of a line of this number and these bytes, behind which this endpoint runs and this is the certificate
-pub record IsRowOf {A : Type 0} (n : ℕ) (bytes : List ℕ) (now : ℕ) (behind : List CertRun) (row : Row A) : Type 0 where
+pub record IsRowOf {A : Type 0} (n : ℕ) (bytes : List ℕ) (now : ℕ) (error : Bool) (behind : List CertRun)
+    (row : Row A) : Type 0 where
   pub number : row.number ≡ n
   pub line : row.line.items ≡ bytes
   pub runner : row.runner.0 ≡ now
+  pub refused : row.refused ≡ error
   pub runs : row.runs.items ≡ behind
 
 -- a row is that of a line of this number and these bytes, behind which the machine has this state
-abbrev pub IsRow : {A : Type 0} → ℕ → List ℕ → State → Row A → Type 0
-IsRow n bytes s = IsRowOf n bytes s.runner (certificate s)
+abbrev pub IsRow : {A : Type 0} → ℕ → List ℕ → Bool → State → Row A → Type 0
+IsRow n bytes refused s = IsRowOf n bytes s.runner refused (certificate s)
 
--- the line of this number is to have a row, by the certificates before it and behind it
-abbrev pub HasRow : Keep → ℕ → List CertRun → List CertRun → Type 0
-HasRow Changes n before behind = before ≢ behind
-HasRow (Every m) n before behind = n % m ≡ 0
+-- a row is due at the line of this number, by the certificates before it and behind it
+abbrev pub IsPaced : Pace → ℕ → List CertRun → List CertRun → Type 0
+IsPaced Changes n before behind = before ≢ behind
+IsPaced (Every m) n before behind = n % m ≡ 0
+
+-- the line of this number is to have a row: one is due, or its call was refused and such calls have one
+abbrev pub HasRow : Keep → ℕ → Bool → List CertRun → List CertRun → Type 0
+HasRow keep n refused before behind = IsPaced keep.pace n before behind ⊎ (IsTrue keep.refused × IsTrue refused)
 
 -- the row of a line was put behind others, where it is to have one
-abbrev pub PutsRow : {A : Type 0} → Keep → ℕ → List ℕ → ℕ → List CertRun → List CertRun → List (Row A) → List (Row A)
-    → Type 0
-PutsRow {A} keep n bytes runner before behind old new =
-    (HasRow keep n before behind × ((row : Row A) × IsRowOf n bytes runner behind row × (new ≡ old ++ row ∷ [])))
-    ⊎ ((HasRow keep n before behind → ⊥) × (new ≡ old))
+abbrev pub PutsRow : {A : Type 0} → Keep → ℕ → List ℕ → ℕ → Bool → List CertRun → List CertRun → List (Row A)
+    → List (Row A) → Type 0
+PutsRow {A} keep n bytes runner refused before behind old new =
+    (HasRow keep n refused before behind
+    × ((row : Row A) × IsRowOf n bytes runner refused behind row × (new ≡ old ++ row ∷ [])))
+    ⊎ ((HasRow keep n refused before behind → ⊥) × (new ≡ old))
 
 -- a line is to have a row, behind others that are done from a state on
 abbrev pub HasRowBehind : Keep → State → List (List ℕ) → List ℕ → Type 0
 HasRowBehind keep start lines line =
-    let before = certificate (after_all start lines) in
-    let behind = certificate (after_all start (lines ++ line ∷ [])) in
-    HasRow keep (1 + length lines) before behind
+    let before = after_all start lines in
+    let behind = after_all start (lines ++ line ∷ []) in
+    HasRow keep (1 + length lines) (is_refused before line) (certificate before) (certificate behind)
 
 -- the rows of lines that are done from a state on: that of the beginning, and then those of the lines that are to have
 -- one, in order
 pub data AreRows {A : Type 0} (keep : Keep) (start : State) : List (List ℕ) → List (Row A) → Type 0 where
-  begun : (row : Row A) → IsRow 0 [] start row → AreRows keep start [] (row ∷ [])
+  begun : (row : Row A) → IsRow 0 [] false start row → AreRows keep start [] (row ∷ [])
   with_row :
       (lines : List (List ℕ)) (rows : List (Row A)) (line : List ℕ) (row : Row A) → AreRows keep start lines rows
       → HasRowBehind keep start lines line
-      → IsRow (1 + length lines) line (after_all start (lines ++ line ∷ [])) row
+      → IsRow (1 + length lines) line (is_refused (after_all start lines) line) (after_all start (lines ++ line ∷ [])) row
       → AreRows keep start (lines ++ line ∷ []) (rows ++ row ∷ [])
   without :
       (lines : List (List ℕ)) (rows : List (Row A)) (line : List ℕ) → AreRows keep start lines rows

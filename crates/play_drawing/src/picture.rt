@@ -3,10 +3,9 @@
 ghost use Rattle.std.specs.Prelude.{◌≡◌, IfOk};
 ghost use Rattle.std.specs.List.{filter_map, flat_map};
 ghost use Rattle.play_drawing.specs.Cells.{cell_of};
-ghost use Rattle.play_drawing.specs.Columns.{AreColumns};
 
 use crate::cell::{Cell, cells};
-use crate::column::{Column, columns};
+use crate::column::Column;
 use crate::row::Row;
 use ffa_model::Address;
 use std::alloc::{AllocError, Allocator, Global};
@@ -25,22 +24,21 @@ pub struct Picture<A: Allocator = Global> {
 }
 
 impl<A: Allocator + Copy> Picture<A> {
-    /// The picture of these rows, over RAM of so many pages.
+    /// The picture of these rows over these columns.
     pub fn of_rows(
         alloc: A,
         base: Address,
-        pages: u32,
         endpoints: usize,
         rows: Vec<Row<A>, A>,
+        columns: Vec<Column, A>,
     ) -> Result<Picture<A>, AllocError>
         ensures base { IfOk result (λ picture. picture.base ≡ base) }
         ensures endpoints { IfOk result (λ picture. picture.endpoints ≡ endpoints) }
         ensures rows { IfOk result (λ picture. picture.rows ≡ rows) }
-        ensures columns { IfOk result (λ picture. AreColumns rows.items pages 0 picture.columns.items) }
+        ensures columns { IfOk result (λ picture. picture.columns ≡ columns) }
         ensures cells { IfOk result (λ picture.
-            picture.cells.items ≡ flat_map (λ row. filter_map (cell_of row) picture.columns.items) rows.items) }
+            picture.cells.items ≡ flat_map (λ row. filter_map (cell_of row) columns.items) rows.items) }
     {
-        let columns = columns(alloc, &rows, pages)?;
         let cells = cells(alloc, &rows, &columns)?;
         Ok(Picture {
             base,

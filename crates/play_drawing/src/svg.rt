@@ -4,16 +4,15 @@ ghost use Rattle.std.specs.Prelude.{◌<◌};
 ghost use Rattle.ffa_model.specs.declared.limits.TheConstants.{MOST_ENDPOINTS};
 
 mod escape;
+mod label;
 mod legend;
 mod sizes;
 
 use crate::cell::{Cell, band_of};
 use crate::column::Column;
 use crate::picture::Picture;
-use crate::row::Row;
-use escape::Escaped;
 use ffa_model::{Address, Data, EndpointId, MOST_ENDPOINTS, PageNo, Rights};
-use sizes::{HEADER, MOST_LABEL, ROWS_BELOW, Sizes};
+use sizes::{HEADER, ROWS_BELOW, Sizes};
 use std::alloc::Allocator;
 use std::fmt;
 use std::io::{self, Write};
@@ -74,27 +73,51 @@ fn right_text(right: Option<Rights>) -> &'static str {
     }
 }
 
-/// Writes the picture as an SVG. Across stand its columns, with the address of the first page of each; down its rows,
-/// with number and text of the line and with the endpoint that runs. A cell has a band for each endpoint that reaches
-/// its pages.
-pub fn write_svg<A: Allocator, W: Write>(picture: &Picture<A>, writer: &mut W) -> io::Result<()> {
-    let sizes = Sizes::of(picture);
+/// Writes the picture as an SVG, which is to fit this width in pixels where that isn't 0. Across stand its columns, with
+/// the address of the first page of each; down its rows, with number and text of the line, the name of its call and the
+/// endpoint that runs. A cell has a band for each endpoint that reaches its pages, and a mark where it is another than
+/// the one above it.
+pub fn write_svg<A: Allocator, W: Write>(
+    picture: &Picture<A>,
+    width: u64,
+    writer: &mut W,
+) -> io::Result<()> {
+    let sizes = Sizes::of(picture, width);
     legend::write_head(&sizes, writer)?;
     legend::write_legend(&sizes, writer)?;
-    let mut cells = picture.cells.as_slice();
     for (index, row) in picture.rows.iter().enumerate() {
         if index % ROWS_BELOW == 0 {
-            write_addresses(picture, &sizes, sizes.row_top(index), writer)?;
+            write_header(picture, &sizes, index, writer)?;
         }
-        let (own, rest) = cells.split_at(picture.columns.len().min(cells.len()));
-        cells = rest;
         let top = sizes.row_top(index);
         writeln!(writer, "<g transform=\"translate(0 {top})\">")?;
-        write_label(row, &sizes, writer)?;
-        write_cells(picture, own, &sizes, writer)?;
+        label::write_label(row, &sizes, writer)?;
+        write_cells(picture, index, &sizes, writer)?;
         writeln!(writer, "</g>")?;
     }
     writeln!(writer, "</svg>")
+}
+
+// The cells of the row of this index.
+fn row_cells<A: Allocator>(picture: &Picture<A>, index: usize) -> &[Cell] {
+    let count = picture.columns.len();
+    let from = count.saturating_mul(index);
+    let to = from.saturating_add(count);
+    picture.cells.get(from..to).unwrap_or(&[])
+}
+
+// Writes the addresses above the row of this index, and but for the first row, which colour is whose.
+fn write_header<A: Allocator, W: Write>(
+    picture: &Picture<A>,
+    sizes: &Sizes,
+    index: usize,
+    writer: &mut W,
+) -> io::Result<()> {
+    let top = sizes.row_top(index);
+    if index > 0 {
+        legend::write_legend_again(sizes, top.saturating_sub(HEADER), writer)?;
+    }
+    write_addresses(picture, sizes, top, writer)
 }
 
 // Writes the address of each column's first page, and with it the column's pages.
@@ -106,7 +129,9 @@ fn write_addresses<A: Allocator, W: Write>(
 ) -> io::Result<()> {
     let bottom = bottom.saturating_sub(6);
     for (index, column) in picture.columns.iter().enumerate() {
-        let left = sizes.column_left(index).saturating_add(11);
+        let left = sizes
+            .column_left(index)
+            .saturating_add(sizes.address_left());
         let pages = Pages {
             base: picture.base,
             first: column.first,
@@ -121,49 +146,19 @@ fn write_addresses<A: Allocator, W: Write>(
     Ok(())
 }
 
-// Writes number and text of a row's line, and the endpoint that runs.
-fn write_label<A: Allocator, W: Write>(
-    row: &Row<A>,
-    sizes: &Sizes,
-    writer: &mut W,
-) -> io::Result<()> {
-    let number = row.number;
-    let runner = row.runner.0;
-    let place = row.runner.place();
-    let shown = row.line.get(..MOST_LABEL).unwrap_or(&row.line);
-    let more = if shown.len() < row.line.len() {
-        "…"
-    } else {
-        ""
-    };
-    let (line, whole) = (Escaped(shown), Escaped(&row.line));
-    let swatch = sizes.runner_left();
-    let left = swatch.saturating_add(14);
-    if number == 0 {
-        writeln!(
-            writer,
-            "<text x=\"54\" y=\"13\" class=\"b\">at the beginning</text>"
-        )?;
-    } else {
-        writeln!(
-            writer,
-            "<text x=\"46\" y=\"13\" class=\"n\">{number}</text><text x=\"54\" y=\"13\">{line}{more}<title>{whole}</title></text>"
-        )?;
-    }
-    writeln!(
-        writer,
-        "<rect class=\"e{place}\" x=\"{swatch}\" y=\"4\" width=\"10\" height=\"10\"/><text x=\"{left}\" y=\"13\">{runner:04X}<title>{runner:04X} runs</title></text>"
-    )
-}
-
-// Writes the cells of a row.
+// Writes the cells of the row of this index.
 fn write_cells<A: Allocator, W: Write>(
     picture: &Picture<A>,
-    cells: &[Cell],
+    row: usize,
     sizes: &Sizes,
     writer: &mut W,
 ) -> io::Result<()> {
-    for (index, cell) in cells.iter().enumerate() {
+    let above: &[Cell] = if row == 0 {
+        &[]
+    } else {
+        row_cells(picture, row - 1)
+    };
+    for (index, cell) in row_cells(picture, row).iter().enumerate() {
         let left = sizes.column_left(index);
         writeln!(writer, "<g transform=\"translate({left} 0)\">")?;
         write_title(picture, cell, writer)?;
@@ -171,9 +166,21 @@ fn write_cells<A: Allocator, W: Write>(
         for place in 0..picture.endpoints.min(MOST_ENDPOINTS) {
             write_band(cell, place, sizes, writer)?;
         }
+        if above
+            .get(index)
+            .is_some_and(|other| other.pages != cell.pages)
+        {
+            write_mark(sizes, writer)?;
+        }
         writeln!(writer, "</g>")?;
     }
     Ok(())
+}
+
+// Writes the mark of a cell that is another than the one above it: a corner.
+fn write_mark<W: Write>(sizes: &Sizes, writer: &mut W) -> io::Result<()> {
+    let left = sizes.column.saturating_sub(6);
+    writeln!(writer, "<path class=\"d\" d=\"M{left} 1h5v5z\"/>")
 }
 
 // Writes what is said of a cell: its pages, their owner, their transaction and the access of each endpoint.

@@ -1,21 +1,23 @@
 // SPDX-License-Identifier: MIT OR Apache-2.0
 //! A trace that is watched: played line by line, with what becomes of the machine's pages.
-ghost use Rattle.std.specs.Prelude.{◌≡◌, [], ◌∷◌, IfErr, IfOk, OnOk};
+ghost use Rattle.std.specs.Prelude.{◌≡◌, ◌⊎◌, [], ◌∷◌, IfErr, IfOk, OnOk};
 ghost use Rattle.ffa_model.specs.Certificate.{certificate};
 ghost use Rattle.play_syntax.specs.TraceText.{line_after};
-ghost use Rattle.play_syntax.specs.Lines.{meant};
-ghost use Rattle.play_picture.specs.Watching.{AreFirst, SeesLine, Watched};
+ghost use Rattle.play_syntax.specs.Lines.{meant, outcome_of};
+ghost use Rattle.play_drawing.specs.Rows.{PutsRow};
+ghost use Rattle.play_picture.specs.Watching.{AreFirst, IsLatest, SeesLine, Watched};
 
-use ffa_model::CertRun;
+use ffa_model::{CertRun, Outcome};
 use ffa_playable::Playable;
-use play_drawing::{Keep, Row, put_row};
+use play_drawing::{Keep, Row, TooLarge, is_refused_call, may_change, most_rows, put_row};
 use play_forms::Lines;
 use play_player::{Player, certificate};
 use play_syntax::{Line, PlayError};
 use std::alloc::Allocator;
 use std::io::{self, BufRead};
 
-// What was seen of a trace so far: the rows, and the certificate behind the last line.
+// What was seen of a trace so far: the rows, and the certificate of the last of them, behind which no line has changed
+// it where rows are due by the certificate.
 #[derive(Drop)]
 struct Seen<A: Allocator> {
     rows: Vec<Row<A>, A>,
@@ -23,7 +25,11 @@ struct Seen<A: Allocator> {
 }
 
 /// Does the lines that the reader gives, one after another, and answers the rows of those that have one, each with what
-/// the machine is behind it. The first row is that of the beginning.
+/// the machine is behind it. The first row is that of the beginning. A certificate is made only where there may be a
+/// row.
+///
+/// It stops at the first row behind which there are more rows than a picture has at most, if each had as many cells as
+/// this one has runs.
 ///
 /// At a bad line, and where the reader fails, the lines before it were done, and nothing more. The bytes of a bad line
 /// stand in `bytes` as they stand in the trace, with the LF that ends them, where one does. What is left where there is
@@ -34,15 +40,19 @@ pub fn watch<P: Playable, A: Allocator + Copy, R: BufRead>(
     keep: Keep,
     reader: &mut R,
     bytes: &mut Vec<u8, A>,
-) -> Result<Vec<Row<A>, A>, PlayError>
+) -> Result<Result<Vec<Row<A>, A>, TooLarge>, PlayError>
     ensures { Watched keep player.old.state player.new.state (R.remaining reader.old) bytes.new.items result }
 {
     let mut seen = begin(player, alloc)?;
     let mut lines = Lines::new();
     while let Some((number, line)) = lines.next(reader, bytes)? {
         watch_line(player, alloc, keep, number, &line, bytes, &mut seen)?;
+        let most = most_rows(seen.latest.len());
+        if seen.rows.len() > most {
+            return Ok(Err(TooLarge { most }));
+        }
     }
-    Ok(seen.rows)
+    Ok(Ok(seen.rows))
 }
 
 // The row of the beginning.
@@ -70,7 +80,7 @@ fn first_row<P: Playable, A: Allocator + Copy>(
     ensures failed { IfErr result (λ e. e ≡ PlayError.NoMemory) }
 {
     let runner = player.machine().runner();
-    match Row::of_line(alloc, 0, &[], runner, runs) {
+    match Row::of_line(alloc, 0, &[], runner, false, runs) {
         Ok(row) => alone(alloc, row),
         Err(_) => Err(PlayError::NoMemory),
     }
@@ -99,16 +109,44 @@ fn watch_line<P: Playable, A: Allocator + Copy>(
     bytes: &[u8],
     seen: &mut Seen<A>,
 ) -> Result<(), PlayError>
-    requires { seen.old.latest.items ≡ certificate player.old.state }
+    requires { IsLatest keep.pace seen.old.latest.items player.old.state }
     ensures seen { let start = player.old.state in
         let now = player.new.state in
         let old = seen.old.rows.items in
         let new = seen.new.rows.items in
         OnOk result (SeesLine keep number (meant line.now) bytes.now start now old new) }
-    ensures latest { OnOk result (seen.new.latest.items ≡ certificate player.new.state) }
+    ensures latest { OnOk result (IsLatest keep.pace seen.new.latest.items player.new.state) }
+    ensures anew { OnOk result ((seen.new.latest.items ≡ certificate player.new.state) ⊎ (seen.new ≡ seen.old)) }
     ensures failed { IfErr result (λ e. e ≡ PlayError.NoMemory) }
 {
-    let runs = follow(player, alloc, line)?;
+    let outcome = follow(player, alloc, line)?;
+    let refused = is_refused_call(line, outcome);
+    if keep.may_have_row(number, refused, may_change(line, outcome)) {
+        see(player, alloc, keep, number, bytes, refused, seen)
+    } else {
+        Ok(())
+    }
+}
+
+// Puts the row of the line that was done last behind the others, where it is to have one by the certificate.
+fn see<P: Playable, A: Allocator + Copy>(
+    player: &Player<P>,
+    alloc: A,
+    keep: Keep,
+    number: u64,
+    bytes: &[u8],
+    refused: bool,
+    seen: &mut Seen<A>,
+) -> Result<(), PlayError>
+    ensures seen { let now = player.now.state in
+        let old = seen.old.rows.items in
+        let new = seen.new.rows.items in
+        let before = seen.old.latest.items in
+        OnOk result (PutsRow keep number bytes.now now.runner refused before (certificate now) old new) }
+    ensures latest { OnOk result (seen.new.latest.items ≡ certificate player.now.state) }
+    ensures failed { IfErr result (λ e. e ≡ PlayError.NoMemory) }
+{
+    let runs = certificate_of(player, alloc)?;
     let runner = player.machine().runner();
     match put_row(
         &mut seen.rows,
@@ -117,6 +155,7 @@ fn watch_line<P: Playable, A: Allocator + Copy>(
         number,
         bytes,
         runner,
+        refused,
         &seen.latest,
         &runs,
     ) {
@@ -128,21 +167,20 @@ fn watch_line<P: Playable, A: Allocator + Copy>(
     }
 }
 
-// Does a line, and answers the certificate behind it.
+// Does a line, and answers what came of its operation.
 fn follow<P: Playable, A: Allocator + Copy>(
     player: &mut Player<P>,
     alloc: A,
     line: &Line,
-) -> Result<Vec<CertRun, A>, PlayError>
+) -> Result<Option<Outcome>, PlayError>
     ensures state { OnOk result (player.new.state ≡ line_after player.old.state (meant line.now)) }
-    ensures runs { IfOk result (λ runs. runs.items ≡ certificate player.new.state) }
+    ensures outcome { IfOk result (λ outcome. outcome ≡ outcome_of player.old.state (meant line.now)) }
     ensures failed { IfErr result (λ e. e ≡ PlayError.NoMemory) }
 {
     // The sink takes all that is written.
     player
         .line(alloc, line, &mut io::sink())
-        .map_err(|_| PlayError::NoMemory)?;
-    certificate_of(player, alloc)
+        .map_err(|_| PlayError::NoMemory)
 }
 
 fn certificate_of<P: Playable, A: Allocator>(

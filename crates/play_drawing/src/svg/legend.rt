@@ -11,6 +11,9 @@ const STYLE: &str = "\
 text{font-family:monospace;font-size:11px;fill:#222}
 .n{text-anchor:end;fill:#666}
 .b{fill:#666}
+.k{fill:#666}
+.r{fill:#b00020}
+.d{fill:#b00020}
 .c{fill:#fff;stroke:#ccc}
 .m{fill:#bbb;stroke:#bbb}
 .h{fill:url(#hatched)}
@@ -39,8 +42,12 @@ const SAMPLES: &str = "\
 <rect class=\"c\" x=\"366\" y=\"-3\" width=\"30\" height=\"14\"/><rect class=\"e0\" x=\"366\" y=\"-3\" width=\"3\" height=\"14\"/><text x=\"402\" y=\"9\">its page, out of reach</text>
 <rect class=\"c\" x=\"560\" y=\"-3\" width=\"30\" height=\"14\"/><rect class=\"t\" x=\"560\" y=\"8\" width=\"30\" height=\"2\"/><text x=\"596\" y=\"9\">in a transaction</text>
 <rect class=\"m\" x=\"716\" y=\"-3\" width=\"30\" height=\"14\"/><text x=\"752\" y=\"9\">the manager's</text>
+<rect class=\"c\" x=\"586\" y=\"-25\" width=\"30\" height=\"14\"/><path class=\"d\" d=\"M610 -24h5v5z\"/><text x=\"622\" y=\"-13\">other than above</text>
 </g>
 ";
+
+// What is said of a refused call.
+const REFUSED: &str = "<text class=\"r\" x=\"804\" y=\"22\">a refused call</text>\n";
 
 /// Writes the size of a picture and its colours.
 pub(super) fn write_head<W: Write>(sizes: &Sizes, writer: &mut W) -> io::Result<()> {
@@ -52,16 +59,40 @@ pub(super) fn write_head<W: Write>(sizes: &Sizes, writer: &mut W) -> io::Result<
     writer.write_all(STYLE.as_bytes())
 }
 
-/// Writes which colour is whose, and what a band says.
+/// Writes which colour is whose, and what a band, a mark and a red line say.
 pub(super) fn write_legend<W: Write>(sizes: &Sizes, writer: &mut W) -> io::Result<()> {
     for place in 0..sizes.endpoints {
-        let left = 54 + 72 * u32::from(place);
-        let text = left + 16;
-        let endpoint = EndpointId::at(usize::from(place)).0;
-        writeln!(
-            writer,
-            "<rect class=\"e{place}\" x=\"{left}\" y=\"12\" width=\"12\" height=\"12\"/><text x=\"{text}\" y=\"22\">{endpoint:04X}</text>"
-        )?;
+        write_swatch(place, 54 + 72 * u64::from(place), 12, writer)?;
     }
-    writer.write_all(SAMPLES.as_bytes())
+    writer.write_all(SAMPLES.as_bytes())?;
+    if sizes.refusals {
+        writer.write_all(REFUSED.as_bytes())?;
+    }
+    Ok(())
+}
+
+/// Writes which colour is whose again, below what stands at this height: four endpoints one below the other, and the
+/// others beside them.
+pub(super) fn write_legend_again<W: Write>(
+    sizes: &Sizes,
+    top: u64,
+    writer: &mut W,
+) -> io::Result<()> {
+    for place in 0..sizes.endpoints {
+        let left = 54 + 72 * u64::from(place / 4);
+        let below = 4 + 16 * u64::from(place % 4);
+        write_swatch(place, left, top.saturating_add(below), writer)?;
+    }
+    Ok(())
+}
+
+// Writes the colour of the endpoint at a place, and the endpoint.
+fn write_swatch<W: Write>(place: u8, left: u64, top: u64, writer: &mut W) -> io::Result<()> {
+    let text = left.saturating_add(16);
+    let bottom = top.saturating_add(10);
+    let endpoint = EndpointId::at(usize::from(place)).0;
+    writeln!(
+        writer,
+        "<rect class=\"e{place}\" x=\"{left}\" y=\"{top}\" width=\"12\" height=\"12\"/><text x=\"{text}\" y=\"{bottom}\">{endpoint:04X}</text>"
+    )
 }

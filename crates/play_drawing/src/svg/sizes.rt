@@ -1,17 +1,36 @@
 // SPDX-License-Identifier: MIT OR Apache-2.0
 //! The sizes of a picture, in pixels, and where its parts stand.
 
+ghost use Rattle.std.specs.Prelude.{◌≡◌, ◌+◌, ◌*◌};
+
+use super::label::{MOST_LABEL, label_len};
 use crate::picture::Picture;
 use std::alloc::Allocator;
 
-/// How many characters of a line are shown.
-pub(super) const MOST_LABEL: usize = 56;
 /// The height of the legend, with the free space above it.
 pub(super) const LEGEND: u64 = 64;
 /// The height of a line of addresses.
 pub(super) const HEADER: u64 = 72;
+/// The width of a column that isn't made narrower to fit a picture's width.
+const LEAST_COLUMN: u64 = 8;
 /// How many rows stand below a line of addresses, which is written again behind them.
 pub(super) const ROWS_BELOW: usize = 40;
+
+/// The free space behind the cells.
+const BEHIND: u64 = 24;
+
+// Where the cells begin, behind texts of so many characters.
+fn cells_left(label: u8) -> u64
+    ensures { result ≡ 118 + 7 * label }
+{
+    118 + 7 * u64::from(label)
+}
+
+// The width of so many columns, behind texts of so many characters, in a picture of this width.
+fn fitting_column(columns: usize, label: u8, width: u64) -> u64 {
+    let room = width.saturating_sub(cells_left(label) + BEHIND);
+    (room / (columns as u64).max(1)).clamp(LEAST_COLUMN, 96)
+}
 
 /// The sizes of a picture.
 #[derive(Clone, Copy, PartialEq, Eq)]
@@ -25,24 +44,37 @@ pub(super) struct Sizes {
     /// The height of a row.
     pub(super) row: u8,
     pub(super) endpoints: u8,
+    /// A row is that of a refused call.
+    pub(super) refusals: bool,
 }
 
 impl Sizes {
-    /// The sizes of this picture. The fewer columns it has, the wider they are.
-    pub(super) fn of<A: Allocator>(picture: &Picture<A>) -> Sizes {
+    /// The sizes of this picture. The fewer columns it has, the wider they are; but where the picture is to fit a
+    /// width, which is so where that isn't 0, they are no wider than this lets them be.
+    pub(super) fn of<A: Allocator>(picture: &Picture<A>, width: u64) -> Sizes {
         let endpoints = picture.endpoints.min(8) as u8;
         let columns = picture.columns.len();
         let mut label = 16;
+        let mut refusals = false;
         for row in &picture.rows {
-            label = row.line.len().max(label);
+            label = label_len(&row.line).max(label);
+            refusals |= row.refused;
         }
+        let label = label.min(MOST_LABEL) as u8;
+        let widest = (1200 / columns.max(1)).clamp(18, 96) as u64;
+        let column = if width == 0 {
+            widest
+        } else {
+            widest.min(fitting_column(columns, label, width))
+        };
         Sizes {
             rows: picture.rows.len(),
             columns,
-            label: label.min(MOST_LABEL) as u8,
-            column: (1200 / columns.max(1)).clamp(18, 96) as u8,
+            label,
+            column: column as u8,
             row: 7 + 10 * endpoints.max(1),
             endpoints,
+            refusals,
         }
     }
 
@@ -54,7 +86,12 @@ impl Sizes {
     /// Where a column begins.
     pub(super) fn column_left(&self, index: usize) -> u64 {
         let columns = (index as u64).saturating_mul(u64::from(self.column));
-        columns.saturating_add(118 + 7 * u64::from(self.label))
+        columns.saturating_add(cells_left(self.label))
+    }
+
+    /// Where the address of a column stands, from its left side.
+    pub(super) fn address_left(&self) -> u64 {
+        u64::from(self.column / 2 + 4).min(11)
     }
 
     /// Where a row begins, behind the lines of addresses and the rows above it.
@@ -67,7 +104,7 @@ impl Sizes {
 
     /// The width of the whole picture.
     pub(super) fn width(&self) -> u64 {
-        let columns = self.column_left(self.columns).saturating_add(24);
+        let columns = self.column_left(self.columns).saturating_add(BEHIND);
         columns.max(920)
     }
 

@@ -3,7 +3,7 @@ use Rattle.std.proofs.Common.{refl}
 use Rattle.std.proofs.lemmas.Bool.Decides.{Decides-at, Decides-not}
 use Rattle.std.proofs.lemmas.Slice.Eq.{slice_eq-Decides}
 use Rattle.play_drawing.proofs.RunsAlike.{Decides-run}
-use Rattle.play_drawing.proofs.row.Keep.has_row.Goals as goal
+use Rattle.play_drawing.proofs.row.Pace.is_due.Goals as goal
 
 pub returns-in-Changes : goal.returns-in-Changes
 returns-in-Changes c =
