@@ -9,7 +9,7 @@ AGAINST =
 # one for each processor that has 4 GB of free memory, and wrong bodies are tried by four.
 JOBS =
 
-.PHONY: quick gate prove wrong c rust python board linux docs bench
+.PHONY: quick gate prove wrong c rust python board linux docs page bench
 
 quick:
 	bench/changed --tests $(AGAINST)
@@ -51,6 +51,10 @@ linux:
 docs:
 	tests/docs && tests/licence-lines && tests/calls && tests/names && tests/manual-checks && tests/pictures
 
-# Measures the program: accesses, transactions, memory and stack, and instructions, which need valgrind.
+# Looks at the page of a trace in a browser without a window.
+page:
+	tests/page
+
+# Measures the program: accesses, transactions, pictures, memory and stack, and instructions, which need valgrind.
 bench:
-	bench/accesses && bench/transactions && bench/memory && bench/instructions
+	bench/accesses && bench/transactions && bench/pictures && bench/memory && bench/instructions

@@ -1,0 +1,20 @@
+-- SPDX-License-Identifier: MIT OR Apache-2.0
+-- A line that can't be watched.
+use Rattle.std.proofs.Common.{◌≡◌, ◌+◌, ℕ, List, length, Option, Err, sym, subst}
+use Rattle.ffa_model.specs.State.{State}
+use Rattle.play_syntax.specs.declared.output.PlayError.{PlayError}
+use Rattle.play_syntax.specs.declared.output.PlayError.TheVariants.{Read, Write, NoMemory, BadLine}
+use Rattle.play_forms.specs.Followed.{EndsBadly, Followed}
+use Rattle.play_forms.specs.Forms.{plain}
+use Rattle.play_forms.specs.Reading.{TakesLine}
+use Rattle.play_forms.proofs.Follows.{ends_at}
+use Rattle.play_page.specs.Paging.{Paging}
+
+-- what was read isn't taken
+pub untaken_paged : (A : Type 0) (start mid : State) (had has : Option (List ℕ)) (lines : List (List ℕ)) (text : List ℕ) → Followed plain start mid had has lines text
+    → (number : ℕ) → number ≡ 1 + length lines → (e : PlayError) (then : Option (List ℕ)) (bytes : List ℕ) → TakesLine has then bytes number (Err e) → Paging {A = A} start mid had bytes (Err e)
+untaken_paged A start mid had has lines text f number count Read then bytes r = (has, lines, text, f)
+untaken_paged A start mid had has lines text f number count Write then bytes r = absurd r
+untaken_paged A start mid had has lines text f number count NoMemory then bytes r = tt
+untaken_paged A start mid had has lines text f number count (BadLine n) then bytes (is, bad) =
+    (text, subst (EndsBadly plain start mid had text bytes) (sym is) (ends_at plain start mid had has lines text f number count bytes bad))

@@ -1,0 +1,116 @@
+// SPDX-License-Identifier: MIT OR Apache-2.0
+//! The data of a page, as one object of JSON.
+
+use super::answer::{write_answer, write_reason, write_words};
+use crate::page::{Entry, Page};
+use ffa_model::{Address, CertRun, EndpointId, MOST_ENDPOINTS, PageNo};
+use play_drawing::Row;
+use play_syntax::text::{Text, push_right};
+use std::alloc::Allocator;
+use std::io::{self, Write};
+
+/// Writes the endpoints, who runs at the beginning, the changes and the lines.
+///
+/// A change is the number of a line with the runs that its certificate has and the one before it had not; the first
+/// change has number 0 and all runs of the beginning. A run is written as `audit` prints it, without its first word. A
+/// line is the endpoint that runs behind it, what it says, what it answers, and why it is refused, with tabs between
+/// them.
+pub(super) fn write_data<A: Allocator, W: Write>(page: &Page<A>, writer: &mut W) -> io::Result<()> {
+    writer.write_all(b"{\"endpoints\":[")?;
+    for place in 0..page.endpoints.min(MOST_ENDPOINTS) {
+        let comma = comma_before(place);
+        let endpoint = EndpointId::at(place).0;
+        write!(writer, "{comma}\"{endpoint:04X}\"")?;
+    }
+    let runner = page.rows.first().map_or(0, |row| row.runner.0);
+    writeln!(writer, "],\"runner\":\"{runner:04X}\",")?;
+    write_changes(page, writer)?;
+    write_lines(&page.entries, writer)
+}
+
+// What stands before an element of a list: a comma, where it isn't the first.
+fn comma_before(place: usize) -> &'static str {
+    if place == 0 { "" } else { "," }
+}
+
+fn write_changes<A: Allocator, W: Write>(page: &Page<A>, writer: &mut W) -> io::Result<()> {
+    writer.write_all(b"\"changes\":[")?;
+    for (place, row) in page.rows.iter().enumerate() {
+        let comma = comma_before(place);
+        let number = row.number;
+        write!(writer, "{comma}\n[{number}")?;
+        let before = match place.checked_sub(1) {
+            Some(last) => page.rows.get(last),
+            None => None,
+        };
+        write_change(page, before, row, writer)?;
+        writer.write_all(b"]")?;
+    }
+    writer.write_all(b"],\n")
+}
+
+// Writes the runs of a row that aren't among those of the row before it.
+fn write_change<A: Allocator, W: Write>(
+    page: &Page<A>,
+    before: Option<&Row<A>>,
+    row: &Row<A>,
+    writer: &mut W,
+) -> io::Result<()> {
+    for run in &row.runs {
+        let stands = match before {
+            Some(before) => before.runs.iter().any(|its| its == run),
+            None => false,
+        };
+        if !stands {
+            write_run(page, run, writer)?;
+        }
+    }
+    Ok(())
+}
+
+// Writes a run, behind a comma.
+fn write_run<A: Allocator, W: Write>(
+    page: &Page<A>,
+    run: &CertRun,
+    writer: &mut W,
+) -> io::Result<()> {
+    let first = address_of(page.base, run.first);
+    let last = address_of(page.base, run.last).saturating_add(4095);
+    let owner = run.owner.0;
+    write!(writer, ",\"{first:08X} {last:08X} {owner:04X} ")?;
+    match run.handle {
+        Some(handle) => write!(writer, "{handle:016X}")?,
+        None => writer.write_all(b"-")?,
+    }
+    for right in run.access.iter().take(page.endpoints) {
+        let mut text = Text::new();
+        push_right(&mut text, *right);
+        writer.write_all(text.as_slice())?;
+    }
+    writer.write_all(b"\"")
+}
+
+// The address of a page's first byte, in RAM that begins at a base.
+fn address_of(base: Address, page: PageNo) -> u64 {
+    u64::from(base.0) + 4096 * u64::from(page.0)
+}
+
+fn write_lines<A: Allocator, W: Write>(entries: &[Entry<A>], writer: &mut W) -> io::Result<()> {
+    writer.write_all(b"\"lines\":[")?;
+    for (place, entry) in entries.iter().enumerate() {
+        let comma = comma_before(place);
+        let runner = entry.runner.0;
+        write!(writer, "{comma}\n\"{runner:04X}\\t")?;
+        write_words(&entry.line, writer)?;
+        if !entry.text.is_empty() {
+            writer.write_all(b"\\t")?;
+            write_answer(entry, writer)?;
+        }
+        if !entry.reason.is_empty() {
+            writer.write_all(b"\\t")?;
+            write_reason(&entry.reason, writer)?;
+        }
+        writer.write_all(b"\"")?;
+    }
+    writer.write_all(b"]}\n")
+}
