@@ -12,7 +12,7 @@ use ffa_model::Manifest;
 use machine_stage::MachineStage;
 use play_scenes::Generator;
 use play_transcript::write_turns;
-pub use play_transcript::{AccessKind, Counts, GenerateError};
+pub use play_transcript::{AccessKind, Counts, Everyone, GenerateError, why_unreached};
 use std::alloc::Allocator;
 use std::io::Write;
 

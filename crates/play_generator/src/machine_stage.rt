@@ -2,7 +2,8 @@
 //! The machine that plays what is generated.
 ghost use Rattle.std.specs.Prelude.{◌<◌, length, IfSome};
 
-use ffa_model::{EndpointId, Manifest, Op, Outcome, PageNo, Rights};
+use ffa_model::function::FFA_ERROR;
+use ffa_model::{EndpointId, Manifest, Op, Outcome, PageNo, Rights, Why};
 use ffa_physmem::{FlatRam, NoMemory, PhysMem};
 use ffa_spmc::{Given, Machine, Storage};
 use ffa_tlb::NoTlb;
@@ -27,6 +28,21 @@ fn operate<A: Allocator + Copy>(
     op: &Op,
 ) -> Outcome {
     machine.op(op)
+}
+
+// Why an operation is refused; asked behind it, since a refusal leaves the machine as it was.
+fn reason<A: Allocator + Copy>(
+    machine: &Machine<FlatRam<A>, NoTlb, Given<A>>,
+    op: &Op,
+) -> Option<Why> {
+    machine.why(op)
+}
+
+fn is_error(outcome: &Outcome) -> bool {
+    match outcome {
+        Outcome::Regs { x, .. } => x[0] == u64::from(FFA_ERROR),
+        Outcome::Data(_) | Outcome::Done | Outcome::Fault(_) => false,
+    }
 }
 
 // The page at an address.
@@ -61,7 +77,7 @@ impl<A: Allocator + Copy> MachineStage<A> {
             entries: Vec::new(alloc),
             room: 0,
             is_whole: true,
-            counts: Counts::new(),
+            counts: Counts::on(manifest),
         })
     }
 
@@ -72,6 +88,16 @@ impl<A: Allocator + Copy> MachineStage<A> {
         }
         self.is_whole = self.entries.push(entry).is_ok();
         self.is_whole
+    }
+
+    // Counts what came of an operation, and the check at which it was refused.
+    fn count(&mut self, op: &Op, outcome: &Outcome) {
+        self.counts.note(op, outcome);
+        if is_error(outcome)
+            && let Some(Why::Refused { refusal, .. }) = reason(&self.machine, op)
+        {
+            self.counts.note_check(op, refusal);
+        }
     }
 
     /// How often what came.
@@ -106,7 +132,7 @@ impl<A: Allocator + Copy> Stage for MachineStage<A> {
             return None;
         }
         let outcome = operate(&mut self.machine, &op);
-        self.counts.note(&op, &outcome);
+        self.count(&op, &outcome);
         Some(outcome)
     }
 

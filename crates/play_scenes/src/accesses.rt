@@ -6,6 +6,7 @@ use crate::layout::PAGE;
 use crate::offers::Wish;
 use crate::stage::Stage;
 use ffa_model::{Op, Size};
+use play_transcript::{Change, Deed};
 
 /// The first address that has more than 32 bits.
 const TOO_HIGH: u64 = 1 << 32;
@@ -13,6 +14,7 @@ const TOO_HIGH: u64 = 1 << 32;
 impl<'m, S: Stage + Drop> Generator<'m, S> {
     /// One to three accesses.
     pub fn play_accesses(&mut self) {
+        self.announce(Deed::Access, None, Change::Nothing);
         let count = 1 + self.dice.below(3);
         for _ in 0..count {
             self.play_access();
@@ -23,9 +25,23 @@ impl<'m, S: Stage + Drop> Generator<'m, S> {
         let page = self.edge_page();
         let size = self.dice.size();
         let addr = page.wrapping_add(self.dice.offset(size));
-        let op = self.dice.access(addr, size);
         if !self.is_tx(addr) || self.dice.one_in(4) {
-            self.stage.play(&op);
+            self.access(addr, size);
+        }
+    }
+
+    // A load, a fetch, or a store and a load of what was stored.
+    fn access(&mut self, addr: u64, size: Size) {
+        match self.dice.below(3) {
+            0 => self.load(addr, size),
+            1 => {
+                self.stage.play(&Op::Fetch { addr });
+            }
+            _ => {
+                let value = self.dice.word();
+                self.store(addr, size, value);
+                self.load(addr, size);
+            }
         }
     }
 
@@ -80,18 +96,5 @@ impl Dice {
         let word = self.word();
         let aligned = word % PAGE / 8 * 8;
         self.pick(&[0, PAGE - count, PAGE - 4, aligned, aligned, word % PAGE])
-    }
-
-    // A load, a fetch or a store at an address.
-    fn access(&mut self, addr: u64, size: Size) -> Op {
-        match self.below(3) {
-            0 => Op::Load { addr, size },
-            1 => Op::Fetch { addr },
-            _ => Op::Store {
-                addr,
-                size,
-                value: self.word(),
-            },
-        }
     }
 }

@@ -9,15 +9,16 @@ use crate::generator::{Generator, registers};
 use crate::learning::MappedBuffers;
 use crate::stage::Stage;
 use byteorder::{ByteOrder, LittleEndian};
+use ffa_model::Size;
 use ffa_model::function::WIDE;
-use ffa_model::{Op, Size};
+use play_transcript::Change;
 
 /// How many words a page has.
 const WORDS: usize = 512;
 
 /// What is wrong with the registers that tell of a descriptor in TX.
-#[derive(Clone, Copy)]
-enum TransferFlaw {
+#[derive(Clone, Copy, PartialEq, Eq)]
+pub enum TransferFlaw {
     /// The length is another.
     Length,
     /// The fragment has another length than the whole.
@@ -30,13 +31,18 @@ enum TransferFlaw {
     Pages,
 }
 
-const TRANSFER_FLAWS: [TransferFlaw; 5] = [
-    TransferFlaw::Length,
-    TransferFlaw::Fragment,
-    TransferFlaw::TooLong,
-    TransferFlaw::Address,
-    TransferFlaw::Pages,
-];
+impl TransferFlaw {
+    /// How it is told.
+    pub fn change(self) -> Change {
+        match self {
+            TransferFlaw::Length => Change::Length,
+            TransferFlaw::Fragment => Change::Fragment,
+            TransferFlaw::TooLong => Change::TooLong,
+            TransferFlaw::Address => Change::BufferAddress,
+            TransferFlaw::Pages => Change::BufferPages,
+        }
+    }
+}
 
 impl<'m, S: Stage + Drop> Generator<'m, S> {
     /// Stores the first bytes of a page into TX, but for the words that stand there.
@@ -53,21 +59,25 @@ impl<'m, S: Stage + Drop> Generator<'m, S> {
     fn write_word(&mut self, tx: u64, index: usize, value: u64)
         requires { index < WORDS }
     {
-        let (addr, size) = (tx.wrapping_add(8 * index as u64), Size::B8);
-        if self.stage.word_at(addr) != Some(value) {
-            self.stage.play(&Op::Store { addr, size, value });
+        let address = tx.wrapping_add(8 * index as u64);
+        if self.stage.word_at(address) != Some(value) {
+            self.store(address, Size::B8, value);
         }
     }
 
     /// Makes a call whose descriptor of so many bytes stands in TX, with the right registers or with one turned. It answers
     /// what the next runner sees where the call is done.
-    pub fn transfer(&mut self, function: u32, length: u32, turned: bool) -> Option<[u64; 8]> {
+    pub fn transfer(
+        &mut self,
+        function: u32,
+        length: u32,
+        flaw: Option<TransferFlaw>,
+    ) -> Option<[u64; 8]> {
         let function = self.dice.either(function);
         let length = u64::from(length);
-        let arguments = if turned {
-            self.dice.turned_transfer(length)
-        } else {
-            [length, length, 0, 0]
+        let arguments = match flaw {
+            Some(flaw) => self.dice.turned_transfer(length, flaw),
+            None => [length, length, 0, 0],
         };
         self.play_call(registers(function, &arguments))
     }
@@ -84,8 +94,8 @@ impl Dice {
     }
 
     // The arguments of a call whose descriptor of so many bytes stands in TX, with one turned.
-    fn turned_transfer(&mut self, length: u64) -> [u64; 4] {
-        match self.pick(&TRANSFER_FLAWS) {
+    fn turned_transfer(&mut self, length: u64, flaw: TransferFlaw) -> [u64; 4] {
+        match flaw {
             TransferFlaw::Length => {
                 let other = self.pick(&[0, 17, length.wrapping_sub(1), length.wrapping_sub(16)]);
                 [other, other, 0, 0]
@@ -99,7 +109,7 @@ impl Dice {
                 [
                     length,
                     length,
-                    self.pick(&[1, PAGE_SIZE as u64, 1 << 32]),
+                    self.pick(&[1, PAGE_SIZE as u64, u64::MAX, 1 << 32]),
                     0,
                 ]
             }

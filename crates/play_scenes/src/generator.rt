@@ -3,10 +3,12 @@
 use crate::dice::Dice;
 use crate::learning::{Known, MappedBuffers};
 use crate::offers::Offers;
+use crate::rounds::Rounds;
 use crate::stage::Stage;
 use ffa_abi::decode;
 use ffa_model::function::FFA_ERROR;
 use ffa_model::{EndpointId, MOST_ENDPOINTS, Manifest, Op, Outcome};
+use play_transcript::{Attempt, Change, Deed, TraceEntry};
 
 /// Makes the lines of a trace. It plays each operation at once, and so knows what came of it.
 #[derive(Drop)]
@@ -21,6 +23,10 @@ pub struct Generator<'m, S: Stage + Drop> {
     pub hoarder: Option<EndpointId>,
     /// How many turns were played.
     pub turns: u64,
+    /// How often each list was asked for its next.
+    pub rounds: Rounds,
+    /// How many stores were not answered by a load.
+    pub unread: u64,
 }
 
 /// The registers of a call with some arguments; the others are 0.
@@ -43,6 +49,8 @@ impl<'m, S: Stage + Drop> Generator<'m, S> {
             offers: Offers::new(),
             hoarder: None,
             turns: 0,
+            rounds: Rounds::new(),
+            unread: 0,
         }
     }
 
@@ -50,6 +58,17 @@ impl<'m, S: Stage + Drop> Generator<'m, S> {
     pub fn into_stage(self) -> S {
         let Generator { stage, .. } = self;
         stage
+    }
+
+    /// Says in a comment what the runner does next, to whom, and what is wrong with it.
+    pub fn announce(&mut self, deed: Deed, other: Option<EndpointId>, change: Change) {
+        let actor = self.stage.runner();
+        self.stage.put(TraceEntry::Attempt(Attempt {
+            actor,
+            deed,
+            other,
+            change,
+        }));
     }
 
     /// Plays a call, and learns from what the next runner sees, which it answers where the call is done.

@@ -3,8 +3,11 @@
 use crate::generator::Generator;
 use crate::learning::MappedBuffers;
 use crate::offers::Wish;
+use crate::returns::ReturnFlaw;
+use crate::sends::SendFlaw;
 use crate::stage::Stage;
 use ffa_model::{EndpointId, Kind, MOST_ENDPOINTS, MOST_OPEN};
+use play_transcript::Change;
 
 /// A time of gathering begins once in so many turns.
 const PERIOD: u64 = 300;
@@ -49,7 +52,7 @@ impl<'m, S: Stage + Drop> Generator<'m, S> {
             let Some(offer) = self.any_offer(Wish::Held) else {
                 return;
             };
-            self.give_up(&offer, false);
+            self.give_up(&offer, ReturnFlaw::Nothing);
         }
     }
 
@@ -59,7 +62,7 @@ impl<'m, S: Stage + Drop> Generator<'m, S> {
             let Some(offer) = self.any_offer(Wish::OwnFree) else {
                 return;
             };
-            self.reclaim(offer.handle, 0);
+            self.reclaim(offer.handle, 0, Change::Nothing);
         }
     }
 
@@ -68,7 +71,7 @@ impl<'m, S: Stage + Drop> Generator<'m, S> {
         if let Some(buffers) = self.need_buffers() {
             for _ in 0..GIVEN {
                 if self.count_free(self.runner()) > FEWEST_FREE {
-                    self.send_free_page(buffers, Kind::Donate, hoarder);
+                    self.send_free_page(buffers, Kind::Donate, hoarder, SendFlaw::Nothing);
                 }
             }
         }
@@ -107,18 +110,24 @@ impl<'m, S: Stage + Drop> Generator<'m, S> {
 
     fn send_all_to(&mut self, buffers: MappedBuffers, to: EndpointId) {
         for _ in 0..MOST_OPEN {
-            self.send_free_page(buffers, Kind::Share, to);
+            self.send_free_page(buffers, Kind::Share, to, SendFlaw::Nothing);
         }
         for kind in [Kind::Share, Kind::Lend, Kind::Donate] {
-            self.send_free_page(buffers, kind, to);
+            self.send_free_page(buffers, kind, to, SendFlaw::Full);
         }
         self.reclaim_all();
     }
 
     // The runner sends a page that is free, where it has one.
-    fn send_free_page(&mut self, buffers: MappedBuffers, kind: Kind, to: EndpointId) {
+    fn send_free_page(
+        &mut self,
+        buffers: MappedBuffers,
+        kind: Kind,
+        to: EndpointId,
+        flaw: SendFlaw,
+    ) {
         if let Some(page) = self.free_page(self.runner()) {
-            self.send_page(buffers, kind, to, page);
+            self.send_page(buffers, kind, to, page, flaw);
         }
     }
 }

@@ -5,13 +5,14 @@ use crate::stage::Stage;
 use ffa_model::function::FFA_RUN;
 use ffa_model::{Call, EndpointId, Work};
 
-/// An endpoint's buffers: the addresses of TX and RX, how many pages each has, and whether RX is full.
+/// An endpoint's buffers: the addresses of TX and RX, how many pages each has, and how many bytes stand in RX, which is full
+/// where there are some.
 #[derive(Clone, Copy)]
 pub struct MappedBuffers {
     pub tx: u64,
     pub rx: u64,
     pub pages: u32,
-    pub full: bool,
+    pub filled: u32,
 }
 
 impl MappedBuffers {
@@ -30,41 +31,52 @@ pub struct Known {
     pub work: Option<Work>,
     /// The bits of its own that it bound to another endpoint: the last ones, as a word, and to whom.
     pub bound: Option<(u64, EndpointId)>,
+    /// One of its bits is pending.
+    pub pending: bool,
 }
 
 impl Known {
-    /// RX is full, or empty.
-    pub fn set_full(&mut self, full: bool) {
+    /// So many bytes stand in RX; it is empty where there are none.
+    pub fn fill_rx(&mut self, bytes: u32) {
         if let Some(buffers) = &mut self.buffers {
-            buffers.full = full;
+            buffers.filled = bytes;
         }
     }
 
-    // Learns from a call of its own that was done.
-    fn learn(&mut self, call: Call) {
+    // Learns from a call of its own that was done, and from what it was answered.
+    fn learn(&mut self, call: Call, answer: &[u64; 8]) {
         match call {
             Call::RxtxMap { tx, rx, pages } => {
-                let full = false;
+                let filled = 0;
                 self.buffers = Some(MappedBuffers {
                     tx,
                     rx,
                     pages,
-                    full,
+                    filled,
                 });
             }
             Call::RxtxUnmap { .. } => self.buffers = None,
-            Call::RxRelease => self.set_full(false),
-            Call::PartitionInfoGet { flags, .. } if flags % 2 == 0 => self.set_full(true),
+            Call::RxRelease => self.fill_rx(0),
+            Call::PartitionInfoGet { flags, .. } if flags % 2 == 0 => {
+                self.fill_rx(bytes_of_information(answer));
+            }
             Call::NotificationBind(bits) => self.bound = Some((bits.bitmap, bits.sender)),
             Call::NotificationUnbind(_) => self.bound = None,
+            Call::NotificationGet { .. } => self.pending = false,
             Call::MsgWait => {
                 self.work = None;
-                self.set_full(false);
+                self.fill_rx(0);
             }
             Call::DirectResponse(_) => self.work = None,
             _ => {}
         }
     }
+}
+
+// How many bytes of partition information there are: the count and the size of each.
+fn bytes_of_information(answer: &[u64; 8]) -> u32 {
+    let bytes = (answer[2] % 256) * (answer[3] % 256);
+    bytes.max(1) as u32
 }
 
 // The work that a call gives to the next runner, which sees this answer.
@@ -80,7 +92,10 @@ impl<'m, S: Stage + Drop> Generator<'m, S> {
     /// Learns from a call that was done, by what the next runner sees.
     pub fn learn(&mut self, caller: EndpointId, call: Call, answer: &[u64; 8]) {
         let runner = self.runner();
-        self.known_mut(caller).learn(call);
+        self.known_mut(caller).learn(call, answer);
+        if let Call::NotificationSet(bits) = call {
+            self.known_mut(bits.receiver).pending = true;
+        }
         if let Some(work) = work_of(caller, call, answer) {
             self.known_mut(runner).work = Some(work);
         }

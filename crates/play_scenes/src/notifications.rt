@@ -3,9 +3,11 @@
 use crate::dice::Dice;
 use crate::generator::Generator;
 use crate::messages::pair;
+use crate::rounds::Round;
 use crate::stage::Stage;
 use ffa_model::EndpointId;
 use ffa_model::function::*;
+use play_transcript::{Change, Deed};
 
 /// The flags of FFA_NOTIFICATION_GET that ask for all classes.
 const ALL_CLASSES: u64 = 15;
@@ -22,6 +24,10 @@ enum BitsFlaw {
     Oneself,
     Flags,
     NoBit,
+    /// Another endpoint has the bits.
+    Taken,
+    /// There are no bitmaps.
+    NoBitmaps,
 }
 
 const BITS_FLAWS: [BitsFlaw; 5] = [
@@ -32,6 +38,26 @@ const BITS_FLAWS: [BitsFlaw; 5] = [
     BitsFlaw::NoBit,
 ];
 
+/// What is turned where bitmaps are made.
+const CREATE_FLAWS: [Change; 5] = [
+    Change::Nothing,
+    Change::OfAnother,
+    Change::Nothing,
+    Change::Contexts,
+    Change::Nothing,
+];
+
+/// What is turned where pending bits are asked for.
+const GET_FLAWS: [Change; 7] = [
+    Change::Nothing,
+    Change::OfAnother,
+    Change::Nothing,
+    Change::Context,
+    Change::Nothing,
+    Change::Classes,
+    Change::Nothing,
+];
+
 impl BitsFlaw {
     // The other endpoint and the caller, as the call names them.
     fn ends(self, other: EndpointId, runner: EndpointId) -> (EndpointId, EndpointId) {
@@ -39,7 +65,21 @@ impl BitsFlaw {
             BitsFlaw::Swapped => (runner, other),
             BitsFlaw::Stranger => (EndpointId::MANAGER, runner),
             BitsFlaw::Oneself => (runner, runner),
-            BitsFlaw::Nothing | BitsFlaw::Flags | BitsFlaw::NoBit => (other, runner),
+            _ => (other, runner),
+        }
+    }
+
+    // How it is told.
+    fn change(self) -> Change {
+        match self {
+            BitsFlaw::Nothing => Change::Nothing,
+            BitsFlaw::Swapped => Change::Swapped,
+            BitsFlaw::Stranger => Change::Stranger,
+            BitsFlaw::Oneself => Change::Oneself,
+            BitsFlaw::Flags => Change::Flags,
+            BitsFlaw::NoBit => Change::NoBit,
+            BitsFlaw::Taken => Change::Taken,
+            BitsFlaw::NoBitmaps => Change::NoBitmaps,
         }
     }
 
@@ -66,14 +106,14 @@ impl<'m, S: Stage + Drop> Generator<'m, S> {
         match self.dice.notification(is_normal_world) {
             0 | 1 => self.play_bitmaps(),
             2 | 3 => self.play_bind(),
-            4 => self.play_unbind(),
-            5 | 6 => self.play_set(),
+            4 | 5 => self.play_unbind(),
+            6 | 7 => self.play_set(),
             _ => self.play_get(),
         }
     }
 
     fn play_bitmaps(&mut self) {
-        if self.dice.one_in(2) {
+        if !self.dice.one_in(3) {
             self.play_create();
         } else {
             self.play_destroy();
@@ -81,42 +121,113 @@ impl<'m, S: Stage + Drop> Generator<'m, S> {
     }
 
     fn play_create(&mut self) {
-        let endpoint = self.dice.pick(&[0, 0, 0, 0x8001]);
-        let contexts = self.dice.pick(&[1, 1, 1, 0, 2]);
+        let change = self.rounds.next_of(Round::Creates, &CREATE_FLAWS);
+        let endpoint = match change {
+            Change::OfAnother => 0x8001,
+            _ => 0,
+        };
+        let contexts = match change {
+            Change::Contexts => self.dice.pick(&[0, 2]),
+            _ => 1,
+        };
+        self.announce(Deed::CreateBitmaps, None, change);
         self.call(FFA_NOTIFICATION_BITMAP_CREATE, &[endpoint, contexts]);
     }
 
-    // The normal world gets what is pending first, so that its bitmaps can go.
+    // What is pending is got between two tries, so that the bitmaps can go.
     fn play_destroy(&mut self) {
-        if self.runner() == EndpointId::NORMAL_WORLD && !self.dice.one_in(3) {
+        if self.known_of(self.runner()).pending {
+            self.destroy(0, Change::Pending);
             self.get_all();
         }
-        let endpoint = self.dice.pick(&[0, 0, 0, 0x8001]);
-        self.call(FFA_NOTIFICATION_BITMAP_DESTROY, &[endpoint]);
+        if self.dice.one_in(3) {
+            self.destroy(0x8001, Change::OfAnother);
+        }
+        if self.destroy(0, Change::Nothing) {
+            self.play_without_bitmaps();
+        }
+    }
+
+    fn destroy(&mut self, endpoint: u64, change: Change) -> bool {
+        self.announce(Deed::DestroyBitmaps, None, change);
+        self.call(FFA_NOTIFICATION_BITMAP_DESTROY, &[endpoint])
+    }
+
+    // What needs bitmaps, where there are none.
+    fn play_without_bitmaps(&mut self) {
+        let other = self.another();
+        self.destroy(0, Change::NoBitmaps);
+        self.bind(FFA_NOTIFICATION_BIND, other, 1, BitsFlaw::NoBitmaps);
+        self.bind(FFA_NOTIFICATION_UNBIND, other, 1, BitsFlaw::NoBitmaps);
+        self.get(ALL_CLASSES, Change::NoBitmaps);
     }
 
     fn get_all(&mut self) {
-        let word = u64::from(self.runner().0);
-        self.call(FFA_NOTIFICATION_GET, &[word, ALL_CLASSES]);
+        self.get(ALL_CLASSES, Change::Nothing);
     }
 
-    // FFA_NOTIFICATION_BIND or UNBIND of these bits and this sender.
-    fn bind(&mut self, function: u32, sender: EndpointId, bits: u64) {
-        let flaw = self.dice.bits_flaw();
+    fn get(&mut self, classes: u64, change: Change) {
+        let runner = u64::from(self.runner().0);
+        let word = match change {
+            Change::OfAnother => u64::from(self.another().0),
+            Change::Context => runner | 1 << 16,
+            _ => runner,
+        };
+        self.announce(Deed::GetBits, None, change);
+        self.call(FFA_NOTIFICATION_GET, &[word, classes]);
+    }
+
+    // FFA_NOTIFICATION_BIND or UNBIND of these bits and this sender. It answers whether it is done.
+    fn bind(&mut self, function: u32, sender: EndpointId, bits: u64, flaw: BitsFlaw) -> bool {
         let (sender, receiver) = flaw.ends(sender, self.runner());
-        self.call_on_bits(function, pair(sender, receiver), flaw, bits);
+        let deed = match function {
+            FFA_NOTIFICATION_BIND => Deed::Bind,
+            _ => Deed::Unbind,
+        };
+        self.announce(deed, Some(sender), flaw.change());
+        self.call_on_bits(function, pair(sender, receiver), flaw, bits)
     }
 
-    fn call_on_bits(&mut self, function: u32, word: u64, flaw: BitsFlaw, bits: u64) {
+    fn call_on_bits(&mut self, function: u32, word: u64, flaw: BitsFlaw, bits: u64) -> bool {
         let bits = flaw.bits(bits);
         let (low, high) = (bits % (1 << 32), bits >> 32);
-        self.call(function, &[word, flaw.flags(), low, high]);
+        self.call(function, &[word, flaw.flags(), low, high])
     }
 
     fn play_bind(&mut self) {
+        match self.known_of(self.runner()).bound {
+            Some((bits, sender)) if self.dice.one_in(2) => self.bind_taken(bits, sender),
+            _ => self.bind_some(),
+        }
+    }
+
+    fn bind_some(&mut self) {
         let sender = self.another();
         let bits = self.dice.bits();
-        self.bind(FFA_NOTIFICATION_BIND, sender, bits);
+        let flaw = self.bits_flaw(Round::Binds);
+        if self.bind(FFA_NOTIFICATION_BIND, sender, bits, flaw) && self.dice.one_in(3) {
+            self.bind_taken(bits, sender);
+        }
+    }
+
+    // Binds bits that are bound to a sender, to another one if there is one.
+    fn bind_taken(&mut self, bits: u64, sender: EndpointId) {
+        let mut other = self.another();
+        for _ in 0..4 {
+            if other == sender {
+                other = self.another();
+            }
+        }
+        self.bind(FFA_NOTIFICATION_BIND, other, bits, BitsFlaw::Taken);
+    }
+
+    // Of the bits, half of the time nothing is wrong, and else one thing after another.
+    fn bits_flaw(&mut self, round: Round) -> BitsFlaw {
+        if self.dice.one_in(2) {
+            self.rounds.next_of(round, &BITS_FLAWS)
+        } else {
+            BitsFlaw::Nothing
+        }
     }
 
     // Mostly of the bits that were bound last, got before so that none is pending.
@@ -128,7 +239,8 @@ impl<'m, S: Stage + Drop> Generator<'m, S> {
             self.get_all();
         }
         let bits = if self.dice.one_in(4) { some } else { bits };
-        self.bind(FFA_NOTIFICATION_UNBIND, sender, bits);
+        let flaw = self.bits_flaw(Round::Unbinds);
+        self.bind(FFA_NOTIFICATION_UNBIND, sender, bits, flaw);
     }
 
     // Mostly of bits that somebody bound to the runner.
@@ -140,35 +252,31 @@ impl<'m, S: Stage + Drop> Generator<'m, S> {
             Some((bits, sender)) if sender == runner => bits,
             _ => some,
         };
-        let flaw = self.dice.bits_flaw();
+        let flaw = self.bits_flaw(Round::Sets);
         let (receiver, sender) = flaw.ends(receiver, runner);
+        self.announce(Deed::SetBits, Some(receiver), flaw.change());
         self.call_on_bits(FFA_NOTIFICATION_SET, pair(sender, receiver), flaw, bits);
     }
 
     fn play_get(&mut self) {
-        let runner = u64::from(self.runner().0);
-        let other = u64::from(self.another().0);
-        let (word, classes) = self.dice.what_to_get(runner, other);
-        self.call(FFA_NOTIFICATION_GET, &[word, classes]);
+        let some = u64::from(self.dice.below(16));
+        let change = self.rounds.next_of(Round::Gets, &GET_FLAWS);
+        let classes = match change {
+            Change::Nothing => self.dice.pick(&[some, ALL_CLASSES]),
+            Change::Classes => ALL_CLASSES + 1,
+            _ => ALL_CLASSES,
+        };
+        self.get(classes, change);
     }
 }
 
 impl Dice {
-    // Which call on notifications, as a number below 8. Bitmaps are mostly the normal world's.
+    // Which call on notifications, as a number below 9. Bitmaps are mostly the normal world's.
     fn notification(&mut self, is_normal_world: bool) -> u32 {
         if is_normal_world && self.one_in(3) {
             0
         } else {
-            self.below(8)
-        }
-    }
-
-    // Of the bits, mostly none is wrong.
-    fn bits_flaw(&mut self) -> BitsFlaw {
-        if self.one_in(3) {
-            self.pick(&BITS_FLAWS)
-        } else {
-            BitsFlaw::Nothing
+            self.below(9)
         }
     }
 
@@ -176,17 +284,5 @@ impl Dice {
     fn bits(&mut self) -> u64 {
         let bit = self.bit();
         self.pick(&[1, 2, 3, 4, 1 << 32, bit])
-    }
-
-    // The first two arguments of FFA_NOTIFICATION_GET.
-    fn what_to_get(&mut self, runner: u64, other: u64) -> (u64, u64) {
-        let some = u64::from(self.below(16));
-        match self.below(8) {
-            0 => (other, ALL_CLASSES),
-            1 => (runner | 1 << 16, ALL_CLASSES),
-            2 => (runner, ALL_CLASSES + 1),
-            3 => (runner, some),
-            _ => (runner, ALL_CLASSES),
-        }
     }
 }

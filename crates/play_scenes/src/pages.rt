@@ -18,10 +18,18 @@ impl<'m, S: Stage + Drop> Generator<'m, S> {
             && !self.offers.have_page(address)
     }
 
-    // Whether it may also be written.
-    fn is_free_to_write(&self, endpoint: EndpointId, address: u64) -> bool {
+    /// Whether it may also be written.
+    pub fn is_free_to_write(&self, endpoint: EndpointId, address: u64) -> bool {
         match self.stage.access(endpoint, address) {
             Some(rights) => rights.level == Data::Rw && self.is_free(endpoint, address),
+            None => false,
+        }
+    }
+
+    // Whether it may only be read.
+    fn is_free_to_read_only(&self, endpoint: EndpointId, address: u64) -> bool {
+        match self.stage.access(endpoint, address) {
+            Some(rights) => rights.level == Data::Ro && self.is_free(endpoint, address),
             None => false,
         }
     }
@@ -53,7 +61,7 @@ impl<'m, S: Stage + Drop> Generator<'m, S> {
     pub fn free_run(&mut self, endpoint: EndpointId, pages: u32) -> Option<u64> {
         let total = region_pages(self.manifest).max(1);
         let first = self.any_place();
-        for step in 0..MOST_LOOKS {
+        for step in 0..total.min(MOST_LOOKS) {
             let address = region_page(self.manifest, first.wrapping_add(step) % total);
             if self.is_free_run(endpoint, address, pages) {
                 return Some(address);
@@ -66,6 +74,20 @@ impl<'m, S: Stage + Drop> Generator<'m, S> {
     pub fn free_page(&mut self, endpoint: EndpointId) -> Option<Range> {
         let address = self.free_run(endpoint, 1)?;
         Some(Range { address, pages: 1 })
+    }
+
+    /// A page that the runner could send, and may only read.
+    pub fn read_only_page(&mut self) -> Option<Range> {
+        let runner = self.runner();
+        let total = region_pages(self.manifest).max(1);
+        let first = self.any_place();
+        for step in 0..total.min(MOST_LOOKS) {
+            let address = region_page(self.manifest, first.wrapping_add(step) % total);
+            if self.is_free_to_read_only(runner, address) {
+                return Some(Range { address, pages: 1 });
+            }
+        }
+        None
     }
 
     /// How many pages an endpoint could send.
@@ -92,13 +114,12 @@ impl<'m, S: Stage + Drop> Generator<'m, S> {
         region_of(self.manifest, endpoint, place)
     }
 
-    /// A page that an endpoint couldn't send: of another, of a buffer, in a transaction, of the tables or outside RAM.
+    /// A page of RAM that an endpoint couldn't send: of another, of a buffer, in a transaction or of the tables.
     pub fn unfit_page(&mut self, endpoint: EndpointId) -> u64 {
         let base = self.stage.ram_base();
-        match self.dice.below(5) {
+        match self.dice.below(4) {
             0 => base,
-            1 => self.stage.ram_end(),
-            2 => match self.known_of(endpoint).buffers {
+            1 => match self.known_of(endpoint).buffers {
                 Some(buffers) => buffers.rx,
                 None => base,
             },
@@ -114,6 +135,6 @@ impl<'m, S: Stage + Drop> Generator<'m, S> {
                 return address;
             }
         }
-        self.stage.ram_end()
+        self.stage.ram_base()
     }
 }

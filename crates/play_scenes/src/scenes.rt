@@ -2,7 +2,7 @@
 //! What an endpoint does in its turn.
 use crate::generator::Generator;
 use crate::stage::Stage;
-use play_transcript::{GenerateError, TraceEntry, Turns};
+use play_transcript::{Change, Deed, GenerateError, TraceEntry, Turns};
 
 /// A few operations that belong together.
 #[derive(Clone, Copy)]
@@ -19,6 +19,7 @@ enum Scene {
     Message,
     Send,
     TurnedSend,
+    ReadOnly,
     Retrieve,
     TurnedRetrieve,
     Relinquish,
@@ -29,7 +30,7 @@ enum Scene {
 }
 
 /// The scenes, each as often as it is played.
-const SCENES: [Scene; 46] = [
+const SCENES: [Scene; 49] = [
     Scene::Setup,
     Scene::Setup,
     Scene::Information,
@@ -47,6 +48,7 @@ const SCENES: [Scene; 46] = [
     Scene::Response,
     Scene::Message,
     Scene::Message,
+    Scene::Message,
     Scene::Send,
     Scene::Send,
     Scene::Send,
@@ -55,6 +57,8 @@ const SCENES: [Scene; 46] = [
     Scene::TurnedSend,
     Scene::TurnedSend,
     Scene::TurnedSend,
+    Scene::ReadOnly,
+    Scene::ReadOnly,
     Scene::Retrieve,
     Scene::Retrieve,
     Scene::Retrieve,
@@ -79,7 +83,7 @@ const SCENES: [Scene; 46] = [
 ];
 
 /// The most scenes of a turn.
-const MOST_SCENES: u32 = 3;
+const MOST_SCENES: u32 = 4;
 
 impl<'m, S: Stage + Drop> Generator<'m, S> {
     // The endpoint whose turn it is comes to run, and plays some scenes.
@@ -90,6 +94,9 @@ impl<'m, S: Stage + Drop> Generator<'m, S> {
         self.hand_over(actor);
         if let Some(hoarder) = self.hoarder {
             self.play_hoard(hoarder);
+        }
+        if self.dice.one_in(2) {
+            self.read_rx();
         }
         let scenes = 1 + self.dice.below(MOST_SCENES);
         for _ in 0..scenes {
@@ -113,6 +120,7 @@ impl<'m, S: Stage + Drop> Generator<'m, S> {
             Scene::Message => self.play_message(),
             Scene::Send => self.play_send(),
             Scene::TurnedSend => self.play_turned_send(),
+            Scene::ReadOnly => self.play_read_only(),
             Scene::Retrieve => self.play_retrieve(),
             Scene::TurnedRetrieve => self.play_turned_retrieve(),
             Scene::Relinquish => self.play_relinquish(),
@@ -125,6 +133,7 @@ impl<'m, S: Stage + Drop> Generator<'m, S> {
 
     // Mostly the table of accesses, which is read quicker than the certificate.
     fn play_show(&mut self) {
+        self.announce(Deed::Show, None, Change::Nothing);
         let is_audit = self.dice.one_in(8);
         self.stage.put(if is_audit {
             TraceEntry::Audit

@@ -6,6 +6,7 @@ use crate::layout::uuid_of;
 use crate::stage::Stage;
 use byteorder::{ByteOrder, LittleEndian};
 use ffa_model::function::*;
+use play_transcript::{Change, Deed};
 
 /// Identifiers that FFA_FEATURES is asked about.
 const ASKED: [u32; 10] = [
@@ -39,26 +40,49 @@ impl<'m, S: Stage + Drop> Generator<'m, S> {
     /// A setup call.
     pub fn play_setup(&mut self) {
         let (function, argument) = self.dice.setup();
+        self.announce(Deed::Setup, None, Change::Nothing);
         self.call(function, &[argument]);
     }
 
     /// FFA_PARTITION_INFO_GET.
     pub fn play_information(&mut self) {
-        if !self.dice.one_in(4) {
-            self.need_buffers();
+        match self.dice.below(6) {
+            0 => {
+                self.unmap_any();
+                self.ask_information([0; 4], 0, Change::NoBuffers);
+            }
+            1 => {
+                self.need_buffers();
+                self.ask_information([0; 4], 0, Change::Nothing);
+                self.ask_information([0; 4], 0, Change::RxFull);
+            }
+            _ => {
+                self.need_buffers();
+                self.ask_about_somebody();
+                self.release_mostly();
+            }
         }
+    }
+
+    fn ask_about_somebody(&mut self) {
         let endpoint = self.any_endpoint();
         let uuid = uuid_of(self.manifest, endpoint);
-        let [w1, w2, w3, w4] = self.dice.words_of_uuid(&uuid);
+        let (words, change) = self.dice.words_of_uuid(&uuid);
         let flags = self.dice.pick(&[0, 0, 1, 2, 3]);
+        self.ask_information(words, flags, change);
+    }
+
+    fn ask_information(&mut self, uuid: [u64; 4], flags: u64, change: Change) {
+        let [w1, w2, w3, w4] = uuid;
+        self.announce(Deed::Information, None, change);
         self.call(FFA_PARTITION_INFO_GET, &[w1, w2, w3, w4, flags]);
-        self.release_mostly();
     }
 
     /// An identifier of no call.
     pub fn play_no_call(&mut self) {
         let function = self.dice.no_call();
         let runner = u64::from(self.runner().0);
+        self.announce(Deed::NoCall, None, Change::Nothing);
         self.play_call([function, runner, 0, 0, 0, 0, 0, 0]);
     }
 }
@@ -83,14 +107,14 @@ impl Dice {
     }
 
     // The words of a UUID: Nil, this one, or of nobody.
-    fn words_of_uuid(&mut self, uuid: &[u8; 16]) -> [u64; 4] {
+    fn words_of_uuid(&mut self, uuid: &[u8; 16]) -> ([u64; 4], Change) {
+        let (w1, w2, w3) = (word_of(uuid, 0), word_of(uuid, 4), word_of(uuid, 8));
         let last = word_of(uuid, 12);
-        let last = match self.below(3) {
-            0 => return [0; 4],
-            1 => self.spoil(last),
-            _ => last,
-        };
-        [word_of(uuid, 0), word_of(uuid, 4), word_of(uuid, 8), last]
+        match self.below(3) {
+            0 => ([0; 4], Change::Nothing),
+            1 => ([w1, w2, w3, self.spoil(last)], Change::NobodysUuid),
+            _ => ([w1, w2, w3, last], Change::Nothing),
+        }
     }
 
     // What is mostly the identifier of no call, or any word.

@@ -4,6 +4,7 @@ use crate::generator::Generator;
 use crate::layout::has_properties;
 use crate::stage::Stage;
 use ffa_model::{EndpointId, Properties, Work};
+use play_transcript::{Change, Deed};
 
 /// The most calls until an endpoint runs: each blocked one is answered once, and the normal world gives cycles then.
 const MOST_CALLS: usize = 12;
@@ -11,6 +12,9 @@ const MOST_CALLS: usize = 12;
 impl<'m, S: Stage + Drop> Generator<'m, S> {
     /// Makes calls until this endpoint runs.
     pub fn hand_over(&mut self, wanted: EndpointId) {
+        if self.runner() != wanted {
+            self.announce(Deed::HandOver, Some(wanted), Change::Nothing);
+        }
         for _ in 0..MOST_CALLS {
             if self.runner() != wanted {
                 self.hand_on(wanted);

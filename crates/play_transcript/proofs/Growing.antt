@@ -11,6 +11,9 @@ use Rattle.ffa_model.specs.declared.operation.Op.{Op}
 use Rattle.play_syntax.specs.TraceLines.{Line, operate, show, audit, skip, feed, has_no_feed, is_line, joined, line_of, command_of, words_of, show_of, audit_of}
 use Rattle.play_syntax.specs.TraceText.{ended}
 use Rattle.play_writer.specs.Script.{GrowsBy}
+use Rattle.play_transcript.proofs.Comments.{attempt_read, attempt_single}
+use Rattle.play_transcript.specs.Attempts.{attempt_text}
+use Rattle.play_transcript.specs.declared.attempts.Attempt.{Attempt}
 use Rattle.play_transcript.specs.declared.entries.TraceEntry.{TraceEntry}
 use Rattle.play_transcript.specs.Traces.{Wrote}
 use Rattle.play_transcript.specs.Turned.{GrowsByLines, meant}
@@ -78,6 +81,11 @@ grown_show r old new h = grown_line r old new (codes "show") show refl show_read
 
 pub grown_audit : {E : Type 0} (r : Result (Unit {0}) E) (old new : List ℕ) → new ≡ (if is_ok r then old ++ codes "audit\n" else old) → OnOk r (GrowsByLines (audit ∷ []) old new)
 grown_audit r old new h = grown_line r old new (codes "audit") audit refl audit_read h
+
+pub grown_attempt : {E : Type 0} (r : Result (Unit {0}) E) (old new : List ℕ) (attempt : Attempt)
+    → OnOk r (new ≡ old ++ ended (attempt_text attempt)) → OnOk r (GrowsByLines (skip ∷ []) old new)
+grown_attempt (Ok x) old new attempt h = grows_line old new (attempt_text attempt) skip (attempt_single attempt) (attempt_read attempt) h
+grown_attempt (Err e) old new attempt h = tt
 
 pub grown_nothing : (old new : List ℕ) → new ≡ old ++ codes "# nothing\n" → GrowsByLines (skip ∷ []) old new
 grown_nothing old new h = grows_line old new (codes "# nothing") skip refl nothing_read h

@@ -1,9 +1,10 @@
 -- SPDX-License-Identifier: MIT OR Apache-2.0
 -- Where what came of an operation is counted: a row for each call, one for all that is no call, and one for each kind of
--- access; in a row a column for what was done, and one for each error or fault.
-use Rattle.std.specs.Prelude.{◌≡◌, ℕ, suc, ◌+◌, ◌-◌, ◌*◌, ◌^◌, ◌==◌, List, [], ◌∷◌, length, map, min, position, slice_index, slice_set, if◌then◌else◌}
+-- access; in a row a column for what was done, and one for each error or fault. And where the check is counted at which a call
+-- was refused: each row has a place for each check of its call.
+use Rattle.std.specs.Prelude.{◌≡◌, ℕ, suc, ◌+◌, ◌-◌, ◌*◌, ◌^◌, ◌==◌, List, [], ◌∷◌, length, map, min, position, slice_index, slice_set, Option, Some, None, if◌then◌else◌}
 use Rattle.std.specs.List.{position_or_len}
-use Rattle.std.specs.Option.{option_map_or}
+use Rattle.std.specs.Option.{option_map, option_map_or}
 use Rattle.ffa_model.specs.declared.function.TheConstants.{FFA_ERROR}
 use Rattle.ffa_model.specs.declared.operation.ErrorCode.{ErrorCode}
 use Rattle.ffa_model.specs.declared.operation.ErrorCode.TheVariants.{NotSupported, InvalidParameters, NoMemory, Busy, Denied}
@@ -14,7 +15,9 @@ use Rattle.ffa_model.specs.declared.operation.Op.TheVariants.{Call, Load, Store,
 use Rattle.ffa_model.specs.declared.operation.Outcome.{Outcome}
 use Rattle.ffa_model.specs.declared.operation.Outcome.TheVariants.{Regs, Data, Done, Fault}
 use Rattle.ffa_model.specs.Calls.{code_number}
-use Rattle.ffa_model.specs.Registers.{low, functions, is_form_of}
+use Rattle.ffa_model.specs.declared.refusal.Refusal.{Refusal}
+use Rattle.ffa_model.specs.Registers.{decode, low, functions, is_form_of}
+use Rattle.play_reasons.specs.Checks.{number_of}
 use Rattle.play_transcript.specs.declared.counts.AccessKind.{AccessKind}
 use Rattle.play_transcript.specs.declared.counts.AccessKind.TheVariants.{Load as LoadAccess, Store as StoreAccess, Fetch as FetchAccess}
 
@@ -81,3 +84,21 @@ cell row column = 6 * row + column
 -- one count grew by one, but for one that was the highest, and all others stayed
 abbrev pub CountsOne : ℕ → List ℕ → List ℕ → Type 0
 CountsOne at old new = new ≡ slice_set old at (min (slice_index old at + 1) (2 ^ 64 - 1))
+
+-- CHECKS
+
+-- where the count of a row's check stands, which is counted from 1
+abbrev pub check_cell : ℕ → ℕ → ℕ
+check_cell row number = 14 * row + number - 1
+
+-- where the count of an operation's check stands, if that is one of the call's
+abbrev pub check_cell_of : Op → Refusal → Option ℕ
+check_cell_of (Call x) refusal = option_map (check_cell (row_of (low (slice_index x 0)))) (number_of (decode x) refusal)
+check_cell_of (Load addr size) refusal = None
+check_cell_of (Store addr size value) refusal = None
+check_cell_of (Fetch addr) refusal = None
+
+-- one count grew by one, or none where there is none
+abbrev pub CountsCheck : Option ℕ → List ℕ → List ℕ → Type 0
+CountsCheck (Some at) old new = CountsOne at old new
+CountsCheck None old new = new ≡ old

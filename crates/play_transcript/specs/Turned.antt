@@ -4,12 +4,13 @@
 use Rattle.std.specs.Prelude.{◌≡◌, ℕ, true, List, [], ◌∷◌, ◌++◌, map, Some}
 use Rattle.play_syntax.specs.TraceLines.{Line, operate, show, audit, skip, line_of, are_lines, joined}
 use Rattle.play_transcript.specs.declared.entries.TraceEntry.{TraceEntry}
-use Rattle.play_transcript.specs.declared.entries.TraceEntry.TheVariants.{Operation, Show, Audit}
+use Rattle.play_transcript.specs.declared.entries.TraceEntry.TheVariants.{Operation, Attempt, Show, Audit}
 use Rattle.play_transcript.specs.Traces.{fitted}
 
 -- the line of a trace that an entry is
 abbrev pub meant : TraceEntry → Line
 meant (Operation op) = operate (fitted op)
+meant (Attempt attempt) = skip
 meant Show = show
 meant Audit = audit
 

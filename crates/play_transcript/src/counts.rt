@@ -1,61 +1,16 @@
 // SPDX-License-Identifier: MIT OR Apache-2.0
 //! How often what came.
-ghost use Rattle.std.specs.Prelude.{◌≡◌, ◌<◌, ◌==◌, suc, position, replicate, slice_index};
+ghost use Rattle.std.specs.Prelude.{◌≡◌, ◌<◌, ◌≤◌, ◌==◌, ◌∷◌, suc, position, replicate, slice_index, IfSome};
 ghost use Rattle.std.specs.Option.{option_map_or};
-ghost use Rattle.play_transcript.specs.Counting.{row_of, row_of_access, row_of_operation, column_of_error, column_of_fault, error_numbers, column_of_registers, column_of, cell, CountsOne};
+ghost use Rattle.ffa_model.specs.Registers.{decode};
+ghost use Rattle.play_reasons.specs.Checks.{number_of};
+ghost use Rattle.play_transcript.specs.Counting.{row_of, row_of_access, row_of_operation, column_of_error, column_of_fault, error_numbers, column_of_registers, column_of, cell, check_cell, check_cell_of, CountsOne, CountsCheck};
 
-use ffa_abi::call_name;
+use crate::unreached::Everyone;
+use ffa_abi::decode;
 use ffa_model::function::*;
-use ffa_model::{ErrorCode, FaultKind, Op, Outcome};
-use std::fmt;
-
-/// The calls, each by its identifier in the 32-bit form, in the order of their rows.
-const CALLS: [u32; 26] = [
-    FFA_VERSION,
-    FFA_FEATURES,
-    FFA_RX_RELEASE,
-    FFA_RXTX_MAP,
-    FFA_RXTX_UNMAP,
-    FFA_PARTITION_INFO_GET,
-    FFA_ID_GET,
-    FFA_MSG_WAIT,
-    FFA_YIELD,
-    FFA_RUN,
-    FFA_MSG_SEND_DIRECT_REQ,
-    FFA_MSG_SEND_DIRECT_RESP,
-    FFA_MEM_DONATE,
-    FFA_MEM_LEND,
-    FFA_MEM_SHARE,
-    FFA_MEM_RETRIEVE_REQ,
-    FFA_MEM_RELINQUISH,
-    FFA_MEM_RECLAIM,
-    FFA_NOTIFICATION_BITMAP_CREATE,
-    FFA_NOTIFICATION_BITMAP_DESTROY,
-    FFA_NOTIFICATION_BIND,
-    FFA_NOTIFICATION_UNBIND,
-    FFA_NOTIFICATION_SET,
-    FFA_NOTIFICATION_GET,
-    FFA_SPM_ID_GET,
-    FFA_MSG_SEND2,
-];
-
-const ERRORS: [ErrorCode; 5] = [
-    ErrorCode::NotSupported,
-    ErrorCode::InvalidParameters,
-    ErrorCode::NoMemory,
-    ErrorCode::Busy,
-    ErrorCode::Denied,
-];
-
-const FAULTS: [FaultKind; 5] = [
-    FaultKind::Translation,
-    FaultKind::Permission,
-    FaultKind::Alignment,
-    FaultKind::AccessFlag,
-    FaultKind::OutsideRam,
-];
-
-const ACCESSES: [AccessKind; 3] = [AccessKind::Load, AccessKind::Store, AccessKind::Fetch];
+use ffa_model::{ErrorCode, FaultKind, Manifest, Op, Outcome, Refusal};
+use play_reasons::check_number;
 
 /// The row of what is no call.
 const UNKNOWN: usize = 26;
@@ -65,6 +20,12 @@ const COLUMNS: usize = 6;
 
 /// The calls, what is no call, and the accesses.
 const CELLS: usize = 180;
+
+/// No call has more checks.
+const MOST_CHECKS: usize = 14;
+
+/// As many checks of each call, and of what is no call.
+const CHECKS: usize = 378;
 
 /// FFA_VERSION's refusal, in w0.
 const NO_VERSION: u64 = 0xFFFF_FFFF;
@@ -77,12 +38,17 @@ pub enum AccessKind {
     Fetch,
 }
 
-/// How often each call succeeded, how often each error came, and of accesses how often each was done and each fault came.
-/// The two forms of a call count as one, and so do all identifiers that are of no call. A count stops at its highest.
+/// How often each call succeeded, how often each error came and at which check, and of accesses how often each was done and
+/// each fault came. The two forms of a call count as one, and so do all identifiers that are of no call. A count stops at its
+/// highest.
 #[derive(Drop)]
 pub struct Counts {
     /// A count for each row and column, row by row.
     pub cells: [u64; CELLS],
+    /// A count for each check of each row.
+    pub checks: [u64; CHECKS],
+    /// What everybody may do on the machine, where it is known.
+    pub everyone: Everyone,
 }
 
 // The row of a call, in either form that it has.
@@ -216,20 +182,90 @@ fn cell(row: usize, column: usize) -> usize
     COLUMNS * row + column
 }
 
+// Where the count of a row's check stands, which is counted from 1.
+fn check_cell(row: usize, number: usize) -> usize
+    requires row { row < 27 }
+    requires some { 1 ≤ number }
+    requires few { number ≤ MOST_CHECKS }
+    ensures cell { result ≡ check_cell row number }
+    ensures few { result < CHECKS }
+{
+    MOST_CHECKS * row + number - 1
+}
+
+// The number of a call's check, which is one of its first 14.
+fn number_of(x: &[u64; 8], refusal: Refusal) -> Option<usize>
+    ensures number { result ≡ number_of (decode x.now) refusal }
+    ensures some { IfSome result (λ number. 1 ≤ number) }
+    ensures few { IfSome result (λ number. number ≤ MOST_CHECKS) }
+{
+    check_number(&decode(*x), refusal)
+}
+
+// Where the count of an operation's check stands, if it has that check.
+fn check_cell_of(op: &Op, refusal: Refusal) -> Option<usize>
+    ensures cell { result ≡ check_cell_of op.now refusal }
+    ensures few { IfSome result (λ cell. cell < CHECKS) }
+{
+    match op {
+        Op::Call(x) => {
+            let number = number_of(x, refusal)?;
+            Some(check_cell(row_of((x[0] % (1 << 32)) as u32), number))
+        }
+        Op::Load { .. } | Op::Store { .. } | Op::Fetch { .. } => None,
+    }
+}
+
 impl Counts {
-    /// Nothing has come.
+    /// Nothing has come, on a machine of which nothing is known.
     pub fn new() -> Counts
-        ensures { result.cells ≡ replicate CELLS 0 }
+        ensures cells { result.cells ≡ replicate CELLS 0 }
+        ensures checks { result.checks ≡ replicate CHECKS 0 }
     {
-        Counts { cells: [0; CELLS] }
+        Counts {
+            cells: [0; CELLS],
+            checks: [0; CHECKS],
+            everyone: Everyone::default(),
+        }
+    }
+
+    /// Nothing has come, on the machine of a manifest.
+    pub fn on(manifest: &Manifest) -> Counts
+        ensures cells { result.cells ≡ replicate CELLS 0 }
+        ensures checks { result.checks ≡ replicate CHECKS 0 }
+    {
+        let mut counts = Counts::new();
+        counts.everyone = Everyone::of(manifest);
+        counts
     }
 
     /// Counts what came of an operation.
     pub fn note(&mut self, op: &Op, outcome: &Outcome)
-        ensures { CountsOne (cell (row_of_operation op.now) (column_of outcome.now)) self.old.cells self.new.cells }
+        ensures cells { CountsOne (cell (row_of_operation op.now) (column_of outcome.now)) self.old.cells self.new.cells }
+        ensures checks { self.new.checks ≡ self.old.checks }
     {
         let cell = cell(row_of_operation(op), column_of(outcome));
         self.cells[cell] = self.cells[cell].saturating_add(1);
+    }
+
+    /// Counts the check at which an operation was refused, where it is one of the operation's.
+    pub fn note_check(&mut self, op: &Op, refusal: Refusal)
+        ensures checks { CountsCheck (check_cell_of op.now refusal) self.old.checks self.new.checks }
+        ensures cells { self.new.cells ≡ self.old.cells }
+    {
+        if let Some(cell) = check_cell_of(op, refusal) {
+            self.checks[cell] = self.checks[cell].saturating_add(1);
+        }
+    }
+
+    /// How often a call was refused at a check, by the registers of any such call; 0 where the check is none of the call's.
+    pub fn count_refused(&self, x: &[u64; 8], refusal: Refusal) -> u64
+        ensures { result ≡ option_map_or (slice_index self.now.checks) (check_cell_of (Op.Call x.now) refusal) 0 }
+    {
+        match check_cell_of(&Op::Call(*x), refusal) {
+            Some(cell) => self.checks[cell],
+            None => 0,
+        }
     }
 
     /// How often a call succeeded, by its identifier in either form.
@@ -264,88 +300,9 @@ impl Counts {
 impl Default for Counts {
     /// Nothing has come.
     fn default() -> Counts
-        ensures { result.cells ≡ replicate CELLS 0 }
+        ensures cells { result.cells ≡ replicate CELLS 0 }
+        ensures checks { result.checks ≡ replicate CHECKS 0 }
     {
         Counts::new()
-    }
-}
-
-fn name_of_error(code: ErrorCode) -> &'static str {
-    match code {
-        ErrorCode::NotSupported => "NOT_SUPPORTED",
-        ErrorCode::InvalidParameters => "INVALID_PARAMETERS",
-        ErrorCode::NoMemory => "NO_MEMORY",
-        ErrorCode::Busy => "BUSY",
-        ErrorCode::Denied => "DENIED",
-    }
-}
-
-fn name_of_fault(fault: FaultKind) -> &'static str {
-    match fault {
-        FaultKind::Translation => "translation",
-        FaultKind::Permission => "permission",
-        FaultKind::Alignment => "alignment",
-        FaultKind::AccessFlag => "access-flag",
-        FaultKind::OutsideRam => "outside-ram",
-    }
-}
-
-fn name_of_access(access: AccessKind) -> &'static str {
-    match access {
-        AccessKind::Load => "load",
-        AccessKind::Store => "store",
-        AccessKind::Fetch => "fetch",
-    }
-}
-
-impl Counts {
-    // A line of a call: how often it succeeded, and each error that came.
-    fn put_call<W: fmt::Write>(
-        &self,
-        f: &mut fmt::Formatter<W>,
-        name: &str,
-        function: u32,
-    ) -> fmt::Result {
-        write!(f, "{name} {}", self.successes(function))?;
-        for code in ERRORS {
-            let count = self.refusals(function, code);
-            if count > 0 {
-                write!(f, ", {} {count}", name_of_error(code))?;
-            }
-        }
-        writeln!(f)
-    }
-
-    // A line of an access, alike.
-    fn put_access<W: fmt::Write>(
-        &self,
-        f: &mut fmt::Formatter<W>,
-        access: AccessKind,
-    ) -> fmt::Result {
-        write!(f, "{} {}", name_of_access(access), self.count_done(access))?;
-        for fault in FAULTS {
-            let count = self.faults(access, fault);
-            if count > 0 {
-                write!(f, ", {} {count}", name_of_fault(fault))?;
-            }
-        }
-        writeln!(f)
-    }
-}
-
-/// A line for each call, for what is no call and for each kind of access: its name, how often it was done, and each error
-/// or fault that came, with how often.
-impl fmt::Display for Counts {
-    fn fmt<W: fmt::Write>(&self, f: &mut fmt::Formatter<W>) -> fmt::Result {
-        for function in CALLS {
-            let x = [u64::from(function), 0, 0, 0, 0, 0, 0, 0];
-            let name = call_name(&x).unwrap_or("call");
-            self.put_call(f, name, function)?;
-        }
-        self.put_call(f, "other", FFA_ERROR)?;
-        for access in ACCESSES {
-            self.put_access(f, access)?;
-        }
-        Ok(())
     }
 }

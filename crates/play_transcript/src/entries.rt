@@ -5,6 +5,7 @@ ghost use Rattle.ffa_model.specs.Memory.{size_of};
 ghost use Rattle.play_transcript.specs.Traces.{fitted};
 ghost use Rattle.play_transcript.specs.Turned.{GrowsByLines, meant};
 
+use crate::attempts::{Attempt, put_attempt};
 use ffa_model::{Op, Size};
 use play_writer::put_operation;
 use std::alloc::{AllocError, Allocator};
@@ -13,6 +14,8 @@ use std::alloc::{AllocError, Allocator};
 #[derive(Clone, Copy)]
 pub enum TraceEntry {
     Operation(Op),
+    /// A comment.
+    Attempt(Attempt),
     Show,
     Audit,
 }
@@ -68,6 +71,7 @@ fn put_entry<A: Allocator>(text: &mut Vec<u8, A>, entry: &TraceEntry) -> Result<
 {
     match entry {
         TraceEntry::Operation(op) => put_operation(text, &fit_store(op)),
+        TraceEntry::Attempt(attempt) => put_attempt(text, attempt),
         TraceEntry::Show => text.extend_from_slice(b"show\n"),
         TraceEntry::Audit => text.extend_from_slice(b"audit\n"),
     }

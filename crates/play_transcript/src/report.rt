@@ -1,0 +1,186 @@
+// SPDX-License-Identifier: MIT OR Apache-2.0
+//! What was counted, as text.
+use crate::counts::{AccessKind, Counts};
+use crate::unreached::why_unreached;
+use ffa_abi::{call_name, decode};
+use ffa_model::function::*;
+use ffa_model::{ErrorCode, FaultKind, Refusal};
+use play_reasons::{checks, words};
+use std::fmt;
+
+/// The calls, each by its identifier in the 32-bit form, in the order of their rows.
+const CALLS: [u32; 26] = [
+    FFA_VERSION,
+    FFA_FEATURES,
+    FFA_RX_RELEASE,
+    FFA_RXTX_MAP,
+    FFA_RXTX_UNMAP,
+    FFA_PARTITION_INFO_GET,
+    FFA_ID_GET,
+    FFA_MSG_WAIT,
+    FFA_YIELD,
+    FFA_RUN,
+    FFA_MSG_SEND_DIRECT_REQ,
+    FFA_MSG_SEND_DIRECT_RESP,
+    FFA_MEM_DONATE,
+    FFA_MEM_LEND,
+    FFA_MEM_SHARE,
+    FFA_MEM_RETRIEVE_REQ,
+    FFA_MEM_RELINQUISH,
+    FFA_MEM_RECLAIM,
+    FFA_NOTIFICATION_BITMAP_CREATE,
+    FFA_NOTIFICATION_BITMAP_DESTROY,
+    FFA_NOTIFICATION_BIND,
+    FFA_NOTIFICATION_UNBIND,
+    FFA_NOTIFICATION_SET,
+    FFA_NOTIFICATION_GET,
+    FFA_SPM_ID_GET,
+    FFA_MSG_SEND2,
+];
+
+const ERRORS: [ErrorCode; 5] = [
+    ErrorCode::NotSupported,
+    ErrorCode::InvalidParameters,
+    ErrorCode::NoMemory,
+    ErrorCode::Busy,
+    ErrorCode::Denied,
+];
+
+const FAULTS: [FaultKind; 5] = [
+    FaultKind::Translation,
+    FaultKind::Permission,
+    FaultKind::Alignment,
+    FaultKind::AccessFlag,
+    FaultKind::OutsideRam,
+];
+
+const ACCESSES: [AccessKind; 3] = [AccessKind::Load, AccessKind::Store, AccessKind::Fetch];
+
+fn name_of_error(code: ErrorCode) -> &'static str {
+    match code {
+        ErrorCode::NotSupported => "NOT_SUPPORTED",
+        ErrorCode::InvalidParameters => "INVALID_PARAMETERS",
+        ErrorCode::NoMemory => "NO_MEMORY",
+        ErrorCode::Busy => "BUSY",
+        ErrorCode::Denied => "DENIED",
+    }
+}
+
+fn name_of_fault(fault: FaultKind) -> &'static str {
+    match fault {
+        FaultKind::Translation => "translation",
+        FaultKind::Permission => "permission",
+        FaultKind::Alignment => "alignment",
+        FaultKind::AccessFlag => "access-flag",
+        FaultKind::OutsideRam => "outside-ram",
+    }
+}
+
+fn name_of_access(access: AccessKind) -> &'static str {
+    match access {
+        AccessKind::Load => "load",
+        AccessKind::Store => "store",
+        AccessKind::Fetch => "fetch",
+    }
+}
+
+impl Counts {
+    // A line of a call: how often it succeeded, and each error that came.
+    fn put_call<W: fmt::Write>(
+        &self,
+        f: &mut fmt::Formatter<W>,
+        name: &str,
+        function: u32,
+    ) -> fmt::Result {
+        write!(f, "{name} {}", self.successes(function))?;
+        for code in ERRORS {
+            let count = self.refusals(function, code);
+            if count > 0 {
+                write!(f, ", {} {count}", name_of_error(code))?;
+            }
+        }
+        writeln!(f)
+    }
+
+    // A line of an access, alike.
+    fn put_access<W: fmt::Write>(
+        &self,
+        f: &mut fmt::Formatter<W>,
+        access: AccessKind,
+    ) -> fmt::Result {
+        write!(f, "{} {}", name_of_access(access), self.count_done(access))?;
+        for fault in FAULTS {
+            let count = self.faults(access, fault);
+            if count > 0 {
+                write!(f, ", {} {count}", name_of_fault(fault))?;
+            }
+        }
+        writeln!(f)
+    }
+
+    // A line of each check of a call, by its identifier.
+    fn put_checks<W: fmt::Write>(
+        &self,
+        f: &mut fmt::Formatter<W>,
+        name: &str,
+        function: u32,
+    ) -> fmt::Result {
+        let mut number = 1;
+        for check in checks(&decode(bare_call(function))) {
+            write!(f, "{name} check {number}: {}: ", words(*check))?;
+            self.put_check(f, function, *check)?;
+            number = u64::saturating_add(number, 1);
+        }
+        Ok(())
+    }
+
+    // How often a call was refused at a check, or why it never was.
+    fn put_check<W: fmt::Write>(
+        &self,
+        f: &mut fmt::Formatter<W>,
+        function: u32,
+        check: Refusal,
+    ) -> fmt::Result {
+        let count = self.count_refused(&bare_call(function), check);
+        if count > 0 {
+            return writeln!(f, "{count}");
+        }
+        match why_unreached(self.everyone, function, check) {
+            Some(reason) => writeln!(f, "not reached: {reason}"),
+            None => writeln!(f, "not reached"),
+        }
+    }
+
+    // The lines of the checks of each call, and of what is no call.
+    fn put_all_checks<W: fmt::Write>(&self, f: &mut fmt::Formatter<W>) -> fmt::Result {
+        for function in CALLS {
+            self.put_checks(f, name_of_call(function), function)?;
+        }
+        self.put_checks(f, "other", FFA_ERROR)
+    }
+}
+
+// The registers of a call without arguments.
+fn bare_call(function: u32) -> [u64; 8] {
+    [u64::from(function), 0, 0, 0, 0, 0, 0, 0]
+}
+
+fn name_of_call(function: u32) -> &'static str {
+    call_name(&bare_call(function)).unwrap_or("call")
+}
+
+/// A line for each call, for what is no call and for each kind of access: its name, how often it was done, and each error
+/// or fault that came, with how often. Behind these a line for each check of each call: how often it was the first to fail, or
+/// why it wasn't reached, where that is known.
+impl fmt::Display for Counts {
+    fn fmt<W: fmt::Write>(&self, f: &mut fmt::Formatter<W>) -> fmt::Result {
+        for function in CALLS {
+            self.put_call(f, name_of_call(function), function)?;
+        }
+        self.put_call(f, "other", FFA_ERROR)?;
+        for access in ACCESSES {
+            self.put_access(f, access)?;
+        }
+        self.put_all_checks(f)
+    }
+}

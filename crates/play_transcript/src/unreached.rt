@@ -1,0 +1,71 @@
+// SPDX-License-Identifier: MIT OR Apache-2.0
+//! Why a generated trace doesn't reach a check.
+use bitflags::Flags;
+use ffa_model::function::{FFA_MEM_DONATE, FFA_MEM_SHARE, FFA_RUN};
+use ffa_model::{Endpoint, Manifest, Properties, Refusal};
+
+/// What every endpoint of a machine may do, of direct requests and of indirect messages; of receiving requests every partition.
+#[derive(Clone, Copy, Default)]
+pub struct Everyone {
+    pub sends_requests: bool,
+    pub receives_requests: bool,
+    pub takes_messages: bool,
+}
+
+impl Everyone {
+    /// On the machine of a manifest.
+    pub fn of(manifest: &Manifest) -> Everyone {
+        let all = manifest.endpoints.as_slice();
+        let partitions = all.get(1..).unwrap_or(&[]);
+        Everyone {
+            sends_requests: all_have(all, Properties::SENDS_DIRECT_REQUESTS),
+            receives_requests: all_have(partitions, Properties::RECEIVES_DIRECT_REQUESTS),
+            takes_messages: all_have(all, Properties::INDIRECT_MESSAGES),
+        }
+    }
+}
+
+fn all_have(endpoints: &[Endpoint], wanted: Properties) -> bool {
+    for endpoint in endpoints {
+        if !endpoint.properties.contains(wanted) {
+            return false;
+        }
+    }
+    true
+}
+
+/// Why no generated trace fails a check of a call, by the call's identifier, where a trace of any length, or one of fewer
+/// than 65,535 sends, never does.
+pub fn why_unreached(everyone: Everyone, function: u32, refusal: Refusal) -> Option<&'static str> {
+    match refusal {
+        Refusal::TargetNotReady => of_call(
+            function == FFA_RUN,
+            "each partition waits or has yielded while the normal world runs",
+        ),
+        Refusal::GrantTooMuch => { of_call(function == FFA_MEM_DONATE, "a donate grants no right") }
+        Refusal::ZerosUnwritable => {
+            of_call(function == FFA_MEM_SHARE, "a share can't ask for zeros")
+        }
+        Refusal::HandlesUsedUp => {
+            Some("an endpoint would have to send memory 65535 times before")
+        }
+        Refusal::RequestsUnsent => of_call(
+            everyone.sends_requests,
+            "every endpoint sends direct requests",
+        ),
+        Refusal::RequestsUnreceived => of_call(
+            everyone.receives_requests,
+            "every partition receives direct requests",
+        ),
+        Refusal::MessagesUnsent | Refusal::MessagesUnreceived => of_call(
+            everyone.takes_messages,
+            "every endpoint takes part in indirect messages",
+        ),
+        _ => None,
+    }
+}
+
+// A reason, where it holds.
+fn of_call(holds: bool, reason: &'static str) -> Option<&'static str> {
+    if holds { Some(reason) } else { None }
+}
