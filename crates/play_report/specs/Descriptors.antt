@@ -1,33 +1,45 @@
 -- SPDX-License-Identifier: MIT OR Apache-2.0
 -- What printing a descriptor leaves.
-use Rattle.std.specs.Prelude.{◌≡◌, ℕ, List, [], Option, Some, Ok, Err, ⊤}
+use Rattle.std.specs.Prelude.{◌≡◌, ℕ, List, [], Option, None, Some, Ok, Err, ⊤}
 use Rattle.std.specs.Io.KnownBytes.{Appends, Keeps}
 use Rattle.play_writer.specs.declared.unfit.Unfit.{Unfit}
-use Rattle.play_writer.specs.Written.{GrowsByDescriptor, unfit_of}
+use Rattle.ffa_model.specs.declared.operation.Op.TheVariants.{Call}
+use Rattle.play_writer.specs.Script.{GrowsBy}
+use Rattle.play_writer.specs.Written.{GrowsByDescriptor, reclaim_with, unfit_of}
 use Rattle.play_arguments.specs.Commands.{words_of}
 use Rattle.play_arguments.specs.declared.command_line.DescriptorWords.{DescriptorWords}
-use Rattle.play_descriptor.specs.Told.{told}
+use Rattle.play_descriptor.specs.Told.{asked}
 use Rattle.play_descriptor.specs.declared.fault.WordsFault.{WordsFault}
-use Rattle.play_descriptor.specs.declared.told.Told.{Told}
+use Rattle.play_descriptor.specs.declared.told.Asked.{Asked}
+use Rattle.play_descriptor.specs.declared.told.Asked.TheVariants.{Descriptor, Reclaim}
 use Rattle.play_report.specs.declared.failure.Failure.{Failure}
 use Rattle.play_report.specs.declared.failure.Failure.TheVariants as failure
 
--- the lines were written that write what was told into TX, and make its call
-abbrev pub IsTold : Told → (held holds : Option (List ℕ)) → Type 0
-IsTold said held holds =
-    (text : List ℕ) × GrowsByDescriptor said.version said.descriptor said.tx.0 [] text × Appends held holds text
+-- a text grew by the lines that write a descriptor into TX and make its call, or by that of a reclaim
+abbrev pub Grows : Asked → (old new : List ℕ) → Type 0
+Grows (Descriptor said) old new = GrowsByDescriptor said.version said.descriptor said.tx.0 old new
+Grows (Reclaim said) old new = GrowsBy (Call (reclaim_with said)) old new
 
--- these words tell it, and their lines were written
+-- why no bytes say it
+abbrev pub unfit_asked : Asked → Option Unfit
+unfit_asked (Descriptor said) = unfit_of said.descriptor
+unfit_asked (Reclaim said) = None
+
+-- the lines of what is asked for were written
+abbrev pub IsTold : Asked → (held holds : Option (List ℕ)) → Type 0
+IsTold said held holds = (text : List ℕ) × Grows said [] text × Appends held holds text
+
+-- these words ask for it, and its lines were written
 abbrev pub IsSaid : DescriptorWords → (held holds : Option (List ℕ)) → Type 0
-IsSaid words held holds = (said : Told) × (told (words_of words) ≡ Ok said) × IsTold said held holds
+IsSaid words held holds = (said : Asked) × (asked (words_of words) ≡ Ok said) × IsTold said held holds
 
 -- the words can't be read, for this fault
 abbrev pub IsMisread : DescriptorWords → WordsFault → Type 0
-IsMisread words fault = told (words_of words) ≡ Err fault
+IsMisread words fault = asked (words_of words) ≡ Err fault
 
 -- no bytes are a descriptor that says what the words do: this condition is the first that it breaks
 abbrev pub IsUnfit : DescriptorWords → Unfit → Type 0
-IsUnfit words cause = (said : Told) × (told (words_of words) ≡ Ok said) × (unfit_of said.descriptor ≡ Some cause)
+IsUnfit words cause = (said : Asked) × (asked (words_of words) ≡ Ok said) × (unfit_asked said ≡ Some cause)
 
 -- a descriptor isn't printed: its words say none, or no bytes say what they do, and then nothing was written, or the
 -- output can't be written, or there is no memory

@@ -1,13 +1,13 @@
 -- SPDX-License-Identifier: MIT OR Apache-2.0
 -- Which bytes are a machine's manifest, and how commands fail that want one alone.
 use denote.Ref.{Bor}
-use Rattle.std.specs.Prelude.{◌≡◌, ◌⊎◌, ℕ, List, IsUtf8, Option, None, Some, Ok, Err, codes, option_map, ⊤}
+use Rattle.std.specs.Prelude.{◌≡◌, ◌⊎◌, ℕ, Bool, List, IsUtf8, Option, None, Some, Ok, Err, codes, option_map, ⊤}
 use Rattle.std.specs.Io.KnownBytes.{Appends, Keeps}
 use Rattle.play_syntax.specs.TraceText.{ended}
 use Rattle.ffa_manifest.specs.Document.{Parts, machine_of}
 use Rattle.ffa_manifest.specs.declared.error.ManifestError.{ManifestError}
 use Rattle.ffa_manifest.specs.declared.error.ManifestError.TheVariants.{Toml}
-use Rattle.play_report.specs.Layouts.{layout_text}
+use Rattle.play_report.specs.Layouts.{whole_text}
 use Rattle.play_report.specs.declared.failure.Failure.{Failure}
 use Rattle.play_report.specs.declared.failure.Failure.TheVariants as failure
 
@@ -42,9 +42,10 @@ FailsToRead text other = ⊥
 abbrev pub IsChecked : (manifest held holds : Option (List ℕ)) → Type 0
 IsChecked manifest held holds = (parts : Parts) × Describes manifest parts × Appends held holds (ended (codes "accepted"))
 
--- it was written where the tables of the manifest's machine stand
-abbrev pub IsLaidOut : (manifest held holds : Option (List ℕ)) → Type 0
-IsLaidOut manifest held holds = (parts : Parts) × Describes manifest parts × Appends held holds (layout_text parts)
+-- it was written where the tables of the manifest's machine stand, and where that is asked for where its regions lie
+abbrev pub IsLaidOut : (regions : Bool) → (manifest held holds : Option (List ℕ)) → Type 0
+IsLaidOut regions manifest held holds =
+    (parts : Parts) × Describes manifest parts × Appends held holds (whole_text regions parts)
 
 -- a command that plays no trace fails: its manifest is refused for its own cause, and then nothing was written, or the
 -- output can't be written, and then the manifest isn't refused; a reader, a writer and memory may always fail

@@ -17,9 +17,11 @@ pub struct Difference<'a> {
     pub number: u64,
     /// The line's bytes. There are none where the trace has ended, and more is expected.
     pub line: &'a [u8],
-    /// What is expected, from where the line's text is to stand.
+    /// The number of the line of the expected text that is another.
+    pub expected_line: u64,
+    /// That line, with the LF that ends it, where one does. It is empty where the expected text has ended.
     pub expected: &'a [u8],
-    /// The line's text.
+    /// The line's text, from the first line of it that is another.
     pub found: &'a [u8],
     /// Why the line's operation is refused, where that is asked for.
     pub reason: Option<Reason>,
@@ -62,8 +64,8 @@ impl<'a> Difference<'a> {
         write(out, &text)
     }
 
-    // The trace's line with its number, what is expected and what is found, and for registers which of them differ. Of a
-    // text of several lines the first is told that differs. Last why the operation is refused, if that is told.
+    // The trace's line with its number, the line that is expected with its own and the one that is found, and for registers
+    // which of them differ. Last why the operation is refused, if that is told.
     fn text<A: Allocator>(&self, alloc: A) -> Result<Vec<u8, A>, Failure<'static>>
         ensures { IfErr result (λ failure. failure ≡ Failure.NoMemory) }
     {
@@ -75,30 +77,19 @@ impl<'a> Difference<'a> {
     }
 
     fn put<A: Allocator>(&self, text: &mut Vec<u8, A>) -> io::Result<()> {
-        let (expected, found) = self.first_lines();
         if self.line.is_empty() {
             writeln!(text, "line {}: (the end)", self.number)?;
         } else {
             writeln!(text, "line {}: {}", self.number, self.line.escape_ascii())?;
         }
-        writeln!(text, "expected: {}", Printed(expected))?;
-        writeln!(text, "found:    {}", Printed(found))?;
-        put_registers(text, expected, found)
-    }
-
-    // The first lines that differ, each with its LF. An empty one stands for the end of a text.
-    fn first_lines(&self) -> (&'a [u8], &'a [u8]) {
-        let (mut expected, mut found) = (self.expected, self.found);
-        for line in self.found.split_inclusive(|byte| *byte == b'\n') {
-            let (Some(more_expected), Some(more_found)) = (
-                expected.strip_prefix(line),
-                found.strip_prefix(line),
-            ) else {
-                break;
-            };
-            (expected, found) = (more_expected, more_found);
-        }
-        (first_line(expected), first_line(found))
+        let start = text.len();
+        write!(text, "expected, line {}: ", self.expected_line)?;
+        let width = text.len().saturating_sub(start);
+        writeln!(text, "{}", Printed(self.expected))?;
+        put_head(text, "found:", width)?;
+        let found = first_line(self.found);
+        writeln!(text, "{}", Printed(found))?;
+        put_registers(text, width, self.expected, found)
     }
 }
 
@@ -109,24 +100,52 @@ fn first_line(text: &[u8]) -> &[u8] {
     }
 }
 
+// Puts a word and spaces behind it, so many bytes wide, so that what follows stands under what follows other words.
+fn put_head<A: Allocator>(text: &mut Vec<u8, A>, word: &str, width: usize) -> io::Result<()> {
+    text.write_all(word.as_bytes())?;
+    for _ in word.len()..width {
+        text.write_all(b" ")?;
+    }
+    Ok(())
+}
+
 // Where two lines have registers, a line that names those that differ.
 fn put_registers<A: Allocator>(
     text: &mut Vec<u8, A>,
+    width: usize,
     expected: &[u8],
     found: &[u8],
 ) -> io::Result<()> {
-    if !expected.starts_with(b"regs ") || !found.starts_with(b"regs ") {
+    let (Some(expected), Some(found)) = (registers(expected), registers(found)) else {
         return Ok(());
-    }
+    };
     let is_end = |byte: &u8| *byte == b' ' || *byte == b'\n';
     let words = expected.split(is_end).zip(found.split(is_end));
     let mut is_first = true;
     for (name, (one, other)) in REGISTERS.iter().zip(words) {
         if one != other {
-            let before = if is_first { "differ:   " } else { ", " };
-            write!(text, "{before}{name}")?;
+            if is_first {
+                put_head(text, "differ:", width)?;
+            } else {
+                write!(text, ", ")?;
+            }
+            write!(text, "{name}")?;
             is_first = false;
         }
     }
-    writeln!(text)
+    if is_first { Ok(()) } else { writeln!(text) }
+}
+
+// A line of registers, without the number that it may have.
+fn registers(line: &[u8]) -> Option<&[u8]> {
+    let digits = line.iter().take_while(|byte| byte.is_ascii_digit()).count();
+    let line = match line.get(digits..).and_then(|rest| rest.strip_prefix(b": ")) {
+        Some(rest) => rest,
+        None => line,
+    };
+    if line.starts_with(b"regs ") {
+        Some(line)
+    } else {
+        None
+    }
 }

@@ -40,6 +40,9 @@ pub enum Failure<'a> {
     /// No bytes are a descriptor that says what the words do.
     #[error("descriptor: {0}")]
     Unfit(Unfit),
+    /// A picture would have more rows than this many.
+    #[error("a picture of more than {0} rows: say --every N for fewer of them, or --page")]
+    TooManyRows(usize),
 }
 
 impl<'a> Failure<'a> {
@@ -53,7 +56,7 @@ impl<'a> Failure<'a> {
             Failure::Read(_) | Failure::Write | Failure::NoMemory => 3,
             Failure::Differs => 4,
             Failure::Unmet(_) => 5,
-            Failure::Words(_) | Failure::Unfit(_) => 64,
+            Failure::Words(_) | Failure::Unfit(_) | Failure::TooManyRows(_) => 64,
         }
     }
 

@@ -12,6 +12,7 @@ mod manifest;
 mod notes;
 mod output;
 mod picture;
+mod regions;
 mod telling;
 mod unmet;
 
@@ -23,4 +24,4 @@ pub use manifest::{accept, lay_out, read_manifest};
 pub use notes::{More, Notes};
 pub use picture::print_picture;
 pub use telling::{show, tell, tell_more};
-pub use unmet::tell_unmet;
+pub use unmet::{tell_met, tell_near, tell_unmet};

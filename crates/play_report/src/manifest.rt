@@ -1,7 +1,8 @@
 // SPDX-License-Identifier: MIT OR Apache-2.0
 //! Commands that want a manifest alone, and the reading of one.
-ghost use Rattle.std.specs.Prelude.{◌≡◌, None, Ok, OnOk, IfErr, IfOk, true};
+ghost use Rattle.std.specs.Prelude.{◌≡◌, ◌++◌, None, Ok, OnOk, IfErr, IfOk, true};
 ghost use Rattle.ffa_manifest.specs.Document.{machine_of, parts_of};
+ghost use Rattle.play_report.specs.Layouts.{regions_text};
 ghost use Rattle.play_report.specs.Manifests.{Describes, FailsToRead, FailsUnplayed, IsChecked, IsLaidOut, bytes_of};
 ghost use Rattle.play_report.specs.Noted.{IsNoted};
 
@@ -9,10 +10,11 @@ use crate::failure::Failure;
 use crate::layout;
 use crate::notes::{More, Notes};
 use crate::output::write;
+use crate::regions::put_regions;
 use ffa_manifest::ManifestError;
 use ffa_model::Manifest;
 use play_syntax::text::Text;
-use std::alloc::{Allocator, Global};
+use std::alloc::{AllocError, Allocator, Global};
 use std::io::Write;
 
 /// Says that a manifest is accepted.
@@ -30,21 +32,38 @@ pub fn accept<'a, A: Allocator, W: Write>(
     write(out, b"accepted\n")
 }
 
-/// Prints where the tables of a manifest's machine stand.
+/// Prints where the tables of a manifest's machine stand, and where that is asked for its regions and RAM.
 pub fn lay_out<'a, A: Allocator, W: Write>(
     alloc: Global,
     path: &'a str,
     manifest: Option<&[u8]>,
+    regions: bool,
     out: &mut W,
     notes: &mut Notes<A>,
 ) -> Result<(), Failure<'a>>
-    ensures done { OnOk result (IsLaidOut (bytes_of manifest.entry) (W.contents out.old) (W.contents out.new)) }
+    ensures done { OnOk result (IsLaidOut regions (bytes_of manifest.entry) (W.contents out.old) (W.contents out.new)) }
     ensures failed { IfErr result (FailsUnplayed (bytes_of manifest.entry) (W.contents out.old) (W.contents out.new)) }
 {
     let manifest = read_manifest(alloc, path, manifest, notes)?;
     let mut text = Text::new();
     layout::push_layout(&mut text, &manifest);
-    write(out, text.as_slice())
+    if !regions {
+        return write(out, text.as_slice());
+    }
+    match with_regions(alloc, text.as_slice(), &manifest) {
+        Ok(whole) => write(out, &whole),
+        Err(AllocError) => Err(Failure::NoMemory),
+    }
+}
+
+// A text, and behind it the lines of a manifest's regions and RAM.
+fn with_regions(alloc: Global, text: &[u8], manifest: &Manifest) -> Result<Vec<u8>, AllocError>
+    ensures { IfOk result (λ whole. whole.items ≡ text.now ++ regions_text (parts_of manifest.now)) }
+{
+    let mut whole = Vec::new(alloc);
+    whole.extend_from_slice(text)?;
+    put_regions(&mut whole, manifest)?;
+    Ok(whole)
 }
 
 /// Reads the manifest at this path, of whose file these are the bytes, if it could be read. Where it is refused and more is

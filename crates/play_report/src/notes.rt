@@ -41,7 +41,7 @@ pub struct Notes<A: Allocator> {
     pub verbose: bool,
     /// What more there is to say of the manifest.
     pub manifest: Option<More>,
-    /// Where a guard isn't met, what it wants and what there was: a line.
+    /// What is said of guards, in lines.
     pub guard: Vec<u8, A>,
 }
 

@@ -7,14 +7,15 @@ use play_drawing::{Picture, write_svg};
 use std::alloc::Allocator;
 use std::io::Write;
 
-/// Prints a picture.
+/// Prints a picture, which is to fit this width in pixels where that isn't 0.
 pub fn print_picture<A: Allocator, W: Write>(
     picture: &Picture<A>,
+    width: u64,
     out: &mut W,
 ) -> Result<(), Failure<'static>>
     ensures { IfErr result (λ failure. failure ≡ Failure.Write) }
 {
-    match write_svg(picture, out) {
+    match write_svg(picture, width, out) {
         Ok(()) => Ok(()),
         Err(_) => Err(Failure::Write),
     }

@@ -24,19 +24,16 @@ pub fn show<T: Display, W: Write, E: Write>(help: &T, out: &mut W, err: &mut E) 
     }
 }
 
-/// Says why a command isn't done, and answers the status. A difference has been told on the output, and of a guard `told`
-/// says what it wants.
+/// Says why a command isn't done, and answers the status. A difference has been told on the output, and `told` has what is
+/// said of guards, which is lost with the output, and where there is no memory for it.
 pub fn tell<E: Write>(err: &mut E, failure: &Failure<'_>, told: &[u8]) -> u8
     ensures { result ≡ status_of failure.now }
 {
-    match failure {
-        Failure::Differs => {}
-        Failure::Unmet(_) => {
-            let _ = err.write_all(told);
-        }
-        _ => {
-            let _ = writeln!(err, "ffaplay: {failure}");
-        }
+    if !matches!(failure, Failure::Write | Failure::NoMemory) {
+        let _ = err.write_all(told);
+    }
+    if !matches!(failure, Failure::Differs | Failure::Unmet(_)) {
+        let _ = writeln!(err, "ffaplay: {failure}");
     }
     failure.status()
 }

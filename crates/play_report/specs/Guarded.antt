@@ -1,0 +1,17 @@
+-- SPDX-License-Identifier: MIT OR Apache-2.0
+-- What is told of guards.
+use Rattle.std.specs.Prelude.{ℕ, List, ◌++◌, codes, decimal}
+use Rattle.std.specs.List.{flat_map}
+use Rattle.play_syntax.specs.TraceText.{ended}
+
+-- the comment in the line of this number is nearly a guard
+abbrev pub near_line : ℕ → List ℕ
+near_line number =
+    codes "ffaplay: line " ++ (decimal number ++ ended (codes ": no guard: a space follows the #"))
+
+abbrev pub near_text : List ℕ → List ℕ
+near_text numbers = flat_map near_line numbers
+
+-- so many guards were met
+abbrev pub met_text : ℕ → List ℕ
+met_text met = codes "ffaplay: guards met: " ++ ended (decimal met)
