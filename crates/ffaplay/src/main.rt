@@ -60,11 +60,11 @@ fn carry_out(rt: &HostRuntime, request: &Request<'_>) -> Result<u8, AllocError> 
     let mut reason = None;
     let manifest = unless_no_memory(read_whole(rt, request.manifest()), &mut reason)?;
     let trace = unless_no_memory(open(rt, request.trace()), &mut reason)?;
-    let expected = unless_no_memory(read_whole(rt, request.expected()), &mut reason)?;
+    let expected = unless_no_memory(open(rt, request.expected()), &mut reason)?;
     let files = Files {
         manifest: manifest.as_ref().map(|bytes| bytes.as_slice()),
         trace,
-        expected: expected.as_ref().map(|bytes| bytes.as_slice()),
+        expected,
         reason,
     };
     // With no room nothing is gathered: each write goes to standard output at once.
@@ -73,7 +73,7 @@ fn carry_out(rt: &HostRuntime, request: &Request<'_>) -> Result<u8, AllocError> 
     Ok(perform(alloc, alloc, request, files, &mut out, &mut rt.stderr()))
 }
 
-// What a trace is read from.
+// What a trace is read from, and an expected text.
 #[derive(Drop)]
 enum Input {
     File(File),

@@ -1,6 +1,6 @@
 -- SPDX-License-Identifier: MIT OR Apache-2.0
 -- What a command leaves, from what its parts do.
-use Rattle.std.proofs.Common.{◌≡◌, Bor, true, false, List, ℕ, Option, None, Some, Result, Ok, Err, inl, inr, refl, arith}
+use Rattle.std.proofs.Common.{◌≡◌, Bor, Bool, true, false, List, ℕ, Option, None, Result, Ok, Err, inl, inr, refl, arith}
 use Rattle.std.specs.Prelude.{IfErr, OnOk}
 use Rattle.ffa_manifest.specs.Document.{Parts}
 use Rattle.play_drawing.specs.declared.row.Keep.{Keep}
@@ -8,17 +8,19 @@ use Rattle.play_report.specs.Descriptors.{FailsToSay, IsSaid}
 use Rattle.play_report.specs.Failures.{status_of}
 use Rattle.play_report.specs.Manifests.{Describes, FailsUnplayed}
 use Rattle.play_report.specs.declared.failure.Failure.{Failure}
-use Rattle.play_report.specs.declared.failure.Failure.TheVariants.{Manifest, BadLine, Read, Write, NoMemory, Differs, Unmet, Words, Unfit}
+use Rattle.play_report.specs.declared.failure.Failure.TheVariants.{Manifest, BadLine, Read, Write, NoMemory, Differs, Unmet, Words, Unfit, TooManyRows}
 use Rattle.play_arguments.specs.declared.command_line.DescriptorWords.{DescriptorWords}
 use Rattle.play_arguments.specs.declared.command_line.Request.{Request}
 use Rattle.play_arguments.specs.declared.command_line.Request.TheVariants as request
 use Rattle.play_tasks.specs.Plays.{PlayFails, Plays, PrintsIn, Streams, form_of}
+use Rattle.play_tasks.specs.declared.task.Expected.{Expected}
 use Rattle.play_tasks.specs.declared.task.Task.{Task}
-use Rattle.play_tasks.specs.declared.task.Task.TheVariants.{Compare, Drawn}
-use Rattle.play_tasks.proofs.Plays.{breached, never_differs, printed, stopped}
+use Rattle.play_tasks.specs.declared.task.Task.TheVariants.{Recorded, Compare, Drawn, Paged}
+use Rattle.play_tasks.proofs.Plays.{breached, never_differs, never_overfull, printed, stopped}
 use Rattle.play_commands.specs.Performed.{Does, FailsFor, IsDone, IsQuiet, IsRead, Ran, SomeBadLine, SomeUnmetGuard, built_in_parts, first_of, needs_manifest, needs_trace}
-use Rattle.play_commands.specs.Running.{compare_of, demo_of, picture_of, run_of}
+use Rattle.play_commands.specs.Running.{compare_of, demo_of, picture_of, record_of, run_of}
 use Rattle.play_commands.specs.declared.commands.running.Printing.{Printing}
+use Rattle.play_commands.specs.declared.commands.running.Recording.{Recording}
 use Rattle.play_commands.specs.declared.commands.running.Comparison.{Comparison}
 use Rattle.play_commands.specs.declared.commands.running.Drawing.{Drawing}
 
@@ -53,8 +55,9 @@ describes words ran (Err other) said never = absurd never
 
 -- COMMANDS THAT PLAY A TRACE THAT COULD BE OPENED
 
-abbrev pub opened : (manifest expected : Option (List ℕ)) → Streams → Ran
-opened manifest expected streams = record { manifest = manifest; is_open = true; expected = expected; streams = streams }
+abbrev pub opened : (manifest : Option (List ℕ)) → Bool → (expected : Option (List ℕ)) → Streams → Ran
+opened manifest is_expected_open expected streams =
+    record { manifest = manifest; is_open = true; is_expected_open = is_expected_open; expected = expected; streams = streams }
 
 could_read : (failure : Failure) → IsRead true failure
 could_read (BadLine n fault) = refl
@@ -62,70 +65,102 @@ could_read (Unmet n) = refl
 could_read other = tt
 
 -- its text is printed
-module _ (how : Printing) (task : Task) (prints : PrintsIn how.strict (form_of how.text) task) (expected : Option (List ℕ)) (streams : Streams) (manifest : Option (List ℕ)) where
-  run_fails : (path : Bor (List ℕ)) (parts : Parts) → Describes manifest parts → (failure : Failure) → PlayFails task (first_of parts) streams failure
-      → FailsFor (run_of path how) (opened manifest expected streams) failure
-  run_fails path parts is (BadLine n fault) stops = (parts, is, stopped how.strict (form_of how.text) task prints (first_of parts) streams n stops)
+module _ {R : Type 0} (remaining : R → Option (List ℕ)) (how : Printing) (task : Task R) (prints : PrintsIn how.strict how.interactive (form_of how.text) task) (is_expected_open : Bool) (expected : Option (List ℕ)) (streams : Streams) (manifest : Option (List ℕ)) where
+  run_fails : (path : Bor (List ℕ)) (parts : Parts) → Describes manifest parts → (failure : Failure) → PlayFails remaining task (first_of parts) streams failure
+      → FailsFor (run_of path how) (opened manifest is_expected_open expected streams) failure
+  run_fails path parts is (BadLine n fault) stops = (parts, is, stopped remaining how.strict how.interactive (form_of how.text) task prints (first_of parts) streams n stops)
   run_fails path parts is (Read unread) any = tt
   run_fails path parts is Write any = λ needed. (parts, is)
   run_fails path parts is NoMemory any = tt
-  run_fails path parts is Differs differs = never_differs how.strict (form_of how.text) task prints (first_of parts) streams.trace differs
+  run_fails path parts is Differs differs = never_differs remaining how.strict how.interactive (form_of how.text) task prints (first_of parts) streams.trace differs
   run_fails path parts is (Unmet n) unmet =
-      let found = breached how.strict (form_of how.text) task prints (first_of parts) streams n unmet in
+      let found = breached remaining how.strict how.interactive (form_of how.text) task prints (first_of parts) streams n unmet in
       (found.0, (parts, is, found.1))
+  run_fails path parts is (TooManyRows most) over = never_overfull remaining how.strict how.interactive (form_of how.text) task prints streams most over
   run_fails path parts is other never = absurd never
 
-  pub run_does : (path : Bor (List ℕ)) (parts : Parts) → Describes manifest parts → (result : Result (Unit {0}) Failure) → Plays task (first_of parts) streams result
-      → Does (run_of path how) (opened manifest expected streams) result
+  pub run_does : (path : Bor (List ℕ)) (parts : Parts) → Describes manifest parts → (result : Result (Unit {0}) Failure) → Plays remaining task (first_of parts) streams result
+      → Does (run_of path how) (opened manifest is_expected_open expected streams) result
   run_does path parts is (Ok x) plays =
-      let written = printed how.strict (form_of how.text) task prints (first_of parts) streams plays.played in
+      let written = printed remaining how.strict how.interactive (form_of how.text) task prints (first_of parts) streams plays.played in
       record { done = (parts, is, written); opened = λ needed. refl; failed = tt; read = tt }
   run_does path parts is (Err failure) plays = record { done = tt; opened = tt; failed = run_fails path parts is failure plays.failed; read = could_read failure }
 
-  demo_fails : (failure : Failure) → PlayFails task (first_of built_in_parts) streams failure → FailsFor (demo_of how) (opened manifest expected streams) failure
-  demo_fails (BadLine n fault) stops = stopped how.strict (form_of how.text) task prints (first_of built_in_parts) streams n stops
+  demo_fails : (failure : Failure) → PlayFails remaining task (first_of built_in_parts) streams failure → FailsFor (demo_of how) (opened manifest is_expected_open expected streams) failure
+  demo_fails (BadLine n fault) stops = stopped remaining how.strict how.interactive (form_of how.text) task prints (first_of built_in_parts) streams n stops
   demo_fails (Read unread) any = tt
   demo_fails Write any = λ never. absurd cc
   demo_fails NoMemory any = tt
-  demo_fails Differs differs = never_differs how.strict (form_of how.text) task prints (first_of built_in_parts) streams.trace differs
-  demo_fails (Unmet n) unmet = breached how.strict (form_of how.text) task prints (first_of built_in_parts) streams n unmet
+  demo_fails Differs differs = never_differs remaining how.strict how.interactive (form_of how.text) task prints (first_of built_in_parts) streams.trace differs
+  demo_fails (Unmet n) unmet = breached remaining how.strict how.interactive (form_of how.text) task prints (first_of built_in_parts) streams n unmet
+  demo_fails (TooManyRows most) over = never_overfull remaining how.strict how.interactive (form_of how.text) task prints streams most over
   demo_fails other never = absurd never
 
-  pub demo_does : (result : Result (Unit {0}) Failure) → Plays task (first_of built_in_parts) streams result → Does (demo_of how) (opened manifest expected streams) result
+  pub demo_does : (result : Result (Unit {0}) Failure) → Plays remaining task (first_of built_in_parts) streams result → Does (demo_of how) (opened manifest is_expected_open expected streams) result
   demo_does (Ok x) plays =
-      let written = printed how.strict (form_of how.text) task prints (first_of built_in_parts) streams plays.played in
+      let written = printed remaining how.strict how.interactive (form_of how.text) task prints (first_of built_in_parts) streams plays.played in
       record { done = written; opened = λ needed. refl; failed = tt; read = tt }
   demo_does (Err failure) plays = record { done = tt; opened = tt; failed = demo_fails failure plays.failed; read = could_read failure }
 
-module _ (path : Bor (List ℕ)) (manifest : Option (List ℕ)) (streams : Streams) (parts : Parts) (is : Describes manifest parts) where
-  compare_fails : (how : Comparison) (expected : Bor (List ℕ)) (failure : Failure) → PlayFails (Compare expected how.explain) (first_of parts) streams failure
-      → FailsFor (compare_of path how) (opened manifest (Some expected.now) streams) failure
-  compare_fails how expected (BadLine n fault) (short, same) = (parts, is, short, same)
+module _ {R : Type 0} (remaining : R → Option (List ℕ)) (path : Bor (List ℕ)) (manifest : Option (List ℕ)) (streams : Streams) (parts : Parts) (is : Describes manifest parts) where
+  compare_fails : (how : Comparison) (expected : Expected R) (failure : Failure) → PlayFails remaining (Compare expected (form_of how.text)) (first_of parts) streams failure
+      → FailsFor (compare_of path how) (opened manifest true (remaining expected.reader) streams) failure
+  compare_fails how expected (BadLine n fault) (short, same) = (parts, is, refl, short, same)
   compare_fails how expected (Read unread) any = tt
   compare_fails how expected Write any = λ needed. (parts, is)
   compare_fails how expected NoMemory any = tt
-  compare_fails how expected Differs differs = (parts, is, (expected.now, refl, differs))
+  compare_fails how expected Differs differs = (parts, is, refl, differs)
   compare_fails how expected other never = absurd never
 
   -- its text is compared
-  pub compare_does : (how : Comparison) (expected : Bor (List ℕ)) (result : Result (Unit {0}) Failure) → Plays (Compare expected how.explain) (first_of parts) streams result
-      → Does (compare_of path how) (opened manifest (Some expected.now) streams) result
-  compare_does how expected (Ok x) plays = record { done = (parts, is, plays.played.0, plays.played.1); opened = λ needed. refl; failed = tt; read = tt }
+  pub compare_does : (how : Comparison) (expected : Expected R) (result : Result (Unit {0}) Failure) → Plays remaining (Compare expected (form_of how.text)) (first_of parts) streams result
+      → Does (compare_of path how) (opened manifest true (remaining expected.reader) streams) result
+  compare_does how expected (Ok x) plays = record { done = (parts, is, refl, plays.played.0, plays.played.1); opened = λ needed. refl; failed = tt; read = tt }
   compare_does how expected (Err failure) plays = record { done = tt; opened = tt; failed = compare_fails how expected failure plays.failed; read = could_read failure }
 
-  picture_fails : (how : Drawing) (keep : Keep) (expected : Option (List ℕ)) (failure : Failure) → PlayFails (Drawn keep) (first_of parts) streams failure
-      → FailsFor (picture_of path how) (opened manifest expected streams) failure
-  picture_fails how keep expected (BadLine n fault) undrawn = (parts, is, undrawn)
-  picture_fails how keep expected (Read unread) any = tt
-  picture_fails how keep expected Write any = λ needed. (parts, is)
-  picture_fails how keep expected NoMemory any = tt
-  picture_fails how keep expected other never = absurd never
+  module _ (is_expected_open : Bool) (expected : Option (List ℕ)) where
+    picture_fails : (how : Drawing) (keep : Keep) (failure : Failure) → PlayFails remaining (Drawn keep how.drawing.width) (first_of parts) streams failure
+        → FailsFor (picture_of path how) (opened manifest is_expected_open expected streams) failure
+    picture_fails how keep (BadLine n fault) undrawn = (parts, is, undrawn)
+    picture_fails how keep (Read unread) any = tt
+    picture_fails how keep Write any = λ needed. (parts, is)
+    picture_fails how keep NoMemory any = tt
+    picture_fails how keep (TooManyRows most) (lines, began, many, same) = ((parts, is, (most, (lines, began, many, same))), same)
+    picture_fails how keep other never = absurd never
 
-  -- its picture is printed
-  pub picture_does : (how : Drawing) (keep : Keep) (expected : Option (List ℕ)) (result : Result (Unit {0}) Failure) → Plays (Drawn keep) (first_of parts) streams result
-      → Does (picture_of path how) (opened manifest expected streams) result
-  picture_does how keep expected (Ok x) plays = record { done = (parts, is, plays.played); opened = λ needed. refl; failed = tt; read = tt }
-  picture_does how keep expected (Err failure) plays = record { done = tt; opened = tt; failed = picture_fails how keep expected failure plays.failed; read = could_read failure }
+    -- its picture is printed
+    pub picture_does : (how : Drawing) (keep : Keep) (result : Result (Unit {0}) Failure) → Plays remaining (Drawn keep how.drawing.width) (first_of parts) streams result
+        → Does (picture_of path how) (opened manifest is_expected_open expected streams) result
+    picture_does how keep (Ok x) plays = record { done = (parts, is, plays.played); opened = λ needed. refl; failed = tt; read = tt }
+    picture_does how keep (Err failure) plays = record { done = tt; opened = tt; failed = picture_fails how keep failure plays.failed; read = could_read failure }
+
+    record_fails : (how : Recording) (failure : Failure) → PlayFails remaining Recorded (first_of parts) streams failure
+        → FailsFor (record_of path how) (opened manifest is_expected_open expected streams) failure
+    record_fails how (BadLine n fault) stops = (parts, is, stops)
+    record_fails how (Read unread) any = tt
+    record_fails how Write any = λ needed. (parts, is)
+    record_fails how NoMemory any = tt
+    record_fails how other never = absurd never
+
+    -- its record is printed
+    pub record_does : (how : Recording) (result : Result (Unit {0}) Failure) → Plays remaining Recorded (first_of parts) streams result
+        → Does (record_of path how) (opened manifest is_expected_open expected streams) result
+    record_does how (Ok x) plays = record { done = (parts, is, plays.played); opened = λ needed. refl; failed = tt; read = tt }
+    record_does how (Err failure) plays = record { done = tt; opened = tt; failed = record_fails how failure plays.failed; read = could_read failure }
+
+    page_fails : (how : Drawing) (failure : Failure) → PlayFails remaining Paged (first_of parts) streams failure
+        → FailsFor (picture_of path how) (opened manifest is_expected_open expected streams) failure
+    page_fails how (BadLine n fault) undrawn = (parts, is, undrawn)
+    page_fails how (Read unread) any = tt
+    page_fails how Write any = λ needed. (parts, is)
+    page_fails how NoMemory any = tt
+    page_fails how other never = absurd never
+
+    -- its page is printed
+    pub page_does : (how : Drawing) (result : Result (Unit {0}) Failure) → Plays remaining Paged (first_of parts) streams result
+        → Does (picture_of path how) (opened manifest is_expected_open expected streams) result
+    page_does how (Ok x) plays = record { done = (parts, is, plays.played); opened = λ needed. refl; failed = tt; read = tt }
+    page_does how (Err failure) plays = record { done = tt; opened = tt; failed = page_fails how failure plays.failed; read = could_read failure }
 
 -- THE STATUS
 

@@ -1,6 +1,6 @@
 -- SPDX-License-Identifier: MIT OR Apache-2.0
 -- What a command of the program leaves.
-use Rattle.std.specs.Prelude.{◌≡◌, ◌⊎◌, ℕ, Bool, true, false, List, Option, Some, Result, IfErr, OnOk, is_some, ⊤}
+use Rattle.std.specs.Prelude.{◌≡◌, ◌⊎◌, ◌&&◌, not, ℕ, Bool, true, false, List, Option, Result, IfErr, OnOk, is_some, ⊤}
 use Rattle.std.specs.Option.{option_and_then}
 use Rattle.std.specs.Io.KnownBytes.{Keeps}
 use Rattle.ffa_model.specs.State.{State}
@@ -11,13 +11,12 @@ use Rattle.ffa_manifest.specs.Document.{Parts, parts_of}
 use Rattle.play_writer.specs.declared.unfit.Unfit.{Unfit}
 use Rattle.play_transcript.specs.Traces.{Wrote}
 use Rattle.play_descriptor.specs.declared.fault.WordsFault.{WordsFault}
-use Rattle.play_forms.specs.Followed.{NeverPrints}
-use Rattle.play_forms.specs.Forms.{plain}
+use Rattle.play_forms.specs.Compared.{NeverPrints, unexplained}
 use Rattle.play_report.specs.Descriptors.{IsMisread, IsSaid, IsUnfit}
 use Rattle.play_report.specs.Manifests.{Describes, IsAccepted, IsChecked, IsLaidOut, IsRefused, SomeCause, bytes_of}
 use Rattle.play_report.specs.declared.failure.Failure.{Failure}
 use Rattle.play_report.specs.declared.failure.Failure.TheVariants as failure
-use Rattle.play_tasks.specs.Plays.{IsCutShort, IsDrawn, IsPlayed, IsStopped, IsUndrawn, IsUnmet, PrintsExpected, Streams, form_of, streams_of}
+use Rattle.play_tasks.specs.Plays.{IsCutShort, IsDrawn, IsOverfull, IsPrinted, IsRecordStopped, IsRecorded, IsStoppedIn, IsUndrawn, IsUnmet, PrintsExpected, Streams, form_of, streams_of}
 use Rattle.play_arguments.specs.Commands.{ask_of, manifest_of, trace_of}
 use Rattle.play_arguments.specs.declared.command_line.Request.{Request}
 use Rattle.play_arguments.specs.declared.command_line.Request.TheVariants as request
@@ -43,11 +42,24 @@ needs_manifest request = is_some (manifest_of (ask_of request))
 abbrev pub needs_trace : Request → Bool
 needs_trace request = is_some (trace_of (ask_of request))
 
+-- whether a command is a session, which tells of bad lines and goes on: guards are checked of none
+abbrev pub is_session : Request → Bool
+is_session (request.Run manifest trace machine text strict interactive verbose) = interactive && not strict
+is_session (request.Demo trace machine text strict interactive verbose) = interactive && not strict
+is_session other = false
+
+-- whether a command checks the guards of its trace
+abbrev pub is_strict : Request → Bool
+is_strict (request.Run manifest trace machine text strict interactive verbose) = strict
+is_strict (request.Demo trace machine text strict interactive verbose) = strict
+is_strict other = false
+
 -- what a command was given, and what it left
 pub record Ran : Type 0 where
   pub manifest : Option (List ℕ)  -- the bytes of the manifest's file, if it could be read
   pub is_open : Bool  -- the trace's file could be opened
-  pub expected : Option (List ℕ)  -- the bytes of the file of the expected text, if it could be read
+  pub is_expected_open : Bool  -- the file of the expected text could be opened
+  pub expected : Option (List ℕ)  -- what its reader had
   pub streams : Streams  -- what the trace's reader had, and what the writer of the output held before, and holds
 
 -- of these files, with a writer as it was and is, by what is known of a reader and of a writer
@@ -55,7 +67,8 @@ abbrev pub ran : {R W : Type 0} → (R → Option (List ℕ)) → Files R → (W
 ran remaining files contents before after = record {
   manifest = bytes_of files.manifest;
   is_open = is_some files.trace;
-  expected = bytes_of files.expected;
+  is_expected_open = is_some files.expected;
+  expected = option_and_then remaining files.expected;
   streams = streams_of (option_and_then remaining) files.trace contents before after;
 }
 
@@ -70,31 +83,37 @@ IsMade lines count manifest held holds =
 
 -- a command was done, on whichever machine
 abbrev pub IsDone : Request → Ran → Type 0
-IsDone (request.Run manifest trace machine text strict verbose) ran =
-    (parts : Parts) × Describes ran.manifest parts × IsPlayed strict (form_of text) (first_of parts) ran.streams
-IsDone (request.Demo trace machine text strict verbose) ran =
-    IsPlayed strict (form_of text) (first_of built_in_parts) ran.streams
-IsDone (request.Compare manifest trace expected machine explain verbose) ran =
+IsDone (request.Run manifest trace machine text strict interactive verbose) ran =
     (parts : Parts) × Describes ran.manifest parts
-    × PrintsExpected (first_of parts) ran.streams.trace ran.expected × IsQuiet ran
+    × IsPrinted strict interactive (form_of text) (first_of parts) ran.streams
+IsDone (request.Demo trace machine text strict interactive verbose) ran =
+    IsPrinted strict interactive (form_of text) (first_of built_in_parts) ran.streams
+IsDone (request.Record manifest trace machine verbose) ran =
+    (parts : Parts) × Describes ran.manifest parts × IsRecorded (first_of parts) ran.streams
+IsDone (request.Compare manifest trace expected machine text verbose) ran =
+    (parts : Parts) × Describes ran.manifest parts × (ran.is_expected_open ≡ true)
+    × PrintsExpected (unexplained (form_of text)) (first_of parts) ran.streams.trace ran.expected × IsQuiet ran
 IsDone (request.Check manifest verbose) ran = IsChecked ran.manifest ran.streams.held ran.streams.holds
-IsDone (request.Layout manifest verbose) ran = IsLaidOut ran.manifest ran.streams.held ran.streams.holds
+IsDone (request.Layout manifest regions verbose) ran = IsLaidOut regions ran.manifest ran.streams.held ran.streams.holds
 IsDone (request.Descriptor words) ran = IsSaid words ran.streams.held ran.streams.holds
 IsDone (request.Generate manifest seed lines count verbose) ran =
     IsMade lines count ran.manifest ran.streams.held ran.streams.holds
-IsDone (request.Picture manifest trace every verbose) ran =
+IsDone (request.Picture manifest trace drawing verbose) ran =
     (parts : Parts) × Describes ran.manifest parts × IsDrawn ran.streams.trace
 
 -- a command's play stopped at line n
 abbrev pub StopsAt : Request → Ran → ℕ → Type 0
-StopsAt (request.Run manifest trace machine text strict verbose) ran n =
-    (parts : Parts) × Describes ran.manifest parts × IsStopped strict (form_of text) (first_of parts) ran.streams n
-StopsAt (request.Demo trace machine text strict verbose) ran n =
-    IsStopped strict (form_of text) (first_of built_in_parts) ran.streams n
-StopsAt (request.Compare manifest trace expected machine explain verbose) ran n =
+StopsAt (request.Run manifest trace machine text strict interactive verbose) ran n =
     (parts : Parts) × Describes ran.manifest parts
-    × IsCutShort (first_of parts) ran.streams.trace ran.expected n × IsQuiet ran
-StopsAt (request.Picture manifest trace every verbose) ran n =
+    × IsStoppedIn strict interactive (form_of text) (first_of parts) ran.streams n
+StopsAt (request.Demo trace machine text strict interactive verbose) ran n =
+    IsStoppedIn strict interactive (form_of text) (first_of built_in_parts) ran.streams n
+StopsAt (request.Record manifest trace machine verbose) ran n =
+    (parts : Parts) × Describes ran.manifest parts × IsRecordStopped (first_of parts) ran.streams n
+StopsAt (request.Compare manifest trace expected machine text verbose) ran n =
+    (parts : Parts) × Describes ran.manifest parts × (ran.is_expected_open ≡ true)
+    × IsCutShort (unexplained (form_of text)) (first_of parts) ran.streams.trace ran.expected n × IsQuiet ran
+StopsAt (request.Picture manifest trace drawing verbose) ran n =
     (parts : Parts) × Describes ran.manifest parts × IsUndrawn ran.streams n
 StopsAt other ran n = ⊥
 
@@ -104,17 +123,17 @@ SomeBadLine request ran = (ran.is_open ≡ true) × ((n : ℕ) × StopsAt reques
 
 -- a comparison found another text
 abbrev pub Differs : Request → Ran → Type 0
-Differs (request.Compare manifest trace expected machine explain verbose) ran =
-    (parts : Parts) × Describes ran.manifest parts
-    × ((bytes : List ℕ) × (ran.expected ≡ Some bytes) × NeverPrints plain (first_of parts) ran.streams.trace bytes)
+Differs (request.Compare manifest trace expected machine text verbose) ran =
+    (parts : Parts) × Describes ran.manifest parts × (ran.is_expected_open ≡ true)
+    × NeverPrints (unexplained (form_of text)) (first_of parts) ran.streams.trace ran.expected
 Differs other ran = ⊥
 
 -- a play stopped at a guard that isn't met, in line n
 abbrev pub UnmetAt : Request → Ran → ℕ → Type 0
-UnmetAt (request.Run manifest trace machine text strict verbose) ran n =
+UnmetAt (request.Run manifest trace machine text strict interactive verbose) ran n =
     (strict ≡ true)
     × ((parts : Parts) × Describes ran.manifest parts × IsUnmet (form_of text) (first_of parts) ran.streams n)
-UnmetAt (request.Demo trace machine text strict verbose) ran n =
+UnmetAt (request.Demo trace machine text strict interactive verbose) ran n =
     (strict ≡ true) × IsUnmet (form_of text) (first_of built_in_parts) ran.streams n
 UnmetAt other ran n = ⊥
 
@@ -122,11 +141,14 @@ UnmetAt other ran n = ⊥
 abbrev pub SomeUnmetGuard : Request → Ran → Type 0
 SomeUnmetGuard request ran = (ran.is_open ≡ true) × ((n : ℕ) × UnmetAt request ran n)
 
--- the words of a descriptor say none, or no bytes say what they do
-abbrev pub IsUnsaid : Request → Type 0
-IsUnsaid (request.Descriptor words) =
+-- what the words ask for can't be had: the words of a descriptor say none, or no bytes say what they do; or a picture
+-- would have too many rows, which is no answer to any other command
+abbrev pub IsUnsaid : Request → Ran → Type 0
+IsUnsaid (request.Descriptor words) ran =
     ((fault : WordsFault) × IsMisread words fault) ⊎ ((cause : Unfit) × IsUnfit words cause)
-IsUnsaid other = ⊥
+IsUnsaid (request.Picture manifest trace drawing verbose) ran =
+    (parts : Parts) × Describes ran.manifest parts × ((most : ℕ) × IsOverfull ran.streams most)
+IsUnsaid other ran = ⊥
 
 -- the manifest is refused, and nothing was written
 abbrev pub SomeRefusal : Ran → Type 0
@@ -145,8 +167,9 @@ FailsFor request ran failure.Write = needs_manifest request ≡ true → IsAccep
 FailsFor request ran failure.NoMemory = ⊤
 FailsFor request ran failure.Differs = Differs request ran
 FailsFor request ran (failure.Unmet n) = UnmetAt request ran n
-FailsFor request ran (failure.Words fault) = IsUnsaid request × IsQuiet ran
-FailsFor request ran (failure.Unfit cause) = IsUnsaid request × IsQuiet ran
+FailsFor request ran (failure.Words fault) = IsUnsaid request ran × IsQuiet ran
+FailsFor request ran (failure.Unfit cause) = IsUnsaid request ran × IsQuiet ran
+FailsFor request ran (failure.TooManyRows most) = IsUnsaid request ran × IsQuiet ran
 
 -- a bad line, and a guard, stands in a trace that could be opened
 abbrev pub IsRead : Bool → Failure → Type 0

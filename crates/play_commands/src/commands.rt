@@ -1,17 +1,18 @@
 // SPDX-License-Identifier: MIT OR Apache-2.0
 //! The commands of the program.
-ghost use Rattle.std.specs.Prelude.{◌≡◌, ◌≤◌, ◌⊎◌, true, IfErr, OnOk, is_some};
+ghost use Rattle.std.specs.Prelude.{◌≡◌, ◌≤◌, ◌⊎◌, true, false, IfErr, OnOk, is_some};
 ghost use Rattle.std.specs.Io.KnownBytes.{Keeps};
-ghost use Rattle.play_commands.specs.Performed.{Differs, Does, FailsFor, IsDone, IsRead, IsUnsaid, SomeBadLine, SomeRefusal, SomeUnmetGuard, needs_manifest, needs_trace, ran};
+ghost use Rattle.play_commands.specs.Performed.{Differs, Does, FailsFor, IsDone, IsRead, IsUnsaid, is_session, is_strict, SomeBadLine, SomeRefusal, SomeUnmetGuard, needs_manifest, needs_trace, ran};
 
 mod generating;
+mod paging;
 mod playing;
 mod running;
 
 use generating::{Making, generate_trace};
 use play_arguments::Request;
 use play_report::{Failure, Notes, accept, describe, lay_out, tell, tell_more};
-use running::{Comparison, Drawing, Printing, compare, demo, draw, run};
+use running::{Comparison, Drawing, Printing, Recording, compare, demo, draw, record, run};
 use std::alloc::{Allocator, Global};
 use std::io::{ErrorKind, Read, Write};
 
@@ -22,9 +23,9 @@ pub struct Files<'a, R> {
     pub manifest: Option<&'a [u8]>,
     /// What reads the trace's file, or `None` where it can't be opened.
     pub trace: Option<R>,
-    /// The bytes of the file of the expected text, or `None` where it can't be read.
-    pub expected: Option<&'a [u8]>,
-    /// Why the first of these that can't be read can't be.
+    /// What reads the file of the expected text, or `None` where it can't be opened.
+    pub expected: Option<R>,
+    /// Why the first of these that can't be read or opened can't be.
     pub reason: Option<ErrorKind>,
 }
 
@@ -36,10 +37,13 @@ pub struct Files<'a, R> {
 /// line that says more where that is asked for; where there is no memory to find that, it is told alone. The status is 0
 /// for a command that was done, 1 for a manifest that is refused, 2 for a line that is none of a trace, 3 where a file
 /// can't be read, `out` can't be written or memory is short, 4 where a trace prints another text than is expected, 5
-/// where a guard of the trace isn't met, and 64 where the words of a descriptor make no sense. Faults are found in this
-/// order: the words of a descriptor, the manifest's file, the manifest, the trace's file, the file of the expected text,
-/// RAM, the trace. An `out` that can't be flushed can't be written. This is told in place of a bad line, a difference
-/// and a guard, since what was printed is lost, and of no other fault, which was found before.
+/// where a guard of the trace isn't met, and 64 where the words of a descriptor make no sense, or a picture would have more
+/// rows than fit. Faults are found in this order: the words of a descriptor, the manifest's file, the manifest, the trace's
+/// file, the file of the expected text, RAM, the trace and the expected text, which are read together. A session tells `err`
+/// of bad lines too, and is done where its trace ends. Where guards are checked, `err` is told before its other lines which
+/// comments are nearly guards, and of a command that was done how many guards were met. An `out` that can't be flushed can't
+/// be written. This is told in place of a bad line, a difference and a guard, since what was printed is lost, and of no other
+/// fault, which was found before.
 pub fn perform<A: Allocator + Copy, R: Read + Drop, W: Write, E: Write>(
     manifests: Global,
     alloc: A,
@@ -55,14 +59,20 @@ pub fn perform<A: Allocator + Copy, R: Read + Drop, W: Write, E: Write>(
     ensures bad { result ≡ 2 → SomeBadLine request.now (ran R.remaining files.entry W.contents out.old out.new) }
     ensures differs { result ≡ 4 → Differs request.now (ran R.remaining files.entry W.contents out.old out.new) }
     ensures unmet { result ≡ 5 → SomeUnmetGuard request.now (ran R.remaining files.entry W.contents out.old out.new) }
-    ensures unsaid { result ≡ 64 → IsUnsaid request.now × Keeps (W.contents out.old) (W.contents out.new) }
-    ensures quiet { result ≡ 0 → Keeps (E.contents err.old) (E.contents err.new) }
+    ensures unsaid { result ≡ 64
+        → IsUnsaid request.now (ran R.remaining files.entry W.contents out.old out.new)
+        × Keeps (W.contents out.old) (W.contents out.new) }
+    ensures quiet { result ≡ 0 → is_session request.now ≡ false → is_strict request.now ≡ false
+        → Keeps (E.contents err.old) (E.contents err.new) }
     ensures status { (result ≤ 5) ⊎ (result ≡ 64) }
 {
     let reason = files.reason;
     let mut notes = Notes::new(alloc, request.is_verbose());
-    match do_request(manifests, alloc, request, files, out, &mut notes) {
-        Ok(()) => 0,
+    match do_request(manifests, alloc, request, files, out, err, &mut notes) {
+        Ok(()) => {
+            tell_guards(request, &notes.guard, err);
+            0
+        }
         Err(failure) => {
             let status = tell(err, &failure, &notes.guard);
             tell_more(err, &notes.more_of(&failure, reason));
@@ -71,22 +81,43 @@ pub fn perform<A: Allocator + Copy, R: Read + Drop, W: Write, E: Write>(
     }
 }
 
+// Tells what is said of guards, where a command checks them.
+fn tell_guards<E: Write>(request: &Request<'_>, told: &[u8], err: &mut E)
+    ensures { is_strict request.now ≡ false → Keeps (E.contents err.old) (E.contents err.new) }
+{
+    if is_strict(request) {
+        let _ = err.write_all(told);
+    }
+}
+
+// Whether a command checks the guards of its trace.
+fn is_strict(request: &Request<'_>) -> bool
+    ensures { result ≡ is_strict request.now }
+{
+    match request {
+        Request::Run { strict, .. } | Request::Demo { strict, .. } => *strict,
+        _ => false,
+    }
+}
+
 // Does what was asked for, and flushes what it wrote. Where that fails, a command isn't done, and no bad line, difference
 // or guard is told of, since the text is lost. Another failure was found before, and stays.
-fn do_request<'a, A: Allocator + Copy, R: Read + Drop, W: Write>(
+fn do_request<'a, A: Allocator + Copy, R: Read + Drop, W: Write, E: Write>(
     manifests: Global,
     alloc: A,
     request: &Request<'a>,
     files: Files<'_, R>,
     out: &mut W,
+    err: &mut E,
     notes: &mut Notes<A>,
 ) -> Result<(), Failure<'a>>
     ensures done { OnOk result (IsDone request.now (ran R.remaining files.entry W.contents out.old out.new)) }
     ensures opened { OnOk result (needs_trace request.now ≡ true → is_some files.entry.trace ≡ true) }
     ensures failed { IfErr result (FailsFor request.now (ran R.remaining files.entry W.contents out.old out.new)) }
     ensures read { IfErr result (IsRead (is_some files.entry.trace)) }
+    ensures quiet { is_session request.now ≡ false → err.new ≡ err.old }
 {
-    let done = do_command(manifests, alloc, request, files, out, notes);
+    let done = do_command(manifests, alloc, request, files, out, err, notes);
     let flushed = out.flush();
     match done {
         Ok(()) | Err(Failure::BadLine(..) | Failure::Differs | Failure::Unmet(_))
@@ -95,15 +126,17 @@ fn do_request<'a, A: Allocator + Copy, R: Read + Drop, W: Write>(
     }
 }
 
-fn do_command<'a, A: Allocator + Copy, R: Read + Drop, W: Write>(
+fn do_command<'a, A: Allocator + Copy, R: Read + Drop, W: Write, E: Write>(
     manifests: Global,
     alloc: A,
     request: &Request<'a>,
     files: Files<'_, R>,
     out: &mut W,
+    err: &mut E,
     notes: &mut Notes<A>,
 ) -> Result<(), Failure<'a>>
-    ensures { Does request.now (ran R.remaining files.entry W.contents out.old out.new) result }
+    ensures does { Does request.now (ran R.remaining files.entry W.contents out.old out.new) result }
+    ensures quiet { is_session request.now ≡ false → err.new ≡ err.old }
 {
     match *request {
         Request::Run {
@@ -112,6 +145,7 @@ fn do_command<'a, A: Allocator + Copy, R: Read + Drop, W: Write>(
             machine,
             text,
             strict,
+            interactive,
             verbose,
         } => {
             let how = Printing {
@@ -119,15 +153,17 @@ fn do_command<'a, A: Allocator + Copy, R: Read + Drop, W: Write>(
                 machine,
                 text,
                 strict,
+                interactive,
                 verbose,
             };
-            run(manifests, alloc, path, how, files, out, notes)
+            run(manifests, alloc, path, how, files, out, err, notes)
         }
         Request::Demo {
             trace,
             machine,
             text,
             strict,
+            interactive,
             verbose,
         } => {
             let how = Printing {
@@ -135,26 +171,40 @@ fn do_command<'a, A: Allocator + Copy, R: Read + Drop, W: Write>(
                 machine,
                 text,
                 strict,
+                interactive,
                 verbose,
             };
-            demo(alloc, how, files, out, notes)
+            demo(alloc, how, files, out, err, notes)
+        }
+        Request::Record {
+            manifest: path,
+            trace,
+            machine,
+            verbose,
+        } => {
+            let how = Recording {
+                trace,
+                machine,
+                verbose,
+            };
+            record(manifests, alloc, path, how, files, out, err, notes)
         }
         Request::Compare {
             manifest: path,
             trace,
             expected,
             machine,
-            explain,
+            text,
             verbose,
         } => {
             let how = Comparison {
                 trace,
                 expected,
                 machine,
-                explain,
+                text,
                 verbose,
             };
-            compare(manifests, alloc, path, how, files, out, notes)
+            compare(manifests, alloc, path, how, files, out, err, notes)
         }
         Request::Check { manifest: path, .. } => accept(
             manifests,
@@ -163,13 +213,11 @@ fn do_command<'a, A: Allocator + Copy, R: Read + Drop, W: Write>(
             out,
             notes,
         ),
-        Request::Layout { manifest: path, .. } => lay_out(
-            manifests,
-            path,
-            files.manifest,
-            out,
-            notes,
-        ),
+        Request::Layout {
+            manifest: path,
+            regions,
+            ..
+        } => lay_out(manifests, path, files.manifest, regions, out, notes),
         Request::Descriptor { words } => describe(alloc, &words, out),
         Request::Generate {
             manifest: path,
@@ -184,15 +232,15 @@ fn do_command<'a, A: Allocator + Copy, R: Read + Drop, W: Write>(
         Request::Picture {
             manifest: path,
             trace,
-            every,
+            drawing,
             verbose,
         } => {
             let how = Drawing {
                 trace,
-                every,
+                drawing,
                 verbose,
             };
-            draw(manifests, alloc, path, how, files, out, notes)
+            draw(manifests, alloc, path, how, files, out, err, notes)
         }
     }
 }

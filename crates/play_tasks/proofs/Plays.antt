@@ -1,32 +1,42 @@
 -- SPDX-License-Identifier: MIT OR Apache-2.0
 -- What a play leaves, for the one who asked for it.
-use Rattle.std.proofs.Common.{◌≡◌, ◌⊎◌, Bor, Bool, true, false, List, [], ◌∷◌, ◌++◌, ℕ, Option, None, Some, Ok, Err, Result, inl, inr, refl, ap, sym, ◌∙◌, subst, append_assoc, append-nil}
+use Rattle.std.proofs.Common.{arith, ◌≡◌, ◌⊎◌, Bor, Bool, true, false, List, [], ◌∷◌, ◌++◌, ℕ, Option, None, Some, Ok, Err, Result, inl, inr, refl, ap, sym, ◌∙◌, subst, append_assoc, append-nil}
 use Rattle.std.specs.Prelude.{OnOk, unwrap_or}
 use Rattle.std.specs.Io.KnownBytes.{Appends, Consumes, IsAtEnd, Keeps, prepend_known}
 use Rattle.std.proofs.KnownBytes.{Consumes-trans}
 use Rattle.ffa_model.specs.State.{State}
-use Rattle.play_syntax.specs.TraceLines.{feed, joined}
+use Rattle.play_syntax.specs.TraceLines.{feed, has_no_feed, joined}
 use Rattle.play_syntax.specs.TraceText.{text}
 use Rattle.play_player.specs.Played.{Played}
 use Rattle.play_syntax.specs.declared.output.PlayError.{PlayError}
 use Rattle.play_syntax.specs.declared.output.PlayError.TheVariants as play_error
 use Rattle.play_forms.specs.declared.form.Form.{Form}
 use Rattle.play_reasons.specs.declared.fault.LineFault.{LineFault}
+use Rattle.play_forms.specs.Compared.{Compared, NeverPrints, unexplained}
 use Rattle.play_forms.specs.Followed as followed
 use Rattle.play_forms.specs.Forms.{plain, text_in}
-use Rattle.play_forms.specs.Guards.{GuardedIn}
+use Rattle.play_forms.specs.Guards.{GuardedIn, guards_among, near_from}
+use Rattle.play_forms.specs.Recorded.{RecordedIn}
+use Rattle.play_report.specs.Guarded.{met_text, near_text}
 use Rattle.play_forms.specs.declared.guards.Breach.{Breach}
 use Rattle.play_forms.specs.Reading.{IsAll}
+use Rattle.play_forms.specs.Sessions.{Conversed, SessionIn}
+use Rattle.play_forms.specs.declared.comparison.CompareError.TheVariants as compare_error
 use Rattle.play_forms.proofs.Plain.{plain_text}
+use Rattle.play_page.specs.Paging.{Paging}
+use Rattle.play_page.specs.declared.page.Page.{Page}
 use Rattle.play_picture.specs.Pictured.{Pictured}
 use Rattle.play_drawing.specs.declared.picture.Picture.{Picture}
 use Rattle.play_drawing.specs.declared.row.Keep.{Keep}
+use Rattle.play_drawing.specs.declared.size.TooLarge.{TooLarge}
+use Rattle.play_picture.proofs.Seen.{rows_few}
 use Rattle.play_report.specs.Failures.{IsDifference, failure_of}
 use Rattle.play_report.specs.declared.failure.Failure.{Failure}
-use Rattle.play_report.specs.declared.failure.Failure.TheVariants.{Manifest, BadLine, Read, Write, NoMemory, Differs, Unmet, Words, Unfit}
-use Rattle.play_tasks.specs.Plays.{DiffersBy, EndsBadly, IsDoneBy, IsDrawn, IsPlayed, IsStopped, IsCutShort, IsUnmet, PrintsExpected, PrintsIn, StopsBy, Streams, UnmetBy, PlayFails}
+use Rattle.play_report.specs.declared.failure.Failure.TheVariants.{Manifest, BadLine, Read, Write, NoMemory, Differs, Unmet, Words, Unfit, TooManyRows}
+use Rattle.play_tasks.specs.Plays.{DiffersBy, EndsBadly, IsDoneBy, IsDrawn, IsHeld, IsPlayed, IsPrinted, IsRecorded, IsStopped, IsStoppedIn, IsCutShort, IsUnmet, IsOverfull, OverfullBy, PrintsExpected, PrintsIn, StopsBy, Streams, TellsGuards, UnmetBy, PlayFails}
+use Rattle.play_tasks.specs.declared.task.Expected.{Expected}
 use Rattle.play_tasks.specs.declared.task.Task.{Task}
-use Rattle.play_tasks.specs.declared.task.Task.TheVariants.{Plain, Formed, Guarded, Compare, Drawn}
+use Rattle.play_tasks.specs.declared.task.Task.TheVariants.{Plain, Formed, Guarded, Recorded, Session, Compare, Drawn, Paged}
 
 -- BYTES THAT A READER HAD, AND THAT A WRITER HOLDS
 
@@ -119,13 +129,13 @@ played_to start now held holds had has n (lines, bad, more, did, consumed, numbe
       never_strict,
     )
 
-pub play_failed : (start now : State) (held holds had has : Option (List ℕ)) (path : Bor (List ℕ)) (fault : Option LineFault) (error : PlayError)
-    → Played {X = Unit {0}} start now held holds had has (Err error) → PlayFails Plain start (passed had held holds) (failure_of (Read path) fault error)
-play_failed start now held holds had has path fault play_error.Read (lines, more, did, consumed, counted, ended) =
+pub play_failed : {R : Type 0} (remaining : R → Option (List ℕ)) (start now : State) (held holds had has : Option (List ℕ)) (path : Bor (List ℕ)) (fault : Option LineFault) (error : PlayError)
+    → Played {X = Unit {0}} start now held holds had has (Err error) → PlayFails remaining Plain start (passed had held holds) (failure_of (Read path) fault error)
+play_failed remaining start now held holds had has path fault play_error.Read (lines, more, did, consumed, counted, ended) =
     (lines, (did.each, (prepend_known more has, before_read had has (joined lines) more consumed)), written_plainly start held holds lines did.written, never_strict)
-play_failed start now held holds had has path fault play_error.Write p = tt
-play_failed start now held holds had has path fault play_error.NoMemory p = tt
-play_failed start now held holds had has path fault (play_error.BadLine n) p = played_to start now held holds had has n p
+play_failed remaining start now held holds had has path fault play_error.Write p = tt
+play_failed remaining start now held holds had has path fault play_error.NoMemory p = tt
+play_failed remaining start now held holds had has path fault (play_error.BadLine n) p = played_to start now held holds had has n p
 
 -- PLAYS IN A FORM, AND COMPARISONS
 
@@ -148,14 +158,14 @@ formed_whole x form start now held holds had bytes (left, lines, said, f, ended,
   guards = never_strict;
 }
 
-pub formed_failed : (form : Form) (start now : State) (held holds had : Option (List ℕ)) (bytes : List ℕ) (path : Bor (List ℕ)) (fault : Option LineFault) (error : PlayError)
+pub formed_failed : {R : Type 0} (remaining : R → Option (List ℕ)) (form : Form) (start now : State) (held holds had : Option (List ℕ)) (bytes : List ℕ) (path : Bor (List ℕ)) (fault : Option LineFault) (error : PlayError)
     → followed.PlayedIn {X = Unit {0}} form start now held holds had bytes (Err error)
-    → PlayFails (Formed form) start (passed had held holds) (failure_of (Read path) fault error)
-formed_failed form start now held holds had bytes path fault play_error.Read (left, lines, said, f, written) =
+    → PlayFails remaining (Formed form) start (passed had held holds) (failure_of (Read path) fault error)
+formed_failed remaining form start now held holds had bytes path fault play_error.Read (left, lines, said, f, written) =
     (lines, (f.each, (left, f.read)), subst (Appends held holds) f.said written, never_strict)
-formed_failed form start now held holds had bytes path fault play_error.Write p = tt
-formed_failed form start now held holds had bytes path fault play_error.NoMemory p = tt
-formed_failed form start now held holds had bytes path fault (play_error.BadLine n) (said, e, written) =
+formed_failed remaining form start now held holds had bytes path fault play_error.Write p = tt
+formed_failed remaining form start now held holds had bytes path fault play_error.NoMemory p = tt
+formed_failed remaining form start now held holds had bytes path fault (play_error.BadLine n) (said, e, written) =
     (e.lines, ends_badly form start now had said bytes n e, subst (Appends held holds) e.followed.said written, never_strict)
 
 -- PICTURES
@@ -164,29 +174,58 @@ pub always_ok : {T E P : Type 0} (r : Result T E) → P → OnOk r P
 always_ok (Ok x) p = p
 always_ok (Err e) p = tt
 
-pub drawn_whole : {A : Type 0} (picture : Picture A) (keep : Keep) (start now : State) (had : Option (List ℕ)) (bytes : List ℕ) → Pictured keep start now had bytes (Ok picture) → IsDrawn had
-drawn_whole picture keep start now had bytes (left, lines, said, f, ended, is) = record { lines = lines; each = f.each; all = all_consumed had left (joined lines) f.read ended }
+pub drawn_whole : {A : Type 0} (picture : Picture A) (keep : Keep) (start now : State) (had : Option (List ℕ)) (bytes : List ℕ) → Pictured keep start now had bytes (Ok (Ok picture)) → IsDrawn had
+drawn_whole picture keep start now had bytes (left, lines, said, f, ended, is, fits) = record { lines = lines; each = f.each; all = all_consumed had left (joined lines) f.read ended }
 
-pub drawn_failed : (A : Type 0) (keep : Keep) (start now : State) (held had : Option (List ℕ)) (bytes : List ℕ) (path : Bor (List ℕ)) (fault : Option LineFault) (error : PlayError)
-    → Pictured {A = A} keep start now had bytes (Err error) → PlayFails (Drawn keep) start (passed had held held) (failure_of (Read path) fault error)
-drawn_failed A keep start now held had bytes path fault play_error.Read p = kept held
-drawn_failed A keep start now held had bytes path fault play_error.Write p = absurd p
-drawn_failed A keep start now held had bytes path fault play_error.NoMemory p = tt
-drawn_failed A keep start now held had bytes path fault (play_error.BadLine n) (said, e) = (e.lines, ends_badly plain start now had said bytes n e, kept held)
+pub drawn_over : (A : Type 0) (large : TooLarge) (keep : Keep) (start now : State) (held had : Option (List ℕ)) (bytes : List ℕ) → Pictured {A = A} keep start now had bytes (Ok (Err large))
+    → IsOverfull (passed had held held) large.most
+drawn_over A large keep start now held had bytes (left, lines, said, f, is) =
+    let few = rows_few keep start lines is.rows is.are_rows in
+    let more = is.more in
+    (lines, (f.each, (left, f.read)), omega (arith, few, more), kept held)
 
-pub guarded_whole : (form : Form) (start now : State) (held holds had : Option (List ℕ)) (line found : List ℕ) → GuardedIn form start now held holds had line found (Ok None)
+pub drawn_failed : {R : Type 0} (remaining : R → Option (List ℕ)) (A : Type 0) (keep : Keep) (width : ℕ) (start now : State) (held had : Option (List ℕ)) (bytes : List ℕ) (path : Bor (List ℕ)) (fault : Option LineFault) (error : PlayError)
+    → Pictured {A = A} keep start now had bytes (Err error) → PlayFails remaining (Drawn keep width) start (passed had held held) (failure_of (Read path) fault error)
+drawn_failed remaining A keep width start now held had bytes path fault play_error.Read p = kept held
+drawn_failed remaining A keep width start now held had bytes path fault play_error.Write p = absurd p
+drawn_failed remaining A keep width start now held had bytes path fault play_error.NoMemory p = tt
+drawn_failed remaining A keep width start now held had bytes path fault (play_error.BadLine n) (said, e) = (e.lines, ends_badly plain start now had said bytes n e, kept held)
+
+pub paged_whole : {A : Type 0} (page : Page A) (start now : State) (had : Option (List ℕ)) (bytes : List ℕ) → Paging start now had bytes (Ok page) → IsDrawn had
+paged_whole page start now had bytes (left, lines, said, f, ended, is) = record { lines = lines; each = f.each; all = all_consumed had left (joined lines) f.read ended }
+
+pub paged_failed : {R : Type 0} (remaining : R → Option (List ℕ)) (A : Type 0) (start now : State) (held had : Option (List ℕ)) (bytes : List ℕ) (path : Bor (List ℕ)) (fault : Option LineFault) (error : PlayError)
+    → Paging {A = A} start now had bytes (Err error) → PlayFails remaining Paged start (passed had held held) (failure_of (Read path) fault error)
+paged_failed remaining A start now held had bytes path fault play_error.Read p = kept held
+paged_failed remaining A start now held had bytes path fault play_error.Write p = absurd p
+paged_failed remaining A start now held had bytes path fault play_error.NoMemory p = tt
+paged_failed remaining A start now held had bytes path fault (play_error.BadLine n) (said, e) = (e.lines, ends_badly plain start now had said bytes n e, kept held)
+
+pub guarded_whole : (form : Form) (start now : State) (held holds had : Option (List ℕ)) (line found : List ℕ) (met : ℕ) (near : List ℕ) → GuardedIn form start now held holds had line found met near (Ok None)
     → IsPlayed true form start (passed had held holds)
-guarded_whole form start now held holds had line found (left, lines, said, f, ended, written, met) = record {
+guarded_whole form start now held holds had line found met near (left, lines, said, f, ended, written, are_met, counts) = record {
   lines = lines;
   each = f.each;
   all = all_consumed had left (joined lines) f.read ended;
   written = subst (Appends held holds) f.said written;
-  guards = λ strict. met;
+  guards = λ strict. are_met;
 }
 
-pub guarded_unmet : (form : Form) (start now : State) (held holds had : Option (List ℕ)) (line found : List ℕ) (breach : Breach)
-    → GuardedIn form start now held holds had line found (Ok (Some breach)) → IsUnmet form start (passed had held holds) breach.number
-guarded_unmet form start now held holds had line found breach (said, b, written) = record {
+-- what is said of the guards
+pub guarded_told : (form : Form) (start now : State) (held holds had : Option (List ℕ)) (line found : List ℕ) (met : ℕ) (near before between after : List ℕ) → GuardedIn form start now held holds had line found met near (Ok None)
+    → between ≡ before ++ near_text near → after ≡ between ++ met_text met → TellsGuards had before after
+guarded_told form start now held holds had line found met near before between after (left, lines, said, f, ended, written, are_met, counts) nears tells = record {
+  lines = lines;
+  all = all_consumed had left (joined lines) f.read ended;
+  each = f.each;
+  says =
+      tells ∙ ap (λ t. t ++ met_text met) (nears ∙ ap (λ ns. before ++ near_text ns) counts.1) ∙ ap (λ n. before ++ near_text (near_from 1 lines) ++ met_text n) counts.0
+      ∙ append_assoc before (near_text (near_from 1 lines)) (met_text (guards_among lines));
+}
+
+pub guarded_unmet : (form : Form) (start now : State) (held holds had : Option (List ℕ)) (line found : List ℕ) (met : ℕ) (near : List ℕ) (breach : Breach)
+    → GuardedIn form start now held holds had line found met near (Ok (Some breach)) → IsUnmet form start (passed had held holds) breach.number
+guarded_unmet form start now held holds had line found met near breach (said, b, written, counts) = record {
   lines = b.lines;
   line = line;
   rest = unwrap_or b.after_guard [];
@@ -201,85 +240,173 @@ guarded_unmet form start now held holds had line found breach (said, b, written)
   written = subst (Appends held holds) b.followed.said written;
 }
 
-pub breach_told : (form : Form) (start : State) (streams : Streams) (n : ℕ) → IsUnmet form start streams n → (failure : Failure)
-    → (failure ≡ Unmet n) ⊎ (failure ≡ NoMemory) → PlayFails (Guarded form) start streams failure
-breach_told form start streams n unmet failure (inl is) = subst (PlayFails (Guarded form) start streams) (sym is) unmet
-breach_told form start streams n unmet failure (inr is) = subst (PlayFails (Guarded form) start streams) (sym is) tt
+pub breach_told : {R : Type 0} (remaining : R → Option (List ℕ)) (form : Form) (start : State) (streams : Streams) (n : ℕ) → IsUnmet form start streams n → (failure : Failure)
+    → (failure ≡ Unmet n) ⊎ (failure ≡ NoMemory) → PlayFails remaining (Guarded form) start streams failure
+breach_told remaining form start streams n unmet failure (inl is) = subst (PlayFails remaining (Guarded form) start streams) (sym is) unmet
+breach_told remaining form start streams n unmet failure (inr is) = subst (PlayFails remaining (Guarded form) start streams) (sym is) tt
 
-pub guarded_failed : (form : Form) (start now : State) (held holds had : Option (List ℕ)) (line found : List ℕ) (path : Bor (List ℕ)) (fault : Option LineFault) (error : PlayError)
-    → GuardedIn form start now held holds had line found (Err error)
-    → PlayFails (Guarded form) start (passed had held holds) (failure_of (Read path) fault error)
-guarded_failed form start now held holds had line found path fault play_error.Read (left, lines, said, f, written, met) =
-    (lines, (f.each, (left, f.read)), subst (Appends held holds) f.said written, λ strict. met)
-guarded_failed form start now held holds had line found path fault play_error.Write p = tt
-guarded_failed form start now held holds had line found path fault play_error.NoMemory p = tt
-guarded_failed form start now held holds had line found path fault (play_error.BadLine n) (said, e, written, met) =
-    (e.lines, ends_badly form start now had said line n e, subst (Appends held holds) e.followed.said written, λ strict. met)
+pub guarded_failed : {R : Type 0} (remaining : R → Option (List ℕ)) (form : Form) (start now : State) (held holds had : Option (List ℕ)) (line found : List ℕ) (met : ℕ) (near : List ℕ) (path : Bor (List ℕ)) (fault : Option LineFault) (error : PlayError)
+    → GuardedIn form start now held holds had line found met near (Err error)
+    → PlayFails remaining (Guarded form) start (passed had held holds) (failure_of (Read path) fault error)
+guarded_failed remaining form start now held holds had line found met near path fault play_error.Read (left, lines, said, f, written, are_met, counts) =
+    (lines, (f.each, (left, f.read)), subst (Appends held holds) f.said written, λ strict. are_met)
+guarded_failed remaining form start now held holds had line found met near path fault play_error.Write p = tt
+guarded_failed remaining form start now held holds had line found met near path fault play_error.NoMemory p = tt
+guarded_failed remaining form start now held holds had line found met near path fault (play_error.BadLine n) (said, e, written, are_met, counts) =
+    (e.lines, ends_badly form start now had said line n e, subst (Appends held holds) e.followed.said written, λ strict. are_met)
 
-pub compared_whole : (start now : State) (had : Option (List ℕ)) (explain : Bool) (expected bytes : List ℕ) → followed.Compared plain start now had explain expected bytes (Ok None) → PrintsExpected start had (Some expected)
-compared_whole start now had explain expected bytes (left, lines, f, ended) = record {
+-- RECORDS
+
+pub recorded_whole : {X : Type 0} (x : X) (start now : State) (held holds had : Option (List ℕ)) (bytes : List ℕ) → RecordedIn start now held holds had bytes (Ok x) → IsRecorded start (passed had held holds)
+recorded_whole x start now held holds had bytes (left, lines, said, f, ended, written, replays) = record {
   lines = lines;
   each = f.each;
   all = all_consumed had left (joined lines) f.read ended;
-  same = ap Some (f.said ∙ plain_text 1 start lines);
+  written = written;
+  replays = replays;
 }
 
-pub cut_short : (start now : State) (had : Option (List ℕ)) (explain : Bool) (expected bytes : List ℕ) (n : ℕ) → followed.Compared plain start now had explain expected bytes (Err (play_error.BadLine n))
-    → IsCutShort start had (Some expected) n
-cut_short start now had explain expected bytes n (said, more, alike, e) =
-    (e.lines, ends_badly plain start now had said bytes n e, (more, ap Some (alike ∙ ap (λ l. l ++ more) (e.followed.said ∙ plain_text 1 start e.lines))))
+pub recorded_failed : {R : Type 0} (remaining : R → Option (List ℕ)) (start now : State) (held holds had : Option (List ℕ)) (bytes : List ℕ) (path : Bor (List ℕ)) (fault : Option LineFault) (error : PlayError)
+    → RecordedIn {X = Unit {0}} start now held holds had bytes (Err error)
+    → PlayFails remaining Recorded start (passed had held holds) (failure_of (Read path) fault error)
+recorded_failed remaining start now held holds had bytes path fault play_error.Read (left, lines, said, f, written, replays) =
+    (lines, (f.each, (left, f.read)), written)
+recorded_failed remaining start now held holds had bytes path fault play_error.Write p = tt
+recorded_failed remaining start now held holds had bytes path fault play_error.NoMemory p = tt
+recorded_failed remaining start now held holds had bytes path fault (play_error.BadLine n) (said, e, written, replays) =
+    (e.lines, ends_badly plain start now had said bytes n e, written)
 
-pub compared_failed : (start now : State) (had held : Option (List ℕ)) (expected : Bor (List ℕ)) (explain : Bool) (bytes : List ℕ) (path : Bor (List ℕ)) (fault : Option LineFault) (error : PlayError)
-    → followed.Compared plain start now had explain expected.now bytes (Err error) → PlayFails (Compare expected explain) start (passed had held held) (failure_of (Read path) fault error)
-compared_failed start now had held expected explain bytes path fault play_error.Read (left, lines, said, more, alike, f) =
-    ((lines, (f.each, (left, f.read)), (more, ap Some (alike ∙ ap (λ l. l ++ more) (f.said ∙ plain_text 1 start lines)))), kept held)
-compared_failed start now had held expected explain bytes path fault play_error.Write p = absurd p
-compared_failed start now had held expected explain bytes path fault play_error.NoMemory p = tt
-compared_failed start now had held expected explain bytes path fault (play_error.BadLine n) p = (cut_short start now had explain expected.now bytes n p, kept held)
+-- COMPARISONS
+
+pub compared_whole : (form : Form) (start now : State) (had wants : Option (List ℕ)) (bytes said wanted : List ℕ) → Compared form start now had wants bytes said wanted (Ok None) → PrintsExpected (unexplained form) start had wants
+compared_whole form start now had wants bytes said wanted (left, lines, printed, f, ended, all) = record {
+  lines = lines;
+  each = f.each;
+  all = all_consumed had left (joined lines) f.read ended;
+  same = subst (IsAll wants) f.said all;
+}
+
+cut_short : (form : Form) (start now : State) (had wants : Option (List ℕ)) (bytes said wanted : List ℕ) (n : ℕ) → Compared form start now had wants bytes said wanted (Err (compare_error.Play (play_error.BadLine n)))
+    → IsCutShort (unexplained form) start had wants n
+cut_short form start now had wants bytes said wanted n (printed, more, alike, e) =
+    (e.lines, ends_badly (unexplained form) start now had printed bytes n e, (more, subst (Consumes wants more) e.followed.said alike))
+
+module _ {R : Type 0} (remaining : R → Option (List ℕ)) (form : Form) (start now : State) (had held : Option (List ℕ)) (expected : Expected R) (bytes said wanted : List ℕ) where
+  pub compared_failed : (path : Bor (List ℕ)) (fault : Option LineFault) (error : PlayError) → Compared form start now had (remaining expected.reader) bytes said wanted (Err (compare_error.Play error))
+      → PlayFails remaining (Compare expected form) start (passed had held held) (failure_of (Read path) fault error)
+  compared_failed path fault play_error.Read (left, lines, printed, more, alike, f) =
+      (inl (lines, (f.each, (left, f.read)), (more, subst (Consumes (remaining expected.reader) more) f.said alike)), kept held)
+  compared_failed path fault play_error.Write p = absurd p
+  compared_failed path fault play_error.NoMemory p = tt
+  compared_failed path fault (play_error.BadLine n) p = (cut_short form start now had (remaining expected.reader) bytes said wanted n p, kept held)
+
+  -- the expected text couldn't be read
+  pub compared_unmatched : (path : Bor (List ℕ)) → Compared form start now had (remaining expected.reader) bytes said wanted (Err compare_error.Expected)
+      → PlayFails remaining (Compare expected form) start (passed had held held) (Read path)
+  compared_unmatched path (left, lines, front, back, more, alike, f) = (inr (lines, (f.each, (left, f.read)), (front, back, more, sym f.said, alike)), kept held)
 
 -- where a difference was found
-pub differing : (start : State) (streams : Streams) (expected : Bor (List ℕ)) (explain : Bool) → followed.NeverPrints plain start streams.trace expected.now
-    → (failure : Failure) → IsDifference failure → PlayFails (Compare expected explain) start streams failure
-differing start streams expected explain never_prints Differs any = never_prints
-differing start streams expected explain never_prints Write any = tt
-differing start streams expected explain never_prints NoMemory any = tt
-differing start streams expected explain never_prints (Manifest cause) never = absurd never
-differing start streams expected explain never_prints (BadLine n fault) never = absurd never
-differing start streams expected explain never_prints (Read path) never = absurd never
-differing start streams expected explain never_prints (Unmet n) never = absurd never
-differing start streams expected explain never_prints (Words fault) never = absurd never
-differing start streams expected explain never_prints (Unfit cause) never = absurd never
+pub differing : {R : Type 0} (remaining : R → Option (List ℕ)) (form : Form) (start : State) (streams : Streams) (expected : Expected R) → NeverPrints (unexplained form) start streams.trace (remaining expected.reader)
+    → (failure : Failure) → IsDifference failure → PlayFails remaining (Compare expected form) start streams failure
+differing remaining form start streams expected never_prints Differs any = never_prints
+differing remaining form start streams expected never_prints Write any = tt
+differing remaining form start streams expected never_prints NoMemory any = tt
+differing remaining form start streams expected never_prints (Manifest cause) never = absurd never
+differing remaining form start streams expected never_prints (BadLine n fault) never = absurd never
+differing remaining form start streams expected never_prints (Read path) never = absurd never
+differing remaining form start streams expected never_prints (Unmet n) never = absurd never
+differing remaining form start streams expected never_prints (Words fault) never = absurd never
+differing remaining form start streams expected never_prints (Unfit cause) never = absurd never
+differing remaining form start streams expected never_prints (TooManyRows most) never = absurd never
+
+-- SESSIONS
+
+held_of : (form : Form) (start now : State) (held holds had left : Option (List ℕ)) (lines : List (List ℕ)) (said rest : List ℕ) → Conversed form start now had left lines said → Appends held holds said
+    → has_no_feed rest ≡ true → IsAll left rest → IsHeld form start (passed had held holds)
+held_of form start now held holds had left lines said rest heard written single all = record {
+  lines = lines;
+  rest = rest;
+  each = heard.each;
+  single = single;
+  all = rest_behind had left (joined lines) rest heard.read all;
+  written = subst (Appends held holds) heard.said written;
+}
+  where
+    rest_behind : (had left : Option (List ℕ)) (before rest : List ℕ) → Consumes had left before → IsAll left rest → IsAll had (before ++ rest)
+    rest_behind None left before rest c all = tt
+    rest_behind (Some xs) None before rest c all = absurd c
+    rest_behind (Some xs) (Some ys) before rest c all = c ∙ ap (λ l. before ++ l) all
+
+no_rest : (left : Option (List ℕ)) → IsAtEnd left → IsAll left []
+no_rest None ended = tt
+no_rest (Some xs) ended = ended
+
+pub held_whole : {X : Type 0} (x : X) (form : Form) (start now : State) (held holds had : Option (List ℕ)) → SessionIn form start now held holds had (Ok x) → IsHeld form start (passed had held holds)
+held_whole x form start now held holds had (left, lines, said, heard, inl ended, written) =
+    held_of form start now held holds had left lines said [] heard written refl (no_rest left ended)
+held_whole x form start now held holds had (left, lines, said, heard, inr (rest, single, some, all), written) =
+    held_of form start now held holds had left lines said rest heard written single all
+
+pub held_failed : {R : Type 0} (remaining : R → Option (List ℕ)) (form : Form) (start now : State) (held holds had : Option (List ℕ)) (path : Bor (List ℕ)) (fault : Option LineFault) (error : PlayError)
+    → SessionIn {X = Unit {0}} form start now held holds had (Err error) → PlayFails remaining (Session form) start (passed had held holds) (failure_of (Read path) fault error)
+held_failed remaining form start now held holds had path fault play_error.Read (left, lines, said, heard, written) =
+    (lines, heard.each, (left, heard.read), subst (Appends held holds) heard.said written)
+held_failed remaining form start now held holds had path fault play_error.Write p = tt
+held_failed remaining form start now held holds had path fault play_error.NoMemory p = tt
+held_failed remaining form start now held holds had path fault (play_error.BadLine n) p = absurd p
 
 -- TASKS THAT PRINT
 
 -- what was printed by a task that prints in this form
-module _ (strict : Bool) (form : Form) where
-  pub printed : (task : Task) → PrintsIn strict form task → (start : State) (streams : Streams) → IsDoneBy task start streams → IsPlayed strict form start streams
-  printed Plain (loose, same) start streams done = rw (loose, same) done
-  printed (Formed own) (loose, same) start streams done = rw (loose, same) done
+module _ {R : Type 0} (remaining : R → Option (List ℕ)) (strict interactive : Bool) (form : Form) where
+  pub printed : (task : Task R) → PrintsIn strict interactive form task → (start : State) (streams : Streams) → IsDoneBy remaining task start streams → IsPrinted strict interactive form start streams
+  printed Plain (loose, silent, same) start streams done = rw (loose, silent, same) done
+  printed (Formed own) (loose, silent, same) start streams done = rw (loose, silent, same) done
   printed (Guarded own) (is_strict, same) start streams done = rw (is_strict, same) done
-  printed (Compare expected explain) never start streams done = absurd never
-  printed (Drawn keep) never start streams done = absurd never
+  printed Recorded never start streams done = absurd never
+  printed (Session own) (loose, talks, same) start streams done = rw (loose, talks, same) done
+  printed (Compare expected own) never start streams done = absurd never
+  printed (Drawn keep width) never start streams done = absurd never
+  printed Paged never start streams done = absurd never
 
-  pub stopped : (task : Task) → PrintsIn strict form task → (start : State) (streams : Streams) (n : ℕ) → StopsBy task start streams n
-      → IsStopped strict form start streams n
-  stopped Plain (loose, same) start streams n stops = rw (loose, same) stops
-  stopped (Formed own) (loose, same) start streams n stops = rw (loose, same) stops
+  pub stopped : (task : Task R) → PrintsIn strict interactive form task → (start : State) (streams : Streams) (n : ℕ) → StopsBy remaining task start streams n
+      → IsStoppedIn strict interactive form start streams n
+  stopped Plain (loose, silent, same) start streams n stops = rw (loose, silent, same) stops
+  stopped (Formed own) (loose, silent, same) start streams n stops = rw (loose, silent, same) stops
   stopped (Guarded own) (is_strict, same) start streams n stops = rw (is_strict, same) stops
-  stopped (Compare expected explain) never start streams n stops = absurd never
-  stopped (Drawn keep) never start streams n stops = absurd never
+  stopped Recorded never start streams n stops = absurd never
+  stopped (Session own) prints start streams n never = absurd never
+  stopped (Compare expected own) never start streams n stops = absurd never
+  stopped (Drawn keep width) never start streams n stops = absurd never
+  stopped Paged never start streams n stops = absurd never
 
-  pub breached : (task : Task) → PrintsIn strict form task → (start : State) (streams : Streams) (n : ℕ) → UnmetBy task start streams n
+  pub breached : (task : Task R) → PrintsIn strict interactive form task → (start : State) (streams : Streams) (n : ℕ) → UnmetBy task start streams n
       → (strict ≡ true) × IsUnmet form start streams n
   breached Plain prints start streams n never = absurd never
   breached (Formed own) prints start streams n never = absurd never
   breached (Guarded own) (is_strict, same) start streams n unmet = (is_strict, rw same unmet)
-  breached (Compare expected explain) prints start streams n never = absurd never
-  breached (Drawn keep) prints start streams n never = absurd never
+  breached Recorded prints start streams n never = absurd never
+  breached (Session own) prints start streams n never = absurd never
+  breached (Compare expected own) prints start streams n never = absurd never
+  breached (Drawn keep width) prints start streams n never = absurd never
+  breached Paged prints start streams n never = absurd never
 
-  pub never_differs : {P : Type 0} (task : Task) → PrintsIn strict form task → (start : State) (trace : Option (List ℕ)) → DiffersBy task start trace → P
+  pub never_differs : {P : Type 0} (task : Task R) → PrintsIn strict interactive form task → (start : State) (trace : Option (List ℕ)) → DiffersBy remaining task start trace → P
   never_differs Plain prints start trace never = absurd never
   never_differs (Formed own) prints start trace never = absurd never
   never_differs (Guarded own) prints start trace never = absurd never
-  never_differs (Compare expected explain) never start trace differs = absurd never
-  never_differs (Drawn keep) never start trace differs = absurd never
+  never_differs Recorded never start trace differs = absurd never
+  never_differs (Session own) prints start trace never = absurd never
+  never_differs (Compare expected own) never start trace differs = absurd never
+  never_differs (Drawn keep width) never start trace differs = absurd never
+  never_differs Paged never start trace differs = absurd never
+
+  pub never_overfull : {P : Type 0} (task : Task R) → PrintsIn strict interactive form task → (streams : Streams) (most : ℕ) → OverfullBy task streams most → P
+  never_overfull Plain prints streams most never = absurd never
+  never_overfull (Formed own) prints streams most never = absurd never
+  never_overfull (Guarded own) prints streams most never = absurd never
+  never_overfull Recorded never streams most over = absurd never
+  never_overfull (Session own) prints streams most never = absurd never
+  never_overfull (Compare expected own) never streams most over = absurd never
+  never_overfull (Drawn keep width) never streams most over = absurd never
+  never_overfull Paged never streams most over = absurd never

@@ -1,19 +1,23 @@
 -- SPDX-License-Identifier: MIT OR Apache-2.0
 -- What a task leaves that was done with a trace.
-use Rattle.std.specs.Prelude.{◌≡◌, ℕ, ◌+◌, Bool, true, false, List, ◌∷◌, ◌++◌, length, Option, Some, Result, IfErr, OnOk, ⊤}
+use Rattle.std.specs.Prelude.{◌≡◌, ◌⊎◌, ℕ, ◌+◌, ◌≤◌, Bool, true, false, List, ◌∷◌, ◌++◌, length, Option, Some, Result, IfErr, OnOk, ⊤}
 use Rattle.std.specs.Io.KnownBytes.{Appends, Consumes, Keeps}
+use Rattle.std.specs.List.{list_all}
 use Rattle.ffa_model.specs.State.{State}
 use Rattle.play_syntax.specs.TraceLines.{feed, has_no_feed, are_lines, joined}
-use Rattle.play_syntax.specs.TraceText.{text}
 use Rattle.play_arguments.specs.declared.command_line.TextOptions.{TextOptions}
 use Rattle.play_forms.specs.declared.form.Form.{Form}
 use Rattle.play_forms.specs.declared.guards.Asks.{Asks}
-use Rattle.play_forms.specs.Followed.{NeverPrints}
+use Rattle.play_forms.specs.Compared.{NeverPrints, unexplained}
 use Rattle.play_forms.specs.Forms.{plain, text_in}
-use Rattle.play_forms.specs.Guards.{AreMet, IsMet, guard_of}
+use Rattle.play_forms.specs.Guards.{AreMet, IsMet, guard_of, guards_among, near_from}
 use Rattle.play_forms.specs.Reading.{IsAll, IsBadLine}
+use Rattle.play_forms.specs.Recorded.{Replays, recorded}
+use Rattle.play_forms.specs.Sessions.{good_text_in}
+use Rattle.play_report.specs.Guarded.{met_text, near_text}
 use Rattle.play_report.specs.declared.failure.Failure.{Failure}
 use Rattle.play_report.specs.declared.failure.Failure.TheVariants as failure
+use Rattle.play_tasks.specs.declared.task.Expected.{Expected}
 use Rattle.play_tasks.specs.declared.task.Task.{Task}
 use Rattle.play_tasks.specs.declared.task.Task.TheVariants as task
 
@@ -86,94 +90,196 @@ pub record IsUnmet (form : Form) (start : State) (streams : Streams) (n : ℕ) :
   pub unmet : IsMet start lines guard → ⊥
   pub written : Appends streams.held streams.holds (text_in form 1 start lines)
 
--- what a trace prints to its end is what is expected
-pub record PrintsExpected (start : State) (trace expected : Option (List ℕ)) : Type 0 where
+-- what was said of a trace's guards when it was played to its end: which of its lines are nearly guards, and how many
+-- guards it has, which all are met
+pub record TellsGuards (trace : Option (List ℕ)) (before after : List ℕ) : Type 0 where
+  pub lines : List (List ℕ)
+  pub all : IsAll trace (joined lines)
+  pub each : are_lines lines ≡ true
+  pub says : after ≡ before ++ (near_text (near_from 1 lines) ++ met_text (guards_among lines))
+
+-- a trace was played to its end, and recorded: what its reader had are lines, and they were written with the guards of
+-- their play
+pub record IsRecorded (start : State) (streams : Streams) : Type 0 where
+  pub lines : List (List ℕ)
+  pub each : are_lines lines ≡ true
+  pub all : IsAll streams.trace (joined lines)
+  pub written : Appends streams.held streams.holds (joined (recorded start lines))
+  pub replays : Replays start lines
+
+-- a record stopped at line n: the lines before it were written with their guards
+abbrev pub IsRecordStopped : State → Streams → ℕ → Type 0
+IsRecordStopped start streams n =
+    (lines : List (List ℕ)) × EndsBadly streams.trace lines n
+    × Appends streams.held streams.holds (joined (recorded start lines))
+
+-- a record could read no further
+abbrev pub IsRecordUnread : State → Streams → Type 0
+IsRecordUnread start streams =
+    (lines : List (List ℕ)) × BeganWith streams.trace lines
+    × Appends streams.held streams.holds (joined (recorded start lines))
+
+-- a session with a trace was held to its end: what its reader had are lines, good and bad, and a rest that no LF ends, and
+-- the text of the good ones was written in this form
+pub record IsHeld (form : Form) (start : State) (streams : Streams) : Type 0 where
+  pub lines : List (List ℕ)
+  pub rest : List ℕ
+  pub each : list_all has_no_feed lines ≡ true
+  pub single : has_no_feed rest ≡ true
+  pub all : IsAll streams.trace (joined lines ++ rest)
+  pub written : Appends streams.held streams.holds (good_text_in form 1 start lines)
+
+-- a session could read no further: the good ones of these lines were done, and their text was written
+abbrev pub IsUnheard : Form → State → Streams → Type 0
+IsUnheard form start streams =
+    (lines : List (List ℕ)) × (list_all has_no_feed lines ≡ true)
+    × ((left : Option (List ℕ)) × Consumes streams.trace left (joined lines))
+    × Appends streams.held streams.holds (good_text_in form 1 start lines)
+
+-- what a trace prints to its end in this form is what is expected
+pub record PrintsExpected (form : Form) (start : State) (trace expected : Option (List ℕ)) : Type 0 where
   pub lines : List (List ℕ)
   pub each : are_lines lines ≡ true
   pub all : IsAll trace (joined lines)
-  pub same : expected ≡ Some (text start lines)
+  pub same : IsAll expected (text_in form 1 start lines)
 
--- a trace was played to its end, and its picture was written: what its reader had are lines
+-- a trace was played to its end, and its picture or its page was written: what its reader had are lines
 pub record IsDrawn (trace : Option (List ℕ)) : Type 0 where
   pub lines : List (List ℕ)
   pub each : are_lines lines ≡ true
   pub all : IsAll trace (joined lines)
 
--- a picture's play stopped at line n, and nothing was written
+-- a picture's or a page's play stopped at line n, and nothing was written
 abbrev pub IsUndrawn : Streams → ℕ → Type 0
 IsUndrawn streams n =
     (lines : List (List ℕ)) × EndsBadly streams.trace lines n × Keeps streams.held streams.holds
 
--- what is expected begins with the text of these lines
-abbrev pub BeginsExpected : State → (expected : Option (List ℕ)) (lines : List (List ℕ)) → Type 0
-BeginsExpected start expected lines = (more : List ℕ) × (expected ≡ Some (text start lines ++ more))
+-- a picture's play stopped behind lines, of which there are at least so many, and nothing was written
+abbrev pub IsOverfull : Streams → ℕ → Type 0
+IsOverfull streams most =
+    (lines : List (List ℕ)) × BeganWith streams.trace lines × (most ≤ length lines) × Keeps streams.held streams.holds
+
+-- what is expected begins with the text of these lines in this form
+abbrev pub BeginsExpected : Form → State → (expected : Option (List ℕ)) (lines : List (List ℕ)) → Type 0
+BeginsExpected form start expected lines =
+    (more : Option (List ℕ)) × Consumes expected more (text_in form 1 start lines)
 
 -- a comparison stopped at line n: what is expected begins with the text of the lines before it
-abbrev pub IsCutShort : State → (trace expected : Option (List ℕ)) → ℕ → Type 0
-IsCutShort start trace expected n =
-    (lines : List (List ℕ)) × EndsBadly trace lines n × BeginsExpected start expected lines
+abbrev pub IsCutShort : Form → State → (trace expected : Option (List ℕ)) → ℕ → Type 0
+IsCutShort form start trace expected n =
+    (lines : List (List ℕ)) × EndsBadly trace lines n × BeginsExpected form start expected lines
 
--- a comparison could read no further: what is expected begins with the text of the lines before
-abbrev pub IsCutOff : State → (trace expected : Option (List ℕ)) → Type 0
-IsCutOff start trace expected = (lines : List (List ℕ)) × BeganWith trace lines × BeginsExpected start expected lines
+-- a comparison could read no further of the trace: what is expected begins with the text of the lines before
+abbrev pub IsCutOff : Form → State → (trace expected : Option (List ℕ)) → Type 0
+IsCutOff form start trace expected =
+    (lines : List (List ℕ)) × BeganWith trace lines × BeginsExpected form start expected lines
+
+-- a comparison could read no further of what is expected, which begins with a front of the text of these lines
+abbrev pub IsUnmatched : Form → State → (trace expected : Option (List ℕ)) → Type 0
+IsUnmatched form start trace expected =
+    (lines : List (List ℕ)) × BeganWith trace lines
+    × ((front back : List ℕ) × (more : Option (List ℕ)) × (text_in form 1 start lines ≡ front ++ back)
+    × Consumes expected more front)
+
+-- what is printed, in this form: by a play, or by a session, of which guards aren't checked
+abbrev pub IsPrinted : (strict interactive : Bool) → Form → State → Streams → Type 0
+IsPrinted true interactive form start streams = IsPlayed true form start streams
+IsPrinted false true form start streams = IsHeld form start streams
+IsPrinted false false form start streams = IsPlayed false form start streams
+
+-- what prints stopped at line n: a session stops at none
+abbrev pub IsStoppedIn : (strict interactive : Bool) → Form → State → Streams → ℕ → Type 0
+IsStoppedIn true interactive form start streams n = IsStopped true form start streams n
+IsStoppedIn false true form start streams n = ⊥
+IsStoppedIn false false form start streams n = IsStopped false form start streams n
 
 -- TASKS: a reader, a writer and memory may always fail
 
 -- a task that prints in this form
-abbrev pub PrintsIn : Bool → Form → Task → Type 0
-PrintsIn strict form task.Plain = (strict ≡ false) × (form ≡ plain)
-PrintsIn strict form (task.Formed own) = (strict ≡ false) × (form ≡ own)
-PrintsIn strict form (task.Guarded own) = (strict ≡ true) × (form ≡ own)
-PrintsIn strict form other = ⊥
+abbrev pub PrintsIn : {R : Type 0} → (strict interactive : Bool) → Form → Task R → Type 0
+PrintsIn strict interactive form task.Plain = (strict ≡ false) × (interactive ≡ false) × (form ≡ plain)
+PrintsIn strict interactive form (task.Formed own) = (strict ≡ false) × (interactive ≡ false) × (form ≡ own)
+PrintsIn strict interactive form (task.Guarded own) = (strict ≡ true) × (form ≡ own)
+PrintsIn strict interactive form (task.Session own) = (strict ≡ false) × (interactive ≡ true) × (form ≡ own)
+PrintsIn strict interactive form other = ⊥
+
+-- whether a task tells of bad lines while it goes on
+abbrev pub talks : {R : Type 0} → Task R → Bool
+talks (task.Session form) = true
+talks other = false
+
+abbrev pub comparison_of : {R : Type 0} → Expected R → Form → Task R
+comparison_of expected form = task.Compare expected form
+
+-- What follows has what is known of a reader first.
 
 -- a task was done
-abbrev pub IsDoneBy : Task → State → Streams → Type 0
-IsDoneBy task.Plain start streams = IsPlayed false plain start streams
-IsDoneBy (task.Formed form) start streams = IsPlayed false form start streams
-IsDoneBy (task.Guarded form) start streams = IsPlayed true form start streams
-IsDoneBy (task.Compare expected explain) start streams =
-    PrintsExpected start streams.trace (Some expected.now) × Keeps streams.held streams.holds
-IsDoneBy (task.Drawn keep) start streams = IsDrawn streams.trace
+abbrev pub IsDoneBy : {R : Type 0} → (R → Option (List ℕ)) → Task R → State → Streams → Type 0
+IsDoneBy remaining task.Plain start streams = IsPlayed false plain start streams
+IsDoneBy remaining (task.Formed form) start streams = IsPlayed false form start streams
+IsDoneBy remaining (task.Guarded form) start streams = IsPlayed true form start streams
+IsDoneBy remaining task.Recorded start streams = IsRecorded start streams
+IsDoneBy remaining (task.Session form) start streams = IsHeld form start streams
+IsDoneBy remaining (task.Compare expected form) start streams =
+    PrintsExpected (unexplained form) start streams.trace (remaining expected.reader) × Keeps streams.held streams.holds
+IsDoneBy remaining (task.Drawn keep width) start streams = IsDrawn streams.trace
+IsDoneBy remaining task.Paged start streams = IsDrawn streams.trace
 
 -- a task stopped at line n
-abbrev pub StopsBy : Task → State → Streams → ℕ → Type 0
-StopsBy task.Plain start streams n = IsStopped false plain start streams n
-StopsBy (task.Formed form) start streams n = IsStopped false form start streams n
-StopsBy (task.Guarded form) start streams n = IsStopped true form start streams n
-StopsBy (task.Compare expected explain) start streams n =
-    IsCutShort start streams.trace (Some expected.now) n × Keeps streams.held streams.holds
-StopsBy (task.Drawn keep) start streams n = IsUndrawn streams n
+abbrev pub StopsBy : {R : Type 0} → (R → Option (List ℕ)) → Task R → State → Streams → ℕ → Type 0
+StopsBy remaining task.Plain start streams n = IsStopped false plain start streams n
+StopsBy remaining (task.Formed form) start streams n = IsStopped false form start streams n
+StopsBy remaining (task.Guarded form) start streams n = IsStopped true form start streams n
+StopsBy remaining task.Recorded start streams n = IsRecordStopped start streams n
+StopsBy remaining (task.Session form) start streams n = ⊥
+StopsBy remaining (task.Compare expected form) start streams n =
+    IsCutShort (unexplained form) start streams.trace (remaining expected.reader) n × Keeps streams.held streams.holds
+StopsBy remaining (task.Drawn keep width) start streams n = IsUndrawn streams n
+StopsBy remaining task.Paged start streams n = IsUndrawn streams n
 
 -- a task could read no further
-abbrev pub UnreadBy : Task → State → Streams → Type 0
-UnreadBy task.Plain start streams = IsUnread false plain start streams
-UnreadBy (task.Formed form) start streams = IsUnread false form start streams
-UnreadBy (task.Guarded form) start streams = IsUnread true form start streams
-UnreadBy (task.Compare expected explain) start streams =
-    IsCutOff start streams.trace (Some expected.now) × Keeps streams.held streams.holds
-UnreadBy (task.Drawn keep) start streams = Keeps streams.held streams.holds
+abbrev pub UnreadBy : {R : Type 0} → (R → Option (List ℕ)) → Task R → State → Streams → Type 0
+UnreadBy remaining task.Plain start streams = IsUnread false plain start streams
+UnreadBy remaining (task.Formed form) start streams = IsUnread false form start streams
+UnreadBy remaining (task.Guarded form) start streams = IsUnread true form start streams
+UnreadBy remaining task.Recorded start streams = IsRecordUnread start streams
+UnreadBy remaining (task.Session form) start streams = IsUnheard form start streams
+UnreadBy remaining (task.Compare expected form) start streams =
+    (IsCutOff (unexplained form) start streams.trace (remaining expected.reader)
+    ⊎ IsUnmatched (unexplained form) start streams.trace (remaining expected.reader))
+    × Keeps streams.held streams.holds
+UnreadBy remaining (task.Drawn keep width) start streams = Keeps streams.held streams.holds
+UnreadBy remaining task.Paged start streams = Keeps streams.held streams.holds
 
 -- a task found another text
-abbrev pub DiffersBy : Task → State → (trace : Option (List ℕ)) → Type 0
-DiffersBy (task.Compare expected explain) start trace = NeverPrints plain start trace expected.now
-DiffersBy other start trace = ⊥
+abbrev pub DiffersBy : {R : Type 0} → (R → Option (List ℕ)) → Task R → State → (trace : Option (List ℕ)) → Type 0
+DiffersBy remaining (task.Compare expected form) start trace =
+    NeverPrints (unexplained form) start trace (remaining expected.reader)
+DiffersBy remaining other start trace = ⊥
 
 -- a task met a guard that isn't met, in line n
-abbrev pub UnmetBy : Task → State → Streams → ℕ → Type 0
+abbrev pub UnmetBy : {R : Type 0} → Task R → State → Streams → ℕ → Type 0
 UnmetBy (task.Guarded form) start streams n = IsUnmet form start streams n
 UnmetBy other start streams n = ⊥
 
+-- a task would draw more rows than this many
+abbrev pub OverfullBy : {R : Type 0} → Task R → Streams → ℕ → Type 0
+OverfullBy (task.Drawn keep width) streams most = IsOverfull streams most
+OverfullBy other streams most = ⊥
+
 -- a task fails; a play refuses no manifest, and reads no descriptor
-abbrev pub PlayFails : Task → State → Streams → Failure → Type 0
-PlayFails task start streams (failure.BadLine n fault) = StopsBy task start streams n
-PlayFails task start streams (failure.Read path) = UnreadBy task start streams
-PlayFails task start streams failure.Write = ⊤
-PlayFails task start streams failure.NoMemory = ⊤
-PlayFails task start streams failure.Differs = DiffersBy task start streams.trace
-PlayFails task start streams (failure.Unmet n) = UnmetBy task start streams n
-PlayFails task start streams other = ⊥
+abbrev pub PlayFails : {R : Type 0} → (R → Option (List ℕ)) → Task R → State → Streams → Failure → Type 0
+PlayFails remaining task start streams (failure.BadLine n fault) = StopsBy remaining task start streams n
+PlayFails remaining task start streams (failure.Read path) = UnreadBy remaining task start streams
+PlayFails remaining task start streams failure.Write = ⊤
+PlayFails remaining task start streams failure.NoMemory = ⊤
+PlayFails remaining task start streams failure.Differs = DiffersBy remaining task start streams.trace
+PlayFails remaining task start streams (failure.Unmet n) = UnmetBy task start streams n
+PlayFails remaining task start streams (failure.TooManyRows most) = OverfullBy task streams most
+PlayFails remaining task start streams other = ⊥
 
 -- a task is done, or fails
-pub record Plays (task : Task) (start : State) (streams : Streams) (result : Result (Unit {0}) Failure) : Type 0 where
-  pub played : OnOk result (IsDoneBy task start streams)
-  pub failed : IfErr result (PlayFails task start streams)
+pub record Plays {R : Type 0} (remaining : R → Option (List ℕ)) (task : Task R) (start : State) (streams : Streams)
+    (result : Result (Unit {0}) Failure) : Type 0 where
+  pub played : OnOk result (IsDoneBy remaining task start streams)
+  pub failed : IfErr result (PlayFails remaining task start streams)

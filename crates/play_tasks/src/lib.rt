@@ -3,7 +3,9 @@
 //! machine that is, is left open.
 #![tactic(auto)]
 
+mod comparing;
+mod paging;
 mod playing;
 mod task;
 
-pub use task::{Task, Trace, do_task};
+pub use task::{Expected, Task, Trace, do_task, form_of};

@@ -1,18 +1,16 @@
 // SPDX-License-Identifier: MIT OR Apache-2.0
-//! Plays of a trace: its text printed as the player prints it or in a form, or compared with a text that is expected, or its
-//! picture.
-ghost use Rattle.std.specs.Prelude.{◌≡◌, ◌⊎◌, IfErr, IfOk};
+//! Plays of a trace: its text printed as the player prints it or in a form, or its picture.
+ghost use Rattle.std.specs.Prelude.{◌≡◌, ◌⊎◌, IfErr, IfOk, OnOk};
 ghost use Rattle.std.specs.Io.Buffered.{reader_remaining};
-ghost use Rattle.play_report.specs.Failures.{IsDifference};
-ghost use Rattle.play_tasks.specs.Plays.{Plays, streams_of};
+ghost use Rattle.play_tasks.specs.Plays.{Plays, TellsGuards, streams_of};
 
 use crate::task::{Task, Trace};
 use ffa_playable::Playable;
 use play_drawing::Keep;
-use play_forms::{Breach, Form, guard_text};
+use play_forms::{Breach, Form, Tally, guard_text};
 use play_picture::picture_of;
 use play_player::Player;
-use play_report::{Difference, Failure, print_picture, tell_unmet};
+use play_report::{Failure, print_picture, tell_met, tell_near, tell_unmet};
 use std::alloc::Allocator;
 use std::io::{BufReader, Read, Write};
 
@@ -24,7 +22,7 @@ pub(crate) fn play_plainly<'a, A: Allocator + Copy, P: Playable, R: Read + Drop,
     out: &mut W,
 ) -> Result<(), Failure<'a>>
     ensures { let streams = streams_of R.remaining trace.entry.reader W.contents out.old out.new in
-        Plays Task.Plain player.old.state streams result }
+        Plays R.remaining Task.Plain player.old.state streams result }
 {
     let Trace { path, mut reader } = trace;
     match player.play_in(alloc, &mut reader, out) {
@@ -33,8 +31,8 @@ pub(crate) fn play_plainly<'a, A: Allocator + Copy, P: Playable, R: Read + Drop,
     }
 }
 
-// A reader that is read line by line.
-fn buffer<A: Allocator, R: Read + Drop>(
+/// A reader that is read line by line.
+pub(crate) fn buffer<A: Allocator, R: Read + Drop>(
     alloc: A,
     reader: R,
 ) -> Result<BufReader<R, A>, Failure<'static>>
@@ -56,7 +54,7 @@ pub(crate) fn play_in_form<'a, A: Allocator + Copy, P: Playable, R: Read + Drop,
     out: &mut W,
 ) -> Result<(), Failure<'a>>
     ensures { let streams = streams_of R.remaining trace.entry.reader W.contents out.old out.new in
-        Plays (Task.Formed form) player.old.state streams result }
+        Plays R.remaining (Task.Formed form) player.old.state streams result }
 {
     let Trace { path, reader } = trace;
     let mut reader = buffer(alloc, reader)?;
@@ -67,7 +65,8 @@ pub(crate) fn play_in_form<'a, A: Allocator + Copy, P: Playable, R: Read + Drop,
     }
 }
 
-/// Plays a trace up to the first guard that isn't met. Where there is one, `told` says so.
+/// Plays a trace up to the first guard that isn't met. Where there is one, `told` says so. It says which comments are nearly
+/// guards, however the play ends, and at its end how many guards were met.
 pub(crate) fn play_guarded<'a, A: Allocator + Copy, P: Playable, R: Read + Drop, W: Write>(
     player: &mut Player<P>,
     alloc: A,
@@ -76,14 +75,27 @@ pub(crate) fn play_guarded<'a, A: Allocator + Copy, P: Playable, R: Read + Drop,
     out: &mut W,
     told: &mut Vec<u8, A>,
 ) -> Result<(), Failure<'a>>
-    ensures { let streams = streams_of R.remaining trace.entry.reader W.contents out.old out.new in
-        Plays (Task.Guarded form) player.old.state streams result }
+    ensures played { let streams = streams_of R.remaining trace.entry.reader W.contents out.old out.new in
+        Plays R.remaining (Task.Guarded form) player.old.state streams result }
+    ensures told { OnOk result (TellsGuards (R.remaining trace.entry.reader) told.old.items told.new.items) }
 {
     let Trace { path, reader } = trace;
     let mut reader = buffer(alloc, reader)?;
     let (mut line, mut found) = (Vec::new(alloc), Vec::new(alloc));
-    match play_forms::play_guarded(player, alloc, form, &mut reader, out, &mut line, &mut found) {
-        Ok(None) => Ok(()),
+    let mut tally = Tally::new(alloc);
+    let played = play_forms::play_guarded(
+        player,
+        alloc,
+        form,
+        &mut reader,
+        out,
+        &mut line,
+        &mut found,
+        &mut tally,
+    );
+    tell_near(told, &tally.near)?;
+    match played {
+        Ok(None) => tell_met(told, tally.met),
         Ok(Some(breach)) => Err(tell_breach(told, breach, &line, &found)),
         Err(error) => Err(Failure::of_line(path, error, &line)),
     }
@@ -105,74 +117,70 @@ fn tell_breach<A: Allocator>(
     tell_unmet(told, breach.number, wanted, found)
 }
 
-/// Compares what a trace prints with what is expected. Where it differs, `out` is told so.
-pub(crate) fn compare<'a, A: Allocator + Copy, P: Playable, R: Read + Drop, W: Write>(
+/// Plays a trace, and prints it with the guards of its play.
+pub(crate) fn record<'a, A: Allocator + Copy, P: Playable, R: Read + Drop, W: Write>(
     player: &mut Player<P>,
     alloc: A,
-    expected: &[u8],
-    explain: bool,
     trace: Trace<'a, R>,
     out: &mut W,
 ) -> Result<(), Failure<'a>>
     ensures { let streams = streams_of R.remaining trace.entry.reader W.contents out.old out.new in
-        Plays (Task.Compare expected.entry explain) player.old.state streams result }
+        Plays R.remaining Task.Recorded player.old.state streams result }
 {
     let Trace { path, reader } = trace;
     let mut reader = buffer(alloc, reader)?;
-    let (mut line, mut text) = (Vec::new(alloc), Vec::new(alloc));
-    match play_forms::compare(
-        player,
-        alloc,
-        explain,
-        &mut reader,
-        expected,
-        &mut line,
-        &mut text,
-    ) {
-        Ok(None) => Ok(()),
-        Ok(Some(place)) => Err(tell_difference(alloc, place, &line, expected, &text, out)),
+    let mut line = Vec::new(alloc);
+    match play_forms::record(player, alloc, &mut reader, out, &mut line) {
+        Ok(()) => Ok(()),
         Err(error) => Err(Failure::of_line(path, error, &line)),
     }
 }
 
-// Tells `out` that the text of this line is another than is expected from there on, and answers so.
-fn tell_difference<A: Allocator, W: Write>(
+/// Plays a trace, and prints its text in a form. Bad lines are told `err`, and the play goes on.
+pub(crate) fn play_session<
+    'a,
+    A: Allocator + Copy,
+    P: Playable,
+    R: Read + Drop,
+    W: Write,
+    E: Write,
+>(
+    player: &mut Player<P>,
     alloc: A,
-    place: play_forms::Mismatch,
-    line: &[u8],
-    expected: &[u8],
-    text: &[u8],
+    form: Form,
+    trace: Trace<'a, R>,
     out: &mut W,
-) -> Failure<'static>
-    ensures { IsDifference result }
+    err: &mut E,
+) -> Result<(), Failure<'a>>
+    ensures { let streams = streams_of R.remaining trace.entry.reader W.contents out.old out.new in
+        Plays R.remaining (Task.Session form) player.old.state streams result }
 {
-    let difference = Difference {
-        number: place.number,
-        line,
-        expected: expected.get(place.place..).unwrap_or(&[]),
-        // At the end of the trace the text is still that of its last line.
-        found: if line.is_empty() { &[] } else { text },
-        reason: place.reason,
-    };
-    difference.tell(alloc, out)
+    let Trace { path, reader } = trace;
+    let mut reader = buffer(alloc, reader)?;
+    match play_forms::play_session(player, alloc, form, &mut reader, out, err) {
+        Ok(()) => Ok(()),
+        Err(error) => Err(Failure::of_play(path, error, None)),
+    }
 }
 
-/// Prints the picture of a trace, once it was played to its end.
+/// Prints the picture of a trace, once it was played to its end, or says that it would have too many rows.
 pub(crate) fn draw<'a, A: Allocator + Copy, P: Playable, R: Read + Drop, W: Write>(
     player: &mut Player<P>,
     alloc: A,
     keep: Keep,
+    width: u64,
     trace: Trace<'a, R>,
     out: &mut W,
 ) -> Result<(), Failure<'a>>
     ensures { let streams = streams_of R.remaining trace.entry.reader W.contents out.old out.new in
-        Plays (Task.Drawn keep) player.old.state streams result }
+        Plays R.remaining (Task.Drawn keep width) player.old.state streams result }
 {
     let Trace { path, reader } = trace;
     let mut reader = buffer(alloc, reader)?;
     let mut line = Vec::new(alloc);
     match picture_of(player, alloc, keep, &mut reader, &mut line) {
-        Ok(picture) => print_picture(&picture, out),
+        Ok(Ok(picture)) => print_picture(&picture, width, out),
+        Ok(Err(large)) => Err(Failure::TooManyRows(large.most)),
         Err(error) => Err(Failure::of_line(path, error, &line)),
     }
 }

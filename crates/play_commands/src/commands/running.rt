@@ -1,21 +1,22 @@
 // SPDX-License-Identifier: MIT OR Apache-2.0
 //! Commands that play a trace: what they name is read and opened, and then the trace is played.
-ghost use Rattle.std.specs.Prelude.{◌≡◌, Some, IfErr, IfOk};
-ghost use Rattle.play_commands.specs.Performed.{Does, ran};
-ghost use Rattle.play_commands.specs.Running.{compare_of, demo_of, picture_of, run_of};
+ghost use Rattle.std.specs.Prelude.{◌≡◌, false, Some, IfErr, IfOk};
+ghost use Rattle.play_commands.specs.Performed.{Does, is_session, ran};
+ghost use Rattle.play_commands.specs.Running.{compare_of, demo_of, picture_of, record_of, run_of};
 
 use super::Files;
+use super::paging::print_page;
 use super::playing::Play;
 use ffa_model::built_in;
-use play_arguments::{MachineOptions, TextOptions};
+use play_arguments::{MachineOptions, PictureOptions, TextOptions};
 use play_drawing::Keep;
 use play_report::{Failure, Notes, read_manifest};
-use play_tasks::{Task, Trace};
+use play_tasks::{Expected, Task, Trace, form_of};
 use std::alloc::{Allocator, Global};
 use std::io::{Read, Write};
 
 // A machine with RAM in one piece, which holds no translation.
-const PLAIN: MachineOptions = MachineOptions {
+pub(super) const PLAIN: MachineOptions = MachineOptions {
     frames: false,
     tlb: false,
 };
@@ -29,6 +30,18 @@ pub(super) struct Printing<'a> {
     pub(super) text: TextOptions,
     /// Its guards are checked.
     pub(super) strict: bool,
+    /// A bad line is told, and the play goes on.
+    pub(super) interactive: bool,
+    /// More is to be said of a bad line.
+    pub(super) verbose: bool,
+}
+
+/// How a trace is played that is printed with the guards of its play.
+#[derive(Clone, Copy)]
+pub(super) struct Recording<'a> {
+    /// The trace's path.
+    pub(super) trace: &'a str,
+    pub(super) machine: MachineOptions,
     /// More is to be said of a bad line.
     pub(super) verbose: bool,
 }
@@ -41,35 +54,36 @@ pub(super) struct Comparison<'a> {
     /// The path of the expected text.
     pub(super) expected: &'a str,
     pub(super) machine: MachineOptions,
-    /// Why the operation is refused at which it differs is to be told.
-    pub(super) explain: bool,
+    /// The form of the text that is expected, and whether why the operation is refused at which it differs is to be told.
+    pub(super) text: TextOptions,
     /// More is to be said of a file that can't be read, and of a manifest that is refused.
     pub(super) verbose: bool,
 }
 
-/// How a trace is played whose picture is printed.
+/// How a trace is played whose picture or page is printed.
 #[derive(Clone, Copy)]
 pub(super) struct Drawing<'a> {
     /// The trace's path.
     pub(super) trace: &'a str,
-    /// A row is drawn for each line whose number is a multiple of this one, or where it is 0 for each line that changes
-    /// the certificate.
-    pub(super) every: u64,
+    /// What is drawn, and how.
+    pub(super) drawing: PictureOptions,
     /// More is to be said of a file that can't be read, and of a manifest that is refused.
     pub(super) verbose: bool,
 }
 
 /// Plays a trace on the machine of the manifest at this path, and prints its text.
-pub(super) fn run<'a, A: Allocator + Copy, R: Read + Drop, W: Write>(
+pub(super) fn run<'a, A: Allocator + Copy, R: Read + Drop, W: Write, E: Write>(
     manifests: Global,
     alloc: A,
     path: &'a str,
     how: Printing<'a>,
     files: Files<'_, R>,
     out: &mut W,
+    err: &mut E,
     notes: &mut Notes<A>,
 ) -> Result<(), Failure<'a>>
-    ensures { Does (run_of path.entry how.entry) (ran R.remaining files.entry W.contents out.old out.new) result }
+    ensures does { Does (run_of path.entry how.entry) (ran R.remaining files.entry W.contents out.old out.new) result }
+    ensures quiet { is_session (run_of path.entry how.entry) ≡ false → err.new ≡ err.old }
 {
     let Files {
         manifest,
@@ -78,7 +92,7 @@ pub(super) fn run<'a, A: Allocator + Copy, R: Read + Drop, W: Write>(
     } = files;
     let manifest = read_manifest(manifests, path, manifest, notes)?;
     let trace = open(how.trace, trace)?;
-    let task = Task::to_print(how.text, how.strict, how.verbose);
+    let task = Task::to_print(how.text, how.strict, how.interactive, how.verbose);
     let machine = how.machine;
     let play = Play {
         alloc,
@@ -86,22 +100,24 @@ pub(super) fn run<'a, A: Allocator + Copy, R: Read + Drop, W: Write>(
         task,
         trace,
     };
-    play.run(&manifest, out, &mut notes.guard)
+    play.run(&manifest, out, err, &mut notes.guard)
 }
 
 /// Plays a trace on the built-in machine, and prints its text.
-pub(super) fn demo<'a, A: Allocator + Copy, R: Read + Drop, W: Write>(
+pub(super) fn demo<'a, A: Allocator + Copy, R: Read + Drop, W: Write, E: Write>(
     alloc: A,
     how: Printing<'a>,
     files: Files<'_, R>,
     out: &mut W,
+    err: &mut E,
     notes: &mut Notes<A>,
 ) -> Result<(), Failure<'a>>
-    ensures { Does (demo_of how.entry) (ran R.remaining files.entry W.contents out.old out.new) result }
+    ensures does { Does (demo_of how.entry) (ran R.remaining files.entry W.contents out.old out.new) result }
+    ensures quiet { is_session (demo_of how.entry) ≡ false → err.new ≡ err.old }
 {
     let Files { trace, .. } = files;
     let trace = open(how.trace, trace)?;
-    let task = Task::to_print(how.text, how.strict, how.verbose);
+    let task = Task::to_print(how.text, how.strict, how.interactive, how.verbose);
     let machine = how.machine;
     let play = Play {
         alloc,
@@ -109,20 +125,53 @@ pub(super) fn demo<'a, A: Allocator + Copy, R: Read + Drop, W: Write>(
         task,
         trace,
     };
-    play.run(&built_in(), out, &mut notes.guard)
+    play.run(&built_in(), out, err, &mut notes.guard)
+}
+
+/// Plays a trace on the machine of the manifest at this path, and prints it with the guards of its play.
+pub(super) fn record<'a, A: Allocator + Copy, R: Read + Drop, W: Write, E: Write>(
+    manifests: Global,
+    alloc: A,
+    path: &'a str,
+    how: Recording<'a>,
+    files: Files<'_, R>,
+    out: &mut W,
+    err: &mut E,
+    notes: &mut Notes<A>,
+) -> Result<(), Failure<'a>>
+    ensures does { Does (record_of path.entry how.entry) (ran R.remaining files.entry W.contents out.old out.new) result }
+    ensures quiet { err.new ≡ err.old }
+{
+    let Files {
+        manifest,
+        trace,
+        ..
+    } = files;
+    let manifest = read_manifest(manifests, path, manifest, notes)?;
+    let trace = open(how.trace, trace)?;
+    let machine = how.machine;
+    let play = Play {
+        alloc,
+        machine,
+        task: Task::Recorded,
+        trace,
+    };
+    play.run(&manifest, out, err, &mut notes.guard)
 }
 
 /// Compares what a trace prints on the machine of the manifest at this path with a text that is expected.
-pub(super) fn compare<'a, A: Allocator + Copy, R: Read + Drop, W: Write>(
+pub(super) fn compare<'a, A: Allocator + Copy, R: Read + Drop, W: Write, E: Write>(
     manifests: Global,
     alloc: A,
     path: &'a str,
     how: Comparison<'a>,
     files: Files<'_, R>,
     out: &mut W,
+    err: &mut E,
     notes: &mut Notes<A>,
 ) -> Result<(), Failure<'a>>
-    ensures { Does (compare_of path.entry how.entry) (ran R.remaining files.entry W.contents out.old out.new) result }
+    ensures does { Does (compare_of path.entry how.entry) (ran R.remaining files.entry W.contents out.old out.new) result }
+    ensures quiet { err.new ≡ err.old }
 {
     let Files {
         manifest,
@@ -132,32 +181,41 @@ pub(super) fn compare<'a, A: Allocator + Copy, R: Read + Drop, W: Write>(
     } = files;
     let manifest = read_manifest(manifests, path, manifest, notes)?;
     let trace = open(how.trace, trace)?;
-    let Some(expected) = expected else {
+    let Some(reader) = expected else {
         return Err(Failure::Read(how.expected));
     };
-    let (machine, explain) = (how.machine, how.explain);
-    let task = Task::Compare { expected, explain };
+    let expected = Expected {
+        path: how.expected,
+        reader,
+    };
+    let form = form_of(how.text);
     let play = Play {
         alloc,
-        machine,
-        task,
+        machine: how.machine,
+        task: Task::Compare { expected, form },
         trace,
     };
-    play.run(&manifest, out, &mut notes.guard)
+    play.run(&manifest, out, err, &mut notes.guard)
 }
 
-/// Plays a trace on the machine of the manifest at this path, and prints its picture.
-pub(super) fn draw<'a, A: Allocator + Copy, R: Read + Drop, W: Write>(
+/// Plays a trace on the machine of the manifest at this path, and prints its picture, or its page where that is asked
+/// for.
+pub(super) fn draw<'a, A: Allocator + Copy, R: Read + Drop, W: Write, E: Write>(
     manifests: Global,
     alloc: A,
     path: &'a str,
     how: Drawing<'a>,
     files: Files<'_, R>,
     out: &mut W,
+    err: &mut E,
     notes: &mut Notes<A>,
 ) -> Result<(), Failure<'a>>
-    ensures { Does (picture_of path.entry how.entry) (ran R.remaining files.entry W.contents out.old out.new) result }
+    ensures does { Does (picture_of path.entry how.entry) (ran R.remaining files.entry W.contents out.old out.new) result }
+    ensures quiet { err.new ≡ err.old }
 {
+    if how.drawing.page {
+        return print_page(manifests, alloc, path, how, files, out, err, notes);
+    }
     let Files {
         manifest,
         trace,
@@ -168,14 +226,20 @@ pub(super) fn draw<'a, A: Allocator + Copy, R: Read + Drop, W: Write>(
     let play = Play {
         alloc,
         machine: PLAIN,
-        task: Task::Drawn(Keep::every(how.every)),
+        task: Task::Drawn {
+            keep: Keep::new(how.drawing.every, how.drawing.refused),
+            width: how.drawing.width,
+        },
         trace,
     };
-    play.run(&manifest, out, &mut notes.guard)
+    play.run(&manifest, out, err, &mut notes.guard)
 }
 
 // The trace at this path, with what reads it, if it could be opened.
-fn open<'a, R: Read + Drop>(path: &'a str, reader: Option<R>) -> Result<Trace<'a, R>, Failure<'a>>
+pub(super) fn open<'a, R: Read + Drop>(
+    path: &'a str,
+    reader: Option<R>,
+) -> Result<Trace<'a, R>, Failure<'a>>
     ensures opened { IfOk result (λ trace. reader ≡ Some trace.reader) }
     ensures unread { IfErr result (λ failure. failure ≡ Failure.Read path.entry) }
 {

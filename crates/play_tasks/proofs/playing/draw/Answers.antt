@@ -1,28 +1,49 @@
 -- SPDX-License-Identifier: MIT OR Apache-2.0
-use Rattle.std.proofs.Common.{ℕ, subst, sym}
-use Rattle.play_tasks.specs.Plays.{IsDrawn, PlayFails}
+use Rattle.std.proofs.Common.{ℕ, Ok, subst, sym}
+use Rattle.std.specs.Io.Buffered.{reader_remaining}
+use Rattle.play_drawing.specs.declared.size.TooLarge.{TooLarge}
+use Rattle.play_picture.specs.Pictured.{Pictured}
+use Rattle.play_tasks.specs.Plays.{IsDrawn, IsOverfull, PlayFails}
 use Rattle.play_report.specs.Failures.{failure_of}
 use Rattle.play_report.specs.declared.failure.Failure.TheVariants.{Read}
 use Rattle.play_tasks.specs.declared.task.Task.TheVariants.{Drawn}
 use Rattle.play_report.proofs.Results.{on_err}
-use Rattle.play_tasks.proofs.Plays.{always_ok, drawn_whole, drawn_failed, passed}
+use Rattle.play_tasks.proofs.Plays.{always_ok, drawn_over, drawn_whole, drawn_failed, passed}
 use Rattle.play_tasks.proofs.playing.draw.Goals as goal
 
-pub returns-in-Ok : goal.returns-in-Ok
-returns-in-Ok g c =
-    let drawn = subst IsDrawn c.in_ok-reader.ensures.unread (drawn_whole c.in-Ok.picture _ _ _ _ c.picture_of.new.bytes.items c.in-Ok.ensures) in
+pub returns-in-Ok-Ok : goal.returns-in-Ok-Ok
+returns-in-Ok-Ok g c =
+    let start = c.args.player.now.state in
+    let now = c.picture_of.new.player.state in
+    let had = reader_remaining g.R.Read.remaining c.in_ok-reader.reader in
+    let bytes = c.picture_of.new.bytes.items in
+    let is = subst (λ w. Pictured {A = g.row.A.Denot} c.args.keep start now had bytes (Ok w)) c.in-Ok-Ok.field-0-is c.in-Ok-Ok.ensures in
+    let drawn = subst IsDrawn c.in_ok-reader.ensures.unread (drawn_whole {A = g.row.A.Denot} c.in-Ok-Ok.picture c.args.keep start now had bytes is) in
     let streams = passed (g.R.Read.remaining c.args.trace.reader) (g.W.Write.contents c.args.out.now) (g.W.Write.contents c.print_picture.new.out) in
     record {
       played = always_ok c.print_picture.result drawn;
-      failed = on_err c.print_picture.result (λ failure is. subst (PlayFails (Drawn c.args.keep) c.args.player.now.state streams) (sym is) tt) c.print_picture.ensures;
+      failed = on_err c.print_picture.result (λ failure is. subst (PlayFails g.R.Read.remaining (Drawn c.args.keep c.args.width) c.args.player.now.state streams) (sym is) tt) c.print_picture.ensures;
     }
+
+pub returns-in-Ok-Err : goal.returns-in-Ok-Err
+returns-in-Ok-Err g c =
+    let held = g.W.Write.contents c.args.out.now in
+    let large = c.in-Ok-Err.large in
+    let start = c.args.player.now.state in
+    let now = c.picture_of.new.player.state in
+    let had = reader_remaining g.R.Read.remaining c.in_ok-reader.reader in
+    let bytes = c.picture_of.new.bytes.items in
+    let is = subst (λ w. Pictured {A = g.row.A.Denot} c.args.keep start now had bytes (Ok w)) c.in-Ok-Err.field-0-is c.in-Ok-Err.ensures in
+    let over = drawn_over g.row.A.Denot large c.args.keep start now held had bytes is in
+    let told = subst (λ had. IsOverfull (passed had held held) large.most) c.in_ok-reader.ensures.unread over in
+    record { played = tt; failed = subst (λ (l : TooLarge). IsOverfull (passed (g.R.Read.remaining c.args.trace.reader) held held) l.most) (sym c.in-Ok-Err.large-is) told }
 
 pub returns : goal.returns
 returns g c =
     let start = c.args.player.now.state in
     let held = g.W.Write.contents c.args.out.now in
-    let task = Drawn c.args.keep in
+    let task = Drawn c.args.keep c.args.width in
     let fault = c.of_line.ensures.0 in
-    let failed = drawn_failed ℕ c.args.keep start c.picture_of.new.player.state held _ c.picture_of.new.bytes.items c.args.trace.path fault c.in-Err.error c.in-Err.ensures in
-    let from_reader = subst (λ had. PlayFails task start (passed had held held) (failure_of (Read c.args.trace.path) fault c.in-Err.error)) c.in_ok-reader.ensures.unread failed in
-    record { played = tt; failed = subst (PlayFails task start (passed (g.R.Read.remaining c.args.trace.reader) held held)) (sym c.of_line.ensures.1) from_reader }
+    let failed = drawn_failed g.R.Read.remaining ℕ c.args.keep c.args.width start c.picture_of.new.player.state held _ c.picture_of.new.bytes.items c.args.trace.path fault c.in-Err.error c.in-Err.ensures in
+    let from_reader = subst (λ had. PlayFails g.R.Read.remaining task start (passed had held held) (failure_of (Read c.args.trace.path) fault c.in-Err.error)) c.in_ok-reader.ensures.unread failed in
+    record { played = tt; failed = subst (PlayFails g.R.Read.remaining task start (passed (g.R.Read.remaining c.args.trace.reader) held held)) (sym c.of_line.ensures.1) from_reader }

@@ -1,5 +1,7 @@
 -- SPDX-License-Identifier: MIT OR Apache-2.0
-use Rattle.std.proofs.Common.{◌≡◌, subst}
+use Rattle.std.proofs.Common.{◌≡◌, ◌∙◌, subst}
+use Rattle.std.specs.Prelude.{is_some}
+use Rattle.std.specs.Option.{option_and_then}
 use Rattle.ffa_manifest.specs.Document.{Parts, parts_of}
 use Rattle.play_report.specs.Manifests.{bytes_of}
 use Rattle.play_tasks.specs.Plays.{Plays}
@@ -8,11 +10,15 @@ use Rattle.play_commands.specs.Performed.{built_in_parts, first_of}
 use Rattle.play_commands.proofs.Performs.{demo_does}
 use Rattle.play_commands.proofs.commands.running.demo.Goals as goal
 
-pub returns : goal.returns
-returns g c =
+pub returns-clause-does : goal.returns-clause-does
+returns-clause-does g c =
     let built = c.built_in.ensures in
     let is : parts_of c.built_in.result ≡ built_in_parts = λ i. record { ram_base = built.base i; ram_blocks = built.blocks i; endpoints = built.endpoints i } in
     let streams = passed (g.R.Read.remaining c.in_ok-trace.trace.reader) (g.W.Write.contents c.args.out.now) (g.W.Write.contents c.run.new.out) in
     let task = c.to_print-task in
-    let plays = subst (λ (parts : Parts). Plays task.result (first_of parts) streams c.run.result) is c.run.ensures in
-    rw c.in_ok-trace.ensures.opened (demo_does c.args.how task.result task.ensures (bytes_of c.args.files.expected) streams (bytes_of c.args.files.manifest) c.run.result plays)
+    let plays = subst (λ (parts : Parts). Plays g.R.Read.remaining task.result (first_of parts) streams c.run.result) is c.run.ensures.played in
+    rw c.in_ok-trace.ensures.opened
+    (demo_does g.R.Read.remaining c.args.how task.result task.ensures.prints (is_some c.args.files.expected) (option_and_then g.R.Read.remaining c.args.files.expected) streams (bytes_of c.args.files.manifest) c.run.result plays)
+
+pub returns-clause-quiet : goal.returns-clause-quiet
+returns-clause-quiet g c = λ silent. c.run.ensures.quiet (c.to_print-task.ensures.talks ∙ silent)

@@ -1,0 +1,24 @@
+-- SPDX-License-Identifier: MIT OR Apache-2.0
+use Rattle.std.proofs.Common.{refl}
+use Rattle.std.specs.Prelude.{is_some}
+use Rattle.std.specs.Option.{option_and_then}
+use Rattle.std.proofs.lemmas.Result.{err_from_is_err_and}
+use Rattle.ffa_manifest.specs.Document.{parts_of}
+use Rattle.play_report.specs.Manifests.{bytes_of}
+use Rattle.play_tasks.proofs.Plays.{kept, passed}
+use Rattle.play_commands.specs.Performed.{ran}
+use Rattle.play_commands.specs.Running.{picture_of}
+use Rattle.play_commands.proofs.Performs.{page_does, unread}
+use Rattle.play_commands.proofs.commands.paging.print_page.Goals as goal
+
+pub returns-in_err-manifest-clause-does : goal.returns-in_err-manifest-clause-does
+returns-in_err-manifest-clause-does g c =
+    let held = g.W.Write.contents c.args.out.now in
+    let p = err_from_is_err_and c.from_residual.result c.from_residual.ensures.1 in
+    rw (p.1, p.2) (unread (picture_of c.args.path c.args.how) refl (ran g.R.Read.remaining c.args.files g.W.Write.contents c.args.out.now c.args.out.now) (kept held) c.in_err-manifest.field-0.0 c.in_err-manifest.ensures.failed)
+
+pub returns-clause-does : goal.returns-clause-does
+returns-clause-does g c =
+    let streams = passed (g.R.Read.remaining c.in_ok-trace.trace.reader) (g.W.Write.contents c.args.out.now) (g.W.Write.contents c.run.new.out) in
+    rw c.in_ok-trace.ensures.opened
+    (page_does g.R.Read.remaining c.args.path (bytes_of c.args.files.manifest) streams (parts_of c.in_ok-manifest.manifest) c.in_ok-manifest.ensures.described (is_some c.args.files.expected) (option_and_then g.R.Read.remaining c.args.files.expected) c.args.how c.run.result c.run.ensures.played)

@@ -1,0 +1,28 @@
+-- SPDX-License-Identifier: MIT OR Apache-2.0
+use Rattle.std.proofs.Common.{None, subst, sym}
+use Rattle.play_tasks.specs.Plays.{IsHeld, PlayFails}
+use Rattle.play_report.specs.Failures.{failure_of}
+use Rattle.play_report.specs.declared.failure.Failure.TheVariants.{Read}
+use Rattle.play_tasks.specs.declared.task.Task.TheVariants.{Session}
+use Rattle.play_tasks.proofs.Plays.{held_failed, held_whole, passed}
+use Rattle.play_tasks.proofs.playing.play_session.Goals as goal
+
+pub returns-in-Ok : goal.returns-in-Ok
+returns-in-Ok g c =
+    let held = g.W.Write.contents c.args.out.now in
+    let holds = g.W.Write.contents c.play_session.new.writer in
+    let whole = held_whole c.in-Ok.field-0 c.args.form c.args.player.now.state c.play_session.new.player.state held holds _ c.in-Ok.ensures in
+    record {
+      played = subst (λ had. IsHeld c.args.form c.args.player.now.state (passed had held holds)) c.in_ok-reader.ensures.unread whole;
+      failed = tt;
+    }
+
+pub returns : goal.returns
+returns g c =
+    let start = c.args.player.now.state in
+    let held = g.W.Write.contents c.args.out.now in
+    let holds = g.W.Write.contents c.play_session.new.writer in
+    let task = Session c.args.form in
+    let failed = held_failed g.R.Read.remaining c.args.form start c.play_session.new.player.state held holds _ c.args.trace.path None c.in-Err.error c.in-Err.ensures in
+    let from_reader = subst (λ had. PlayFails g.R.Read.remaining task start (passed had held holds) (failure_of (Read c.args.trace.path) None c.in-Err.error)) c.in_ok-reader.ensures.unread failed in
+    record { played = tt; failed = subst (PlayFails g.R.Read.remaining task start (passed (g.R.Read.remaining c.args.trace.reader) held holds)) (sym c.of_play.ensures) from_reader }
