@@ -10,7 +10,7 @@ from conftest import EXAMPLES, TOP, Program
 
 from gorseplumb import Machine, Ram, play
 
-LINES = 101_000
+LINES = 140_000
 MANIFEST = EXAMPLES / "partitions.toml"
 
 
@@ -26,7 +26,7 @@ def operations(program: Program) -> Played:
     """Calls, loads, stores and fetches of a generated trace."""
     lines = program("generate", "--seed", 7, "--lines", LINES, MANIFEST).stdout
     assert lines.count(b"\n") == LINES
-    trace = re.sub(rb"^(?:show|audit)\n", b"", lines, flags=re.M)
+    trace = re.sub(rb"^(?:show|audit|#.*)\n", b"", lines, flags=re.M)
     assert trace.count(b"\n") >= 100_000
     return Played(trace, program("run", MANIFEST, "-", text=trace).stdout)
 

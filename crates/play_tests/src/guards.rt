@@ -3,7 +3,7 @@
 use crate::checks::{alike, holds, same, same_at};
 use crate::machines::{FlatPlayer, booted};
 use ffa_model::built_in;
-use play_forms::{Asks, Breach, Form, guard_text, play, play_guarded};
+use play_forms::{Asks, Breach, Form, Tally, guard_text, play, play_guarded};
 use play_player::Player;
 use play_syntax::PlayError;
 use std::alloc::{AllocError, Global};
@@ -32,6 +32,39 @@ call 8400006D 80010000
 #@ 8001
 ";
 
+// Patterns, all met: a name, with its error and without, the number of a check, registers without zeros at the front, with the
+// rest left open, and the beginnings of other lines.
+const MET_PATTERNS: &str = "\
+call 84000069
+#= FFA_SUCCESS
+call 84000069
+#= regs 0 84000061 ..
+call 84000069
+#= regs 0 84000061 0 000 0 0 0 0 0
+call 84000069
+#= regs 0000 0000000084000061 0000000000000000 0000000000000000 0000000000000000 0000000000000000 0000000000000000 0000000000000000 0000000000000000 ..
+call 84000066 4001E000 4001F000 5
+#= FFA_ERROR INVALID_PARAMETERS
+call 84000066 4001E000 4001F000 5
+#= FFA_ERROR
+call 84000066 4001E000 4001F000 5
+#= check 2
+call 84000066 4001E000 4001F000 5
+#= check ..
+call 84000066 4001E000 4001F000 5
+#= regs 0 84000060 0 FFFFFFFE ..
+load 40010000 1
+#= data ..
+load 40020000 1
+#=fault ..
+show
+#= runner ..
+# text
+#@ 0000
+#= pages 40000000 ..
+#= pages 40010000 4001FFFF 0000 rw- ---
+";
+
 fn player(alloc: Global) -> Result<FlatPlayer, Fail> {
     Ok(Player::new(booted(alloc, &built_in())?))
 }
@@ -41,12 +74,14 @@ fn player(alloc: Global) -> Result<FlatPlayer, Fail> {
 struct Guarded {
     out: Vec<u8>,
     found: Vec<u8>,
+    tally: Tally<Global>,
     ended: Result<Option<Breach>, PlayError>,
 }
 
 fn played(alloc: Global, form: Form, trace: &[u8]) -> Result<Guarded, Fail> {
     let mut player = player(alloc)?;
     let (mut out, mut bytes, mut found) = (Vec::new(alloc), Vec::new(alloc), Vec::new(alloc));
+    let mut tally = Tally::new(alloc);
     let mut left = trace;
     let ended = play_guarded(
         &mut player,
@@ -56,8 +91,14 @@ fn played(alloc: Global, form: Form, trace: &[u8]) -> Result<Guarded, Fail> {
         &mut out,
         &mut bytes,
         &mut found,
+        &mut tally,
     );
-    Ok(Guarded { out, found, ended })
+    Ok(Guarded {
+        out,
+        found,
+        tally,
+        ended,
+    })
 }
 
 // What a play prints that takes guards for comments, or nothing where it doesn't end well.
@@ -82,6 +123,45 @@ fn plays_as_without_guards(rt: &impl Abort, alloc: Global, form: Form) -> Result
 }
 
 // Whatever form is printed, guards look at the plain text, and what is printed is what `play` prints.
+// All guards of these traces are met, and counted.
+#[test]
+fn counts_guards_that_are_met(rt: HostRuntime) -> Result<(), Fail> {
+    for (trace, count) in [(MET, 10), (MET_PATTERNS, 15), ("", 0)] {
+        let left = played(rt.alloc(), Form::default(), trace.as_bytes())?;
+        alike(&rt, left.ended, Ok(None));
+        same(&rt, left.tally.met, count);
+        holds(&rt, left.tally.near.is_empty());
+    }
+    Ok(())
+}
+
+// Comments that are nearly guards, and others: lines 1, 3 and 4 are.
+const NEAR: &str = "\
+# = done
+#- = done
+#   = done
+# @ 8001
+#\t= done
+# text = done
+#
+#
+## = done
+";
+
+// Where a play ends well, and where it stops at its last line.
+#[test]
+fn finds_comments_that_are_nearly_guards(rt: HostRuntime) -> Result<(), Fail> {
+    for last in ["", "#= done\n", "call\n"] {
+        let mut trace = String::from_str(rt.alloc(), NEAR)?;
+        trace.push_str(last)?;
+        let left = played(rt.alloc(), Form::default(), trace.as_bytes())?;
+        same(&rt, left.tally.near.as_slice(), [1, 3, 4].as_slice());
+        same(&rt, left.tally.met, 0);
+        same(&rt, left.ended == Ok(None), last.is_empty());
+    }
+    Ok(())
+}
+
 #[test]
 fn plays_as_without_guards_where_all_are_met(rt: HostRuntime) -> Result<(), Fail> {
     for asked in [false, true] {
@@ -97,7 +177,7 @@ fn plays_as_without_guards_where_all_are_met(rt: HostRuntime) -> Result<(), Fail
 
 // What a guard asks, what there is in place of what it wants, and a trace with a slash for each line end, of which the last
 // line is that guard, which isn't met: another text, the line behind its own, nothing before anything was printed, nothing
-// that is unasked, and another runner.
+// that is unasked, and another runner; then patterns, of which what they are compared with is found.
 const UNMET: &str = "\
 Printed;data 00;load 40010000 1/#= data 2A/
 Printed;data 00;load 40010000 1/#= data/
@@ -105,6 +185,22 @@ Printed;pages 40000000 4000FFFF 8000 --- ---;show/#= runner 0000//#@ 0000/#= pag
 Printed;;# text/#= done/
 Printed;;store 40010000 2A/#=done/#=/
 Runner;0000;store 40010000 2A/#= done/#@ 8001/
+Printed;FFA_SUCCESS;call 84000069/#= FFA_ERROR/
+Printed;FFA_SUCCESS;call 84000069/#= FFA_SUCCESS DENIED/
+Printed;FFA_SUCCESS;call 84000069/#= check 1/
+Printed;FFA_SUCCESS;call 84000069/#= check ../
+Printed;FFA_ERROR INVALID_PARAMETERS;call 84000066 4001E000 4001F000 5/#= FFA_ERROR DENIED/
+Printed;FFA_ERROR INVALID_PARAMETERS;call 84000066 4001E000 4001F000 5/#= FFA_ERROR INVALID/
+Printed;check 2;call 84000066 4001E000 4001F000 5/#= check 1/
+Printed;check 2;call 84000066 4001E000 4001F000 5/#= check 02/
+Printed;fault translation;load 40020000 1/#= check 1/
+Printed;fault translation;load 40020000 1/#= FFA_ERROR/
+Printed;done;store 40010000 2A/#= FFA_SUCCESS/
+Printed;;call 84000069/#= FFA_SUCCESS/#= FFA_SUCCESS/
+Printed;data 00;load 40010000 1/#= data 0/
+Printed;data 00;load 40010000 1/#= data 00 00 ../
+Printed;runner 0000;show/#= runner 0 ../
+Printed;runner 0000;show/#= run ../
 ";
 
 // How a play ends.

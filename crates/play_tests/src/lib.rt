@@ -20,3 +20,5 @@ mod perform;
 mod printed;
 #[cfg(test)]
 mod reasons;
+#[cfg(test)]
+mod recorded;

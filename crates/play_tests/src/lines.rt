@@ -1,9 +1,9 @@
 // SPDX-License-Identifier: MIT OR Apache-2.0
-//! Plays line by line: with numbers, with names, and against a text that is expected.
+//! Plays line by line: with numbers, with names, past bad lines, and against an expected text.
 use crate::checks::{holds, same, same_at};
 use crate::machines::{FlatPlayer, booted};
 use ffa_model::{FaultKind, built_in};
-use play_forms::{Form, Mismatch, compare, next_line, play};
+use play_forms::{CompareError, Form, Mismatch, Sides, compare, next_line, play, play_session};
 use play_player::Player;
 use play_reasons::line_fault;
 use play_syntax::{PlayError, text};
@@ -132,9 +132,9 @@ show ;column 6: an empty word
 load  40010000 8;column 6: an empty word
 fetch zz;column 7: no hexadecimal number
 call 84000063 0x1;column 15: no hexadecimal number
-call 8400006300000000F;column 6: a number of more than 16 digits
-call;column 5: 0 registers
-call 1 2 3 4 5 6 7 8 9;column 22: 9 registers
+call 8400006300000000F;column 6: a number of 17 digits, where 16 are the most
+call;column 5: 0 registers, where a call has 1 to 8
+call 1 2 3 4 5 6 7 8 9;column 22: 9 registers, where a call has 1 to 8
 load 40010000 3;column 15: a size that is none of 1, 2, 4 and 8
 store 40010000 2AF;column 16: a value of 3 digits, which are none of 2, 4, 8 and 16
 store 40010000 2;column 16: a value of 1 digit, which is none of 2, 4, 8 and 16
@@ -177,50 +177,50 @@ fn says_what_is_wrong_with_a_line(rt: HostRuntime) -> Result<(), Fail> {
     Ok(())
 }
 
-// Where a play of the trace first differs from the expected text.
-fn compared(alloc: Global, expected: &[u8]) -> Result<Result<Option<Mismatch>, PlayError>, Fail> {
-    compared_on(&mut player(alloc)?, alloc, expected)
+// Where a play of a trace first differs from the expected text.
+type Compared = Result<Option<Mismatch>, CompareError>;
+
+const NAMED: Form = Form {
+    number: true,
+    names: true,
+    explain: false,
+};
+
+const REASONED: Form = Form {
+    number: false,
+    names: false,
+    explain: true,
+};
+
+fn compared(alloc: Global, form: Form, trace: &str, expected: &[u8]) -> Result<Compared, Fail> {
+    compared_on(&mut player(alloc)?, alloc, form, trace, expected)
 }
 
 fn compared_on(
     player: &mut FlatPlayer,
     alloc: Global,
+    form: Form,
+    trace: &str,
     expected: &[u8],
-) -> Result<Result<Option<Mismatch>, PlayError>, Fail> {
-    let (mut bytes, mut text) = (Vec::new(alloc), Vec::new(alloc));
-    let mut left = TRACE.as_bytes();
-    Ok(compare(
-        player, alloc, false, &mut left, expected, &mut bytes, &mut text,
-    ))
-}
-
-// The expected text with a byte of one of its lines turned.
-fn differs_at(
-    rt: &impl Abort,
-    alloc: Global,
-    byte: usize,
-    number: u64,
-    place: usize,
-) -> Result<(), Fail> {
-    let mut turned = TEXT.as_bytes().to_vec(alloc)?;
-    if let Some(place) = turned.get_mut(byte) {
-        *place = b'?';
-    }
-    differs(rt, alloc, turned.as_slice(), number, place)
+) -> Result<Compared, Fail> {
+    let (mut left, mut wanted) = (trace.as_bytes(), expected);
+    let mut sides = Sides::new(alloc);
+    Ok(compare(player, alloc, form, &mut left, &mut wanted, &mut sides))
 }
 
 // Where a comparison found a difference, of which no reason is told.
-fn place_of(found: Result<Option<Mismatch>, PlayError>) -> Option<(u64, usize)> {
+fn place_of(found: Compared) -> Option<(u64, u64, usize)> {
     match found {
         Ok(
             Some(
                 Mismatch {
                     number,
+                    expected_line,
                     place,
                     reason: None,
                 },
             ),
-        ) => Some((number, place)),
+        ) => Some((number, expected_line, place)),
         _ => None,
     }
 }
@@ -228,30 +228,152 @@ fn place_of(found: Result<Option<Mismatch>, PlayError>) -> Option<(u64, usize)> 
 fn differs(
     rt: &impl Abort,
     alloc: Global,
+    trace: &str,
     expected: &[u8],
-    number: u64,
-    place: usize,
+    wanted: (u64, u64, usize),
 ) -> Result<(), Fail> {
     let mut player = player(alloc)?;
-    let found = compared_on(&mut player, alloc, expected)?;
-    same(rt, place_of(found), Some((number, place)));
+    let found = compared_on(&mut player, alloc, Form::default(), trace, expected)?;
+    same(rt, place_of(found), Some(wanted));
     goes_on(rt, alloc, &mut player)
+}
+
+// The expected text of TRACE with a byte of one of its lines turned.
+fn differs_at(
+    rt: &impl Abort,
+    alloc: Global,
+    byte: usize,
+    wanted: (u64, u64, usize),
+) -> Result<(), Fail> {
+    let mut turned = TEXT.as_bytes().to_vec(alloc)?;
+    if let Some(place) = turned.get_mut(byte) {
+        *place = b'?';
+    }
+    differs(rt, alloc, TRACE, turned.as_slice(), wanted)
 }
 
 // The expected text is the whole, the whole with a byte of one of its lines turned, a part, and the whole with more behind.
 #[test]
 fn finds_the_first_line_that_differs(rt: HostRuntime) -> Result<(), Fail> {
     let alloc = rt.alloc();
-    holds(&rt, matches!(compared(alloc, TEXT.as_bytes())?, Ok(None)));
-    differs_at(&rt, alloc, 0, 2, 0)?;
-    differs_at(&rt, alloc, 145, 2, 0)?;
-    differs_at(&rt, alloc, 147, 4, 146)?;
-    differs_at(&rt, alloc, 200, 5, 151)?;
+    let whole = compared(alloc, Form::default(), TRACE, TEXT.as_bytes())?;
+    holds(&rt, matches!(whole, Ok(None)));
+    differs_at(&rt, alloc, 0, (2, 1, 0))?;
+    differs_at(&rt, alloc, 145, (2, 1, 0))?;
+    differs_at(&rt, alloc, 147, (4, 2, 0))?;
+    differs_at(&rt, alloc, 200, (5, 3, 0))?;
+    differs(&rt, alloc, TRACE, b"", (2, 1, 0))?;
     let mut text = TEXT.as_bytes().to_vec(alloc)?;
     text.pop();
-    differs(&rt, alloc, text.as_slice(), 6, 297)?;
+    differs(&rt, alloc, TRACE, text.as_slice(), (6, 4, 0))?;
     text.extend_from_slice(b"\n\n")?;
-    differs(&rt, alloc, text.as_slice(), 7, TEXT.len())
+    differs(&rt, alloc, TRACE, text.as_slice(), (7, 5, 0))
+}
+
+// A table of accesses, which is a text of several lines: its third line stands behind 12 and 37 bytes.
+const TABLE: &str = "\
+runner 0000
+pages 40000000 4000FFFF 8000 --- ---
+pages 40010000 4001FFFF 0000 rw- ---
+pages 40020000 4002FFFF 8001 --- rwx
+pages 40030000 401FFFFF 8000 --- ---
+";
+
+#[test]
+fn finds_the_line_of_a_table_that_differs(rt: HostRuntime) -> Result<(), Fail> {
+    let alloc = rt.alloc();
+    let whole = compared(alloc, Form::default(), "show\n", TABLE.as_bytes())?;
+    holds(&rt, matches!(whole, Ok(None)));
+    let other = TABLE.replacen(alloc, "rw- ---", "rw- r--", 1)?;
+    differs(&rt, alloc, "show\n", other.as_bytes(), (1, 3, 49))?;
+    let shorter = TABLE.replacen(alloc, "pages 40030000 401FFFFF 8000 --- ---\n", "", 1)?;
+    differs(&rt, alloc, "show\n", shorter.as_bytes(), (1, 5, 123))?;
+    let longer = format!(in alloc; "{TABLE}done\n")?;
+    differs(&rt, alloc, "show\n", longer.as_bytes(), (2, 6, 0))
+}
+
+// Texts with numbers and names are compared with such.
+#[test]
+fn compares_numbers_and_names(rt: HostRuntime) -> Result<(), Fail> {
+    let alloc = rt.alloc();
+    let named = compared(alloc, NAMED, TRACE, ANNOTATED.as_bytes())?;
+    holds(&rt, matches!(named, Ok(None)));
+    let bare = compared(alloc, NAMED, TRACE, TEXT.as_bytes())?;
+    same(&rt, place_of(bare), Some((2, 1, 0)));
+    let named = compared(alloc, Form::default(), TRACE, ANNOTATED.as_bytes())?;
+    same(&rt, place_of(named), Some((2, 1, 0)));
+    Ok(())
+}
+
+// Reasons are never compared, and one is told where the operation at a difference is refused.
+#[test]
+fn compares_no_reasons(rt: HostRuntime) -> Result<(), Fail> {
+    let alloc = rt.alloc();
+    let whole = compared(alloc, REASONED, TRACE, TEXT.as_bytes())?;
+    holds(&rt, matches!(whole, Ok(None)));
+    let other = TEXT.replacen(alloc, "fault translation", "done", 1)?;
+    let found = compared(alloc, REASONED, TRACE, other.as_bytes())?;
+    holds(
+        &rt,
+        matches!(
+            found,
+            Ok(Some(Mismatch {
+                reason: Some(_),
+                ..
+            }))
+        ),
+    );
+    Ok(())
+}
+
+// A bad line, and a rest that no LF ends.
+#[test]
+fn compares_up_to_a_bad_line(rt: HostRuntime) -> Result<(), Fail> {
+    for trace in ["fetch 0\nshows\n", "fetch 0\nshow"] {
+        let found = compared(rt.alloc(), Form::default(), trace, b"fault translation\n")?;
+        holds(
+            &rt,
+            matches!(found, Err(CompareError::Play(PlayError::BadLine(2)))),
+        );
+    }
+    Ok(())
+}
+
+// A session of good lines and bad ones: what it prints in a form, and what it tells.
+fn holds_session(
+    rt: &impl Abort,
+    alloc: Global,
+    form: Form,
+    trace: &str,
+    text: &str,
+    told: &str,
+) -> Result<(), Fail> {
+    let mut player = player(alloc)?;
+    let (mut out, mut err) = (Vec::new(alloc), Vec::new(alloc));
+    let mut left = trace.as_bytes();
+    let ended = play_session(&mut player, alloc, form, &mut left, &mut out, &mut err);
+    same(rt, ended, Ok(()));
+    same(rt, out.as_slice(), text.as_bytes());
+    same(rt, err.as_slice(), told.as_bytes());
+    goes_on(rt, alloc, &mut player)
+}
+
+// The good lines are done as if the bad ones weren't there, and their numbers count those.
+#[test]
+fn tells_of_bad_lines_and_goes_on(rt: HostRuntime) -> Result<(), Fail> {
+    let alloc = rt.alloc();
+    let trace =
+        "store 40010000 2A\nload 4001\n# 3\n\nload 40010000 1\nshow\r\nfetch 40020000\nfetch";
+    let told =
+        "ffaplay: line 2, column 10: a word is missing\nffaplay: line 6: a CR before the line's end\nffaplay: line 8: no line end\n";
+    let plain = "done\ndata 2A\nfault translation\n";
+    holds_session(&rt, alloc, Form::default(), trace, plain, told)?;
+    let numbered = "1: done\n5: data 2A\n7: fault translation\n";
+    holds_session(&rt, alloc, NAMED, trace, numbered, told)?;
+    let reasoned = "done\ndata 2A\nfault translation\n# refused: 40020000 belongs to 8001\n";
+    holds_session(&rt, alloc, REASONED, trace, reasoned, told)?;
+    holds_session(&rt, alloc, Form::default(), "", "", "")?;
+    holds_session(&rt, alloc, NAMED, TRACE, ANNOTATED, "")
 }
 
 // The next line, and what comes of reading it.

@@ -14,8 +14,12 @@ mod blocks;
 mod lines;
 // The worked example of the manual.
 mod manual;
+// Pictures: which lines have a row, and what a row says.
+mod pictures;
 // Memory that is refused.
 mod refused;
+// Comparisons with what can't be read or held, and sessions.
+mod sides;
 // Guards, descriptors from words, and traces that are generated.
 mod writing;
 
@@ -74,6 +78,7 @@ const RUN: Request<'static> = Request::Run {
     machine: MACHINE,
     text: TEXT,
     strict: false,
+    interactive: false,
     verbose: false,
 };
 
@@ -82,6 +87,7 @@ const DEMO: Request<'static> = Request::Demo {
     machine: MACHINE,
     text: TEXT,
     strict: false,
+    interactive: false,
     verbose: false,
 };
 
@@ -92,6 +98,7 @@ const CHECK: Request<'static> = Request::Check {
 
 const LAYOUT: Request<'static> = Request::Layout {
     manifest: "row.toml",
+    regions: false,
     verbose: false,
 };
 
@@ -143,6 +150,7 @@ fn on_kind<'a>(request: &Request<'a>, (frames, tlb): (bool, bool)) -> Request<'a
             trace,
             text,
             strict,
+            interactive,
             verbose,
             ..
         } => Request::Run {
@@ -151,12 +159,14 @@ fn on_kind<'a>(request: &Request<'a>, (frames, tlb): (bool, bool)) -> Request<'a
             machine,
             text,
             strict,
+            interactive,
             verbose,
         },
         Request::Demo {
             trace,
             text,
             strict,
+            interactive,
             verbose,
             ..
         } => Request::Demo {
@@ -164,6 +174,7 @@ fn on_kind<'a>(request: &Request<'a>, (frames, tlb): (bool, bool)) -> Request<'a
             machine,
             text,
             strict,
+            interactive,
             verbose,
         },
         other => other,

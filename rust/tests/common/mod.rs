@@ -41,7 +41,7 @@ pub fn run(arguments: &[&str]) -> String {
 /// A trace of a hundred thousand operations and more for a manifest's machine, and what the program prints of it, with
 /// these flags.
 pub fn generated(manifest: &str, seed: &str, flags: &[&str]) -> (String, String) {
-    let trace = run(&["generate", "--seed", seed, "--lines", "101000", manifest]);
+    let trace = run(&["generate", "--seed", seed, "--lines", "140000", manifest]);
     let is_operation = |line: &&str| ["call", "load", "stor", "fetc"].iter().any(|word| line.starts_with(word));
     let operations = trace.lines().filter(is_operation).count();
     assert!(operations >= 100_000, "{operations} operations");

@@ -20,6 +20,7 @@ const SAY_ALL: Request<'static> = Request::Demo {
         explain: false,
     },
     strict: false,
+    interactive: false,
     verbose: true,
 };
 
@@ -28,6 +29,7 @@ const PLAIN: Request<'static> = Request::Demo {
     machine: MACHINE,
     text: TEXT,
     strict: false,
+    interactive: false,
     verbose: true,
 };
 
@@ -36,21 +38,22 @@ const COMPARE: Request<'static> = Request::Compare {
     trace: "row.trace",
     expected: "row.text",
     machine: MACHINE,
-    explain: false,
+    text: TEXT,
     verbose: true,
+};
+
+const EXPLAINED: TextOptions = TextOptions {
+    explain: true,
+    ..TEXT
 };
 
 const EXPLAIN: Request<'static> = Request::Run {
     manifest: "row.toml",
     trace: "row.trace",
     machine: MACHINE,
-    text: TextOptions {
-        line_buffered: false,
-        number: false,
-        names: false,
-        explain: true,
-    },
+    text: EXPLAINED,
     strict: false,
+    interactive: false,
     verbose: false,
 };
 
@@ -59,7 +62,7 @@ const EXPLAINED_COMPARE: Request<'static> = Request::Compare {
     trace: "row.trace",
     expected: "row.text",
     machine: MACHINE,
-    explain: true,
+    text: EXPLAINED,
     verbose: false,
 };
 
@@ -120,7 +123,7 @@ fn says_where_a_manifest_is_refused(rt: HostRuntime) -> Result<(), Fail> {
     let overlapping = ROW.replacen(rt.alloc(), "rights = \"rwx\"", "rights = \"wr\"", 1)?;
     let first = "ffaplay: manifest: M5 WrongKind\n";
     let both =
-        "ffaplay: manifest: M5 WrongKind\nffaplay: endpoint 2, region 1: rights = \"wr\": none of \"ro\", \"rw\", \"rox\" and \"rwx\"\n";
+        "ffaplay: manifest: M5 WrongKind\nffaplay: endpoint 8001 (the 2nd [[endpoint]]), region 1: rights = \"wr\": none of \"ro\", \"rw\", \"rox\" and \"rwx\"\n";
     for (request, err) in [(CHECK, first), (VERBOSE_CHECK, both)] {
         let got = performed(rt.alloc(), &request, files(overlapping.as_str(), "", ""));
         let (status, out) = (1, "");
@@ -163,21 +166,21 @@ fn compares_texts(rt: HostRuntime) -> Result<(), Fail> {
     let other = EXPECTED.replacen(alloc, "data 2A", "data 2B", 1)?;
     let wanted = Wanted {
         status: 4,
-        out: "line 3: load 40010000 1\nexpected: data 2B\nfound:    data 2A\n",
+        out: "line 3: load 40010000 1\nexpected, line 3: data 2B\nfound:            data 2A\n",
         err,
     };
     ended(&rt, &compared(alloc, other.as_str()), wanted);
     let shorter = EXPECTED.replacen(alloc, "data 2A\n", "", 1)?;
     let wanted = Wanted {
         status: 4,
-        out: "line 3: load 40010000 1\nexpected: (the end)\nfound:    data 2A\n",
+        out: "line 3: load 40010000 1\nexpected, line 3: (the end)\nfound:            data 2A\n",
         err,
     };
     ended(&rt, &compared(alloc, shorter.as_str()), wanted);
     let longer = EXPECTED.replacen(alloc, "data 2A\n", "data 2A\ndone", 1)?;
     let wanted = Wanted {
         status: 4,
-        out: "line 4: (the end)\nexpected: done (no line end)\nfound:    (the end)\n",
+        out: "line 4: (the end)\nexpected, line 4: done (no line end)\nfound:            (the end)\n",
         err,
     };
     ended(&rt, &compared(alloc, longer.as_str()), wanted);
@@ -197,8 +200,8 @@ fn names_registers_that_differ(rt: HostRuntime) -> Result<(), Fail> {
     let got = compared(alloc, other.as_str());
     assert_eq!(rt; got.status, 4);
     let lines = got.out.as_slice();
-    assert!(rt; lines.starts_with(b"line 2: call 84000069\nexpected: regs 8001 "));
-    assert!(rt; lines.ends_with(b"\ndiffer:   runner, x2\n"));
+    assert!(rt; lines.starts_with(b"line 2: call 84000069\nexpected, line 2: regs 8001 "));
+    assert!(rt; lines.ends_with(b"\ndiffer:           runner, x2\n"));
     Ok(())
 }
 
@@ -213,7 +216,7 @@ fn compares_as_the_manual_shows(rt: HostRuntime) -> Result<(), Fail> {
     let got = performed(alloc, &COMPARE, files(PARTITIONS, ACCESSES, other.as_str()));
     let wanted = Wanted {
         status: 4,
-        out: "line 4: load 40010008 2\nexpected: data CDEE\nfound:    data CDEF\n",
+        out: "line 4: load 40010008 2\nexpected, line 3: data CDEE\nfound:            data CDEF\n",
         err,
     };
     ended(&rt, &got, wanted);
@@ -250,7 +253,7 @@ const REFUSED_TEXT: &str =
 fault translation
 # refused: 40200000 belongs to 8002
 fault permission
-# refused: 40020000 may not be written
+# refused: 40020000 may not be written: 8001 has r-x
 fault alignment
 # refused: 40028001 is no multiple of 2
 regs 8001 0000000084000060 0000000000000000 00000000FFFFFFFF 0000000000000000 0000000000000000 0000000000000000 0000000000000000 0000000000000000
@@ -290,7 +293,7 @@ fn compares_and_says_why(rt: HostRuntime) {
     );
     let wanted = Wanted {
         status: 4,
-        out: "line 2: load 40020000 1\nexpected: done\nfound:    fault translation\n# refused: 40020000 belongs to 8001\n",
+        out: "line 2: load 40020000 1\nexpected, line 2: done\nfound:            fault translation\n# refused: 40020000 belongs to 8001\n",
         err: "",
     };
     ended(&rt, &got, wanted);
@@ -302,6 +305,7 @@ fn says_what_the_manual_shows(rt: HostRuntime) {
     let trace = "call 84000069\ncall 84000066 4001E000 4001F000 1 0 0 0 0 0\n";
     let got = performed(rt.alloc(), &PLAIN, files("", trace, ""));
     assert_eq!(rt; got.status, 2);
-    let told = "ffaplay: line 2: bad line\nffaplay: column 43: 9 registers\n";
+    let told =
+        "ffaplay: line 2: bad line\nffaplay: column 43: 9 registers, where a call has 1 to 8\n";
     assert_eq!(rt; got.err.as_slice(), told.as_bytes());
 }

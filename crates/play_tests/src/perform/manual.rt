@@ -2,6 +2,7 @@
 //! The worked example of docs/EXAMPLE.md: the texts are those of the files in examples/, and the manual shows the same.
 
 use super::{CHECK, LAYOUT, RUN, done, ends};
+use play_arguments::Request;
 
 // examples/partitions.toml
 pub(super) const PARTITIONS: &str =
@@ -244,6 +245,26 @@ regs 8001 0000000084000061 0000000000000000 0000000000000000 0000000000000000 00
 regs 8001 0000000084000060 0000000000000000 00000000FFFFFFFE 0000000000000000 0000000000000000 0000000000000000 0000000000000000 0000000000000000
 ";
 
+// With the regions behind the tables.
+const REGIONS_TEXT: &str = "0000 40000000 40001000 40002000
+8001 40004000 40005000 40006000
+8002 40008000 40009000 4000A000
+region 0000 40010000 4001FFFF 00010 rw-
+region 8001 40020000 40027FFF 00008 r-x
+region 8001 40028000 4002FFFF 00008 rw-
+region 8002 40200000 40207FFF 00008 rwx
+region 8002 40208000 4020FFFF 00008 r--
+tables 40000000 4000BFFF
+space 4000C000 403FFFFF
+ram 40000000 403FFFFF
+";
+
+const REGIONS: Request<'static> = Request::Layout {
+    manifest: "row.toml",
+    regions: true,
+    verbose: false,
+};
+
 const LAYOUT_TEXT: &str = "0000 40000000 40001000 40002000
 8001 40004000 40005000 40006000
 8002 40008000 40009000 4000A000
@@ -278,4 +299,5 @@ fn does_what_the_manual_shows(rt: HostRuntime) {
     );
     ends(&rt, alloc, &CHECK, manifest, Some(""), done("accepted\n"));
     ends(&rt, alloc, &LAYOUT, manifest, Some(""), done(LAYOUT_TEXT));
+    ends(&rt, alloc, &REGIONS, manifest, Some(""), done(REGIONS_TEXT));
 }
