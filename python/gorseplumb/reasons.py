@@ -108,7 +108,7 @@ def _access_text(operation: Load | Store | Fetch, reason: Reason) -> str:
     size = 4 if isinstance(operation, Fetch) else operation.size
     verb = {Load: "read", Store: "written", Fetch: "executed"}[type(operation)]
     words = {
-        Fault.TRANSLATION: str(reason.hindrance) or " has more than 32 bits",
+        Fault.TRANSLATION: str(reason.hindrance) or " is above FFFFFFFF",
         Fault.PERMISSION: f" may not be {verb}",
         Fault.ALIGNMENT: f" is no multiple of {size}",
         Fault.ACCESS_FLAG: " has no access flag",

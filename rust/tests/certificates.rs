@@ -2,7 +2,7 @@
 //! What a machine's tables give, and whether runs say it.
 mod common;
 
-use common::explained::explain;
+use common::explained::{briefly, explain};
 use common::machines::{MACHINE, PARTITIONS};
 use common::{example, play, ram, run, top, RAM};
 use gorseplumb::{AuditError, Grant, Id, Lent, Machine, PageRun, Rights};
@@ -32,7 +32,8 @@ fn certificates_are_what_the_program_prints() {
         fs::write(&path, &trace).unwrap();
         let expected = run(&["run", "--explain", file.to_str().unwrap(), path.to_str().unwrap()]);
         fs::remove_file(&path).unwrap();
-        assert!(explain(&mut Machine::boot(&PARTITIONS).unwrap(), &trace) == expected, "{name}");
+        let told = explain(&mut Machine::boot(&PARTITIONS).unwrap(), &trace);
+        assert!(briefly(&told) == briefly(&expected), "{name}");
     }
 }
 

@@ -2,7 +2,7 @@
 //! Why operations are refused: the manual's reasons, and the check of each call that fails.
 mod common;
 
-use common::explained::explain;
+use common::explained::{briefly, explain};
 use common::machines::{MACHINE, PARTITIONS};
 use common::refusals::{rows, Row};
 use common::{example, generated, play, play_line, ram, refusals, top};
@@ -11,11 +11,11 @@ use std::ffi::CStr;
 
 #[test]
 fn the_manuals_reasons() {
-    let expected = example("refused.out");
+    let expected = briefly(&example("refused.out"));
     let trace = example("refused.trace");
     let mut pages = ram(2);
-    assert_eq!(explain(&mut Machine::boot(&PARTITIONS).unwrap(), &trace), expected);
-    assert_eq!(explain(&mut Machine::boot_lent(&PARTITIONS, &mut pages).unwrap(), &trace), expected);
+    assert_eq!(briefly(&explain(&mut Machine::boot(&PARTITIONS).unwrap(), &trace)), expected);
+    assert_eq!(briefly(&explain(&mut Machine::boot_lent(&PARTITIONS, &mut pages).unwrap(), &trace)), expected);
 }
 
 /// 100,000 operations, with what the program says of each that is refused.
@@ -27,7 +27,7 @@ fn generated_operations_are_refused_by_what_the_program_says() {
         let (trace, expected) = generated(file.to_str().unwrap(), seed, &["--explain"]);
         let refused = expected.lines().filter(|line| line.starts_with("# refused: ")).count();
         println!("{machine}: {refused} are refused");
-        let told = explain(&mut Machine::boot(manifest).unwrap(), &trace);
+        let (told, expected) = (briefly(&explain(&mut Machine::boot(manifest).unwrap(), &trace)), briefly(&expected));
         let differs = told.lines().zip(expected.lines()).find(|(told, expected)| told != expected);
         assert!(told == expected, "{machine}: {differs:?}");
     }

@@ -5,7 +5,22 @@ use super::{play_line, RAM};
 use gorseplumb::{call_name, registers, About, AccessReason, Fault, Flaw, Machine, Ram, Registers, Size};
 use std::fmt::Write;
 
-/// What the program prints of a trace, with reasons.
+/// A text in which reasons end behind the words of the check, or behind the fault: what is to be mended the program alone tells.
+#[allow(dead_code)]
+pub fn briefly(text: &str) -> String {
+    text.lines().map(|line| brief_line(line) + "\n").collect()
+}
+
+#[allow(dead_code)]
+fn brief_line(line: &str) -> String {
+    if !line.starts_with("# refused: ") {
+        return line.to_owned();
+    }
+    let parts = if line.contains("check ") { 3 } else { 2 };
+    line.split(": ").take(parts).collect::<Vec<_>>().join(": ")
+}
+
+/// What the program prints of a trace, with reasons, but for what is to be mended.
 pub fn explain<R: Ram>(machine: &mut Machine<R>, trace: &str) -> String {
     trace.lines().map(|line| explain_line(machine, line)).collect()
 }
@@ -67,7 +82,7 @@ fn digits(address: u64) -> String {
 fn access_reason(reason: AccessReason, address: u64, bytes: u64, done: &str) -> String {
     let what = match (reason.fault, reason.obstacle) {
         (Fault::Translation, Some(obstacle)) => obstacle.to_string(),
-        (Fault::Translation, None) => "has more than 32 bits".into(),
+        (Fault::Translation, None) => "is above FFFFFFFF".into(),
         (Fault::Permission, None) => format!("may not be {done}"),
         (Fault::Alignment, None) => format!("is no multiple of {bytes}"),
         other => panic!("{other:?} doesn't come"),
