@@ -62,11 +62,11 @@ def _fault(line: str) -> BadLine:
     for place, word in enumerate(words, 1):
         why = _word_fault(command, place, word)
         if why is None and command == "call" and place == 9:
-            why = f"{len(words)} registers"
+            why = f"{len(words)} registers, where a call has 1 to 8"
         if why is not None:
             return BadLine(why, column)
         column += len(word) + 1
-    missing = "0 registers" if command == "call" else "a word is missing"
+    missing = "0 registers, where a call has 1 to 8" if command == "call" else "a word is missing"
     return BadLine(missing, len(line) + 1)
 
 
@@ -82,7 +82,7 @@ def _word_fault(command: str, place: int, word: str) -> str | None:
         return "no hexadecimal number"
     if command == "store" and place == 2:
         return None if len(word) in (2, 4, 8, 16) else _digits_fault(len(word))
-    return "a number of more than 16 digits" if len(word) > 16 else None
+    return f"a number of {len(word)} digits, where 16 are the most" if len(word) > 16 else None
 
 
 def _digits_fault(digits: int) -> str:
@@ -196,15 +196,17 @@ class Difference:
     expected: str | None
     found: str | None
     reason: str | None = None
+    expected_number: int = 0
 
     def __str__(self) -> str:
+        wanted = f"expected, line {self.expected_number}: " if self.expected_number else "expected: "
         told = [
             f"line {self.number}: {self.line if self.line is not None else '(the end)'}",
-            f"expected: {self.expected if self.expected is not None else '(the end)'}",
-            f"found:    {self.found if self.found is not None else '(the end)'}",
+            wanted + (self.expected if self.expected is not None else "(the end)"),
+            "found: ".ljust(len(wanted)) + (self.found if self.found is not None else "(the end)"),
         ]
         if self.differing:
-            told.append(f"differ:   {', '.join(self.differing)}")
+            told.append("differ: ".ljust(len(wanted)) + ", ".join(self.differing))
         if self.reason is not None:
             told.append(f"# refused: {self.reason}")
         return "\n".join(told)
@@ -222,12 +224,12 @@ class Difference:
 def compare(machine: Machine, trace: Trace, expected: Trace, *, explain: bool = False) -> Difference | None:
     """The first line that prints something else than is expected, as `ffaplay compare` finds it."""
     wanted = (line for _, line in lines(expected))
-    number = 0
+    number, row = 0, 0
     for printed in Player(machine, explain=explain).play(trace):
         number = printed.number
         for found in printed.text:
-            line = next(wanted, None)
+            line, row = next(wanted, None), row + 1
             if line != found:
-                return Difference(number, printed.line, line, found, printed.reason)
+                return Difference(number, printed.line, line, found, printed.reason, row)
     more = next(wanted, None)
-    return Difference(number + 1, None, more, None) if more is not None else None
+    return Difference(number + 1, None, more, None, None, row + 1) if more is not None else None

@@ -21,9 +21,9 @@ def test_reads_each_kind_of_line() -> None:
 
 BAD = [
     ("", None),
-    ("call", "0 registers"),
-    ("call 1 2 3 4 5 6 7 8 9", "9 registers"),
-    ("call 12345678901234567", "a number of more than 16 digits"),
+    ("call", "0 registers, where a call has 1 to 8"),
+    ("call 1 2 3 4 5 6 7 8 9", "9 registers, where a call has 1 to 8"),
+    ("call 12345678901234567", "a number of 17 digits, where 16 are the most"),
     ("call 0x1", "no hexadecimal number"),
     ("call 1_0", "no hexadecimal number"),
     ("call  1", "an empty word"),
@@ -76,7 +76,7 @@ def test_judges_a_line_when_it_is_reached() -> None:
 
 
 def test_stops_at_a_guard_that_is_not_met() -> None:
-    text = (EXAMPLES / "guards.trace").read_text()
+    text = (EXAMPLES / "guards.trace").read_text().partition("show\n")[0]
     with Machine(BUILT_IN) as machine:
         assert list(play(machine, text, strict=True))
     with Machine(BUILT_IN) as machine:
