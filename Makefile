@@ -8,6 +8,7 @@ AGAINST =
 # How many processes prove, or try wrong bodies, at a time, each of which takes some 4 GB of memory. Where it isn't given, ./prove takes
 # one for each processor that has 4 GB of free memory, and wrong bodies are tried by four.
 JOBS =
+CRATES =
 
 .PHONY: quick gate prove wrong c rust python board linux docs page bench
 
@@ -22,9 +23,10 @@ gate:
 prove:
 	./ffaplay prove $(if $(JOBS),--jobs $(JOBS))
 
-# Tries all wrong bodies of the second rank, of which a landing tries a tenth, over what is kept.
+# Tries all wrong bodies of the second rank, of which a landing tries a tenth, over what is kept. The last line counts them. CRATES takes
+# those of these crates alone, in this order.
 wrong:
-	ls -d crates/*/wrong | cut -d / -f 2 | xargs -n 1 -P $(or $(JOBS),4) bench/wrong-bodies --rank wrong
+	bench/wrong-bodies --all --rank wrong --jobs $(or $(JOBS),4) $(CRATES)
 
 # Builds and runs the core as a C library.
 c:
