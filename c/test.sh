@@ -20,12 +20,13 @@ sanitized="-O1 -g -fsanitize=address,undefined -fno-sanitize-recover=all"
 renamed="-Dmemcpy=copy_bytes -Dmemmove=move_bytes -Dmemset=set_bytes" # bytes.c beside a C library, which has these
 missing=0
 
-# Sets `made` to the archive for a target: the one that stands ready in the folder ARCHIVES, which is like out/, or out/'s own.
+# Sets `made` to the archive for a target: the one that stands ready in the folder ARCHIVES, which is like out/, or out/'s own, which
+# c/archive makes: what of it isn't proved it proves, as it says.
 make_archive() {
     made=${ARCHIVES:-}/$1/libgorseplumb.a
     if [[ -e $made ]]; then return; fi
     made=$top/out/$1/libgorseplumb.a
-    "$here/archive" --target "$1" >"$to/log" 2>&1 || { cat "$to/log" >&2; exit 1; }
+    "$here/archive" --target "$1" >&2
 }
 
 has() {
