@@ -50,10 +50,16 @@ says() {
 }
 
 # Whether each word of a table is written by one store of 64 bits: looks at every store, but those to the stack, of the functions
-# that write tables, as they are compiled: stores NAME OBJDUMP PROGRAM
+# that write tables, as they are compiled: stores NAME OBJDUMP PROGRAM. (A register of AArch64 into which sp was added since the last branch
+# leads to the stack too.)
 stores() {
     "$2" -d --no-show-raw-insn "$3" | awk '
+        function change(register) { sub(/^w/, "x", register); delete own["[" register] }
         /^[0-9a-f]+ <.*>:$/ { writes_tables = /<ffa_stage2::(tables|blocks)::/ }
+        !/\tst/ { change($3); change($4) }
+        /\t(b|b\.[a-z]+|bl|blr|br|cbn?z|tbn?z|ret)(\t|$)/ { delete own }
+        $2 == "add" && $4 == "sp," { own["[" $3] }
+        match($0, /\[x[0-9]+,/) && substr($0, RSTART, RLENGTH) in own { next }
         !writes_tables || /\(%rsp/ || /\[(sp|x29)/ { next }
         /\tmov[a-z]* +[%$][a-z0-9]+,-?(0x[0-9a-f]+)?\(%/ { if (($2 == "mov" && $3 ~ /^%r([abcd]x|[sd]i|bp|8|9|1[0-5]),/) || ($2 == "movq" && $3 ~ /^\$/)) whole++; else { print; others++ } }
         /\tst[a-z]*\t/ { if ($2 == "str" && $3 ~ /^x/) whole++; else { print; others++ } }
