@@ -1,21 +1,27 @@
 # SPDX-License-Identifier: MIT OR Apache-2.0
 # What is run here, each by one line. Every target needs the toolchain's rt on the path; what else it needs it says itself.
 
-# Before each commit: the crates that differ from where the branch left origin/main, their wrong bodies that turn what differs, and the
-# tests that name these crates, without proofs, for five minutes at most: what these didn't reach is said, and is no failure.
-# AGAINST=COMMIT takes another commit.
-AGAINST =
-# How many processes prove, or try wrong bodies, at a time, each of which takes some 4 GB of memory. Where it isn't given, ./prove takes
-# one for each processor that has 4 GB of free memory, and wrong bodies are tried by four.
+# How many processes prove, try wrong bodies or run tests at a time, each of which takes some 4 GB of memory. Where it isn't given, ./prove
+# takes one for each processor that has 4 GB of free memory, wrong bodies are tried by four, and tests run by one for each processor.
 JOBS =
+# The commit from which `quick` takes what differs.
+AGAINST =
+# The crates whose wrong bodies `wrong` tries; all where none is named.
 CRATES =
 
-.PHONY: quick gate prove wrong c rust python board linux docs page bench
+.PHONY: test quick gate prove wrong c rust python board linux docs page bench
 
+# All tests over unproved builds, side by side, from a fresh clone in minutes: it proves nothing.
+test:
+	tests/all $(if $(JOBS),--jobs $(JOBS))
+
+# Before each commit: the crates that differ from where the branch left origin/main, lowest first, their wrong bodies that turn what
+# differs, and the tests that name these crates, without proofs, for five minutes at most: what these didn't reach is said, and is no
+# failure. AGAINST=COMMIT takes another commit.
 quick:
 	bench/changed --tests $(AGAINST)
 
-# The merge gate, as CI runs it: every proof from nothing, the wrong bodies, the tests, the programs.
+# The merge gate, as CI runs it: all tests unproved, every proof from nothing, the wrong bodies, the tests, the programs.
 gate:
 	.ci/run
 
@@ -49,7 +55,7 @@ linux:
 	board/linux/run.sh
 
 # Compares the pages and licence lines with the code, each list of calls with the definitions' table, C's names with the crates', the
-# manual's lists of checks with the definitions, and its pictures with what the program draws.
+# manual's lists of checks with the definitions, and its pictures with what the program draws. It proves nothing.
 docs:
 	tests/docs && tests/licence-lines && tests/calls && tests/names && tests/manual-checks && tests/pictures
 

@@ -4,15 +4,16 @@
 # sanitizers and valgrind and over a shared library, that of copies of bytes, the example, the traces of examples/
 # through the border beside the program, and links with no C library, of which one runs on a stack of 64 KiB; for
 # AArch64 too, where there are a compiler and an emulator for it. With --install it first installs Debian's packages for
-# that.
+# that; with --install-only it does nothing else.
 set -euo pipefail
 here=$(cd "$(dirname "${BASH_SOURCE[0]}")" && pwd)
 top=$(dirname "$here")
 player=${FFAPLAY:-$top/ffaplay} # the program, whose answers to traces are compared
 packages="gcc g++ clang valgrind libc6-dev gcc-aarch64-linux-gnu libc6-dev-arm64-cross qemu-user-static"
-if [[ ${1:-} == --install ]]; then
+if [[ ${1:-} == --install* ]]; then
     { apt-get update && apt-get install -y $packages; } >/dev/null || echo "not all packages were installed"
 fi
+if [[ ${1:-} == --install-only ]]; then exit 0; fi
 to=$(mktemp -d)
 trap 'rm -rf "$to"' EXIT
 strict="-std=c11 -Wall -Wextra -Wpedantic -Wshadow -Werror -I$here"
@@ -20,12 +21,17 @@ sanitized="-O1 -g -fsanitize=address,undefined -fno-sanitize-recover=all"
 renamed="-Dmemcpy=copy_bytes -Dmemmove=move_bytes -Dmemset=set_bytes" # bytes.c beside a C library, which has these
 missing=0
 
-# Sets `made` to the archive for a target: the one that stands ready in the folder ARCHIVES, which is like out/, or out/'s own.
+# Sets `made` to the archive for a target: the one that stands ready in the folder ARCHIVES, which is like out/; or, where no folder is
+# given, out/'s own, which c/archive makes: what of it isn't proved it proves, as it says.
 make_archive() {
-    made=${ARCHIVES:-}/$1/libgorseplumb.a
-    if [[ -e $made ]]; then return; fi
-    made=$top/out/$1/libgorseplumb.a
-    "$here/archive" --target "$1" >"$to/log" 2>&1 || { cat "$to/log" >&2; exit 1; }
+    made=${ARCHIVES:-$top/out}/$1/libgorseplumb.a
+    if [[ -z ${ARCHIVES:-} ]]; then
+        "$here/archive" --target "$1" >&2
+    elif [[ ! -e $made ]]; then
+        echo "not run: there is no $made"
+        missing=1
+        return 1
+    fi
 }
 
 has() {
@@ -44,10 +50,16 @@ says() {
 }
 
 # Whether each word of a table is written by one store of 64 bits: looks at every store, but those to the stack, of the functions
-# that write tables, as they are compiled: stores NAME OBJDUMP PROGRAM
+# that write tables, as they are compiled: stores NAME OBJDUMP PROGRAM. (A register of AArch64 into which sp was added since the last branch
+# leads to the stack too.)
 stores() {
     "$2" -d --no-show-raw-insn "$3" | awk '
+        function change(register) { sub(/^w/, "x", register); delete own["[" register] }
         /^[0-9a-f]+ <.*>:$/ { writes_tables = /<ffa_stage2::(tables|blocks)::/ }
+        !/\tst/ { change($3); change($4) }
+        /\t(b|b\.[a-z]+|bl|blr|br|cbn?z|tbn?z|ret)(\t|$)/ { delete own }
+        $2 == "add" && $4 == "sp," { own["[" $3] }
+        match($0, /\[x[0-9]+,/) && substr($0, RSTART, RLENGTH) in own { next }
         !writes_tables || /\(%rsp/ || /\[(sp|x29)/ { next }
         /\tmov[a-z]* +[%$][a-z0-9]+,-?(0x[0-9a-f]+)?\(%/ { if (($2 == "mov" && $3 ~ /^%r([abcd]x|[sd]i|bp|8|9|1[0-5]),/) || ($2 == "movq" && $3 ~ /^\$/)) whole++; else { print; others++ } }
         /\tst[a-z]*\t/ { if ($2 == "str" && $3 ~ /^x/) whole++; else { print; others++ } }
@@ -105,7 +117,7 @@ plays() {
     echo "$name: five traces and $(wc -l <"$to/generated") generated lines, on the heap's RAM and on lent pages: as the program prints them"
 }
 
-make_archive x86_64-unknown-linux-gnu
+make_archive x86_64-unknown-linux-gnu || exit 1
 native=$made
 [ -n "${FFAPLAY:-}" ] || "$top/ffaplay" prove
 "$player" check "$top/examples/machine.toml" >/dev/null
@@ -164,8 +176,7 @@ echo "asked of the program: $symbols"
 others=$(nm -g --defined-only "$native" | awk 'NF == 3 && $3 !~ /^gorseplumb_/ { print $3 }')
 if [[ $others ]]; then echo "names of the archive that don't begin with gorseplumb_:" $others >&2; exit 1; fi
 
-if has aarch64-linux-gnu-gcc && has qemu-aarch64-static; then
-    make_archive aarch64-unknown-linux-gnu
+if has aarch64-linux-gnu-gcc && has qemu-aarch64-static && make_archive aarch64-unknown-linux-gnu; then
     arm="aarch64-linux-gnu-gcc $strict -O2 -static"
     for test in test test_questions test_reasons test_runs; do
         $arm "$here/$test.c" "$here/settle.c" "$made" -o "$to/$test"

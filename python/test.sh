@@ -1,16 +1,18 @@
 #!/usr/bin/env bash
 # SPDX-License-Identifier: MIT OR Apache-2.0
 # Links the shared library for Python and runs what stands in this folder over it: types, tests, the installed package, and how long
-# operations take. The archive may stand ready in the folder ARCHIVES, as c/archive names it; else c/archive makes it. The program whose
-# answers are compared is FFAPLAY, or ./ffaplay. With --install it first installs Debian's packages for that.
+# operations take. The archive may stand ready in the folder ARCHIVES, as c/archive names it; else c/archive makes it, and proves what isn't
+# proved, as it says. The program whose answers are compared is FFAPLAY, or ./ffaplay. With --install it first installs Debian's packages
+# for that; with --install-only it does nothing else.
 set -euo pipefail
 here=$(cd "$(dirname "${BASH_SOURCE[0]}")" && pwd)
 top=$(dirname "$here")
 python=${PYTHON:-/usr/bin/python3} # Debian's, which has pytest by its package
 packages="python3 python3-pytest python3-venv mypy gcc libc6-dev binutils"
-if [[ ${1:-} == --install ]]; then
+if [[ ${1:-} == --install* ]]; then
     { apt-get update && apt-get install -y $packages; } >/dev/null || echo "not all packages were installed"
 fi
+if [[ ${1:-} == --install-only ]]; then exit 0; fi
 to=$(mktemp -d)
 trap 'rm -rf "$to"' EXIT
 missing=0
@@ -25,7 +27,7 @@ archive() {
             return
         fi
     done
-    [[ -e $top/out/$target/libgorseplumb.a ]] || "$top/c/archive" >"$to/log" 2>&1 || { cat "$to/log" >&2; exit 1; }
+    [[ -e $top/out/$target/libgorseplumb.a ]] || "$top/c/archive" >&2
     echo "$top/out/$target/libgorseplumb.a"
 }
 

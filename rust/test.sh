@@ -4,10 +4,11 @@
 # them the manual's examples and generated operations beside the program; the examples of the pages, and what the
 # compiler has to refuse; lent pages under valgrind; a program without std; what is said of an archive that is missing,
 # or another processor's; and the tests for AArch64, where there are a compiler, a std and an emulator for it. With
-# --install it first installs Debian's packages for that; with --bench it measures operations, from Rust and from C.
+# --install it first installs Debian's packages for that, with --install-only it does nothing else; with --bench it
+# measures operations, from Rust and from C.
 #
-# ARCHIVES is a folder with ready archives, <target>/libgorseplumb.a, FFAPLAY the program. The cargo on the path is
-# taken, and no network. Miri, which would look at each unsafe block, isn't among Debian's packages, and calls nothing
+# ARCHIVES is a folder with ready archives, <target>/libgorseplumb.a, FFAPLAY the program: what isn't given is proved and
+# built where that isn't done, as it then says. The cargo on the path is taken, and no network. Miri, which would look at each unsafe block, isn't among Debian's packages, and calls nothing
 # foreign: valgrind takes its place.
 set -euo pipefail
 here=$(cd "$(dirname "${BASH_SOURCE[0]}")" && pwd)
@@ -19,13 +20,14 @@ arm_std="libstd-rust-dev:arm64"
 bench=
 for word in "$@"; do
     case $word in
-    --install)
+    --install | --install-only)
         { dpkg --add-architecture arm64 && apt-get update && apt-get install -y $packages $arm_std; } >/dev/null ||
             echo "not all packages were installed"
+        if [[ $word == --install-only ]]; then exit 0; fi
         ;;
     --bench) bench=1 ;;
     *)
-        echo "usage: rust/test.sh [--install] [--bench]" >&2
+        echo "usage: rust/test.sh [--install | --install-only] [--bench]" >&2
         exit 64
         ;;
     esac
@@ -61,10 +63,15 @@ refused() {
 
 # Puts the archive for a target into a folder: archive TARGET FOLDER
 archive() {
-    if [[ -e ${ARCHIVES:-}/$1/libgorseplumb.a ]]; then
-        cp "$ARCHIVES/$1/libgorseplumb.a" "$2/"
-    else
+    local ready=${ARCHIVES:-}/$1/libgorseplumb.a
+    if [[ -z ${ARCHIVES:-} ]]; then
         "$top/c/archive" --target "$1" "$2/libgorseplumb.a"
+    elif [[ -e $ready ]]; then
+        cp "$ready" "$2/"
+    else
+        echo "not run: there is no $ready"
+        missing=1
+        return 1
     fi
 }
 
@@ -79,7 +86,7 @@ has_arm() {
 
 has cargo && has gcc || { echo "nothing was run"; exit 0; }
 mkdir "$to/lib" "$to/arm" "$to/other" "$to/none"
-archive $target "$to/lib"
+archive $target "$to/lib" || exit 1
 if [[ -z ${FFAPLAY:-} ]]; then
     "$top/ffaplay" prove
     FFAPLAY=$top/crates/ffaplay/out/ffaplay
@@ -132,8 +139,7 @@ refused "no archive" "$to/none" "there is no .*libgorseplumb.a"
 echo nothing >"$to/none/libgorseplumb.a"
 refused "a file that is no archive" "$to/none" "is no archive of ELF files"
 
-if has_arm; then
-    archive $arm "$to/arm"
+if has_arm && archive $arm "$to/arm"; then
     export CARGO_TARGET_AARCH64_UNKNOWN_LINUX_GNU_LINKER=aarch64-linux-gnu-gcc
     export CARGO_TARGET_AARCH64_UNKNOWN_LINUX_GNU_RUNNER=qemu-aarch64-static
     export GORSEPLUMB_LIB_DIR=$to/arm
