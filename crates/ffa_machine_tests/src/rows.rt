@@ -1,5 +1,6 @@
 // SPDX-License-Identifier: MIT OR Apache-2.0
-//! Calls worked out by hand, played on the machine with two partitions.
+//! Calls worked out by hand, played on the machine with two partitions, where the traces of tests/rows can't say it: rows that
+//! a loop writes, and what is asked of a machine beside a play.
 //!
 //! A row is a text of steps: a line of the trace, an arrow, and what it prints. Registers are written as
 //! `8001: 84000061 0 1`: the runner, then the registers without their leading zeros and without the last ones that are
@@ -23,9 +24,6 @@ mod cached;
 // What a machine tells of access that changed.
 mod changed;
 
-// Rows on machines with endpoints of the compact form.
-mod compact;
-
 // Operations of endpoints that don't run.
 mod elsewhere;
 
@@ -37,9 +35,6 @@ mod limits;
 
 // Memory transactions.
 mod memory;
-
-// Indirect messages.
-mod messages;
 
 // Notifications.
 mod notifications;
@@ -99,45 +94,11 @@ impl Row {
         self.check_on(rt, alloc, &row_machine())
     }
 
-    // Plays the trace on fresh machines of a manifest: in RAM of each kind, without a cache and with one, and in room of the
-    // heap's it prints the text.
+    // Plays the trace on fresh machines of a manifest: in flat RAM and in room of the heap's, and in frames with a cache.
     fn check_on(&self, rt: &impl Abort, alloc: Global, manifest: &Manifest) -> Result<(), Fail> {
-        self.check_in_flat_ram(rt, alloc, manifest, NoTlb)?;
-        self.check_in_flat_ram(rt, alloc, manifest, four_in_turn())?;
-        self.check_in_frames(rt, alloc, manifest, NoTlb)?;
-        self.check_in_frames(rt, alloc, manifest, four_in_turn())?;
-        self.check_in_room(rt, alloc, manifest)
-    }
-
-    fn check_in_flat_ram<T: Translations + Drop>(
-        &self,
-        rt: &impl Abort,
-        alloc: Global,
-        manifest: &Manifest,
-        cache: T,
-    ) -> Result<(), Fail> {
-        let mut player = Player::new(booted_with(alloc, manifest, cache)?);
-        self.prints(rt, alloc, &mut player)
-    }
-
-    fn check_in_frames<T: Translations + Drop>(
-        &self,
-        rt: &impl Abort,
-        alloc: Global,
-        manifest: &Manifest,
-        cache: T,
-    ) -> Result<(), Fail> {
-        let mut player = Player::new(booted_in_frames(alloc, manifest, cache)?);
-        self.prints(rt, alloc, &mut player)
-    }
-
-    fn check_in_room(
-        &self,
-        rt: &impl Abort,
-        alloc: Global,
-        manifest: &Manifest,
-    ) -> Result<(), Fail> {
         let mut player = Player::new(booted_in_room(alloc, manifest)?);
+        self.prints(rt, alloc, &mut player)?;
+        let mut player = Player::new(booted_in_frames(alloc, manifest, four_in_turn())?);
         self.prints(rt, alloc, &mut player)
     }
 
@@ -152,13 +113,6 @@ impl Row {
         same(rt, printed.as_str(), self.text.as_str());
         Ok(())
     }
-}
-
-// Plays a row of these parts, also where every allocation after boot is refused: its trace is read in one piece.
-fn plays(rt: &impl Abort, alloc: Global, parts: &[&str]) -> Result<(), Fail> {
-    let row = Row::of(alloc, parts)?;
-    row.check(rt, alloc)?;
-    refused::check_after_boot(rt, alloc, &row)
 }
 
 // Plays steps, which print what is wanted.
@@ -205,32 +159,6 @@ fn push_padded(text: &mut String, digits: &str, width: usize) -> Result<(), Fail
     Ok(())
 }
 
-#[test]
-fn loads_and_fetches(rt: HostRuntime) -> Result<(), Fail> {
-    let row = "\
-load 40000000 8 -> fault translation
-store 40008FF8 00 -> fault translation
-load 40010001 2 -> fault alignment
-fetch 40010000 -> fault permission
-load 4001FFF8 8 -> data 0000000000000000
-load 100000000 1 -> fault translation
-";
-    compact::plays_in_both_forms(&rt, rt.alloc(), row)
-}
-
-#[test]
-fn stores_in_either_case(rt: HostRuntime) -> Result<(), Fail> {
-    let row = "\
-store 40010000 11223344 -> done
-load 40010000 1 -> data 44
-load 40010001 2 -> fault alignment
-load 40010002 2 -> data 1122
-store 4001fff8 0123456789abcDEF -> done
-load 4001FFF8 4 -> data 89ABCDEF
-";
-    compact::plays_in_both_forms(&rt, rt.alloc(), row)
-}
-
 // No line prints nothing, and neither does a comment or an empty line.
 #[test]
 fn lines_that_print_nothing(rt: HostRuntime) -> Result<(), Fail> {
@@ -239,22 +167,6 @@ fn lines_that_print_nothing(rt: HostRuntime) -> Result<(), Fail> {
     row.trace.push_str("# a comment\n\n#\n")?;
     row.add("load 40010000 1 -> data 00")?;
     row.check(&rt, rt.alloc())
-}
-
-#[test]
-fn versions_and_features(rt: HostRuntime) -> Result<(), Fail> {
-    let row = "\
-call 84000063 10001 -> 0: 10001
-call 84000063 80010001 -> 0: FFFFFFFF
-call 84000063 20000 -> 0: FFFFFFFF
-call 0 -> 0: 84000060 0 FFFFFFFF
-call 84000083 -> 0: 84000060 0 FFFFFFFF
-call C4000063 -> 0: 84000060 0 FFFFFFFF
-call 84000064 84000066 -> 0: 84000061
-call 84000064 84000075 -> 0: 84000060 0 FFFFFFFF
-call 84000085 -> 0: 84000061 0 8000
-";
-    compact::plays_in_both_forms(&rt, rt.alloc(), row)
 }
 
 // The numbers of the calls, in the 32-bit form and in the other.
@@ -292,156 +204,4 @@ fn features_of_every_identifier(rt: HostRuntime) -> Result<(), Fail> {
         add_feature(&mut row, rt.alloc(), "C4", number, is_wide_call(number))?;
     }
     row.check(&rt, rt.alloc())
-}
-
-#[test]
-fn information_on_one_partition(rt: HostRuntime) -> Result<(), Fail> {
-    let row = "\
-call 84000066 4001E000 4001F000 1 -> 0: 84000061
-call 84000068 1 -> 0: 84000060 0 FFFFFFFE
-call 84000068 33221100 77665544 BBAA9988 FFEEDDCC -> 0: 84000061 0 1 18
-load 4001F000 8 -> data 0000010F00018001
-call 84000068 33221100 77665544 BBAA9988 FFEEDDCC -> 0: 84000060 0 FFFFFFFC
-call 84000068 33221100 77665544 BBAA9988 FFEEDDCC 1 -> 0: 84000061 0 1
-";
-    plays(&rt, rt.alloc(), &[row])
-}
-
-#[test]
-fn buffers_of_the_normal_world(rt: HostRuntime) -> Result<(), Fail> {
-    let row = "\
-call 84000065 -> 0: 84000060 0 FFFFFFFA
-call C4000066 14001E000 4001F000 1 -> 0: 84000060 0 FFFFFFFE
-call 84000066 14001E000 4001F000 1 -> 0: 84000061
-call 84000067 1 -> 0: 84000060 0 FFFFFFFE
-call 84000068 -> 0: 84000061 0 2 18
-load 4001F008 8 -> data 7766554433221100
-load 4001F018 8 -> data 0000010F00018002
-call 84000065 -> 0: 84000061
-call 84000067 -> 0: 84000061
-call 84000067 -> 0: 84000060 0 FFFFFFFE
-call 84000068 -> 0: 84000060 0 FFFFFFFE
-call 84000068 0 0 0 0 1 -> 0: 84000061 0 2
-call 84000085 -> 0: 84000061 0 8000
-";
-    plays(&rt, rt.alloc(), &[row])
-}
-
-#[test]
-fn runs_a_partition(rt: HostRuntime) -> Result<(), Fail> {
-    let row = "\
-call 8400006D 80010001 -> 0: 84000060 0 FFFFFFFE
-call 8400006D 80030000 -> 0: 84000060 0 FFFFFFFE
-call 8400006D 80010000 -> 8001: 8400006D 80010000
-";
-    compact::plays_in_both_forms(&rt, rt.alloc(), row)
-}
-
-#[test]
-fn buffers_of_partitions(rt: HostRuntime) -> Result<(), Fail> {
-    let row = "\
-call 8400006D 80010000 -> 8001: 8400006D 80010000
-call 84000066 4002E000 4002F000 1 -> 8001: 84000061
-call 84000066 4002E000 4002F000 1 -> 8001: 84000060 0 FFFFFFFA
-call 8400006B -> 0: 8400006B 80010000
-call 8400006D 80020000 -> 8002: 8400006D 80020000
-call 84000066 4003E000 4003E000 1 -> 8002: 84000060 0 FFFFFFFE
-";
-    compact::plays_in_both_forms(&rt, rt.alloc(), row)
-}
-
-#[test]
-fn yields_within_a_request(rt: HostRuntime) -> Result<(), Fail> {
-    let row = "\
-call 8400006F 8001 0 AA -> 8001: 8400006F 8001 0 AA
-call 8400006C -> 0: 8400006C 80010000
-call 8400006F 8001 0 AA -> 0: 84000060 0 FFFFFFFC
-call 8400006D 80010000 -> 8001: 84000061
-call 8400006B -> 8001: 84000060 0 FFFFFFFA
-call 84000070 80010000 0 BB -> 0: 84000070 80010000 0 BB
-";
-    compact::plays_in_both_forms(&rt, rt.alloc(), row)
-}
-
-#[test]
-fn passes_wide_payloads_whole(rt: HostRuntime) -> Result<(), Fail> {
-    let row = "\
-call C400006F 8001 0 1122334455667788 -> 8001: C400006F 8001 0 1122334455667788
-call 84000070 80010000 -> 0: 84000070 80010000
-call 8400006F 8001 0 1122334455667788 -> 8001: 8400006F 8001 0 55667788
-";
-    compact::plays_in_both_forms(&rt, rt.alloc(), row)
-}
-
-#[test]
-fn requests_in_a_chain(rt: HostRuntime) -> Result<(), Fail> {
-    let row = "\
-call 8400006D 80010000 -> 8001: 8400006D 80010000
-call 8400006F 80018002 -> 8002: 8400006F 80018002
-call 8400006F 80028001 -> 8002: 84000060 0 FFFFFFFC
-call 8400006B -> 8002: 84000060 0 FFFFFFFA
-call 84000070 80028001 -> 8001: 84000070 80028001
-";
-    compact::plays_in_both_forms(&rt, rt.alloc(), row)
-}
-
-#[test]
-fn refused_run_states(rt: HostRuntime) -> Result<(), Fail> {
-    let row = "\
-call 8400006B -> 0: 84000060 0 FFFFFFFA
-call 8400006C -> 0: 84000060 0 FFFFFFFA
-call 8400006F 8003 -> 0: 84000060 0 FFFFFFFE
-call 8400006F 0 -> 0: 84000060 0 FFFFFFFE
-call 8400006D 80010000 -> 8001: 8400006D 80010000
-call 8400006F 80010000 -> 8001: 84000060 0 FFFFFFFA
-call 8400006F 80018001 -> 8001: 84000060 0 FFFFFFFE
-call 8400006F 80018002 -> 8002: 8400006F 80018002
-call 8400006C -> 8002: 84000060 0 FFFFFFFA
-call 84000070 80020000 -> 8002: 84000060 0 FFFFFFFE
-";
-    compact::plays_in_both_forms(&rt, rt.alloc(), row)
-}
-
-// The header of a message of the first partition to the second stands in TX from 4002E000 on: the offset at 8, the
-// receiver at 12, the sender at 14 and the size at 16.
-#[test]
-fn sends_a_page(rt: HostRuntime) -> Result<(), Fail> {
-    let row = "\
-call 8400006D 80020000 -> 8002: 8400006D 80020000
-call 84000066 4003E000 4003F000 1 -> 8002: 84000061
-call 8400006B -> 0: 8400006B 80020000
-call 8400006D 80010000 -> 8001: 8400006D 80010000
-call 84000066 4002E000 4002F000 1 -> 8001: 84000061
-store 4002E008 00000014 -> done
-store 4002E00C 8002 -> done
-store 4002E00E 8001 -> done
-store 4002E010 00000FED -> done
-store 4002EFF8 1122334455667788 -> done
-call 84000086 -> 8001: 84000060 0 FFFFFFFE
-store 4002E010 00000FEC -> done
-call 84000086 -> 8001: 84000061
-call 84000086 -> 8001: 84000060 0 FFFFFFFC
-call 8400006B -> 0: 8400006B 80010000
-call 8400006D 80020000 -> 8002: 8400006D 80020000
-load 4003F008 8 -> data 8001800200000014
-load 4003FFF8 8 -> data 1122334455667788
-call 84000065 -> 8002: 84000061
-call 84000065 -> 8002: 84000060 0 FFFFFFFA
-";
-    compact::plays_in_both_forms(&rt, rt.alloc(), row)
-}
-
-#[test]
-fn a_wait_empties_rx(rt: HostRuntime) -> Result<(), Fail> {
-    let row = "\
-call 8400006D 80010000 -> 8001: 8400006D 80010000
-call 84000066 4002E000 4002F000 1 -> 8001: 84000061
-call 84000068 0 0 0 0 0 -> 8001: 84000061 0 2 18
-call 84000068 0 0 0 0 0 -> 8001: 84000060 0 FFFFFFFC
-call 8400006B -> 0: 8400006B 80010000
-call 8400006D 80010000 -> 8001: 8400006D 80010000
-call 84000065 -> 8001: 84000060 0 FFFFFFFA
-load 4002F000 8 -> data 0000010F00018001
-";
-    plays(&rt, rt.alloc(), &[row])
 }

@@ -1,7 +1,7 @@
 -- SPDX-License-Identifier: MIT OR Apache-2.0
 -- The first element that passes a test, and words that are compared one by one.
 use Rattle.std.proofs.Common.{◌≡◌, ℕ, ◌+◌, ◌<◌, Bool, true, false, List, [], ◌∷◌, ◌++◌, length, take, drop, Option, None, Some, inl, inr, sym, ap, ◌∙◌, subst, arith, length-append, refl}
-use Rattle.std.specs.Prelude.{◌==◌, ◌&&◌, ◌≤◌, ◌⊎◌, not, position, option_map}
+use Rattle.std.specs.Prelude.{◌==◌, ◌&&◌, ◌||◌, ◌≤◌, ◌⊎◌, codes, not, position, option_map}
 use Rattle.std.specs.List.{list_all, position_or_len, take_while}
 use Rattle.std.proofs.lemmas.Bool.{cases_lt, cases_Bool, and_parts, and_from, and_left, eqb-true, le-ltb, lt-ltb}
 use Rattle.std.proofs.lemmas.List.Sums.{passes_at_first, prefix_len-le-length, split_at_first, take_while-cons}
@@ -104,17 +104,33 @@ abbrev pub option_words : Option (List ℕ) → List (List ℕ)
 option_words None = []
 option_words (Some rest) = words_of rest
 
+-- behind the last word that is wanted: anything, or zeros, where these are asked for, or else nothing
+as_loose : (numbers loose zeros : Bool) → (numbers && not loose) ≡ false → (loose || (numbers && zeros)) ≡ loose
+as_loose true true zeros other = refl
+as_loose true false zeros other = absurd cc
+as_loose false true zeros other = refl
+as_loose false false zeros other = refl
+
+as_zeros : (numbers loose zeros : Bool) → (numbers && not loose) ≡ true → (loose || (numbers && zeros)) ≡ zeros
+as_zeros true true zeros asked = absurd cc
+as_zeros true false zeros asked = refl
+as_zeros false loose zeros asked = absurd cc
+
 module _ (numbers loose : Bool) where
   -- what is left to compare
   abbrev pub fit_rest : Option (List ℕ) → Option (List ℕ) → Bool
   fit_rest None None = true
-  fit_rest None (Some rest) = loose
+  fit_rest None (Some rest) = fit numbers loose [] (words_of rest)
   fit_rest (Some more) None = false
   fit_rest (Some more) (Some rest) = fit numbers loose (words_of more) (words_of rest)
 
-  fit_some : (words : List (List ℕ)) → (words ≡ [] → ⊥) → fit numbers loose [] words ≡ loose
-  fit_some [] none = absurd (none refl)
-  fit_some (word ∷ words) some = refl
+  fit_no_zeros : (words : List (List ℕ)) → (words ≡ [] → ⊥) → (numbers && not loose) ≡ false → fit numbers loose [] words ≡ loose
+  fit_no_zeros [] some other = absurd (some refl)
+  fit_no_zeros (word ∷ words) some other = as_loose numbers loose (is_alike numbers (codes "0") word && fit numbers loose [] words) other
+
+  fit_zeros : (words : List (List ℕ)) → (words ≡ [] → ⊥) → (numbers && not loose) ≡ true → fit numbers loose [] words ≡ fit numbers loose (codes "0" ∷ []) words
+  fit_zeros [] some asked = absurd (some refl)
+  fit_zeros (word ∷ words) some asked = as_zeros numbers loose (is_alike numbers (codes "0") word && fit numbers loose [] words) asked
 
   fit_short : (words : List (List ℕ)) → (words ≡ [] → ⊥) → fit numbers loose words [] ≡ false
   fit_short [] none = absurd (none refl)
@@ -123,7 +139,7 @@ module _ (numbers loose : Bool) where
   behind : (more rest : Option (List ℕ)) (words its : List (List ℕ)) → option_words more ≡ words → option_words rest ≡ its → fit numbers loose words its ≡ fit_rest more rest
   behind None None words its is are = sym (ap (λ w. fit numbers loose w (option_words None)) is ∙ ap (fit numbers loose words) are)
   behind None (Some rest) words its is are =
-      sym (ap (λ w. fit numbers loose w (words_of rest)) is ∙ ap (fit numbers loose words) are) ∙ fit_some (words_of rest) (some_word rest)
+      sym (ap (λ w. fit numbers loose w (words_of rest)) is ∙ ap (fit numbers loose words) are)
   behind (Some more) None words its is are =
       sym (ap (λ w. fit numbers loose w (option_words None)) is ∙ ap (fit numbers loose words) are) ∙ fit_short (words_of more) (some_word more)
   behind (Some more) (Some rest) words its is are = sym (ap (λ w. fit numbers loose w (words_of rest)) is ∙ ap (fit numbers loose words) are)
@@ -145,3 +161,10 @@ module _ (numbers loose : Bool) where
   pub fit_alike : (text line word its : List ℕ) (more rest : Option (List ℕ)) → AreWords text word more → AreWords line its rest → is_alike numbers word its ≡ true
       → fit numbers loose (words_of text) (words_of line) ≡ fit_rest more rest
   fit_alike text line word its more rest is are alike = first_two text line word its more rest is are ∙ rw alike refl
+
+  -- what the loop does at its end, and where it goes on
+  pub rest_loose : (rest : List ℕ) → (numbers && not loose) ≡ false → fit_rest None (Some rest) ≡ loose
+  rest_loose rest other = fit_no_zeros (words_of rest) (some_word rest) other
+
+  pub rest_zeros : (rest : List ℕ) → (numbers && not loose) ≡ true → fit_rest None (Some rest) ≡ fit numbers loose (words_of (codes "0")) (words_of rest)
+  rest_zeros rest asked = fit_zeros (words_of rest) (some_word rest) asked ∙ ap (λ w. fit numbers loose w (words_of rest)) (sym (one_word (codes "0") refl))

@@ -88,10 +88,12 @@ is_alike numbers wanted word =
     bytes_eq wanted word
     || (numbers && nat_le 1 (length wanted) && bytes_eq (without_zeros wanted) (without_zeros word))
 
--- the words that are wanted are alike those of a line, one by one; where they are loose, the line may go on
+-- the words that are wanted are alike those of a line, one by one; where they are loose, the line may go on, and numbers
+-- that are missing are 0
 abbrev pub fit : Bool → Bool → List (List ℕ) → List (List ℕ) → Bool
 fit numbers loose [] [] = true
-fit numbers loose [] (word ∷ words) = loose
+fit numbers loose [] (word ∷ words) =
+    loose || (numbers && (is_alike numbers (codes "0") word && fit numbers loose [] words))
 fit numbers loose (wanted ∷ more) [] = false
 fit numbers loose (wanted ∷ more) (word ∷ words) = is_alike numbers wanted word && fit numbers loose more words
 

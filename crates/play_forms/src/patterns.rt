@@ -181,10 +181,11 @@ fn text_fits(text: &[u8], line: &[u8]) -> bool
     }
 }
 
-// Whether words are those of a line, which may go on behind them where they are loose.
+// Whether words are those of a line, which may go on behind them where they are loose. Numbers that are missing are 0.
 fn words_fit(numbers: bool, loose: bool, text: &[u8], line: &[u8]) -> bool
     ensures { result ≡ fit numbers loose (words_of text.now) (words_of line.now) }
 {
+    let zeros = numbers && !loose;
     let mut wanted = text;
     let mut own = line;
     loop {
@@ -196,6 +197,10 @@ fn words_fit(numbers: bool, loose: bool, text: &[u8], line: &[u8]) -> bool
         match (more, rest) {
             (Some(more), Some(rest)) => {
                 wanted = more;
+                own = rest;
+            }
+            (None, Some(rest)) if zeros => {
+                wanted = b"0";
                 own = rest;
             }
             (Some(_), None) => return false,

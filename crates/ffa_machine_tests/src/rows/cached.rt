@@ -118,32 +118,6 @@ fn a_lend_with_four_in_turn(rt: HostRuntime) -> Result<(), Fail> {
     reads_around_a_lend(&rt, rt.alloc(), four_in_turn())
 }
 
-#[test]
-fn a_lend_prints_the_same(rt: HostRuntime) -> Result<(), Fail> {
-    let parts = [
-        MAPPED, LOAD, LEND, TO_SECOND, RETRIEVE, RETRIEVED, LOAD, RELINQUISH, TO_FIRST, RECLAIM,
-    ];
-    plays(&rt, rt.alloc(), &parts)
-}
-
-// Two pages are lent as one range, of which the second was held.
-#[test]
-fn a_lend_of_a_held_range(rt: HostRuntime) -> Result<(), Fail> {
-    let lend = "\
-load 40022000 1 -> data 00
-store 4002E000 0000000000008001 -> done
-store 4002E018 0000000100000010 -> done
-store 4002E020 0000000000000030 -> done
-store 4002E030 0000004000028002 -> done
-store 4002E040 0000000100000002 -> done
-store 4002E050 0000000040021000 -> done
-store 4002E058 0000000000000002 -> done
-call 84000072 60 60 -> 8001: 84000061 0 1 8001
-load 40022000 1 -> fault translation
-";
-    plays(&rt, rt.alloc(), &[MAPPED, lend])
-}
-
 // Zeros stand in RAM, and nothing in the cache, whatever was there before a machine began.
 #[test]
 fn begins_with_nothing(rt: HostRuntime) -> Result<(), Fail> {

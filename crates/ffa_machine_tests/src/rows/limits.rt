@@ -1,10 +1,28 @@
 // SPDX-License-Identifier: MIT OR Apache-2.0
 //! Transactions over buffers of several pages, with up to 64 ranges, and sixteen of them open for a sender.
 use super::buffers::{FIRST_RUNS, INVALID, add_share};
-use super::compact::MACHINE;
 use super::memory::{LEND, MAPPED, RETRIEVE, TO_SECOND};
 use super::*;
 use ffa_manifest::read;
+
+// The machine of the rows, where a number of pages stands in the place of the question mark.
+const MACHINE: &str = "ram_base = 0x40000000
+ram_blocks = 1
+[[endpoint]]
+version = \"1.1\"
+properties = 6
+regions = [{ base = 0x40010000, pages = 16, rights = \"rw\" }]
+[[endpoint]]
+version = \"1.1\"
+uuid = \"00112233-4455-6677-8899-aabbccddeeff\"
+properties = 15
+regions = [{ base = 0x40020000, pages = 16, rights = \"rwx\" }, { base = 0x40040000, pages = ?, rights = \"rw\" }]
+[[endpoint]]
+version = \"1.1\"
+uuid = \"10112233-4455-6677-8899-aabbccddeeff\"
+properties = 15
+regions = [{ base = 0x40030000, pages = 16, rights = \"rw\" }]
+";
 
 // Both partitions map buffers of two pages, and the first runs. TX is the last two pages of each.
 const TWO_PAGES: &str = "\
@@ -21,11 +39,7 @@ fn check_with_more(rt: &impl Abort, alloc: Global, row: &Row, pages: &str) -> Re
 }
 
 fn manifest_with_more(alloc: Global, pages: &str) -> Result<Manifest, Fail> {
-    let text = String::from_str(alloc, MACHINE)?.replacen(alloc, "?", "1.1", 3)?;
-    let more = format!(in alloc;
-        "\"rwx\" }}, {{ base = 0x40040000, pages = {pages}, rights = \"rw\" }}"
-    )?;
-    let text = text.replacen(alloc, "\"rwx\" }", more.as_str(), 1)?;
+    let text = String::from_str(alloc, MACHINE)?.replacen(alloc, "?", pages, 1)?;
     Ok(read(alloc, text.as_str())?)
 }
 

@@ -1,36 +1,10 @@
 // SPDX-License-Identifier: MIT OR Apache-2.0
-//! Notifications worked out by hand.
+//! For whom notifications are pending.
 use super::*;
 use crate::checks::holds_at;
 use ffa_model::EndpointId;
 use ffa_physmem::PhysMem;
 use ffa_spmc::Machine;
-
-// The second partition is told of a message: the first sends 4076 bytes behind a header of 20, and no second one while RX is
-// full.
-#[test]
-fn a_message_is_told(rt: HostRuntime) -> Result<(), Fail> {
-    let row = "\
-call 8400006D 80020000 -> 8002: 8400006D 80020000
-call 84000066 4003E000 4003F000 1 -> 8002: 84000061
-call 8400006B -> 0: 8400006B 80020000
-call 8400006D 80010000 -> 8001: 8400006D 80010000
-call 84000066 4002E000 4002F000 1 -> 8001: 84000061
-store 4002E008 00000014 -> done
-store 4002E00C 8002 -> done
-store 4002E00E 8001 -> done
-store 4002E010 00000FED -> done
-call 84000086 -> 8001: 84000060 0 FFFFFFFE
-store 4002E010 00000FEC -> done
-call 84000086 -> 8001: 84000061
-call 84000086 -> 8001: 84000060 0 FFFFFFFC
-call 8400006B -> 0: 8400006B 80010000
-call 8400006D 80020000 -> 8002: 8400006D 80020000
-call 84000082 8002 4 -> 8002: 84000061 0 0 0 0 0 1
-call 84000082 8002 4 -> 8002: 84000061
-";
-    compact::plays_in_both_forms(&rt, rt.alloc(), row)
-}
 
 // For these partitions notifications are pending, and for nobody else.
 fn are_pending<P: PhysMem + Drop>(
@@ -100,75 +74,4 @@ call 84000086 -> 8001: 84000061
     goes_on(&rt, rt.alloc(), &mut player, message)?;
     are_pending(&rt, &player, false, true);
     Ok(())
-}
-
-// The first partition, which has nothing pending, sets a bit of the second twice, once it is bound, and the second gets it once.
-#[test]
-fn a_bit_of_a_partition(rt: HostRuntime) -> Result<(), Fail> {
-    let row = "\
-call 8400006D 80010000 -> 8001: 8400006D 80010000
-call 84000082 8001 1 -> 8001: 84000061
-call 84000081 80018002 0 1 -> 8001: 84000060 0 FFFFFFFA
-call 8400006B -> 0: 8400006B 80010000
-call 8400006D 80020000 -> 8002: 8400006D 80020000
-call 8400007F 80018002 0 1 -> 8002: 84000061
-call 8400006B -> 0: 8400006B 80020000
-call 8400006D 80010000 -> 8001: 8400006D 80010000
-call 84000081 80018002 0 1 -> 8001: 84000061
-call 84000081 80018002 2 1 -> 8001: 84000061
-call 8400006B -> 0: 8400006B 80010000
-call 8400006D 80020000 -> 8002: 8400006D 80020000
-call 84000082 8002 2 -> 8002: 84000061
-call 84000082 8002 1 -> 8002: 84000061 0 1
-call 84000082 8002 1 -> 8002: 84000061
-";
-    compact::plays_in_both_forms(&rt, rt.alloc(), row)
-}
-
-#[test]
-fn bitmaps_of_the_normal_world(rt: HostRuntime) -> Result<(), Fail> {
-    let row = "\
-call 84000082 0 1 -> 0: 84000060 0 FFFFFFFA
-call 8400007D 0 0 -> 0: 84000060 0 FFFFFFFE
-call 8400007D 0 1 -> 0: 84000061
-call 8400007D 0 1 -> 0: 84000060 0 FFFFFFFA
-call 8400007F 80010000 0 0 1 -> 0: 84000061
-call 8400006D 80010000 -> 8001: 8400006D 80010000
-call 84000081 80010000 0 0 1 -> 8001: 84000061
-call 8400006B -> 0: 8400006B 80010000
-call 84000080 80010000 0 0 1 -> 0: 84000060 0 FFFFFFFA
-call 8400007F 80010000 0 0 1 -> 0: 84000060 0 FFFFFFFA
-call 8400007E 0 -> 0: 84000060 0 FFFFFFFA
-call 84000082 0 1 -> 0: 84000061 0 0 1
-call 8400007E 0 -> 0: 84000061
-call 8400006D 80010000 -> 8001: 8400006D 80010000
-call 84000081 80010000 0 0 1 -> 8001: 84000060 0 FFFFFFFA
-";
-    compact::plays_in_both_forms(&rt, rt.alloc(), row)
-}
-
-// The first partition sends a message to the normal world, which is told where it has bitmaps. They are taken away once no bit
-// of any class is pending.
-#[test]
-fn a_message_to_the_normal_world_is_told(rt: HostRuntime) -> Result<(), Fail> {
-    let row = "\
-call 84000066 4001E000 4001F000 1 -> 0: 84000061
-call 8400006D 80010000 -> 8001: 8400006D 80010000
-call 84000066 4002E000 4002F000 1 -> 8001: 84000061
-store 4002E008 8001000000000014 -> done
-store 4002E010 00000001 -> done
-call 84000086 -> 8001: 84000061
-call 8400006B -> 0: 8400006B 80010000
-call 8400007D 0 1 -> 0: 84000061
-call 84000082 0 4 -> 0: 84000061
-call 84000065 -> 0: 84000061
-call 8400006D 80010000 -> 8001: 8400006D 80010000
-call 84000086 -> 8001: 84000061
-call 8400006B -> 0: 8400006B 80010000
-call 8400007E 0 -> 0: 84000060 0 FFFFFFFA
-call 84000082 0 1 -> 0: 84000061
-call 84000082 0 4 -> 0: 84000061 0 0 0 0 0 1
-call 8400007E 0 -> 0: 84000061
-";
-    compact::plays_in_both_forms(&rt, rt.alloc(), row)
 }

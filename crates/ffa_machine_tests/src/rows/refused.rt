@@ -1,7 +1,9 @@
 // SPDX-License-Identifier: MIT OR Apache-2.0
 //! Rows where memory is short: none is left after boot, or each growth of the room for a line that comes in pieces is
 //! refused in turn.
-use super::memory::{LEND, MAPPED, RETRIEVE, RETRIEVED, TO_SECOND};
+use super::memory::{
+    DONATE, LEND, MAPPED, RELINQUISH, RETRIEVE, RETRIEVED, TAKE, TAKEN, TO_FIRST, TO_SECOND,
+};
 use super::*;
 use crate::checks::{holds, holds_at};
 use crate::machines::{FlatPlayer, booted};
@@ -20,15 +22,16 @@ const PAGES: usize = 512 * 4096;
 
 const LIST: usize = 512 * 16;
 
-// Plays a row where every allocation after boot is refused: RAM fills the heap that it lies in, and the player has no
-// other.
-pub(super) fn check_after_boot(rt: &impl Abort, alloc: Global, row: &Row) -> Result<(), Fail> {
+// Plays a row of these parts where every allocation after boot is refused: RAM fills the heap that it lies in, and the player
+// has no other. The trace is read in one piece.
+fn plays_after_boot(rt: &impl Abort, alloc: Global, parts: &[&str]) -> Result<(), Fail> {
+    let row = Row::of(alloc, parts)?;
     let heap = LocalHeap::new(alloc, PAGES)?;
     let mut player = flat_player(rt, &heap)?;
-    check_over(rt, alloc, row, &heap, &mut player)?;
+    check_over(rt, alloc, &row, &heap, &mut player)?;
     let heap = LocalHeap::new(alloc, PAGES + LIST)?;
     let mut player = player_in_frames(rt, &heap)?;
-    check_over(rt, alloc, row, &heap, &mut player)
+    check_over(rt, alloc, &row, &heap, &mut player)
 }
 
 // A player whose RAM fills a heap.
@@ -78,6 +81,46 @@ fn play_over<P: Playable, R: Read>(
     printed: &mut Vec<u8>,
 ) -> Result<(), PlayError> {
     player.play_in(heap, reader, printed)
+}
+
+#[test]
+fn transactions_without_memory(rt: HostRuntime) -> Result<(), Fail> {
+    let reclaimed = "\
+call 84000077 1 8001 -> 8001: 84000061
+load 40021000 1 -> data 5A
+";
+    let lend = [
+        MAPPED, LEND, TO_SECOND, RETRIEVE, RETRIEVED, RELINQUISH, TO_FIRST, reclaimed,
+    ];
+    plays_after_boot(&rt, rt.alloc(), &lend)?;
+    let gone = "\
+show -> runner 8002
+pages 40000000 4000FFFF 8000 --- --- ---
+pages 40010000 4001FFFF 0000 rw- --- ---
+pages 40020000 4002FFFF 8001 --- rwx ---
+pages 40030000 40030FFF 8002 --- --- rw-
+pages 40031000 40031FFF 8001 --- rw- ---
+pages 40032000 4003FFFF 8002 --- --- rw-
+pages 40040000 401FFFFF 8000 --- --- ---
+";
+    let donate = [
+        MAPPED, TO_SECOND, DONATE, TO_FIRST, TAKE, TAKEN, TO_SECOND, gone,
+    ];
+    plays_after_boot(&rt, rt.alloc(), &donate)
+}
+
+// The second partition is told what partitions there are, gets a message, and is told of it.
+#[test]
+fn messages_without_memory(rt: HostRuntime) -> Result<(), Fail> {
+    let message = "\
+call 84000068 -> 8001: 84000061 0 2 18
+call 84000065 -> 8001: 84000061
+store 4002E008 8001800200000014 -> done
+store 4002E010 00000FEC -> done
+call 84000086 -> 8001: 84000061
+";
+    let told = "call 84000082 8002 4 -> 8002: 84000061 0 0 0 0 0 1\n";
+    plays_after_boot(&rt, rt.alloc(), &[MAPPED, message, TO_SECOND, told])
 }
 
 // Gives up to five bytes a call, so that lines come in pieces.
@@ -193,7 +236,6 @@ fn places_of_refusal(
     Ok(places)
 }
 
-// The room for a line grows to 8, 16, 32 and 64 bytes in the first line, which is as long as any.
 // Room for the rows' machine over a heap of this size: whether it came. Where it didn't, nothing of the heap is used.
 fn has_room(rt: &impl Abort, alloc: Global, size: usize) -> Result<bool, Fail> {
     let heap = LocalHeap::new(alloc, size)?;
@@ -219,6 +261,7 @@ fn room_comes_whole_or_not(rt: HostRuntime) -> Result<(), Fail> {
     Ok(())
 }
 
+// The room for a line grows to 8, 16, 32 and 64 bytes in the first line, which is as long as any.
 #[test]
 fn a_lend_or_no_memory(rt: HostRuntime) -> Result<(), Fail> {
     let parts = [MAPPED, LEND, TO_SECOND, RETRIEVE, RETRIEVED];

@@ -9,4 +9,4 @@ invariant-loop-more l =
     fit l.numbers l.loose (words_of l.wanted) (words_of l.own) ≡ fit l.numbers l.loose (words_of l.text) (words_of l.line)
 
 abbrev pub decreases-loop-more : goal.decreases-loop-more
-decreases-loop-more l = length l.wanted
+decreases-loop-more l = length l.own
