@@ -1,18 +1,11 @@
 // SPDX-License-Identifier: MIT OR Apache-2.0
 //! Lines of traces that are written, as they stand in a trace.
-ghost use Rattle.std.specs.Prelude.{◌≡◌, ◌%◌};
-
 use crate::checks::same;
 use arrayvec::ArrayVec;
-use ffa_model::{
-    Address, Data, EndpointId, Kind, Op, Range, Receiver, RelinquishDesc, RetrieveDesc, SendDesc,
-    Size, Version,
-};
+use ffa_model::{Address, Data, EndpointId, Kind, Op, Range, Receiver, SendDesc, Size, Version};
 use play_writer::{
     DescriptorContents, ScriptError, Unfit, put_descriptor, put_operation, put_stores,
 };
-use std::alloc::Global;
-use std::process::Abort;
 use std::test::Fail;
 
 const OPERATIONS: &str = "\
@@ -30,44 +23,6 @@ store 4002E000 0807060504030201
 store 4002E008 0C0B0A09
 store 4002E00C 0E0D
 store 4002E00E 0F
-";
-
-// 8001 lends the page at 40021000 to 8002, which may write it.
-const LEND: &str = "\
-store 4002E000 0000000000008001
-store 4002E008 0000000000000000
-store 4002E010 0000000000000000
-store 4002E018 0000000100000010
-store 4002E020 0000000000000030
-store 4002E028 0000000000000000
-store 4002E030 0000004000028002
-store 4002E038 0000000000000000
-store 4002E040 0000000100000001
-store 4002E048 0000000000000000
-store 4002E050 0000000040021000
-store 4002E058 0000000000000001
-call 84000072 60 60
-";
-
-// 8002 retrieves it, and says nothing that it needn't.
-const RETRIEVE: &str = "\
-store 4003E000 0000000000008001
-store 4003E008 0000800100000001
-store 4003E010 0000000000000000
-store 4003E018 0000000100000010
-store 4003E020 0000000000000030
-store 4003E028 0000000000000000
-store 4003E030 0000000000048002
-store 4003E038 0000000000000000
-call 84000074 40 40
-";
-
-// 8002 relinquishes it.
-const RELINQUISH: &str = "\
-store 4003E000 0000800100000001
-store 4003E008 0000000100000000
-store 4003E010 8002
-call 84000076
 ";
 
 fn send(kind: Kind) -> DescriptorContents {
@@ -89,45 +44,6 @@ fn send(kind: Kind) -> DescriptorContents {
         ranges,
     };
     DescriptorContents::Send { kind, desc }
-}
-
-fn retrieve() -> DescriptorContents {
-    let desc = RetrieveDesc {
-        sender: EndpointId(0x8001),
-        handle: 0x8001_0000_0001,
-        tag: 0,
-        kind: None,
-        level: None,
-        exec: false,
-    };
-    DescriptorContents::Retrieve {
-        desc,
-        receiver: EndpointId(0x8002),
-    }
-}
-
-fn relinquish() -> DescriptorContents {
-    DescriptorContents::Relinquish(RelinquishDesc {
-        handle: 0x8001_0000_0001,
-        zero: false,
-        endpoint: EndpointId(0x8002),
-    })
-}
-
-// These lines write the descriptor and make its call.
-fn is_written(
-    rt: &impl Abort,
-    alloc: Global,
-    descriptor: &DescriptorContents,
-    tx: u32,
-    wanted: &str,
-) -> Result<(), Fail>
-    requires { tx % 4096 ≡ 0 }
-{
-    let mut text = Vec::new(alloc);
-    put_descriptor(&mut text, Version::V1_1, descriptor, Address(tx))?;
-    same(rt, text.as_slice(), wanted.as_bytes());
-    Ok(())
 }
 
 #[test]
@@ -173,14 +89,6 @@ fn bytes_are_stored(rt: HostRuntime) -> Result<(), Fail> {
     put_stores(&mut text, Address(0x4002_E000), &bytes)?;
     same(&rt, text.as_slice(), BYTES.as_bytes());
     Ok(())
-}
-
-#[test]
-fn descriptors_are_written(rt: HostRuntime) -> Result<(), Fail> {
-    let alloc = rt.alloc();
-    is_written(&rt, alloc, &send(Kind::Lend), 0x4002_E000, LEND)?;
-    is_written(&rt, alloc, &retrieve(), 0x4003_E000, RETRIEVE)?;
-    is_written(&rt, alloc, &relinquish(), 0x4003_E000, RELINQUISH)
 }
 
 #[test]

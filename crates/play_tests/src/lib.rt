@@ -5,11 +5,7 @@
 #[cfg(test)]
 mod checks;
 #[cfg(test)]
-mod explained;
-#[cfg(test)]
 mod generate;
-#[cfg(test)]
-mod guards;
 #[cfg(test)]
 mod lines;
 #[cfg(test)]

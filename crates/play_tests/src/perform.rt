@@ -6,22 +6,13 @@ use play_commands::{Files, perform, show};
 use std::alloc::Global;
 use std::io::{self, Write};
 use std::process::Abort;
-use std::test::Fail;
 
 // A block of 2 MiB of which a page is lent.
 mod blocks;
-// Numbers, names, comparisons, and what more is said.
-mod lines;
-// The worked example of the manual.
-mod manual;
-// Pictures: which lines have a row, and what a row says.
-mod pictures;
 // Memory that is refused.
 mod refused;
-// Comparisons with what can't be read or held, and sessions.
+// Comparisons and sessions with what can't be read or held.
 mod sides;
-// Guards, descriptors from words, and traces that are generated.
-mod writing;
 
 // A machine with two partitions.
 const ROW: &str = "ram_base = 0x40000000
@@ -40,24 +31,6 @@ version = \"1.1\"
 uuid = \"10112233-4455-6677-8899-aabbccddeeff\"
 properties = 15
 regions = [{ base = 0x40030000, pages = 16, rights = \"rw\" }]
-";
-
-// The highest machine that there is, but for its fourth to eighth endpoint. The normal world has one page, and 512 that
-// are one block of 2 MiB.
-const HIGHEST: &str = "ram_base = 0xFC000000
-ram_blocks = 32
-[[endpoint]]
-version = \"1.1\"
-properties = 6
-regions = [
-    { base = 0xFFFFF000, pages = 1, rights = \"rw\" },
-    { base = 0xFFC00000, pages = 512, rights = \"rw\" },
-]
-[[endpoint]]
-version = \"1.1\"
-uuid = \"00112233-4455-6677-8899-aabbccddeeff\"
-properties = 15
-regions = [{ base = 0xFC110000, pages = 1, rights = \"rwx\" }]
 ";
 
 const MACHINE: MachineOptions = MachineOptions {
@@ -179,169 +152,6 @@ fn on_kind<'a>(request: &Request<'a>, (frames, tlb): (bool, bool)) -> Request<'a
         },
         other => other,
     }
-}
-
-// How a command is to end, with what it is to write.
-#[derive(Clone, Copy)]
-struct Wanted<'a> {
-    status: u8,
-    out: &'a str,
-    err: &'a str,
-}
-
-// A command that is done, and prints this.
-fn done(out: &str) -> Wanted<'_> {
-    Wanted {
-        status: 0,
-        out,
-        err: "",
-    }
-}
-
-// A command that prints nothing, and ends with this status and message.
-fn failed(status: u8, err: &str) -> Wanted<'_> {
-    Wanted {
-        status,
-        out: "",
-        err,
-    }
-}
-
-// Performs a command on a machine of each kind, and sees how it ends.
-fn ends(
-    rt: &impl Abort,
-    alloc: Global,
-    request: &Request<'_>,
-    manifest: Option<&[u8]>,
-    trace: Option<&str>,
-    wanted: Wanted<'_>,
-) {
-    for kind in KINDS {
-        let got = performed_once(alloc, &on_kind(request, kind), manifest, trace);
-        assert_eq!(rt; got.status, wanted.status);
-        assert_eq!(rt; got.out.as_slice(), wanted.out.as_bytes());
-        assert_eq!(rt; got.err.as_slice(), wanted.err.as_bytes());
-    }
-}
-
-#[test]
-fn demonstrates(rt: HostRuntime) {
-    ends(&rt, rt.alloc(), &DEMO, None, Some(FIRST), done(FIRST_TEXT));
-}
-
-#[test]
-fn ends_traces_with_their_status(rt: HostRuntime) {
-    let (alloc, row) = (rt.alloc(), Some(ROW.as_bytes()));
-    ends(&rt, alloc, &RUN, row, Some(""), done(""));
-    let bad = Some("load 40010000 1\nload 40010000 1\nload 4001\n");
-    let third = Wanted {
-        status: 2,
-        out: "data 00\ndata 00\n",
-        err: "ffaplay: line 3: bad line\n",
-    };
-    ends(&rt, alloc, &RUN, row, bad, third);
-    let first = failed(2, "ffaplay: line 1: bad line\n");
-    ends(&rt, alloc, &RUN, row, Some("load 40010000 1"), first);
-}
-
-#[test]
-fn tells_that_a_trace_cannot_be_read(rt: HostRuntime) {
-    let unread = failed(3, "ffaplay: cannot read row.trace\n");
-    ends(&rt, rt.alloc(), &RUN, Some(ROW.as_bytes()), None, unread);
-    let unread = failed(3, "ffaplay: cannot read no.trace\n");
-    ends(&rt, rt.alloc(), &DEMO, None, None, unread);
-}
-
-#[test]
-fn loads_the_highest_word(rt: HostRuntime) {
-    let trace = "store FFFFFFF8 0123456789ABCDEF\nload FFFFFFF8 8\n";
-    let text = "done\ndata 0123456789ABCDEF\n";
-    let manifest = Some(HIGHEST.as_bytes());
-    ends(&rt, rt.alloc(), &RUN, manifest, Some(trace), done(text));
-}
-
-#[test]
-fn loads_and_stores_in_a_block(rt: HostRuntime) {
-    let trace =
-        "store FFC01008 0123456789ABCDEF\nload FFC01008 8\nload FFDFFFF8 8\nfetch FFC01008\nload FFE00000 1\n";
-    let text =
-        "done\ndata 0123456789ABCDEF\ndata 0000000000000000\nfault permission\nfault translation\n";
-    let manifest = Some(HIGHEST.as_bytes());
-    ends(&rt, rt.alloc(), &RUN, manifest, Some(trace), done(text));
-}
-
-// Faults are found in order: the manifest's file, the manifest, the trace's file.
-#[test]
-fn finds_the_first_fault(rt: HostRuntime) -> Result<(), Fail> {
-    let alloc = rt.alloc();
-    let unread = failed(3, "ffaplay: cannot read row.toml\n");
-    ends(&rt, alloc, &RUN, None, None, unread);
-    let overlapping = ROW.replacen(alloc, "0x40030000", "0x40028000", 1)?;
-    let refused = failed(1, "ffaplay: manifest: M13 RegionOverlap\n");
-    ends(
-        &rt,
-        alloc,
-        &RUN,
-        Some(overlapping.as_bytes()),
-        None,
-        refused,
-    );
-    let refused = failed(1, "ffaplay: manifest: M2 Toml\n");
-    ends(&rt, alloc, &RUN, Some(b"\xff"), None, refused);
-    Ok(())
-}
-
-// Changes of ROW: what stands first, an arrow, what is to stand there, another arrow, and the cause for which the manifest
-// is then refused, or that it is accepted.
-const CHANGES: &str = "\
-ram_blocks = 1 => ram_blocks = 1 => accepted
-ram_blocks = 1 => ram_blocks = 2 => accepted
-0x40010000, pages = 16 => 0x40009000, pages = 1 => accepted
-0x40010000, pages = 16 => 0x40008000, pages = 1 => M12 RegionOutside
-0x40000000 => 0x41000000 => M6 RamBase";
-
-#[test]
-fn checks_manifests(rt: HostRuntime) -> Result<(), Fail> {
-    let alloc = rt.alloc();
-    for change in CHANGES.lines() {
-        let (old, rest) = change.split_once(" => ").ok_or("no change")?;
-        let (new, cause) = rest.split_once(" => ").ok_or("no cause")?;
-        let manifest = ROW.replacen(alloc, old, new, 1)?;
-        let told = format!(in alloc; "ffaplay: manifest: {cause}\n")?;
-        let wanted = if cause == "accepted" {
-            done("accepted\n")
-        } else {
-            failed(1, told.as_str())
-        };
-        ends(&rt, alloc, &CHECK, Some(manifest.as_bytes()), None, wanted);
-    }
-    Ok(())
-}
-
-#[test]
-fn prints_layouts(rt: HostRuntime) -> Result<(), Fail> {
-    let one =
-        "0000 40000000 40001000 40002000\n8001 40003000 40004000 40005000\n8002 40006000 40007000 40008000\n";
-    ends(
-        &rt,
-        rt.alloc(),
-        &LAYOUT,
-        Some(ROW.as_bytes()),
-        None,
-        done(one),
-    );
-    let two =
-        "0000 40000000 40001000 40002000\n8001 40004000 40005000 40006000\n8002 40008000 40009000 4000A000\n";
-    let manifest = ROW.replacen(rt.alloc(), "ram_blocks = 1", "ram_blocks = 2", 1)?;
-    ends(
-        &rt,
-        rt.alloc(),
-        &LAYOUT,
-        Some(manifest.as_bytes()),
-        None,
-        done(two),
-    );
-    Ok(())
 }
 
 // Takes up to `room` bytes. Behind these it takes nothing, or fails, and it flushes where it says so.

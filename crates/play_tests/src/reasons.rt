@@ -1,7 +1,6 @@
 // SPDX-License-Identifier: MIT OR Apache-2.0
 //! Why operations are refused, and by what endpoints have their access, on the row machine.
 use crate::checks::same_at;
-use crate::explained::DESCRIBED;
 use crate::machines::{FlatPlayer, booted, play};
 use crate::printed;
 use ffa_model::{EndpointId, MOST_SENDS, Op, PageNo, Size, row_machine};
@@ -34,6 +33,17 @@ store 40036018 0000000100000010
 store 40036020 0000000000000030
 store 40036030 0000000000008002
 call 84000074 40 40
+";
+
+// The normal world has buffers, and a lend of its page 40012000 to 8002, to read and write, is described in TX.
+const DESCRIBED: &str = "\
+call 84000066 40010000 40011000 1
+store 40010018 0000000100000010
+store 40010020 0000000000000030
+store 40010030 0000004000028002
+store 40010040 0000000100000001
+store 40010050 0000000040012000
+store 40010058 0000000000000001
 ";
 
 // Identifiers of calls with no argument, and why 8001 is refused them.

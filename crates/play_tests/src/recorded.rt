@@ -1,6 +1,6 @@
 // SPDX-License-Identifier: MIT OR Apache-2.0
 //! Traces that are written with the guards of their own play.
-use crate::checks::{alike, holds, same, same_at};
+use crate::checks::{holds, same_at};
 use crate::machines::{FlatPlayer, booted};
 use ffa_model::built_in;
 use play_forms::{Form, Tally, play_guarded, record};
@@ -10,35 +10,6 @@ use play_syntax::PlayError;
 use std::alloc::Global;
 use std::process::Abort;
 use std::test::Fail;
-
-// With comments and an empty line, which stay, guards, of which none does, and a line of several.
-const TRACE: &str = "\
-# A page of 0000.
-#= nothing printed this
-store 40010000 2A
-#@ 8001
-#=  done
-load 40010000 1
-
-# = a comment
-show
-";
-
-const RECORDED: &str = "\
-# A page of 0000.
-store 40010000 2A
-#= done
-load 40010000 1
-#= data 2A
-
-# = a comment
-show
-#= runner 0000
-#= pages 40000000 4000FFFF 8000 --- ---
-#= pages 40010000 4001FFFF 0000 rw- ---
-#= pages 40020000 4002FFFF 8001 --- rwx
-#= pages 40030000 401FFFFF 8000 --- ---
-";
 
 fn player(alloc: Global) -> Result<FlatPlayer, Fail> {
     Ok(Player::new(booted(alloc, &built_in())?))
@@ -76,24 +47,6 @@ fn met(alloc: Global, trace: &[u8]) -> Result<Option<u64>, Fail> {
     })
 }
 
-#[test]
-fn writes_each_line_with_its_guards(rt: HostRuntime) -> Result<(), Fail> {
-    let (out, ended) = recorded(rt.alloc(), TRACE.as_bytes())?;
-    alike(&rt, ended, Ok(()));
-    same(&rt, out.as_slice(), RECORDED.as_bytes());
-    Ok(())
-}
-
-// What was written is the same when it is recorded again, and its guards are met.
-#[test]
-fn writes_guards_that_are_met(rt: HostRuntime) -> Result<(), Fail> {
-    let (again, ended) = recorded(rt.alloc(), RECORDED.as_bytes())?;
-    alike(&rt, ended, Ok(()));
-    same(&rt, again.as_slice(), RECORDED.as_bytes());
-    same(&rt, met(rt.alloc(), RECORDED.as_bytes())?, Some(7));
-    Ok(())
-}
-
 // How many lines are guards of a printed text.
 fn guards_in(trace: &[u8]) -> u64 {
     let mut count = 0;
@@ -122,19 +75,5 @@ fn records_generated_traces(rt: HostRuntime) -> Result<(), Fail> {
     for seed in 1..4 {
         check_generated(&rt, rt.alloc(), seed)?;
     }
-    Ok(())
-}
-
-// What was written before a bad line stays, and none of the line is.
-#[test]
-fn stops_at_a_bad_line(rt: HostRuntime) -> Result<(), Fail> {
-    let trace = "store 40010000 2A\nstore 40010000\nload 40010000 1\n";
-    let (out, ended) = recorded(rt.alloc(), trace.as_bytes())?;
-    alike(&rt, ended, Err(PlayError::BadLine(2)));
-    same(
-        &rt,
-        out.as_slice(),
-        b"store 40010000 2A\n#= done\n".as_slice(),
-    );
     Ok(())
 }

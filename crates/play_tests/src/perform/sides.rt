@@ -1,9 +1,9 @@
 // SPDX-License-Identifier: MIT OR Apache-2.0
-//! Comparisons whose expected text can't be read, or for which there is no memory, and sessions.
+//! Comparisons whose expected text can't be read, or for which there is no memory, and a session that can't be read on.
 
-use super::{Ended, FIRST, MACHINE, ROW, RUN, TEXT, performed, performed_once};
+use super::{Ended, FIRST, MACHINE, ROW, RUN, TEXT, performed_once};
 use linked_list_allocator::LocalHeap;
-use play_arguments::{Request, TextOptions};
+use play_arguments::Request;
 use play_commands::{Files, perform};
 use std::alloc::Global;
 use std::io::{self, Read};
@@ -19,32 +19,6 @@ const COMPARE: Request<'static> = Request::Compare {
     verbose: false,
 };
 
-const NAMED_COMPARE: Request<'static> = Request::Compare {
-    manifest: "row.toml",
-    trace: "row.trace",
-    expected: "row.text",
-    machine: MACHINE,
-    text: NAMED,
-    verbose: false,
-};
-
-const NAMED: TextOptions = TextOptions {
-    line_buffered: false,
-    number: true,
-    names: true,
-    explain: false,
-};
-
-const NAMED_RUN: Request<'static> = Request::Run {
-    manifest: "row.toml",
-    trace: "row.trace",
-    machine: MACHINE,
-    text: NAMED,
-    strict: false,
-    interactive: false,
-    verbose: false,
-};
-
 const SESSION: Request<'static> = Request::Run {
     manifest: "row.toml",
     trace: "row.trace",
@@ -53,15 +27,6 @@ const SESSION: Request<'static> = Request::Run {
     strict: false,
     interactive: true,
     verbose: false,
-};
-
-const DEMO_SESSION: Request<'static> = Request::Demo {
-    trace: "no.trace",
-    machine: MACHINE,
-    text: TEXT,
-    strict: false,
-    interactive: true,
-    verbose: true,
 };
 
 // Gives up to seven bytes a read, and fails behind so many reads.
@@ -124,37 +89,6 @@ fn tells_that_the_expected_text_cannot_be_read(rt: HostRuntime) {
     ended(&rt, &got, (0, b"", ""));
 }
 
-// What is printed with numbers and names compares equal with them, and not without.
-#[test]
-fn compares_what_is_printed(rt: HostRuntime) {
-    let alloc = rt.alloc();
-    let named = performed_once(alloc, &NAMED_RUN, Some(ROW.as_bytes()), Some(FIRST));
-    let got = compared(alloc, &NAMED_COMPARE, &named.out, 1000);
-    ended(&rt, &got, (0, b"", ""));
-    let got = compared(alloc, &COMPARE, &named.out, 1000);
-    assert_eq!(rt; got.status, 4);
-    let told = b"line 1: call 84000069\nexpected, line 1: 1: regs 0000 ".as_slice();
-    assert!(rt; got.out.starts_with(told));
-}
-
-// What is told stands in columns, also where a line's number has two digits.
-#[test]
-fn tells_the_line_of_the_expected_text(rt: HostRuntime) -> Result<(), Fail> {
-    let trace = "show\nshow\nload 40010000 1\n";
-    let table =
-        "runner 0000\npages 40000000 4000FFFF 8000 --- --- ---\npages 40010000 4001FFFF 0000 rw- --- ---\npages 40020000 4002FFFF 8001 --- rwx ---\npages 40030000 4003FFFF 8002 --- --- rw-\npages 40040000 401FFFFF 8000 --- --- ---\n";
-    let text = format!(in rt.alloc(); "{table}{table}data 01\n")?;
-    let files = Files {
-        manifest: Some(ROW.as_bytes()),
-        trace: Some(trace.as_bytes()),
-        expected: Some(text.as_bytes()),
-        reason: None,
-    };
-    let told = b"line 3: load 40010000 1\nexpected, line 13: data 01\nfound:             data 00\n";
-    ended(&rt, &performed(rt.alloc(), &COMPARE, files), (4, told, ""));
-    Ok(())
-}
-
 // How a comparison of what FIRST prints with that text ends in a heap of this room: it is done, or has no memory.
 fn is_compared(rt: &impl Abort, alloc: Global, text: &[u8], room: usize) -> Result<bool, Fail> {
     let heap = LocalHeap::new(alloc, room)?;
@@ -196,18 +130,6 @@ fn compares_or_has_no_memory(rt: HostRuntime) -> Result<(), Fail> {
     }
     assert!(rt; is_compared(&rt, alloc, &whole.out, booted + 20_480)?);
     Ok(())
-}
-
-// Bad lines are told, and the status is 0. What is said with `--verbose` is no more.
-#[test]
-fn holds_sessions(rt: HostRuntime) {
-    let trace = "load 4001\nstore 40010000 2A\n# 3\nhelp\nload 40010000 1\nshow";
-    let told =
-        "ffaplay: line 1, column 10: a word is missing\nffaplay: line 4, column 1: an unknown command\nffaplay: line 6: no line end\n";
-    for request in [SESSION, DEMO_SESSION] {
-        let got = performed_once(rt.alloc(), &request, Some(ROW.as_bytes()), Some(trace));
-        ended(&rt, &got, (0, b"done\ndata 2A\n", told));
-    }
 }
 
 // A session whose trace can't be read further ends so, once what was read is done.
