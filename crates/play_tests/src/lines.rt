@@ -1,9 +1,9 @@
 // SPDX-License-Identifier: MIT OR Apache-2.0
 //! Lines that are read, and machines that go on behind bad lines, differences and sessions.
-use crate::checks::{holds, same, same_at};
+use crate::checks::{holds, same};
 use crate::machines::{FlatPlayer, booted};
 use ffa_model::{FaultKind, built_in};
-use play_forms::{Form, Sides, compare, next_line, play, play_session};
+use play_forms::{CompareError, Form, Mismatch, Sides, compare, next_line, play, play_session};
 use play_player::Player;
 use play_syntax::{PlayError, text};
 use std::alloc::Global;
@@ -90,31 +90,55 @@ fn tells_each_fault_by_its_name(rt: HostRuntime) {
     }
 }
 
+// Where a play of a trace first differs from the expected text.
+type Compared = Result<Option<Mismatch>, CompareError>;
+
+fn compared_on(
+    player: &mut FlatPlayer,
+    alloc: Global,
+    form: Form,
+    trace: &str,
+    expected: &[u8],
+) -> Result<Compared, Fail> {
+    let (mut left, mut wanted) = (trace.as_bytes(), expected);
+    let mut sides = Sides::new(alloc);
+    Ok(compare(player, alloc, form, &mut left, &mut wanted, &mut sides))
+}
+
 // The machine goes on behind a difference.
 #[test]
 fn goes_on_behind_a_difference(rt: HostRuntime) -> Result<(), Fail> {
-    let alloc = rt.alloc();
-    let mut player = player(alloc)?;
-    let (mut left, mut wanted) = (TRACE.as_bytes(), b"".as_slice());
-    let mut sides = Sides::new(alloc);
-    let form = Form::default();
-    let found = compare(&mut player, alloc, form, &mut left, &mut wanted, &mut sides);
+    let mut player = player(rt.alloc())?;
+    let found = compared_on(&mut player, rt.alloc(), Form::default(), TRACE, b"")?;
     holds(&rt, matches!(found, Ok(Some(_))));
-    goes_on(&rt, alloc, &mut player)
+    goes_on(&rt, rt.alloc(), &mut player)
+}
+
+// A session of good lines and bad ones: what it prints in a form, and what it tells.
+fn holds_session(
+    rt: &impl Abort,
+    alloc: Global,
+    form: Form,
+    trace: &str,
+    text: &str,
+    told: &str,
+) -> Result<(), Fail> {
+    let mut player = player(alloc)?;
+    let (mut out, mut err) = (Vec::new(alloc), Vec::new(alloc));
+    let mut left = trace.as_bytes();
+    let ended = play_session(&mut player, alloc, form, &mut left, &mut out, &mut err);
+    same(rt, ended, Ok(()));
+    same(rt, out.as_slice(), text.as_bytes());
+    same(rt, err.as_slice(), told.as_bytes());
+    goes_on(rt, alloc, &mut player)
 }
 
 // And behind a session.
 #[test]
 fn goes_on_behind_a_session(rt: HostRuntime) -> Result<(), Fail> {
-    let alloc = rt.alloc();
-    let mut player = player(alloc)?;
-    let (mut out, mut err) = (Vec::new(alloc), Vec::new(alloc));
-    let mut left = b"load 4001\nload 40020000 1\nfetch".as_slice();
-    let form = Form::default();
-    let ended = play_session(&mut player, alloc, form, &mut left, &mut out, &mut err);
-    same(&rt, ended, Ok(()));
-    same(&rt, out.as_slice(), b"fault translation\n".as_slice());
-    goes_on(&rt, alloc, &mut player)
+    let trace = "store 40010000 2A\nload 4001\nfetch";
+    let told = "ffaplay: line 2, column 10: a word is missing\nffaplay: line 3: no line end\n";
+    holds_session(&rt, rt.alloc(), Form::default(), trace, "done\n", told)
 }
 
 // The next line, and what comes of reading it.
