@@ -3,12 +3,13 @@
 //! state, so whoever plays on a machine needs neither its RAM nor its tables.
 #![tactic(auto)]
 
-ghost use Rattle.std.specs.Prelude.{◌≡◌, ℕ, ◌+◌, ◌*◌, ◌^◌, ◌<◌, ◌≤◌, IfSome, IsTrue, is_some, length};
+ghost use Rattle.std.specs.Prelude.{◌≡◌, ℕ, ◌+◌, ◌*◌, ◌^◌, ◌<◌, ◌≤◌, IfSome, IsTrue, Some, is_some, length};
 ghost use Rattle.ffa_model.specs.declared.limits.TheConstants.{MOST_ENDPOINTS};
 ghost use Rattle.ffa_model.specs.Access.{access};
 ghost use Rattle.ffa_model.specs.Certificate.{IsRun, certificate, run_from};
 ghost use Rattle.ffa_model.specs.Refusals.{is_refusal};
-ghost use Rattle.ffa_model.specs.State.{State, owner_of};
+ghost use Rattle.ffa_model.specs.Ram.{word_of};
+ghost use Rattle.ffa_model.specs.State.{Page, State, owner_of, page_at};
 ghost use Rattle.ffa_model.specs.Step.{step};
 ghost use Rattle.ffa_model.specs.Why.{outcome_of, why};
 ghost use Rattle.ffa_mend.specs.Mend.{mend};
@@ -77,4 +78,14 @@ pub trait Playable: Drop {
     /// one behind the other, are such a certificate. It takes no memory.
     fn audit(&self, runs: &[CertRun]) -> bool
         ensures { runs.now ≡ certificate (state self.now) → IsTrue result };
+}
+
+/// Such a machine whose RAM can be read.
+pub trait Readable: Playable {
+    /// The word at a place of a page of the RAM, from 0 to 511: 8 bytes, the lowest first. What the manager's pages hold
+    /// is no part of the state.
+    fn word_at(&self, page: PageNo, index: usize) -> u64
+        requires page { page.0 < length (Self.state self.now).pages }
+        requires index { index < 512 }
+        ensures { (own : Page) → page_at (Self.state self.now) page.0 ≡ Some own → result ≡ word_of own.bytes index };
 }

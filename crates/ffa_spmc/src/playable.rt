@@ -5,7 +5,7 @@ use crate::storage::Store;
 use ffa_mend::Mend;
 use ffa_model::{Address, CertRun, EndpointId, Op, Outcome, PageNo, Rights, Why};
 use ffa_physmem::PhysMem;
-use ffa_playable::Playable;
+use ffa_playable::{Playable, Readable};
 use ffa_tlb::Translations;
 
 impl<M: PhysMem + Drop, T: Translations + Drop, S: Store> Playable for Machine<M, T, S> {
@@ -54,5 +54,11 @@ impl<M: PhysMem + Drop, T: Translations + Drop, S: Store> Playable for Machine<M
 
     fn audit(&self, runs: &[CertRun]) -> bool {
         Machine::audit(self, runs)
+    }
+}
+
+impl<M: PhysMem + Drop, T: Translations + Drop, S: Store> Readable for Machine<M, T, S> {
+    fn word_at(&self, page: PageNo, index: usize) -> u64 {
+        self.ram().read_word(page, index)
     }
 }

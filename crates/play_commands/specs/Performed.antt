@@ -6,8 +6,7 @@ use Rattle.std.specs.Io.KnownBytes.{Keeps}
 use Rattle.ffa_model.specs.State.{State}
 use Rattle.ffa_model.specs.First.{first}
 use Rattle.ffa_model.specs.Machines.{built_in_endpoints}
-use Rattle.ffa_model.specs.declared.manifest.Manifest.{Manifest}
-use Rattle.ffa_manifest.specs.Document.{Parts, parts_of}
+use Rattle.ffa_manifest.specs.Document.{Parts}
 use Rattle.play_writer.specs.declared.unfit.Unfit.{Unfit}
 use Rattle.play_transcript.specs.Traces.{Wrote}
 use Rattle.play_descriptor.specs.declared.fault.WordsFault.{WordsFault}
@@ -20,14 +19,11 @@ use Rattle.play_tasks.specs.Plays.{IsCutShort, IsDrawn, IsOverfull, IsPrinted, I
 use Rattle.play_arguments.specs.Commands.{ask_of, manifest_of, trace_of}
 use Rattle.play_arguments.specs.declared.command_line.Request.{Request}
 use Rattle.play_arguments.specs.declared.command_line.Request.TheVariants as request
-use Rattle.play_commands.specs.declared.commands.Files.{Files}
+use Rattle.play_files.specs.declared.commands.Files.{Files}
 
+-- the state in which a machine of these parts starts
 abbrev pub first_of : Parts → State
 first_of parts = first parts.ram_base parts.ram_blocks parts.endpoints
-
--- the state in which the machine of a manifest starts
-abbrev pub start_of : Manifest → State
-start_of manifest = first_of (parts_of manifest)
 
 abbrev pub built_in_parts : Parts
 built_in_parts = record { ram_base = 0x40000000; ram_blocks = 1; endpoints = built_in_endpoints }

@@ -6,32 +6,21 @@ ghost use Rattle.play_commands.specs.Performed.{Differs, Does, FailsFor, IsDone,
 
 mod generating;
 mod paging;
-mod playing;
 mod running;
 
 use generating::{Making, generate_trace};
 use play_arguments::Request;
+use play_files::Files;
 use play_report::{Failure, Notes, accept, describe, lay_out, tell, tell_more};
+use play_tasks::Machines;
 use running::{Comparison, Drawing, Printing, Recording, compare, demo, draw, record, run};
 use std::alloc::{Allocator, Global};
-use std::io::{ErrorKind, Read, Write};
-
-/// What was read of the files that a command names. What it doesn't name is left alone.
-#[derive(Drop)]
-pub struct Files<'a, R> {
-    /// The bytes of the manifest's file, or `None` where it can't be read.
-    pub manifest: Option<&'a [u8]>,
-    /// What reads the trace's file, or `None` where it can't be opened.
-    pub trace: Option<R>,
-    /// What reads the file of the expected text, or `None` where it can't be opened.
-    pub expected: Option<R>,
-    /// Why the first of these that can't be read or opened can't be.
-    pub reason: Option<ErrorKind>,
-}
+use std::io::{Read, Write};
 
 /// Does what was asked for, and answers the status with which the program ends.
 ///
-/// A manifest is read with the memory of `manifests`; RAM, a machine's room and what plays a trace take that of `alloc`.
+/// `machines` boots what a trace is played on, or generated for. A manifest is read with the memory of `manifests`; RAM, a
+/// machine's room and what plays a trace take that of `alloc`.
 ///
 /// All output goes to `out`, which is flushed, and to `err` a line that says why a command isn't done, with a second
 /// line that says more where that is asked for; where there is no memory to find that, it is told alone. The status is 0
@@ -44,7 +33,8 @@ pub struct Files<'a, R> {
 /// comments are nearly guards, and of a command that was done how many guards were met. An `out` that can't be flushed can't
 /// be written. This is told in place of a bad line, a difference and a guard, since what was printed is lost, and of no other
 /// fault, which was found before.
-pub fn perform<A: Allocator + Copy, R: Read + Drop, W: Write, E: Write>(
+pub fn perform<M: Machines, A: Allocator + Copy, R: Read + Drop, W: Write, E: Write>(
+    machines: &M,
     manifests: Global,
     alloc: A,
     request: &Request<'_>,
@@ -68,7 +58,9 @@ pub fn perform<A: Allocator + Copy, R: Read + Drop, W: Write, E: Write>(
 {
     let reason = files.reason;
     let mut notes = Notes::new(alloc, request.is_verbose());
-    match do_request(manifests, alloc, request, files, out, err, &mut notes) {
+    match do_request(
+        machines, manifests, alloc, request, files, out, err, &mut notes,
+    ) {
         Ok(()) => {
             tell_guards(request, &notes.guard, err);
             0
@@ -102,7 +94,8 @@ fn is_strict(request: &Request<'_>) -> bool
 
 // Does what was asked for, and flushes what it wrote. Where that fails, a command isn't done, and no bad line, difference
 // or guard is told of, since the text is lost. Another failure was found before, and stays.
-fn do_request<'a, A: Allocator + Copy, R: Read + Drop, W: Write, E: Write>(
+fn do_request<'a, M: Machines, A: Allocator + Copy, R: Read + Drop, W: Write, E: Write>(
+    machines: &M,
     manifests: Global,
     alloc: A,
     request: &Request<'a>,
@@ -117,7 +110,7 @@ fn do_request<'a, A: Allocator + Copy, R: Read + Drop, W: Write, E: Write>(
     ensures read { IfErr result (IsRead (is_some files.entry.trace)) }
     ensures quiet { is_session request.now ≡ false → err.new ≡ err.old }
 {
-    let done = do_command(manifests, alloc, request, files, out, err, notes);
+    let done = do_command(machines, manifests, alloc, request, files, out, err, notes);
     let flushed = out.flush();
     match done {
         Ok(()) | Err(Failure::BadLine(..) | Failure::Differs | Failure::Unmet(_))
@@ -126,7 +119,8 @@ fn do_request<'a, A: Allocator + Copy, R: Read + Drop, W: Write, E: Write>(
     }
 }
 
-fn do_command<'a, A: Allocator + Copy, R: Read + Drop, W: Write, E: Write>(
+fn do_command<'a, M: Machines, A: Allocator + Copy, R: Read + Drop, W: Write, E: Write>(
+    machines: &M,
     manifests: Global,
     alloc: A,
     request: &Request<'a>,
@@ -156,7 +150,9 @@ fn do_command<'a, A: Allocator + Copy, R: Read + Drop, W: Write, E: Write>(
                 interactive,
                 verbose,
             };
-            run(manifests, alloc, path, how, files, out, err, notes)
+            run(
+                machines, manifests, alloc, path, how, files, out, err, notes,
+            )
         }
         Request::Demo {
             trace,
@@ -174,7 +170,7 @@ fn do_command<'a, A: Allocator + Copy, R: Read + Drop, W: Write, E: Write>(
                 interactive,
                 verbose,
             };
-            demo(alloc, how, files, out, err, notes)
+            demo(machines, alloc, how, files, out, err, notes)
         }
         Request::Record {
             manifest: path,
@@ -187,7 +183,9 @@ fn do_command<'a, A: Allocator + Copy, R: Read + Drop, W: Write, E: Write>(
                 machine,
                 verbose,
             };
-            record(manifests, alloc, path, how, files, out, err, notes)
+            record(
+                machines, manifests, alloc, path, how, files, out, err, notes,
+            )
         }
         Request::Compare {
             manifest: path,
@@ -204,7 +202,9 @@ fn do_command<'a, A: Allocator + Copy, R: Read + Drop, W: Write, E: Write>(
                 text,
                 verbose,
             };
-            compare(manifests, alloc, path, how, files, out, err, notes)
+            compare(
+                machines, manifests, alloc, path, how, files, out, err, notes,
+            )
         }
         Request::Check { manifest: path, .. } => accept(
             manifests,
@@ -227,7 +227,16 @@ fn do_command<'a, A: Allocator + Copy, R: Read + Drop, W: Write, E: Write>(
             verbose: _,
         } => {
             let how = Making { seed, lines, count };
-            generate_trace(manifests, alloc, path, files.manifest, how, out, notes)
+            generate_trace(
+                machines,
+                manifests,
+                alloc,
+                path,
+                files.manifest,
+                how,
+                out,
+                notes,
+            )
         }
         Request::Picture {
             manifest: path,
@@ -240,7 +249,9 @@ fn do_command<'a, A: Allocator + Copy, R: Read + Drop, W: Write, E: Write>(
                 drawing,
                 verbose,
             };
-            draw(manifests, alloc, path, how, files, out, err, notes)
+            draw(
+                machines, manifests, alloc, path, how, files, out, err, notes,
+            )
         }
     }
 }

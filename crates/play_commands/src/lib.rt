@@ -4,6 +4,9 @@
 #![tactic(auto)]
 
 mod commands;
+mod program;
 
-pub use commands::{Files, perform};
+pub use commands::perform;
+pub use play_files::Files;
 pub use play_report::show;
+pub use program::Program;

@@ -1,6 +1,6 @@
 // SPDX-License-Identifier: MIT OR Apache-2.0
-//! Traces for a machine, made at random: the scenes of `play_scenes`, played on the machine of a manifest. The same seed gives
-//! the same trace.
+//! Traces for a machine, made at random: the scenes of `play_scenes`, played on the machine of a manifest, which the caller
+//! boots. The same seed gives the same trace.
 #![tactic(auto)]
 
 ghost use Rattle.std.specs.Prelude.{OnOk};
@@ -9,6 +9,7 @@ ghost use Rattle.play_transcript.specs.Traces.{Wrote};
 mod machine_stage;
 
 use ffa_model::Manifest;
+use ffa_playable::Readable;
 use machine_stage::MachineStage;
 use play_scenes::Generator;
 use play_transcript::write_turns;
@@ -16,20 +17,21 @@ pub use play_transcript::{AccessKind, Counts, Everyone, GenerateError, why_unrea
 use std::alloc::Allocator;
 use std::io::Write;
 
-/// Writes so many lines of a trace for the machine of a manifest, and answers how often what came. The same seed gives the
-/// same lines.
+/// Writes so many lines of a trace for the machine of a manifest, which is in its first state, and answers how often what
+/// came. The same seed gives the same lines.
 // Not inlined, since its frame holds the machine.
 #[inline(never)]
-pub fn generate<A: Allocator + Copy, W: Write>(
+pub fn generate<M: Readable, A: Allocator + Copy, W: Write>(
     alloc: A,
     manifest: &Manifest,
+    machine: M,
     seed: u64,
     lines: u64,
     out: &mut W,
 ) -> Result<Counts, GenerateError>
     ensures { OnOk result (Wrote lines (W.contents out.old) (W.contents out.new)) }
 {
-    let stage = MachineStage::new(alloc, manifest).map_err(|_| GenerateError::NoMemory)?;
+    let stage = MachineStage::new(alloc, manifest, machine);
     let mut generator = Generator::new(manifest, stage, seed);
     write_turns(alloc, &mut generator, lines, out)?;
     Ok(generator.into_stage().into_counts())

@@ -4,38 +4,20 @@ ghost use Rattle.std.specs.Prelude.{◌<◌, length, IfSome};
 
 use ffa_model::function::FFA_ERROR;
 use ffa_model::{EndpointId, Manifest, Op, Outcome, PageNo, Rights, Why};
-use ffa_physmem::{FlatRam, NoMemory, PhysMem};
-use ffa_spmc::{Given, Machine, Storage};
-use ffa_tlb::NoTlb;
+use ffa_playable::Readable;
 use play_scenes::{PAGE, Stage};
 use play_transcript::{Counts, GenerateError, TraceEntry, actor_of, fit_store};
 use std::alloc::Allocator;
 
 /// A machine, the lines of a turn, and how often what came.
 #[derive(Drop)]
-pub struct MachineStage<A: Allocator + Copy> {
-    machine: Machine<FlatRam<A>, NoTlb, Given<A>>,
+pub struct MachineStage<M: Readable, A: Allocator + Copy> {
+    machine: M,
     entries: Vec<TraceEntry, A>,
     room: u64,
     /// There was memory for each line of this turn.
     is_whole: bool,
     counts: Counts,
-}
-
-// The machine's contract is long, and nobody here needs it.
-fn operate<A: Allocator + Copy>(
-    machine: &mut Machine<FlatRam<A>, NoTlb, Given<A>>,
-    op: &Op,
-) -> Outcome {
-    machine.op(op)
-}
-
-// Why an operation is refused; asked behind it, since a refusal leaves the machine as it was.
-fn reason<A: Allocator + Copy>(
-    machine: &Machine<FlatRam<A>, NoTlb, Given<A>>,
-    op: &Op,
-) -> Option<Why> {
-    machine.why(op)
 }
 
 fn is_error(outcome: &Outcome) -> bool {
@@ -46,39 +28,29 @@ fn is_error(outcome: &Outcome) -> bool {
 }
 
 // The page at an address.
-fn page_at<A: Allocator + Copy>(
-    machine: &Machine<FlatRam<A>, NoTlb, Given<A>>,
-    address: u64,
-) -> Option<PageNo>
-    ensures in_ram { IfSome result (λ page. page.0 < length machine.now.ram.pages) }
-    ensures known { IfSome result (λ page. page.0 < length machine.now.state.pages) }
+fn page_at<M: Readable>(machine: &M, address: u64) -> Option<PageNo>
+    ensures { IfSome result (λ page. page.0 < length (M.state machine.now).pages) }
 {
-    let base = u64::from(machine.ram().base().0);
+    let base = u64::from(machine.ram_base().0);
     let offset = address.checked_sub(base)?;
     let page = offset / PAGE;
-    if page < u64::from(machine.ram().pages()) {
+    if page < u64::from(machine.ram_pages()) {
         Some(PageNo(page as u32))
     } else {
         None
     }
 }
 
-impl<A: Allocator + Copy> MachineStage<A> {
-    /// The machine of a manifest in its first state.
-    #[inline(never)]
-    pub fn new(alloc: A, manifest: &Manifest) -> Result<MachineStage<A>, NoMemory> {
-        let (base, pages) = (manifest.ram_base, 512 * manifest.ram_blocks);
-        let ram = FlatRam::new_in(alloc, base, pages)?;
-        let Ok(storage) = Storage::allocate_for(alloc, manifest) else {
-            return Err(NoMemory);
-        };
-        Ok(MachineStage {
-            machine: Machine::boot_cleared_in(storage, manifest, ram, NoTlb),
+impl<M: Readable, A: Allocator + Copy> MachineStage<M, A> {
+    /// The stage of a machine of this manifest.
+    pub fn new(alloc: A, manifest: &Manifest, machine: M) -> MachineStage<M, A> {
+        MachineStage {
+            machine,
             entries: Vec::new(alloc),
             room: 0,
             is_whole: true,
             counts: Counts::on(manifest),
-        })
+        }
     }
 
     // Adds a line, and answers whether it could. Where there is no memory for one, none is added in the rest of the turn.
@@ -90,11 +62,12 @@ impl<A: Allocator + Copy> MachineStage<A> {
         self.is_whole
     }
 
-    // Counts what came of an operation, and the check at which it was refused.
+    // Counts what came of an operation, and the check at which it was refused. That is asked behind it, since a refusal leaves
+    // the machine as it was.
     fn count(&mut self, op: &Op, outcome: &Outcome) {
         self.counts.note(op, outcome);
         if is_error(outcome)
-            && let Some(Why::Refused { refusal, .. }) = reason(&self.machine, op)
+            && let Some(Why::Refused { refusal, .. }) = self.machine.why(op)
         {
             self.counts.note_check(op, refusal);
         }
@@ -107,7 +80,7 @@ impl<A: Allocator + Copy> MachineStage<A> {
     }
 }
 
-impl<A: Allocator + Copy> Stage for MachineStage<A> {
+impl<M: Readable, A: Allocator + Copy> Stage for MachineStage<M, A> {
     fn begin(&mut self, most: u64) {
         self.entries.clear();
         self.room = most;
@@ -131,7 +104,7 @@ impl<A: Allocator + Copy> Stage for MachineStage<A> {
         if !self.add(TraceEntry::Operation(op)) {
             return None;
         }
-        let outcome = operate(&mut self.machine, &op);
+        let outcome = self.machine.op(&op);
         self.count(&op, &outcome);
         Some(outcome)
     }
@@ -159,15 +132,15 @@ impl<A: Allocator + Copy> Stage for MachineStage<A> {
     fn word_at(&self, address: u64) -> Option<u64> {
         let page = page_at(&self.machine, address)?;
         let index = (address % PAGE / 8) as usize;
-        Some(self.machine.ram().read_word(page, index))
+        Some(self.machine.word_at(page, index))
     }
 
     fn ram_base(&self) -> u64 {
-        u64::from(self.machine.ram().base().0)
+        u64::from(self.machine.ram_base().0)
     }
 
     fn ram_end(&self) -> u64 {
-        let base = u64::from(self.machine.ram().base().0);
-        base + PAGE * u64::from(self.machine.ram().pages())
+        let base = u64::from(self.machine.ram_base().0);
+        base + PAGE * u64::from(self.machine.ram_pages())
     }
 }

@@ -1,11 +1,13 @@
 // SPDX-License-Identifier: MIT OR Apache-2.0
 //! What is done with a trace on a machine: it is played, and its text printed or compared, or its picture printed. Which
-//! machine that is, is left open.
+//! machine that is, and what boots it, is left open.
 #![tactic(auto)]
 
 mod comparing;
+mod machines;
 mod paging;
 mod playing;
 mod task;
 
+pub use machines::{Machines, Play};
 pub use task::{Expected, Task, Trace, do_task, form_of};

@@ -11,10 +11,12 @@ use ffa_model::{
 };
 use ffa_physmem::FlatRam;
 use ffa_spmc::Machine;
-use play_generator::{AccessKind, Counts, Everyone, generate, why_unreached};
+use play_generator::{AccessKind, Counts, Everyone, why_unreached};
+use play_machines::Booted;
 use play_player::Player;
 use play_reasons::{checks, words};
 use play_syntax::Line;
+use play_tasks::Machines;
 use play_transcript::{Attempt, Change, Deed, GenerateError, TraceEntry, Turns, write_turns};
 use std::alloc::Global;
 use std::process::Abort;
@@ -99,7 +101,7 @@ fn generated(
     lines: u64,
     out: &mut Vec<u8>,
 ) -> Result<Counts, Fail> {
-    Ok(generate(alloc, manifest, seed, lines, out)?)
+    Ok(Booted.generate(alloc, manifest, seed, lines, out)?)
 }
 
 fn count_lines(text: &[u8]) -> u64 {

@@ -3,6 +3,7 @@
 
 use play_arguments::{MachineOptions, Request, TextOptions};
 use play_commands::{Files, perform, show};
+use play_machines::Booted;
 use std::alloc::Global;
 use std::io::{self, Write};
 use std::process::Abort;
@@ -92,7 +93,7 @@ struct Ended {
 fn performed(alloc: Global, request: &Request<'_>, files: Files<'_, &[u8]>) -> Ended {
     let mut out = Vec::new(alloc);
     let mut err = Vec::new(alloc);
-    let status = perform(alloc, alloc, request, files, &mut out, &mut err);
+    let status = perform(&Booted, alloc, alloc, request, files, &mut out, &mut err);
     Ended { status, out, err }
 }
 
@@ -211,7 +212,7 @@ fn tells(
         expected: None,
         reason: None,
     };
-    let ended = perform(alloc, alloc, request, files, &mut out, &mut err);
+    let ended = perform(&Booted, alloc, alloc, request, files, &mut out, &mut err);
     assert_eq!(rt; ended, status);
     assert_eq!(rt; err.as_slice(), told.as_bytes());
 }

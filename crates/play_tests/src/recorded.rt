@@ -4,9 +4,10 @@ use crate::checks::{holds, same_at};
 use crate::machines::{FlatPlayer, booted};
 use ffa_model::built_in;
 use play_forms::{Form, Tally, play_guarded, record};
-use play_generator::generate;
+use play_machines::Booted;
 use play_player::Player;
 use play_syntax::PlayError;
+use play_tasks::Machines;
 use std::alloc::Global;
 use std::process::Abort;
 use std::test::Fail;
@@ -60,7 +61,9 @@ fn guards_in(trace: &[u8]) -> u64 {
 
 fn check_generated(rt: &impl Abort, alloc: Global, seed: u64) -> Result<(), Fail> {
     let mut trace = Vec::new(alloc);
-    generate(alloc, &built_in(), seed, 400, &mut trace).map_err(|_| "no trace")?;
+    Booted
+        .generate(alloc, &built_in(), seed, 400, &mut trace)
+        .map_err(|_| "no trace")?;
     let (out, ended) = recorded(alloc, &trace)?;
     same_at(rt, ended.is_ok(), true, &seed);
     let count = guards_in(&out);

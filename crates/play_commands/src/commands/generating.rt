@@ -7,8 +7,9 @@ ghost use Rattle.play_report.specs.Manifests.{FailsUnplayed, bytes_of};
 ghost use Rattle.play_commands.specs.Performed.{IsMade};
 
 use ffa_model::Manifest;
-use play_generator::{Counts, GenerateError, generate};
 use play_report::{Failure, Notes, print_counts, read_manifest};
+use play_tasks::Machines;
+use play_transcript::{Counts, GenerateError};
 use std::alloc::{Allocator, Global};
 use std::io::{self, Write};
 
@@ -25,7 +26,8 @@ pub(super) struct Making {
 
 /// Prints a trace of so many lines for the machine of a manifest, or, where that is asked for, how often each of its
 /// calls and accesses ended in which way.
-pub(super) fn generate_trace<'a, A: Allocator + Copy, W: Write>(
+pub(super) fn generate_trace<'a, M: Machines, A: Allocator + Copy, W: Write>(
+    machines: &M,
     manifests: Global,
     alloc: A,
     path: &'a str,
@@ -40,9 +42,9 @@ pub(super) fn generate_trace<'a, A: Allocator + Copy, W: Write>(
 {
     let manifest = read_manifest(manifests, path, manifest, notes)?;
     if how.count {
-        print_outcomes(alloc, &manifest, how.seed, how.lines, out)
+        print_outcomes(machines, alloc, &manifest, how.seed, how.lines, out)
     } else {
-        match write_trace(alloc, &manifest, how.seed, how.lines, out) {
+        match write_trace(machines, alloc, &manifest, how.seed, how.lines, out) {
             Ok(_) => Ok(()),
             Err(failure) => Err(failure),
         }
@@ -50,7 +52,8 @@ pub(super) fn generate_trace<'a, A: Allocator + Copy, W: Write>(
 }
 
 // Prints how often each call and access of a trace ended in which way.
-fn print_outcomes<A: Allocator + Copy, W: Write>(
+fn print_outcomes<M: Machines, A: Allocator + Copy, W: Write>(
+    machines: &M,
     alloc: A,
     manifest: &Manifest,
     seed: u64,
@@ -59,12 +62,13 @@ fn print_outcomes<A: Allocator + Copy, W: Write>(
 ) -> Result<(), Failure<'static>>
     ensures { IfErr result IsShort }
 {
-    let counts = write_trace(alloc, manifest, seed, lines, &mut io::sink())?;
+    let counts = write_trace(machines, alloc, manifest, seed, lines, &mut io::sink())?;
     print_counts(alloc, &counts, out)
 }
 
 // Writes a trace for the machine of a manifest, and answers what came of it.
-fn write_trace<A: Allocator + Copy, W: Write>(
+fn write_trace<M: Machines, A: Allocator + Copy, W: Write>(
+    machines: &M,
     alloc: A,
     manifest: &Manifest,
     seed: u64,
@@ -74,7 +78,7 @@ fn write_trace<A: Allocator + Copy, W: Write>(
     ensures written { OnOk result (Wrote lines (W.contents out.old) (W.contents out.new)) }
     ensures failed { IfErr result IsShort }
 {
-    match generate(alloc, manifest, seed, lines, out) {
+    match machines.generate(alloc, manifest, seed, lines, out) {
         Ok(counts) => Ok(counts),
         Err(GenerateError::NoMemory) => Err(Failure::NoMemory),
         Err(GenerateError::Write) => Err(Failure::Write),

@@ -4,16 +4,16 @@ ghost use Rattle.std.specs.Prelude.{◌≡◌};
 ghost use Rattle.play_commands.specs.Performed.{Does, ran};
 ghost use Rattle.play_commands.specs.Running.{picture_of};
 
-use super::Files;
-use super::playing::Play;
 use super::running::{Drawing, PLAIN, open};
+use play_files::Files;
 use play_report::{Failure, Notes, read_manifest};
-use play_tasks::Task;
+use play_tasks::{Machines, Play, Task};
 use std::alloc::{Allocator, Global};
 use std::io::{Read, Write};
 
 /// Plays a trace on the machine of the manifest at this path, and prints its page.
-pub(super) fn print_page<'a, A: Allocator + Copy, R: Read + Drop, W: Write, E: Write>(
+pub(super) fn print_page<'a, M: Machines, A: Allocator + Copy, R: Read + Drop, W: Write, E: Write>(
+    machines: &M,
     manifests: Global,
     alloc: A,
     path: &'a str,
@@ -39,5 +39,5 @@ pub(super) fn print_page<'a, A: Allocator + Copy, R: Read + Drop, W: Write, E: W
         task: Task::Paged,
         trace,
     };
-    play.run(&manifest, out, err, &mut notes.guard)
+    machines.play(play, &manifest, out, err, &mut notes.guard)
 }

@@ -4,14 +4,13 @@ ghost use Rattle.std.specs.Prelude.{◌≡◌, false, Some, IfErr, IfOk};
 ghost use Rattle.play_commands.specs.Performed.{Does, is_session, ran};
 ghost use Rattle.play_commands.specs.Running.{compare_of, demo_of, picture_of, record_of, run_of};
 
-use super::Files;
 use super::paging::print_page;
-use super::playing::Play;
 use ffa_model::built_in;
 use play_arguments::{MachineOptions, PictureOptions, TextOptions};
 use play_drawing::Keep;
+use play_files::Files;
 use play_report::{Failure, Notes, read_manifest};
-use play_tasks::{Expected, Task, Trace, form_of};
+use play_tasks::{Expected, Machines, Play, Task, Trace, form_of};
 use std::alloc::{Allocator, Global};
 use std::io::{Read, Write};
 
@@ -72,7 +71,8 @@ pub(super) struct Drawing<'a> {
 }
 
 /// Plays a trace on the machine of the manifest at this path, and prints its text.
-pub(super) fn run<'a, A: Allocator + Copy, R: Read + Drop, W: Write, E: Write>(
+pub(super) fn run<'a, M: Machines, A: Allocator + Copy, R: Read + Drop, W: Write, E: Write>(
+    machines: &M,
     manifests: Global,
     alloc: A,
     path: &'a str,
@@ -100,11 +100,12 @@ pub(super) fn run<'a, A: Allocator + Copy, R: Read + Drop, W: Write, E: Write>(
         task,
         trace,
     };
-    play.run(&manifest, out, err, &mut notes.guard)
+    machines.play(play, &manifest, out, err, &mut notes.guard)
 }
 
 /// Plays a trace on the built-in machine, and prints its text.
-pub(super) fn demo<'a, A: Allocator + Copy, R: Read + Drop, W: Write, E: Write>(
+pub(super) fn demo<'a, M: Machines, A: Allocator + Copy, R: Read + Drop, W: Write, E: Write>(
+    machines: &M,
     alloc: A,
     how: Printing<'a>,
     files: Files<'_, R>,
@@ -125,11 +126,12 @@ pub(super) fn demo<'a, A: Allocator + Copy, R: Read + Drop, W: Write, E: Write>(
         task,
         trace,
     };
-    play.run(&built_in(), out, err, &mut notes.guard)
+    machines.play(play, &built_in(), out, err, &mut notes.guard)
 }
 
 /// Plays a trace on the machine of the manifest at this path, and prints it with the guards of its play.
-pub(super) fn record<'a, A: Allocator + Copy, R: Read + Drop, W: Write, E: Write>(
+pub(super) fn record<'a, M: Machines, A: Allocator + Copy, R: Read + Drop, W: Write, E: Write>(
+    machines: &M,
     manifests: Global,
     alloc: A,
     path: &'a str,
@@ -156,11 +158,12 @@ pub(super) fn record<'a, A: Allocator + Copy, R: Read + Drop, W: Write, E: Write
         task: Task::Recorded,
         trace,
     };
-    play.run(&manifest, out, err, &mut notes.guard)
+    machines.play(play, &manifest, out, err, &mut notes.guard)
 }
 
 /// Compares what a trace prints on the machine of the manifest at this path with a text that is expected.
-pub(super) fn compare<'a, A: Allocator + Copy, R: Read + Drop, W: Write, E: Write>(
+pub(super) fn compare<'a, M: Machines, A: Allocator + Copy, R: Read + Drop, W: Write, E: Write>(
+    machines: &M,
     manifests: Global,
     alloc: A,
     path: &'a str,
@@ -195,12 +198,13 @@ pub(super) fn compare<'a, A: Allocator + Copy, R: Read + Drop, W: Write, E: Writ
         task: Task::Compare { expected, form },
         trace,
     };
-    play.run(&manifest, out, err, &mut notes.guard)
+    machines.play(play, &manifest, out, err, &mut notes.guard)
 }
 
 /// Plays a trace on the machine of the manifest at this path, and prints its picture, or its page where that is asked
 /// for.
-pub(super) fn draw<'a, A: Allocator + Copy, R: Read + Drop, W: Write, E: Write>(
+pub(super) fn draw<'a, M: Machines, A: Allocator + Copy, R: Read + Drop, W: Write, E: Write>(
+    machines: &M,
     manifests: Global,
     alloc: A,
     path: &'a str,
@@ -214,7 +218,9 @@ pub(super) fn draw<'a, A: Allocator + Copy, R: Read + Drop, W: Write, E: Write>(
     ensures quiet { err.new ≡ err.old }
 {
     if how.drawing.page {
-        return print_page(manifests, alloc, path, how, files, out, err, notes);
+        return print_page(
+            machines, manifests, alloc, path, how, files, out, err, notes,
+        );
     }
     let Files {
         manifest,
@@ -232,7 +238,7 @@ pub(super) fn draw<'a, A: Allocator + Copy, R: Read + Drop, W: Write, E: Write>(
         },
         trace,
     };
-    play.run(&manifest, out, err, &mut notes.guard)
+    machines.play(play, &manifest, out, err, &mut notes.guard)
 }
 
 // The trace at this path, with what reads it, if it could be opened.

@@ -8,6 +8,7 @@ use super::{DEMO, FIRST, FIRST_TEXT, KINDS, ROW, RUN, on_kind, performed_once};
 use linked_list_allocator::LocalHeap;
 use play_arguments::Request;
 use play_commands::{Files, perform};
+use play_machines::Booted;
 use std::alloc::Global;
 use std::io;
 use std::io::Read;
@@ -94,7 +95,7 @@ fn is_done(
         expected: None,
         reason: None,
     };
-    let status = perform(alloc, &heap, request, files, &mut out, &mut err);
+    let status = perform(&Booted, alloc, &heap, request, files, &mut out, &mut err);
     assert_eq!(rt; heap.used(), 0);
     if status == 0 {
         assert_eq!(rt; out.as_slice(), text);
@@ -178,7 +179,7 @@ fn assert_refused(
         expected: None,
         reason: None,
     };
-    let status = perform(alloc, &heap, &RUN, files, &mut out, &mut err);
+    let status = perform(&Booted, alloc, &heap, &RUN, files, &mut out, &mut err);
     assert_eq!(rt; status, 1);
     assert_eq!(rt; err.as_slice(), message.as_bytes());
     assert!(rt; out.is_empty());

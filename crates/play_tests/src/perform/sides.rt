@@ -5,6 +5,7 @@ use super::{Ended, FIRST, MACHINE, ROW, RUN, TEXT, performed_once};
 use linked_list_allocator::LocalHeap;
 use play_arguments::Request;
 use play_commands::{Files, perform};
+use play_machines::Booted;
 use std::alloc::Global;
 use std::io::{self, Read};
 use std::process::Abort;
@@ -64,7 +65,7 @@ fn compared(alloc: Global, request: &Request<'_>, expected: &[u8], reads: usize)
         }),
         reason: None,
     };
-    let status = perform(alloc, alloc, request, files, &mut out, &mut err);
+    let status = perform(&Booted, alloc, alloc, request, files, &mut out, &mut err);
     Ended { status, out, err }
 }
 
@@ -100,7 +101,7 @@ fn is_compared(rt: &impl Abort, alloc: Global, text: &[u8], room: usize) -> Resu
         expected: Some(text),
         reason: None,
     };
-    let status = perform(alloc, &heap, &COMPARE, files, &mut out, &mut err);
+    let status = perform(&Booted, alloc, &heap, &COMPARE, files, &mut out, &mut err);
     assert_eq!(rt; heap.used(), 0);
     assert!(rt; out.is_empty());
     if status == 0 {
@@ -145,7 +146,15 @@ fn ends_a_session_where_it_cannot_read(rt: HostRuntime) {
         expected: None,
         reason: None,
     };
-    let status = perform(rt.alloc(), rt.alloc(), &SESSION, files, &mut out, &mut err);
+    let status = perform(
+        &Booted,
+        rt.alloc(),
+        rt.alloc(),
+        &SESSION,
+        files,
+        &mut out,
+        &mut err,
+    );
     let told = "ffaplay: line 1, column 6: a word is missing\nffaplay: cannot read row.trace\n";
     ended(&rt, &Ended { status, out, err }, (3, b"data 00\n", told));
 }

@@ -18,8 +18,8 @@ returns-in_err-manifest-clause-does g c =
 
 pub returns-clause-does : goal.returns-clause-does
 returns-clause-does g c =
-    let streams = passed (g.R.Read.remaining c.in_ok-trace.trace.reader) (g.W.Write.contents c.args.out.now) (g.W.Write.contents c.run.new.out) in
+    let streams = passed (g.R.Read.remaining c.in_ok-trace.trace.reader) (g.W.Write.contents c.args.out.now) (g.W.Write.contents c.play.new.out) in
     let expected : Expected g.row.R.Denot = record { path = c.args.how.expected; reader = c.in-Some.reader } in
-    let plays = rw c.form_of-form.ensures at c.run.ensures.played in
+    let plays = rw c.form_of-form.ensures at c.play.ensures.played in
     rw (c.in_ok-trace.ensures.opened, c.in-Some.is)
-    (compare_does g.R.Read.remaining c.args.path (bytes_of c.args.files.manifest) streams (parts_of c.in_ok-manifest.manifest) c.in_ok-manifest.ensures.described c.args.how expected c.run.result plays)
+    (compare_does g.R.Read.remaining c.args.path (bytes_of c.args.files.manifest) streams (parts_of c.in_ok-manifest.manifest) c.in_ok-manifest.ensures.described c.args.how expected c.play.result plays)

@@ -1,0 +1,35 @@
+// SPDX-License-Identifier: MIT OR Apache-2.0
+//! What does what the words ask for.
+use play_arguments::Request;
+use std::alloc::Global;
+use std::fmt::Display;
+use std::io::{ErrorKind, Read, Write};
+
+/// What was read of the files that a command names. What it doesn't name is left alone.
+#[derive(Drop)]
+pub struct Files<'a, R> {
+    /// The bytes of the manifest's file, or `None` where it can't be read.
+    pub manifest: Option<&'a [u8]>,
+    /// What reads the trace's file, or `None` where it can't be opened.
+    pub trace: Option<R>,
+    /// What reads the file of the expected text, or `None` where it can't be opened.
+    pub expected: Option<R>,
+    /// Why the first of these that can't be read or opened can't be.
+    pub reason: Option<ErrorKind>,
+}
+
+/// What does what the words ask for, and answers the status with which the program ends.
+pub trait Commands {
+    /// Does what was asked for.
+    fn perform<R: Read + Drop, W: Write, E: Write>(
+        &self,
+        alloc: Global,
+        request: &Request<'_>,
+        files: Files<'_, R>,
+        out: &mut W,
+        err: &mut E,
+    ) -> u8;
+
+    /// Writes the help or the version that was asked for.
+    fn show<T: Display, W: Write, E: Write>(&self, help: &T, out: &mut W, err: &mut E) -> u8;
+}

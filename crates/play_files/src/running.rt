@@ -1,0 +1,147 @@
+// SPDX-License-Identifier: MIT OR Apache-2.0
+//! The program: its words are read, its files opened, and both handed on.
+use crate::commands::{Commands, Files};
+use crate::input::Input;
+use play_arguments::{ErrorKind, Request, STANDARD_INPUT, request};
+use std::alloc::AllocError;
+use std::env::Env;
+use std::io::{BufWriter, Read, Write};
+use std::{env, fs, io};
+
+/// How many bytes of output are gathered before they are written.
+const OUTPUT: usize = 65536;
+
+/// Runs the program with these standard streams, and answers the status with which it ends.
+pub fn run<
+    H: AllocGlobal + Env + fs::Files + Print + Eprint,
+    S: Read + Copy + Drop,
+    W: Write + Drop,
+    E: Write,
+    C: Commands,
+>(rt: &H, input: S, out: W, err: &mut E, commands: &C) -> u8 {
+    match status(rt, input, out, err, commands) {
+        Ok(status) => status,
+        Err(_) => no_memory(rt),
+    }
+}
+
+// Where not even the message can be written, the status alone tells.
+fn no_memory<H: Eprint>(rt: &H) -> u8 {
+    let _ = eprintln!(rt; "ffaplay: no memory");
+    3
+}
+
+// Reads the command line, and does what it asks for.
+fn status<
+    H: AllocGlobal + Env + fs::Files + Print + Eprint,
+    S: Read + Copy + Drop,
+    W: Write + Drop,
+    E: Write,
+    C: Commands,
+>(rt: &H, input: S, out: W, err: &mut E, commands: &C) -> Result<u8, AllocError> {
+    let alloc = rt.alloc();
+    let args = match env::args(rt) {
+        Ok(args) => args,
+        Err(error) if error.kind() == io::ErrorKind::OutOfMemory => return Err(AllocError),
+        Err(_) => {
+            let _ = eprintln!(rt; "ffaplay: a word is not UTF-8");
+            return Ok(64);
+        }
+    };
+    let args: Vec<String> = args.collect(alloc)?;
+    let words: Vec<&str> = args.iter().map(|word| word.as_str()).collect(alloc)?;
+    match request(alloc, words.as_slice()) {
+        Ok(request) => carry_out(rt, input, out, err, commands, &request),
+        Err(error) => match error.kind() {
+            ErrorKind::OutOfMemory => Err(AllocError),
+            ErrorKind::DisplayHelp | ErrorKind::DisplayVersion => {
+                let mut out = out;
+                Ok(commands.show(&error, &mut out, err))
+            }
+            _ => {
+                let _ = error.print(rt);
+                Ok(64)
+            }
+        },
+    }
+}
+
+// Opens the files, and does what was asked for.
+fn carry_out<
+    H: AllocGlobal + fs::Files,
+    S: Read + Copy + Drop,
+    W: Write + Drop,
+    E: Write,
+    C: Commands,
+>(
+    rt: &H,
+    input: S,
+    out: W,
+    err: &mut E,
+    commands: &C,
+    request: &Request<'_>,
+) -> Result<u8, AllocError> {
+    let alloc = rt.alloc();
+    let mut reason = None;
+    let manifest = unless_no_memory(read_whole(rt, input, request.manifest()), &mut reason)?;
+    let trace = unless_no_memory(open(rt, input, request.trace()), &mut reason)?;
+    let expected = unless_no_memory(open(rt, input, request.expected()), &mut reason)?;
+    let files = Files {
+        manifest: manifest.as_ref().map(|bytes| bytes.as_slice()),
+        trace,
+        expected,
+        reason,
+    };
+    // With no room nothing is gathered: each write goes to standard output at once.
+    let room = if request.answers_at_once() { 0 } else { OUTPUT };
+    let mut out = BufWriter::with_capacity(alloc, room, out).map_err(|_| AllocError)?;
+    Ok(commands.perform(alloc, request, files, &mut out, err))
+}
+
+// What reads the file at a path, where one is named.
+fn open<H: fs::Files, S: Read + Drop>(
+    rt: &H,
+    input: S,
+    path: Option<&str>,
+) -> io::Result<Option<Input<H::File, S>>> {
+    match path {
+        None => Ok(None),
+        Some(STANDARD_INPUT) => Ok(Some(Input::Standard(input))),
+        Some(path) => Ok(Some(Input::File(fs::open(rt, path)?))),
+    }
+}
+
+// The bytes of the file at a path, where one is named.
+fn read_whole<H: AllocGlobal + fs::Files, S: Read + Drop>(
+    rt: &H,
+    input: S,
+    path: Option<&str>,
+) -> io::Result<Option<Vec<u8>>> {
+    match path {
+        None => Ok(None),
+        Some(STANDARD_INPUT) => {
+            let mut input = input;
+            let mut bytes = Vec::new(rt.alloc());
+            input.read_to_end(&mut bytes)?;
+            Ok(Some(bytes))
+        }
+        Some(path) => Ok(Some(fs::read(rt, path)?)),
+    }
+}
+
+// What was read, or nothing where it can't be read. The first reason for that stays.
+fn unless_no_memory<T>(
+    read: io::Result<Option<T>>,
+    reason: &mut Option<io::ErrorKind>,
+) -> Result<Option<T>, AllocError> {
+    match read {
+        Ok(value) => Ok(value),
+        Err(error) if error.kind() == io::ErrorKind::OutOfMemory => Err(AllocError),
+        Err(error) => {
+            if reason.is_none() {
+                *reason = Some(error.kind());
+            }
+            Ok(None)
+        }
+    }
+}

@@ -1,0 +1,51 @@
+// SPDX-License-Identifier: MIT OR Apache-2.0
+//! The machines of `ffa_spmc` for the program: they are booted with the RAM and the cache that are asked for.
+#![tactic(auto)]
+
+mod playing;
+
+use ffa_model::Manifest;
+use ffa_physmem::FlatRam;
+use ffa_spmc::{Machine, Storage};
+use ffa_tlb::NoTlb;
+use play_generator::{Counts, GenerateError, generate};
+use play_report::Failure;
+use play_tasks::{Machines, Play};
+use std::alloc::Allocator;
+use std::io::{Read, Write};
+
+/// What boots the machines of `ffa_spmc`.
+#[derive(Drop)]
+pub struct Booted;
+
+impl Machines for Booted {
+    fn play<'a, A: Allocator + Copy, R: Read + Drop, W: Write, E: Write>(
+        &self,
+        play: Play<'a, A, R>,
+        manifest: &Manifest,
+        out: &mut W,
+        err: &mut E,
+        told: &mut Vec<u8, A>,
+    ) -> Result<(), Failure<'a>> {
+        playing::play(play, manifest, out, err, told)
+    }
+
+    fn generate<A: Allocator + Copy, W: Write>(
+        &self,
+        alloc: A,
+        manifest: &Manifest,
+        seed: u64,
+        lines: u64,
+        out: &mut W,
+    ) -> Result<Counts, GenerateError> {
+        let (base, pages) = (manifest.ram_base, 512 * manifest.ram_blocks);
+        let Ok(ram) = FlatRam::new_in(alloc, base, pages) else {
+            return Err(GenerateError::NoMemory);
+        };
+        let Ok(storage) = Storage::allocate_for(alloc, manifest) else {
+            return Err(GenerateError::NoMemory);
+        };
+        let machine = Machine::boot_cleared_in(storage, manifest, ram, NoTlb);
+        generate(alloc, manifest, machine, seed, lines, out)
+    }
+}

@@ -1,0 +1,53 @@
+// SPDX-License-Identifier: MIT OR Apache-2.0
+//! What boots the machine of a manifest, and has something done on it.
+ghost use Rattle.std.specs.Prelude.{◌≡◌, false, OnOk};
+ghost use Rattle.play_transcript.specs.Traces.{Wrote};
+ghost use Rattle.play_tasks.specs.Plays.{Plays, streams_of, talks};
+ghost use Rattle.play_tasks.specs.Starts.{start_of};
+
+use crate::task::{Task, Trace};
+use ffa_model::Manifest;
+use play_arguments::MachineOptions;
+use play_report::Failure;
+use play_transcript::{Counts, GenerateError};
+use std::alloc::Allocator;
+use std::io::{Read, Write};
+
+/// A play of a trace.
+#[derive(Drop)]
+pub struct Play<'a, A, R> {
+    /// The memory of the machine, and of what plays on it.
+    pub alloc: A,
+    /// How the machine is built.
+    pub machine: MachineOptions,
+    pub task: Task<'a, R>,
+    pub trace: Trace<'a, R>,
+}
+
+/// What boots the machine of a manifest, and has something done on it.
+pub trait Machines {
+    /// Plays a trace on the machine of this manifest, which is built as is asked for.
+    fn play<'a, A: Allocator + Copy, R: Read + Drop, W: Write, E: Write>(
+        &self,
+        play: Play<'a, A, R>,
+        manifest: &Manifest,
+        out: &mut W,
+        err: &mut E,
+        told: &mut Vec<u8, A>,
+    ) -> Result<(), Failure<'a>>
+        ensures played { let streams = streams_of R.remaining play.entry.trace.reader W.contents out.old out.new in
+            Plays R.remaining play.entry.task (start_of manifest.now) streams result }
+        ensures quiet { talks play.entry.task ≡ false → err.new ≡ err.old };
+
+    /// Writes so many lines of a trace for the machine of this manifest, and answers how often what came. The same seed
+    /// gives the same lines.
+    fn generate<A: Allocator + Copy, W: Write>(
+        &self,
+        alloc: A,
+        manifest: &Manifest,
+        seed: u64,
+        lines: u64,
+        out: &mut W,
+    ) -> Result<Counts, GenerateError>
+        ensures { OnOk result (Wrote lines (W.contents out.old) (W.contents out.new)) };
+}
