@@ -15,8 +15,9 @@ TOP = os.path.dirname(os.path.dirname(os.path.realpath(__file__)))
 sys.path.insert(0, f"{TOP}/bench")
 import toolchain  # noqa: E402
 
-# Seconds of processor time of the proofs of tests, with those of their crates, as in docs/GATE.md.
-OF_TESTS = {"ffa_machine_tests": 1140, "play_tests": 900, "ffa_tests": 720}
+# Seconds of processor time of the proofs of tests, with those of their crates: those of a run of 2026-11-26, by how many of their
+# functions are left since command lines and traces are tables and rows.
+OF_TESTS = {"ffa_machine_tests": 1000, "play_tests": 440, "ffa_tests": 600}
 
 
 def crates():
