@@ -4,6 +4,7 @@ pub mod ColumnSteps
 pub mod Kept
 pub mod RowsAmong
 pub mod RowsMore
+pub mod RowsSeen
 pub mod RunsAlike
 pub mod RunsFound
 pub mod Told

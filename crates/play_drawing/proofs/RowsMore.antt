@@ -1,13 +1,16 @@
 -- SPDX-License-Identifier: MIT OR Apache-2.0
 -- The rows of one line more.
-use Rattle.std.proofs.Common.{Bool, ◌≡◌, ◌∙◌, ◌+◌, ℕ, List, [], ◌∷◌, ◌++◌, length, inl, inr, sym, ap, subst}
+use Rattle.std.proofs.Common.{Bool, false, ◌≡◌, ◌∙◌, ◌+◌, ℕ, List, [], ◌∷◌, ◌++◌, length, Some, inl, inr, refl, sym, ap, subst}
+use Rattle.std.specs.Option.{option_map_or}
 use Rattle.ffa_model.specs.declared.certificate.CertRun.{CertRun}
 use Rattle.ffa_model.specs.Certificate.{certificate}
 use Rattle.ffa_model.specs.State.{State}
+use Rattle.play_syntax.specs.Lines.{outcome_of}
+use Rattle.play_syntax.specs.TraceLines.{Line, line_of}
 use Rattle.play_syntax.specs.TraceText.{after_all}
 use Rattle.play_drawing.specs.declared.row.Keep.{Keep}
 use Rattle.play_drawing.specs.declared.row.Row.{Row}
-use Rattle.play_drawing.specs.Effects.{is_refused}
+use Rattle.play_drawing.specs.Effects.{is_refused, is_refused_call}
 use Rattle.play_drawing.specs.Rows.{AreRows, HasRow, HasRowBehind, PutsRow, with_row, without}
 
 module _ (keep : Keep) (start : State) (lines : List (List ℕ)) (line : List ℕ) (mid now : State) (n : ℕ) (refused : Bool) (before behind : List CertRun)
@@ -51,3 +54,11 @@ module _ (keep : Keep) (start : State) (lines : List (List ℕ)) (line : List �
       }))
   rows_more runner who old new are (inr (none, put)) =
       subst (AreRows keep start (lines ++ line ∷ [])) (sym put) (without lines old line are (λ has. none (behind_has has)))
+
+-- the rows of one line more, by what was seen of it
+pub rows_line : {A : Type 0} (keep : Keep) (start mid now : State) (lines : List (List ℕ)) (bytes : List ℕ) (n : ℕ) (line : Line) → mid ≡ after_all start lines → now ≡ after_all start (lines ++ bytes ∷ [])
+    → n ≡ 1 + length lines → Some line ≡ line_of bytes → (old new : List (Row A)) → AreRows keep start lines old
+    → PutsRow keep n bytes now.runner (is_refused_call line (outcome_of mid line)) (certificate mid) (certificate now) old new → AreRows keep start (lines ++ bytes ∷ []) new
+rows_line keep start mid now lines bytes n line at_mid at_now count read old new are put =
+    rows_more keep start lines bytes mid now n (is_refused_call line (outcome_of mid line)) (certificate mid) (certificate now) at_mid at_now count
+    (ap (λ o. option_map_or (λ l. is_refused_call l (outcome_of mid l)) o false) read) refl refl now.runner refl old new are put

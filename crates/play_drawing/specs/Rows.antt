@@ -1,6 +1,6 @@
 -- SPDX-License-Identifier: MIT OR Apache-2.0
 -- Rows: a machine behind lines of a trace.
-use Rattle.std.specs.Prelude.{◌≡◌, ◌≢◌, ◌≤◌, ◌⊎◌, ℕ, ◌+◌, ◌%◌, Bool, false, IsTrue, List, [], ◌∷◌, ◌++◌, length, take}
+use Rattle.std.specs.Prelude.{◌≡◌, ◌≢◌, ◌≤◌, ◌⊎◌, ℕ, ◌+◌, ◌%◌, Bool, false, IsTrue, List, [], ◌∷◌, ◌++◌, length, take, ⊤}
 use Rattle.ffa_model.specs.declared.certificate.CertRun.{CertRun}
 use Rattle.ffa_model.specs.Certificate.{certificate}
 use Rattle.ffa_model.specs.State.{State}
@@ -28,6 +28,11 @@ IsRow n bytes refused s = IsRowOf n bytes s.runner refused (certificate s)
 abbrev pub IsPaced : Pace → ℕ → List CertRun → List CertRun → Type 0
 IsPaced Changes n before behind = before ≢ behind
 IsPaced (Every m) n before behind = n % m ≡ 0
+
+-- where rows are due by the certificate, these runs are it
+abbrev pub IsLatest : Pace → List CertRun → State → Type 0
+IsLatest Changes runs s = runs ≡ certificate s
+IsLatest (Every m) runs s = ⊤
 
 -- the line of this number is to have a row: one is due, or its call was refused and such calls have one
 abbrev pub HasRow : Keep → ℕ → Bool → List CertRun → List CertRun → Type 0
@@ -61,6 +66,10 @@ pub data AreRows {A : Type 0} (keep : Keep) (start : State) : List (List ℕ) �
       (lines : List (List ℕ)) (rows : List (Row A)) (line : List ℕ) → AreRows keep start lines rows
       → (HasRowBehind keep start lines line → ⊥)
       → AreRows keep start (lines ++ line ∷ []) rows
+
+-- the rows before a line is done, whichever lines have one
+abbrev pub AreFirst : {A : Type 0} → State → List (Row A) → Type 0
+AreFirst start rows = (keep : Keep) → AreRows keep start [] rows
 
 -- the state behind the line of a number, of lines that are done from a state on; that of number 0 is the beginning
 abbrev pub state_behind : State → List (List ℕ) → ℕ → State

@@ -4,8 +4,7 @@ ghost use Rattle.std.specs.Prelude.{◌≡◌, [], ◌∷◌, ◌++◌, IfErr, I
 ghost use Rattle.ffa_model.specs.Certificate.{certificate};
 ghost use Rattle.play_syntax.specs.Lines.{meant, outcome_of};
 ghost use Rattle.play_syntax.specs.TraceText.{line_after};
-ghost use Rattle.play_drawing.specs.Rows.{PutsRow};
-ghost use Rattle.play_picture.specs.Watching.{AreFirst};
+ghost use Rattle.play_drawing.specs.Rows.{AreFirst, PutsRow};
 ghost use Rattle.play_page.specs.Entries.{changes};
 ghost use Rattle.play_page.specs.Paging.{Paging};
 ghost use Rattle.play_page.specs.Steps.{PutsEntry, SeesRow, TellsEntry};

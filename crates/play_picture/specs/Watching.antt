@@ -2,7 +2,6 @@
 -- What watching a trace leaves.
 use Rattle.std.specs.Prelude.{◌≡◌, ◌<◌, ◌⊎◌, ℕ, List, [], length, Option, Result, Vec, Ok, Err, ⊤}
 use Rattle.std.specs.Io.KnownBytes.{IsAtEnd}
-use Rattle.ffa_model.specs.declared.certificate.CertRun.{CertRun}
 use Rattle.ffa_model.specs.Certificate.{certificate}
 use Rattle.ffa_model.specs.State.{State}
 use Rattle.play_syntax.specs.Lines.{outcome_of}
@@ -14,23 +13,12 @@ use Rattle.play_forms.specs.Followed.{EndsBadly, Followed}
 use Rattle.play_forms.specs.Forms.{plain}
 use Rattle.play_drawing.specs.declared.column.Column.{Column}
 use Rattle.play_drawing.specs.declared.row.Keep.{Keep}
-use Rattle.play_drawing.specs.declared.row.Pace.{Pace}
-use Rattle.play_drawing.specs.declared.row.Pace.TheVariants.{Changes, Every}
 use Rattle.play_drawing.specs.declared.row.Row.{Row}
 use Rattle.play_drawing.specs.declared.size.TooLarge.{TooLarge}
 use Rattle.play_drawing.specs.Columns.{AreColumns}
 use Rattle.play_drawing.specs.Effects.{is_refused_call}
 use Rattle.play_drawing.specs.Rows.{AreRows, PutsRow}
 use Rattle.play_drawing.specs.Sizes.{most_rows}
-
--- the rows before a line is done, whichever lines have one
-abbrev pub AreFirst : {A : Type 0} → State → List (Row A) → Type 0
-AreFirst start rows = (keep : Keep) → AreRows keep start [] rows
-
--- where rows are due by the certificate, these runs are it
-abbrev pub IsLatest : Pace → List CertRun → State → Type 0
-IsLatest Changes runs s = runs ≡ certificate s
-IsLatest (Every m) runs s = ⊤
 
 -- the line of a number was done, which has these bytes, and its row was put behind others, where it is to have one
 abbrev pub SeesLine : {A : Type 0} → Keep → ℕ → Line → List ℕ → State → State → List (Row A) → List (Row A) → Type 0

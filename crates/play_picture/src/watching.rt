@@ -4,8 +4,8 @@ ghost use Rattle.std.specs.Prelude.{◌≡◌, ◌⊎◌, [], ◌∷◌, IfErr, 
 ghost use Rattle.ffa_model.specs.Certificate.{certificate};
 ghost use Rattle.play_syntax.specs.TraceText.{line_after};
 ghost use Rattle.play_syntax.specs.Lines.{meant, outcome_of};
-ghost use Rattle.play_drawing.specs.Rows.{PutsRow};
-ghost use Rattle.play_picture.specs.Watching.{AreFirst, IsLatest, SeesLine, Watched};
+ghost use Rattle.play_drawing.specs.Rows.{AreFirst, IsLatest, PutsRow};
+ghost use Rattle.play_picture.specs.Watching.{SeesLine, Watched};
 
 use ffa_model::{CertRun, Outcome};
 use ffa_playable::Playable;

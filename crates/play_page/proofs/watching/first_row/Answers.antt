@@ -1,7 +1,7 @@
 -- SPDX-License-Identifier: MIT OR Apache-2.0
 use Rattle.std.proofs.Common.{◌∙◌, ap}
 use Rattle.ffa_model.specs.State.{State}
-use Rattle.play_picture.proofs.Seen.{row_alone}
+use Rattle.play_drawing.proofs.RowsSeen.{row_alone}
 use Rattle.play_page.proofs.watching.first_row.Goals as goal
 
 pub returns-in-Ok-clause-rows : goal.returns-in-Ok-clause-rows

@@ -1,7 +1,7 @@
 -- SPDX-License-Identifier: MIT OR Apache-2.0
 use Rattle.std.proofs.Common.{◌∙◌, ap, refl}
 use Rattle.ffa_model.specs.State.{State}
-use Rattle.play_picture.proofs.Seen.{same_row}
+use Rattle.play_drawing.proofs.RowsSeen.{same_row}
 use Rattle.play_page.specs.Entries.{changes}
 use Rattle.play_page.proofs.watching.see.Goals as goal
 

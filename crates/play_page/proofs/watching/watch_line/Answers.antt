@@ -1,10 +1,11 @@
 -- SPDX-License-Identifier: MIT OR Apache-2.0
 use Rattle.std.proofs.Common.{◌∙◌, inr, refl, sym, ap, subst}
+use Rattle.std.proofs.lemmas.Result.{on_ok_weaker}
 use Rattle.ffa_model.specs.Certificate.{certificate}
 use Rattle.play_syntax.specs.Lines.{meant}
 use Rattle.play_drawing.specs.Effects.{is_refused_call}
 use Rattle.play_drawing.specs.Rows.{HasRow}
-use Rattle.play_picture.proofs.Seen.{by_latest, on_ok}
+use Rattle.play_drawing.proofs.RowsSeen.{by_latest}
 use Rattle.play_page.specs.Entries.{changes}
 use Rattle.play_page.specs.Steps.{TellsEntry}
 use Rattle.play_page.proofs.Seen.{kept_entries}
@@ -15,7 +16,7 @@ returns-then-may_have_row-clause-row g c =
     let mid = c.args.player.now.state in
     let now = c.tell.new.player.state in
     let same = c.is_refused_call-refused.ensures ∙ ap (is_refused_call (meant c.args.line.now)) c.in_ok-outcome.ensures.outcome in
-    on_ok c.see.result
+    on_ok_weaker c.see.result
     (λ put. by_latest changes c.args.number c.args.bytes.now now.runner mid (certificate now) c.args.seen.now.rows.items c.see.new.seen.rows.items
     c.is_refused_call-refused.result _ c.args.seen.now.latest.items same c.requires put)
     c.see.ensures.row

@@ -5,7 +5,7 @@ use Rattle.play_syntax.specs.Lines.{meant}
 use Rattle.play_forms.specs.Forms.{line_text_in, plain}
 use Rattle.play_forms.specs.Reading.{TakesNext}
 use Rattle.play_forms.proofs.Follows.{followed_more, followed_none}
-use Rattle.play_picture.proofs.Watches.{rows_line}
+use Rattle.play_drawing.proofs.RowsMore.{rows_line}
 use Rattle.play_page.specs.Entries.{AreEntries, changes, none}
 use Rattle.play_page.specs.Steps.{SeesRow, TellsEntry}
 use Rattle.play_page.proofs.Seen.{entries_more}

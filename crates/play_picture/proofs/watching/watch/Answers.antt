@@ -9,8 +9,10 @@ use Rattle.play_forms.proofs.Follows.{followed_more, followed_none}
 use Rattle.play_drawing.specs.Rows.{PutsRow}
 use Rattle.play_drawing.specs.Effects.{is_refused_call}
 use Rattle.play_drawing.specs.Sizes.{most_rows}
-use Rattle.play_picture.proofs.Seen.{is_latest, made_anew, one_fits, rows_few}
-use Rattle.play_picture.proofs.Watches.{rows_line, untaken_watched}
+use Rattle.play_drawing.proofs.RowsMore.{rows_line}
+use Rattle.play_drawing.proofs.RowsSeen.{is_latest}
+use Rattle.play_picture.proofs.Seen.{made_anew, one_fits, rows_few}
+use Rattle.play_picture.proofs.Watches.{untaken_watched}
 use Rattle.play_picture.proofs.watching.watch.Goals as goal
 
 pub loop-seen-init : goal.loop-seen-init

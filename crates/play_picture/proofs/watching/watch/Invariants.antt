@@ -2,9 +2,8 @@
 use Rattle.std.proofs.Common.{◌≡◌, ◌≤◌, ◌+◌, ◌-◌, ◌^◌, ℕ, List, length}
 use Rattle.play_forms.specs.Followed.{Followed}
 use Rattle.play_forms.specs.Forms.{plain}
-use Rattle.play_drawing.specs.Rows.{AreRows}
+use Rattle.play_drawing.specs.Rows.{AreRows, IsLatest}
 use Rattle.play_drawing.specs.Sizes.{most_rows}
-use Rattle.play_picture.specs.Watching.{IsLatest}
 use Rattle.play_picture.proofs.watching.watch.Given as goal
 
 -- the lines so far and their rows

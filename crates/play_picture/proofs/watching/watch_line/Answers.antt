@@ -1,10 +1,11 @@
 -- SPDX-License-Identifier: MIT OR Apache-2.0
 use Rattle.std.proofs.Common.{◌∙◌, inr, refl, sym, ap, subst}
+use Rattle.std.proofs.lemmas.Result.{on_ok_weaker}
 use Rattle.ffa_model.specs.Certificate.{certificate}
 use Rattle.play_syntax.specs.Lines.{meant, outcome_of}
 use Rattle.play_drawing.specs.Effects.{is_refused_call}
 use Rattle.play_drawing.specs.Rows.{HasRow}
-use Rattle.play_picture.proofs.Seen.{by_latest, is_latest, on_ok, still_latest}
+use Rattle.play_drawing.proofs.RowsSeen.{by_latest, is_latest, still_latest}
 use Rattle.play_picture.proofs.watching.watch_line.Goals as goal
 
 pub returns-then-may_have_row-clause-seen : goal.returns-then-may_have_row-clause-seen
@@ -12,7 +13,7 @@ returns-then-may_have_row-clause-seen g c =
     let mid = c.args.player.now.state in
     let now = c.follow.new.player.state in
     let same = c.is_refused_call-refused.ensures ∙ ap (is_refused_call (meant c.args.line.now)) c.in_ok-outcome.ensures.outcome in
-    on_ok c.see.result
+    on_ok_weaker c.see.result
     (λ put. (
       c.in_ok-outcome.ensures.state,
       by_latest c.args.keep c.args.number c.args.bytes.now now.runner mid (certificate now) c.args.seen.now.rows.items c.see.new.seen.rows.items
@@ -22,7 +23,7 @@ returns-then-may_have_row-clause-seen g c =
 
 pub returns-then-may_have_row-clause-latest : goal.returns-then-may_have_row-clause-latest
 returns-then-may_have_row-clause-latest g c =
-    on_ok c.see.result (is_latest c.args.keep.pace c.see.new.seen.latest.items c.follow.new.player.state) c.see.ensures.latest
+    on_ok_weaker c.see.result (is_latest c.args.keep.pace c.see.new.seen.latest.items c.follow.new.player.state) c.see.ensures.latest
 
 pub returns-else-may_have_row-clause-seen : goal.returns-else-may_have_row-clause-seen
 returns-else-may_have_row-clause-seen g c =

@@ -1,8 +1,8 @@
 -- SPDX-License-Identifier: MIT OR Apache-2.0
 use Rattle.std.proofs.Common.{None, Ok, Some, ap, subst, ◌∙◌, ◌++◌}
+use Rattle.std.proofs.lemmas.Result.{on_ok_weaker}
 use Rattle.std.specs.Io.Buffered.{reader_remaining}
 use Rattle.play_forms.specs.Guards.{GuardedIn}
-use Rattle.play_picture.proofs.Seen.{on_ok}
 use Rattle.play_report.specs.Guarded.{near_text}
 use Rattle.play_tasks.specs.Plays.{IsUnmet, TellsGuards}
 use Rattle.play_tasks.proofs.Plays.{breach_told, guarded_told, guarded_unmet, passed}
@@ -22,7 +22,7 @@ returns-in-Ok-None-clause-told g c =
     let guarded = rw c.in-Ok-None.is at c.play_guarded-played.ensures in
     let whole : GuardedIn c.args.form start now held holds had line found met near (Ok None) = subst (λ o. GuardedIn c.args.form start now held holds had line found met near (Ok o)) (rw c.in-Ok-None.is at c.in-Ok-None.field-0-is) guarded in
     let told_near = c.in_ok-tell_near.ensures.written ∙ ap (λ ns. c.args.told.now.items ++ near_text ns) c.deref.ensures.value in
-    on_ok c.tell_met.result
+    on_ok_weaker c.tell_met.result
     (λ tells. subst (λ had. TellsGuards had c.args.told.now.items c.tell_met.new.told.items) c.in_ok-reader.ensures.unread
     (guarded_told c.args.form start now held holds had line found met near c.args.told.now.items c.tell_near.new.told.items c.tell_met.new.told.items whole told_near tells))
     c.tell_met.ensures.written
