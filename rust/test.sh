@@ -8,8 +8,8 @@
 # measures operations, from Rust and from C.
 #
 # ARCHIVES is a folder with ready archives, <target>/libgorseplumb.a, FFAPLAY the program: what isn't given is proved and
-# built where that isn't done, as it then says. The cargo on the path is taken, and no network. Miri, which would look at each unsafe block, isn't among Debian's packages, and calls nothing
-# foreign: valgrind takes its place.
+# built where that isn't done, as it then says. The cargo on the path is taken, and no network. Miri, which would look at
+# each unsafe block, isn't among Debian's packages, and calls nothing foreign: valgrind takes its place.
 set -euo pipefail
 here=$(cd "$(dirname "${BASH_SOURCE[0]}")" && pwd)
 top=$(dirname "$here")
