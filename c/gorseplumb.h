@@ -21,6 +21,8 @@
  * - One call at a time on a machine, a list, a slot or a span: no other call may be on its way with it, on no processor
  *   and in no signal or interrupt handler, and no two questions either.
  * - Memory that is lent is nobody else's until it is taken back: C neither reads nor writes it, through any mapping.
+ *   Endpoints that a processor runs do, each within the access that the machine gives it; what they may write while a
+ *   call is on its way, and what of this no proof speaks of, is in docs/EMBEDDING.md.
  */
 #ifndef GORSEPLUMB_H
 #define GORSEPLUMB_H
@@ -556,9 +558,11 @@ struct gorseplumb_reason {
     uint64_t size;        /* GORSEPLUMB_ABOUT_FIELD: how many bytes it has */
 };
 
-/* Why an operation of the endpoint that runs would be refused now, or was refused just before, since a refused operation
- * changes nothing: true, and `reason` says it. False: it would be done, or there is no machine, or the size is none of
- * 1, 2, 4 and 8; `reason` stays. These are questions too: nothing else changes. */
+/* Why an operation of the endpoint that runs would be refused now: true, and `reason` says it. False: it would be done, or
+ * there is no machine, or the size is none of 1, 2, 4 and 8; `reason` stays. These are questions too: nothing else
+ * changes. A refused operation changes nothing, so asked just behind it they say why it was refused; in RAM that is lent
+ * they do where nobody has written to the runner's TX since that call began, and while somebody writes there they
+ * promise nothing, since they read it where it lies. */
 bool gorseplumb_why_call(const struct gorseplumb_machine *machine, const struct gorseplumb_registers *registers,
                          struct gorseplumb_reason *reason);
 bool gorseplumb_why_load(const struct gorseplumb_machine *machine, uint64_t address, uint32_t size,
