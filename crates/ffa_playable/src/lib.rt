@@ -12,7 +12,7 @@ ghost use Rattle.ffa_model.specs.Ram.{word_of};
 ghost use Rattle.ffa_model.specs.State.{Page, State, owner_of, page_at};
 ghost use Rattle.ffa_model.specs.Step.{step};
 ghost use Rattle.ffa_model.specs.Why.{outcome_of, why};
-ghost use Rattle.ffa_mend.specs.Mend.{mend};
+ghost use Rattle.ffa_mend.specs.Mend.{mend_why};
 
 use ffa_mend::Mend;
 use ffa_model::{Address, CertRun, EndpointId, Op, Outcome, PageNo, Rights, Why};
@@ -35,9 +35,10 @@ pub trait Playable: Drop {
         ensures outcome { IfSome result (λ reason.
             (step (state self.now) op.now).outcome ≡ outcome_of (state self.now) reason) };
 
-    /// What is to be mended where an operation of the runner is refused, as far as the machine knows it. It changes nothing.
-    fn mend(&self, op: &Op) -> Option<Mend>
-        ensures { result ≡ mend (state self.now) op.now };
+    /// What is to be mended where an operation of the runner is refused for this reason, as far as the machine knows it.
+    /// It changes nothing.
+    fn mend(&self, op: &Op, why: Why) -> Option<Mend>
+        ensures { result ≡ mend_why (state self.now) op.now why };
 
     /// The endpoint that runs.
     fn runner(&self) -> EndpointId

@@ -20,8 +20,8 @@ impl<M: PhysMem + Drop, T: Translations + Drop, S: Store> Playable for Machine<M
         Machine::why(self, op)
     }
 
-    fn mend(&self, op: &Op) -> Option<Mend> {
-        Machine::mend(self, op)
+    fn mend(&self, op: &Op, why: Why) -> Option<Mend> {
+        Machine::mend(self, op, why)
     }
 
     fn runner(&self) -> EndpointId {

@@ -29,7 +29,7 @@ pub(crate) fn reason_of<P: Playable>(
         Line::Operation(op) => {
             let why = player.machine().why(&op)?;
             let base = player.machine().ram_base();
-            let mend = player.machine().mend(&op);
+            let mend = player.machine().mend(&op, why);
             Some(Reason {
                 base,
                 op,

@@ -5,7 +5,7 @@ ghost use Rattle.ffa_model.specs.Access.{access};
 ghost use Rattle.ffa_model.specs.Refusals.{is_refusal};
 ghost use Rattle.ffa_model.specs.Step.{step};
 ghost use Rattle.ffa_model.specs.Why.{granted, outcome_of, why, why_fault};
-ghost use Rattle.ffa_mend.specs.Mend.{address_of, call_of, mend, mend_why};
+ghost use Rattle.ffa_mend.specs.Mend.{address_of, call_of, mend_why};
 
 use super::Machine;
 use crate::storage::Store;
@@ -31,14 +31,18 @@ impl<M: PhysMem + Drop, T: Translations + Drop, S: Store> Machine<M, T, S> {
         self.reason(op)
     }
 
-    /// What is to be mended where an operation of the runner is refused, beside what its reason names: a buffer, a right, a value
-    /// that is wanted, or which of two causes it has. Nothing where the operation isn't refused, or where nothing more is known. It
-    /// changes nothing, takes no memory, and walks the tables.
-    pub fn mend(&self, op: &Op) -> Option<Mend>
-        ensures mend { result ≡ mend self.now.state op.now }
+    /// What is to be mended where an operation of the runner is refused for this reason, beside what the reason names: a buffer, a
+    /// right, a value that is wanted, or which of two causes it has. Nothing where nothing more is known. It changes nothing, takes
+    /// no memory, and walks the tables.
+    pub fn mend(&self, op: &Op, why: Why) -> Option<Mend>
+        ensures mend { result ≡ mend_why self.now.state op.now why }
     {
-        let why = self.reason(op)?;
-        self.mend_why(op, why)
+        match why {
+            Why::Refused { refusal, about } => {
+                self.manager.mend_check(call_of(op), refusal, about)
+            }
+            Why::Fault { kind, obstacle: _ } => self.manager.mend_fault(address_of(op), kind),
+        }
     }
 
     /// By what an endpoint has its access to a page: its own page, or the open transaction by which it has it. Nothing outside
@@ -63,18 +67,6 @@ impl<M: PhysMem + Drop, T: Translations + Drop, S: Store> Machine<M, T, S> {
                 value: _,
             } => self.why_fault(addr, self.manager.store_fault(addr, size)),
             Op::Fetch { addr } => self.why_fault(addr, self.manager.fetch_fault(addr)),
-        }
-    }
-
-    // What is to be mended, where the reason is known.
-    fn mend_why(&self, op: &Op, why: Why) -> Option<Mend>
-        ensures { result ≡ mend_why self.now.state op.now why }
-    {
-        match why {
-            Why::Refused { refusal, about } => {
-                self.manager.mend_check(call_of(op), refusal, about)
-            }
-            Why::Fault { kind, obstacle: _ } => self.manager.mend_fault(address_of(op), kind),
         }
     }
 
