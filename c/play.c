@@ -214,8 +214,9 @@ int main(int count, char **words) {
     if (is_lent) lent_pages = boot_in(pages, &lent, text, size);
     else boot_on_heap(text, size);
     for (char *line = trace, *end; line < trace + trace_size; line = end + 1) {
-        end = strchr(line, '\n');
-        if (end == NULL) break;
+        end = memchr(line, '\n', (size_t)(trace + trace_size - line));
+        if (end == NULL) stop("the last line has no end");
+        if (line[0] != '#' && memchr(line, '\0', (size_t)(end - line)) != NULL) stop("a NUL in a line that is no comment");
         *end = '\0';
         play(line);
     }

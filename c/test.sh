@@ -98,7 +98,7 @@ moves() {
 # The bytes of code and data of a program, as `size` adds them up.
 bytes() { size "$1" | awk 'NR == 2 { print $4 }'; }
 
-# Plays each trace that there is, and `audit`, on RAM of the heap and on lent pages: plays NAME COMMAND..
+# Plays each trace that there is, with a comment that has a NUL, and `audit`, on RAM of the heap and on lent pages: plays NAME COMMAND..
 plays() {
     local name=$1 machine kind
     shift
@@ -106,7 +106,7 @@ plays() {
         machine=$top/examples/${pair%:*}.toml
         case $pair in
         *:generated) cat "$to/generated" ;;
-        *) cat "$top/examples/${pair#*:}.trace" && echo audit ;;
+        *) printf '# a NUL: \0\n' && cat "$top/examples/${pair#*:}.trace" && echo audit ;;
         esac >"$to/trace"
         "$player" run "$machine" "$to/trace" >"$to/expected"
         for kind in heap lent; do
