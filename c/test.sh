@@ -2,8 +2,8 @@
 # SPDX-License-Identifier: MIT OR Apache-2.0
 # Builds the C library and what stands in this folder over it, with every warning an error, and runs it: the tests under
 # sanitizers and valgrind and over a shared library, that of copies of bytes, the example, the traces of examples/
-# through the border beside the program, and links with no C library, of which one runs on a stack of 64 KiB; for
-# AArch64 too, where there are a compiler and an emulator for it. With --install it first installs Debian's packages for
+# through the border beside the program, texts on a stack of 256 KiB, and links with no C library, of which one runs on
+# a stack of 64 KiB; for AArch64 too, where there are a compiler and an emulator for it. With --install it first installs Debian's packages for
 # that; with --install-only it does nothing else.
 set -euo pipefail
 here=$(cd "$(dirname "${BASH_SOURCE[0]}")" && pwd)
@@ -18,6 +18,7 @@ to=$(mktemp -d)
 trap 'rm -rf "$to"' EXIT
 strict="-std=c11 -Wall -Wextra -Wpedantic -Wshadow -Werror -I$here"
 sanitized="-O1 -g -fsanitize=address,undefined -fno-sanitize-recover=all"
+deep=${UNPROVED:+-DGORSEPLUMB_STACK_BYTES=0x80000} # what tests/all compiled without proofs tests more, and takes more stack
 renamed="-Dmemcpy=copy_bytes -Dmemmove=move_bytes -Dmemset=set_bytes" # bytes.c beside a C library, which has these
 missing=0
 
@@ -152,6 +153,8 @@ for compiler in gcc clang; do
         "$(bytes "$to/named") with the checks' names, and $(bytes "$to/whole") with what nobody calls"
     $compiler $bare -Wl,--gc-sections -DGORSEPLUMB_ARRAY_BYTES=0x400000 "$here"/{small_stack,array,bytes,settle}.c "$native" -o "$to/small"
     says "$compiler" "$to/small"
+    $compiler $strict -O2 $deep "$here"/{deep_text,heap}.c "$native" -o "$to/deep"
+    says "$compiler, deep_text" "$to/deep"
     $compiler $bare "$here"/{freestanding,array,bytes,settle}.c -Wl,--whole-archive "$native" -Wl,--no-whole-archive \
         -o "$to/every"
 done
@@ -195,6 +198,8 @@ if has aarch64-linux-gnu-gcc && has qemu-aarch64-static && make_archive aarch64-
     qemu-aarch64-static "$to/moved"
     $arm $bare -DGORSEPLUMB_ARRAY_BYTES=0x400000 "$here"/{small_stack,array,bytes,settle}.c "$made" -o "$to/small"
     says AArch64 qemu-aarch64-static "$to/small"
+    $arm $deep "$here"/{deep_text,heap}.c "$made" -o "$to/deep"
+    says "AArch64, deep_text" qemu-aarch64-static "$to/deep"
     $arm $bare "$here"/{freestanding,array,bytes,settle}.c -Wl,--no-gc-sections,--whole-archive "$made" \
         -Wl,--no-whole-archive -o "$to/every"
     asks AArch64 aarch64-linux-gnu-objdump "$to/every"
