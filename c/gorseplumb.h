@@ -23,6 +23,8 @@
  * - Memory that is lent is nobody else's until it is taken back: C neither reads nor writes it, through any mapping.
  *   Endpoints that a processor runs do, each within the access that the machine gives it; what they may write while a
  *   call is on its way, and what of this no proof speaks of, is in docs/EMBEDDING.md.
+ * - The library's memory and the stack are memory in which accesses that aren't aligned are done: on AArch64 normal
+ *   memory, with SCTLR_ELx.A clear. With the MMU off memory is device memory, and there they fault.
  */
 #ifndef GORSEPLUMB_H
 #define GORSEPLUMB_H
