@@ -12,7 +12,7 @@ use crate::endpoints::{
     NORMAL_WORLD_KEYS, PARTITION_KEYS, endpoints_from, next_endpoint, normal_world_keys,
     normal_world_properties, partition_keys, properties_at, uuid_at, version_at,
 };
-use crate::keys::{integer_at, is_among};
+use crate::keys::is_among;
 use crate::met::met_region;
 use crate::refusal::{Fault, Found, Location};
 use crate::region_space::RegionSpace;
@@ -268,9 +268,13 @@ fn at_number(
 ) -> Result<Found, AllocError>
     ensures { IfOk result SharesPage }
 {
-    match integer_at(table, key) {
-        Ok(Some(number)) => Ok(Found::Number { key, number, fault }),
-        _ => at_key(alloc, table, key, fault),
+    let number = match table.get(key) {
+        Some(value) => value.as_integer(),
+        None => None,
+    };
+    match number {
+        Some(number) => Ok(Found::Number { key, number, fault }),
+        None => at_key(alloc, table, key, fault),
     }
 }
 

@@ -1,8 +1,8 @@
 // SPDX-License-Identifier: MIT OR Apache-2.0
 //! What is told of a manifest that is refused.
 //!
-//! Addresses and counts of pages are told as a trace has numbers, hexadecimal in upper case without a prefix, and endpoints by
-//! their identifiers.
+//! Addresses and counts of pages are told as a trace has numbers, hexadecimal in upper case without a prefix, addresses in eight
+//! digits or more, and endpoints by their identifiers.
 
 use crate::error::ManifestError;
 use ffa_model::{EndpointId, MOST_BLOCKS, MOST_RAM, Region};
@@ -47,7 +47,7 @@ pub enum Found {
     /// The number at one of the table's keys that is an address or counts pages, and what is wrong with it.
     Number {
         key: &'static str,
-        number: u64,
+        number: i64,
         fault: Fault,
     },
     /// The array at one of the table's keys has so many members, and not 1 to `most`.
@@ -135,15 +135,54 @@ impl fmt::Display for Nth {
     }
 }
 
-// A number as a trace has it, with the decimal digits behind it where they are others.
+// A number as a trace has it, an address in eight digits or more, with the decimal digits behind it where they are others.
 #[derive(Clone, Copy)]
-struct Number(u64);
+struct Number {
+    sign: &'static str,
+    size: u64,
+    is_address: bool,
+}
+
+impl Number {
+    fn address(size: u64) -> Number {
+        Number {
+            sign: "",
+            size,
+            is_address: true,
+        }
+    }
+
+    fn count(size: u64) -> Number {
+        Number {
+            sign: "",
+            size,
+            is_address: false,
+        }
+    }
+
+    // A number of the manifest with which this is wrong.
+    fn refused(number: i64, fault: Fault) -> Number {
+        Number {
+            sign: if number < 0 { "-" } else { "" },
+            size: number.unsigned_abs(),
+            is_address: matches!(fault, Fault::RamBase | Fault::RegionBase(_)),
+        }
+    }
+}
 
 impl fmt::Display for Number {
     fn fmt<W: fmt::Write>(&self, f: &mut fmt::Formatter<W>) -> fmt::Result {
-        match self.0 {
-            number @ 0..10 => write!(f, "{number}"),
-            number => write!(f, "{number:X} (decimal {number})"),
+        let Number {
+            sign,
+            size,
+            is_address,
+        } = *self;
+        if is_address {
+            write!(f, "{sign}{size:08X} (decimal {sign}{size})")
+        } else if size < 10 {
+            write!(f, "{sign}{size}")
+        } else {
+            write!(f, "{sign}{size:X} (decimal {sign}{size})")
         }
     }
 }
@@ -206,7 +245,7 @@ impl std::error::Error for ManifestRefusal {}
 
 // The base and the pages of a region as the manifest has them, and the addresses of its first and its last byte.
 fn write_region<W: fmt::Write>(f: &mut fmt::Formatter<W>, base: u64, pages: u64) -> fmt::Result {
-    let (first, count) = (Number(base), Number(pages));
+    let (first, count) = (Number::address(base), Number::count(pages));
     let all = Pages { base, pages };
     write!(f, "base = {first}, pages = {count}: {all}")
 }
@@ -219,7 +258,7 @@ impl fmt::Display for Found {
             Found::MissingKey(key) => write!(f, "'{key}' is missing"),
             Found::Value { key, value, fault } => write!(f, "{key} = {value}: {fault}"),
             Found::Number { key, number, fault } => {
-                write!(f, "{key} = {}: {fault}", Number(*number))
+                write!(f, "{key} = {}: {fault}", Number::refused(*number, *fault))
             }
             Found::Count { key, count, most } => {
                 write!(f, "{key} has {count} members: 1 to {most}")
