@@ -8,3 +8,4 @@ mod mend;
 
 pub use about::{about_relinquish, about_retrieve, about_send};
 pub use failing::{failing_reclaim, failing_send};
+pub use mend::mend_send;

@@ -1,17 +1,24 @@
 -- SPDX-License-Identifier: MIT OR Apache-2.0
 -- What is to be mended where an operation is refused: a buffer, a right, a value that is wanted, or which of two causes it has.
-use Rattle.std.specs.Prelude.{ℕ, ◌&&◌, is_none, is_some, length, nat_lt, List, Option, Some, None, if◌then◌else◌}
+use Rattle.std.specs.Prelude.{ℕ, ◌+◌, ◌*◌, ◌&&◌, not, is_none, is_some, find, length, nat_le, nat_lt, List, Option, Some, None, if◌then◌else◌}
 use Rattle.std.specs.Option.{option_and_then, option_map}
 use Rattle.ffa_model.specs.declared.call.Call.{Call}
 use Rattle.ffa_model.specs.declared.call.Call.TheVariants as calls
 use Rattle.ffa_model.specs.declared.call.Transfer.{Transfer}
 use Rattle.ffa_model.specs.declared.descriptor.RetrieveDesc.{RetrieveDesc}
+use Rattle.ffa_model.specs.declared.flaw.Flaw.{Flaw}
+use Rattle.ffa_model.specs.declared.flaw.Flaw.TheVariants.{Header}
+use Rattle.ffa_model.specs.declared.flaw.HeaderFlaw.{HeaderFlaw}
+use Rattle.ffa_model.specs.declared.flaw.HeaderFlaw.TheVariants.{AccessSize}
 use Rattle.ffa_model.specs.declared.operation.FaultKind.{FaultKind}
 use Rattle.ffa_model.specs.declared.operation.FaultKind.TheVariants.{Permission}
 use Rattle.ffa_model.specs.declared.operation.Op.{Op}
 use Rattle.ffa_model.specs.declared.operation.Op.TheVariants.{Call as Calls, Load, Store, Fetch}
 use Rattle.ffa_model.specs.declared.refusal.Refusal.{Refusal}
-use Rattle.ffa_model.specs.declared.refusal.Refusal.TheVariants.{SenderIsAnother, ReceiverIsAnother, TxUnusable, RxUnusable, RxEmpty, ReceiverRxSmall, BitsTaken, BitsNotTheSenders, DescriptorTooLong, PageUnsendable, GrantTooMuch, ZerosUnwritable, TransactionSenderDiffers, TagDiffers, KindDiffers, RightTooMuch, EndpointIsAnother, NotOffered, ZerosNotAllowed, NotTheSenders}
+use Rattle.ffa_model.specs.declared.refusal.Refusal.TheVariants.{SenderIsAnother, ReceiverIsAnother, TxUnusable, RxUnusable, RxEmpty, FlagsReserved, HeaderReserved, MessageInHeader, MessageEmpty, MessageTooLong, AnswerMisdirected, ReceiverRxSmall, BitsTaken, BitsNotTheSenders, DescriptorTooLong, RangeOutside, PageUnsendable, GrantTooMuch, ZerosUnwritable, TransactionSenderDiffers, TagDiffers, KindDiffers, RightTooMuch, EndpointIsAnother, NotOffered, ZerosNotAllowed, NotTheSenders}
+use Rattle.ffa_model.specs.declared.rights.Kind.{Kind as SendKind}
+use Rattle.ffa_model.specs.declared.rights.Kind.TheVariants.{Share, Lend, Donate}
+use Rattle.ffa_model.specs.declared.transaction.Range.{Range}
 use Rattle.ffa_model.specs.declared.why.About.{About}
 use Rattle.ffa_model.specs.declared.why.About.TheVariants as abouts
 use Rattle.ffa_model.specs.declared.why.Obstacle.{Obstacle}
@@ -19,24 +26,28 @@ use Rattle.ffa_model.specs.declared.why.Why.{Why}
 use Rattle.ffa_model.specs.declared.why.Why.TheVariants.{Refused, Fault}
 use Rattle.ffa_model.specs.Numbers.{Bit, HandleNumber, Identifier, PageIndex}
 use Rattle.ffa_model.specs.Access.{Ownership, held_by, is_receiver, ownership_of}
+use Rattle.ffa_model.specs.Bits.{word_of_two}
 use Rattle.ffa_model.specs.Buffers.{room_of}
 use Rattle.ffa_model.specs.Calls.{first_refusal}
 use Rattle.ffa_model.specs.DescriptorPlaces.{Versioned}
 use Rattle.ffa_model.specs.Lists.{is_in_run}
 use Rattle.ffa_model.specs.Memory.{access_at}
 use Rattle.ffa_model.specs.MemoryRetrieve.{right_for}
-use Rattle.ffa_model.specs.MemorySend.{descriptor_in, transfer_guards}
+use Rattle.ffa_model.specs.MemorySend.{descriptor_in, is_inside, send_read, transfer_guards}
+use Rattle.ffa_model.specs.Messages.{MessageHeader, header_in, tx_bytes}
 use Rattle.ffa_model.specs.Notifications.{Notifications, class_of, is_pending, notifications_of}
 use Rattle.ffa_model.specs.Registers.{decode}
 use Rattle.ffa_model.specs.RetrieveDescriptor.{retrieve_of}
 use Rattle.ffa_model.specs.Rights.{is_lend}
-use Rattle.ffa_model.specs.State.{State, Buffers, Transaction, buffers_of, is_known_among, own_right_of, transaction_of}
+use Rattle.ffa_model.specs.RunStates.{requester, schedule_of, work_in}
+use Rattle.ffa_model.specs.SendDescriptor.{SendRecord}
+use Rattle.ffa_model.specs.State.{State, Buffers, Transaction, buffers_of, is_known_among, own_right_of, transaction_of, version_of}
 use Rattle.ffa_model.specs.Transactions.{ceiling}
 use Rattle.ffa_model.specs.Why.{why}
 use Rattle.ffa_mend.specs.declared.Cause.{Cause}
 use Rattle.ffa_mend.specs.declared.Cause.TheVariants.{BuffersMissing, RxNotFull, BitPending, BitTaken, BitUnbound, HandleUnknown, NotReceiver, NotLent}
 use Rattle.ffa_mend.specs.declared.Mend.{Mend}
-use Rattle.ffa_mend.specs.declared.Mend.TheVariants.{Buffer, OwnRight, Granted, Access, Caller, Sender, Tag, Kind, Asked, Held, Room, Cause as Because}
+use Rattle.ffa_mend.specs.declared.Mend.TheVariants.{Buffer, OwnRight, Granted, Access, Caller, Sender, Tag, Kind, Asked, Held, Room, Wanted, Form, Word, Message, Outside, Cause as Because}
 use Rattle.ffa_mend.specs.declared.Side.{Side}
 use Rattle.ffa_mend.specs.declared.Side.TheVariants.{Tx, Rx}
 
@@ -100,6 +111,48 @@ mend_asked buffers ram named e transfer bytes refusal =
     then option_and_then (λ d. option_and_then (mend_retrieve ram e d refusal) (named d.handle)) (retrieve_of e bytes)
     else None
 
+-- OFFERS
+-- of a range that doesn't lie in RAM the first page that doesn't: its own first one, or, where that does, the one behind RAM
+abbrev pub outside_of : Ownership → Range → ℕ
+outside_of ram range =
+    if nat_le ram.base range.address && nat_lt range.address (ram.base + 4096 * ram.count)
+    then ram.base + 4096 * ram.count
+    else range.address
+
+-- of the first such range
+abbrev pub first_outside : Ownership → List Range → Option ℕ
+first_outside ram ranges = option_map (outside_of ram) (find (λ range. not (is_inside ram range)) ranges)
+
+abbrev pub mend_offer : Ownership → Refusal → SendRecord → Option Mend
+mend_offer ram RangeOutside send = option_map Outside (first_outside ram send.ranges)
+mend_offer ram refusal send = None
+
+-- of the descriptor that stands whole in TX of e
+abbrev pub mend_send : List (Option Buffers) → Ownership → Identifier → Transfer → Option SendRecord → Refusal → Option Mend
+mend_send buffers ram e transfer send refusal =
+    if is_none (first_refusal (transfer_guards buffers e transfer))
+    then option_and_then (mend_offer ram refusal) send
+    else None
+
+-- MESSAGES
+-- a word of the header of a message, or where the message ends, in a buffer of so many bytes
+abbrev pub mend_header : ℕ → MessageHeader → Refusal → Option Mend
+mend_header room m FlagsReserved = Some (Word 0 m.flags)
+mend_header room m HeaderReserved = Some (Word 4 m.reserved)
+mend_header room m MessageInHeader = Some (Word 8 m.offset)
+mend_header room m MessageEmpty = Some (Word 16 m.size)
+mend_header room m MessageTooLong = Some (Message m.offset m.size room)
+mend_header room m refusal = None
+
+-- where the caller has a TX in which one stands
+abbrev pub mend_message : Option Buffers → MessageHeader → Refusal → Option Mend
+mend_message None m refusal = None
+mend_message (Some own) m refusal = mend_header (room_of (Some own)) m refusal
+
+-- the one w1 of a response of e, to the endpoint whose request it answers
+abbrev pub mend_response : Identifier → Option Identifier → Option Mend
+mend_response e by = option_map (λ its. Wanted (word_of_two e its)) by
+
 -- NOTIFICATIONS
 -- one of the 64 bits of e, which a sender gets or loses: it is pending, or else this is the cause
 abbrev pub mend_bit : ℕ → Notifications → Identifier → Identifier → Bit → Cause → Option Mend
@@ -139,14 +192,39 @@ abbrev pub mend_handle : State → Call → Refusal → HandleNumber → Option 
 mend_handle s (calls.MemRetrieve transfer) refusal h = mend_retrieved s (calls.MemRetrieve transfer) refusal
 mend_handle s call refusal h = mend_return s.runner refusal (transaction_of s h)
 
--- a descriptor that is longer than TX, and an RX that can't be released
+-- a descriptor that is longer than TX, and a response to another than who asked
 abbrev pub mend_register : State → Refusal → Option Mend
 mend_register s DescriptorTooLong = Some (Room (room_of (buffers_of s s.runner)))
+mend_register s AnswerMisdirected = mend_response s.runner (requester (work_in (schedule_of s) s.runner))
 mend_register s refusal = None
 
-abbrev pub mend_bare : State → Refusal → Option Mend
-mend_bare s RxEmpty = Some (Because (if is_some (buffers_of s s.runner) then RxNotFull else BuffersMissing))
-mend_bare s refusal = None
+-- a header in another form than the caller's
+abbrev pub mend_form : State → HeaderFlaw → Option Mend
+mend_form s AccessSize = Some (Form (record { 0 = s.runner }) (version_of s s.runner))
+mend_form s flaw = None
+
+abbrev pub mend_field : State → Flaw → Option Mend
+mend_field s (Header flaw) = mend_form s flaw
+mend_field s flaw = None
+
+-- a check that is about nothing: an RX that can't be released, a message, and the ranges of an offer
+abbrev pub mend_release : State → Refusal → Option Mend
+mend_release s RxEmpty = Some (Because (if is_some (buffers_of s s.runner) then RxNotFull else BuffersMissing))
+mend_release s refusal = None
+
+abbrev pub mend_sent_message : State → Refusal → Option Mend
+mend_sent_message s refusal = mend_message (buffers_of s s.runner) (header_in (tx_bytes s s.runner)) refusal
+
+abbrev pub mend_offered_by : State → SendKind → Transfer → Refusal → Option Mend
+mend_offered_by s kind transfer refusal =
+    mend_send s.buffers (ownership_of s) s.runner transfer (send_read s kind transfer.total) refusal
+
+abbrev pub mend_bare : State → Call → Refusal → Option Mend
+mend_bare s calls.MsgSend2 refusal = mend_sent_message s refusal
+mend_bare s (calls.MemDonate transfer) refusal = mend_offered_by s Donate transfer refusal
+mend_bare s (calls.MemLend transfer) refusal = mend_offered_by s Lend transfer refusal
+mend_bare s (calls.MemShare transfer) refusal = mend_offered_by s Share transfer refusal
+mend_bare s call refusal = mend_release s refusal
 
 -- a check of a call that fails, by what it is about
 abbrev pub mend_check : State → Call → Refusal → Option About → Option Mend
@@ -156,8 +234,8 @@ mend_check s call refusal (Some (abouts.Handle h)) = mend_handle s call refusal 
 mend_check s call refusal (Some (abouts.Bit k)) =
     mend_bits (length s.parties) (notifications_of s) s.runner call refusal k
 mend_check s call refusal (Some (abouts.Register number value)) = mend_register s refusal
-mend_check s call refusal (Some (abouts.Field flaw place value)) = None
-mend_check s call refusal None = mend_bare s refusal
+mend_check s call refusal (Some (abouts.Field flaw place value)) = mend_field s flaw
+mend_check s call refusal None = mend_bare s call refusal
 
 -- a fault at an address, where the runner reaches the page without the right
 abbrev pub mend_access : State → ℕ → Option Mend

@@ -94,7 +94,7 @@ fn is_waiting(chain: &Chain, endpoint: EndpointId) -> bool
 }
 
 // The endpoint whose request the runner answers, if there is one.
-fn requester(chain: &Chain) -> Option<EndpointId>
+pub(crate) fn requester(chain: &Chain) -> Option<EndpointId>
     ensures requester { option_map (λ (by : EndpointId). by.0) result ≡ requester (work_in chain.now chain.now.runner) }
     ensures sound { IsSound chain.now }
 {

@@ -5,14 +5,19 @@ use Rattle.std.specs.FinMap as finite
 use Rattle.ffa_memshare.specs.declared.descriptor_call.DescriptorCall.{DescriptorCall}
 use Rattle.ffa_memshare.specs.Scenes.{descriptor_in}
 use Rattle.ffa_memshare.specs.Stored.{map_in}
-use Rattle.ffa_mend.specs.Mend.{mend_asked, mend_bits, mend_return}
+use Rattle.ffa_mend.specs.Mend.{mend_asked, mend_bits, mend_message, mend_offered_by, mend_return, mend_send, mend_sent_message}
+use Rattle.ffa_messages.specs.Parts.{sent_in}
 use Rattle.ffa_model.specs.declared.call.Call.{Call}
 use Rattle.ffa_model.specs.declared.refusal.Refusal.{Refusal}
+use Rattle.ffa_model.specs.declared.rights.Kind.{Kind}
 use Rattle.ffa_model.specs.Access.{ownership_of}
+use Rattle.ffa_model.specs.Buffers.{buffers_in}
 use Rattle.ffa_model.specs.DescriptorPlaces.{in_version}
 use Rattle.ffa_model.specs.First.{first}
 use Rattle.ffa_model.specs.MemorySend as sends
+use Rattle.ffa_model.specs.Messages.{header_in}
 use Rattle.ffa_model.specs.Notifications.{notifications_of}
+use Rattle.ffa_model.specs.SendDescriptor.{send_of}
 use Rattle.ffa_model.specs.State.{State, transaction_of, version_of}
 use Rattle.ffa_rxtx.specs.Parts.{ownership_in}
 use Rattle.ffa_spmc.specs.Meaning.{IsManager, Parts, state_of}
@@ -41,3 +46,15 @@ module _ (x : Parts) (machine : IsManager x) (e : ℕ) (at : e ≡ x.kept.chain.
   asked-mended call spoken =
       λ i. mend_asked x.kept.buffers ((ap (ownership_in x.kept.pages) machine.layout.base ∙ ownership-is x machine) i) (transaction_of s) (at i) call.transfer
       (in_version (spoken i) (take call.transfer.total (sent-is x machine e at i))) refusal
+
+  pub offer-mended : (call : DescriptorCall) → call.version ≡ version_of (state_of x) (state_of x).runner → (kind : Kind)
+      → mend_send x.kept.buffers (ownership_in x.kept.pages x.manifest.ram_base.0) e call.transfer (send_of kind (descriptor_in x.ram x.kept.buffers e call)) refusal
+      ≡ mend_offered_by s kind call.transfer refusal
+  unfolding first
+  offer-mended call spoken kind =
+      λ i. mend_send x.kept.buffers (ownership-is x machine i) (at i) call.transfer
+      (send_of kind (in_version (spoken i) (take call.transfer.total (sent-is x machine e at i)))) refusal
+
+  pub message-mended : mend_message (buffers_in x.kept.buffers e) (header_in (sent_in x.ram x.kept.buffers e)) refusal ≡ mend_sent_message s refusal
+  unfolding first
+  message-mended = λ i. mend_message (buffers_in x.kept.buffers (at i)) (header_in (sent-is x machine e at i)) refusal

@@ -1,8 +1,10 @@
 -- SPDX-License-Identifier: MIT OR Apache-2.0
 -- What stands in a reason behind what the check is about has no LF.
-use Rattle.std.proofs.Common.{◌≡◌, ℕ, ◌%◌, Bool, true, false, List, ◌++◌, Option, None, Some, inl, inr, refl}
-use Rattle.std.specs.Prelude.{◌==◌, codes}
+use Rattle.std.proofs.Common.{◌≡◌, ℕ, ◌+◌, ◌%◌, ◌^◌, Bool, true, false, List, ◌++◌, Option, None, Some, inl, inr, refl}
+use Rattle.std.specs.Prelude.{◌==◌, codes, nat_lt}
 use Rattle.std.proofs.lemmas.Bool.{cases_Bool}
+use Rattle.ffa_model.specs.declared.endpoint.Version.{Version}
+use Rattle.ffa_model.specs.declared.endpoint.Version.TheVariants.{Compact, V1_1}
 use Rattle.ffa_model.specs.declared.operation.Op.{Op}
 use Rattle.ffa_model.specs.declared.refusal.Refusal.{Refusal}
 use Rattle.ffa_model.specs.declared.rights.Data.{Data}
@@ -17,10 +19,11 @@ use Rattle.ffa_mend.specs.declared.Mend.TheVariants as mends
 use Rattle.ffa_mend.specs.declared.Side.{Side}
 use Rattle.ffa_mend.specs.declared.Side.TheVariants.{Tx, Rx}
 use Rattle.ffa_mend.specs.Mend.{call_of}
+use Rattle.ffa_model.specs.DescriptorPlaces.{told_access_size}
 use Rattle.play_syntax.specs.TraceText.{hex, rights_text}
 use Rattle.play_reasons.specs.declared.allowed.Allowed.{Allowed}
 use Rattle.play_reasons.specs.declared.allowed.Allowed.TheVariants.{One, Span, Either, Place}
-use Rattle.play_reasons.specs.Mends.{access_text, address_digits, address_text, allowed_by, allowed_register, allowed_text, asked_text, buffer_text, cause_text, kind_text, kinds_text, mend_text, mended_text, misplaced_text, one_text, room_text, short_digits, short_text, side_text, span_text, tag_text, wanted_text}
+use Rattle.play_reasons.specs.Mends.{access_text, address_digits, address_text, allowed_by, allowed_register, allowed_text, asked_text, beyond_text, buffer_text, bytes_text, cause_text, ends_text, form_text, kind_text, kinds_text, mend_text, mended_text, message_text, misplaced_text, one_text, outside_text, room_text, short_digits, short_text, side_text, span_text, tag_text, version_text, wanted_text, word_text}
 use Rattle.play_forms.proofs.Singles.{IsSingle, single_append, single_hex}
 
 pub single_address : (address : ℕ) → IsSingle (address_text address)
@@ -119,6 +122,47 @@ single_room : (bytes : ℕ) → IsSingle (room_text bytes)
 unfolding room_text
 single_room bytes = single_append (codes ", where the buffer has " ++ address_text bytes) (codes " bytes") (single_address bytes) refl
 
+single_version : (version : Version) → IsSingle (version_text version)
+single_version Compact = refl
+single_version V1_1 = refl
+
+single_form : (caller : ℕ) (version : Version) → IsSingle (form_text caller version)
+unfolding form_text
+single_form caller version =
+    let size = told_access_size version in
+    let since = codes ", since " ++ hex 4 caller in
+    single_append (one_text 8 size ++ since) (version_text version) (single_append (one_text 8 size) since (single_one 8 size) (single_hex 4 caller)) (single_version version)
+
+single_bytes : (place : ℕ) → IsSingle (bytes_text place)
+unfolding bytes_text
+single_bytes place =
+    let first = codes "bytes " ++ short_text place in
+    single_append (first ++ codes " to ") (short_text (place + 3)) (single_append first (codes " to ") (single_short place) refl) (single_short (place + 3))
+
+single_word : (place value : ℕ) → IsSingle (word_text place value)
+unfolding word_text
+single_word place value = single_append (bytes_text place) (codes " are " ++ hex 8 value) (single_bytes place) (single_hex 8 value)
+
+single_ends : (offset size : ℕ) → IsSingle (ends_text offset size)
+unfolding ends_text
+single_ends offset size =
+    single_append (word_text 8 offset ++ codes ", and ") (word_text 16 size) (single_append (word_text 8 offset) (codes ", and ") (single_word 8 offset) refl) (single_word 16 size)
+
+single_message : (offset size room : ℕ) → IsSingle (message_text offset size room)
+unfolding message_text
+single_message offset size room = single_append (codes ": " ++ ends_text offset size) (room_text room) (single_ends offset size) (single_room room)
+
+single_beyond : (address : ℕ) → IsSingle (beyond_text address)
+single_beyond address =
+    elim (cases_Bool (nat_lt address (2 ^ 32))) [
+      | inl low ↦ rw low refl
+      | inr high ↦ rw high refl
+    ]
+
+single_outside : (address : ℕ) → IsSingle (outside_text address)
+unfolding outside_text
+single_outside address = single_append (codes ": " ++ address_text address) (beyond_text address) (single_address address) (single_beyond address)
+
 single_mend : (mend : Mend) → IsSingle (mend_text mend)
 single_mend (mends.Buffer endpoint side) = single_buffer endpoint.0 side
 single_mend (mends.OwnRight right) = single_letters right
@@ -132,6 +176,11 @@ single_mend (mends.Asked asked most) =
     single_asked (rights_text (Some asked)) (rights_text (Some most)) (single_letters asked) (single_letters most)
 single_mend (mends.Held right) = single_letters right
 single_mend (mends.Room bytes) = single_room bytes
+single_mend (mends.Wanted value) = single_one 8 value
+single_mend (mends.Form caller version) = single_form caller.0 version
+single_mend (mends.Word place value) = single_word place value
+single_mend (mends.Message offset size room) = single_message offset size room
+single_mend (mends.Outside address) = single_outside address
 single_mend (mends.Cause cause) = single_cause cause
 
 pub single_mended : (mend : Option Mend) → IsSingle (mended_text mend)

@@ -1,10 +1,12 @@
 -- SPDX-License-Identifier: MIT OR Apache-2.0
 -- What stands in the line of a reason behind what the check is about: a value that is wanted, and what is to be mended.
-use Rattle.std.specs.Prelude.{ℕ, ◌*◌, ◌%◌, ◌^◌, ◌==◌, nat_lt, List, [], ◌++◌, codes, Option, Some, None, if◌then◌else◌}
+use Rattle.std.specs.Prelude.{ℕ, ◌+◌, ◌*◌, ◌%◌, ◌^◌, ◌==◌, nat_lt, List, [], ◌++◌, codes, Option, Some, None, if◌then◌else◌}
 use Rattle.std.specs.Option.{option_map_or}
 use Rattle.ffa_model.specs.declared.call.Call.{Call}
 use Rattle.ffa_model.specs.declared.call.Call.TheVariants as calls
 use Rattle.ffa_model.specs.declared.call.Transfer.{Transfer}
+use Rattle.ffa_model.specs.declared.endpoint.Version.{Version}
+use Rattle.ffa_model.specs.declared.endpoint.Version.TheVariants.{Compact, V1_1}
 use Rattle.ffa_model.specs.declared.flaw.Flaw.{Flaw}
 use Rattle.ffa_model.specs.declared.flaw.Flaw.TheVariants.{Header, Send, Access as AccessOf, Composite, Range as RangeOf, Retrieve, Relinquish}
 use Rattle.ffa_model.specs.declared.flaw.SendFlaw.{SendFlaw}
@@ -25,7 +27,7 @@ use Rattle.ffa_model.specs.declared.refusal.Refusal.{Refusal}
 use Rattle.ffa_model.specs.declared.refusal.Refusal.TheVariants.{FlagsReserved, ContextUnknown, BufferPageCount, TxMisplaced, RxMisplaced, EndpointNotZero, EndpointNotNormalWorld, ContextCount, ClassesUnknown, Fragmented, BufferAddressGiven, BufferPagesGiven}
 use Rattle.ffa_model.specs.declared.rights.Kind.{Kind}
 use Rattle.ffa_model.specs.declared.rights.Kind.TheVariants.{Share, Lend, Donate}
-use Rattle.ffa_model.specs.DescriptorPlaces.{normal_memory}
+use Rattle.ffa_model.specs.DescriptorPlaces.{normal_memory, told_access_size}
 use Rattle.ffa_model.specs.SendDescriptor.{most_flags, most_receivers}
 use Rattle.ffa_mend.specs.declared.Cause.{Cause}
 use Rattle.ffa_mend.specs.declared.Cause.TheVariants.{BuffersMissing, RxNotFull, BitPending, BitTaken, BitUnbound, HandleUnknown, NotReceiver, NotLent}
@@ -55,6 +57,10 @@ abbrev pub short_text : ℕ → List ℕ
 short_text n = hex (short_digits n) n
 
 -- VALUES THAT MAY BE
+
+-- the values from one to another, which may be one alone
+abbrev pub between : ℕ → ℕ → Allowed
+between least most = if least == most then One least else Span least most
 
 -- what a register may be where a check of a call fails that wants one value, a range or one of two
 abbrev pub allowed_flags : Call → Allowed
@@ -95,10 +101,10 @@ abbrev pub allowed_send : Kind → SendFlaw → Option Allowed
 allowed_send Share Attributes = Some (One normal_memory)
 allowed_send Donate Attributes = Some (One 0)
 allowed_send Lend Attributes = None
-allowed_send kind Flags = Some (Span 0 (most_flags kind))
+allowed_send kind Flags = Some (between 0 (most_flags kind))
 allowed_send kind HandleGiven = Some (One 0)
-allowed_send kind NoReceiver = Some (Span 1 (most_receivers kind))
-allowed_send kind ManyReceivers = Some (Span 1 (most_receivers kind))
+allowed_send kind NoReceiver = Some (between 1 (most_receivers kind))
+allowed_send kind ManyReceivers = Some (between 1 (most_receivers kind))
 
 abbrev pub allowed_permissions : Kind → Allowed
 allowed_permissions Share = Span 1 2
@@ -159,7 +165,7 @@ span_text digits joint a b = (codes ", and may be " ++ hex digits a) ++ (joint +
 -- why no buffer can begin at an address
 abbrev pub misplaced_text : ℕ → List ℕ
 misplaced_text address =
-    if address % 4096 == 0 then codes ", where it does not lie in RAM" else codes ", which is not the address of a page"
+    if address % 4096 == 0 then codes ", where the buffer does not lie in RAM" else codes ", which is not the address of a page"
 
 abbrev pub allowed_by : ℕ → Allowed → List ℕ
 allowed_by digits (One value) = one_text digits value
@@ -213,6 +219,35 @@ asked_text asked most = (codes ", where " ++ asked) ++ ((codes " is asked for, a
 unfoldable pub room_text : ℕ → List ℕ
 room_text bytes = codes ", where the buffer has " ++ address_text bytes ++ codes " bytes"
 
+-- what stands in a header where its form is told, in the caller's version
+abbrev pub version_text : Version → List ℕ
+version_text Compact = codes " is compact"
+version_text V1_1 = codes " has version 1.1"
+
+unfoldable pub form_text : ℕ → Version → List ℕ
+form_text caller version =
+    one_text 8 (told_access_size version) ++ (codes ", since " ++ hex 4 caller) ++ version_text version
+
+-- the four bytes of a word, and the number in them
+unfoldable pub bytes_text : ℕ → List ℕ
+bytes_text place = codes "bytes " ++ short_text place ++ codes " to " ++ short_text (place + 3)
+
+unfoldable pub word_text : ℕ → ℕ → List ℕ
+word_text place value = bytes_text place ++ (codes " are " ++ hex 8 value)
+
+-- the offset and the size of a message's header, at 8 and at 16
+unfoldable pub ends_text : ℕ → ℕ → List ℕ
+ends_text offset size = word_text 8 offset ++ codes ", and " ++ word_text 16 size
+
+unfoldable pub message_text : ℕ → ℕ → ℕ → List ℕ
+message_text offset size room = codes ": " ++ ends_text offset size ++ room_text room
+
+abbrev pub beyond_text : ℕ → List ℕ
+beyond_text address = if nat_lt address (2 ^ 32) then codes " is outside RAM" else codes " is above FFFFFFFF"
+
+unfoldable pub outside_text : ℕ → List ℕ
+outside_text address = codes ": " ++ address_text address ++ beyond_text address
+
 abbrev pub mend_text : Mend → List ℕ
 mend_text (mends.Buffer endpoint side) = buffer_text endpoint.0 side
 mend_text (mends.OwnRight right) = codes ", to which the owner's own right is " ++ rights_text (Some right)
@@ -225,6 +260,11 @@ mend_text (mends.Kind found wanted) = kinds_text (kind_text found) (kind_text wa
 mend_text (mends.Asked asked most) = asked_text (rights_text (Some asked)) (rights_text (Some most))
 mend_text (mends.Held right) = codes ", which the caller holds with " ++ rights_text (Some right)
 mend_text (mends.Room bytes) = room_text bytes
+mend_text (mends.Wanted value) = one_text 8 value
+mend_text (mends.Form caller version) = form_text caller.0 version
+mend_text (mends.Word place value) = codes ": " ++ word_text place value
+mend_text (mends.Message offset size room) = message_text offset size room
+mend_text (mends.Outside address) = outside_text address
 mend_text (mends.Cause cause) = cause_text cause
 
 abbrev pub mended_text : Option Mend → List ℕ

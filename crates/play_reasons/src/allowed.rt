@@ -3,7 +3,7 @@
 ghost use Rattle.std.specs.Prelude.{◌≡◌};
 ghost use Rattle.ffa_model.specs.SendDescriptor.{most_flags, most_receivers};
 ghost use Rattle.ffa_mend.specs.Mend.{call_of};
-ghost use Rattle.play_reasons.specs.Mends.{allowed_access, allowed_composite, allowed_context, allowed_field, allowed_flags, allowed_fragment, allowed_permissions, allowed_range, allowed_register, allowed_relinquish, allowed_retrieve, allowed_send, kind_of};
+ghost use Rattle.play_reasons.specs.Mends.{allowed_access, allowed_composite, allowed_context, allowed_field, allowed_flags, allowed_fragment, allowed_permissions, allowed_range, allowed_register, allowed_relinquish, allowed_retrieve, allowed_send, between, kind_of};
 
 use ffa_abi::decode;
 use ffa_model::{
@@ -25,6 +25,17 @@ pub enum Allowed {
     Either(u64, u64),
     /// The address of a page in RAM, where this is none, or where a buffer would not end in RAM.
     Place(u64),
+}
+
+// The values from one to another, which may be one alone.
+fn between(least: u64, most: u64) -> Allowed
+    ensures { result ≡ between least most }
+{
+    if least == most {
+        Allowed::One(least)
+    } else {
+        Allowed::Span(least, most)
+    }
 }
 
 // The call that an operation is, if it is one.
@@ -115,10 +126,10 @@ fn allowed_send(kind: Kind, flaw: SendFlaw) -> Option<Allowed>
         (SendFlaw::Attributes, Kind::Donate) => Some(Allowed::One(0)),
         // It depends on how many receivers there are.
         (SendFlaw::Attributes, Kind::Lend) => None,
-        (SendFlaw::Flags, _) => Some(Allowed::Span(0, most_flags(kind))),
+        (SendFlaw::Flags, _) => Some(between(0, most_flags(kind))),
         (SendFlaw::Handle, _) => Some(Allowed::One(0)),
         (SendFlaw::NoReceiver | SendFlaw::ManyReceivers, _) => {
-            Some(Allowed::Span(1, most_receivers(kind)))
+            Some(between(1, most_receivers(kind)))
         }
     }
 }

@@ -1,14 +1,15 @@
 // SPDX-License-Identifier: MIT OR Apache-2.0
 //! What stands in the line of a reason behind what the check is about: a value that is wanted, and what is to be mended.
-ghost use Rattle.std.specs.Prelude.{◌≡◌, ◌++◌, ◌≤◌, IfErr, OnOk, Some, codes};
+ghost use Rattle.std.specs.Prelude.{◌≡◌, ◌++◌, ◌^◌, ◌<◌, ◌≤◌, IfErr, OnOk, Some, codes};
 ghost use Rattle.play_syntax.specs.TraceText.{hex, rights_text};
-ghost use Rattle.play_reasons.specs.Mends.{access_text, allowed_by, allowed_text, asked_text, buffer_text, cause_text, kind_text, kinds_text, mend_text, mended_text, misplaced_text, one_text, room_text, side_text, span_text, tag_text, wanted_text};
+ghost use Rattle.ffa_model.specs.DescriptorPlaces.{told_access_size};
+ghost use Rattle.play_reasons.specs.Mends.{access_text, allowed_by, allowed_text, asked_text, beyond_text, buffer_text, bytes_text, cause_text, ends_text, form_text, kind_text, kinds_text, mend_text, mended_text, message_text, misplaced_text, one_text, outside_text, room_text, side_text, span_text, tag_text, version_text, wanted_text, word_text};
 
 use crate::allowed::{Allowed, allowed_register, call_of};
-use crate::digits::{put_address, put_behind};
+use crate::digits::{put_address, put_behind, put_digits, put_short};
 use crate::mark::put;
 use ffa_mend::{Cause, Mend, Side};
-use ffa_model::{Data, EndpointId, Kind, Op, Refusal, Rights};
+use ffa_model::{Data, EndpointId, Kind, Op, Refusal, Rights, Version};
 use play_syntax::PlayError;
 use std::alloc::Allocator;
 
@@ -65,7 +66,7 @@ fn misplaced(address: u64) -> &'static str
     ensures { result.now ≡ misplaced_text address }
 {
     if address % 4096 == 0 {
-        ", where it does not lie in RAM"
+        ", where the buffer does not lie in RAM"
     } else {
         ", which is not the address of a page"
     }
@@ -125,6 +126,13 @@ fn put_mend<A: Allocator>(text: &mut Vec<u8, A>, mend: Mend) -> Result<(), PlayE
         Mend::Asked { asked, most } => put_asked(text, asked, most),
         Mend::Held(right) => put_right(text, ", which the caller holds with ", right),
         Mend::Room(bytes) => put_room(text, bytes),
+        Mend::Wanted(value) => put_one(text, 8, value),
+        Mend::Form { caller, version } => put_form(text, caller, version),
+        Mend::Word { place, value } => put_header(text, u64::from(place), u64::from(value)),
+        Mend::Message { offset, size, room } => {
+            put_message(text, u64::from(offset), u64::from(size), room)
+        }
+        Mend::Outside(address) => put_outside(text, address),
         Mend::Cause(cause) => put(text, cause_words(cause)),
     }
 }
@@ -237,6 +245,122 @@ fn put_room<A: Allocator>(text: &mut Vec<u8, A>, bytes: u64) -> Result<(), PlayE
     put(text, ", where the buffer has ")?;
     put_address(text, bytes)?;
     put(text, " bytes")
+}
+
+// Puts what a header has to have where its form is told, in the caller's version.
+#[tactic(auto, unfolding(crate::specs::Mends::form_text))]
+fn put_form<A: Allocator>(
+    text: &mut Vec<u8, A>,
+    caller: EndpointId,
+    version: Version,
+) -> Result<(), PlayError>
+    ensures written { OnOk result (text.new.items ≡ text.old.items ++ form_text caller.0 version) }
+    ensures failed { IfErr result (λ e. e ≡ PlayError.NoMemory) }
+{
+    put_one(text, 8, told_access_size(version))?;
+    put_endpoint(text, ", since ", caller)?;
+    put(text, version_words(version))
+}
+
+// Puts the four bytes of a word, by the place of the first one.
+#[tactic(auto, unfolding(crate::specs::Mends::bytes_text))]
+fn put_bytes_from<A: Allocator>(text: &mut Vec<u8, A>, place: u64) -> Result<(), PlayError>
+    requires { place < 2 ^ 32 }
+    ensures written { OnOk result (text.new.items ≡ text.old.items ++ bytes_text place) }
+    ensures failed { IfErr result (λ e. e ≡ PlayError.NoMemory) }
+{
+    put(text, "bytes ")?;
+    put_short(text, place)?;
+    put(text, " to ")?;
+    put_short(text, place + 3)
+}
+
+// Puts them with the number in them.
+#[tactic(auto, unfolding(crate::specs::Mends::word_text))]
+fn put_word<A: Allocator>(text: &mut Vec<u8, A>, place: u64, value: u64) -> Result<(), PlayError>
+    requires { place < 2 ^ 32 }
+    ensures written { OnOk result (text.new.items ≡ text.old.items ++ word_text place value) }
+    ensures failed { IfErr result (λ e. e ≡ PlayError.NoMemory) }
+{
+    put_bytes_from(text, place)?;
+    put_behind(text, " are ", 8, value)
+}
+
+// Puts a word of a header.
+fn put_header<A: Allocator>(text: &mut Vec<u8, A>, place: u64, value: u64) -> Result<(), PlayError>
+    requires { place < 2 ^ 32 }
+    ensures written { OnOk result (text.new.items ≡ text.old.items ++ (codes ": " ++ word_text place value)) }
+    ensures failed { IfErr result (λ e. e ≡ PlayError.NoMemory) }
+{
+    put(text, ": ")?;
+    put_word(text, place, value)
+}
+
+// Puts the offset and the size of a message.
+#[tactic(auto, unfolding(crate::specs::Mends::ends_text))]
+fn put_ends<A: Allocator>(text: &mut Vec<u8, A>, offset: u64, size: u64) -> Result<(), PlayError>
+    ensures written { OnOk result (text.new.items ≡ text.old.items ++ ends_text offset size) }
+    ensures failed { IfErr result (λ e. e ≡ PlayError.NoMemory) }
+{
+    put_word(text, 8, offset)?;
+    put(text, ", and ")?;
+    put_word(text, 16, size)
+}
+
+// Puts them, and how many bytes the buffer has in which the message doesn't end.
+#[tactic(auto, unfolding(crate::specs::Mends::message_text))]
+fn put_message<A: Allocator>(
+    text: &mut Vec<u8, A>,
+    offset: u64,
+    size: u64,
+    room: u64,
+) -> Result<(), PlayError>
+    ensures written { OnOk result (text.new.items ≡ text.old.items ++ message_text offset size room) }
+    ensures failed { IfErr result (λ e. e ≡ PlayError.NoMemory) }
+{
+    put(text, ": ")?;
+    put_ends(text, offset, size)?;
+    put_room(text, room)
+}
+
+// Puts an address that isn't in RAM.
+#[tactic(auto, unfolding(crate::specs::Mends::outside_text))]
+fn put_outside<A: Allocator>(text: &mut Vec<u8, A>, address: u64) -> Result<(), PlayError>
+    ensures written { OnOk result (text.new.items ≡ text.old.items ++ outside_text address) }
+    ensures failed { IfErr result (λ e. e ≡ PlayError.NoMemory) }
+{
+    put(text, ": ")?;
+    put_address(text, address)?;
+    put(text, beyond(address))
+}
+
+fn beyond(address: u64) -> &'static str
+    ensures { result.now ≡ beyond_text address }
+{
+    if address < 1 << 32 {
+        " is outside RAM"
+    } else {
+        " is above FFFFFFFF"
+    }
+}
+
+// What stands in a header where its form is told.
+fn told_access_size(version: Version) -> u64
+    ensures { result ≡ told_access_size version }
+{
+    match version {
+        Version::Compact => 0,
+        Version::V1_1 => 16,
+    }
+}
+
+fn version_words(version: Version) -> &'static str
+    ensures { result.now ≡ version_text version }
+{
+    match version {
+        Version::Compact => " is compact",
+        Version::V1_1 => " has version 1.1",
+    }
 }
 
 // The letters of a right, as `show` prints them.

@@ -98,7 +98,11 @@ fn are_known(receivers: &[Receiver], endpoints: usize) -> bool
 }
 
 // Whether a range lies in the RAM of these pages.
-fn is_inside<P: Room<KeptPage> + Drop>(range: &Range, pages: &PageTable<P>, base: Address) -> bool
+pub(crate) fn is_inside<P: Room<KeptPage> + Drop>(
+    range: &Range,
+    pages: &PageTable<P>,
+    base: Address,
+) -> bool
     ensures { result ≡ is_inside (ownership_in pages.now base.0) range.now }
 {
     let start = u64::from(base.0);

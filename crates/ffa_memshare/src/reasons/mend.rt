@@ -1,14 +1,17 @@
 // SPDX-License-Identifier: MIT OR Apache-2.0
-//! What is to be mended where a call on an open transaction was refused: what the transaction has, beside what the call names.
-ghost use Rattle.std.specs.Prelude.{◌≡◌, Some, None, length, if◌then◌else◌};
+//! What is to be mended where a call on memory was refused: what the transaction has, beside what the call names, and where the
+//! ranges of an offer leave RAM.
+ghost use Rattle.std.specs.Prelude.{◌≡◌, Some, None, find, length, not, if◌then◌else◌};
 ghost use Rattle.std.specs.Option.{option_map};
 ghost use Rattle.std.specs.FinMap as finite;
 ghost use Rattle.ffa_model.specs.Access.{is_receiver};
 ghost use Rattle.ffa_model.specs.Buffers.{buffers_in};
 ghost use Rattle.ffa_model.specs.MemoryRetrieve.{right_for};
+ghost use Rattle.ffa_model.specs.MemorySend.{is_inside};
+ghost use Rattle.ffa_model.specs.SendDescriptor.{send_of, send_record};
 ghost use Rattle.ffa_model.specs.State.{Buffers as Own};
 ghost use Rattle.ffa_model.specs.Transactions.{ceiling};
-ghost use Rattle.ffa_mend.specs.Mend.{mend_asked, mend_offered, mend_retrieve, mend_return, mend_sent, mend_zeros};
+ghost use Rattle.ffa_mend.specs.Mend.{first_outside, mend_asked, mend_offer, mend_offered, mend_retrieve, mend_return, mend_send, mend_sent, mend_zeros, outside_of};
 ghost use Rattle.ffa_rxtx.specs.Parts.{IsInRam, ownership_in};
 ghost use Rattle.ffa_memshare.specs.Ranges.{ArePlaced};
 ghost use Rattle.ffa_memshare.specs.Scenes.{descriptor_in};
@@ -16,16 +19,90 @@ ghost use Rattle.ffa_memshare.specs.Shared.{AreRangesInRam};
 ghost use Rattle.ffa_memshare.specs.Stored.{map_in, view_of};
 
 use crate::checks::retrieve::asked_right;
+use crate::checks::send::is_inside;
 use crate::descriptor_call::DescriptorCall;
 use crate::open_slot::OpenSlot;
-use crate::page_run::read_retrieve;
+use crate::page_run::{read_retrieve, read_send};
 use crate::pool::Pool;
 use crate::transaction::OpenTransaction;
 use ffa_mend::{Cause, Mend};
-use ffa_model::{Address, EndpointId, Kind, Refusal, RetrieveDesc, Room};
+use ffa_model::{Address, EndpointId, Kind, Range, Refusal, RetrieveDesc, Room, SendDesc};
 use ffa_pages::{KeptPage, PageTable};
 use ffa_physmem::PhysMem;
 use ffa_rxtx::Buffers;
+
+/// What is to be mended where a check of FFA_MEM_DONATE, FFA_MEM_LEND or FFA_MEM_SHARE of an endpoint fails that asks for ranges in
+/// the RAM from `base` on: the first page outside of it. Of other checks nothing.
+pub fn mend_send<M: PhysMem, P: Room<KeptPage> + Drop>(
+    ram: &M,
+    base: Address,
+    pages: &PageTable<P>,
+    buffers: &Buffers,
+    caller: EndpointId,
+    kind: Kind,
+    call: &DescriptorCall,
+    refusal: Refusal,
+) -> Option<Mend>
+    requires tx { (b : Own) → buffers_in buffers.now caller.0 ≡ Some b → IsInRam (length (M.ram ram.now).pages) b }
+    ensures { let owners = ownership_in pages.now base.0 in
+        let offer = send_of kind (descriptor_in (M.ram ram.now) buffers.now caller.0 call.now) in
+        result ≡ mend_send buffers.now owners caller.0 call.now.transfer offer refusal }
+{
+    let Ok(found) = call.descriptor(ram, buffers, caller) else {
+        return None;
+    };
+    let mut offer = SendDesc::none();
+    if read_send(&found.bytes, call.version, kind, &mut offer).is_err() {
+        return None;
+    }
+    mend_offer(&offer, pages, base, refusal)
+}
+
+// Where the ranges of an offer leave RAM.
+fn mend_offer<P: Room<KeptPage> + Drop>(
+    offer: &SendDesc,
+    pages: &PageTable<P>,
+    base: Address,
+    refusal: Refusal,
+) -> Option<Mend>
+    ensures { result ≡ mend_offer (ownership_in pages.now base.0) refusal (send_record offer.now) }
+{
+    match refusal {
+        Refusal::RangeOutside => match first_outside(offer.ranges.as_slice(), pages, base) {
+            Some(address) => Some(Mend::Outside(address)),
+            None => None,
+        },
+        _ => None,
+    }
+}
+
+// The first page outside RAM of the first range that doesn't lie in it.
+fn first_outside<P: Room<KeptPage> + Drop>(
+    ranges: &[Range],
+    pages: &PageTable<P>,
+    base: Address,
+) -> Option<u64>
+    ensures { result ≡ first_outside (ownership_in pages.now base.0) ranges.now }
+{
+    let outside = ranges.iter().find(|range| !is_inside(range, pages, base));
+    match outside {
+        Some(range) => Some(outside_of(range, pages, base)),
+        None => None,
+    }
+}
+
+// The first page outside RAM of a range that doesn't lie in it.
+fn outside_of<P: Room<KeptPage> + Drop>(range: &Range, pages: &PageTable<P>, base: Address) -> u64
+    ensures { result ≡ outside_of (ownership_in pages.now base.0) range.now }
+{
+    let start = u64::from(base.0);
+    let end = start + 4096 * u64::from(pages.pages());
+    if start <= range.address && range.address < end {
+        end
+    } else {
+        range.address
+    }
+}
 
 impl<O: Room<OpenSlot> + Drop> Pool<O> {
     /// What is to be mended where a check of FFA_MEM_RETRIEVE_REQ of an endpoint fails that compares the descriptor in its TX with

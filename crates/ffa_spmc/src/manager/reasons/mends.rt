@@ -7,8 +7,9 @@ ghost use Rattle.ffa_model.specs.Buffers.{room_of};
 ghost use Rattle.ffa_model.specs.Lists.{is_in_run};
 ghost use Rattle.ffa_model.specs.MemorySend.{descriptor_in};
 ghost use Rattle.ffa_model.specs.Notifications.{notifications_of};
+ghost use Rattle.ffa_model.specs.RunStates.{requester, schedule_of, work_in};
 ghost use Rattle.ffa_model.specs.State.{buffers_of, own_right_of, transaction_of};
-ghost use Rattle.ffa_mend.specs.Mend.{in_buffer, mend_access, mend_asked, mend_bare, mend_bits, mend_check, mend_endpoint, mend_fault, mend_handle, mend_own_page, mend_page, mend_register, mend_retrieved, mend_return, side_of};
+ghost use Rattle.ffa_mend.specs.Mend.{in_buffer, mend_access, mend_asked, mend_bare, mend_bits, mend_check, mend_endpoint, mend_fault, mend_field, mend_form, mend_handle, mend_offered_by, mend_own_page, mend_page, mend_register, mend_release, mend_response, mend_retrieved, mend_return, mend_sent_message, side_of};
 ghost use Rattle.ffa_rxtx.specs.Stored as kept;
 
 use crate::manager::Manager;
@@ -16,7 +17,8 @@ use crate::storage::Store;
 use ffa_memshare::DescriptorCall;
 use ffa_mend::{Cause, Mend, Side};
 use ffa_model::{
-    About, Call, EndpointId, FaultKind, Home, Obstacle, PageNo, Refusal, Rights, Transfer,
+    About, Call, EndpointId, FaultKind, Flaw, HeaderFlaw, Home, Kind, Obstacle, PageNo, Refusal,
+    Rights, Transfer,
 };
 use ffa_physmem::PhysMem;
 use ffa_rxtx::Mapped;
@@ -37,8 +39,8 @@ impl<M: PhysMem + Drop, S: Store> Manager<M, S> {
             Some(About::Handle(handle)) => self.mend_handle(call, refusal, handle),
             Some(About::Bit(bit)) => self.mend_bits(&call, refusal, bit),
             Some(About::Register { .. }) => self.mend_register(refusal),
-            Some(About::Field { .. }) => None,
-            None => self.mend_bare(refusal),
+            Some(About::Field { flaw, .. }) => self.mend_field(flaw),
+            None => self.mend_bare(call, refusal),
         }
     }
 
@@ -144,13 +146,80 @@ impl<M: PhysMem + Drop, S: Store> Manager<M, S> {
     {
         match refusal {
             Refusal::DescriptorTooLong => Some(Mend::Room(room_of(self.buffers_of(self.runner())))),
+            Refusal::AnswerMisdirected => self.mend_response(),
+            _ => None,
+        }
+    }
+
+    // Of the ends of FFA_MSG_SEND_DIRECT_RESP.
+    fn mend_response(&self) -> Option<Mend>
+        ensures { let s = self.now.state in
+            result ≡ mend_response s.runner (requester (work_in (schedule_of s) s.runner)) }
+    {
+        ffa_messages::mend_response(&self.kept.chain)
+    }
+
+    // Of a field of a descriptor.
+    fn mend_field(&self, flaw: Flaw) -> Option<Mend>
+        ensures { result ≡ mend_field self.now.state flaw }
+    {
+        match flaw {
+            Flaw::Header(flaw) => self.mend_form(flaw),
+            _ => None,
+        }
+    }
+
+    // Of a header in another form than the runner's.
+    fn mend_form(&self, flaw: HeaderFlaw) -> Option<Mend>
+        ensures { result ≡ mend_form self.now.state flaw }
+    {
+        match flaw {
+            HeaderFlaw::AccessSize => Some(Mend::Form {
+                caller: self.runner(),
+                version: self.version(),
+            }),
             _ => None,
         }
     }
 
     // Of a check that is about nothing.
-    fn mend_bare(&self, refusal: Refusal) -> Option<Mend>
-        ensures { result ≡ mend_bare self.now.state refusal }
+    fn mend_bare(&self, call: Call, refusal: Refusal) -> Option<Mend>
+        ensures { result ≡ mend_bare self.now.state call refusal }
+    {
+        match call {
+            Call::MsgSend2 => self.mend_message(refusal),
+            Call::MemDonate(transfer) => self.mend_offer(Kind::Donate, transfer, refusal),
+            Call::MemLend(transfer) => self.mend_offer(Kind::Lend, transfer, refusal),
+            Call::MemShare(transfer) => self.mend_offer(Kind::Share, transfer, refusal),
+            _ => self.mend_release(refusal),
+        }
+    }
+
+    // Of the message of FFA_MSG_SEND2.
+    fn mend_message(&self, refusal: Refusal) -> Option<Mend>
+        ensures { result ≡ mend_sent_message self.now.state refusal }
+    {
+        let runner = self.kept.chain.runner();
+        ffa_messages::mend_message(&self.ram, &self.kept.buffers, runner, refusal)
+    }
+
+    // Of the ranges of FFA_MEM_DONATE, FFA_MEM_LEND or FFA_MEM_SHARE.
+    fn mend_offer(&self, kind: Kind, transfer: Transfer, refusal: Refusal) -> Option<Mend>
+        ensures { result ≡ mend_offered_by self.now.state kind transfer refusal }
+    {
+        let version = self.version();
+        let call = DescriptorCall { transfer, version };
+        let base = self.kept.records.get().manifest.ram_base;
+        let runner = self.kept.chain.runner();
+        let (pages, buffers) = (&self.kept.pages, &self.kept.buffers);
+        ffa_memshare::mend_send(
+            &self.ram, base, pages, buffers, runner, kind, &call, refusal,
+        )
+    }
+
+    // Of an RX that can't be released.
+    fn mend_release(&self, refusal: Refusal) -> Option<Mend>
+        ensures { result ≡ mend_release self.now.state refusal }
     {
         match refusal {
             Refusal::RxEmpty => Some(Mend::Cause(if self.buffers_of(self.runner()).is_some() {
