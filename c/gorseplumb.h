@@ -21,8 +21,9 @@
  * - One call at a time on a machine, a list, a slot or a span: no other call may be on its way with it, on no processor
  *   and in no signal or interrupt handler, and no two questions either.
  * - Memory that is lent is nobody else's until it is taken back: C neither reads nor writes it, through any mapping.
- *   Endpoints that a processor runs do, each within the access that the machine gives it; what they may write while a
- *   call is on its way, and what of this no proof speaks of, is in docs/EMBEDDING.md.
+ *   Endpoints that a processor runs do, each within the access that the machine gives it. While a call is on its way the
+ *   pages of the caller's TX may be written: what the call reads of them it copies first. What else may be, and what of
+ *   this no proof speaks of, is in docs/EMBEDDING.md.
  * - The library's memory and the stack are memory in which accesses that aren't aligned are done: on AArch64 normal
  *   memory, with SCTLR_ELx.A clear. With the MMU off memory is device memory, and there they fault.
  */

@@ -17,6 +17,7 @@ if [[ ${1:-} == --install-only ]]; then exit 0; fi
 to=$(mktemp -d)
 trap 'rm -rf "$to"' EXIT
 strict="-std=c11 -Wall -Wextra -Wpedantic -Wshadow -Werror -I$here"
+tests="test test_questions test_reasons test_runs test_races"
 sanitized="-O1 -g -fsanitize=address,undefined -fno-sanitize-recover=all"
 deep=${UNPROVED:+-DGORSEPLUMB_STACK_BYTES=0x80000} # what tests/all compiled without proofs tests more, and takes more stack
 renamed="-Dmemcpy=copy_bytes -Dmemmove=move_bytes -Dmemset=set_bytes" # bytes.c beside a C library, which has these
@@ -126,10 +127,10 @@ native=$made
 "$player" generate --seed 7 --lines 101000 "$top/examples/partitions.toml" >"$to/generated"
 for compiler in gcc clang; do
     has $compiler || continue
-    for test in test test_questions test_reasons test_runs; do
-        $compiler $strict $sanitized "$here/$test.c" "$here"/{settle,names}.c "$native" -o "$to/$test"
+    for test in $tests; do
+        $compiler $strict -pthread $sanitized "$here/$test.c" "$here"/{settle,names}.c "$native" -o "$to/$test"
         says "$compiler, $test, sanitized" "$to/$test"
-        $compiler $strict -O2 "$here/$test.c" "$here/settle.c" "$native" -o "$to/$test"
+        $compiler $strict -pthread -O2 "$here/$test.c" "$here/settle.c" "$native" -o "$to/$test"
         says "$compiler, $test" "$to/$test"
     done
     $compiler $strict $sanitized $renamed "$here"/{test_bytes,bytes}.c -o "$to/bytes"
@@ -165,8 +166,8 @@ if has g++; then
 fi
 # The archive isn't instrumented by the sanitizers: valgrind looks at what it reads and writes, too.
 if has gcc && has valgrind; then
-    for test in test test_questions test_reasons test_runs; do
-        gcc $strict -O1 -g "$here/$test.c" "$here/settle.c" "$native" -o "$to/$test"
+    for test in $tests; do
+        gcc $strict -pthread -O1 -g "$here/$test.c" "$here/settle.c" "$native" -o "$to/$test"
         says "valgrind, $test" valgrind -q --error-exitcode=9 --leak-check=full "$to/$test"
     done
 fi
@@ -181,8 +182,8 @@ if [[ $others ]]; then echo "names of the archive that don't begin with gorseplu
 
 if has aarch64-linux-gnu-gcc && has qemu-aarch64-static && make_archive aarch64-unknown-linux-gnu; then
     arm="aarch64-linux-gnu-gcc $strict -O2 -static"
-    for test in test test_questions test_reasons test_runs; do
-        $arm "$here/$test.c" "$here/settle.c" "$made" -o "$to/$test"
+    for test in $tests; do
+        $arm -pthread "$here/$test.c" "$here/settle.c" "$made" -o "$to/$test"
         says "AArch64, $test" qemu-aarch64-static "$to/$test"
     done
     shares "$made" aarch64-linux-gnu-gcc $strict -O2

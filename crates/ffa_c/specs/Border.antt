@@ -25,7 +25,7 @@ use Rattle.ffa_laws.specs.Readable.{Confidential}
 use Rattle.ffa_laws.specs.Silence.{Silence}
 use Rattle.ffa_laws.specs.Writers.{OnlyWriters}
 use Rattle.ffa_spmc.specs.AccessChange.{IsTelling}
-use Rattle.ffa_spmc.specs.Among.{IsDoneReading, pages_read}
+use Rattle.ffa_spmc.specs.Among.{IsDoneAlone, IsDoneReading, pages_read}
 use Rattle.ffa_spmc.specs.Moments.{AreMoments}
 use Rattle.ffa_spmc.specs.Snapshot.{Snapshot}
 use Rattle.ffa_spmc.specs.Unowned.{KeepsUnowned}
@@ -90,6 +90,8 @@ pub record HasDoneAmong (old new : Snapshot) (op : Op) (told : COutcome) : Type 
   pub outcome : Outcome
   pub is_told : told ≡ packed outcome
   pub done : IsDoneReading (pages_read old.state op) old op outcome new
+  -- as far as contracts see nobody else wrote meanwhile, so it was done by what stood in memory
+  pub alone : IsDoneAlone old.state op outcome new.state
   pub agrees : Agrees new.ram new.state
   pub unowned : KeepsUnowned old.state old.ram new.ram
   pub sound : IsSoundState new.state

@@ -39,12 +39,9 @@ pub(crate) fn done_by<M: PhysMem + Drop, S: Store>(
     COutcome::of(&machine.op(op))
 }
 
-/// The same, while others may write to the runner's TX.
+/// The same over RAM that is lent, while others may write to the runner's TX.
 #[inline]
-pub(crate) fn done_among<M: PhysMem + Drop, S: Store>(
-    machine: &mut Machine<M, NoTlb, S>,
-    op: &Op,
-) -> COutcome
+pub(crate) fn done_among<S: Store>(machine: &mut Machine<LentRam, NoTlb, S>, op: &Op) -> COutcome
     ensures { HasDoneAmong machine.old machine.new op.now result }
 {
     COutcome::of(&machine.op_among_others(op))

@@ -40,7 +40,7 @@ seen-in copies first count p b at = ap (λ c. cond c (get_or copies (p - first) 
 seen-off : (copies : List (List ℕ)) (first count p : ℕ) (b : List ℕ) → is_in_run first count p ≡ false → seen_by copies first count p b ≡ b
 seen-off copies first count p b off = ap (λ c. cond c (get_or copies (p - first) []) b) off
 
-none-in : (first count p : ℕ) → count ≡ 0 → is_in_run first count p ≡ false
+pub none-in : (first count p : ℕ) → count ≡ 0 → is_in_run first count p ≡ false
 none-in first count p none = false_from_ne_true (is_in_run first count p) (λ at. let (low, high) = in-run first count p at in absurd (omega (arith, low, high, none)))
 
 -- ---- to observe
@@ -65,25 +65,6 @@ module _ (frames : List (List ℕ)) (copies : List (List ℕ)) (first count : �
         | inr no_copy ↦ seen-off copies first count p (get_or frames p []) no_copy ∙ sym off
       ])
 
-  -- ---- to end that
-
-  pub released-page : (none : ℕ) → none ≡ 0 → (p : ℕ) → is_in_run first count p ≡ false
-      → get_or (map_at (seen_by copies first none) frames) p [] ≡ get_or (map_at (seen_by copies first count) frames) p []
-  released-page none is p off = page-alike frames (seen_by copies first count) (seen_by copies first none) p (λ lt.
-      seen-off copies first none p (get_or frames p []) (none-in first none p is) ∙ sym (seen-off copies first count p (get_or frames p []) off))
-
-  pub released-whole : (none : ℕ) → none ≡ 0 → ((k : ℕ) → k < count → length (get_or copies k []) ≡ length (get_or frames (first + k) []))
-      → (p : ℕ) → length (get_or (map_at (seen_by copies first none) frames) p []) ≡ length (get_or (map_at (seen_by copies first count) frames) p [])
-  released-whole none is whole p = length-alike frames (seen_by copies first count) (seen_by copies first none) p (λ lt.
-      let off = seen-off copies first none p (get_or frames p []) (none-in first none p is) in
-      elim (cases_Bool (is_in_run first count p)) [
-        | inl at ↦
-            (let (low, high) = in-run first count p at in
-            ap length (off ∙ sym (frame-of p at)) ∙ sym (whole (p - first) (omega (arith, low, high)))
-            ∙ ap length (sym (seen-in copies first count p (get_or frames p []) at)))
-        | inr no_copy ↦ ap length (off ∙ sym (seen-off copies first count p (get_or frames p []) no_copy))
-      ])
-
 -- ---- to write the last copy back
 
 module _ (frames : List (List ℕ)) (copies : List (List ℕ)) (first last : ℕ) where
@@ -97,6 +78,29 @@ module _ (frames : List (List ℕ)) (copies : List (List ℕ)) (first last : ℕ
         let less : p < first + last = omega (arith, high, other) in
         absurd (false≢true (sym off ∙ to-run first last p low less))))
   ]
+
+  -- ---- where the last copy is let go
+
+  module _ (count : ℕ) (is : last + 1 ≡ count) where
+    pub fewer-page : (p : ℕ) → p ≢ first + last
+        → get_or (map_at (seen_by copies first last) frames) p [] ≡ get_or (map_at (seen_by copies first count) frames) p []
+    fewer-page p other = page-alike frames (seen_by copies first count) (seen_by copies first last) p (λ lt.
+        ap (λ c. cond c (get_or copies (p - first) []) (get_or frames p [])) (in-more p other ∙ ap (λ n. is_in_run first n p) is))
+
+    pub fewer-whole : length (get_or copies last []) ≡ length (get_or frames (first + last) []) → (p : ℕ)
+        → length (get_or (map_at (seen_by copies first last) frames) p []) ≡ length (get_or (map_at (seen_by copies first count) frames) p [])
+    fewer-whole whole p = elim (cases_eq p (first + last)) [
+      | inl here ↦
+          length-alike frames (seen_by copies first count) (seen_by copies first last) p (λ lt.
+          let off : is_in_run first last p ≡ false = false_from_ne_true (is_in_run first last p) (λ at. let (low, high) = in-run first last p at in absurd (omega (arith, high, here))) in
+          let at : is_in_run first count p ≡ true = to-run first count p (omega (arith, here)) (omega (arith, here, is)) in
+          let place : p - first ≡ last = omega (arith, here) in
+          ap length (seen-off copies first last p (get_or frames p []) off)
+          ∙ ap (λ (n : ℕ). length (get_or frames n [])) here ∙ sym whole
+          ∙ ap (λ (n : ℕ). length (get_or copies n [])) (sym place)
+          ∙ ap length (sym (seen-in copies first count p (get_or frames p []) at)))
+      | inr other ↦ ap length (fewer-page p other)
+    ]
 
   -- where it has no frame
   pub written-none : length frames ≤ first + last → map_at (seen_by copies first last) frames ≡ map_at (seen_by copies first (last + 1)) frames

@@ -2,8 +2,11 @@
 -- One page, as it is read or lent, and what is observed.
 use Rattle.std.proofs.Common.{◌≡◌, ◌∙◌, ℕ, zero, suc, ◌+◌, ◌-◌, ◌<◌, ◌≤◌, Bool, true, false, cond, List, [], ◌∷◌, None, Some, length, get_or, vec_len, refl, ap, sym, arith}
 use Rattle.std.proofs.lemmas.Bool.{false_from_ne_true}
+use Rattle.std.proofs.Math.Nat.{ℕ_set}
 use Rattle.std.proofs.Math.Bridge.{le_prop}
-use Rattle.std.specs.Vec.{with_item}
+use Rattle.std.specs.Vec.{with_item, with_items}
+use Rattle.std.proofs.lemmas.List.{with_items_is}
+use Rattle.ffa_model.specs.declared.limits.TheConstants.{MOST_BUFFER_PAGES}
 use Rattle.ffa_model.specs.Lists.{is_in_run, map_at}
 use Rattle.ffa_model.specs.Ram.{page_of}
 use Rattle.ffa_model.proofs.Accesses.{length-map_at}
@@ -39,17 +42,17 @@ module _ (m : LentRam) (i : ℕ) (inside : i < length (ram_of m).pages) where
       ∙ ap (λ c. cond c (get_or m.copies.items (i - m.first.0) []) (page_of (frame_ram m.frames) i)) off
 
 -- what is lent to be written is that of the RAM with these bytes, whatever proves that this is RAM
-module _ (m : LentRam) (i : ℕ) (w : List ℕ) (held : m.count ≤ vec_len m.copies) where
+module _ (m : LentRam) (i : ℕ) (w : List ℕ) (room : vec_len m.copies ≡ MOST_BUFFER_PAGES) (held : m.count ≤ vec_len m.copies) where
   pub with_copy-there : is_observed m i ≡ true → (place : ℕ) → place ≡ i - m.first.0
-      → record { frames = m.frames; copies = with_item m.copies place w; first = m.first; count = m.count; held = held } ≡ with_bytes m i w
+      → record { frames = m.frames; copies = with_item m.copies place w; first = m.first; count = m.count; room = room; held = held } ≡ with_bytes m i w
   with_copy-there at place same =
-      (λ j. record { frames = m.frames; copies = with_item m.copies (same j) w; first = m.first; count = m.count; held = le_prop held m.held j })
+      (λ j. record { frames = m.frames; copies = with_item m.copies (same j) w; first = m.first; count = m.count; room = ℕ_set _ _ room m.room j; held = le_prop held m.held j })
       ∙ sym (ap (λ c. cond c (record m { copies = with_item m.copies (i - m.first.0) w }) (record m { frames = with_frame m.frames i w })) at)
 
   pub with_frame-there : is_observed m i ≡ false
-      → record { frames = with_frame m.frames i w; copies = m.copies; first = m.first; count = m.count; held = held } ≡ with_bytes m i w
+      → record { frames = with_frame m.frames i w; copies = m.copies; first = m.first; count = m.count; room = room; held = held } ≡ with_bytes m i w
   with_frame-there off =
-      (λ j. record { frames = with_frame m.frames i w; copies = m.copies; first = m.first; count = m.count; held = le_prop held m.held j })
+      (λ j. record { frames = with_frame m.frames i w; copies = m.copies; first = m.first; count = m.count; room = ℕ_set _ _ room m.room j; held = le_prop held m.held j })
       ∙ sym (ap (λ c. cond c (record m { copies = with_item m.copies (i - m.first.0) w }) (record m { frames = with_frame m.frames i w })) off)
 
 -- the place of a page's copy says whether it is observed
@@ -78,10 +81,12 @@ unseen pages copies first count none = of pages (seen_by copies first count) (λ
     of [] f same = refl
     of (x ∷ xs) f same = λ k. same 0 x k ∷ of xs (λ p. f (suc p)) (λ p. same (suc p)) k
 
--- where nothing was observed, copies of frames change no page
-pub unchanged : (m : LentRam) (first count : ℕ) (copies : List (List ℕ)) → first + count ≤ length (ram_of m).pages → m.count ≡ 0
-    → ((k : ℕ) → k < count → get_or copies k [] ≡ page_of (frame_ram m.frames) (first + k))
-    → map_at (seen_by copies first count) (frame_ram m.frames).pages ≡ (ram_of m).pages
-unchanged m first count copies within none copied =
+-- where nothing was observed, frames that are copied change no page
+pub unchanged : (m : LentRam) (first count : ℕ) (copies : List (List ℕ)) → length copies ≡ vec_len m.copies → first + count ≤ length (ram_of m).pages
+    → m.count ≡ 0 → ((k : ℕ) → k < count → get_or copies k [] ≡ page_of (frame_ram m.frames) (first + k))
+    → map_at (seen_by (with_items m.copies copies).items first count) (frame_ram m.frames).pages ≡ (ram_of m).pages
+unchanged m first count copies room within none copied =
     let same = pages-seen m in
-    observed-same (frame_ram m.frames).pages copies first count (omega (arith, within, same)) m.copies.items m.first.0 m.count none copied
+    let are : (with_items m.copies copies).items ≡ copies = with_items_is m.copies copies room in
+    observed-same (frame_ram m.frames).pages (with_items m.copies copies).items first count (omega (arith, within, same)) m.copies.items m.first.0 m.count none
+    (λ k lt. ap (λ (xs : List (List ℕ)). get_or xs k []) are ∙ copied k lt)

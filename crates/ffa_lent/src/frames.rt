@@ -1,15 +1,18 @@
 // SPDX-License-Identifier: MIT OR Apache-2.0
 //! Pages that are lent, and RAM over them.
-ghost use Rattle.std.specs.Prelude.{◌≡◌, true, false, ℕ, ◌+◌, ◌*◌, ◌%◌, ◌^◌, ◌<◌, ◌≤◌, ◌++◌, [], ◌∷◌, None, IfOk, IfErr, IfSome, Some, max, ◌-◌, is_ok, slice_index_or, if◌then◌else◌, length, vec_len};
+ghost use Rattle.std.specs.Prelude.{◌≡◌, ◌≢◌, true, false, ℕ, ◌+◌, ◌*◌, ◌%◌, ◌^◌, ◌<◌, ◌≤◌, ◌++◌, [], ◌∷◌, None, IfOk, IfErr, IfSome, Some, max, ◌-◌, is_ok, slice_index_or, if◌then◌else◌, length, vec_len};
 ghost use Rattle.std.specs.Option.{option_map, option_to_list};
 ghost use Rattle.ffa_lent.specs.Listed.{empty, nothing_listed};
+ghost use Rattle.ffa_model.specs.declared.limits.TheConstants.{MOST_BUFFER_PAGES};
+ghost use Rattle.ffa_model.specs.Lists.{is_in_run};
 ghost use Rattle.ffa_model.specs.Ram.{page_of};
 ghost use Rattle.ffa_physmem.specs.FrameRam.{ram_of as frame_ram};
+ghost use Rattle.ffa_physmem.specs.Moments.{IsBeside};
 
 use crate::lent::Lent;
 use crate::settling;
 use ffa_model::{Address, MOST_BUFFER_PAGES, PageNo};
-use ffa_physmem::{FrameRam, PAGE_SIZE, PhysMem, put_word};
+use ffa_physmem::{FrameRam, Observed, PAGE_SIZE, PhysMem, put_word};
 use std::alloc::{AllocError, Global};
 use std::marker::Model;
 
@@ -22,8 +25,9 @@ pub struct Frames {
 }
 
 impl Model for Frames {
-    ghost use Rattle.std.specs.Prelude.{is_some, map, vec_capacity};
+    ghost use Rattle.std.specs.Prelude.{◌≡◌, IfSome, is_some, map, vec_capacity, vec_len};
     ghost use Rattle.ffa_lent.specs.Listed.{Listed, coded_listed};
+    ghost use Rattle.ffa_model.specs.declared.limits.TheConstants.{MOST_BUFFER_PAGES};
 
     ghost Value = { Listed };
 
@@ -34,6 +38,9 @@ impl Model for Frames {
       room = vec_capacity f.list;
       is_ready = is_some f.copies;
     } };
+
+    // The room is that of a whole TX.
+    ghost invariant = { λ f. IfSome f.copies (λ copies. vec_len copies ≡ MOST_BUFFER_PAGES) };
 }
 
 impl Frames {
@@ -102,10 +109,11 @@ impl Frames {
 #[derive(Drop)]
 pub struct LentRam {
     frames: FrameRam<Lent, Global>,
-    // Copies of so many pages, from the first that is observed on.
+    // Copies of so many pages, from the first that is observed on, in room for a whole TX.
     copies: Vec<[u8; 4096]>,
     first: PageNo,
     count: usize,
+    ghost room: { vec_len copies ≡ MOST_BUFFER_PAGES },
     ghost held: { count ≤ vec_len copies },
 }
 
@@ -122,12 +130,8 @@ impl LentRam {
         ensures unready { IfErr result (λ _. frames.is_ready ≡ false) }
     {
         let Frames { list, copies } = frames;
-        let copies = match copies {
-            Some(copies) => copies,
-            None => match room_for_copies(alloc) {
-                Ok(copies) => copies,
-                Err(AllocError) => return Err(Frames { list, copies: None }),
-            },
+        let Ok(copies) = copies_in(alloc, copies) else {
+            return Err(Frames { list, copies: None });
         };
         Ok(LentRam {
             frames: FrameRam::of(base, list),
@@ -179,6 +183,9 @@ impl LentRam {
         requires { 0 < self.old.count }
         ensures ram { ram_of self.new ≡ ram_of self.old }
         ensures fewer { self.new.count + 1 ≡ self.old.count }
+        ensures first { self.new.first ≡ self.old.first }
+        ensures others { (p : ℕ) → p ≢ self.old.first.0 + self.new.count
+            → page_of (frame_ram self.new.frames) p ≡ page_of (frame_ram self.old.frames) p }
     {
         let last = self.count - 1;
         let page = self.first.0 as usize + last;
@@ -189,15 +196,66 @@ impl LentRam {
         *self.frames.page_mut(PageNo(page as u32)) = self.copies[last];
         self.count = last;
     }
+
+    // Ends what is observed. Of these pages nothing is written to memory, and what was seen of others is.
+    fn forget(&mut self, first: PageNo, count: u32)
+        requires { first.0 + count ≤ length (ram_of self.old).pages }
+        ensures none { self.new.count ≡ 0 }
+        ensures beside { IsBeside (ram_of self.old) (ram_of self.new) (is_in_run first.0 count) }
+        ensures whole { (p : ℕ) → length (page_of (ram_of self.new) p) ≡ length (page_of (ram_of self.old) p) }
+        ensures memory { (p : ℕ) → is_in_run first.0 count p ≡ true
+            → page_of (frame_ram self.new.frames) p ≡ page_of (frame_ram self.old.frames) p }
+    {
+        while self.count > 0 {
+            self.forget_last(first, count);
+        }
+    }
+
+    // The same of the last page that is observed, alone.
+    fn forget_last(&mut self, first: PageNo, count: u32)
+        requires within { first.0 + count ≤ length (ram_of self.old).pages }
+        requires some { 0 < self.old.count }
+        ensures fewer { self.new.count + 1 ≡ self.old.count }
+        ensures beside { IsBeside (ram_of self.old) (ram_of self.new) (is_in_run first.0 count) }
+        ensures whole { (p : ℕ) → length (page_of (ram_of self.new) p) ≡ length (page_of (ram_of self.old) p) }
+        ensures memory { (p : ℕ) → is_in_run first.0 count p ≡ true
+            → page_of (frame_ram self.new.frames) p ≡ page_of (frame_ram self.old.frames) p }
+    {
+        let last = self.count - 1;
+        let page = self.first.0 as usize + last;
+        let from = first.0 as usize;
+        if from <= page && page < from + count as usize {
+            // Proof step: a page's number fits 32 bits, and a copy has as many bytes as its frame.
+            let _all = self.frames.pages();
+            are_alike(&self.copies[last], self.frames.page(PageNo(page as u32)));
+            self.count = last;
+            return;
+        }
+        self.write_last();
+    }
 }
 
 // Room for the copies of as many pages as TX may have.
-fn room_for_copies(alloc: Global) -> Result<Vec<[u8; 4096]>, AllocError> {
+fn room_for_copies(alloc: Global) -> Result<Vec<[u8; 4096]>, AllocError>
+    ensures { IfOk result (λ copies. vec_len copies ≡ MOST_BUFFER_PAGES) }
+{
     let mut copies = Vec::with_capacity(alloc, MOST_BUFFER_PAGES as usize)?;
     for _page in 0..MOST_BUFFER_PAGES {
         copies.push([0; PAGE_SIZE])?;
     }
     Ok(copies)
+}
+
+// The room that is given, or else new room.
+fn copies_in(alloc: Global, given: Option<Vec<[u8; 4096]>>) -> Result<Vec<[u8; 4096]>, AllocError>
+    requires { IfSome given (λ copies. vec_len copies ≡ MOST_BUFFER_PAGES) }
+    ensures room { IfOk result (λ copies. vec_len copies ≡ MOST_BUFFER_PAGES) }
+    ensures none { IfErr result (λ _. given ≡ None) }
+{
+    match given {
+        Some(copies) => Ok(copies),
+        None => room_for_copies(alloc),
+    }
 }
 
 impl PhysMem for LentRam {
@@ -255,23 +313,34 @@ impl PhysMem for LentRam {
     fn settle(&mut self, endpoint: usize, first: PageNo, count: u32) {
         settling::ask(endpoint, self.frames.base(), first, count);
     }
+}
 
-    // Observes nothing where pages are observed already, or more are named than a TX may have.
-    fn observe(&mut self, first: PageNo, count: u32) {
-        if self.count == 0 && count as usize <= self.copies.len() {
-            copy_frames(&mut self.copies, &self.frames, first, count);
-            self.first = first;
-            self.count = count as usize;
-        }
+impl Observed for LentRam {
+    ghost use Rattle.std.specs.Prelude.{true};
+    ghost use Rattle.ffa_lent.specs.LentRam.{is_observed};
+    ghost use Rattle.ffa_model.specs.Ram.{page_of};
+    ghost use Rattle.ffa_physmem.specs.FrameRam.{ram_of as frame_ram};
+
+    ghost beneath = { λ m p. page_of (frame_ram m.frames) p };
+
+    ghost is_held = { is_observed };
+
+    // What others write to a frame no contract sees.
+    ghost is_alone = { true };
+
+    fn rest(&mut self) {
+        self.write_back();
     }
 
-    // Ends what was observed of these pages and no others.
+    fn observe(&mut self, first: PageNo, count: u32) {
+        self.forget(first, count);
+        copy_frames(&mut self.copies, &self.frames, first, count);
+        self.first = first;
+        self.count = count as usize;
+    }
+
     fn release(&mut self, first: PageNo, count: u32) {
-        if self.first == first && self.count == count as usize {
-            // Proof step: a copy has as many bytes as its frame.
-            are_whole(&self.copies, &self.frames, first, count);
-            self.count = 0;
-        }
+        self.forget(first, count);
     }
 }
 
@@ -293,15 +362,10 @@ fn copy_frames(
     }
 }
 
-// Each of these copies has as many bytes as its frame.
-fn are_whole(copies: &[[u8; 4096]], frames: &FrameRam<Lent, Global>, first: PageNo, count: u32)
-    requires within { first.0 + count ≤ length (frame_ram frames.now).pages }
-    requires room { count ≤ length copies.now }
-    ensures { (k : ℕ) → k < count
-        → length (slice_index_or copies.now k []) ≡ length (page_of (frame_ram frames.now) (first.0 + k)) }
+// Two pages have as many bytes.
+fn are_alike(copy: &[u8; 4096], frame: &[u8; 4096])
+    ensures { length copy.now ≡ length frame.now }
 {
-    for index in 0..count {
-        let _ = &copies[index as usize][..];
-        let _ = frames.page(PageNo(first.0 + index));
-    }
+    let _ = &copy[..];
+    let _ = &frame[..];
 }

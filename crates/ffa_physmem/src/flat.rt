@@ -3,6 +3,7 @@
 ghost use Rattle.std.specs.Prelude.{◌≡◌, ℕ, ◌+◌, ◌*◌, ◌%◌, ◌^◌, ◌<◌, ◌≤◌, length, replicate, IfOk, vec_len};
 
 use crate::memory::{PAGE_SIZE, PhysMem, put_word};
+use crate::observed::Observed;
 use ffa_model::{Address, PageNo};
 use std::alloc::{AllocError, Allocator, Global};
 use std::fmt;
@@ -119,6 +120,20 @@ impl<A: Allocator> PhysMem for FlatRam<A> {
     }
 
     fn settle(&mut self, _endpoint: usize, _first: PageNo, _count: u32) {}
+}
+
+// Nobody else writes to it, so each page is always what one reading gives.
+impl<A: Allocator> Observed for FlatRam<A> {
+    ghost use Rattle.std.specs.Prelude.{true};
+    ghost use Rattle.ffa_model.specs.Ram.{page_of};
+
+    ghost beneath = { λ m p. page_of (⟦<FlatRam<A> as PhysMem>⟧.ram m) p };
+
+    ghost is_held = { λ _ _. true };
+
+    ghost is_alone = { true };
+
+    fn rest(&mut self) {}
 
     fn observe(&mut self, _first: PageNo, _count: u32) {}
 

@@ -4,6 +4,7 @@ ghost use Rattle.std.specs.Prelude.{◌≡◌, ℕ, ◌+◌, ◌*◌, ◌%◌, �
 
 use crate::flat::NoMemory;
 use crate::memory::{PAGE_SIZE, PhysMem, put_word};
+use crate::observed::Observed;
 use ffa_model::{Address, PageNo};
 use std::alloc::{AllocError, Allocator, Global};
 
@@ -122,6 +123,21 @@ impl<A: Allocator, L: Allocator> PhysMem for FrameRam<A, L> {
     }
 
     fn settle(&mut self, _endpoint: usize, _first: PageNo, _count: u32) {}
+}
+
+// Nobody else writes to it, so each page is always what one reading gives.
+impl<A: Allocator, L: Allocator> Observed for FrameRam<A, L> {
+    ghost use Rattle.std.specs.Prelude.{true};
+    ghost use Rattle.ffa_model.specs.Ram.{page_of};
+    ghost use Rattle.ffa_physmem.specs.FrameRam.{ram_of};
+
+    ghost beneath = { λ m p. page_of (ram_of m) p };
+
+    ghost is_held = { λ _ _. true };
+
+    ghost is_alone = { true };
+
+    fn rest(&mut self) {}
 
     fn observe(&mut self, _first: PageNo, _count: u32) {}
 

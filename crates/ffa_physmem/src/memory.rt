@@ -1,10 +1,9 @@
 // SPDX-License-Identifier: MIT OR Apache-2.0
 //! What the manager needs of RAM.
-ghost use Rattle.std.specs.Prelude.{◌≡◌, ℕ, ◌+◌, ◌*◌, ◌%◌, ◌^◌, ◌<◌, ◌≤◌, true, false, List, ◌++◌, length, take, drop, replicate, Option};
+ghost use Rattle.std.specs.Prelude.{◌≡◌, ℕ, ◌+◌, ◌*◌, ◌%◌, ◌^◌, ◌<◌, ◌≤◌, List, ◌++◌, length, take, drop, replicate, Option};
 ghost use Rattle.std.specs.Borrow.{sem, Lends, Array, u8 as byte};
 ghost use Rattle.ffa_model.specs.Ram.{Ram, page_of, with_page, word_of, with_word};
-ghost use Rattle.ffa_model.specs.Lists.{is_in_run};
-ghost use Rattle.ffa_physmem.specs.Moments.{Step, IsBeside, IsReading, IsStore, IsSettling, IsInLoan, One, Only};
+ghost use Rattle.ffa_physmem.specs.Moments.{Step, IsStore, IsSettling, IsInLoan, One, Only};
 
 use byteorder::{ByteOrder, LittleEndian};
 use ffa_model::{Address, PageNo};
@@ -71,24 +70,6 @@ pub trait PhysMem {
     fn settle(&mut self, endpoint: usize, first: PageNo, count: u32)
         ensures ram { ram self.new ≡ ram self.old }
         ensures steps { One (past self.old) (past self.new) (λ s. IsSettling (ram self.old) endpoint first.0 count s) };
-
-    /// Reads pages, from one on, to which others may write at the same time: until `release` each of them is what this one
-    /// reading gave. It tells nothing of their bytes, since others may have written to them since they were read last. A kind
-    /// to which nobody else writes keeps them as they are.
-    fn observe(&mut self, first: PageNo, count: u32)
-        requires { first.0 + count ≤ length (ram self.old).pages }
-        ensures beside { IsBeside (ram self.old) (ram self.new) (is_in_run first.0 count) }
-        ensures whole { (p : ℕ) → length (page_of (ram self.new) p) ≡ length (page_of (ram self.old) p) }
-        ensures steps { One (past self.old) (past self.new)
-            (λ s. IsReading (ram self.old) (ram self.new) first.0 count true s) };
-
-    /// Ends what `observe` of the same pages began: from now on they are again whatever others write to them.
-    fn release(&mut self, first: PageNo, count: u32)
-        requires { first.0 + count ≤ length (ram self.old).pages }
-        ensures beside { IsBeside (ram self.old) (ram self.new) (is_in_run first.0 count) }
-        ensures whole { (p : ℕ) → length (page_of (ram self.new) p) ≡ length (page_of (ram self.old) p) }
-        ensures steps { One (past self.old) (past self.new)
-            (λ s. IsReading (ram self.old) (ram self.new) first.0 count false s) };
 
     /// Fills a page with zeros.
     fn clear_page(&mut self, page: PageNo)

@@ -3,7 +3,7 @@
 ghost use Rattle.std.specs.Prelude.{◌≡◌, ◌++◌, [], ◌∷◌, true, length, if◌then◌else◌};
 
 use ffa_model::{Address, PageNo};
-use ffa_physmem::{FlatRam, PhysMem};
+use ffa_physmem::{FlatRam, Observed, PhysMem};
 use std::alloc::Global;
 
 /// A page, and the bytes that it had.
@@ -131,8 +131,21 @@ impl PhysMem for Recorded {
             count,
         }));
     }
+}
 
-    // Nobody else writes to this RAM.
+// Nobody else writes to this RAM, so each page is always what one reading gives.
+impl Observed for Recorded {
+    ghost use Rattle.std.specs.Prelude.{true};
+    ghost use Rattle.ffa_model.specs.Ram.{page_of};
+
+    ghost beneath = { λ m p. page_of (⟦<FlatRam as PhysMem>⟧.ram m.ram) p };
+
+    ghost is_held = { λ _ _. true };
+
+    ghost is_alone = { true };
+
+    fn rest(&mut self) {}
+
     fn observe(&mut self, first: PageNo, count: u32) {
         self.note(Noted::Read(Reading {
             first,

@@ -2,10 +2,12 @@
 -- Pages behind the tables with other bytes: a machine is one still, and its state is the same but for these bytes.
 use Rattle.std.proofs.Common.{◌≡◌, ◌∙◌, ℕ, suc, ◌+◌, ◌*◌, ◌/◌, ◌<◌, ◌≤◌, Bool, true, false, List, [], ◌∷◌, length, get_or, Option, Some, None, refl, sym, ap, subst, arith, inl, inr}
 use Rattle.std.specs.Option.{option_map, option_map_or}
-use Rattle.std.specs.Prelude.{IsSome, nat_lt}
-use Rattle.std.proofs.lemmas.Bool.{and_from, cases_Bool, cases_lt, false_from_ne_true, lt-ltb}
+use Rattle.std.specs.Prelude.{IsSome, nat_le, nat_lt}
+use Rattle.std.proofs.lemmas.Bool.{and_from, and_parts, cases_Bool, cases_lt, false_from_ne_true, leb-true, lt-ltb}
 use Rattle.std.proofs.lemmas.Bool.Decides.{nat_tests}
+use Rattle.std.proofs.lemmas.List.{ext_get_or}
 use Rattle.std.proofs.lemmas.Option.{none-some, same_Some}
+use Rattle.ffa_model.specs.declared.limits.TheConstants.{MOST_BUFFER_PAGES}
 use Rattle.ffa_model.specs.Access.{access}
 use Rattle.ffa_model.specs.Buffers.{buffers_in}
 use Rattle.ffa_model.specs.Identifiers.{identifier}
@@ -36,6 +38,16 @@ use Rattle.ffa_spmc.proofs.Held.{owned-behind, page-held, page-past, parties_are
 pub all-bytes : (xs : List ℕ) → ((k : ℕ) → k < length xs → get_or xs k 0 < 256) → are_bytes xs
 all-bytes [] each = refl
 all-bytes (x ∷ xs) each = and_from (nat_lt x 256) _ (lt-ltb x 256 (each 0 (omega arith))) (all-bytes xs (λ k lt. each (suc k) (omega arith)))
+
+-- RAM whose named pages, which alone may differ, are what they were
+pub ram-kept : (old new : Ram) (named : ℕ → Bool) → IsBeside old new named
+    → ((p : ℕ) → named p ≡ true → p < length old.pages → page_of new p ≡ page_of old p) → new ≡ old
+ram-kept old new named beside same =
+    let pages : new.pages ≡ old.pages = ext_get_or [] new.pages old.pages beside.size (λ p lt. elim (cases_Bool (named p)) [
+      | inl at ↦ same p at (subst (λ (n : ℕ). p < n) beside.size lt)
+      | inr off ↦ beside.pages p off
+    ]) in
+    λ i. record { base = beside.base i; pages = pages i }
 
 -- what is of an endpoint's page, with these bytes
 abbrev page_by : Option Entry → List ℕ → Option Page
@@ -173,7 +185,7 @@ behind-tables x machine run behind p its =
 holding-few : (pages bytes : ℕ) → pages_holding pages bytes ≤ pages
 holding-few pages bytes = grind (arith, nat_tests)
 
--- those of an endpoint's TX: they are in RAM, behind the tables, and its own
+-- those of an endpoint's TX: they are in RAM, no more than a TX may have, behind the tables, and its own
 module _ (x : Parts) (machine : IsManager x) (e bytes : ℕ) (at : e ≡ x.kept.chain.runner) (b : Buffers) (is : buffers_in x.kept.buffers e ≡ Some b) where
   few : (run : Run) → run.first.0 ≡ b.tx → run.count ≡ pages_holding b.pages bytes → (p : ℕ) → is_in run p ≡ true → is_in_run b.tx b.pages p ≡ true
   few run first count p its =
@@ -186,6 +198,13 @@ module _ (x : Parts) (machine : IsManager x) (e bytes : ℕ) (at : e ≡ x.kept.
       let there = in-ram x machine e (runner-there x machine e at) b is in
       let most = holding-few b.pages bytes in
       omega (arith, there.tx, most)
+
+  pub front-few : pages_holding b.pages bytes ≤ MOST_BUFFER_PAGES
+  front-few =
+      let sound = machine.sound.buffers e b (runner-there x machine e at) is in
+      let most : b.pages ≤ MOST_BUFFER_PAGES = leb-true b.pages MOST_BUFFER_PAGES (and_parts (nat_le 1 b.pages) _ sound.count).1 in
+      let fewer = holding-few b.pages bytes in
+      omega (arith, most, fewer)
 
   pub front-owned : (run : Run) → run.first.0 ≡ b.tx → run.count ≡ pages_holding b.pages bytes → (p : ℕ) → is_in run p ≡ true → IsSome (page_at (state_of x) p)
   front-owned run first count p its =

@@ -102,10 +102,23 @@ abbrev pub IsDoneReading : Option Run → Snapshot → Op → Outcome → Snapsh
 IsDoneReading None old op told new = IsDone old op told new
 IsDoneReading (Some run) old op told new = IsDoneAmong run old op told new
 
--- so were operations that were done one after another, each with one of the outcomes
-abbrev pub AreDoneReading : Snapshot → List Op → List Outcome → Snapshot → Type 0
-AreDoneReading old [] told new = (told ≡ []) × (new ≡ old)
-AreDoneReading old (op ∷ ops) told new =
+-- the pages of a run, if there is one
+abbrev pub are_in : Option Run → ℕ → Bool
+are_in None p = false
+are_in (Some run) p = is_in run p
+
+-- So was one while nobody else wrote, by what stood in memory: with the outcome of the small machine from the state as it
+-- was, and it left the state of the small machine, but for bytes of the pages that were read.
+pub record IsDoneAlone (old : State) (op : Op) (told : Outcome) (new : State) : Type 0 where
+  pub outcome : told ≡ (step old op).outcome
+  pub state : AreBeside (step old op).state new (are_in (pages_read old op))
+
+-- so were operations that were done one after another, each with one of the outcomes, and by what stood in memory where nobody
+-- else wrote
+abbrev pub AreDoneReading : Bool → Snapshot → List Op → List Outcome → Snapshot → Type 0
+AreDoneReading alone old [] told new = (told ≡ []) × (new ≡ old)
+AreDoneReading alone old (op ∷ ops) told new =
     (next : Snapshot) × (outcome : Outcome) × (rest : List Outcome)
     × (told ≡ outcome ∷ rest) × IsDoneReading (pages_read old.state op) old op outcome next
-    × AreDoneReading next ops rest new
+    × (alone ≡ true → IsDoneAlone old.state op outcome next.state)
+    × AreDoneReading alone next ops rest new

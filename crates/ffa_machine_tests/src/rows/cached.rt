@@ -198,10 +198,6 @@ impl PhysMem for Counting {
 
     fn settle(&mut self, _endpoint: usize, _first: PageNo, _count: u32) {}
 
-    fn observe(&mut self, _first: PageNo, _count: u32) {}
-
-    fn release(&mut self, _first: PageNo, _count: u32) {}
-
     fn write_word(&mut self, page: PageNo, index: usize, value: u64) {
         self.ram.write_word(page, index, value);
     }

@@ -3,7 +3,7 @@
 //!
 //! One word of this RAM is another one at each reading, and another one still when the reading ends, so a call that read
 //! it twice, or after the end, would find two words.
-ghost use Rattle.std.specs.Prelude.{◌≡◌, ℕ, ◌+◌, ◌*◌, ◌≤◌, length, IfOk};
+ghost use Rattle.std.specs.Prelude.{◌≡◌, ℕ, ◌+◌, ◌*◌, ◌<◌, ◌≤◌, true, length, IfOk};
 ghost use Rattle.ffa_model.specs.Lists.{is_in_run};
 ghost use Rattle.ffa_model.specs.Ram.{page_of, zero_ram};
 ghost use Rattle.ffa_physmem.specs.Moments.{IsBeside};
@@ -12,7 +12,7 @@ use super::*;
 use crate::checks::{alike, same};
 use ffa_manifest::read;
 use ffa_model::{Address, EndpointId, Op, Outcome, PageNo, Size};
-use ffa_physmem::{FlatRam, PhysMem};
+use ffa_physmem::{FlatRam, Observed, PhysMem};
 use ffa_spmc::Machine;
 
 // The machine of the rows with a third partition.
@@ -46,13 +46,22 @@ const NAMED: usize = 10;
 
 const RECEIVER: usize = 1;
 
-// RAM a word of which is the next of these whenever it is read at once, and whenever that ends.
+// Whether TX is one of so many pages from one on.
+fn has_tx(first: PageNo, count: u32) -> bool
+    ensures { result ≡ is_in_run first.0 count 0x2E }
+{
+    let (first, count) = (u64::from(first.0), u64::from(count));
+    first <= u64::from(TX.0) && u64::from(TX.0) < first + count
+}
+
+// RAM a word of which others write: it is the next one whenever it is read at once, and whenever that ends.
 #[derive(Drop)]
 struct Shifting {
     ram: FlatRam,
     word: usize,
-    next: [u64; 2],
-    taken: usize,
+    next: u64,
+    last: u64,
+    ghost place: { word < 512 },
 }
 
 impl Shifting {
@@ -63,6 +72,7 @@ impl Shifting {
         word: usize,
         next: [u64; 2],
     ) -> Result<Shifting, Fail>
+        requires { word < 512 }
         ensures { IfOk result (λ ram. ⟦<Shifting as PhysMem>⟧.ram ram
             ≡ zero_ram manifest.now.ram_base.0 (512 * manifest.now.ram_blocks)) }
     {
@@ -70,24 +80,26 @@ impl Shifting {
         Ok(Shifting {
             ram,
             word,
-            next,
-            taken: 0,
+            next: next[0],
+            last: next[1],
         })
     }
 
     // Writes the next word, where its page is one of these.
     fn shift(&mut self, first: PageNo, count: u32)
         requires { first.0 + count ≤ length (⟦<FlatRam as PhysMem>⟧.ram self.old.ram).pages }
+        ensures shown { (p : ℕ) → is_in_run first.0 count p ≡ true
+            → page_of (⟦<FlatRam as PhysMem>⟧.ram self.new.ram) p ≡ ⟦<Shifting as Observed>⟧.beneath self.old p }
         ensures beside { IsBeside (⟦<FlatRam as PhysMem>⟧.ram self.old.ram) (⟦<FlatRam as PhysMem>⟧.ram self.new.ram)
             (is_in_run first.0 count) }
         ensures whole { (p : ℕ) → length (page_of (⟦<FlatRam as PhysMem>⟧.ram self.new.ram) p)
             ≡ length (page_of (⟦<FlatRam as PhysMem>⟧.ram self.old.ram) p) }
     {
-        if self.taken < 2 && self.word < 512 && first.0 <= TX.0 && TX.0 - first.0 < count {
+        if has_tx(first, count) {
             // Proof step: the page is whole.
             let _ = self.ram.page(TX);
-            self.ram.write_word(TX, self.word, self.next[self.taken]);
-            self.taken += 1;
+            self.ram.write_word(TX, self.word, self.next);
+            self.next = self.last;
         }
     }
 }
@@ -128,6 +140,23 @@ impl PhysMem for Shifting {
     }
 
     fn settle(&mut self, _endpoint: usize, _first: PageNo, _count: u32) {}
+}
+
+impl Observed for Shifting {
+    ghost use Rattle.std.specs.Prelude.{◌==◌, true, false, if◌then◌else◌};
+    ghost use Rattle.ffa_model.specs.Ram.{page_of, with_word};
+
+    // What others wrote to the page of TX, and of any other page what stands in RAM.
+    ghost beneath = { λ m p.
+        if p == 0x2E then with_word (page_of (⟦<FlatRam as PhysMem>⟧.ram m.ram) 0x2E) m.word m.next
+        else page_of (⟦<FlatRam as PhysMem>⟧.ram m.ram) p };
+
+    // A word changes at a reading's ends alone.
+    ghost is_held = { λ _ _. true };
+
+    ghost is_alone = { false };
+
+    fn rest(&mut self) {}
 
     fn observe(&mut self, first: PageNo, count: u32) {
         self.shift(first, count);
@@ -180,7 +209,9 @@ fn begin(machine: &mut Machine<Shifting>) {
 }
 
 // A machine whose first partition runs, and where all partitions have buffers.
-fn shifting_machine(alloc: Global, word: usize, next: [u64; 2]) -> Result<Machine<Shifting>, Fail> {
+fn shifting_machine(alloc: Global, word: usize, next: [u64; 2]) -> Result<Machine<Shifting>, Fail>
+    requires { word < 512 }
+{
     let manifest = read(alloc, MACHINE)?;
     let ram = Shifting::new(alloc, &manifest, word, next)?;
     let mut machine = Machine::boot_cleared(&manifest, ram, NoTlb);

@@ -235,10 +235,6 @@ impl PhysMem for Watched {
         }
     }
 
-    fn observe(&mut self, _first: PageNo, _count: u32) {}
-
-    fn release(&mut self, _first: PageNo, _count: u32) {}
-
     fn write_word(&mut self, page: PageNo, index: usize, value: u64) {
         self.ram.write_word(page, index, value);
         self.look();

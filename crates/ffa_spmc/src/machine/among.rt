@@ -1,9 +1,10 @@
 // SPDX-License-Identifier: MIT OR Apache-2.0
 //! An operation while other processors of its runner write to the runner's TX.
 ghost use Rattle.std.specs.Prelude.{true, false, ◌≡◌, ◌+◌, ◌≤◌, length};
+ghost use Rattle.ffa_model.specs.declared.limits.TheConstants.{MOST_BUFFER_PAGES};
 ghost use Rattle.ffa_model.specs.Agreement.{Agrees};
 ghost use Rattle.ffa_model.specs.SoundState.{IsSoundState};
-ghost use Rattle.ffa_spmc.specs.Among.{AreDoneReading, IsDone, IsDoneReading, IsRead, pages_read};
+ghost use Rattle.ffa_spmc.specs.Among.{AreDoneReading, IsDone, IsDoneAlone, IsDoneReading, IsRead, pages_read};
 ghost use Rattle.ffa_spmc.specs.Cached.{AreWalks};
 ghost use Rattle.ffa_spmc.specs.Unowned.{KeepsUnowned, pages_of_tables};
 
@@ -11,16 +12,20 @@ use super::Machine;
 use crate::run::Run;
 use crate::storage::Store;
 use ffa_model::{Op, Outcome};
-use ffa_physmem::PhysMem;
+use ffa_physmem::Observed;
 use ffa_tlb::Translations;
 
-impl<M: PhysMem + Drop, T: Translations + Drop, S: Store> Machine<M, T, S> {
+impl<M: Observed + Drop, T: Translations + Drop, S: Store> Machine<M, T, S> {
     /// Does one operation of the runner, as `op` does, while other processors of the same endpoint may write to its TX: of
     /// TX it reads at once the pages that the operation reads, and then does it by what that one reading gave.
     pub fn op_among_others(&mut self, op: &Op) -> Outcome
         // Where it reads pages of TX, these are observed in one step; then the operation is done as in a machine that has in
         // them what was seen; then they are released in one step. Other pages are what `op` leaves in them.
         ensures done { IsDoneReading (pages_read self.old.state op.now) self.old op.now result self.new }
+
+        // Where nobody else writes, what is seen is what stands in memory: the outcome is that of the small machine from the
+        // state as it was, and so is the state, but for bytes of the pages that were read.
+        ensures alone { M.is_alone ≡ true → IsDoneAlone self.old.state op.now result self.new.state }
 
         // Whatever others wrote: walks give the access of the state, which is sound, and nothing that the cache holds is stale.
         ensures agrees { Agrees self.new.ram self.new.state }
@@ -42,7 +47,7 @@ impl<M: PhysMem + Drop, T: Translations + Drop, S: Store> Machine<M, T, S> {
     pub fn run_among_others(&mut self, ops: &[Op], filled: &mut [Outcome])
         requires { length ops.now ≡ length filled.old }
         // From one operation to the next the machine changes as `op_among_others` says, and nothing is done besides.
-        ensures chain { AreDoneReading self.old ops.now filled.new self.new }
+        ensures chain { AreDoneReading M.is_alone self.old ops.now filled.new self.new }
         ensures agrees { Agrees self.new.ram self.new.state }
         ensures sound { IsSoundState self.new.state }
         ensures walks { AreWalks self.new }
@@ -55,7 +60,7 @@ impl<M: PhysMem + Drop, T: Translations + Drop, S: Store> Machine<M, T, S> {
     // The operations themselves, in turn.
     fn operate_all_among(&mut self, ops: &[Op], filled: &mut [Outcome])
         requires { length ops.now ≡ length filled.old }
-        ensures { AreDoneReading self.old ops.now filled.new self.new }
+        ensures { AreDoneReading M.is_alone self.old ops.now filled.new self.new }
     {
         for i in 0..ops.len() {
             filled[i] = self.op_among_others(&ops[i]);
@@ -74,8 +79,10 @@ impl<M: PhysMem + Drop, T: Translations + Drop, S: Store> Machine<M, T, S> {
     // Reads pages behind the tables at once.
     fn begin_reading(&mut self, run: Run)
         requires within { run.first.0 + run.count ≤ length self.old.ram.pages }
+        requires few { run.count ≤ MOST_BUFFER_PAGES }
         requires behind { pages_of_tables self.old.state ≤ run.first.0 }
-        ensures { IsRead run true self.old self.new }
+        ensures read { IsRead run true self.old self.new }
+        ensures kept { M.is_alone ≡ true → self.new.state ≡ self.old.state }
     {
         // Proof step: the state is sound, and the tables give its access.
         self.manager.holds();

@@ -1,6 +1,7 @@
 // SPDX-License-Identifier: MIT OR Apache-2.0
 //! Pages of the runner's TX, to which other processors of the runner may write while a call reads them.
 ghost use Rattle.std.specs.Prelude.{true, false, ◌≡◌, ℕ, ◌+◌, ◌≤◌, length, IfSome, IsSome};
+ghost use Rattle.ffa_model.specs.declared.limits.TheConstants.{MOST_BUFFER_PAGES};
 ghost use Rattle.ffa_model.specs.Ram.{page_of};
 ghost use Rattle.ffa_model.specs.SoundState.{are_bytes};
 ghost use Rattle.ffa_model.specs.State.{page_at};
@@ -12,7 +13,7 @@ use super::Manager;
 use crate::run::Run;
 use crate::storage::Store;
 use ffa_model::{Call, Op, PageNo};
-use ffa_physmem::{PAGE_SIZE, PhysMem};
+use ffa_physmem::{Observed, PAGE_SIZE, PhysMem};
 
 // The bytes that the descriptor of FFA_MEM_RELINQUISH has.
 const RELINQUISH_BYTES: usize = 18;
@@ -66,21 +67,26 @@ fn hold_bytes<M: PhysMem>(ram: &M, run: Run)
     }
 }
 
-// Reads pages at once.
-fn observe_in<M: PhysMem>(ram: &mut M, run: Run)
-    requires { run.first.0 + run.count ≤ length (M.ram ram.old).pages }
+// Reads pages at once, and holds them.
+fn observe_in<M: Observed>(ram: &mut M, run: Run)
+    requires within { run.first.0 + run.count ≤ length (M.ram ram.old).pages }
+    requires few { run.count ≤ MOST_BUFFER_PAGES }
     ensures beside { IsBeside (M.ram ram.old) (M.ram ram.new) (is_in run) }
     ensures whole { (p : ℕ) → length (page_of (M.ram ram.new) p) ≡ length (page_of (M.ram ram.old) p) }
     ensures steps { One (M.past ram.old) (M.past ram.new) (λ s.
         IsReading (M.ram ram.old) (M.ram ram.new) run.first.0 run.count true s) }
     ensures bytes { (p : ℕ) → is_in run p ≡ true → are_bytes (page_of (M.ram ram.new) p) }
+    ensures held { (p : ℕ) → is_in run p ≡ true → M.is_held ram.new p ≡ true }
+    // Where nobody else writes they are what they were.
+    ensures kept { M.is_alone ≡ true → M.ram ram.new ≡ M.ram ram.old }
 {
+    ram.rest();
     ram.observe(run.first, run.count);
     hold_bytes(ram, run);
 }
 
 // Ends that.
-fn release_in<M: PhysMem>(ram: &mut M, run: Run)
+fn release_in<M: Observed>(ram: &mut M, run: Run)
     requires { run.first.0 + run.count ≤ length (M.ram ram.old).pages }
     ensures beside { IsBeside (M.ram ram.old) (M.ram ram.new) (is_in run) }
     ensures whole { (p : ℕ) → length (page_of (M.ram ram.new) p) ≡ length (page_of (M.ram ram.old) p) }
@@ -97,6 +103,7 @@ impl<M: PhysMem + Drop, S: Store> Manager<M, S> {
     pub(crate) fn pages_read(&self, op: &Op) -> Option<Run>
         ensures pages { result ≡ pages_read self.now.state op.now }
         ensures within { IfSome result (λ run. run.first.0 + run.count ≤ length self.now.ram.pages) }
+        ensures few { IfSome result (λ run. run.count ≤ MOST_BUFFER_PAGES) }
         ensures behind { IfSome result (λ run. pages_of_tables self.now.state ≤ run.first.0) }
         ensures owned { IfSome result (λ run. (p : ℕ) → is_in run p ≡ true → IsSome (page_at self.now.state p)) }
     {
@@ -112,15 +119,19 @@ impl<M: PhysMem + Drop, S: Store> Manager<M, S> {
             count,
         })
     }
+}
 
+impl<M: Observed + Drop, S: Store> Manager<M, S> {
     // Reads pages behind the tables at once.
     pub(crate) fn begin_reading(&mut self, run: Run)
         requires within { run.first.0 + run.count ≤ length self.old.ram.pages }
+        requires few { run.count ≤ MOST_BUFFER_PAGES }
         requires behind { pages_of_tables self.old.state ≤ run.first.0 }
         ensures state { AreBeside self.old.state self.new.state (is_in run) }
         ensures ram { IsBeside self.old.ram self.new.ram (is_in run) }
         ensures step { One self.old.past self.new.past (λ s.
             IsReading self.old.ram self.new.ram run.first.0 run.count true s) }
+        ensures kept { M.is_alone ≡ true → self.new.state ≡ self.old.state }
     {
         observe_in(&mut self.ram, run);
     }

@@ -1,4 +1,5 @@
 -- SPDX-License-Identifier: MIT OR Apache-2.0
+use Rattle.std.proofs.Common.{refl}
 use Rattle.ffa_c.proofs.kind.done_among.Goals as goal
 
 pub returns : goal.returns
@@ -6,6 +7,7 @@ returns g c = record {
   outcome = c.op_among_others.result;
   is_told = c.of.ensures;
   done = c.op_among_others.ensures.done;
+  alone = c.op_among_others.ensures.alone refl;
   agrees = c.op_among_others.ensures.agrees;
   unowned = c.op_among_others.ensures.unowned;
   sound = c.op_among_others.ensures.sound;

@@ -9,7 +9,7 @@ use Rattle.ffa_lent.proofs.frames.LentRam.new.Goals as goal
 
 pub returns-clause-ram : goal.returns-clause-ram
 returns-clause-ram c =
-    let copies : List (List ℕ) = c.match-copies.copies.items in
+    let copies : List (List ℕ) = c.in-Ok.copies.items in
     ap (λ (r : Ram). let seen : Ram = record { base = r.base; pages = map_at (seen_by copies 0 0) r.pages } in seen) c.of.ensures
     ∙ ap (λ (p : List (List ℕ)). let r : Ram = record { base = c.args.base.0; pages = p } in r)
     (unseen _ copies 0 0 refl ∙ ap (λ (l : Listed). l.pages) c.frames.view_is)

@@ -1,8 +1,8 @@
 -- SPDX-License-Identifier: MIT OR Apache-2.0
 use Rattle.std.proofs.Common.{◌≡◌, ◌∙◌, ◌+◌, ◌-◌, ◌<◌, ◌≤◌, ℕ, [], List, length, ap, arith}
-use Rattle.std.proofs.lemmas.List.{get_or_read}
+use Rattle.std.proofs.lemmas.List.{get_or-set_other, get_or_read}
 use Rattle.ffa_model.specs.Lists.{map_at}
-use Rattle.ffa_model.specs.Ram.{Ram}
+use Rattle.ffa_model.specs.Ram.{Ram, page_of}
 use Rattle.ffa_physmem.specs.FrameRam.{ram_of as frame_ram, ram_of-with_frame}
 use Rattle.ffa_lent.proofs.Observed.{seen_by, written-last, written-none}
 use Rattle.ffa_lent.proofs.frames.LentRam.write_last.Goals as goal
@@ -31,3 +31,11 @@ returns-clause-ram c =
     (written-last frames.pages m.copies.items m.first.0 (m.count - 1) c.index.result.now
     (get_or_read m.copies.items (m.count - 1) c.index.result.now held c.index.ensures []) inside
     ∙ ap (λ (n : ℕ). map_at (seen_by m.copies.items m.first.0 n) frames.pages) count)
+
+pub returns-clause-others : goal.returns-clause-others
+returns-clause-others c = λ p other.
+    let m = c.args.self.now in
+    let frames : Ram = frame_ram m.frames in
+    let page : ℕ = m.first.0 + (m.count - 1) in
+    ap (λ (r : Ram). page_of r p) (ram_of-with_frame m.frames page c.index.result.now)
+    ∙ get_or-set_other frames.pages page p c.index.result.now [] other

@@ -1,5 +1,5 @@
 -- SPDX-License-Identifier: MIT OR Apache-2.0
-use Rattle.std.proofs.Common.{◌+◌, ◌≤◌, length, true, refl, sym, subst}
+use Rattle.std.proofs.Common.{◌≡◌, ◌+◌, ◌≤◌, length, true, refl, sym, subst}
 use Rattle.ffa_spmc.specs.Among.{IsRead, is_in}
 use Rattle.ffa_spmc.specs.Snapshot.{Snapshot}
 use Rattle.ffa_spmc.specs.Unowned.{pages_of_tables}
@@ -26,8 +26,8 @@ invariant_of-self g c =
     (beside-base s t (is_in c.args.run) beside) (beside-known s t (is_in c.args.run) beside) held held
     (λ e p leaf there. (there, beside-access s t (is_in c.args.run) beside e p)) c.self.invariant
 
-pub returns : goal.returns
-returns g c =
+pub returns-clause-read : goal.returns-clause-read
+returns-clause-read g c =
     let held = g.T.Translations.entries c.self.inside.cache in
     let new = c.begin_reading.new.self in
     subst (λ (seen : Snapshot). IsRead c.args.run true seen (record { state = new.state; ram = new.ram; held = held; past = new.past; told = c.self.inside.news })) c.self.view_is
@@ -41,3 +41,7 @@ returns g c =
       sound = c.holds-2.ensures.sound;
       walks = invariant_of-self g c;
     })
+
+pub returns-clause-kept : goal.returns-clause-kept
+returns-clause-kept g c = λ alone.
+    subst (λ (seen : Snapshot). c.begin_reading.new.self.state ≡ seen.state) c.self.view_is (c.begin_reading.ensures.kept alone)

@@ -1,9 +1,10 @@
 -- SPDX-License-Identifier: MIT OR Apache-2.0
-use Rattle.std.proofs.Common.{◌≡◌, ◌∙◌, ◌+◌, ◌≤◌, length, Option, Some, None, sym, subst}
+use Rattle.std.proofs.Common.{◌≡◌, ◌∙◌, ◌+◌, ◌≤◌, length, Option, Some, None, refl, sym, ap, subst}
 use Rattle.std.specs.Prelude.{IsSome}
-use Rattle.ffa_model.specs.State.{page_at}
+use Rattle.ffa_model.specs.State.{State, page_at}
+use Rattle.ffa_model.specs.Step.{step}
 use Rattle.ffa_spmc.specs.declared.run.Run.{Run}
-use Rattle.ffa_spmc.specs.Among.{IsDoneAmong, IsDoneReading, pages_read}
+use Rattle.ffa_spmc.specs.Among.{AreBeside, IsDoneAmong, IsDoneReading, are_in, is_in, pages_read}
 use Rattle.ffa_spmc.specs.Snapshot.{Snapshot}
 use Rattle.ffa_spmc.specs.Unowned.{pages_of_tables}
 use Rattle.ffa_spmc.proofs.Amongs.{among-unowned, left-behind, left-within}
@@ -22,7 +23,7 @@ end_reading-requires-clause-within g c =
     let within : c.in-Some.run'.first.0 + c.in-Some.run'.count ≤ length c.args.self.now.ram.pages =
     subst (λ (seen : Snapshot). c.in-Some.run'.first.0 + c.in-Some.run'.count ≤ length seen.ram.pages) c.self.view_is c.in-Some.ensures.within
     in
-    left-within c.in-Some.run' c.args.self.now c.begin_reading.new.self c.op_apart-outcome.new.self c.args.op.now c.begin_reading.ensures
+    left-within c.in-Some.run' c.args.self.now c.begin_reading.new.self c.op_apart-outcome.new.self c.args.op.now c.begin_reading.ensures.read
     c.op_apart-outcome.ensures.done.operated.state c.op_apart-outcome.ensures.done.operated.agrees within
 
 pub end_reading-requires-clause-behind : goal.end_reading-requires-clause-behind
@@ -30,7 +31,7 @@ end_reading-requires-clause-behind g c =
     let behind : pages_of_tables c.args.self.now.state ≤ c.in-Some.run'.first.0 =
     subst (λ (seen : Snapshot). pages_of_tables seen.state ≤ c.in-Some.run'.first.0) c.self.view_is c.in-Some.ensures.behind
     in
-    left-behind c.in-Some.run' c.args.self.now c.begin_reading.new.self c.op_apart-outcome.new.self c.args.op.now c.begin_reading.ensures
+    left-behind c.in-Some.run' c.args.self.now c.begin_reading.new.self c.op_apart-outcome.new.self c.args.op.now c.begin_reading.ensures.read
     c.op_apart-outcome.ensures.done.operated.state c.op_apart-outcome.ensures.done.operated.agrees behind
 
 pub returns-clause-done : goal.returns-clause-done
@@ -42,7 +43,7 @@ returns-clause-done g c =
     let among : IsDoneAmong c.in-Some.run' old c.args.op.now c.op_apart-outcome.result c.end_reading.new.self = record {
       seen = c.begin_reading.new.self;
       left = c.op_apart-outcome.new.self;
-      read = c.begin_reading.ensures;
+      read = c.begin_reading.ensures.read;
       done = c.op_apart-outcome.ensures.done;
       ended = c.end_reading.ensures;
     } in
@@ -53,7 +54,38 @@ returns-clause-walks g c = c.end_reading.ensures.walks
 
 pub returns-clause-unowned : goal.returns-clause-unowned
 returns-clause-unowned g c =
-    among-unowned c.in-Some.run' c.args.self.now c.begin_reading.new.self c.op_apart-outcome.new.self c.args.op.now c.begin_reading.ensures
+    among-unowned c.in-Some.run' c.args.self.now c.begin_reading.new.self c.op_apart-outcome.new.self c.args.op.now c.begin_reading.ensures.read
     c.op_apart-outcome.ensures.done.operated.state c.op_apart-outcome.ensures.done.operated.agrees c.end_reading.new.self c.end_reading.ensures
     c.op_apart-outcome.ensures.done.operated.unowned
     (λ p its. subst (λ (seen : Snapshot). IsSome (page_at seen.state p)) c.self.view_is (c.in-Some.ensures.owned p its))
+
+pub returns-in_default-clause-alone : goal.returns-in_default-clause-alone
+returns-in_default-clause-alone g c = λ _.
+    let old = c.args.self.now in
+    let done = c.op_apart.ensures.done in
+    record {
+      outcome = done.outcome;
+      state =
+          subst (λ (t : State). AreBeside (step old.state c.args.op.now).state t (are_in (pages_read old.state c.args.op.now))) (sym done.operated.state)
+          (record { same = refl; whole = λ p. refl });
+    }
+
+pub returns-clause-alone : goal.returns-clause-alone
+returns-clause-alone g c = λ alone.
+    let old = c.args.self.now in
+    let new = c.end_reading.new.self in
+    let run = c.in-Some.run' in
+    let done = c.op_apart-outcome.ensures.done in
+    let kept : c.begin_reading.new.self.state ≡ old.state = c.begin_reading.ensures.kept alone in
+    let some : pages_read old.state c.args.op.now ≡ Some run =
+    subst (λ (x : Snapshot). pages_read x.state c.args.op.now ≡ Some run) c.self.view_is (sym c.pages_read.ensures.pages ∙ c.in-Some.is)
+    in
+    let left : c.op_apart-outcome.new.self.state ≡ (step old.state c.args.op.now).state =
+    done.operated.state ∙ ap (λ (t : State). (step t c.args.op.now).state) kept
+    in
+    record {
+      outcome = done.outcome ∙ ap (λ (t : State). (step t c.args.op.now).outcome) kept;
+      state =
+          subst (λ (o : Option Run). AreBeside (step old.state c.args.op.now).state new.state (are_in o)) (sym some)
+          (subst (λ (t : State). AreBeside t new.state (is_in run)) left c.end_reading.ensures.state);
+    }

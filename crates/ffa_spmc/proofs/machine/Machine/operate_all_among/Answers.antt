@@ -13,14 +13,14 @@ loop-i-preserved g c =
     let inside : c.loop-i.i < length c.loop-i.filled = omega (arith, lt, c.requires, c.loop-i.auto.filled) in
     record {
       chain =
-          one-more_among c.args.self.now c.loop-i.self c.op_among_others.new.self c.args.ops.now c.loop-i.filled c.loop-i.i _ _ lt inside
-          c.op_among_others.ensures.done c.loop-i.invariant.chain;
+          one-more_among g.M.Observed.is_alone c.args.self.now c.loop-i.self c.op_among_others.new.self c.args.ops.now c.loop-i.filled c.loop-i.i _ _ lt inside
+          c.op_among_others.ensures.done c.op_among_others.ensures.alone c.loop-i.invariant.chain;
     }
 
 pub returns : goal.returns
 returns g c =
     let none : drop c.loop-i.i c.args.ops.now ≡ [] = drop_all c.loop-i.i c.args.ops.now (omega (arith, c.loop-i.auto.i-end)) in
     let all : take c.loop-i.i c.loop-i.filled ≡ c.loop-i.filled = take_all c.loop-i.i c.loop-i.filled (omega (arith, c.requires, c.loop-i.auto.filled)) in
-    subst (λ (told : List Outcome). AreDoneReading c.args.self.now c.args.ops.now told c.loop-i.self) (append-nil (take c.loop-i.i c.loop-i.filled) ∙ all)
+    subst (λ (told : List Outcome). AreDoneReading g.M.Observed.is_alone c.args.self.now c.args.ops.now told c.loop-i.self) (append-nil (take c.loop-i.i c.loop-i.filled) ∙ all)
     (c.loop-i.invariant.chain [] c.loop-i.self
-    (subst (λ (left : List Op). AreDoneReading c.loop-i.self left [] c.loop-i.self) (sym none) (refl, refl)))
+    (subst (λ (left : List Op). AreDoneReading g.M.Observed.is_alone c.loop-i.self left [] c.loop-i.self) (sym none) (refl, refl)))

@@ -8,5 +8,5 @@ use Rattle.ffa_spmc.proofs.machine.Machine.operate_all_among.Given as goal
 -- whatever ends the chain after what is left, with its outcomes, ends it
 abbrev pub invariant-loop-i : goal.invariant-loop-i
 invariant-loop-i g l = record {
-  chain : (rest : List Outcome) (new : Snapshot) → AreDoneReading l.self (drop l.i l.ops) rest new → AreDoneReading l.fn.self l.ops (take l.i l.filled ++ rest) new;
+  chain : (rest : List Outcome) (new : Snapshot) → AreDoneReading g.M.Observed.is_alone l.self (drop l.i l.ops) rest new → AreDoneReading g.M.Observed.is_alone l.fn.self l.ops (take l.i l.filled ++ rest) new;
 }

@@ -1,5 +1,6 @@
 -- SPDX-License-Identifier: MIT OR Apache-2.0
-use Rattle.std.proofs.Common.{◌+◌, ◌≤◌, true, length, sym, subst}
+use Rattle.std.proofs.Common.{◌≡◌, ◌+◌, ◌≤◌, true, length, sym, ap, subst}
+use Rattle.ffa_model.specs.Ram.{Ram}
 use Rattle.ffa_physmem.specs.Moments.{IsBeside, IsReading, One}
 use Rattle.ffa_spmc.specs.Among.{AreBeside, is_in}
 use Rattle.ffa_spmc.specs.Managed.{Managed}
@@ -9,8 +10,9 @@ use Rattle.ffa_spmc.proofs.Inside.{parts_of}
 use Rattle.ffa_spmc.proofs.Readings.{behind-tables, machine-read, read, states-beside}
 use Rattle.ffa_spmc.proofs.manager.Manager.begin_reading.Goals as goal
 
-pub observe_in-requires : goal.observe_in-requires
-observe_in-requires g c = subst (λ (seen : Managed). c.args.run.first.0 + c.args.run.count ≤ length seen.ram.pages) (sym c.self.view_is) c.requires.within
+pub observe_in-requires-clause-within : goal.observe_in-requires-clause-within
+observe_in-requires-clause-within g c =
+    subst (λ (seen : Managed). c.args.run.first.0 + c.args.run.count ≤ length seen.ram.pages) (sym c.self.view_is) c.requires.within
 
 pub invariant_of-self : goal.invariant_of-self
 invariant_of-self g c =
@@ -38,3 +40,10 @@ returns-clause-step g c =
     subst
     (λ (seen : Managed). One seen.past (g.M.PhysMem.past new) (λ s. IsReading seen.ram (g.M.PhysMem.ram new) c.args.run.first.0 c.args.run.count true s))
     c.self.view_is c.observe_in.ensures.steps
+
+pub returns-clause-kept : goal.returns-clause-kept
+returns-clause-kept g c = λ alone.
+    let x = parts_of g.M.PhysMem.ram g.S.Records.Home.value c.self.inside in
+    let new = g.M.PhysMem.ram c.observe_in.new.ram in
+    subst (λ (seen : Managed). state_of (read x new (is_in c.args.run) c.observe_in.ensures.beside) ≡ seen.state) c.self.view_is
+    (ap (λ (r : Ram). state_of (record x { ram = r })) (c.observe_in.ensures.kept alone))

@@ -1,9 +1,13 @@
 -- SPDX-License-Identifier: MIT OR Apache-2.0
-use Rattle.std.proofs.Common.{◌≡◌, ◌∙◌, ℕ, ◌<◌, [], length, sym, ap, arith, inl, inr}
-use Rattle.std.proofs.lemmas.Bool.{cases_eq}
-use Rattle.std.proofs.lemmas.List.{get_or-set_other, get_or-set_same}
+use Rattle.std.proofs.Common.{◌≡◌, ◌≢◌, ◌∙◌, ℕ, ◌<◌, [], List, cond, false, length, refl, subst, sym, true, ap, arith, inl, inr}
+use Rattle.std.specs.Prelude.{◌==◌}
+use Rattle.std.proofs.lemmas.Bool.{cases_eq, false≢true, ne_eqb}
+use Rattle.std.proofs.lemmas.List.{get_or-set_other, get_or-set_same, length-set}
+use Rattle.ffa_model.proofs.Runs.{in-run}
+use Rattle.ffa_model.specs.Lists.{is_in_run}
 use Rattle.ffa_model.specs.Ram.{Ram, page_of, with_page, with_word}
 use Rattle.ffa_physmem.proofs.Words.{length-with_word}
+use Rattle.ffa_physmem.specs.Moments.{IsBeside}
 use Rattle.ffa_machine_tests.proofs.rows.shifting.Shifting.shift.Goals as goal
 
 -- a page in which a word is written keeps its length, and so does any other
@@ -18,8 +22,52 @@ whole ram page index value inside size within p = elim (cases_eq p page) [
   | inr other ↦ ap length (get_or-set_other ram.pages page p (with_word (page_of ram page) index value) [] other)
 ]
 
-pub returns-then-first-count-clause-whole : goal.returns-then-first-count-clause-whole
-returns-then-first-count-clause-whole c = λ p.
+-- the bytes of a page, or others of page 46
+abbrev shown : Ram → List ℕ → ℕ → List ℕ
+shown ram bytes p = cond (p == 46) bytes (page_of ram p)
+
+of-another : (ram : Ram) (bytes : List ℕ) (p : ℕ) → p ≢ 46 → page_of ram p ≡ shown ram bytes p
+of-another ram bytes p other = sym (ap (λ c. cond c bytes (page_of ram p)) (ne_eqb p 46 other))
+
+of-written : (ram : Ram) (bytes : List ℕ) → 46 < length ram.pages → (p : ℕ) → page_of (with_page ram 46 bytes) p ≡ shown ram bytes p
+of-written ram bytes inside p = elim (cases_eq p 46) [
+  | inl here ↦
+      ap (λ (n : ℕ). page_of (with_page ram 46 bytes) n) here ∙ get_or-set_same ram.pages 46 bytes [] inside
+      ∙ sym (ap (λ (n : ℕ). shown ram bytes n) here)
+  | inr other ↦ get_or-set_other ram.pages 46 p bytes [] other ∙ of-another ram bytes p other
+]
+
+pub returns-then-has_tx-clause-beside : goal.returns-then-has_tx-clause-beside
+returns-then-has_tx-clause-beside c =
     let old : Ram = record { base = c.args.self.now.ram.base.0; pages = c.args.self.now.ram.pages.items } in
-    let inside : 46 < length old.pages = omega (arith, c.requires, c.if-first.true, c.if-first-count.true) in
-    ap (λ (r : Ram). length (page_of r p)) c.write_word.ensures.ram ∙ whole old 46 c.args.self.now.word _ inside c.page.ensures.whole c.if-self-lt512.true p
+    let bytes : List ℕ = with_word (page_of old 46) c.args.self.now.word c.args.self.now.next in
+    let there : is_in_run c.args.first.0 c.args.count 46 ≡ true = sym c.has_tx.ensures ∙ c.if-has_tx.true in
+    subst (λ (r : Ram). IsBeside old r (is_in_run c.args.first.0 c.args.count)) (sym c.write_word.ensures.ram)
+    (record {
+      base = refl;
+      size = length-set old.pages 46 bytes;
+      pages = λ p off.
+          get_or-set_other old.pages 46 p bytes []
+          (λ same. false≢true (sym off ∙ ap (is_in_run c.args.first.0 c.args.count) same ∙ there));
+    })
+
+pub returns-then-has_tx-clause-whole : goal.returns-then-has_tx-clause-whole
+returns-then-has_tx-clause-whole c = λ p.
+    let old : Ram = record { base = c.args.self.now.ram.base.0; pages = c.args.self.now.ram.pages.items } in
+    let (low, high) = in-run c.args.first.0 c.args.count 46 (sym c.has_tx.ensures ∙ c.if-has_tx.true) in
+    let inside : 46 < length old.pages = omega (arith, c.requires, low, high) in
+    ap (λ (r : Ram). length (page_of r p)) c.write_word.ensures.ram ∙ whole old 46 c.args.self.now.word _ inside c.page.ensures.whole c.args.self.now.place p
+
+pub returns-then-has_tx-clause-shown : goal.returns-then-has_tx-clause-shown
+returns-then-has_tx-clause-shown c = λ p its.
+    let old : Ram = record { base = c.args.self.now.ram.base.0; pages = c.args.self.now.ram.pages.items } in
+    let (low, high) = in-run c.args.first.0 c.args.count 46 (sym c.has_tx.ensures ∙ c.if-has_tx.true) in
+    let inside : 46 < length old.pages = omega (arith, c.requires, low, high) in
+    ap (λ (r : Ram). page_of r p) c.write_word.ensures.ram ∙ of-written old (with_word (page_of old 46) c.args.self.now.word c.args.self.now.next) inside p
+
+pub returns-else-has_tx-clause-shown : goal.returns-else-has_tx-clause-shown
+returns-else-has_tx-clause-shown c = λ p its.
+    let old : Ram = record { base = c.args.self.now.ram.base.0; pages = c.args.self.now.ram.pages.items } in
+    let off : is_in_run c.args.first.0 c.args.count 46 ≡ false = sym c.has_tx.ensures ∙ c.if-has_tx.false in
+    of-another old (with_word (page_of old 46) c.args.self.now.word c.args.self.now.next) p
+    (λ here. false≢true (sym off ∙ ap (is_in_run c.args.first.0 c.args.count) (sym here) ∙ its))

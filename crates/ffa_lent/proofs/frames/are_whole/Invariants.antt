@@ -1,8 +1,0 @@
--- SPDX-License-Identifier: MIT OR Apache-2.0
-use Rattle.std.proofs.Common.{◌≡◌, ◌+◌, ◌<◌, [], ℕ, get_or, length}
-use Rattle.ffa_model.specs.Ram.{page_of}
-use Rattle.ffa_physmem.specs.FrameRam.{ram_of as frame_ram}
-use Rattle.ffa_lent.proofs.frames.are_whole.Given as goal
-
-abbrev pub invariant-loop-index : goal.invariant-loop-index
-invariant-loop-index l = (k : ℕ) → k < l.index → length (get_or l.copies k []) ≡ length (page_of (frame_ram l.frames) (l.fn.first.0 + k))

@@ -1,0 +1,52 @@
+// SPDX-License-Identifier: MIT OR Apache-2.0
+//! What a call needs of RAM whose pages others may write while it reads them.
+ghost use Rattle.std.specs.Prelude.{◌≡◌, ℕ, ◌+◌, ◌<◌, ◌≤◌, Bool, true, false, List, length};
+ghost use Rattle.ffa_model.specs.declared.limits.TheConstants.{MOST_BUFFER_PAGES};
+ghost use Rattle.ffa_model.specs.Lists.{is_in_run};
+ghost use Rattle.ffa_model.specs.Ram.{page_of};
+ghost use Rattle.ffa_physmem.specs.Moments.{IsBeside, IsReading, One};
+
+use crate::memory::PhysMem;
+use ffa_model::PageNo;
+
+/// RAM to which others may write beside us. Pages of it can be read at once: until they are released, each is what that one
+/// reading gave.
+pub trait Observed: PhysMem {
+    /// The bytes of a page in memory itself: what others see there, and what they write.
+    ghost beneath: { Self → ℕ → List ℕ };
+
+    /// Whether a page is what one reading gave, whatever others write to it meanwhile.
+    ghost is_held: { Self → ℕ → Bool };
+
+    /// Whether, as far as contracts see, nobody else writes there.
+    ghost is_alone: { Bool };
+
+    /// Ends all that is observed, and what was seen of it then stands in memory. No byte that is seen changes.
+    fn rest(&mut self)
+        ensures ram { Self.ram self.new ≡ Self.ram self.old }
+        ensures past { Self.past self.new ≡ Self.past self.old }
+        ensures beneath { is_alone ≡ true → (p : ℕ) → p < length (Self.ram self.new).pages
+            → beneath self.new p ≡ page_of (Self.ram self.new) p };
+
+    /// Reads pages, from one on, to which others may write at the same time. Until `release` each of them is what this one
+    /// reading gave, and that is what stood in memory.
+    fn observe(&mut self, first: PageNo, count: u32)
+        requires within { first.0 + count ≤ length (Self.ram self.old).pages }
+        requires few { count ≤ MOST_BUFFER_PAGES }
+        ensures seen { (p : ℕ) → is_in_run first.0 count p ≡ true → page_of (Self.ram self.new) p ≡ beneath self.old p }
+        ensures held { (p : ℕ) → is_in_run first.0 count p ≡ true → is_held self.new p ≡ true }
+        ensures beside { IsBeside (Self.ram self.old) (Self.ram self.new) (is_in_run first.0 count) }
+        ensures whole { (p : ℕ) → length (page_of (Self.ram self.new) p) ≡ length (page_of (Self.ram self.old) p) }
+        ensures steps { One (Self.past self.old) (Self.past self.new)
+            (λ s. IsReading (Self.ram self.old) (Self.ram self.new) first.0 count true s) };
+
+    /// Ends what `observe` of the same pages began. From now on they are again what stands in memory, to which nothing was
+    /// written here.
+    fn release(&mut self, first: PageNo, count: u32)
+        requires { first.0 + count ≤ length (Self.ram self.old).pages }
+        ensures left { (p : ℕ) → is_in_run first.0 count p ≡ true → page_of (Self.ram self.new) p ≡ beneath self.old p }
+        ensures beside { IsBeside (Self.ram self.old) (Self.ram self.new) (is_in_run first.0 count) }
+        ensures whole { (p : ℕ) → length (page_of (Self.ram self.new) p) ≡ length (page_of (Self.ram self.old) p) }
+        ensures steps { One (Self.past self.old) (Self.past self.new)
+            (λ s. IsReading (Self.ram self.old) (Self.ram self.new) first.0 count false s) };
+}
