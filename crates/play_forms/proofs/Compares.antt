@@ -33,8 +33,8 @@ all_alike (Some xs) (Some ys) printed c none = c ∙ ap (λ l. printed ++ l) non
 
 -- These lines were done, and their text, of these rows, was read of the expected text.
 module _ (form : Form) (start mid : State) (had has wants unread : Option (List ℕ)) (lines : List (List ℕ)) (printed : List ℕ) (rows : List (List ℕ)) (f : Followed (unexplained form) start mid had has lines printed) (whole : printed ≡ joined rows) (each : list_all has_no_feed rows ≡ true) (alike : Consumes wants unread printed) (number : ℕ) (count : number ≡ 1 + length lines) (read : ℕ) (counted : read ≡ length rows) where
-  pub untaken_compared : (e : PlayError) (then : Option (List ℕ)) (bytes text wanted : List ℕ) → TakesLine has then bytes number (Err e) → Compared form start mid had wants bytes text wanted (Err (Play e))
-  untaken_compared Read then bytes text wanted r = (has, lines, printed, unread, alike, f)
+  pub untaken_compared : (e : PlayError) (then : Option (List ℕ)) (bytes text wanted : List ℕ) → TakesLine has then bytes number (Err e) → Compared form start mid had then wants bytes text wanted (Err (Play e))
+  untaken_compared Read then bytes text wanted r = (has, lines, printed, unread, alike, f, r)
   untaken_compared Write then bytes text wanted r = absurd r
   untaken_compared NoMemory then bytes text wanted r = tt
   untaken_compared (BadLine n) then bytes text wanted (is, bad) =
@@ -97,7 +97,7 @@ module _ (form : Form) (start mid : State) (had has wants unread : Option (List 
 
     -- the expected text can't be read, or there is no memory
     pub line_failed : (e : CompareError) (then_unread : Option (List ℕ)) (new : ℕ) (text wanted : List ℕ) → ComparesLine form mid now number meant unread then_unread read new text wanted (Err e)
-        → Compared form start now had wants line text wanted (Err e)
+        → Compared form start now had then wants line text wanted (Err e)
     line_failed (Play NoMemory) then_unread new text wanted r = tt
     line_failed (Play Read) then_unread new text wanted r = absurd r
     line_failed (Play Write) then_unread new text wanted r = absurd r
@@ -114,8 +114,8 @@ module _ (form : Form) (start mid : State) (had has wants unread : Option (List 
     )
 
   -- no line is left
-  module _ (bytes text wanted : List ℕ) (at_end : IsAtEnd has) (none : text ≡ []) where
-    pub end_compared : (mismatch : Option Mismatch) → ComparesEnd unread read number wanted (Ok mismatch) → Compared form start mid had wants bytes text wanted (Ok mismatch)
+  module _ (then : Option (List ℕ)) (bytes text wanted : List ℕ) (at_end : IsAtEnd has) (none : text ≡ []) where
+    pub end_compared : (mismatch : Option Mismatch) → ComparesEnd unread read number wanted (Ok mismatch) → Compared form start mid had then wants bytes text wanted (Ok mismatch)
     end_compared None over = (has, lines, printed, f, at_end, all_alike wants unread printed alike over)
     end_compared (Some mismatch) (next, some, is) =
         subst (DiffersAt form start mid had wants bytes text wanted) (sym is) (record {
@@ -138,7 +138,7 @@ module _ (form : Form) (start mid : State) (had has wants unread : Option (List 
           place = omega (arith, ap length whole);
         })
 
-    pub end_failed : (e : CompareError) → ComparesEnd unread read number wanted (Err e) → Compared form start mid had wants bytes text wanted (Err e)
+    pub end_failed : (e : CompareError) → ComparesEnd unread read number wanted (Err e) → Compared form start mid had then wants bytes text wanted (Err e)
     end_failed (Play NoMemory) r = tt
     end_failed (Play Read) r = absurd r
     end_failed (Play Write) r = absurd r
@@ -146,6 +146,6 @@ module _ (form : Form) (start mid : State) (had has wants unread : Option (List 
     end_failed Expected r =
         (has, lines, printed, [], unread, alike, subst (Followed (unexplained form) start mid had has lines) (sym (append-nil printed)) f)
 
-    pub end_any : (r : Result (Option Mismatch) CompareError) → ComparesEnd unread read number wanted r → Compared form start mid had wants bytes text wanted r
+    pub end_any : (r : Result (Option Mismatch) CompareError) → ComparesEnd unread read number wanted r → Compared form start mid had then wants bytes text wanted r
     end_any (Ok mismatch) r = end_compared mismatch r
     end_any (Err e) r = end_failed e r

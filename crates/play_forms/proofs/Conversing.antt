@@ -123,8 +123,8 @@ module _ (form : Form) (start mid : State) (had has : Option (List ℕ)) (lines 
       }
 
   pub unheard : (e : PlayError) (then : Option (List ℕ)) (bytes : List ℕ) (number : ℕ) (held holds : Option (List ℕ)) → Appends held holds printed → HearsLine has then bytes number (Err e)
-      → SessionIn {X = Unit {0}} form start mid held holds had (Err e)
-  unheard Read then bytes number held holds written r = (has, lines, printed, conversed, written)
+      → SessionIn {X = Unit {0}} form start mid held holds had then (Err e)
+  unheard Read then bytes number held holds written r = (has, lines, printed, conversed, r, written)
   unheard NoMemory then bytes number held holds written r = tt
   unheard Write then bytes number held holds written r = absurd r
   unheard (BadLine n) then bytes number held holds written r = absurd r
@@ -151,7 +151,7 @@ module _ (form : Form) (start mid : State) (had has : Option (List ℕ)) (lines 
     more next = (more_each, more_read, more_state next, more_said)
 
     pub unanswered : (e : PlayError) (held between holds : Option (List ℕ)) → Appends held between printed → AnswersLine {X = Unit {0}} form mid now number line between holds (Err e)
-        → SessionIn {X = Unit {0}} form start now held holds had (Err e)
+        → SessionIn {X = Unit {0}} form start now held holds had then (Err e)
     unanswered Write held between holds written (moves, good, began) = record {
       left = then;
       lines = lines;

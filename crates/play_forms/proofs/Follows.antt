@@ -85,8 +85,8 @@ module _ (form : Form) (start mid : State) (had has : Option (List ℕ)) (lines 
 
   -- what was read isn't taken
   pub untaken_played : (e : PlayError) (then : Option (List ℕ)) (bytes : List ℕ) → TakesLine has then bytes number (Err e)
-      → (held holds : Option (List ℕ)) → Appends held holds text → PlayedIn {X = Unit {0}} form start mid held holds had bytes (Err e)
-  untaken_played Read then bytes r held holds written = (has, lines, text, f, written)
+      → (held holds : Option (List ℕ)) → Appends held holds text → PlayedIn {X = Unit {0}} form start mid held holds had then bytes (Err e)
+  untaken_played Read then bytes r held holds written = (has, lines, text, f, r, written)
   untaken_played Write then bytes r held holds written = absurd r
   untaken_played NoMemory then bytes r held holds written = tt
   untaken_played (BadLine n) then bytes (is, bad) held holds written =
@@ -95,7 +95,7 @@ module _ (form : Form) (start mid : State) (had has : Option (List ℕ)) (lines 
   -- what was done isn't written whole
   pub unwritten_played : (e : PlayError) (now : State) (then : Option (List ℕ)) (line : List ℕ) (meant : Line) → Consumes has then (line ++ feed ∷ []) → has_no_feed line ≡ true → Some meant ≡ line_of line
       → (held between holds : Option (List ℕ)) → Appends held between text → PrintsLine {X = Unit {0}} form mid now number meant between holds (Err e)
-      → PlayedIn {X = Unit {0}} form start now held holds had line (Err e)
+      → PlayedIn {X = Unit {0}} form start now held holds had then line (Err e)
   unwritten_played Read now then line meant read single is held between holds written r = absurd r
   unwritten_played Write now then line meant read single is held between holds written (next, began) = fails_to_write now then line meant read single is next held between holds written began
   unwritten_played NoMemory now then line meant read single is held between holds written r = tt

@@ -264,11 +264,11 @@ fewer_met lines met near number counts count = let few = few_guards lines in ome
 module _ (form : Form) (start mid : State) (had has : Option (List ℕ)) (lines : List (List ℕ)) (text : List ℕ) (f : Followed form start mid had has lines text) (number : ℕ) (count : number ≡ 1 + length lines) (met : AreMet start lines) (tallied : ℕ) (near : List ℕ) (counts : Tallies lines tallied near) where
   -- at a guard that isn't met
   pub breaks : (then : Option (List ℕ)) (line : List ℕ) (came : Came) (old new found : List ℕ) (asks : Asks) → Consumes has then (line ++ feed ∷ []) → has_no_feed line ≡ true → IsUnasked start lines came old
-      → Asked mid (guard_of line) came old new found (Ok (Some asks)) → (held holds : Option (List ℕ)) → Appends held holds text → GuardedIn form start mid held holds had line found tallied near (Ok (Some (record { number = number; asks = asks })))
+      → Asked mid (guard_of line) came old new found (Ok (Some asks)) → (held holds : Option (List ℕ)) → Appends held holds text → GuardedIn form start mid held holds had then line found tallied near (Ok (Some (record { number = number; asks = asks })))
   breaks then line came old new found asks read single unasked is held holds written = of (guard_of line) refl is
     where
       at : (a : Asks) (wants : List ℕ) → guard_of line ≡ Some (a, wants) → (IsMet start lines (a, wants) → ⊥) → IsFound start lines (a, wants) found
-          → GuardedIn form start mid held holds had line found tallied near (Ok (Some (record { number = number; asks = a })))
+          → GuardedIn form start mid held holds had then line found tallied near (Ok (Some (record { number = number; asks = a })))
       at a wants guard unmet is_found = (
         text,
         record {
@@ -290,20 +290,20 @@ module _ (form : Form) (start mid : State) (had has : Option (List ℕ)) (lines 
       )
 
       of : (guard : Option (Asks × List ℕ)) → guard_of line ≡ guard → Asked mid guard came old new found (Ok (Some asks))
-          → GuardedIn form start mid held holds had line found tallied near (Ok (Some (record { number = number; asks = asks })))
+          → GuardedIn form start mid held holds had then line found tallied near (Ok (Some (record { number = number; asks = asks })))
       of None same is = absurd is
       of (Some (Printed, wants)) same (its_kind, both) =
-          subst (λ a. GuardedIn form start mid held holds had line found tallied near (Ok (Some (record { number = number; asks = a })))) (sym its_kind)
+          subst (λ a. GuardedIn form start mid held holds had then line found tallied near (Ok (Some (record { number = number; asks = a })))) (sym its_kind)
           (at Printed wants same (unmet_printed start mid lines f.state came old unasked wants both.0) (came, old, unasked, both.1))
       of (Some (Runner, wants)) same (its_kind, both) =
           let runs : hex 4 mid.runner ≡ hex 4 (after_all start lines).runner = ap (λ s. hex 4 s.runner) f.state in
-          subst (λ a. GuardedIn form start mid held holds had line found tallied near (Ok (Some (record { number = number; asks = a })))) (sym its_kind)
+          subst (λ a. GuardedIn form start mid held holds had then line found tallied near (Ok (Some (record { number = number; asks = a })))) (sym its_kind)
           (at Runner wants same (λ is. both.0 (is ∙ sym runs)) (both.1 ∙ runs))
 
   -- at what isn't taken
   pub untaken_guarded : (e : PlayError) (then : Option (List ℕ)) (bytes : List ℕ) → TakesLine has then bytes number (Err e)
-      → (held holds : Option (List ℕ)) (found : List ℕ) → Appends held holds text → GuardedIn form start mid held holds had bytes found tallied near (Err e)
-  untaken_guarded Read then bytes r held holds found written = (has, lines, text, f, written, met, counts)
+      → (held holds : Option (List ℕ)) (found : List ℕ) → Appends held holds text → GuardedIn form start mid held holds had then bytes found tallied near (Err e)
+  untaken_guarded Read then bytes r held holds found written = (has, lines, text, f, r, written, met, counts)
   untaken_guarded Write then bytes r held holds found written = absurd r
   untaken_guarded NoMemory then bytes r held holds found written = tt
   untaken_guarded (BadLine n) then bytes (is, bad) held holds found written =
@@ -312,7 +312,7 @@ module _ (form : Form) (start mid : State) (had has : Option (List ℕ)) (lines 
   -- at what isn't written whole
   pub unwritten_guarded : (e : PlayError) (now : State) (then : Option (List ℕ)) (line : List ℕ) (meant : Line) → Consumes has then (line ++ feed ∷ []) → has_no_feed line ≡ true → Some meant ≡ line_of line
       → (held between holds : Option (List ℕ)) (found : List ℕ) → Appends held between text → AreMet start (lines ++ line ∷ []) → (more : ℕ) (nearer : List ℕ) → Tallies (lines ++ line ∷ []) more nearer
-      → PrintsLine {X = Unit {0}} form mid now number meant between holds (Err e) → GuardedIn form start now held holds had line found more nearer (Err e)
+      → PrintsLine {X = Unit {0}} form mid now number meant between holds (Err e) → GuardedIn form start now held holds had then line found more nearer (Err e)
   unwritten_guarded Read now then line meant read single is held between holds found written met_more more nearer counted r = absurd r
   unwritten_guarded Write now then line meant read single is held between holds found written met_more more nearer counted (next, began) =
       (fails_to_write form start mid had has lines text f number count now then line meant read single is next held between holds written began, met_more, counted)

@@ -1,10 +1,11 @@
 -- SPDX-License-Identifier: MIT OR Apache-2.0
 -- What reading a line gives.
-use Rattle.std.proofs.Common.{◌≡◌, ◌≢◌, ◌-◌, ℕ, suc, Bool, true, false, List, [], ◌∷◌, ◌++◌, length, take, Option, None, Some, Result, Ok, Err, inl, inr, sym, ap, ◌∙◌, subst, arith, length-append, refl}
+use Rattle.std.proofs.Common.{◌≡◌, ◌≢◌, ◌⊎◌, ◌-◌, ℕ, suc, Bool, true, false, List, [], ◌∷◌, ◌++◌, length, take, Option, None, Some, Result, Ok, Err, inl, inr, sym, ap, ◌∙◌, subst, arith, length-append, refl}
 use Rattle.std.specs.Prelude.{◌==◌, All, IfSome, is_some}
 use Rattle.std.specs.Io.KnownBytes.{Consumes}
 use Rattle.std.specs.Io.{StopsAt}
 use Rattle.std.specs.Io.BufRead.{take_through}
+use Rattle.std.proofs.KnownBytes.{Consumes-nil}
 use Rattle.std.proofs.lemmas.Bool.{cases_Bool, eqb-true}
 use Rattle.std.proofs.lemmas.List.Folds.{list_all-append}
 use Rattle.std.proofs.Math.Seq.{take-append_seam}
@@ -12,7 +13,7 @@ use Rattle.play_syntax.specs.TraceLines.{feed, has_no_feed, line_of}
 use Rattle.play_syntax.specs.declared.lines.Line.{Line}
 use Rattle.play_syntax.specs.declared.output.PlayError.{PlayError}
 use Rattle.play_syntax.specs.declared.output.PlayError.TheVariants.{Read, Write, NoMemory, BadLine}
-use Rattle.play_forms.specs.Reading.{IsAll, ReadsLine, TakesFeed, TakesLine}
+use Rattle.play_forms.specs.Reading.{IsAll, ReadsLine, ReadsNoLine, TakesFeed, TakesLine, TakesWhole}
 use Rattle.play_forms.specs.Steps.{Refuses}
 
 one_free : (x : ℕ) (xs : List ℕ) → x ≢ feed → has_no_feed xs ≡ true → has_no_feed (x ∷ xs) ≡ true
@@ -47,25 +48,47 @@ front_free front last stops =
     let count : length (front ++ last ∷ []) - 1 ≡ length front = omega (arith, length-append front (last ∷ [])) in
     free front (subst (All (λ x. x ≢ feed)) (ap (λ n. take n (front ++ last ∷ [])) count ∙ take-append_seam front (last ∷ [])) stops)
 
+none_free : (xs : List ℕ) → length xs ≡ 0 → has_no_feed xs ≡ true
+none_free [] none = refl
+none_free (x ∷ xs) none = absurd (omega (arith, none))
+
+-- nor has the last, where no LF ends the bytes
+unended_free : (all : List ℕ) → StopsAt all feed → (length all ≡ 0) ⊎ ((front : List ℕ) × (last : ℕ) × (all ≡ front ++ last ∷ []) × (last ≢ feed)) → has_no_feed all ≡ true
+unended_free all stops (inl none) = none_free all none
+unended_free all stops (inr (front, last, are, other)) =
+    let before = front_free front last (subst (λ l. StopsAt l feed) are stops) in
+    ap has_no_feed are ∙ list_all-append _ front (last ∷ []) ∙ rw (before, one_free last [] other refl) refl
+
 pub line_read : (had has : Option (List ℕ)) (all line : List ℕ) (number : ℕ) (r : Result Bool PlayError) → Consumes had has all → StopsAt all feed
     → IfSome had (λ xs. all ≡ take_through feed xs) → TakesFeed all line number r → ReadsLine had has line number r
 line_read had has all line number (Ok true) read stops through is =
     (subst (Consumes had has) is read, front_free line feed (subst (λ l. StopsAt l feed) is stops))
 line_read had has all line number (Ok false) read stops through is = absurd is
-line_read had has all line number (Err Read) read stops through is = tt
+line_read had has all line number (Err Read) read stops through is = (all, read, none_free all is)
 line_read had has all line number (Err NoMemory) read stops through is = tt
 line_read had has all line number (Err Write) read stops through is = absurd is
 line_read had has all line number (Err (BadLine n)) read stops through (number_is, same, (front, last, are, other)) =
     (number_is, whole had through, subst (λ l. has_no_feed l ≡ true) (sym same) single, omega (arith, ap length same, ap length are, length-append front (last ∷ [])))
   where
     single : has_no_feed all ≡ true
-    single =
-        let before = front_free front last (subst (λ l. StopsAt l feed) are stops) in
-        ap has_no_feed are ∙ list_all-append _ front (last ∷ []) ∙ rw (before, one_free last [] other refl) refl
+    single = unended_free all stops (inr (front, last, are, other))
 
     whole : (had : Option (List ℕ)) → IfSome had (λ xs. all ≡ take_through feed xs) → IsAll had line
     whole None through = tt
     whole (Some xs) through = sym (all_through xs (ap has_no_feed (sym through) ∙ single)) ∙ sym through ∙ sym same
+
+-- and where the reader failed
+pub failed_read : (had has : Option (List ℕ)) (all line : List ℕ) (number : ℕ) (r : Result Bool PlayError) → Consumes had has all → StopsAt all feed → TakesWhole all line r → ReadsLine had has line number r
+failed_read had has all line number (Ok true) read stops is = (subst (Consumes had has) is read, front_free line feed (subst (λ l. StopsAt l feed) is stops))
+failed_read had has all line number (Ok false) read stops is = absurd is
+failed_read had has all line number (Err Read) read stops is = (all, read, unended_free all stops is)
+failed_read had has all line number (Err NoMemory) read stops is = absurd is
+failed_read had has all line number (Err Write) read stops is = absurd is
+failed_read had has all line number (Err (BadLine n)) read stops is = absurd is
+
+-- where nothing was read
+pub nothing_read : (had : Option (List ℕ)) → ReadsNoLine had had
+nothing_read had = ([], Consumes-nil had, refl)
 
 -- there is a line
 pub one_line : (had has : Option (List ℕ)) (line : List ℕ) (number : ℕ) (b : Bool) → b ≡ true → ReadsLine had has line number (Ok b)
@@ -75,7 +98,7 @@ one_line had has line number false h r = absurd cc
 
 -- none was read
 pub unread_untaken : (had has : Option (List ℕ)) (line : List ℕ) (number : ℕ) (e : PlayError) → ReadsLine had has line number (Err e) → TakesLine had has line number (Err e)
-unread_untaken had has line number Read r = tt
+unread_untaken had has line number Read r = r
 unread_untaken had has line number Write r = absurd r
 unread_untaken had has line number NoMemory r = tt
 unread_untaken had has line number (BadLine n) (is, all, single, some) = (is, inr (single, some, all))

@@ -250,8 +250,8 @@ module _ (start mid : State) (had has : Option (List ℕ)) (lines : List (List �
 
   -- at what isn't taken
   pub untaken_recorded : (e : PlayError) (then : Option (List ℕ)) (bytes : List ℕ) → TakesLine has then bytes number (Err e)
-      → (held holds : Option (List ℕ)) → Appends held holds (joined (recorded start lines)) → RecordedIn {X = Unit {0}} start mid held holds had bytes (Err e)
-  untaken_recorded Read then bytes r held holds written = (has, lines, said, f, written, replays start lines f.each)
+      → (held holds : Option (List ℕ)) → Appends held holds (joined (recorded start lines)) → RecordedIn {X = Unit {0}} start mid held holds had then bytes (Err e)
+  untaken_recorded Read then bytes r held holds written = (has, lines, said, f, r, written, replays start lines f.each)
   untaken_recorded Write then bytes r held holds written = absurd r
   untaken_recorded NoMemory then bytes r held holds written = tt
   untaken_recorded (BadLine n) then bytes (is, bad) held holds written =
@@ -260,7 +260,7 @@ module _ (start mid : State) (had has : Option (List ℕ)) (lines : List (List �
   -- at what isn't written whole
   pub unwritten_recorded : (e : PlayError) (now : State) (then : Option (List ℕ)) (line : List ℕ) (meant : Line) → Consumes has then (line ++ feed ∷ []) → has_no_feed line ≡ true → Some meant ≡ line_of line
       → (held between holds : Option (List ℕ)) → Appends held between (joined (recorded start lines)) → RecordsLine {X = Unit {0}} mid now line meant between holds (Err e)
-      → RecordedIn {X = Unit {0}} start now held holds had line (Err e)
+      → RecordedIn {X = Unit {0}} start now held holds had then line (Err e)
   unwritten_recorded Read now then line meant read single is held between holds written r = absurd r
   unwritten_recorded Write now then line meant read single is held between holds written (next, began) = record {
     left = then;

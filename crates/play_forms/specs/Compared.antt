@@ -15,7 +15,7 @@ use Rattle.play_forms.specs.declared.comparison.Mismatch.{Mismatch}
 use Rattle.play_forms.specs.declared.form.Form.{Form}
 use Rattle.play_forms.specs.Followed.{EndsBadly, Followed}
 use Rattle.play_forms.specs.Forms.{text_in, text_of_in}
-use Rattle.play_forms.specs.Reading.{IsAll}
+use Rattle.play_forms.specs.Reading.{IsAll, ReadsNoLine}
 
 -- numbers and names are compared where they are asked for, and reasons never
 abbrev pub unexplained : Form → Form
@@ -26,9 +26,9 @@ abbrev pub next_row : List (List ℕ) → List ℕ
 next_row [] = []
 next_row (row ∷ rows) = row ++ feed ∷ []
 
--- What follows speaks of the machine's state before and now (`start`, `now`), of what was unread of the trace before
--- (`had`), and of what was unread of the expected text before (`wants`). Last come what was read of the trace last, the
--- text of that line, and what was read of the expected text last.
+-- What follows speaks of the machine's state before and now (`start`, `now`), of what was unread of the trace before,
+-- and is (`had`, `has`), and of what was unread of the expected text before (`wants`). Last come what was read of the
+-- trace last, the text of that line, and what was read of the expected text last.
 
 -- the next line was done, which has this number and these bytes, and this is its text, of which these rows are left, and
 -- why its operation is refused is told where that is asked for; or no line is left, and no text
@@ -62,24 +62,25 @@ pub record DiffersAt (form : Form) (start now : State) (had wants : Option (List
   pub place : length printed + mismatch.place ≡ length (joined rows)
 
 -- A comparison: the whole text is what is expected, or it differs, or a line is bad, or no more could be read of the
--- trace, or of the expected text, which goes on with a beginning of what these lines print. It writes nothing, and of
--- what it leaves where there is no memory nothing is said.
-abbrev pub Compared : Form → State → State → (had wants : Option (List ℕ)) → (bytes text wanted : List ℕ)
+-- trace, of which each line that was read whole was done, or of the expected text, which goes on with a beginning of what
+-- these lines print. It writes nothing, and of what it leaves where there is no memory nothing is said.
+abbrev pub Compared : Form → State → State → (had has wants : Option (List ℕ)) → (bytes text wanted : List ℕ)
     → Result (Option Mismatch) CompareError → Type 0
-Compared form start now had wants bytes text wanted (Ok None) =
+Compared form start now had has wants bytes text wanted (Ok None) =
     (left : Option (List ℕ)) × (lines : List (List ℕ)) × (printed : List ℕ)
     × Followed (unexplained form) start now had left lines printed × IsAtEnd left × IsAll wants printed
-Compared form start now had wants bytes text wanted (Ok (Some mismatch)) =
+Compared form start now had has wants bytes text wanted (Ok (Some mismatch)) =
     DiffersAt form start now had wants bytes text wanted mismatch
-Compared form start now had wants bytes text wanted (Err (Play (BadLine n))) =
+Compared form start now had has wants bytes text wanted (Err (Play (BadLine n))) =
     (printed : List ℕ) × (more : Option (List ℕ)) × Consumes wants more printed
     × EndsBadly (unexplained form) start now had printed bytes n
-Compared form start now had wants bytes text wanted (Err (Play Read)) =
+Compared form start now had has wants bytes text wanted (Err (Play Read)) =
     (left : Option (List ℕ)) × (lines : List (List ℕ)) × (printed : List ℕ) × (more : Option (List ℕ))
     × Consumes wants more printed × Followed (unexplained form) start now had left lines printed
-Compared form start now had wants bytes text wanted (Err (Play Write)) = ⊥
-Compared form start now had wants bytes text wanted (Err (Play NoMemory)) = ⊤
-Compared form start now had wants bytes text wanted (Err Expected) =
+    × ReadsNoLine left has
+Compared form start now had has wants bytes text wanted (Err (Play Write)) = ⊥
+Compared form start now had has wants bytes text wanted (Err (Play NoMemory)) = ⊤
+Compared form start now had has wants bytes text wanted (Err Expected) =
     (left : Option (List ℕ)) × (lines : List (List ℕ)) × (front back : List ℕ) × (more : Option (List ℕ))
     × Consumes wants more front × Followed (unexplained form) start now had left lines (front ++ back)
 

@@ -11,7 +11,7 @@ use Rattle.play_syntax.specs.declared.output.PlayError.TheVariants.{Read, Write,
 use Rattle.play_forms.specs.declared.form.Form.{Form}
 use Rattle.play_forms.specs.Cut.{CutsTo}
 use Rattle.play_forms.specs.Forms.{text_in, text_of_in}
-use Rattle.play_forms.specs.Reading.{IsBadLine}
+use Rattle.play_forms.specs.Reading.{IsBadLine, ReadsNoLine}
 
 -- What follows speaks of the machine's state before and now (`start`, `now`), of what was unread in the reader before
 -- and after, and of what the writer held before, and holds.
@@ -46,17 +46,17 @@ pub record FailsToWrite (form : Form) (start now : State) (held holds had : Opti
   pub written : Appends held between (text_in form 1 start lines)
   pub began : TookFront between holds (text_of_in form (1 + length lines) (after_all start lines) last)
 
--- A play that writes each text: whole, or up to a bad line, or as far as could be read, or as far as could be written.
--- Of what it leaves where there is no memory nothing is said.
-abbrev pub PlayedIn : {X : Type 0} → Form → State → State → Option (List ℕ) → Option (List ℕ) → Option (List ℕ) → List ℕ
+-- A play that writes each text: whole, or up to a bad line, or as far as could be read, where each line that was read
+-- whole was done, or as far as could be written. Of what it leaves where there is no memory nothing is said.
+abbrev pub PlayedIn : {X : Type 0} → Form → State → State → (held holds had has : Option (List ℕ)) → List ℕ
     → Result X PlayError → Type 0
-PlayedIn form start now held holds had bytes (Ok _) =
+PlayedIn form start now held holds had has bytes (Ok _) =
     (left : Option (List ℕ)) × (lines : List (List ℕ)) × (text : List ℕ)
     × Followed form start now had left lines text × IsAtEnd left × Appends held holds text
-PlayedIn form start now held holds had bytes (Err (BadLine n)) =
+PlayedIn form start now held holds had has bytes (Err (BadLine n)) =
     (text : List ℕ) × EndsBadly form start now had text bytes n × Appends held holds text
-PlayedIn form start now held holds had bytes (Err Read) =
+PlayedIn form start now held holds had has bytes (Err Read) =
     (left : Option (List ℕ)) × (lines : List (List ℕ)) × (text : List ℕ)
-    × Followed form start now had left lines text × Appends held holds text
-PlayedIn form start now held holds had bytes (Err Write) = FailsToWrite form start now held holds had
-PlayedIn form start now held holds had bytes (Err NoMemory) = ⊤
+    × Followed form start now had left lines text × ReadsNoLine left has × Appends held holds text
+PlayedIn form start now held holds had has bytes (Err Write) = FailsToWrite form start now held holds had
+PlayedIn form start now held holds had has bytes (Err NoMemory) = ⊤

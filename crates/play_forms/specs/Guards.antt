@@ -16,6 +16,7 @@ use Rattle.play_forms.specs.declared.guards.Breach.{Breach}
 use Rattle.play_forms.specs.declared.patterns.Came.{Came}
 use Rattle.play_forms.specs.Followed.{Followed, EndsBadly, FailsToWrite}
 use Rattle.play_forms.specs.Patterns.{came_of, meets, pattern_of, told}
+use Rattle.play_forms.specs.Reading.{ReadsNoLine}
 
 -- A GUARD
 
@@ -129,7 +130,7 @@ IsFound start lines (Runner, wants) found = found ≡ hex 4 (after_all start lin
 -- A PLAY
 
 -- What follows speaks of the machine's state before and now (`start`, `now`), and of what was unread in the reader
--- before.
+-- before, and is (`had`, `has`).
 
 -- these guards were met, and the line that was read behind them is one that isn't
 pub record Breaks (form : Form) (start now : State) (had : Option (List ℕ)) (text bytes found : List ℕ)
@@ -152,25 +153,26 @@ abbrev pub Tallies : List (List ℕ) → ℕ → List ℕ → Type 0
 Tallies lines met near = (met ≡ guards_among lines) × (near ≡ near_from 1 lines)
 
 -- A play that writes each text and checks guards: whole, or up to a guard that isn't met, or up to a bad line, or as
--- far as could be read, or as far as could be written. All guards of these lines were met, so many they are, and these
--- are nearly guards. Of what it leaves where there is no memory nothing is said.
-abbrev pub GuardedIn : Form → State → State → Option (List ℕ) → Option (List ℕ) → Option (List ℕ) → List ℕ → List ℕ
-    → ℕ → List ℕ → Result (Option Breach) PlayError → Type 0
-GuardedIn form start now held holds had bytes found met near (Ok None) =
+-- far as could be read, where each line that was read whole was done, or as far as could be written. All guards of these
+-- lines were met, so many they are, and these are nearly guards. Of what it leaves where there is no memory nothing is
+-- said.
+abbrev pub GuardedIn : Form → State → State → (held holds had has : Option (List ℕ)) → List ℕ → List ℕ → ℕ → List ℕ
+    → Result (Option Breach) PlayError → Type 0
+GuardedIn form start now held holds had has bytes found met near (Ok None) =
     (left : Option (List ℕ)) × (lines : List (List ℕ)) × (text : List ℕ)
     × Followed form start now had left lines text × IsAtEnd left × Appends held holds text × AreMet start lines
     × Tallies lines met near
-GuardedIn form start now held holds had bytes found met near (Ok (Some breach)) =
+GuardedIn form start now held holds had has bytes found met near (Ok (Some breach)) =
     (text : List ℕ) × (breaks : Breaks form start now had text bytes found breach) × Appends held holds text
     × Tallies breaks.lines met near
-GuardedIn form start now held holds had bytes found met near (Err (BadLine n)) =
+GuardedIn form start now held holds had has bytes found met near (Err (BadLine n)) =
     (text : List ℕ) × (ends : EndsBadly form start now had text bytes n) × Appends held holds text
     × AreMet start ends.lines × Tallies ends.lines met near
-GuardedIn form start now held holds had bytes found met near (Err Read) =
+GuardedIn form start now held holds had has bytes found met near (Err Read) =
     (left : Option (List ℕ)) × (lines : List (List ℕ)) × (text : List ℕ)
-    × Followed form start now had left lines text × Appends held holds text × AreMet start lines
-    × Tallies lines met near
-GuardedIn form start now held holds had bytes found met near (Err Write) =
+    × Followed form start now had left lines text × ReadsNoLine left has × Appends held holds text
+    × AreMet start lines × Tallies lines met near
+GuardedIn form start now held holds had has bytes found met near (Err Write) =
     (fails : FailsToWrite form start now held holds had) × AreMet start (fails.lines ++ fails.last ∷ [])
     × Tallies (fails.lines ++ fails.last ∷ []) met near
-GuardedIn form start now held holds had bytes found met near (Err NoMemory) = ⊤
+GuardedIn form start now held holds had has bytes found met near (Err NoMemory) = ⊤

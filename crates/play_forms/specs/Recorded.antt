@@ -11,6 +11,7 @@ use Rattle.play_syntax.specs.declared.output.PlayError.TheVariants.{Read, Write,
 use Rattle.play_forms.specs.Followed.{EndsBadly, Followed}
 use Rattle.play_forms.specs.Forms.{plain}
 use Rattle.play_forms.specs.Guards.{AreMet, is_guard}
+use Rattle.play_forms.specs.Reading.{ReadsNoLine}
 
 -- WHAT IS WRITTEN
 
@@ -57,23 +58,23 @@ pub record FailsToRecord (start now : State) (held holds had : Option (List ℕ)
   pub written : Appends held between (joined (recorded start lines))
   pub began : TookFront between holds (joined (line_recorded last (text_of (after_all start lines) last)))
 
--- The trace was recorded: whole, or up to a bad line, or as far as could be read, or as far as could be written. Of what
--- is left where there is no memory nothing is said.
-abbrev pub RecordedIn : {X : Type 0} → State → State → Option (List ℕ) → Option (List ℕ) → Option (List ℕ) → List ℕ
+-- The trace was recorded: whole, or up to a bad line, or as far as could be read, where each line that was read whole was
+-- done, or as far as could be written. Of what is left where there is no memory nothing is said.
+abbrev pub RecordedIn : {X : Type 0} → State → State → (held holds had has : Option (List ℕ)) → List ℕ
     → Result X PlayError → Type 0
-RecordedIn start now held holds had bytes (Ok _) =
+RecordedIn start now held holds had has bytes (Ok _) =
     (left : Option (List ℕ)) × (lines : List (List ℕ)) × (said : List ℕ)
     × Followed plain start now had left lines said × IsAtEnd left
     × Appends held holds (joined (recorded start lines)) × Replays start lines
-RecordedIn start now held holds had bytes (Err (BadLine n)) =
+RecordedIn start now held holds had has bytes (Err (BadLine n)) =
     (said : List ℕ) × (ends : EndsBadly plain start now had said bytes n)
     × Appends held holds (joined (recorded start ends.lines)) × Replays start ends.lines
-RecordedIn start now held holds had bytes (Err Read) =
+RecordedIn start now held holds had has bytes (Err Read) =
     (left : Option (List ℕ)) × (lines : List (List ℕ)) × (said : List ℕ)
-    × Followed plain start now had left lines said × Appends held holds (joined (recorded start lines))
-    × Replays start lines
-RecordedIn start now held holds had bytes (Err Write) = FailsToRecord start now held holds had
-RecordedIn start now held holds had bytes (Err NoMemory) = ⊤
+    × Followed plain start now had left lines said × ReadsNoLine left has
+    × Appends held holds (joined (recorded start lines)) × Replays start lines
+RecordedIn start now held holds had has bytes (Err Write) = FailsToRecord start now held holds had
+RecordedIn start now held holds had has bytes (Err NoMemory) = ⊤
 
 -- WHAT A PRIVATE FUNCTION PROMISES
 

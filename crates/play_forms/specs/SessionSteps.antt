@@ -11,6 +11,7 @@ use Rattle.play_syntax.specs.declared.output.PlayError.{PlayError}
 use Rattle.play_syntax.specs.declared.output.PlayError.TheVariants.{Read, Write, NoMemory, BadLine}
 use Rattle.play_forms.specs.declared.form.Form.{Form}
 use Rattle.play_forms.specs.Forms.{text_of_in}
+use Rattle.play_forms.specs.Reading.{ReadsNoLine}
 use Rattle.play_forms.specs.Sessions.{IsOver}
 
 -- a line of this number was read, which leaves a number for the next; or none is left
@@ -18,7 +19,7 @@ abbrev pub HearsLine : Option (List ℕ) → Option (List ℕ) → List ℕ → 
 HearsLine had has line number (Ok true) =
     Consumes had has (line ++ feed ∷ []) × (has_no_feed line ≡ true) × (number + 1 < 2 ^ 64)
 HearsLine had has line number (Ok false) = IsOver had
-HearsLine had has line number (Err Read) = ⊤
+HearsLine had has line number (Err Read) = ReadsNoLine had has
 HearsLine had has line number (Err NoMemory) = ⊤
 HearsLine had has line number (Err Write) = ⊥
 HearsLine had has line number (Err (BadLine n)) = ⊥

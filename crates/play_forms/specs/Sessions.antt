@@ -12,7 +12,7 @@ use Rattle.play_syntax.specs.declared.output.PlayError.TheVariants.{Read, Write,
 use Rattle.play_forms.specs.declared.form.Form.{Form}
 use Rattle.play_forms.specs.Cut.{CutsTo}
 use Rattle.play_forms.specs.Forms.{text_of_in}
-use Rattle.play_forms.specs.Reading.{IsAll}
+use Rattle.play_forms.specs.Reading.{IsAll, ReadsNoLine}
 
 -- the good ones of these lines, in order
 abbrev pub good_lines : List (List ℕ) → List (List ℕ)
@@ -57,16 +57,16 @@ pub record FailsToAnswer (form : Form) (start now : State) (held holds had : Opt
   pub written : Appends held between (good_text_in form 1 start lines)
   pub began : TookFront between holds (text_of_in form (1 + length lines) (after_all start (good_lines lines)) last)
 
--- A session: whole, or as far as could be read, or as far as could be written. Of what it leaves where there is no memory
--- nothing is said.
-abbrev pub SessionIn : {X : Type 0} → Form → State → State → (held holds had : Option (List ℕ)) → Result X PlayError
-    → Type 0
-SessionIn form start now held holds had (Ok _) =
+-- A session: whole, or as far as could be read, where these are all lines that were read whole, or as far as could be
+-- written. Of what it leaves where there is no memory nothing is said.
+abbrev pub SessionIn : {X : Type 0} → Form → State → State → (held holds had has : Option (List ℕ))
+    → Result X PlayError → Type 0
+SessionIn form start now held holds had has (Ok _) =
     (left : Option (List ℕ)) × (lines : List (List ℕ)) × (printed : List ℕ)
     × Conversed form start now had left lines printed × IsOver left × Appends held holds printed
-SessionIn form start now held holds had (Err Read) =
+SessionIn form start now held holds had has (Err Read) =
     (left : Option (List ℕ)) × (lines : List (List ℕ)) × (printed : List ℕ)
-    × Conversed form start now had left lines printed × Appends held holds printed
-SessionIn form start now held holds had (Err Write) = FailsToAnswer form start now held holds had
-SessionIn form start now held holds had (Err NoMemory) = ⊤
-SessionIn form start now held holds had (Err (BadLine n)) = ⊥
+    × Conversed form start now had left lines printed × ReadsNoLine left has × Appends held holds printed
+SessionIn form start now held holds had has (Err Write) = FailsToAnswer form start now held holds had
+SessionIn form start now held holds had has (Err NoMemory) = ⊤
+SessionIn form start now held holds had has (Err (BadLine n)) = ⊥

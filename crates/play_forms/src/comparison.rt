@@ -83,10 +83,10 @@ impl<A: Allocator + Copy> Sides<A> {
 /// the expected one is held. A text that is compared has numbers and names where the form asks for them, and reasons
 /// never: why the operation of that line is refused is told where the form asks for it.
 ///
-/// At a bad line, and where a reader fails, the lines before it were done, and nothing more, and their text begins the
-/// expected one. The bytes of a bad line stand in `sides` as they stand in the trace, with the LF that ends them, where
-/// one does. Where the expected text can't be read, so much of it was read as begins the text of the lines that were
-/// done. What is left where there is no memory is in no clause.
+/// At a bad line the lines before it were done, and where the trace can't be read each that was read whole, and nothing
+/// more, and their text begins the expected one. The bytes of a bad line stand in `sides` as they stand in the trace,
+/// with the LF that ends them, where one does. Where the expected text can't be read, so much of it was read as begins
+/// the text of the lines that were done. What is left where there is no memory is in no clause.
 pub fn compare<P: Playable, A: Allocator + Copy, R: BufRead, E: BufRead>(
     player: &mut Player<P>,
     alloc: A,
@@ -96,9 +96,10 @@ pub fn compare<P: Playable, A: Allocator + Copy, R: BufRead, E: BufRead>(
     sides: &mut Sides<A>,
 ) -> Result<Option<Mismatch>, CompareError>
     ensures compared { let had = R.remaining reader.old in
+        let has = R.remaining reader.new in
         let wants = E.remaining expected.old in
         let now = player.new.state in
-        Compared form player.old.state now had wants sides.new.line.items sides.new.text.items sides.new.expected.items result }
+        Compared form player.old.state now had has wants sides.new.line.items sides.new.text.items sides.new.expected.items result }
     ensures unequal { let had = R.remaining reader.old in
         let wants = E.remaining expected.old in
         IfOk result (λ d. IfSome d (λ _. NeverPrints (unexplained form) player.old.state had wants)) }

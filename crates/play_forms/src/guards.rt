@@ -139,8 +139,9 @@ pub fn play_guarded<P: Playable, A: Allocator + Copy, R: BufRead, W: Write>(
     ensures { let held = W.contents writer.old in
         let holds = W.contents writer.new in
         let had = R.remaining reader.old in
+        let has = R.remaining reader.new in
         let near = tally.new.near.items in
-        GuardedIn form player.old.state player.new.state held holds had bytes.new.items found.new.items tally.new.met near result }
+        GuardedIn form player.old.state player.new.state held holds had has bytes.new.items found.new.items tally.new.met near result }
 {
     let mut unasked = Unasked::new(alloc);
     let mut text = Vec::new(alloc);

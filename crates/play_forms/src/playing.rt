@@ -15,10 +15,10 @@ use std::io::{BufRead, Write};
 /// Does the lines that the reader gives, one after another, and writes the text of each in this form before the next is
 /// done. Lines count from 1.
 ///
-/// At a bad line, and where the reader fails, the lines before it were done, and nothing more, and their whole text was
-/// written; where the writer fails, it took a beginning of the text of the line that was done last. The bytes of a bad
-/// line stand in `bytes` as they stand in the trace, with the LF that ends them, where one does. What is left where
-/// there is no memory is in no clause.
+/// At a bad line the lines before it were done, and where the reader fails each that was read whole, and nothing more,
+/// and their whole text was written; where the writer fails, it took a beginning of the text of the line that was done
+/// last. The bytes of a bad line stand in `bytes` as they stand in the trace, with the LF that ends them, where one does.
+/// What is left where there is no memory is in no clause.
 pub fn play<P: Playable, A: Allocator + Copy, R: BufRead, W: Write>(
     player: &mut Player<P>,
     alloc: A,
@@ -30,7 +30,8 @@ pub fn play<P: Playable, A: Allocator + Copy, R: BufRead, W: Write>(
     ensures { let held = W.contents writer.old in
         let holds = W.contents writer.new in
         let had = R.remaining reader.old in
-        PlayedIn form player.old.state player.new.state held holds had bytes.new.items result }
+        let has = R.remaining reader.new in
+        PlayedIn form player.old.state player.new.state held holds had has bytes.new.items result }
 {
     let mut text = Vec::new(alloc);
     let mut lines = Lines::new();

@@ -1,7 +1,7 @@
 // SPDX-License-Identifier: MIT OR Apache-2.0
 //! Reading the lines of a trace.
 ghost use Rattle.std.specs.Prelude.{◌≡◌};
-ghost use Rattle.play_forms.specs.Reading.{ReadsLine, TakesFeed, TakesLine, TakesNext};
+ghost use Rattle.play_forms.specs.Reading.{ReadsLine, TakesFeed, TakesLine, TakesNext, TakesWhole};
 ghost use Rattle.play_forms.specs.Steps.{Refuses};
 
 use play_syntax::{Line, PlayError};
@@ -12,7 +12,7 @@ use std::io::{BufRead, ErrorKind};
 /// is none of its bytes.
 ///
 /// After an interrupt it asks the reader again, as `read_until` does. A rest that no LF ends is a bad line, and stands
-/// in `line` then.
+/// in `line` then. Where the reader fails, no line was read whole.
 pub fn next_line<A: Allocator, R: BufRead>(
     reader: &mut R,
     line: &mut Vec<u8, A>,
@@ -27,7 +27,7 @@ pub fn next_line<A: Allocator, R: BufRead>(
         Ok(0) => Ok(false),
         Ok(_) => take_feed(line, number),
         Err(error) if error.kind() == ErrorKind::OutOfMemory => Err(PlayError::NoMemory),
-        Err(_) => Err(PlayError::Read),
+        Err(_) => take_whole(line),
     }
 }
 
@@ -41,6 +41,17 @@ fn take_feed<A: Allocator>(line: &mut Vec<u8, A>, number: u64) -> Result<bool, P
             Ok(()) => Err(PlayError::BadLine(number)),
             Err(_) => Err(PlayError::NoMemory),
         },
+        None => Err(PlayError::Read),
+    }
+}
+
+// The same of what was read before the reader failed. A reader that fails behind an LF has given a line.
+fn take_whole<A: Allocator>(line: &mut Vec<u8, A>) -> Result<bool, PlayError>
+    ensures { TakesWhole line.old.items line.new.items result }
+{
+    match line.pop() {
+        Some(b'\n') => Ok(true),
+        Some(_) => Err(PlayError::Read),
         None => Err(PlayError::Read),
     }
 }

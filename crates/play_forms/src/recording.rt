@@ -19,10 +19,10 @@ use std::io::{BufRead, Write};
 /// Does the lines that the reader gives, one after another, and writes each as it stands, and behind it a guard for each
 /// line that it prints. Guards that the trace has are left out.
 ///
-/// What is written plays as the trace does, and all its guards are met. At a bad line, and where the reader fails, the
-/// lines before it were done, and nothing more, and what is written of them was written; where the writer fails, it took
-/// a beginning of what is written of the line that was done last. The bytes of a bad line stand in `bytes` as they stand
-/// in the trace. What is left where there is no memory is in no clause.
+/// What is written plays as the trace does, and all its guards are met. At a bad line the lines before it were done, and
+/// where the reader fails each that was read whole, and nothing more, and what is written of them was written; where the
+/// writer fails, it took a beginning of what is written of the line that was done last. The bytes of a bad line stand in
+/// `bytes` as they stand in the trace. What is left where there is no memory is in no clause.
 pub fn record<P: Playable, A: Allocator + Copy, R: BufRead, W: Write>(
     player: &mut Player<P>,
     alloc: A,
@@ -33,7 +33,8 @@ pub fn record<P: Playable, A: Allocator + Copy, R: BufRead, W: Write>(
     ensures { let held = W.contents writer.old in
         let holds = W.contents writer.new in
         let had = R.remaining reader.old in
-        RecordedIn player.old.state player.new.state held holds had bytes.new.items result }
+        let has = R.remaining reader.new in
+        RecordedIn player.old.state player.new.state held holds had has bytes.new.items result }
 {
     let mut text = Vec::new(alloc);
     let mut said = Vec::new(alloc);

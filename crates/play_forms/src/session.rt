@@ -20,9 +20,9 @@ use std::io::{BufRead, Write};
 /// A bad line isn't done, and the machine stays as it is: `told` is told its number and what is wrong with it. A rest that
 /// no LF ends is a bad line, and the last.
 ///
-/// Where the reader fails, the good ones of the lines before were done, and nothing more, and their whole text was written;
-/// where the writer fails, it took a beginning of the text of the line that was done last. What `told` takes, and what is
-/// left where there is no memory, is in no clause.
+/// Where the reader fails, the good ones of the lines that were read whole were done, and nothing more, and their whole
+/// text was written; where the writer fails, it took a beginning of the text of the line that was done last. What `told`
+/// takes, and what is left where there is no memory, is in no clause.
 pub fn play_session<P: Playable, A: Allocator + Copy, R: BufRead, W: Write, E: Write>(
     player: &mut Player<P>,
     alloc: A,
@@ -34,7 +34,8 @@ pub fn play_session<P: Playable, A: Allocator + Copy, R: BufRead, W: Write, E: W
     ensures { let held = W.contents writer.old in
         let holds = W.contents writer.new in
         let had = R.remaining reader.old in
-        SessionIn form player.old.state player.new.state held holds had result }
+        let has = R.remaining reader.new in
+        SessionIn form player.old.state player.new.state held holds had has result }
 {
     let (mut bytes, mut text) = (Vec::new(alloc), Vec::new(alloc));
     let mut number = 1;

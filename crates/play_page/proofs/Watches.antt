@@ -12,8 +12,8 @@ use Rattle.play_page.specs.Paging.{Paging}
 
 -- what was read isn't taken
 pub untaken_paged : (A : Type 0) (start mid : State) (had has : Option (List ℕ)) (lines : List (List ℕ)) (text : List ℕ) → Followed plain start mid had has lines text
-    → (number : ℕ) → number ≡ 1 + length lines → (e : PlayError) (then : Option (List ℕ)) (bytes : List ℕ) → TakesLine has then bytes number (Err e) → Paging {A = A} start mid had bytes (Err e)
-untaken_paged A start mid had has lines text f number count Read then bytes r = (has, lines, text, f)
+    → (number : ℕ) → number ≡ 1 + length lines → (e : PlayError) (then : Option (List ℕ)) (bytes : List ℕ) → TakesLine has then bytes number (Err e) → Paging {A = A} start mid had then bytes (Err e)
+untaken_paged A start mid had has lines text f number count Read then bytes r = (has, lines, text, f, r)
 untaken_paged A start mid had has lines text f number count Write then bytes r = absurd r
 untaken_paged A start mid had has lines text f number count NoMemory then bytes r = tt
 untaken_paged A start mid had has lines text f number count (BadLine n) then bytes (is, bad) =

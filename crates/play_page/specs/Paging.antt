@@ -7,6 +7,7 @@ use Rattle.play_syntax.specs.declared.output.PlayError.{PlayError}
 use Rattle.play_syntax.specs.declared.output.PlayError.TheVariants.{Read, Write, NoMemory, BadLine}
 use Rattle.play_forms.specs.Followed.{EndsBadly, Followed}
 use Rattle.play_forms.specs.Forms.{plain}
+use Rattle.play_forms.specs.Reading.{ReadsNoLine}
 use Rattle.play_drawing.specs.Rows.{AreRows}
 use Rattle.play_page.specs.declared.page.Page.{Page}
 use Rattle.play_page.specs.Entries.{AreEntries, changes}
@@ -18,14 +19,16 @@ pub record IsPage {A : Type 0} (start now : State) (lines : List (List ℕ)) (pa
   pub rows : AreRows changes start lines page.rows.items
   pub entries : AreEntries start lines page.entries.items
 
--- A trace was played from a state to its end, and this is its page; or a line is bad, or no more could be read. Of what
--- is left where there is no memory nothing is said.
-abbrev pub Paging : {A : Type 0} → State → State → Option (List ℕ) → List ℕ → Result (Page A) PlayError → Type 0
-Paging start now had bytes (Ok page) =
+-- A trace was played from a state to its end, and this is its page; or a line is bad; or no more could be read, and each
+-- line that was read whole was done. Of what is left where there is no memory nothing is said.
+abbrev pub Paging : {A : Type 0} → State → State → (had has : Option (List ℕ)) → List ℕ → Result (Page A) PlayError
+    → Type 0
+Paging start now had has bytes (Ok page) =
     (left : Option (List ℕ)) × (lines : List (List ℕ)) × (text : List ℕ)
     × Followed plain start now had left lines text × IsAtEnd left × IsPage start now lines page
-Paging start now had bytes (Err (BadLine n)) = (text : List ℕ) × EndsBadly plain start now had text bytes n
-Paging start now had bytes (Err Read) =
-    (left : Option (List ℕ)) × (lines : List (List ℕ)) × (text : List ℕ) × Followed plain start now had left lines text
-Paging start now had bytes (Err Write) = ⊥
-Paging start now had bytes (Err NoMemory) = ⊤
+Paging start now had has bytes (Err (BadLine n)) = (text : List ℕ) × EndsBadly plain start now had text bytes n
+Paging start now had has bytes (Err Read) =
+    (left : Option (List ℕ)) × (lines : List (List ℕ)) × (text : List ℕ)
+    × Followed plain start now had left lines text × ReadsNoLine left has
+Paging start now had has bytes (Err Write) = ⊥
+Paging start now had has bytes (Err NoMemory) = ⊤

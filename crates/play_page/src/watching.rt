@@ -35,16 +35,18 @@ struct Seen<A: Allocator> {
 
 /// Does the lines that the reader gives, one after another, and answers the page of them.
 ///
-/// At a bad line, and where the reader fails, the lines before it were done, and nothing more. The bytes of a bad line
-/// stand in `bytes` as they stand in the trace, with the LF that ends them, where one does. What is left where there is
-/// no memory is in no clause.
+/// At a bad line the lines before it were done, and where the reader fails each that was read whole, and nothing more.
+/// The bytes of a bad line stand in `bytes` as they stand in the trace, with the LF that ends them, where one does. What
+/// is left where there is no memory is in no clause.
 pub fn watch_page<P: Playable, A: Allocator + Copy, R: BufRead>(
     player: &mut Player<P>,
     alloc: A,
     reader: &mut R,
     bytes: &mut Vec<u8, A>,
 ) -> Result<Page<A>, PlayError>
-    ensures { Paging player.old.state player.new.state (R.remaining reader.old) bytes.new.items result }
+    ensures { let had = R.remaining reader.old in
+        let has = R.remaining reader.new in
+        Paging player.old.state player.new.state had has bytes.new.items result }
 {
     let mut seen = begin(player, alloc)?;
     let mut lines = Lines::new();

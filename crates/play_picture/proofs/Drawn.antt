@@ -29,10 +29,10 @@ module _ {A : Type 0} (keep : Keep) (start now : State) (lines : List (List ℕ)
   }
 
 -- and what it makes of a trace that was watched to its end
-pub pictured : {A : Type 0} (keep : Keep) (start now : State) (had : Option (List ℕ)) (bytes : List ℕ) (rows : Vec (Row A) A) (r : Result (Result (Picture A) TooLarge) PlayError)
-    → Watched keep start now had bytes (Ok (Ok rows)) → IsDrawn now rows r → Pictured keep start now had bytes r
-pictured {A = A} keep start now had bytes rows (Ok (Ok picture)) (left, lines, text, f, ended, are) d =
+pub pictured : {A : Type 0} (keep : Keep) (start now : State) (had has : Option (List ℕ)) (bytes : List ℕ) (rows : Vec (Row A) A) (r : Result (Result (Picture A) TooLarge) PlayError)
+    → Watched keep start now had has bytes (Ok (Ok rows)) → IsDrawn now rows r → Pictured keep start now had has bytes r
+pictured {A = A} keep start now had has bytes rows (Ok (Ok picture)) (left, lines, text, f, ended, are) d =
     (left, lines, text, f, ended, drawn keep start now lines rows picture are d, subst (λ (rs : Vec (Row A) A). length rs.items ≤ most_rows (length picture.columns.items)) (sym d.rows) d.fits)
-pictured keep start now had bytes rows (Ok (Err large)) (left, lines, text, f, ended, are) (columns, are_columns, most, more) =
+pictured keep start now had has bytes rows (Ok (Err large)) (left, lines, text, f, ended, are) (columns, are_columns, most, more) =
     (left, lines, text, f, record { rows = rows.items; cells = length columns; are_rows = are; are_cells = inr (columns, are_columns, refl); most = most; more = more })
-pictured {A = A} keep start now had bytes rows (Err e) w is = subst (λ x. Pictured {A = A} keep start now had bytes (Err x)) (sym is) tt
+pictured {A = A} keep start now had has bytes rows (Err e) w is = subst (λ x. Pictured {A = A} keep start now had has bytes (Err x)) (sym is) tt

@@ -13,8 +13,8 @@ use Rattle.play_picture.specs.Watching.{Watched}
 
 -- what was read isn't taken
 pub untaken_watched : (A : Type 0) (keep : Keep) (start mid : State) (had has : Option (List ℕ)) (lines : List (List ℕ)) (text : List ℕ) → Followed plain start mid had has lines text
-    → (number : ℕ) → number ≡ 1 + length lines → (e : PlayError) (then : Option (List ℕ)) (bytes : List ℕ) → TakesLine has then bytes number (Err e) → Watched {A = A} keep start mid had bytes (Err e)
-untaken_watched A keep start mid had has lines text f number count Read then bytes r = (has, lines, text, f)
+    → (number : ℕ) → number ≡ 1 + length lines → (e : PlayError) (then : Option (List ℕ)) (bytes : List ℕ) → TakesLine has then bytes number (Err e) → Watched {A = A} keep start mid had then bytes (Err e)
+untaken_watched A keep start mid had has lines text f number count Read then bytes r = (has, lines, text, f, r)
 untaken_watched A keep start mid had has lines text f number count Write then bytes r = absurd r
 untaken_watched A keep start mid had has lines text f number count NoMemory then bytes r = tt
 untaken_watched A keep start mid had has lines text f number count (BadLine n) then bytes (is, bad) =

@@ -8,6 +8,7 @@ use Rattle.play_syntax.specs.declared.output.PlayError.{PlayError}
 use Rattle.play_syntax.specs.declared.output.PlayError.TheVariants.{Read, Write, NoMemory, BadLine}
 use Rattle.play_forms.specs.Followed.{EndsBadly, Followed}
 use Rattle.play_forms.specs.Forms.{plain}
+use Rattle.play_forms.specs.Reading.{ReadsNoLine}
 use Rattle.play_drawing.specs.declared.column.Column.{Column}
 use Rattle.play_drawing.specs.declared.picture.Picture.{Picture}
 use Rattle.play_drawing.specs.declared.row.Keep.{Keep}
@@ -37,18 +38,20 @@ IsDrawn s rows (Ok (Err large)) =
 IsDrawn s rows (Err e) = e ≡ NoMemory
 
 -- A trace was played from a state to its end, and this is its picture, which fits; or it stopped where it wouldn't; or a
--- line is bad, or no more could be read. Of what is left where there is no memory nothing is said.
-abbrev pub Pictured : {A : Type 0} → Keep → State → State → Option (List ℕ) → List ℕ
+-- line is bad; or no more could be read, and each line that was read whole was done. Of what is left where there is no
+-- memory nothing is said.
+abbrev pub Pictured : {A : Type 0} → Keep → State → State → (had has : Option (List ℕ)) → List ℕ
     → Result (Result (Picture A) TooLarge) PlayError → Type 0
-Pictured keep start now had bytes (Ok (Ok picture)) =
+Pictured keep start now had has bytes (Ok (Ok picture)) =
     (left : Option (List ℕ)) × (lines : List (List ℕ)) × (text : List ℕ)
     × Followed plain start now had left lines text × IsAtEnd left × IsPicture keep start now lines picture
     × (length picture.rows.items ≤ most_rows (length picture.columns.items))
-Pictured {A} keep start now had bytes (Ok (Err large)) =
+Pictured {A} keep start now had has bytes (Ok (Err large)) =
     (left : Option (List ℕ)) × (lines : List (List ℕ)) × (text : List ℕ)
     × Followed plain start now had left lines text × IsTooLarge A keep start now lines large
-Pictured keep start now had bytes (Err (BadLine n)) = (text : List ℕ) × EndsBadly plain start now had text bytes n
-Pictured keep start now had bytes (Err Read) =
-    (left : Option (List ℕ)) × (lines : List (List ℕ)) × (text : List ℕ) × Followed plain start now had left lines text
-Pictured keep start now had bytes (Err Write) = ⊥
-Pictured keep start now had bytes (Err NoMemory) = ⊤
+Pictured keep start now had has bytes (Err (BadLine n)) = (text : List ℕ) × EndsBadly plain start now had text bytes n
+Pictured keep start now had has bytes (Err Read) =
+    (left : Option (List ℕ)) × (lines : List (List ℕ)) × (text : List ℕ)
+    × Followed plain start now had left lines text × ReadsNoLine left has
+Pictured keep start now had has bytes (Err Write) = ⊥
+Pictured keep start now had has bytes (Err NoMemory) = ⊤

@@ -11,6 +11,7 @@ use Rattle.play_syntax.specs.declared.output.PlayError.{PlayError}
 use Rattle.play_syntax.specs.declared.output.PlayError.TheVariants.{Read, Write, NoMemory, BadLine}
 use Rattle.play_forms.specs.Followed.{EndsBadly, Followed}
 use Rattle.play_forms.specs.Forms.{plain}
+use Rattle.play_forms.specs.Reading.{ReadsNoLine}
 use Rattle.play_drawing.specs.declared.column.Column.{Column}
 use Rattle.play_drawing.specs.declared.row.Keep.{Keep}
 use Rattle.play_drawing.specs.declared.row.Row.{Row}
@@ -39,18 +40,19 @@ pub record IsTooLarge (A : Type 0) (keep : Keep) (start now : State) (lines : Li
     pub more : large.most < length rows
 
 -- A trace was watched from a state to its end: these are the rows of its lines. Or it stopped at a line behind which
--- there are too many; or a line is bad, or no more could be read. Of what is left where there is no memory nothing is
--- said.
-abbrev pub Watched : {A : Type 0} → Keep → State → State → Option (List ℕ) → List ℕ
+-- there are too many; or a line is bad; or no more could be read, and each line that was read whole was done. Of what is
+-- left where there is no memory nothing is said.
+abbrev pub Watched : {A : Type 0} → Keep → State → State → (had has : Option (List ℕ)) → List ℕ
     → Result (Result (Vec (Row A) A) TooLarge) PlayError → Type 0
-Watched keep start now had bytes (Ok (Ok rows)) =
+Watched keep start now had has bytes (Ok (Ok rows)) =
     (left : Option (List ℕ)) × (lines : List (List ℕ)) × (text : List ℕ)
     × Followed plain start now had left lines text × IsAtEnd left × AreRows keep start lines rows.items
-Watched {A} keep start now had bytes (Ok (Err large)) =
+Watched {A} keep start now had has bytes (Ok (Err large)) =
     (left : Option (List ℕ)) × (lines : List (List ℕ)) × (text : List ℕ)
     × Followed plain start now had left lines text × IsTooLarge A keep start now lines large
-Watched keep start now had bytes (Err (BadLine n)) = (text : List ℕ) × EndsBadly plain start now had text bytes n
-Watched keep start now had bytes (Err Read) =
-    (left : Option (List ℕ)) × (lines : List (List ℕ)) × (text : List ℕ) × Followed plain start now had left lines text
-Watched keep start now had bytes (Err Write) = ⊥
-Watched keep start now had bytes (Err NoMemory) = ⊤
+Watched keep start now had has bytes (Err (BadLine n)) = (text : List ℕ) × EndsBadly plain start now had text bytes n
+Watched keep start now had has bytes (Err Read) =
+    (left : Option (List ℕ)) × (lines : List (List ℕ)) × (text : List ℕ)
+    × Followed plain start now had left lines text × ReadsNoLine left has
+Watched keep start now had has bytes (Err Write) = ⊥
+Watched keep start now had has bytes (Err NoMemory) = ⊤

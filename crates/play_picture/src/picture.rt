@@ -20,7 +20,9 @@ pub fn picture_of<P: Playable, A: Allocator + Copy, R: BufRead>(
     reader: &mut R,
     bytes: &mut Vec<u8, A>,
 ) -> Result<Result<Picture<A>, TooLarge>, PlayError>
-    ensures { Pictured keep player.old.state player.new.state (R.remaining reader.old) bytes.new.items result }
+    ensures { let had = R.remaining reader.old in
+        let has = R.remaining reader.new in
+        Pictured keep player.old.state player.new.state had has bytes.new.items result }
 {
     let watched = watch(player, alloc, keep, reader, bytes)?;
     match watched {

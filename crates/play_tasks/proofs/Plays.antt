@@ -149,8 +149,8 @@ ends_badly form start now had said bytes n e = record {
   bad = e.bad;
 }
 
-pub formed_whole : {X : Type 0} (x : X) (form : Form) (start now : State) (held holds had : Option (List ℕ)) (bytes : List ℕ) → followed.PlayedIn form start now held holds had bytes (Ok x) → IsPlayed false form start (passed had held holds)
-formed_whole x form start now held holds had bytes (left, lines, said, f, ended, written) = record {
+pub formed_whole : {X : Type 0} (x : X) (form : Form) (start now : State) (held holds had has : Option (List ℕ)) (bytes : List ℕ) → followed.PlayedIn form start now held holds had has bytes (Ok x) → IsPlayed false form start (passed had held holds)
+formed_whole x form start now held holds had has bytes (left, lines, said, f, ended, written) = record {
   lines = lines;
   each = f.each;
   all = all_consumed had left (joined lines) f.read ended;
@@ -158,14 +158,14 @@ formed_whole x form start now held holds had bytes (left, lines, said, f, ended,
   guards = never_strict;
 }
 
-pub formed_failed : {R : Type 0} (remaining : R → Option (List ℕ)) (form : Form) (start now : State) (held holds had : Option (List ℕ)) (bytes : List ℕ) (path : Bor (List ℕ)) (fault : Option LineFault) (error : PlayError)
-    → followed.PlayedIn {X = Unit {0}} form start now held holds had bytes (Err error)
+pub formed_failed : {R : Type 0} (remaining : R → Option (List ℕ)) (form : Form) (start now : State) (held holds had has : Option (List ℕ)) (bytes : List ℕ) (path : Bor (List ℕ)) (fault : Option LineFault) (error : PlayError)
+    → followed.PlayedIn {X = Unit {0}} form start now held holds had has bytes (Err error)
     → PlayFails remaining (Formed form) start (passed had held holds) (failure_of (Read path) fault error)
-formed_failed remaining form start now held holds had bytes path fault play_error.Read (left, lines, said, f, written) =
+formed_failed remaining form start now held holds had has bytes path fault play_error.Read (left, lines, said, f, unended, written) =
     (lines, (f.each, (left, f.read)), subst (Appends held holds) f.said written, never_strict)
-formed_failed remaining form start now held holds had bytes path fault play_error.Write p = tt
-formed_failed remaining form start now held holds had bytes path fault play_error.NoMemory p = tt
-formed_failed remaining form start now held holds had bytes path fault (play_error.BadLine n) (said, e, written) =
+formed_failed remaining form start now held holds had has bytes path fault play_error.Write p = tt
+formed_failed remaining form start now held holds had has bytes path fault play_error.NoMemory p = tt
+formed_failed remaining form start now held holds had has bytes path fault (play_error.BadLine n) (said, e, written) =
     (e.lines, ends_badly form start now had said bytes n e, subst (Appends held holds) e.followed.said written, never_strict)
 
 -- PICTURES
@@ -174,36 +174,36 @@ pub always_ok : {T E P : Type 0} (r : Result T E) → P → OnOk r P
 always_ok (Ok x) p = p
 always_ok (Err e) p = tt
 
-pub drawn_whole : {A : Type 0} (picture : Picture A) (keep : Keep) (start now : State) (had : Option (List ℕ)) (bytes : List ℕ) → Pictured keep start now had bytes (Ok (Ok picture)) → IsDrawn had
-drawn_whole picture keep start now had bytes (left, lines, said, f, ended, is, fits) = record { lines = lines; each = f.each; all = all_consumed had left (joined lines) f.read ended }
+pub drawn_whole : {A : Type 0} (picture : Picture A) (keep : Keep) (start now : State) (had has : Option (List ℕ)) (bytes : List ℕ) → Pictured keep start now had has bytes (Ok (Ok picture)) → IsDrawn had
+drawn_whole picture keep start now had has bytes (left, lines, said, f, ended, is, fits) = record { lines = lines; each = f.each; all = all_consumed had left (joined lines) f.read ended }
 
-pub drawn_over : (A : Type 0) (large : TooLarge) (keep : Keep) (start now : State) (held had : Option (List ℕ)) (bytes : List ℕ) → Pictured {A = A} keep start now had bytes (Ok (Err large))
+pub drawn_over : (A : Type 0) (large : TooLarge) (keep : Keep) (start now : State) (held had has : Option (List ℕ)) (bytes : List ℕ) → Pictured {A = A} keep start now had has bytes (Ok (Err large))
     → IsOverfull (passed had held held) large.most
-drawn_over A large keep start now held had bytes (left, lines, said, f, is) =
+drawn_over A large keep start now held had has bytes (left, lines, said, f, is) =
     let few = rows_few keep start lines is.rows is.are_rows in
     let more = is.more in
     (lines, (f.each, (left, f.read)), omega (arith, few, more), kept held)
 
-pub drawn_failed : {R : Type 0} (remaining : R → Option (List ℕ)) (A : Type 0) (keep : Keep) (width : ℕ) (start now : State) (held had : Option (List ℕ)) (bytes : List ℕ) (path : Bor (List ℕ)) (fault : Option LineFault) (error : PlayError)
-    → Pictured {A = A} keep start now had bytes (Err error) → PlayFails remaining (Drawn keep width) start (passed had held held) (failure_of (Read path) fault error)
-drawn_failed remaining A keep width start now held had bytes path fault play_error.Read p = kept held
-drawn_failed remaining A keep width start now held had bytes path fault play_error.Write p = absurd p
-drawn_failed remaining A keep width start now held had bytes path fault play_error.NoMemory p = tt
-drawn_failed remaining A keep width start now held had bytes path fault (play_error.BadLine n) (said, e) = (e.lines, ends_badly plain start now had said bytes n e, kept held)
+pub drawn_failed : {R : Type 0} (remaining : R → Option (List ℕ)) (A : Type 0) (keep : Keep) (width : ℕ) (start now : State) (held had has : Option (List ℕ)) (bytes : List ℕ) (path : Bor (List ℕ)) (fault : Option LineFault) (error : PlayError)
+    → Pictured {A = A} keep start now had has bytes (Err error) → PlayFails remaining (Drawn keep width) start (passed had held held) (failure_of (Read path) fault error)
+drawn_failed remaining A keep width start now held had has bytes path fault play_error.Read p = kept held
+drawn_failed remaining A keep width start now held had has bytes path fault play_error.Write p = absurd p
+drawn_failed remaining A keep width start now held had has bytes path fault play_error.NoMemory p = tt
+drawn_failed remaining A keep width start now held had has bytes path fault (play_error.BadLine n) (said, e) = (e.lines, ends_badly plain start now had said bytes n e, kept held)
 
-pub paged_whole : {A : Type 0} (page : Page A) (start now : State) (had : Option (List ℕ)) (bytes : List ℕ) → Paging start now had bytes (Ok page) → IsDrawn had
-paged_whole page start now had bytes (left, lines, said, f, ended, is) = record { lines = lines; each = f.each; all = all_consumed had left (joined lines) f.read ended }
+pub paged_whole : {A : Type 0} (page : Page A) (start now : State) (had has : Option (List ℕ)) (bytes : List ℕ) → Paging start now had has bytes (Ok page) → IsDrawn had
+paged_whole page start now had has bytes (left, lines, said, f, ended, is) = record { lines = lines; each = f.each; all = all_consumed had left (joined lines) f.read ended }
 
-pub paged_failed : {R : Type 0} (remaining : R → Option (List ℕ)) (A : Type 0) (start now : State) (held had : Option (List ℕ)) (bytes : List ℕ) (path : Bor (List ℕ)) (fault : Option LineFault) (error : PlayError)
-    → Paging {A = A} start now had bytes (Err error) → PlayFails remaining Paged start (passed had held held) (failure_of (Read path) fault error)
-paged_failed remaining A start now held had bytes path fault play_error.Read p = kept held
-paged_failed remaining A start now held had bytes path fault play_error.Write p = absurd p
-paged_failed remaining A start now held had bytes path fault play_error.NoMemory p = tt
-paged_failed remaining A start now held had bytes path fault (play_error.BadLine n) (said, e) = (e.lines, ends_badly plain start now had said bytes n e, kept held)
+pub paged_failed : {R : Type 0} (remaining : R → Option (List ℕ)) (A : Type 0) (start now : State) (held had has : Option (List ℕ)) (bytes : List ℕ) (path : Bor (List ℕ)) (fault : Option LineFault) (error : PlayError)
+    → Paging {A = A} start now had has bytes (Err error) → PlayFails remaining Paged start (passed had held held) (failure_of (Read path) fault error)
+paged_failed remaining A start now held had has bytes path fault play_error.Read p = kept held
+paged_failed remaining A start now held had has bytes path fault play_error.Write p = absurd p
+paged_failed remaining A start now held had has bytes path fault play_error.NoMemory p = tt
+paged_failed remaining A start now held had has bytes path fault (play_error.BadLine n) (said, e) = (e.lines, ends_badly plain start now had said bytes n e, kept held)
 
-pub guarded_whole : (form : Form) (start now : State) (held holds had : Option (List ℕ)) (line found : List ℕ) (met : ℕ) (near : List ℕ) → GuardedIn form start now held holds had line found met near (Ok None)
+pub guarded_whole : (form : Form) (start now : State) (held holds had has : Option (List ℕ)) (line found : List ℕ) (met : ℕ) (near : List ℕ) → GuardedIn form start now held holds had has line found met near (Ok None)
     → IsPlayed true form start (passed had held holds)
-guarded_whole form start now held holds had line found met near (left, lines, said, f, ended, written, are_met, counts) = record {
+guarded_whole form start now held holds had has line found met near (left, lines, said, f, ended, written, are_met, counts) = record {
   lines = lines;
   each = f.each;
   all = all_consumed had left (joined lines) f.read ended;
@@ -212,9 +212,9 @@ guarded_whole form start now held holds had line found met near (left, lines, sa
 }
 
 -- what is said of the guards
-pub guarded_told : (form : Form) (start now : State) (held holds had : Option (List ℕ)) (line found : List ℕ) (met : ℕ) (near before between after : List ℕ) → GuardedIn form start now held holds had line found met near (Ok None)
+pub guarded_told : (form : Form) (start now : State) (held holds had has : Option (List ℕ)) (line found : List ℕ) (met : ℕ) (near before between after : List ℕ) → GuardedIn form start now held holds had has line found met near (Ok None)
     → between ≡ before ++ near_text near → after ≡ between ++ met_text met → TellsGuards had before after
-guarded_told form start now held holds had line found met near before between after (left, lines, said, f, ended, written, are_met, counts) nears tells = record {
+guarded_told form start now held holds had has line found met near before between after (left, lines, said, f, ended, written, are_met, counts) nears tells = record {
   lines = lines;
   all = all_consumed had left (joined lines) f.read ended;
   each = f.each;
@@ -223,9 +223,9 @@ guarded_told form start now held holds had line found met near before between af
       ∙ append_assoc before (near_text (near_from 1 lines)) (met_text (guards_among lines));
 }
 
-pub guarded_unmet : (form : Form) (start now : State) (held holds had : Option (List ℕ)) (line found : List ℕ) (met : ℕ) (near : List ℕ) (breach : Breach)
-    → GuardedIn form start now held holds had line found met near (Ok (Some breach)) → IsUnmet form start (passed had held holds) breach.number
-guarded_unmet form start now held holds had line found met near breach (said, b, written, counts) = record {
+pub guarded_unmet : (form : Form) (start now : State) (held holds had has : Option (List ℕ)) (line found : List ℕ) (met : ℕ) (near : List ℕ) (breach : Breach)
+    → GuardedIn form start now held holds had has line found met near (Ok (Some breach)) → IsUnmet form start (passed had held holds) breach.number
+guarded_unmet form start now held holds had has line found met near breach (said, b, written, counts) = record {
   lines = b.lines;
   line = line;
   rest = unwrap_or b.after_guard [];
@@ -245,20 +245,20 @@ pub breach_told : {R : Type 0} (remaining : R → Option (List ℕ)) (form : For
 breach_told remaining form start streams n unmet failure (inl is) = subst (PlayFails remaining (Guarded form) start streams) (sym is) unmet
 breach_told remaining form start streams n unmet failure (inr is) = subst (PlayFails remaining (Guarded form) start streams) (sym is) tt
 
-pub guarded_failed : {R : Type 0} (remaining : R → Option (List ℕ)) (form : Form) (start now : State) (held holds had : Option (List ℕ)) (line found : List ℕ) (met : ℕ) (near : List ℕ) (path : Bor (List ℕ)) (fault : Option LineFault) (error : PlayError)
-    → GuardedIn form start now held holds had line found met near (Err error)
+pub guarded_failed : {R : Type 0} (remaining : R → Option (List ℕ)) (form : Form) (start now : State) (held holds had has : Option (List ℕ)) (line found : List ℕ) (met : ℕ) (near : List ℕ) (path : Bor (List ℕ)) (fault : Option LineFault) (error : PlayError)
+    → GuardedIn form start now held holds had has line found met near (Err error)
     → PlayFails remaining (Guarded form) start (passed had held holds) (failure_of (Read path) fault error)
-guarded_failed remaining form start now held holds had line found met near path fault play_error.Read (left, lines, said, f, written, are_met, counts) =
+guarded_failed remaining form start now held holds had has line found met near path fault play_error.Read (left, lines, said, f, unended, written, are_met, counts) =
     (lines, (f.each, (left, f.read)), subst (Appends held holds) f.said written, λ strict. are_met)
-guarded_failed remaining form start now held holds had line found met near path fault play_error.Write p = tt
-guarded_failed remaining form start now held holds had line found met near path fault play_error.NoMemory p = tt
-guarded_failed remaining form start now held holds had line found met near path fault (play_error.BadLine n) (said, e, written, are_met, counts) =
+guarded_failed remaining form start now held holds had has line found met near path fault play_error.Write p = tt
+guarded_failed remaining form start now held holds had has line found met near path fault play_error.NoMemory p = tt
+guarded_failed remaining form start now held holds had has line found met near path fault (play_error.BadLine n) (said, e, written, are_met, counts) =
     (e.lines, ends_badly form start now had said line n e, subst (Appends held holds) e.followed.said written, λ strict. are_met)
 
 -- RECORDS
 
-pub recorded_whole : {X : Type 0} (x : X) (start now : State) (held holds had : Option (List ℕ)) (bytes : List ℕ) → RecordedIn start now held holds had bytes (Ok x) → IsRecorded start (passed had held holds)
-recorded_whole x start now held holds had bytes (left, lines, said, f, ended, written, replays) = record {
+pub recorded_whole : {X : Type 0} (x : X) (start now : State) (held holds had has : Option (List ℕ)) (bytes : List ℕ) → RecordedIn start now held holds had has bytes (Ok x) → IsRecorded start (passed had held holds)
+recorded_whole x start now held holds had has bytes (left, lines, said, f, ended, written, replays) = record {
   lines = lines;
   each = f.each;
   all = all_consumed had left (joined lines) f.read ended;
@@ -266,42 +266,42 @@ recorded_whole x start now held holds had bytes (left, lines, said, f, ended, wr
   replays = replays;
 }
 
-pub recorded_failed : {R : Type 0} (remaining : R → Option (List ℕ)) (start now : State) (held holds had : Option (List ℕ)) (bytes : List ℕ) (path : Bor (List ℕ)) (fault : Option LineFault) (error : PlayError)
-    → RecordedIn {X = Unit {0}} start now held holds had bytes (Err error)
+pub recorded_failed : {R : Type 0} (remaining : R → Option (List ℕ)) (start now : State) (held holds had has : Option (List ℕ)) (bytes : List ℕ) (path : Bor (List ℕ)) (fault : Option LineFault) (error : PlayError)
+    → RecordedIn {X = Unit {0}} start now held holds had has bytes (Err error)
     → PlayFails remaining Recorded start (passed had held holds) (failure_of (Read path) fault error)
-recorded_failed remaining start now held holds had bytes path fault play_error.Read (left, lines, said, f, written, replays) =
+recorded_failed remaining start now held holds had has bytes path fault play_error.Read (left, lines, said, f, unended, written, replays) =
     (lines, (f.each, (left, f.read)), written)
-recorded_failed remaining start now held holds had bytes path fault play_error.Write p = tt
-recorded_failed remaining start now held holds had bytes path fault play_error.NoMemory p = tt
-recorded_failed remaining start now held holds had bytes path fault (play_error.BadLine n) (said, e, written, replays) =
+recorded_failed remaining start now held holds had has bytes path fault play_error.Write p = tt
+recorded_failed remaining start now held holds had has bytes path fault play_error.NoMemory p = tt
+recorded_failed remaining start now held holds had has bytes path fault (play_error.BadLine n) (said, e, written, replays) =
     (e.lines, ends_badly plain start now had said bytes n e, written)
 
 -- COMPARISONS
 
-pub compared_whole : (form : Form) (start now : State) (had wants : Option (List ℕ)) (bytes said wanted : List ℕ) → Compared form start now had wants bytes said wanted (Ok None) → PrintsExpected (unexplained form) start had wants
-compared_whole form start now had wants bytes said wanted (left, lines, printed, f, ended, all) = record {
+pub compared_whole : (form : Form) (start now : State) (had has wants : Option (List ℕ)) (bytes said wanted : List ℕ) → Compared form start now had has wants bytes said wanted (Ok None) → PrintsExpected (unexplained form) start had wants
+compared_whole form start now had has wants bytes said wanted (left, lines, printed, f, ended, all) = record {
   lines = lines;
   each = f.each;
   all = all_consumed had left (joined lines) f.read ended;
   same = subst (IsAll wants) f.said all;
 }
 
-cut_short : (form : Form) (start now : State) (had wants : Option (List ℕ)) (bytes said wanted : List ℕ) (n : ℕ) → Compared form start now had wants bytes said wanted (Err (compare_error.Play (play_error.BadLine n)))
+cut_short : (form : Form) (start now : State) (had has wants : Option (List ℕ)) (bytes said wanted : List ℕ) (n : ℕ) → Compared form start now had has wants bytes said wanted (Err (compare_error.Play (play_error.BadLine n)))
     → IsCutShort (unexplained form) start had wants n
-cut_short form start now had wants bytes said wanted n (printed, more, alike, e) =
+cut_short form start now had has wants bytes said wanted n (printed, more, alike, e) =
     (e.lines, ends_badly (unexplained form) start now had printed bytes n e, (more, subst (Consumes wants more) e.followed.said alike))
 
-module _ {R : Type 0} (remaining : R → Option (List ℕ)) (form : Form) (start now : State) (had held : Option (List ℕ)) (expected : Expected R) (bytes said wanted : List ℕ) where
-  pub compared_failed : (path : Bor (List ℕ)) (fault : Option LineFault) (error : PlayError) → Compared form start now had (remaining expected.reader) bytes said wanted (Err (compare_error.Play error))
+module _ {R : Type 0} (remaining : R → Option (List ℕ)) (form : Form) (start now : State) (had has held : Option (List ℕ)) (expected : Expected R) (bytes said wanted : List ℕ) where
+  pub compared_failed : (path : Bor (List ℕ)) (fault : Option LineFault) (error : PlayError) → Compared form start now had has (remaining expected.reader) bytes said wanted (Err (compare_error.Play error))
       → PlayFails remaining (Compare expected form) start (passed had held held) (failure_of (Read path) fault error)
-  compared_failed path fault play_error.Read (left, lines, printed, more, alike, f) =
+  compared_failed path fault play_error.Read (left, lines, printed, more, alike, f, unended) =
       (inl (lines, (f.each, (left, f.read)), (more, subst (Consumes (remaining expected.reader) more) f.said alike)), kept held)
   compared_failed path fault play_error.Write p = absurd p
   compared_failed path fault play_error.NoMemory p = tt
-  compared_failed path fault (play_error.BadLine n) p = (cut_short form start now had (remaining expected.reader) bytes said wanted n p, kept held)
+  compared_failed path fault (play_error.BadLine n) p = (cut_short form start now had has (remaining expected.reader) bytes said wanted n p, kept held)
 
   -- the expected text couldn't be read
-  pub compared_unmatched : (path : Bor (List ℕ)) → Compared form start now had (remaining expected.reader) bytes said wanted (Err compare_error.Expected)
+  pub compared_unmatched : (path : Bor (List ℕ)) → Compared form start now had has (remaining expected.reader) bytes said wanted (Err compare_error.Expected)
       → PlayFails remaining (Compare expected form) start (passed had held held) (Read path)
   compared_unmatched path (left, lines, front, back, more, alike, f) = (inr (lines, (f.each, (left, f.read)), (front, back, more, sym f.said, alike)), kept held)
 
@@ -341,19 +341,19 @@ no_rest : (left : Option (List ℕ)) → IsAtEnd left → IsAll left []
 no_rest None ended = tt
 no_rest (Some xs) ended = ended
 
-pub held_whole : {X : Type 0} (x : X) (form : Form) (start now : State) (held holds had : Option (List ℕ)) → SessionIn form start now held holds had (Ok x) → IsHeld form start (passed had held holds)
-held_whole x form start now held holds had (left, lines, said, heard, inl ended, written) =
+pub held_whole : {X : Type 0} (x : X) (form : Form) (start now : State) (held holds had has : Option (List ℕ)) → SessionIn form start now held holds had has (Ok x) → IsHeld form start (passed had held holds)
+held_whole x form start now held holds had has (left, lines, said, heard, inl ended, written) =
     held_of form start now held holds had left lines said [] heard written refl (no_rest left ended)
-held_whole x form start now held holds had (left, lines, said, heard, inr (rest, single, some, all), written) =
+held_whole x form start now held holds had has (left, lines, said, heard, inr (rest, single, some, all), written) =
     held_of form start now held holds had left lines said rest heard written single all
 
-pub held_failed : {R : Type 0} (remaining : R → Option (List ℕ)) (form : Form) (start now : State) (held holds had : Option (List ℕ)) (path : Bor (List ℕ)) (fault : Option LineFault) (error : PlayError)
-    → SessionIn {X = Unit {0}} form start now held holds had (Err error) → PlayFails remaining (Session form) start (passed had held holds) (failure_of (Read path) fault error)
-held_failed remaining form start now held holds had path fault play_error.Read (left, lines, said, heard, written) =
+pub held_failed : {R : Type 0} (remaining : R → Option (List ℕ)) (form : Form) (start now : State) (held holds had has : Option (List ℕ)) (path : Bor (List ℕ)) (fault : Option LineFault) (error : PlayError)
+    → SessionIn {X = Unit {0}} form start now held holds had has (Err error) → PlayFails remaining (Session form) start (passed had held holds) (failure_of (Read path) fault error)
+held_failed remaining form start now held holds had has path fault play_error.Read (left, lines, said, heard, unended, written) =
     (lines, heard.each, (left, heard.read), subst (Appends held holds) heard.said written)
-held_failed remaining form start now held holds had path fault play_error.Write p = tt
-held_failed remaining form start now held holds had path fault play_error.NoMemory p = tt
-held_failed remaining form start now held holds had path fault (play_error.BadLine n) p = absurd p
+held_failed remaining form start now held holds had has path fault play_error.Write p = tt
+held_failed remaining form start now held holds had has path fault play_error.NoMemory p = tt
+held_failed remaining form start now held holds had has path fault (play_error.BadLine n) p = absurd p
 
 -- TASKS THAT PRINT
 

@@ -10,6 +10,7 @@ returns-in-Ok g c =
     let start = c.args.player.now.state in
     let now = c.watch.new.player.state in
     let had = g.R.Read.remaining c.args.reader.now in
+    let has = g.R.Read.remaining c.watch.new.reader in
     let bytes = c.watch.new.bytes.items in
-    pictured c.args.keep start now had bytes c.in-Ok.rows c.draw.result (subst (λ w. Watched c.args.keep start now had bytes (Ok w)) c.in-Ok.is c.in_ok-watched.ensures)
+    pictured c.args.keep start now had has bytes c.in-Ok.rows c.draw.result (subst (λ w. Watched c.args.keep start now had has bytes (Ok w)) c.in-Ok.is c.in_ok-watched.ensures)
     (subst (λ s. IsDrawn s c.in-Ok.rows c.draw.result) c.machine.ensures c.draw.ensures)

@@ -16,9 +16,10 @@ returns-in-Ok-Ok g c =
     let start = c.args.player.now.state in
     let now = c.picture_of.new.player.state in
     let had = reader_remaining g.R.Read.remaining c.in_ok-reader.reader in
+    let has = reader_remaining g.R.Read.remaining c.picture_of.new.reader in
     let bytes = c.picture_of.new.bytes.items in
-    let is = subst (λ w. Pictured {A = g.row.A.Denot} c.args.keep start now had bytes (Ok w)) c.in-Ok-Ok.field-0-is c.in-Ok-Ok.ensures in
-    let drawn = subst IsDrawn c.in_ok-reader.ensures.unread (drawn_whole {A = g.row.A.Denot} c.in-Ok-Ok.picture c.args.keep start now had bytes is) in
+    let is = subst (λ w. Pictured {A = g.row.A.Denot} c.args.keep start now had has bytes (Ok w)) c.in-Ok-Ok.field-0-is c.in-Ok-Ok.ensures in
+    let drawn = subst IsDrawn c.in_ok-reader.ensures.unread (drawn_whole {A = g.row.A.Denot} c.in-Ok-Ok.picture c.args.keep start now had has bytes is) in
     let streams = passed (g.R.Read.remaining c.args.trace.reader) (g.W.Write.contents c.args.out.now) (g.W.Write.contents c.print_picture.new.out) in
     record {
       played = always_ok c.print_picture.result drawn;
@@ -32,9 +33,10 @@ returns-in-Ok-Err g c =
     let start = c.args.player.now.state in
     let now = c.picture_of.new.player.state in
     let had = reader_remaining g.R.Read.remaining c.in_ok-reader.reader in
+    let has = reader_remaining g.R.Read.remaining c.picture_of.new.reader in
     let bytes = c.picture_of.new.bytes.items in
-    let is = subst (λ w. Pictured {A = g.row.A.Denot} c.args.keep start now had bytes (Ok w)) c.in-Ok-Err.field-0-is c.in-Ok-Err.ensures in
-    let over = drawn_over g.row.A.Denot large c.args.keep start now held had bytes is in
+    let is = subst (λ w. Pictured {A = g.row.A.Denot} c.args.keep start now had has bytes (Ok w)) c.in-Ok-Err.field-0-is c.in-Ok-Err.ensures in
+    let over = drawn_over g.row.A.Denot large c.args.keep start now held had has bytes is in
     let told = subst (λ had. IsOverfull (passed had held held) large.most) c.in_ok-reader.ensures.unread over in
     record { played = tt; failed = subst (λ (l : TooLarge). IsOverfull (passed (g.R.Read.remaining c.args.trace.reader) held held) l.most) (sym c.in-Ok-Err.large-is) told }
 
@@ -44,6 +46,6 @@ returns g c =
     let held = g.W.Write.contents c.args.out.now in
     let task = Drawn c.args.keep c.args.width in
     let fault = c.of_line.ensures.0 in
-    let failed = drawn_failed g.R.Read.remaining ℕ c.args.keep c.args.width start c.picture_of.new.player.state held _ c.picture_of.new.bytes.items c.args.trace.path fault c.in-Err.error c.in-Err.ensures in
+    let failed = drawn_failed g.R.Read.remaining ℕ c.args.keep c.args.width start c.picture_of.new.player.state held _ (reader_remaining g.R.Read.remaining c.picture_of.new.reader) c.picture_of.new.bytes.items c.args.trace.path fault c.in-Err.error c.in-Err.ensures in
     let from_reader = subst (λ had. PlayFails g.R.Read.remaining task start (passed had held held) (failure_of (Read c.args.trace.path) fault c.in-Err.error)) c.in_ok-reader.ensures.unread failed in
     record { played = tt; failed = subst (PlayFails g.R.Read.remaining task start (passed (g.R.Read.remaining c.args.trace.reader) held held)) (sym c.of_line.ensures.1) from_reader }

@@ -1,5 +1,6 @@
 -- SPDX-License-Identifier: MIT OR Apache-2.0
 use Rattle.std.proofs.Common.{false, subst, sym}
+use Rattle.std.specs.Io.Buffered.{reader_remaining}
 use Rattle.play_tasks.specs.Plays.{IsPlayed, PlayFails}
 use Rattle.play_report.specs.Failures.{failure_of}
 use Rattle.play_report.specs.declared.failure.Failure.TheVariants.{Read}
@@ -11,7 +12,7 @@ pub returns-in-Ok : goal.returns-in-Ok
 returns-in-Ok g c =
     let held = g.W.Write.contents c.args.out.now in
     let holds = g.W.Write.contents c.play.new.writer in
-    let whole = formed_whole c.in-Ok.field-0 _ _ _ _ _ _ c.play.new.bytes.items c.in-Ok.ensures in
+    let whole = formed_whole c.in-Ok.field-0 _ _ _ _ _ _ (reader_remaining g.R.Read.remaining c.play.new.reader) c.play.new.bytes.items c.in-Ok.ensures in
     record {
       played = subst (λ had. IsPlayed false c.args.form c.args.player.now.state (passed had held holds)) c.in_ok-reader.ensures.unread whole;
       failed = tt;
@@ -24,6 +25,6 @@ returns g c =
     let holds = g.W.Write.contents c.play.new.writer in
     let task = Formed c.args.form in
     let fault = c.of_line.ensures.0 in
-    let failed = formed_failed g.R.Read.remaining c.args.form start c.play.new.player.state held holds _ c.play.new.bytes.items c.args.trace.path fault c.in-Err.error c.in-Err.ensures in
+    let failed = formed_failed g.R.Read.remaining c.args.form start c.play.new.player.state held holds _ (reader_remaining g.R.Read.remaining c.play.new.reader) c.play.new.bytes.items c.args.trace.path fault c.in-Err.error c.in-Err.ensures in
     let from_reader = subst (λ had. PlayFails g.R.Read.remaining task start (passed had held holds) (failure_of (Read c.args.trace.path) fault c.in-Err.error)) c.in_ok-reader.ensures.unread failed in
     record { played = tt; failed = subst (PlayFails g.R.Read.remaining task start (passed (g.R.Read.remaining c.args.trace.reader) held holds)) (sym c.of_line.ensures.1) from_reader }
