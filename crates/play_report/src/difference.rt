@@ -109,7 +109,7 @@ fn put_head<A: Allocator>(text: &mut Vec<u8, A>, word: &str, width: usize) -> io
     Ok(())
 }
 
-// Where two lines have registers, a line that names those that differ.
+// Where two lines have registers, a line that names those that differ. One that a line lacks differs.
 fn put_registers<A: Allocator>(
     text: &mut Vec<u8, A>,
     width: usize,
@@ -119,11 +119,11 @@ fn put_registers<A: Allocator>(
     let (Some(expected), Some(found)) = (registers(expected), registers(found)) else {
         return Ok(());
     };
-    let is_end = |byte: &u8| *byte == b' ' || *byte == b'\n';
-    let words = expected.split(is_end).zip(found.split(is_end));
+    let mut expected = expected.split(|byte| *byte == b' ');
+    let mut found = found.split(|byte| *byte == b' ');
     let mut is_first = true;
-    for (name, (one, other)) in REGISTERS.iter().zip(words) {
-        if one != other {
+    for name in REGISTERS {
+        if expected.next() != found.next() {
             if is_first {
                 put_head(text, "differ:", width)?;
             } else {
@@ -136,14 +136,15 @@ fn put_registers<A: Allocator>(
     if is_first { Ok(()) } else { writeln!(text) }
 }
 
-// A line of registers, without the number that it may have.
+// A line of registers, without the number that it may have, and without the LF that ends it.
 fn registers(line: &[u8]) -> Option<&[u8]> {
+    let line = line.strip_suffix(b"\n").unwrap_or(line);
     let digits = line.iter().take_while(|byte| byte.is_ascii_digit()).count();
     let line = match line.get(digits..).and_then(|rest| rest.strip_prefix(b": ")) {
         Some(rest) => rest,
         None => line,
     };
-    if line.starts_with(b"regs ") {
+    if line == b"regs".as_slice() || line.starts_with(b"regs ") {
         Some(line)
     } else {
         None
