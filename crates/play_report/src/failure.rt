@@ -41,7 +41,7 @@ pub enum Failure<'a> {
     #[error("descriptor: {0}")]
     Unfit(Unfit),
     /// A picture would have more rows than this many.
-    #[error("a picture of more than {0} rows: say --every N for fewer of them, or --page")]
+    #[error("a picture of more than {0} rows: say --every N, with a larger N where it is refused again, or --page")]
     TooManyRows(usize),
 }
 
