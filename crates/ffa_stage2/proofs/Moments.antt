@@ -15,7 +15,7 @@ use Rattle.ffa_physmem.specs.Moments.{IsBeside, IsSettledBy, Step}
 use Rattle.ffa_stage2.specs.Blocks.{IsBlock, IsEither, block_word}
 use Rattle.ffa_stage2.specs.Moments.{EndsSettled, IsBetween, IsMoment, IsNoMore, KeepsBehind, WalksBetween, WritesUnreached, walk_at}
 use Rattle.ffa_stage2.specs.Tables.{IsBuilt, IsStanding, rights_of_block, table_page, with_pages}
-use Rattle.ffa_stage2.specs.Orders.{IsBlockWrite, IsLeafWrite, IsOrdered, IsSettledLast, IsWritten}
+use Rattle.ffa_stage2.specs.Orders.{IsBlockWrite, IsLeafWrite, IsLinkOrBlock, IsOrdered, IsSettledLast, IsWritten}
 use Rattle.ffa_stage2.specs.Places.{IsPlace, IsPlaceOf, Maps, Names, KeepsBeside, IsCut, IsOneOf, IsOrderly, IsFilled, IsFilling, IsOnTheWay, with_run, word_at}
 use Rattle.ffa_stage2.proofs.Changes.{standing-beside}
 use Rattle.ffa_stage2.proofs.Kept.{built_by-kept}
@@ -185,6 +185,10 @@ orderly-apart x h s old ram to from word place apart typed few one = inr (inl (r
   value = word one.place;
   few = omega (arith, one.high, few);
   write = one.write;
+  stands = λ none.
+      let here : word_at s.before x ≡ word_at old x =
+      ap (λ (bytes : List ℕ). word_of bytes x.entry) (one.others x.middle.0 place.apart ∙ apart.middle) in
+      omega (arith, typed, ap (λ (w : ℕ). w % 4) (sym here ∙ none));
   alike = λ named.
       let here : word_at s.before x ≡ word_at old x =
       ap (λ (bytes : List ℕ). word_of bytes x.entry) (one.others x.middle.0 place.apart ∙ apart.middle) in
@@ -199,13 +203,17 @@ orderly-table x h s old to from right rights place names few one = inr (inl (rec
   value = page_word (x.address + 4096 * one.place) right;
   few = omega (arith, one.high, few);
   write = one.write;
+  stands = λ none.
+      let here : word_at s.before x ≡ word_at old x =
+      ap (λ (bytes : List ℕ). word_of bytes x.entry) (one.others x.middle.0 place.apart) in
+      omega (arith, place.link, ap (λ (w : ℕ). w % 4) (sym names.is ∙ sym here ∙ none));
   alike = λ _. (rights one.place, right, one.was ∙ names.pages one.place (omega (arith, one.high, few)), refl);
 }))
 
 -- a write of the level 2 word, as the code does it
 pub orderly-write : (x : BlockPlace) (h : List Step) (s : Step) (old : Ram) (value : ℕ) → IsPlace old x → value < 2 ^ 64 → s.before ≡ old
     → s.after ≡ with_page old x.middle.0 (with_word (page_of old x.middle.0) x.entry value)
-    → ((value ≡ 0) ⊎ (((word_at s.before x ≡ 0) × IsSettledLast x.endpoint x.first.0 h)
+    → ((value ≡ 0) ⊎ (((word_at s.before x ≡ 0) × IsSettledLast x.endpoint x.first.0 h × IsLinkOrBlock x.link x.address value)
     ⊎ ((r : Rights) × (q : Rights) × (word_at s.before x ≡ block_word x.address r) × (value ≡ block_word x.address q))))
     → IsOrderly x h s
 orderly-write x h s old value place fits before after order = inr (inr (record {
@@ -427,10 +435,10 @@ ordered-of old b e k x hk at h s (inr (inl leaf)) = inr (k, hk, inl (leaf-at at.
   where
     leaf-at : {m m' n n' l l' t t' a a' : ℕ} → m ≡ m' → n ≡ n' → l ≡ l' → t ≡ t' → a ≡ a' → IsLeafWrite m n l t a s → IsLeafWrite m' n' l' t' a' s
     leaf-at p q r u v = subst (λ z. z) (λ i. IsLeafWrite (p i) (q i) (r i) (u i) (v i) s)
-ordered-of old b e k x hk at h s (inr (inr block)) = inr (k, hk, inr (block-at at.middle at.entry at.address at.endpoint at.first block))
+ordered-of old b e k x hk at h s (inr (inr block)) = inr (k, hk, inr (block-at at.middle at.entry at.link at.address at.endpoint at.first block))
   where
-    block-at : {m m' n n' a a' d d' f f' : ℕ} → m ≡ m' → n ≡ n' → a ≡ a' → d ≡ d' → f ≡ f' → IsBlockWrite m n a d f h s → IsBlockWrite m' n' a' d' f' h s
-    block-at p q r u v = subst (λ z. z) (λ i. IsBlockWrite (p i) (q i) (r i) (u i) (v i) h s)
+    block-at : {m m' n n' l l' a a' d d' f f' : ℕ} → m ≡ m' → n ≡ n' → l ≡ l' → a ≡ a' → d ≡ d' → f ≡ f' → IsBlockWrite m n l a d f h s → IsBlockWrite m' n' l' a' d' f' h s
+    block-at p q r t u v = subst (λ z. z) (λ i. IsBlockWrite (p i) (q i) (r i) (t i) (u i) (v i) h s)
 
 -- a step in an endpoint's tables changes no page behind all tables
 pub ordered-behind : (old : Ram) (b e n : ℕ) (h : List Step) (s : Step) → IsOrdered old b e h s → e < n → KeepsBehind (table_page b n 0) s

@@ -17,14 +17,16 @@ pub record IsWritten (old new : Ram) (page place value : ℕ) : Type 0 where
   pub here : word_of (page_of new page) place ≡ value
   pub words : (j : ℕ) → j ≢ place → word_of (page_of new page) j ≡ word_of (page_of old page) j
 
--- A step writes a word of a level 3 page. Where the level 2 word names that page, the word is the descriptor of one page for
--- some right or none, and becomes that of the same page for another: it becomes valid or invalid, or its permissions alone
--- change.
+-- A step writes a word of a level 3 page while something stands at level 2: once nothing does, who read the link before may
+-- still read the page, until the block is settled. Where the level 2 word names that page, the word is the descriptor of one
+-- page for some right or none, and becomes that of the same page for another: it becomes valid or invalid, or its permissions
+-- alone change.
 pub record IsLeafWrite (middle entry link table address : ℕ) (s : Step) : Type 0 where
   pub place : ℕ
   pub value : ℕ
   pub few : place < 512
   pub write : IsWritten s.before s.after table place value
+  pub stands : word_of (page_of s.before middle) entry ≢ 0
   pub alike :
       word_of (page_of s.before middle) entry ≡ link
       → (r : Option Rights) × (q : Option Rights)
@@ -37,14 +39,19 @@ IsSettledLast endpoint first h =
     (f : Step) × (earlier : List Step) × (h ≡ f ∷ earlier)
     × (f.settled ≡ Some (record { endpoint = endpoint; first = first; count = 512 }))
 
--- A step writes the level 2 word of a block: it becomes invalid; or it was invalid, and the last step settled the block; or it
--- is a block before and behind, whose permissions alone change.
-pub record IsBlockWrite (middle entry address endpoint first : ℕ) (h : List Step) (s : Step) : Type 0 where
+-- a word names the block's level 3 page, or is the block of some right
+abbrev pub IsLinkOrBlock : ℕ → ℕ → ℕ → Type 0
+IsLinkOrBlock link address word = (word ≡ link) ⊎ ((r : Rights) × (word ≡ block_word address r))
+
+-- A step writes the level 2 word of a block: it becomes invalid; or it was invalid, the last step settled the block, and it
+-- becomes the link to the block's level 3 page or the block of some right; or it is a block before and behind, whose
+-- permissions alone change.
+pub record IsBlockWrite (middle entry link address endpoint first : ℕ) (h : List Step) (s : Step) : Type 0 where
   pub value : ℕ
   pub write : IsWritten s.before s.after middle entry value
   pub order :
       (value ≡ 0)
-      ⊎ (((word_of (page_of s.before middle) entry ≡ 0) × IsSettledLast endpoint first h)
+      ⊎ (((word_of (page_of s.before middle) entry ≡ 0) × IsSettledLast endpoint first h × IsLinkOrBlock link address value)
       ⊎ ((r : Rights) × (q : Rights)
       × (word_of (page_of s.before middle) entry ≡ block_word address r) × (value ≡ block_word address q)))
 
@@ -55,4 +62,5 @@ IsOrdered old blocks e h s =
     ⊎ ((k : ℕ) × (k < blocks)
     × (IsLeafWrite (table_page blocks e 1) (level2_place old.base + k) (table_link old.base blocks e (2 + k))
     (table_page blocks e (2 + k)) (block_address old k) s
-    ⊎ IsBlockWrite (table_page blocks e 1) (level2_place old.base + k) (block_address old k) e (512 * k) h s))
+    ⊎ IsBlockWrite (table_page blocks e 1) (level2_place old.base + k) (table_link old.base blocks e (2 + k))
+    (block_address old k) e (512 * k) h s))

@@ -113,4 +113,4 @@ abbrev pub IsOrderly : BlockPlace → List Step → Step → Type 0
 IsOrderly x h s =
     (s.after ≡ s.before)
     ⊎ (IsLeafWrite x.middle.0 x.entry x.link x.table.0 x.address s
-    ⊎ IsBlockWrite x.middle.0 x.entry x.address x.endpoint x.first.0 h s)
+    ⊎ IsBlockWrite x.middle.0 x.entry x.link x.address x.endpoint x.first.0 h s)

@@ -9,7 +9,7 @@ ghost use Rattle.ffa_model.specs.declared.rights.Rights.{Rights};
 ghost use Rattle.ffa_stage2.specs.Blocks.{IsOne};
 ghost use Rattle.ffa_stage2.specs.Tables.{HasRoom};
 ghost use Rattle.ffa_physmem.specs.Moments.{Only};
-ghost use Rattle.ffa_stage2.specs.Orders.{IsWritten};
+ghost use Rattle.ffa_stage2.specs.Orders.{IsLinkOrBlock, IsWritten};
 ghost use Rattle.ffa_stage2.specs.Places.{IsPlace, IsCut, IsFilled, IsFilling, IsOnTheWay, IsOrderly, IsReplacing, IsOneOf, Maps, Names, KeepsBeside, with_run, word_at, IsPlaceOf};
 
 use crate::layout::Layout;
@@ -109,6 +109,7 @@ fn is_one<M: PhysMem>(memory: &M, place: &BlockPlace, within: u32, right: Option
 // sees (DDI 0487, "Using break-before-make when updating translation table entries").
 fn replace<M: PhysMem>(memory: &mut M, place: &BlockPlace, word: u64)
     requires place { IsPlace (M.ram memory.old) place.now }
+    requires word { IsLinkOrBlock place.now.link place.now.address word }
     ensures written { IsWritten (M.ram memory.old) (M.ram memory.new) place.now.middle.0 place.now.entry word }
     ensures steps { Only (M.past memory.old) (M.past memory.new)
         (λ h s. IsReplacing (M.ram memory.old) (M.ram memory.new) place.now h s) }

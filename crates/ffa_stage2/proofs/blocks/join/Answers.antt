@@ -14,6 +14,13 @@ overflow_sub-word g c =
     let word = c.leaf-word.ensures ∙ ap (λ (q : Option Rights). page_word x.address q) is ∙ block-first x.address r c.requires.place.aligned c.requires.place.within in
     omega (arith, word)
 
+pub replace-requires-clause-word : goal.replace-requires-clause-word
+replace-requires-clause-word g c =
+    let x = c.args.place.now in
+    let (r, is) = c.is_one.ensures.some c.if-is_one.true in
+    let word = c.leaf-word.ensures ∙ ap (λ (q : Option Rights). page_word x.address q) is ∙ block-first x.address r c.requires.place.aligned c.requires.place.within in
+    inr (r, omega (arith, word))
+
 pub returns-then-is_one-clause-mapped : goal.returns-then-is_one-clause-mapped
 returns-then-is_one-clause-mapped g c rights names is =
     let old = g.M.PhysMem.ram c.args.memory.now in

@@ -49,6 +49,13 @@ pub returns-then-now-eq-BLOCK-clause-steps : goal.returns-then-now-eq-BLOCK-clau
 returns-then-now-eq-BLOCK-clause-steps g c = Only-map (Only-one c.write_word.ensures.steps) (λ h s is. inr (is.after ∙ sym c.write_word.ensures.ram))
 
 -- the table: break before make
+pub replace-requires-clause-word : goal.replace-requires-clause-word
+replace-requires-clause-word g c =
+    let x = c.args.place.now in
+    let (r, is) = some_of c.args.right c.requires.some in
+    let word = c.leaf-word.ensures ∙ ap (λ (q : Option Rights). page_word x.address q) is ∙ block-first x.address r c.requires.place.aligned c.requires.place.within in
+    inr (r, omega (arith, word))
+
 pub returns-else-now-eq-BLOCK-clause-mapped : goal.returns-else-now-eq-BLOCK-clause-mapped
 returns-else-now-eq-BLOCK-clause-mapped g c =
     let old = g.M.PhysMem.ram c.args.memory.now in

@@ -53,4 +53,4 @@ returns-clause-orders g c =
     (λ h s is. inl (is.after ∙ sym is.before)))
     (Only-behind c.settle.ensures.steps c.write_word-2.ensures.steps)
     (λ h s (is, (f, earlier, at, forgot)). orderly-write x h s seen c.args.word place (omega (arith, c.ranges.word.fits)) is.before is.after
-    (inr (inl (ap (λ (r : Ram). word_at r x) (is.before ∙ c.settle.ensures.ram) ∙ one.here, (f, earlier, at, forgot.settled)))))
+    (inr (inl (ap (λ (r : Ram). word_at r x) (is.before ∙ c.settle.ensures.ram) ∙ one.here, (f, earlier, at, forgot.settled), c.requires.word))))

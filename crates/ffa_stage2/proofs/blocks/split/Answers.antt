@@ -1,5 +1,5 @@
 -- SPDX-License-Identifier: MIT OR Apache-2.0
-use Rattle.std.proofs.Common.{◌≡◌, ◌∙◌, ℕ, ◌%◌, ap, sym, arith, inl, inr}
+use Rattle.std.proofs.Common.{◌≡◌, ◌∙◌, ℕ, ◌%◌, refl, ap, sym, arith, inl, inr}
 use Rattle.ffa_physmem.proofs.Moments.{Only-map, Only-none, Only-then}
 use Rattle.ffa_stage2.proofs.OneBlock.{block-here, block-fits, typed, KeepsBeside-of_middle, KeepsBeside-then, IsPlace-kept}
 use Rattle.ffa_stage2.proofs.Moments.{apart-same, apart-filled, cut-then, orderly-apart, way-filling, way-replaced}
@@ -30,7 +30,7 @@ pub replace-requires : goal.replace-requires
 replace-requires g c =
     let old = g.M.PhysMem.ram c.args.memory.now in
     let full = g.M.PhysMem.ram c.fill.new.memory in
-    record { place = IsPlace-kept old full c.args.place.now c.requires.place (three-filled old _ _ full c.args.place.now _ _ _ _ _ _ _ _ _ c.requires.place c.keep.ensures.filled c.keep-2.ensures.filled c.fill.ensures.filled) }
+    record { place = IsPlace-kept old full c.args.place.now c.requires.place (three-filled old _ _ full c.args.place.now _ _ _ _ _ _ _ _ _ c.requires.place c.keep.ensures.filled c.keep-2.ensures.filled c.fill.ensures.filled); word = inl refl }
 
 pub returns-clause-mapped : goal.returns-clause-mapped
 returns-clause-mapped g c rights maps =
