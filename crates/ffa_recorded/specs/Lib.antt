@@ -1,2 +1,4 @@
 -- SPDX-License-Identifier: MIT OR Apache-2.0
+pub mod Loans
 pub mod Records
+pub mod Steps

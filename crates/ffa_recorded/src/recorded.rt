@@ -1,10 +1,10 @@
 // SPDX-License-Identifier: MIT OR Apache-2.0
 //! RAM with a record of what was done to it.
-ghost use Rattle.std.specs.Prelude.{◌≡◌, ◌++◌, [], ◌∷◌, true, length, if◌then◌else◌};
+ghost use Rattle.std.specs.Prelude.{◌≡◌, ◌<◌, ◌≤◌, ◌++◌, [], ◌∷◌, true, false, length, vec_len, if◌then◌else◌, IfOk};
 
 use ffa_model::{Address, PageNo};
 use ffa_physmem::{FlatRam, Observed, PhysMem};
-use std::alloc::Global;
+use std::alloc::{AllocError, Global};
 
 /// A page, and the bytes that it had.
 #[derive(Drop)]
@@ -37,69 +37,106 @@ pub enum Noted {
     Read(Reading),
 }
 
-/// RAM that keeps a record of the words that are written to it, of what is settled and of what is read at once. The record ends
-/// where there is no memory for it, or where a page is lent.
+/// RAM that keeps a record of the words that are written to it, of the pages that are lent, filled with zeros or copied, of what
+/// is settled and of what is read at once. The record ends where there is no memory for a step more, and where a page is lent
+/// and no room was made for that before.
 #[derive(Drop)]
 pub struct Recorded {
     ram: FlatRam,
-    noted: Vec<Noted>,
+    // What was noted, in the first so many places. The others are room for more.
+    places: Vec<Noted>,
+    noted: usize,
     is_kept: bool,
 }
 
 impl Recorded {
-    /// The same RAM, with nothing recorded yet.
-    pub fn new(alloc: Global, ram: FlatRam) -> Recorded
-        ensures ram { result.ram ≡ ram }
-        ensures noted { result.noted.items ≡ [] }
-        ensures kept { result.is_kept ≡ true }
+    ghost use Rattle.ffa_recorded.specs.Loans.{noted_in, with_loan};
+
+    /// The same RAM, with nothing recorded yet, and room for so many steps.
+    pub fn new(alloc: Global, ram: FlatRam, steps: usize) -> Result<Recorded, AllocError>
+        ensures ram { IfOk result (λ m. m.ram ≡ ram) }
+        ensures noted { IfOk result (λ m. noted_in m ≡ []) }
+        ensures room { IfOk result (λ m. vec_len m.places ≡ steps) }
+        ensures kept { IfOk result (λ m. m.is_kept ≡ true) }
     {
-        Recorded {
+        Ok(Recorded {
             ram,
-            noted: Vec::new(alloc),
+            places: room_for(alloc, steps)?,
+            noted: 0,
             is_kept: true,
-        }
+        })
     }
 
     /// How many steps were recorded, if the record goes on.
     pub fn steps(&self) -> Option<usize>
-        ensures { result ≡ (if self.now.is_kept then Some (length self.now.noted.items) else None) }
+        ensures { result ≡ (if self.now.is_kept then Some self.now.noted else None) }
     {
         if self.is_kept {
-            return Some(self.noted.len());
+            return Some(self.noted);
         }
         None
     }
 
-    // Notes one thing more.
+    // Notes one thing more, where there is room for it or memory for more room. Else the record ends.
     fn note(&mut self, noted: Noted)
         ensures ram { self.new.ram ≡ self.old.ram }
         ensures kept { self.new.is_kept ≡ true → self.old.is_kept ≡ true }
-        ensures noted { self.new.is_kept ≡ true → self.new.noted.items ≡ self.old.noted.items ++ noted ∷ [] }
+        ensures noted { self.new.is_kept ≡ true → noted_in self.new ≡ noted_in self.old ++ noted ∷ [] }
+        ensures room { self.new.is_kept ≡ false → self.old.is_kept ≡ true → vec_len self.old.places ≤ self.old.noted }
     {
-        if self.is_kept {
-            self.is_kept = self.noted.push(noted).is_ok();
+        if self.noted < self.places.len() {
+            self.places[self.noted] = noted;
+            self.noted += 1;
+            return;
+        }
+        self.is_kept &= self.places.push(noted).is_ok();
+        self.noted = self.places.len();
+    }
+
+    // Notes what a page holds, where there is room for that. Else the record ends.
+    fn note_loan(&mut self, page: PageNo)
+        requires { page.0 < length self.old.ram.pages.items }
+        ensures { self.new ≡ with_loan self.old page.0 }
+    {
+        if self.noted < self.places.len() {
+            let bytes = *self.ram.page(page);
+            self.places[self.noted] = Noted::Written(PageBytes { page, bytes });
+            self.noted += 1;
+        } else {
+            self.is_kept = false;
         }
     }
 }
 
+// Places for so many steps.
+fn room_for(alloc: Global, steps: usize) -> Result<Vec<Noted>, AllocError>
+    ensures { IfOk result (λ places. vec_len places ≡ steps) }
+{
+    let mut places = Vec::with_capacity(alloc, steps)?;
+    for _step in 0..steps {
+        places.push(Noted::Settled(Settling {
+            endpoint: 0,
+            first: PageNo(0),
+            count: 0,
+        }))?;
+    }
+    Ok(places)
+}
+
 impl PhysMem for Recorded {
-    ghost use Rattle.std.specs.Prelude.{refl, false};
-    ghost use Rattle.ffa_physmem.specs.Unrecorded.{unrecorded};
+    ghost use Rattle.std.specs.Prelude.{refl};
     ghost use Rattle.ffa_recorded.specs.Records.{history};
+    ghost use Rattle.ffa_recorded.specs.Loans.{in_loan, noted_in, ram_of, with_bytes};
 
-    ghost ram = { λ m. ⟦<FlatRam as PhysMem>⟧.ram m.ram };
+    ghost ram = { ram_of };
 
-    ghost with_bytes = { λ m page bytes. record m {
-      ram = ⟦<FlatRam as PhysMem>⟧.with_bytes m.ram page bytes;
-      is_kept = false;
-    } };
+    ghost with_bytes = { with_bytes };
 
-    ghost past = { λ m. history m.is_kept (⟦<FlatRam as PhysMem>⟧.ram m.ram) m.noted.items };
+    ghost past = { λ m. history m.is_kept (ram_of m) (noted_in m) };
 
     ghost one_page = { λ m page bytes. refl };
 
-    // The record ends with a loan.
-    ghost in_loan = { λ _ _ _. unrecorded };
+    ghost in_loan = { in_loan };
 
     fn base(&self) -> Address {
         self.ram.base()
@@ -113,8 +150,9 @@ impl PhysMem for Recorded {
         self.ram.page(page)
     }
 
+    // A loan is one step.
     fn page_mut(&mut self, page: PageNo) -> &mut [u8; 4096] {
-        self.is_kept = false;
+        self.note_loan(page);
         self.ram.page_mut(page)
     }
 
@@ -122,6 +160,18 @@ impl PhysMem for Recorded {
         let bytes = *self.ram.page(page);
         self.note(Noted::Written(PageBytes { page, bytes }));
         self.ram.write_word(page, index, value);
+    }
+
+    fn clear_page(&mut self, page: PageNo) {
+        let bytes = *self.ram.page(page);
+        self.note(Noted::Written(PageBytes { page, bytes }));
+        self.ram.clear_page(page);
+    }
+
+    fn copy(&mut self, from: PageNo, to: PageNo, count: usize) {
+        let bytes = *self.ram.page(to);
+        self.note(Noted::Written(PageBytes { page: to, bytes }));
+        self.ram.copy(from, to, count);
     }
 
     fn settle(&mut self, endpoint: usize, first: PageNo, count: u32) {
