@@ -39,6 +39,9 @@ mod memory;
 // Notifications.
 mod notifications;
 
+// Calls in RAM that keeps a record of its steps.
+mod recorded;
+
 // Rows where memory is short.
 mod refused;
 

@@ -1,0 +1,83 @@
+// SPDX-License-Identifier: MIT OR Apache-2.0
+//! Calls in RAM that keeps a record of its steps: the record goes on over words of tables, settlings, zeros, a copy, and pages
+//! that are lent to be written.
+use super::memory::{MAPPED, RETRIEVE, RETRIEVED, TO_FIRST, TO_SECOND};
+use super::*;
+use crate::checks::holds_at;
+use ffa_physmem::FlatRam;
+use ffa_recorded::Recorded;
+use ffa_spmc::Machine;
+
+// For how many steps there is room from the beginning.
+const ROOM: usize = 512;
+
+// The first partition lends the page at 40021000 to the second, with zeros.
+const LEND: &str = "\
+store 4002E000 0000000100008001 -> done
+store 4002E018 0000000100000010 -> done
+store 4002E020 0000000000000030 -> done
+store 4002E030 0000004000028002 -> done
+store 4002E040 0000000100000001 -> done
+store 4002E050 0000000040021000 -> done
+store 4002E058 0000000000000001 -> done
+call 84000072 60 60 -> 8001: 84000061 0 1 8001
+";
+
+// The second has read the response.
+const RELEASE: &str = "call 84000065 -> 8002: 84000061\n";
+
+// The first sends the second a message of eight bytes.
+const MESSAGE: &str = "\
+store 4002E008 0000000000000014 -> done
+store 4002E00C 80018002 -> done
+store 4002E010 0000000000000008 -> done
+call 84000086 -> 8001: 84000061
+";
+
+// The machine of the rows, whose first partition runs.
+fn recorded_machine(rt: &impl Abort, alloc: Global) -> Result<Player<Machine<Recorded>>, Fail> {
+    let manifest = row_machine();
+    let ram = FlatRam::new(alloc, manifest.ram_base, 512 * manifest.ram_blocks)?;
+    let ram = Recorded::new(alloc, ram, ROOM)?;
+    let mut player = Player::new(Machine::boot_cleared(&manifest, ram, NoTlb));
+    goes_on(rt, alloc, &mut player, MAPPED)?;
+    Ok(player)
+}
+
+// How many steps were recorded; none where the record has ended.
+fn recorded(player: &Player<Machine<Recorded>>) -> usize {
+    player.machine().ram().steps().unwrap_or(0)
+}
+
+// A step that writes to RAM is recorded, whatever it does there.
+fn is_recorded(
+    rt: &impl Abort,
+    alloc: Global,
+    player: &mut Player<Machine<Recorded>>,
+    step: &str,
+) -> Result<(), Fail> {
+    let before = recorded(player);
+    goes_on(rt, alloc, player, step)?;
+    holds_at(rt, recorded(player) > before, &step);
+    Ok(())
+}
+
+// A lend with zeros, its retrieve and a message.
+#[test]
+fn a_record_goes_on(rt: HostRuntime) -> Result<(), Fail> {
+    let mut player = recorded_machine(&rt, rt.alloc())?;
+    for step in LEND.lines() {
+        is_recorded(&rt, rt.alloc(), &mut player, step)?;
+    }
+    goes_on(&rt, rt.alloc(), &mut player, TO_SECOND)?;
+    for step in RETRIEVE.lines() {
+        is_recorded(&rt, rt.alloc(), &mut player, step)?;
+    }
+    is_recorded(&rt, rt.alloc(), &mut player, RETRIEVED)?;
+    goes_on(&rt, rt.alloc(), &mut player, RELEASE)?;
+    goes_on(&rt, rt.alloc(), &mut player, TO_FIRST)?;
+    for step in MESSAGE.lines() {
+        is_recorded(&rt, rt.alloc(), &mut player, step)?;
+    }
+    Ok(())
+}
