@@ -1,7 +1,7 @@
 /* SPDX-License-Identifier: MIT OR Apache-2.0 */
 /* The first row of the manual, a lend that is retrieved, given up and reclaimed, what the border answers out of order, pages
- * that are lent and given back, with their bytes or cleared, what is to be settled, what has changed, what is pending, and each piece of
- * memory refused in turn. It brings the library's memory itself. */
+ * that are lent and given back, with their bytes or cleared, what then boots in them, what is to be settled, what has changed, what is
+ * pending, and each piece of memory refused in turn. It brings the library's memory itself. */
 #include <stdio.h>
 #include <stdlib.h>
 #include <string.h>
@@ -49,8 +49,20 @@ void rattle_dealloc(void *block) {
 static struct gorseplumb_settling settled[MOST_SETTLED];
 static size_t settlings;
 
+/* How often no pages were to be settled, as behind zeros, and of the last time where, and what page 33 began with then. */
+static size_t waits;
+static uint64_t waited_at;
+static uint8_t waited_over;
+
+static struct gorseplumb_page pages[1024];
+
 void gorseplumb_settle(uint16_t endpoint, uint64_t address, uint64_t size) {
-    if (size == 0) return;
+    if (size == 0) {
+        waits++;
+        waited_at = address;
+        waited_over = pages[33].bytes[0];
+        return;
+    }
     if (settlings < MOST_SETTLED) settled[settlings] = (struct gorseplumb_settling){endpoint, address, size};
     settlings++;
 }
@@ -273,7 +285,6 @@ static void out_of_order(void) {
     CHECK(gorseplumb_runner(&moved) == 0 && gorseplumb_free(&moved, &untouched) == GORSEPLUMB_OK);
 }
 
-static struct gorseplumb_page pages[1024];
 static struct gorseplumb_lent list;
 
 static void lists(void) {
@@ -413,6 +424,40 @@ static void in_two_spans(void) {
         CHECK(gorseplumb_take_back(&list, &slot) == GORSEPLUMB_OK && slot.at == &pages[(255 - i) & 511]);
     }
     CHECK(pages[256 + 16].bytes[0] == 0x2A && gorseplumb_end_lending(&list) == GORSEPLUMB_OK && pieces == 0);
+}
+
+/* Zeros are seen before what is written behind them: where a page in lent RAM is filled with them no pages are settled, once they
+ * are there. */
+static void zeros_first(void) {
+    struct gorseplumb_manifest manifest = row_manifest();
+    waits = 0;
+    CHECK(gorseplumb_lend_all(&list, pages, 512) == GORSEPLUMB_OK &&
+          gorseplumb_boot_lent_manifest(&machine, &list, &manifest) == GORSEPLUMB_OK && waits >= 512);
+    lend();
+    CHECK(pages[33].bytes[0] == 0x5A);
+    /* 8001 lends the page once more, and takes it back with zeros. */
+    CALL(0x8001, 0x84000061, 0, 2, 0x8001, 0x84000072, 0x60, 0x60);
+    waits = 0;
+    CALL(0x8001, 0x84000061, 0, 0, 0, 0x84000077, 2, 0x8001, 1);
+    CHECK(waits == 1 && waited_at == 0x40021000 && waited_over == 0);
+    loads(0x40021000, 1, 0);
+    CHECK(gorseplumb_free(&machine, &list) == GORSEPLUMB_OK && gorseplumb_take_all_back(&list, pages, 512) && pieces == 0);
+}
+
+/* What a machine leaves is room for any other in the same pages: one of more endpoints takes no memory behind it. */
+static void larger_machines(void) {
+    struct gorseplumb_manifest manifest = row_manifest();
+    struct gorseplumb_span all = {pages, 512};
+    /* The list was begun for no pages, so the first boot takes some. */
+    CHECK(gorseplumb_begin_lending(&list, 0) == GORSEPLUMB_OK && gorseplumb_lend_span(&list, &all) == GORSEPLUMB_OK);
+    for (manifest.endpoint_count = 1; manifest.endpoint_count <= 3; manifest.endpoint_count++) {
+        asked = 0;
+        CHECK(gorseplumb_boot_lent_manifest(&machine, &list, &manifest) == GORSEPLUMB_OK);
+        CHECK(gorseplumb_endpoints(&machine) == manifest.endpoint_count && (asked == 0 || manifest.endpoint_count == 1));
+        asked = 0;
+        CHECK(gorseplumb_free(&machine, &list) == GORSEPLUMB_OK && asked == 0 && gorseplumb_lent_pages(&list) == 512);
+    }
+    CHECK(gorseplumb_take_all_back(&list, pages, 512) && pieces == 0);
 }
 
 /* Pages may begin at any byte. */
@@ -668,6 +713,8 @@ int main(void) {
     spans();
     numbers();
     lent_machine();
+    zeros_first();
+    larger_machines();
     at_odd_addresses();
     held_machine();
     two_machines();
