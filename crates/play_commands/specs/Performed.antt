@@ -15,7 +15,7 @@ use Rattle.play_report.specs.Descriptors.{IsMisread, IsSaid, IsUnfit}
 use Rattle.play_report.specs.Manifests.{Describes, IsAccepted, IsChecked, IsLaidOut, IsRefused, SomeCause, bytes_of}
 use Rattle.play_report.specs.declared.failure.Failure.{Failure}
 use Rattle.play_report.specs.declared.failure.Failure.TheVariants as failure
-use Rattle.play_tasks.specs.Plays.{IsCutShort, IsDrawn, IsOverfull, IsPrinted, IsRecordStopped, IsRecorded, IsStoppedIn, IsUndrawn, IsUnmet, PrintsExpected, Streams, form_of, streams_of}
+use Rattle.play_tasks.specs.Plays.{IsCutShort, IsDrawn, IsOverfull, IsPrinted, IsRecordStopped, IsRecorded, IsStoppedIn, IsUndrawn, IsUnmet, PrintsExpected, Streams, form_of, keep_of, streams_of}
 use Rattle.play_arguments.specs.Commands.{ask_of, manifest_of, trace_of}
 use Rattle.play_arguments.specs.declared.command_line.Request.{Request}
 use Rattle.play_arguments.specs.declared.command_line.Request.TheVariants as request
@@ -143,7 +143,8 @@ abbrev pub IsUnsaid : Request → Ran → Type 0
 IsUnsaid (request.Descriptor words) ran =
     ((fault : WordsFault) × IsMisread words fault) ⊎ ((cause : Unfit) × IsUnfit words cause)
 IsUnsaid (request.Picture manifest trace drawing verbose) ran =
-    (parts : Parts) × Describes ran.manifest parts × ((most : ℕ) × IsOverfull ran.streams most)
+    (parts : Parts) × Describes ran.manifest parts
+    × ((most : ℕ) × IsOverfull (keep_of drawing) (first_of parts) ran.streams most)
 IsUnsaid other ran = ⊥
 
 -- the manifest is refused, and nothing was written

@@ -27,7 +27,7 @@ pub(crate) fn play<'a, A: Allocator + Copy, R: Read + Drop, W: Write, E: Write>(
     told: &mut Vec<u8, A>,
 ) -> Result<(), Failure<'a>>
     ensures played { let streams = streams_of R.remaining play.entry.trace.reader W.contents out.old out.new in
-        Plays R.remaining play.entry.task (start_of manifest.now) streams result }
+        Plays R.remaining play.entry.task play.entry.trace.path (start_of manifest.now) streams result }
     ensures quiet { talks play.entry.task ≡ false → err.new ≡ err.old }
 {
     let (base, pages) = (manifest.ram_base, 512 * manifest.ram_blocks);
@@ -55,7 +55,7 @@ fn play_in<'a, M: PhysMem + Drop, A: Allocator + Copy, R: Read + Drop, W: Write,
 ) -> Result<(), Failure<'a>>
     requires { M.ram ram ≡ zero_ram manifest.now.ram_base.0 (512 * manifest.now.ram_blocks) }
     ensures played { let streams = streams_of R.remaining play.entry.trace.reader W.contents out.old out.new in
-        Plays R.remaining play.entry.task (start_of manifest.now) streams result }
+        Plays R.remaining play.entry.task play.entry.trace.path (start_of manifest.now) streams result }
     ensures quiet { talks play.entry.task ≡ false → err.new ≡ err.old }
 {
     if play.machine.tlb {
@@ -86,7 +86,7 @@ fn play_with<
 ) -> Result<(), Failure<'a>>
     requires { M.ram ram ≡ zero_ram manifest.now.ram_base.0 (512 * manifest.now.ram_blocks) }
     ensures played { let streams = streams_of R.remaining play.entry.trace.reader W.contents out.old out.new in
-        Plays R.remaining play.entry.task (start_of manifest.now) streams result }
+        Plays R.remaining play.entry.task play.entry.trace.path (start_of manifest.now) streams result }
     ensures quiet { talks play.entry.task ≡ false → err.new ≡ err.old }
 {
     let Play {

@@ -1,6 +1,6 @@
 -- SPDX-License-Identifier: MIT OR Apache-2.0
 -- What a play leaves, for the one who asked for it.
-use Rattle.std.proofs.Common.{arith, ◌≡◌, ◌⊎◌, Bor, Bool, true, false, List, [], ◌∷◌, ◌++◌, ℕ, Option, None, Some, Ok, Err, Result, inl, inr, refl, ap, sym, ◌∙◌, subst, append_assoc, append-nil}
+use Rattle.std.proofs.Common.{◌≡◌, ◌⊎◌, Bor, Bool, true, false, List, [], ◌∷◌, ◌++◌, ℕ, Option, None, Some, Ok, Err, Result, inl, inr, refl, ap, sym, ◌∙◌, subst, append_assoc, append-nil}
 use Rattle.std.specs.Prelude.{OnOk, unwrap_or}
 use Rattle.std.specs.Io.KnownBytes.{Appends, Consumes, IsAtEnd, Keeps, prepend_known}
 use Rattle.std.proofs.KnownBytes.{Consumes-trans}
@@ -29,7 +29,8 @@ use Rattle.play_picture.specs.Pictured.{Pictured}
 use Rattle.play_drawing.specs.declared.picture.Picture.{Picture}
 use Rattle.play_drawing.specs.declared.row.Keep.{Keep}
 use Rattle.play_drawing.specs.declared.size.TooLarge.{TooLarge}
-use Rattle.play_picture.proofs.Seen.{rows_few}
+use Rattle.play_picture.specs.Watching.{IsTooLarge}
+use Rattle.play_picture.proofs.Bare.{bare_large}
 use Rattle.play_report.specs.Failures.{IsDifference, failure_of}
 use Rattle.play_report.specs.declared.failure.Failure.{Failure}
 use Rattle.play_report.specs.declared.failure.Failure.TheVariants.{Manifest, BadLine, Read, Write, NoMemory, Differs, Unmet, Words, Unfit, TooManyRows}
@@ -130,9 +131,9 @@ played_to start now held holds had has n (lines, bad, more, did, consumed, numbe
     )
 
 pub play_failed : {R : Type 0} (remaining : R → Option (List ℕ)) (start now : State) (held holds had has : Option (List ℕ)) (path : Bor (List ℕ)) (fault : Option LineFault) (error : PlayError)
-    → Played {X = Unit {0}} start now held holds had has (Err error) → PlayFails remaining Plain start (passed had held holds) (failure_of (Read path) fault error)
+    → Played {X = Unit {0}} start now held holds had has (Err error) → PlayFails remaining Plain path start (passed had held holds) (failure_of (Read path) fault error)
 play_failed remaining start now held holds had has path fault play_error.Read (lines, more, did, consumed, counted, ended) =
-    (lines, (did.each, (prepend_known more has, before_read had has (joined lines) more consumed)), written_plainly start held holds lines did.written, never_strict)
+    inl ((lines, (did.each, (prepend_known more has, before_read had has (joined lines) more consumed)), written_plainly start held holds lines did.written, never_strict), refl)
 play_failed remaining start now held holds had has path fault play_error.Write p = tt
 play_failed remaining start now held holds had has path fault play_error.NoMemory p = tt
 play_failed remaining start now held holds had has path fault (play_error.BadLine n) p = played_to start now held holds had has n p
@@ -160,9 +161,9 @@ formed_whole x form start now held holds had has bytes (left, lines, said, f, en
 
 pub formed_failed : {R : Type 0} (remaining : R → Option (List ℕ)) (form : Form) (start now : State) (held holds had has : Option (List ℕ)) (bytes : List ℕ) (path : Bor (List ℕ)) (fault : Option LineFault) (error : PlayError)
     → followed.PlayedIn {X = Unit {0}} form start now held holds had has bytes (Err error)
-    → PlayFails remaining (Formed form) start (passed had held holds) (failure_of (Read path) fault error)
+    → PlayFails remaining (Formed form) path start (passed had held holds) (failure_of (Read path) fault error)
 formed_failed remaining form start now held holds had has bytes path fault play_error.Read (left, lines, said, f, unended, written) =
-    (lines, (f.each, (left, f.read)), subst (Appends held holds) f.said written, never_strict)
+    inl ((lines, (f.each, (left, f.read)), subst (Appends held holds) f.said written, never_strict), refl)
 formed_failed remaining form start now held holds had has bytes path fault play_error.Write p = tt
 formed_failed remaining form start now held holds had has bytes path fault play_error.NoMemory p = tt
 formed_failed remaining form start now held holds had has bytes path fault (play_error.BadLine n) (said, e, written) =
@@ -178,15 +179,13 @@ pub drawn_whole : {A : Type 0} (picture : Picture A) (keep : Keep) (start now : 
 drawn_whole picture keep start now had has bytes (left, lines, said, f, ended, is, fits) = record { lines = lines; each = f.each; all = all_consumed had left (joined lines) f.read ended }
 
 pub drawn_over : (A : Type 0) (large : TooLarge) (keep : Keep) (start now : State) (held had has : Option (List ℕ)) (bytes : List ℕ) → Pictured {A = A} keep start now had has bytes (Ok (Err large))
-    → IsOverfull (passed had held held) large.most
+    → IsOverfull keep start (passed had held held) large.most
 drawn_over A large keep start now held had has bytes (left, lines, said, f, is) =
-    let few = rows_few keep start lines is.rows is.are_rows in
-    let more = is.more in
-    (lines, (f.each, (left, f.read)), omega (arith, few, more), kept held)
+    (lines, (f.each, (left, f.read)), subst (λ s. IsTooLarge (Unit {0}) keep start s lines (record { most = large.most })) f.state (bare_large keep start now lines large is), kept held)
 
 pub drawn_failed : {R : Type 0} (remaining : R → Option (List ℕ)) (A : Type 0) (keep : Keep) (width : ℕ) (start now : State) (held had has : Option (List ℕ)) (bytes : List ℕ) (path : Bor (List ℕ)) (fault : Option LineFault) (error : PlayError)
-    → Pictured {A = A} keep start now had has bytes (Err error) → PlayFails remaining (Drawn keep width) start (passed had held held) (failure_of (Read path) fault error)
-drawn_failed remaining A keep width start now held had has bytes path fault play_error.Read p = kept held
+    → Pictured {A = A} keep start now had has bytes (Err error) → PlayFails remaining (Drawn keep width) path start (passed had held held) (failure_of (Read path) fault error)
+drawn_failed remaining A keep width start now held had has bytes path fault play_error.Read p = inl (kept held, refl)
 drawn_failed remaining A keep width start now held had has bytes path fault play_error.Write p = absurd p
 drawn_failed remaining A keep width start now held had has bytes path fault play_error.NoMemory p = tt
 drawn_failed remaining A keep width start now held had has bytes path fault (play_error.BadLine n) (said, e) = (e.lines, ends_badly plain start now had said bytes n e, kept held)
@@ -195,8 +194,8 @@ pub paged_whole : {A : Type 0} (page : Page A) (start now : State) (had has : Op
 paged_whole page start now had has bytes (left, lines, said, f, ended, is) = record { lines = lines; each = f.each; all = all_consumed had left (joined lines) f.read ended }
 
 pub paged_failed : {R : Type 0} (remaining : R → Option (List ℕ)) (A : Type 0) (start now : State) (held had has : Option (List ℕ)) (bytes : List ℕ) (path : Bor (List ℕ)) (fault : Option LineFault) (error : PlayError)
-    → Paging {A = A} start now had has bytes (Err error) → PlayFails remaining Paged start (passed had held held) (failure_of (Read path) fault error)
-paged_failed remaining A start now held had has bytes path fault play_error.Read p = kept held
+    → Paging {A = A} start now had has bytes (Err error) → PlayFails remaining Paged path start (passed had held held) (failure_of (Read path) fault error)
+paged_failed remaining A start now held had has bytes path fault play_error.Read p = inl (kept held, refl)
 paged_failed remaining A start now held had has bytes path fault play_error.Write p = absurd p
 paged_failed remaining A start now held had has bytes path fault play_error.NoMemory p = tt
 paged_failed remaining A start now held had has bytes path fault (play_error.BadLine n) (said, e) = (e.lines, ends_badly plain start now had said bytes n e, kept held)
@@ -240,16 +239,16 @@ guarded_unmet form start now held holds had has line found met near breach (said
   written = subst (Appends held holds) b.followed.said written;
 }
 
-pub breach_told : {R : Type 0} (remaining : R → Option (List ℕ)) (form : Form) (start : State) (streams : Streams) (n : ℕ) → IsUnmet form start streams n → (failure : Failure)
-    → (failure ≡ Unmet n) ⊎ (failure ≡ NoMemory) → PlayFails remaining (Guarded form) start streams failure
-breach_told remaining form start streams n unmet failure (inl is) = subst (PlayFails remaining (Guarded form) start streams) (sym is) unmet
-breach_told remaining form start streams n unmet failure (inr is) = subst (PlayFails remaining (Guarded form) start streams) (sym is) tt
+pub breach_told : {R : Type 0} (remaining : R → Option (List ℕ)) (form : Form) (path : Bor (List ℕ)) (start : State) (streams : Streams) (n : ℕ) → IsUnmet form start streams n → (failure : Failure)
+    → (failure ≡ Unmet n) ⊎ (failure ≡ NoMemory) → PlayFails remaining (Guarded form) path start streams failure
+breach_told remaining form path start streams n unmet failure (inl is) = subst (PlayFails remaining (Guarded form) path start streams) (sym is) unmet
+breach_told remaining form path start streams n unmet failure (inr is) = subst (PlayFails remaining (Guarded form) path start streams) (sym is) tt
 
 pub guarded_failed : {R : Type 0} (remaining : R → Option (List ℕ)) (form : Form) (start now : State) (held holds had has : Option (List ℕ)) (line found : List ℕ) (met : ℕ) (near : List ℕ) (path : Bor (List ℕ)) (fault : Option LineFault) (error : PlayError)
     → GuardedIn form start now held holds had has line found met near (Err error)
-    → PlayFails remaining (Guarded form) start (passed had held holds) (failure_of (Read path) fault error)
+    → PlayFails remaining (Guarded form) path start (passed had held holds) (failure_of (Read path) fault error)
 guarded_failed remaining form start now held holds had has line found met near path fault play_error.Read (left, lines, said, f, unended, written, are_met, counts) =
-    (lines, (f.each, (left, f.read)), subst (Appends held holds) f.said written, λ strict. are_met)
+    inl ((lines, (f.each, (left, f.read)), subst (Appends held holds) f.said written, λ strict. are_met), refl)
 guarded_failed remaining form start now held holds had has line found met near path fault play_error.Write p = tt
 guarded_failed remaining form start now held holds had has line found met near path fault play_error.NoMemory p = tt
 guarded_failed remaining form start now held holds had has line found met near path fault (play_error.BadLine n) (said, e, written, are_met, counts) =
@@ -268,9 +267,9 @@ recorded_whole x start now held holds had has bytes (left, lines, said, f, ended
 
 pub recorded_failed : {R : Type 0} (remaining : R → Option (List ℕ)) (start now : State) (held holds had has : Option (List ℕ)) (bytes : List ℕ) (path : Bor (List ℕ)) (fault : Option LineFault) (error : PlayError)
     → RecordedIn {X = Unit {0}} start now held holds had has bytes (Err error)
-    → PlayFails remaining Recorded start (passed had held holds) (failure_of (Read path) fault error)
+    → PlayFails remaining Recorded path start (passed had held holds) (failure_of (Read path) fault error)
 recorded_failed remaining start now held holds had has bytes path fault play_error.Read (left, lines, said, f, unended, written, replays) =
-    (lines, (f.each, (left, f.read)), written)
+    inl ((lines, (f.each, (left, f.read)), written), refl)
 recorded_failed remaining start now held holds had has bytes path fault play_error.Write p = tt
 recorded_failed remaining start now held holds had has bytes path fault play_error.NoMemory p = tt
 recorded_failed remaining start now held holds had has bytes path fault (play_error.BadLine n) (said, e, written, replays) =
@@ -293,31 +292,31 @@ cut_short form start now had has wants bytes said wanted n (printed, more, alike
 
 module _ {R : Type 0} (remaining : R → Option (List ℕ)) (form : Form) (start now : State) (had has held : Option (List ℕ)) (expected : Expected R) (bytes said wanted : List ℕ) where
   pub compared_failed : (path : Bor (List ℕ)) (fault : Option LineFault) (error : PlayError) → Compared form start now had has (remaining expected.reader) bytes said wanted (Err (compare_error.Play error))
-      → PlayFails remaining (Compare expected form) start (passed had held held) (failure_of (Read path) fault error)
+      → PlayFails remaining (Compare expected form) path start (passed had held held) (failure_of (Read path) fault error)
   compared_failed path fault play_error.Read (left, lines, printed, more, alike, f, unended) =
-      (inl (lines, (f.each, (left, f.read)), (more, subst (Consumes (remaining expected.reader) more) f.said alike)), kept held)
+      inl (((lines, (f.each, (left, f.read)), (more, subst (Consumes (remaining expected.reader) more) f.said alike)), kept held), refl)
   compared_failed path fault play_error.Write p = absurd p
   compared_failed path fault play_error.NoMemory p = tt
   compared_failed path fault (play_error.BadLine n) p = (cut_short form start now had has (remaining expected.reader) bytes said wanted n p, kept held)
 
   -- the expected text couldn't be read
   pub compared_unmatched : (path : Bor (List ℕ)) → Compared form start now had has (remaining expected.reader) bytes said wanted (Err compare_error.Expected)
-      → PlayFails remaining (Compare expected form) start (passed had held held) (Read path)
-  compared_unmatched path (left, lines, front, back, more, alike, f) = (inr (lines, (f.each, (left, f.read)), (front, back, more, sym f.said, alike)), kept held)
+      → PlayFails remaining (Compare expected form) path start (passed had held held) (Read expected.path)
+  compared_unmatched path (left, lines, front, back, more, alike, f) = inr ((lines, (f.each, (left, f.read)), (front, back, more, sym f.said, alike)), kept held, refl)
 
 -- where a difference was found
-pub differing : {R : Type 0} (remaining : R → Option (List ℕ)) (form : Form) (start : State) (streams : Streams) (expected : Expected R) → NeverPrints (unexplained form) start streams.trace (remaining expected.reader)
-    → (failure : Failure) → IsDifference failure → PlayFails remaining (Compare expected form) start streams failure
-differing remaining form start streams expected never_prints Differs any = never_prints
-differing remaining form start streams expected never_prints Write any = tt
-differing remaining form start streams expected never_prints NoMemory any = tt
-differing remaining form start streams expected never_prints (Manifest cause) never = absurd never
-differing remaining form start streams expected never_prints (BadLine n fault) never = absurd never
-differing remaining form start streams expected never_prints (Read path) never = absurd never
-differing remaining form start streams expected never_prints (Unmet n) never = absurd never
-differing remaining form start streams expected never_prints (Words fault) never = absurd never
-differing remaining form start streams expected never_prints (Unfit cause) never = absurd never
-differing remaining form start streams expected never_prints (TooManyRows most) never = absurd never
+pub differing : {R : Type 0} (remaining : R → Option (List ℕ)) (form : Form) (start : State) (streams : Streams) (expected : Expected R) (path : Bor (List ℕ)) → NeverPrints (unexplained form) start streams.trace (remaining expected.reader)
+    → (failure : Failure) → IsDifference failure → PlayFails remaining (Compare expected form) path start streams failure
+differing remaining form start streams expected path never_prints Differs any = never_prints
+differing remaining form start streams expected path never_prints Write any = tt
+differing remaining form start streams expected path never_prints NoMemory any = tt
+differing remaining form start streams expected path never_prints (Manifest cause) never = absurd never
+differing remaining form start streams expected path never_prints (BadLine n fault) never = absurd never
+differing remaining form start streams expected path never_prints (Read told) never = absurd never
+differing remaining form start streams expected path never_prints (Unmet n) never = absurd never
+differing remaining form start streams expected path never_prints (Words fault) never = absurd never
+differing remaining form start streams expected path never_prints (Unfit cause) never = absurd never
+differing remaining form start streams expected path never_prints (TooManyRows most) never = absurd never
 
 -- SESSIONS
 
@@ -348,9 +347,9 @@ held_whole x form start now held holds had has (left, lines, said, heard, inr (r
     held_of form start now held holds had left lines said rest heard written single all
 
 pub held_failed : {R : Type 0} (remaining : R → Option (List ℕ)) (form : Form) (start now : State) (held holds had has : Option (List ℕ)) (path : Bor (List ℕ)) (fault : Option LineFault) (error : PlayError)
-    → SessionIn {X = Unit {0}} form start now held holds had has (Err error) → PlayFails remaining (Session form) start (passed had held holds) (failure_of (Read path) fault error)
+    → SessionIn {X = Unit {0}} form start now held holds had has (Err error) → PlayFails remaining (Session form) path start (passed had held holds) (failure_of (Read path) fault error)
 held_failed remaining form start now held holds had has path fault play_error.Read (left, lines, said, heard, unended, written) =
-    (lines, heard.each, (left, heard.read), subst (Appends held holds) heard.said written)
+    inl ((lines, heard.each, (left, heard.read), subst (Appends held holds) heard.said written), refl)
 held_failed remaining form start now held holds had has path fault play_error.Write p = tt
 held_failed remaining form start now held holds had has path fault play_error.NoMemory p = tt
 held_failed remaining form start now held holds had has path fault (play_error.BadLine n) p = absurd p
@@ -401,12 +400,12 @@ module _ {R : Type 0} (remaining : R → Option (List ℕ)) (strict interactive 
   never_differs (Drawn keep width) never start trace differs = absurd never
   never_differs Paged never start trace differs = absurd never
 
-  pub never_overfull : {P : Type 0} (task : Task R) → PrintsIn strict interactive form task → (streams : Streams) (most : ℕ) → OverfullBy task streams most → P
-  never_overfull Plain prints streams most never = absurd never
-  never_overfull (Formed own) prints streams most never = absurd never
-  never_overfull (Guarded own) prints streams most never = absurd never
-  never_overfull Recorded never streams most over = absurd never
-  never_overfull (Session own) prints streams most never = absurd never
-  never_overfull (Compare expected own) never streams most over = absurd never
-  never_overfull (Drawn keep width) never streams most over = absurd never
-  never_overfull Paged never streams most over = absurd never
+  pub never_overfull : {P : Type 0} (task : Task R) → PrintsIn strict interactive form task → (start : State) (streams : Streams) (most : ℕ) → OverfullBy task start streams most → P
+  never_overfull Plain prints start streams most never = absurd never
+  never_overfull (Formed own) prints start streams most never = absurd never
+  never_overfull (Guarded own) prints start streams most never = absurd never
+  never_overfull Recorded never start streams most over = absurd never
+  never_overfull (Session own) prints start streams most never = absurd never
+  never_overfull (Compare expected own) never start streams most over = absurd never
+  never_overfull (Drawn keep width) never start streams most over = absurd never
+  never_overfull Paged never start streams most over = absurd never

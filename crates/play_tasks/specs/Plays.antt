@@ -1,10 +1,13 @@
 -- SPDX-License-Identifier: MIT OR Apache-2.0
 -- What a task leaves that was done with a trace.
-use Rattle.std.specs.Prelude.{◌≡◌, ◌⊎◌, ℕ, ◌+◌, ◌≤◌, Bool, true, false, List, ◌∷◌, ◌++◌, length, Option, Some, Result, IfErr, OnOk, ⊤}
+use denote.Ref.{Bor}
+use Rattle.std.specs.Prelude.{◌≡◌, ◌==◌, ◌⊎◌, ℕ, ◌+◌, Bool, true, false, List, ◌∷◌, ◌++◌, length, Option, Some, Result, IfErr, OnOk, ⊤, if◌then◌else◌}
 use Rattle.std.specs.Io.KnownBytes.{Appends, Consumes, Keeps}
 use Rattle.std.specs.List.{list_all}
 use Rattle.ffa_model.specs.State.{State}
 use Rattle.play_syntax.specs.TraceLines.{feed, has_no_feed, are_lines, joined}
+use Rattle.play_syntax.specs.TraceText.{after_all}
+use Rattle.play_arguments.specs.declared.command_line.PictureOptions.{PictureOptions}
 use Rattle.play_arguments.specs.declared.command_line.TextOptions.{TextOptions}
 use Rattle.play_forms.specs.declared.form.Form.{Form}
 use Rattle.play_forms.specs.declared.guards.Asks.{Asks}
@@ -14,6 +17,9 @@ use Rattle.play_forms.specs.Guards.{AreMet, IsMet, guard_of, guards_among, near_
 use Rattle.play_forms.specs.Reading.{IsAll, IsBadLine}
 use Rattle.play_forms.specs.Recorded.{Replays, recorded}
 use Rattle.play_forms.specs.Sessions.{good_text_in}
+use Rattle.play_drawing.specs.declared.row.Keep.{Keep}
+use Rattle.play_drawing.specs.declared.row.Pace.TheVariants.{Changes, Every}
+use Rattle.play_picture.specs.Watching.{IsTooLarge}
 use Rattle.play_report.specs.Guarded.{met_text, near_text}
 use Rattle.play_report.specs.declared.failure.Failure.{Failure}
 use Rattle.play_report.specs.declared.failure.Failure.TheVariants as failure
@@ -24,6 +30,13 @@ use Rattle.play_tasks.specs.declared.task.Task.TheVariants as task
 -- the form that a text is asked for in
 abbrev pub form_of : TextOptions → Form
 form_of options = record { number = options.number; names = options.names; explain = options.explain }
+
+-- the lines that are asked for of a picture: those that change the certificate, or each of so many, and refused calls
+abbrev pub keep_of : PictureOptions → Keep
+keep_of options = record {
+  pace = if options.every == 0 then Changes else Every options.every;
+  refused = options.refused;
+}
 
 -- STREAMS
 
@@ -154,10 +167,13 @@ abbrev pub IsUndrawn : Streams → ℕ → Type 0
 IsUndrawn streams n =
     (lines : List (List ℕ)) × EndsBadly streams.trace lines n × Keeps streams.held streams.holds
 
--- a picture's play stopped behind lines, of which there are at least so many, and nothing was written
-abbrev pub IsOverfull : Streams → ℕ → Type 0
-IsOverfull streams most =
-    (lines : List (List ℕ)) × BeganWith streams.trace lines × (most ≤ length lines) × Keeps streams.held streams.holds
+-- a picture's play stopped behind lines that have more rows than fit, of which so many do, and nothing was written; rows
+-- are the same in whatever memory they lie, and so in none
+abbrev pub IsOverfull : Keep → State → Streams → ℕ → Type 0
+IsOverfull keep start streams most =
+    (lines : List (List ℕ)) × BeganWith streams.trace lines
+    × IsTooLarge (Unit {0}) keep start (after_all start lines) lines (record { most = most })
+    × Keeps streams.held streams.holds
 
 -- what is expected begins with the text of these lines in this form
 abbrev pub BeginsExpected : Form → State → (expected : Option (List ℕ)) (lines : List (List ℕ)) → Type 0
@@ -237,7 +253,7 @@ StopsBy remaining (task.Compare expected form) start streams n =
 StopsBy remaining (task.Drawn keep width) start streams n = IsUndrawn streams n
 StopsBy remaining task.Paged start streams n = IsUndrawn streams n
 
--- a task could read no further
+-- a task could read no further of its trace
 abbrev pub UnreadBy : {R : Type 0} → (R → Option (List ℕ)) → Task R → State → Streams → Type 0
 UnreadBy remaining task.Plain start streams = IsUnread false plain start streams
 UnreadBy remaining (task.Formed form) start streams = IsUnread false form start streams
@@ -245,11 +261,16 @@ UnreadBy remaining (task.Guarded form) start streams = IsUnread true form start 
 UnreadBy remaining task.Recorded start streams = IsRecordUnread start streams
 UnreadBy remaining (task.Session form) start streams = IsUnheard form start streams
 UnreadBy remaining (task.Compare expected form) start streams =
-    (IsCutOff (unexplained form) start streams.trace (remaining expected.reader)
-    ⊎ IsUnmatched (unexplained form) start streams.trace (remaining expected.reader))
-    × Keeps streams.held streams.holds
+    IsCutOff (unexplained form) start streams.trace (remaining expected.reader) × Keeps streams.held streams.holds
 UnreadBy remaining (task.Drawn keep width) start streams = Keeps streams.held streams.holds
 UnreadBy remaining task.Paged start streams = Keeps streams.held streams.holds
+
+-- a task could read no further of what is expected, whose path this is
+abbrev pub UnmatchedBy : {R : Type 0} → (R → Option (List ℕ)) → Task R → State → Streams → Bor (List ℕ) → Type 0
+UnmatchedBy remaining (task.Compare expected form) start streams path =
+    IsUnmatched (unexplained form) start streams.trace (remaining expected.reader) × Keeps streams.held streams.holds
+    × (path ≡ expected.path)
+UnmatchedBy remaining other start streams path = ⊥
 
 -- a task found another text
 abbrev pub DiffersBy : {R : Type 0} → (R → Option (List ℕ)) → Task R → State → (trace : Option (List ℕ)) → Type 0
@@ -263,23 +284,26 @@ UnmetBy (task.Guarded form) start streams n = IsUnmet form start streams n
 UnmetBy other start streams n = ⊥
 
 -- a task would draw more rows than this many
-abbrev pub OverfullBy : {R : Type 0} → Task R → Streams → ℕ → Type 0
-OverfullBy (task.Drawn keep width) streams most = IsOverfull streams most
-OverfullBy other streams most = ⊥
+abbrev pub OverfullBy : {R : Type 0} → Task R → State → Streams → ℕ → Type 0
+OverfullBy (task.Drawn keep width) start streams most = IsOverfull keep start streams most
+OverfullBy other start streams most = ⊥
 
--- a task fails; a play refuses no manifest, and reads no descriptor
-abbrev pub PlayFails : {R : Type 0} → (R → Option (List ℕ)) → Task R → State → Streams → Failure → Type 0
-PlayFails remaining task start streams (failure.BadLine n fault) = StopsBy remaining task start streams n
-PlayFails remaining task start streams (failure.Read path) = UnreadBy remaining task start streams
-PlayFails remaining task start streams failure.Write = ⊤
-PlayFails remaining task start streams failure.NoMemory = ⊤
-PlayFails remaining task start streams failure.Differs = DiffersBy remaining task start streams.trace
-PlayFails remaining task start streams (failure.Unmet n) = UnmetBy task start streams n
-PlayFails remaining task start streams (failure.TooManyRows most) = OverfullBy task streams most
-PlayFails remaining task start streams other = ⊥
+-- a task with the trace at this path fails; a play refuses no manifest, and reads no descriptor. What can't be read is
+-- named: the trace, or what is expected.
+abbrev pub PlayFails : {R : Type 0} → (R → Option (List ℕ)) → Task R → (trace : Bor (List ℕ)) → State → Streams
+    → Failure → Type 0
+PlayFails remaining task trace start streams (failure.BadLine n fault) = StopsBy remaining task start streams n
+PlayFails remaining task trace start streams (failure.Read path) =
+    (UnreadBy remaining task start streams × (path ≡ trace)) ⊎ UnmatchedBy remaining task start streams path
+PlayFails remaining task trace start streams failure.Write = ⊤
+PlayFails remaining task trace start streams failure.NoMemory = ⊤
+PlayFails remaining task trace start streams failure.Differs = DiffersBy remaining task start streams.trace
+PlayFails remaining task trace start streams (failure.Unmet n) = UnmetBy task start streams n
+PlayFails remaining task trace start streams (failure.TooManyRows most) = OverfullBy task start streams most
+PlayFails remaining task trace start streams other = ⊥
 
--- a task is done, or fails
-pub record Plays {R : Type 0} (remaining : R → Option (List ℕ)) (task : Task R) (start : State) (streams : Streams)
-    (result : Result (Unit {0}) Failure) : Type 0 where
+-- a task with the trace at this path is done, or fails
+pub record Plays {R : Type 0} (remaining : R → Option (List ℕ)) (task : Task R) (trace : Bor (List ℕ)) (start : State)
+    (streams : Streams) (result : Result (Unit {0}) Failure) : Type 0 where
   pub played : OnOk result (IsDoneBy remaining task start streams)
-  pub failed : IfErr result (PlayFails remaining task start streams)
+  pub failed : IfErr result (PlayFails remaining task trace start streams)

@@ -36,7 +36,7 @@ pub trait Machines {
         told: &mut Vec<u8, A>,
     ) -> Result<(), Failure<'a>>
         ensures played { let streams = streams_of R.remaining play.entry.trace.reader W.contents out.old out.new in
-            Plays R.remaining play.entry.task (start_of manifest.now) streams result }
+            Plays R.remaining play.entry.task play.entry.trace.path (start_of manifest.now) streams result }
         ensures quiet { talks play.entry.task ≡ false → err.new ≡ err.old };
 
     /// Writes so many lines of a trace for the machine of this manifest, and answers how often what came. The same seed

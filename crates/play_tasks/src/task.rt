@@ -105,7 +105,7 @@ pub fn do_task<'a, A: Allocator + Copy, P: Playable, R: Read + Drop, W: Write, E
     told: &mut Vec<u8, A>,
 ) -> Result<(), Failure<'a>>
     ensures played { let streams = streams_of R.remaining trace.entry.reader W.contents out.old out.new in
-        Plays R.remaining task.entry player.old.state streams result }
+        Plays R.remaining task.entry trace.entry.path player.old.state streams result }
     ensures quiet { talks task.entry ≡ false → err.new ≡ err.old }
 {
     match task {

@@ -35,7 +35,7 @@ returns-in-Ok-Some g c =
     let unequal = subst (λ had. NeverPrints (unexplained form) start had (g.R.Read.remaining c.args.expected.reader)) c.in_ok-reader.ensures.unread at_wanted in
     record {
       played = tt;
-      failed = differing g.R.Read.remaining form start (passed (g.R.Read.remaining c.args.trace.reader) held holds) c.args.expected unequal c.tell_difference.result c.tell_difference.ensures;
+      failed = differing g.R.Read.remaining form start (passed (g.R.Read.remaining c.args.trace.reader) held holds) c.args.expected c.args.trace.path unequal c.tell_difference.result c.tell_difference.ensures;
     }
 
 pub returns-in-Err-Play : goal.returns-in-Err-Play
@@ -52,9 +52,9 @@ returns-in-Err-Play g c =
     let at_wanted = subst (λ wants. Compared form start now had has wants sides.line.items sides.text.items sides.expected.items (Err (compare_error.Play error))) c.in_ok-wanted.ensures.unread (rw c.in-Err-Play.field-0-is at c.in-Err-Play.ensures.compared) in
     let failed = compared_failed g.R.Read.remaining form start now had has held c.args.expected sides.line.items sides.text.items sides.expected.items c.args.trace.path fault error at_wanted in
     let task = Compare c.args.expected form in
-    let from_reader = subst (λ had. PlayFails g.R.Read.remaining task start (passed had held held) (failure_of (Read c.args.trace.path) fault error)) c.in_ok-reader.ensures.unread failed in
+    let from_reader = subst (λ had. PlayFails g.R.Read.remaining task c.args.trace.path start (passed had held held) (failure_of (Read c.args.trace.path) fault error)) c.in_ok-reader.ensures.unread failed in
     let told : failure_of (Read c.args.trace.path) fault error ≡ c.of_line.result = cc (c.of_line.ensures.1, c.in-Err-Play.error-is) in
-    record { played = tt; failed = subst (PlayFails g.R.Read.remaining task start (passed (g.R.Read.remaining c.args.trace.reader) held held)) told from_reader }
+    record { played = tt; failed = subst (PlayFails g.R.Read.remaining task c.args.trace.path start (passed (g.R.Read.remaining c.args.trace.reader) held held)) told from_reader }
 
 pub returns : goal.returns
 returns g c =
@@ -66,6 +66,6 @@ returns g c =
     let had = reader_remaining g.R.Read.remaining c.in_ok-reader.reader in
     let has = reader_remaining g.R.Read.remaining c.compare.new.reader in
     let at_wanted = subst (λ wants. Compared form start now had has wants sides.line.items sides.text.items sides.expected.items (Err compare_error.Expected)) c.in_ok-wanted.ensures.unread (rw c.in-Err-Expected.field-0-is at c.in-Err-Expected.ensures.compared) in
-    let failed = compared_unmatched g.R.Read.remaining form start now had has held c.args.expected sides.line.items sides.text.items sides.expected.items c.args.expected.path at_wanted in
+    let failed = compared_unmatched g.R.Read.remaining form start now had has held c.args.expected sides.line.items sides.text.items sides.expected.items c.args.trace.path at_wanted in
     let task = Compare c.args.expected form in
-    record { played = tt; failed = subst (λ had. PlayFails g.R.Read.remaining task start (passed had held held) (Read c.args.expected.path)) c.in_ok-reader.ensures.unread failed }
+    record { played = tt; failed = subst (λ had. PlayFails g.R.Read.remaining task c.args.trace.path start (passed had held held) (Read c.args.expected.path)) c.in_ok-reader.ensures.unread failed }

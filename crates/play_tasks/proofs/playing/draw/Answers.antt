@@ -23,7 +23,7 @@ returns-in-Ok-Ok g c =
     let streams = passed (g.R.Read.remaining c.args.trace.reader) (g.W.Write.contents c.args.out.now) (g.W.Write.contents c.print_picture.new.out) in
     record {
       played = always_ok c.print_picture.result drawn;
-      failed = on_err c.print_picture.result (λ failure is. subst (PlayFails g.R.Read.remaining (Drawn c.args.keep c.args.width) c.args.player.now.state streams) (sym is) tt) c.print_picture.ensures;
+      failed = on_err c.print_picture.result (λ failure is. subst (PlayFails g.R.Read.remaining (Drawn c.args.keep c.args.width) c.args.trace.path c.args.player.now.state streams) (sym is) tt) c.print_picture.ensures;
     }
 
 pub returns-in-Ok-Err : goal.returns-in-Ok-Err
@@ -37,8 +37,8 @@ returns-in-Ok-Err g c =
     let bytes = c.picture_of.new.bytes.items in
     let is = subst (λ w. Pictured {A = g.row.A.Denot} c.args.keep start now had has bytes (Ok w)) c.in-Ok-Err.field-0-is c.in-Ok-Err.ensures in
     let over = drawn_over g.row.A.Denot large c.args.keep start now held had has bytes is in
-    let told = subst (λ had. IsOverfull (passed had held held) large.most) c.in_ok-reader.ensures.unread over in
-    record { played = tt; failed = subst (λ (l : TooLarge). IsOverfull (passed (g.R.Read.remaining c.args.trace.reader) held held) l.most) (sym c.in-Ok-Err.large-is) told }
+    let told = subst (λ had. IsOverfull c.args.keep start (passed had held held) large.most) c.in_ok-reader.ensures.unread over in
+    record { played = tt; failed = subst (λ (l : TooLarge). IsOverfull c.args.keep start (passed (g.R.Read.remaining c.args.trace.reader) held held) l.most) (sym c.in-Ok-Err.large-is) told }
 
 pub returns : goal.returns
 returns g c =
@@ -47,5 +47,5 @@ returns g c =
     let task = Drawn c.args.keep c.args.width in
     let fault = c.of_line.ensures.0 in
     let failed = drawn_failed g.R.Read.remaining ℕ c.args.keep c.args.width start c.picture_of.new.player.state held _ (reader_remaining g.R.Read.remaining c.picture_of.new.reader) c.picture_of.new.bytes.items c.args.trace.path fault c.in-Err.error c.in-Err.ensures in
-    let from_reader = subst (λ had. PlayFails g.R.Read.remaining task start (passed had held held) (failure_of (Read c.args.trace.path) fault c.in-Err.error)) c.in_ok-reader.ensures.unread failed in
-    record { played = tt; failed = subst (PlayFails g.R.Read.remaining task start (passed (g.R.Read.remaining c.args.trace.reader) held held)) (sym c.of_line.ensures.1) from_reader }
+    let from_reader = subst (λ had. PlayFails g.R.Read.remaining task c.args.trace.path start (passed had held held) (failure_of (Read c.args.trace.path) fault c.in-Err.error)) c.in_ok-reader.ensures.unread failed in
+    record { played = tt; failed = subst (PlayFails g.R.Read.remaining task c.args.trace.path start (passed (g.R.Read.remaining c.args.trace.reader) held held)) (sym c.of_line.ensures.1) from_reader }

@@ -25,5 +25,5 @@ returns g c =
     let holds = g.W.Write.contents c.play_session.new.writer in
     let task = Session c.args.form in
     let failed = held_failed g.R.Read.remaining c.args.form start c.play_session.new.player.state held holds _ (reader_remaining g.R.Read.remaining c.play_session.new.reader) c.args.trace.path None c.in-Err.error c.in-Err.ensures in
-    let from_reader = subst (λ had. PlayFails g.R.Read.remaining task start (passed had held holds) (failure_of (Read c.args.trace.path) None c.in-Err.error)) c.in_ok-reader.ensures.unread failed in
-    record { played = tt; failed = subst (PlayFails g.R.Read.remaining task start (passed (g.R.Read.remaining c.args.trace.reader) held holds)) (sym c.of_play.ensures) from_reader }
+    let from_reader = subst (λ had. PlayFails g.R.Read.remaining task c.args.trace.path start (passed had held holds) (failure_of (Read c.args.trace.path) None c.in-Err.error)) c.in_ok-reader.ensures.unread failed in
+    record { played = tt; failed = subst (PlayFails g.R.Read.remaining task c.args.trace.path start (passed (g.R.Read.remaining c.args.trace.reader) held holds)) (sym c.of_play.ensures) from_reader }

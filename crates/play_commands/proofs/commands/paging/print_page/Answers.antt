@@ -21,4 +21,4 @@ pub returns-clause-does : goal.returns-clause-does
 returns-clause-does g c =
     let streams = passed (g.R.Read.remaining c.in_ok-trace.trace.reader) (g.W.Write.contents c.args.out.now) (g.W.Write.contents c.play.new.out) in
     rw c.in_ok-trace.ensures.opened
-    (page_does g.R.Read.remaining c.args.path (bytes_of c.args.files.manifest) streams (parts_of c.in_ok-manifest.manifest) c.in_ok-manifest.ensures.described (is_some c.args.files.expected) (option_and_then g.R.Read.remaining c.args.files.expected) c.args.how c.play.result c.play.ensures.played)
+    (page_does g.R.Read.remaining c.args.path c.in_ok-trace.trace.path (bytes_of c.args.files.manifest) streams (parts_of c.in_ok-manifest.manifest) c.in_ok-manifest.ensures.described (is_some c.args.files.expected) (option_and_then g.R.Read.remaining c.args.files.expected) c.args.how c.play.result c.play.ensures.played)

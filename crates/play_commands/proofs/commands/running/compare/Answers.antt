@@ -22,4 +22,4 @@ returns-clause-does g c =
     let expected : Expected g.row.R.Denot = record { path = c.args.how.expected; reader = c.in-Some.reader } in
     let plays = rw c.form_of-form.ensures at c.play.ensures.played in
     rw (c.in_ok-trace.ensures.opened, c.in-Some.is)
-    (compare_does g.R.Read.remaining c.args.path (bytes_of c.args.files.manifest) streams (parts_of c.in_ok-manifest.manifest) c.in_ok-manifest.ensures.described c.args.how expected c.play.result plays)
+    (compare_does g.R.Read.remaining c.args.path c.in_ok-trace.trace.path (bytes_of c.args.files.manifest) streams (parts_of c.in_ok-manifest.manifest) c.in_ok-manifest.ensures.described c.args.how expected c.play.result plays)

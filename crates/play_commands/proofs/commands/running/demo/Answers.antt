@@ -16,9 +16,9 @@ returns-clause-does g c =
     let is : parts_of c.built_in.result ≡ built_in_parts = λ i. record { ram_base = built.base i; ram_blocks = built.blocks i; endpoints = built.endpoints i } in
     let streams = passed (g.R.Read.remaining c.in_ok-trace.trace.reader) (g.W.Write.contents c.args.out.now) (g.W.Write.contents c.play.new.out) in
     let task = c.to_print-task in
-    let plays = subst (λ (parts : Parts). Plays g.R.Read.remaining task.result (first_of parts) streams c.play.result) is c.play.ensures.played in
+    let plays = subst (λ (parts : Parts). Plays g.R.Read.remaining task.result c.in_ok-trace.trace.path (first_of parts) streams c.play.result) is c.play.ensures.played in
     rw c.in_ok-trace.ensures.opened
-    (demo_does g.R.Read.remaining c.args.how task.result task.ensures.prints (is_some c.args.files.expected) (option_and_then g.R.Read.remaining c.args.files.expected) streams (bytes_of c.args.files.manifest) c.play.result plays)
+    (demo_does g.R.Read.remaining c.args.how task.result task.ensures.prints c.in_ok-trace.trace.path (is_some c.args.files.expected) (option_and_then g.R.Read.remaining c.args.files.expected) streams (bytes_of c.args.files.manifest) c.play.result plays)
 
 pub returns-clause-quiet : goal.returns-clause-quiet
 returns-clause-quiet g c = λ silent. c.play.ensures.quiet (c.to_print-task.ensures.talks ∙ silent)

@@ -8,7 +8,7 @@ use Rattle.play_report.specs.Manifests.{bytes_of}
 use Rattle.play_tasks.proofs.Plays.{kept, passed}
 use Rattle.play_commands.specs.Performed.{ran}
 use Rattle.play_commands.specs.Running.{picture_of}
-use Rattle.play_commands.proofs.Performs.{picture_does, unread}
+use Rattle.play_commands.proofs.Performs.{keep_asked, picture_does, unread}
 use Rattle.play_commands.proofs.commands.running.draw.Goals as goal
 
 pub returns-in_err-manifest-clause-does : goal.returns-in_err-manifest-clause-does
@@ -20,5 +20,6 @@ returns-in_err-manifest-clause-does g c =
 pub returns-clause-does : goal.returns-clause-does
 returns-clause-does g c =
     let streams = passed (g.R.Read.remaining c.in_ok-trace.trace.reader) (g.W.Write.contents c.args.out.now) (g.W.Write.contents c.play.new.out) in
+    let asked = keep_asked c.args.how.drawing c.new.result c.new.ensures.changes c.new.ensures.every c.new.ensures.refused in
     rw c.in_ok-trace.ensures.opened
-    (picture_does g.R.Read.remaining c.args.path (bytes_of c.args.files.manifest) streams (parts_of c.in_ok-manifest.manifest) c.in_ok-manifest.ensures.described (is_some c.args.files.expected) (option_and_then g.R.Read.remaining c.args.files.expected) c.args.how c.new.result c.play.result c.play.ensures.played)
+    (picture_does g.R.Read.remaining c.args.path c.in_ok-trace.trace.path (bytes_of c.args.files.manifest) streams (parts_of c.in_ok-manifest.manifest) c.in_ok-manifest.ensures.described (is_some c.args.files.expected) (option_and_then g.R.Read.remaining c.args.files.expected) c.args.how c.new.result asked c.play.result c.play.ensures.played)

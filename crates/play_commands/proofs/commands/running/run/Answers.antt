@@ -22,7 +22,7 @@ returns-clause-does g c =
     let streams = passed (g.R.Read.remaining c.in_ok-trace.trace.reader) (g.W.Write.contents c.args.out.now) (g.W.Write.contents c.play.new.out) in
     let task = c.to_print-task in
     rw c.in_ok-trace.ensures.opened
-    (run_does g.R.Read.remaining c.args.how task.result task.ensures.prints (is_some c.args.files.expected) (option_and_then g.R.Read.remaining c.args.files.expected) streams (bytes_of c.args.files.manifest) c.args.path (parts_of c.in_ok-manifest.manifest)
+    (run_does g.R.Read.remaining c.args.how task.result task.ensures.prints c.in_ok-trace.trace.path (is_some c.args.files.expected) (option_and_then g.R.Read.remaining c.args.files.expected) streams (bytes_of c.args.files.manifest) c.args.path (parts_of c.in_ok-manifest.manifest)
     c.in_ok-manifest.ensures.described c.play.result c.play.ensures.played)
 
 pub returns-clause-quiet : goal.returns-clause-quiet
