@@ -28,6 +28,7 @@ const RELEASE: &str = "call 84000065 -> 8002: 84000061\n";
 
 // The first sends the second a message of eight bytes.
 const MESSAGE: &str = "\
+store 4002E000 0000000000000000 -> done
 store 4002E008 0000000000000014 -> done
 store 4002E00C 80018002 -> done
 store 4002E010 0000000000000008 -> done
