@@ -73,7 +73,7 @@ pub record HasDone (old new : Snapshot) (op : Op) (told : COutcome) : Type 0 whe
   pub refused : is_refusal (step old.state op).outcome ≡ true → new ≡ old
   pub unowned : KeepsUnowned old.state old.ram new.ram
   pub moments : AreMoments old.state old.ram new.ram old.past new.past
-  pub telling : IsTelling old.state new.state old.told new.told
+  pub telling : IsTelling op old.state new.state old.told new.told
   pub sound : IsSoundState new.state
   pub alone : OneStep old.state op
   pub whole : Integrity old.state op

@@ -26,7 +26,7 @@ pub record HasActed (old new : Snapshot) (e : ℕ) (op : Op) (told : COutcome) :
   pub refused : is_refusal (step_as old.state e op).outcome ≡ true → new ≡ old
   pub unowned : KeepsUnowned old.state old.ram new.ram
   pub moments : AreMoments old.state old.ram new.ram old.past new.past
-  pub telling : IsTelling old.state new.state old.told new.told
+  pub telling : IsTelling op old.state new.state old.told new.told
   pub sound : IsSoundState new.state
   pub alone : OneStepAs old.state e op
   pub whole : IntegrityAs old.state e op

@@ -34,7 +34,8 @@ use Rattle.ffa_laws.proofs.Closed.{rewritten-zeroed_if}
 use Rattle.ffa_laws.proofs.ReturnLaws.{rewritten-relinquished}
 use Rattle.ffa_laws.proofs.SendLaws.{rewritten-sent}
 use Rattle.ffa_laws.proofs.Written.{rewritten-filled, rewritten-written}
-use Rattle.ffa_laws.proofs.Kept.{is_memory_call, kept-call, kept-step}
+use Rattle.ffa_laws.specs.OwnAccess.{is_memory_call}
+use Rattle.ffa_laws.proofs.Kept.{kept-call, kept-step}
 use Rattle.ffa_laws.proofs.Laws.{steady-call, steady-step}
 
 -- ---- in any steady state

@@ -37,7 +37,8 @@ use Rattle.ffa_laws.proofs.SendLaws.{offer, offered-owner}
 use Rattle.ffa_model.proofs.Accesses.{page-changed}
 use Rattle.ffa_laws.proofs.Taken.{before, response, state-taken, taken, unnamed-before}
 use Rattle.ffa_laws.proofs.Maps.{first_none}
-use Rattle.ffa_laws.proofs.Kept.{is_memory_call, kept-call, kept-step}
+use Rattle.ffa_laws.specs.OwnAccess.{is_memory_call}
+use Rattle.ffa_laws.proofs.Kept.{kept-call, kept-step}
 use Rattle.ffa_laws.proofs.Written.{elsewhere, elsewhere-run}
 
 abbrev page_in : List (Option Page) → ℕ → Option Page

@@ -27,6 +27,7 @@ use Rattle.ffa_model.specs.Setup.{info_bytes, is_count_alone, uuid_bytes}
 use Rattle.ffa_model.specs.Messages.{header_in, message_in, send2_guards, tx_bytes}
 use Rattle.ffa_model.specs.Step.{serve, service, step}
 use Rattle.ffa_laws.specs.Isolation.{is_indirect_message, is_send2}
+use Rattle.ffa_laws.specs.OwnAccess.{is_memory_call}
 use Rattle.ffa_laws.proofs.Form.{accessed-kept, served-kept}
 
 -- ---- the endpoints stay the same, and where RAM begins
@@ -70,16 +71,6 @@ pub base-step : (s : State) (op : Op) → (step s op).state.ram_base ≡ s.ram_b
 base-step s op = ap (λ parts. parts.1) (step-fixed s op)
 
 -- ---- pages
--- whether a call is one on memory transactions
-abbrev pub is_memory_call : calls.Call → Bool
-is_memory_call (MemDonate x) = true
-is_memory_call (MemLend x) = true
-is_memory_call (MemShare x) = true
-is_memory_call (MemRetrieve x) = true
-is_memory_call MemRelinquish = true
-is_memory_call (MemReclaim handle flags) = true
-is_memory_call call = false
-
 -- What holds of the pages of a state, and of pages into which an operation writes, holds of the pages that each operation
 -- leaves, where it holds of those that a call on memory transactions leaves.
 module _ (R : List (Option Page) → Type 0) (s : State) (same : R s.pages) (by_info : (bytes : List ℕ) → R (filled_pages s.pages bytes (buffers_of s s.runner))) where

@@ -4,7 +4,7 @@ use Rattle.std.specs.Prelude.{◌≡◌, ◌≢◌, ℕ, Bool, true, false, Some
 use Rattle.ffa_model.specs.declared.operation.Op.{Op}
 use Rattle.ffa_model.specs.declared.operation.Op.TheVariants.{Call, Load, Store, Fetch}
 use Rattle.ffa_model.specs.declared.call.Call as calls
-use Rattle.ffa_model.specs.declared.call.Call.TheVariants.{MemDonate, MemLend, MemRetrieve, MemRelinquish, MemReclaim}
+use Rattle.ffa_model.specs.declared.call.Call.TheVariants.{MemDonate, MemLend, MemShare, MemRetrieve, MemRelinquish, MemReclaim}
 use Rattle.ffa_model.specs.Rights.{is_within}
 use Rattle.ffa_model.specs.State.{State, Transaction, transaction_of}
 use Rattle.ffa_model.specs.Access.{access, is_receiver}
@@ -22,6 +22,16 @@ takes_access (MemDonate x) = true
 takes_access (MemLend x) = true
 takes_access MemRelinquish = true
 takes_access call = false
+
+-- the calls on memory
+abbrev pub is_memory_call : calls.Call → Bool
+is_memory_call (MemDonate x) = true
+is_memory_call (MemLend x) = true
+is_memory_call (MemShare x) = true
+is_memory_call (MemRetrieve x) = true
+is_memory_call MemRelinquish = true
+is_memory_call (MemReclaim handle flags) = true
+is_memory_call call = false
 
 -- whether an operation is a call of which a test holds
 abbrev pub is_call : (calls.Call → Bool) → Op → Bool

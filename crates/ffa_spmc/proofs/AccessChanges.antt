@@ -11,6 +11,7 @@ use Rattle.ffa_model.specs.declared.call.Call.{Call}
 use Rattle.ffa_model.specs.declared.call.Call.TheVariants.{PartitionInfoGet, MemDonate, MemLend, MemShare, MemRetrieve, MemRelinquish, MemReclaim, MsgSend2}
 use Rattle.ffa_model.specs.declared.descriptor.RelinquishDesc.{RelinquishDesc}
 use Rattle.ffa_model.specs.declared.endpoint.EndpointId.{EndpointId}
+use Rattle.ffa_model.specs.declared.operation.Op.{Op}
 use Rattle.ffa_model.specs.declared.rights.Kind.{Kind}
 use Rattle.ffa_model.specs.declared.rights.Kind.TheVariants.{Share, Lend, Donate}
 use Rattle.ffa_model.specs.declared.rights.Rights.{Rights}
@@ -31,7 +32,7 @@ use Rattle.ffa_model.specs.Transactions.{pages_in}
 use Rattle.ffa_model.proofs.Accesses.{named-in}
 use Rattle.ffa_model.proofs.CallAccesses.{access-filled, donate-other, reclaim-other, relinquish-beside, relinquish-named, relinquish-other, retrieve-beside, retrieve-other, send-named, send-other, sendable-unnamed}
 use Rattle.ffa_laws.proofs.Form.{served-kept}
-use Rattle.ffa_laws.proofs.Kept.{is_memory_call}
+use Rattle.ffa_laws.specs.OwnAccess.{is_memory_call}
 use Rattle.ffa_memshare.specs.declared.changed.Changed.{Changed}
 use Rattle.ffa_memshare.specs.Changed.{IsChanged, changed_sender}
 use Rattle.ffa_memshare.specs.Ranges.{ArePlaced}
@@ -165,8 +166,8 @@ pub none-changed : (s t : State) → ((e p : ℕ) → access t e p ≡ access s 
 none-changed s t same = record { placed = tt; exclusive = λ e p its. absurd (false≢true its); rest = λ e p kept. same e p }
 
 -- what was told before stays
-pub nothing-told : (s t : State) (before now : Option Changed) → ((e p : ℕ) → access t e p ≡ access s e p) → now ≡ before → IsTelling s t before now
-nothing-told s t before now same still = record { changed = None; access = none-changed s t same; told = still }
+pub nothing-told : (op : Op) (s t : State) (before now : Option Changed) → ((e p : ℕ) → access t e p ≡ access s e p) → now ≡ before → IsTelling op s t before now
+nothing-told op s t before now same still = record { changed = None; access = none-changed s t same; told = still; silent = λ _. refl }
 
 -- WHAT CHANGED, of two managers with as many blocks of RAM, where it is so of the pages of RAM
 module _ (x y : Parts) (machine : IsManager x) (next : IsManager y) (blocks : y.manifest.ram_blocks ≡ x.manifest.ram_blocks) where

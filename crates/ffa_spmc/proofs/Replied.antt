@@ -1,11 +1,11 @@
 -- SPDX-License-Identifier: MIT OR Apache-2.0
 -- What each call's part of the manager promises follows from what it keeps where it refuses.
-use Rattle.std.proofs.Common.{◌≡◌, ◌∙◌, None, true, false, List, Option, Some, Result, Ok, Err, refl, sym, ap, subst}
+use Rattle.std.proofs.Common.{◌≡◌, ◌∙◌, Bool, None, true, false, List, Option, Some, Result, Ok, Err, refl, sym, ap, subst}
 use Rattle.std.specs.Prelude.{IfOk, OnErr}
 use Rattle.std.specs.Option.{option_map, option_or}
 use Rattle.std.specs.Result.{result_ok}
 use Rattle.std.proofs.lemmas.Bool.{true≢false}
-use Rattle.ffa_laws.proofs.Kept.{is_memory_call}
+use Rattle.ffa_laws.specs.OwnAccess.{is_memory_call}
 use Rattle.ffa_model.specs.declared.call.Call as calls
 use Rattle.ffa_model.specs.declared.call.DirectMessage.{DirectMessage}
 use Rattle.ffa_model.specs.declared.call.Reply.{Reply}
@@ -30,7 +30,7 @@ use Rattle.ffa_spmc.specs.AccessChange.{IsAccessChange}
 use Rattle.ffa_spmc.specs.Managed.{Managed}
 use Rattle.ffa_spmc.specs.Meaning.{Parts, state_of}
 use Rattle.ffa_spmc.specs.Replies.{done_or_error, message_or_error, reply_of, reply_or_error, value_or_error, value_reply}
-use Rattle.ffa_spmc.specs.Served.{IsAnswered, IsReplied, IsTold}
+use Rattle.ffa_spmc.specs.Served.{IsAnswered, IsReplied, IsSilent, IsTold}
 use Rattle.ffa_spmc.specs.Moments.{AreMoments}
 use Rattle.ffa_spmc.specs.Unowned.{KeepsUnowned}
 use Rattle.ffa_spmc.proofs.AccessChanges.{access-served, none-changed}
@@ -127,9 +127,9 @@ replied-still old c reply is = record { served = is; refused = λ error. refl; u
 
 -- a call that isn't on memory changes nobody's access, and what a cache holds stays
 pub answered-beside : (old new : Managed) (held : List Held) (told : Option Changed) (call same : calls.Call) (reply : Reply) → call ≡ same → is_memory_call same ≡ false
-    → IsReplied old new (service old.state same) reply → IsAnswered old new held held told told (service old.state call) reply
+    → IsReplied old new (service old.state same) reply → IsAnswered old new held held told told (is_memory_call call) (service old.state call) reply
 answered-beside old new held told call same reply is beside its =
-    subst (λ (a : calls.Call). IsAnswered old new held held told told (service old.state a) reply) (sym is)
+    subst (λ (a : calls.Call). IsAnswered old new held held told told (is_memory_call a) (service old.state a) reply) (sym is)
     (record {
       changed = None;
       replied = its;
@@ -138,12 +138,13 @@ answered-beside old new held told call same reply is beside its =
         rest = λ e p. refl;
       };
       told = refl;
+      silent = subst (λ (b : Bool). IsSilent b None) (sym beside) refl;
       unchanged = λ error. refl;
       untold = λ error. refl;
     })
 
 -- a call on memory is answered by its part
 pub answered-as : (old new : Managed) (held kept : List Held) (before now : Option Changed) (call same : calls.Call) (reply : Reply) → call ≡ same
-    → IsAnswered old new held kept before now (service old.state same) reply → IsAnswered old new held kept before now (service old.state call) reply
+    → IsAnswered old new held kept before now (is_memory_call same) (service old.state same) reply → IsAnswered old new held kept before now (is_memory_call call) (service old.state call) reply
 answered-as old new held kept before now call same reply is its =
-    subst (λ (a : calls.Call). IsAnswered old new held kept before now (service old.state a) reply) (sym is) its
+    subst (λ (a : calls.Call). IsAnswered old new held kept before now (is_memory_call a) (service old.state a) reply) (sym is) its

@@ -2,9 +2,11 @@
 -- What an operation changes of access, and what a machine tells of that.
 use Rattle.std.specs.Prelude.{◌≡◌, ◌⊎◌, ℕ, ◌==◌, Bool, true, false, ◌&&◌, length, Option, Some, None, IfSome}
 use Rattle.std.specs.Option.{option_map_or, option_or}
+use Rattle.ffa_model.specs.declared.operation.Op.{Op}
 use Rattle.ffa_model.specs.declared.endpoint.EndpointId.{EndpointId}
 use Rattle.ffa_model.specs.Access.{access, names}
 use Rattle.ffa_model.specs.State.{State}
+use Rattle.ffa_laws.specs.OwnAccess.{is_call, is_memory_call}
 use Rattle.ffa_memshare.specs.declared.changed.Changed.{Changed}
 use Rattle.ffa_memshare.specs.Ranges.{ArePlaced}
 
@@ -27,8 +29,9 @@ pub record IsAccessChange (old new : State) (changed : Option Changed) : Type 0 
   pub rest : (e p : ℕ) → is_of old changed e p ≡ false → access new e p ≡ access old e p
 
 -- A machine tells what an operation has changed: it tells a change from then on, which is so; or it tells what it told before,
--- and no access has changed.
-pub record IsTelling (old new : State) (before now : Option Changed) : Type 0 where
+-- and no access has changed. Calls on memory alone tell anything.
+pub record IsTelling (op : Op) (old new : State) (before now : Option Changed) : Type 0 where
   pub changed : Option Changed
   pub access : IsAccessChange old new changed
   pub told : now ≡ option_or changed before
+  pub silent : is_call is_memory_call op ≡ false → changed ≡ None

@@ -25,7 +25,7 @@ pub record IsOperated (old : Snapshot) (op : Op) (new : Snapshot) : Type 0 where
   pub forgotten : AreForgotten old new
   pub kept : is_miss old op ≡ false → AreKept old new
   pub others : AreSameOrGone old new (is_accessed old.state op)
-  pub telling : IsTelling old.state new.state old.told new.told
+  pub telling : IsTelling op old.state new.state old.told new.told
 
 -- operations that are done one after another, and nothing between them
 abbrev pub AreOperated : Snapshot → List Op → Snapshot → Type 0
@@ -43,7 +43,7 @@ pub record IsOperatedAs (old : Snapshot) (e : ℕ) (op : Op) (new : Snapshot) : 
   pub forgotten : AreForgotten old new
   pub kept : is_miss (run_by e old) op ≡ false → AreKept old new
   pub others : AreSameOrGone old new (is_accessed (as_run_by e old.state) op)
-  pub telling : IsTelling old.state new.state old.told new.told
+  pub telling : IsTelling op old.state new.state old.told new.told
 
 -- and of a list of them, each of the endpoint beside it
 abbrev pub AreOperatedAs : Snapshot → List (EndpointId × Op) → Snapshot → Type 0

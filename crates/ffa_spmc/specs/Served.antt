@@ -1,7 +1,7 @@
 -- SPDX-License-Identifier: MIT OR Apache-2.0
 -- FOR PROOFS ALONE
 -- What each call's part of the manager promises.
-use Rattle.std.specs.Prelude.{◌≡◌, true, List, Option, None}
+use Rattle.std.specs.Prelude.{◌≡◌, ⊤, Bool, true, false, List, Option, None}
 use Rattle.std.specs.Option.{option_or}
 use Rattle.ffa_model.specs.declared.call.Reply.{Reply}
 use Rattle.ffa_model.specs.Calls.{Service, replied, served}
@@ -29,12 +29,18 @@ pub record IsTold (old new : Managed) (c : Service) (answer : Answer) : Type 0 w
   pub access : IsAccessChange old.state new.state answer.changed
   pub unchanged : is_error answer.reply ≡ true → answer.changed ≡ None
 
+-- a call that isn't on memory tells nothing more
+abbrev pub IsSilent : Bool → Option Changed → Type 0
+IsSilent true changed = ⊤
+IsSilent false changed = changed ≡ None
+
 -- a call of the runner is replied to, a cache that held one list of entries holds another that forgets what changed, and that is
--- told, or else what was told before
-pub record IsAnswered (old new : Managed) (held kept : List Entry) (before now : Option Changed) (c : Service) (reply : Reply) : Type 0 where
+-- told, or else what was told before, as always where the call isn't on memory
+pub record IsAnswered (old new : Managed) (held kept : List Entry) (before now : Option Changed) (on_memory : Bool) (c : Service) (reply : Reply) : Type 0 where
   pub changed : Option Changed
   pub replied : IsReplied old new c reply
   pub forgotten : IsForgotten old.state new.state held kept changed
   pub told : now ≡ option_or changed before
+  pub silent : IsSilent on_memory changed
   pub unchanged : is_error reply ≡ true → kept ≡ held
   pub untold : is_error reply ≡ true → now ≡ before

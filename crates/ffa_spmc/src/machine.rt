@@ -334,8 +334,9 @@ impl<M: PhysMem + Drop, T: Translations + Drop, S: Store> Machine<M, T, S> {
         ensures kept { is_miss self.old op.now ≡ false → AreKept self.old self.new }
         ensures others { AreSameOrGone self.old self.new (is_accessed self.old.state op.now) }
 
-        // Whose access to which pages it changed is told from then on; or nobody's has changed, and what was told stays.
-        ensures telling { IsTelling self.old.state self.new.state self.old.told self.new.told }
+        // Whose access to which pages it changed is told from then on; or nobody's has changed, and what was told stays, as it
+        // does of all but calls on memory.
+        ensures telling { IsTelling op.now self.old.state self.new.state self.old.told self.new.told }
 
         // The state stays sound. What another endpoint learns is in its events, what the runner sees depends on its view
         // alone, and a page that its owner has alone is safe from others.
@@ -385,7 +386,7 @@ impl<M: PhysMem + Drop, T: Translations + Drop, S: Store> Machine<M, T, S> {
         ensures forgotten { AreForgotten self.old self.new }
         ensures kept { is_miss self.old op.now ≡ false → AreKept self.old self.new }
         ensures others { AreSameOrGone self.old self.new (is_accessed self.old.state op.now) }
-        ensures telling { IsTelling self.old.state self.new.state self.old.told self.new.told }
+        ensures telling { IsTelling op.now self.old.state self.new.state self.old.told self.new.told }
     {
         // Proof step: the state is sound, so that the runner is an endpoint of the machine.
         self.manager.holds();
@@ -409,7 +410,7 @@ impl<M: PhysMem + Drop, T: Translations + Drop, S: Store> Machine<M, T, S> {
         ensures forgotten { AreForgotten self.old self.new }
         ensures kept { AreKept self.old self.new }
         ensures others { AreSameOrGone self.old self.new (λ e p. false) }
-        ensures telling { IsTelling self.old.state self.new.state self.old.told self.new.told }
+        ensures telling { IsTelling (Op.Call x) self.old.state self.new.state self.old.told self.new.told }
     {
         // Proof step: the state is sound, and the tables give its access.
         self.manager.holds();

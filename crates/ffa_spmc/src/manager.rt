@@ -1,12 +1,12 @@
 // SPDX-License-Identifier: MIT OR Apache-2.0
 //! The partition manager: what it keeps, and what its calls and accesses do.
-ghost use Rattle.std.specs.Prelude.{true, ◌≡◌, None, Option, ◌<◌, ◌≤◌, length};
+ghost use Rattle.std.specs.Prelude.{true, false, ◌≡◌, None, Option, ◌<◌, ◌≤◌, length};
 ghost use Rattle.std.specs.Option.{option_or};
 ghost use Rattle.ffa_model.specs.declared.limits.TheConstants.{MOST_ENDPOINTS};
 ghost use Rattle.ffa_model.specs.Access.{access};
 ghost use Rattle.ffa_model.specs.Agreement.{Agrees};
 ghost use Rattle.ffa_model.specs.SoundState.{IsSoundState};
-ghost use Rattle.ffa_laws.specs.OwnAccess.{AreApart};
+ghost use Rattle.ffa_laws.specs.OwnAccess.{AreApart, is_memory_call};
 ghost use Rattle.ffa_model.specs.Refusals.{is_refusal, passes_no_error};
 ghost use Rattle.ffa_model.specs.Registers.{decode};
 ghost use Rattle.ffa_model.specs.State.{owner_of, version_of};
@@ -212,7 +212,8 @@ impl<M: PhysMem + Drop, S: Store> Manager<M, S> {
         ensures moments { AreMoments self.old.state self.old.ram self.new.ram self.old.past self.new.past }
         ensures changed { (changed : Option Changed)
             × IsForgotten self.old.state self.new.state (T.entries cache.old) (T.entries cache.new) changed
-            × (news.new ≡ option_or changed news.old) }
+            × (news.new ≡ option_or changed news.old)
+            × (is_memory_call (decode x) ≡ false → changed ≡ None) }
         ensures unchanged { is_refusal result ≡ true → T.entries cache.new ≡ T.entries cache.old }
         ensures untold { is_refusal result ≡ true → news.new ≡ news.old }
     {
@@ -228,7 +229,7 @@ impl<M: PhysMem + Drop, S: Store> Manager<M, S> {
     fn reply<T: Translations>(&mut self, call: Call, cache: &mut T, news: &mut News) -> Reply
         requires { passes_no_error call ≡ true }
         ensures { IsAnswered self.old self.new (T.entries cache.old) (T.entries cache.new) news.old news.new
-            (service self.old.state call) result }
+            (is_memory_call call) (service self.old.state call) result }
     {
         match call {
             Call::Version { version } => ffa_setup::version(version),

@@ -51,8 +51,9 @@ impl<M: PhysMem + Drop, T: Translations + Drop, S: Store> Machine<M, T, S> {
         ensures kept { is_miss (run_by endpoint.0 self.old) op.now ≡ false → AreKept self.old self.new }
         ensures others { AreSameOrGone self.old self.new (is_accessed (as_run_by endpoint.0 self.old.state) op.now) }
 
-        // Whose access to which pages it changed is told from then on; or nobody's has changed, and what was told stays.
-        ensures telling { IsTelling self.old.state self.new.state self.old.told self.new.told }
+        // Whose access to which pages it changed is told from then on; or nobody's has changed, and what was told stays, as it
+        // does of all but calls on memory.
+        ensures telling { IsTelling op.now self.old.state self.new.state self.old.told self.new.told }
 
         // The state stays sound. What another endpoint learns is in its events, what the endpoint sees depends on its view
         // alone, which says who runs, and a page that its owner has alone is safe from others.
@@ -132,7 +133,7 @@ impl<M: PhysMem + Drop, T: Translations + Drop, S: Store> Machine<M, T, S> {
         ensures forgotten { AreForgotten self.old self.new }
         ensures kept { is_miss (run_by endpoint.0 self.old) op.now ≡ false → AreKept self.old self.new }
         ensures others { AreSameOrGone self.old self.new (is_accessed (as_run_by endpoint.0 self.old.state) op.now) }
-        ensures telling { IsTelling self.old.state self.new.state self.old.told self.new.told }
+        ensures telling { IsTelling op.now self.old.state self.new.state self.old.told self.new.told }
     {
         if endpoint == self.runner() {
             self.operate(op)
@@ -152,7 +153,7 @@ impl<M: PhysMem + Drop, T: Translations + Drop, S: Store> Machine<M, T, S> {
         ensures forgotten { AreForgotten self.old self.new }
         ensures kept { is_miss (run_by endpoint.0 self.old) op.now ≡ false → AreKept self.old self.new }
         ensures others { AreSameOrGone self.old self.new (is_accessed (as_run_by endpoint.0 self.old.state) op.now) }
-        ensures telling { IsTelling self.old.state self.new.state self.old.told self.new.told }
+        ensures telling { IsTelling op.now self.old.state self.new.state self.old.told self.new.told }
     {
         match *op {
             Op::Call(_) => busy(endpoint),

@@ -2,7 +2,7 @@
 //! The calls on memory. Each stands alone, so that other calls have no room for it, and has the cache forget whose
 //! access to which pages it changed, and tells it. What the pool does for it is inlined here, since its answer is large
 //! to hand on.
-ghost use Rattle.std.specs.Prelude.{◌≡◌};
+ghost use Rattle.std.specs.Prelude.{◌≡◌, true};
 ghost use Rattle.std.specs.Option.{option_or};
 ghost use Rattle.ffa_model.specs.MemoryRetrieve.{memory_retrieve};
 ghost use Rattle.ffa_model.specs.MemoryReturn.{memory_reclaim, memory_relinquish};
@@ -30,7 +30,7 @@ impl<M: PhysMem + Drop, S: Store> Manager<M, S> {
     ) -> Reply
         ensures { let held = T.entries cache.old in let kept = T.entries cache.new in
             let call = memory_send self.old.state kind transfer in
-            IsAnswered self.old self.new held kept news.old news.new call result }
+            IsAnswered self.old self.new held kept news.old news.new true call result }
     {
         let base = self.ram_base();
         let answer = self.pool_send(kind, transfer, news);
@@ -71,7 +71,7 @@ impl<M: PhysMem + Drop, S: Store> Manager<M, S> {
     ) -> Reply
         ensures { let held = T.entries cache.old in let kept = T.entries cache.new in
             let call = memory_retrieve self.old.state transfer in
-            IsAnswered self.old self.new held kept news.old news.new call result }
+            IsAnswered self.old self.new held kept news.old news.new true call result }
     {
         let base = self.ram_base();
         let answer = self.pool_retrieve(transfer, news);
@@ -106,7 +106,7 @@ impl<M: PhysMem + Drop, S: Store> Manager<M, S> {
     pub(super) fn relinquish<T: Translations>(&mut self, cache: &mut T, news: &mut News) -> Reply
         ensures { let held = T.entries cache.old in let kept = T.entries cache.new in
             let call = memory_relinquish self.old.state in
-            IsAnswered self.old self.new held kept news.old news.new call result }
+            IsAnswered self.old self.new held kept news.old news.new true call result }
     {
         let base = self.ram_base();
         let answer = self.pool_relinquish(news);
@@ -144,7 +144,7 @@ impl<M: PhysMem + Drop, S: Store> Manager<M, S> {
     ) -> Reply
         ensures { let held = T.entries cache.old in let kept = T.entries cache.new in
             let call = memory_reclaim self.old.state handle.0 flags in
-            IsAnswered self.old self.new held kept news.old news.new call result }
+            IsAnswered self.old self.new held kept news.old news.new true call result }
     {
         let base = self.ram_base();
         let answer = self.pool_reclaim(handle, flags, news);

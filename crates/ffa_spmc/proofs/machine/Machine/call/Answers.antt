@@ -16,7 +16,7 @@ invariant_of-self g c =
     let t = c.call-outcome.new.self.state in
     let old = g.T.Translations.entries c.self.inside.cache in
     let new = g.T.Translations.entries c.call-outcome.new.cache in
-    let (changed, f, told) = c.call-outcome.ensures.changed in
+    let (changed, f, told, silent) = c.call-outcome.ensures.changed in
     let base : t.ram_base ≡ s.ram_base = ap (λ (state : State). state.ram_base) c.call-outcome.ensures.state ∙ base-step s (Call c.args.x) in
     walks-after c.self.inside.manager.ram c.call-outcome.new.self.ram s t
     c.holds.ensures.agrees c.holds-2.ensures.agrees c.holds.ensures.sound c.holds-2.ensures.sound base
@@ -29,7 +29,7 @@ returns-clause-forgotten g c =
     let t = c.call-outcome.new.self.state in
     let old = g.T.Translations.entries c.self.inside.cache in
     let new = g.T.Translations.entries c.call-outcome.new.cache in
-    let (changed, f, told) = c.call-outcome.ensures.changed in
+    let (changed, f, told, silent) = c.call-outcome.ensures.changed in
     let now : Snapshot = record { state = t; ram = c.call-outcome.new.self.ram; held = new; past = c.call-outcome.new.self.past; told = c.call-outcome.new.news } in
     subst (λ (seen : Snapshot). AreForgotten seen now) c.self.view_is
     (gone s t changed f.access old new f.rest)
@@ -40,7 +40,7 @@ returns-clause-kept g c =
     let t = c.call-outcome.new.self.state in
     let old = g.T.Translations.entries c.self.inside.cache in
     let new = g.T.Translations.entries c.call-outcome.new.cache in
-    let (changed, f, told) = c.call-outcome.ensures.changed in
+    let (changed, f, told, silent) = c.call-outcome.ensures.changed in
     let now : Snapshot = record { state = t; ram = c.call-outcome.new.self.ram; held = new; past = c.call-outcome.new.self.past; told = c.call-outcome.new.news } in
     subst (λ (seen : Snapshot). AreKept seen now) c.self.view_is
     (same-held s t changed f.access old new f.rest
@@ -52,13 +52,13 @@ returns-clause-others g c =
     let t = c.call-outcome.new.self.state in
     let old = g.T.Translations.entries c.self.inside.cache in
     let new = g.T.Translations.entries c.call-outcome.new.cache in
-    let (changed, f, told) = c.call-outcome.ensures.changed in
+    let (changed, f, told, silent) = c.call-outcome.ensures.changed in
     let now : Snapshot = record { state = t; ram = c.call-outcome.new.self.ram; held = new; past = c.call-outcome.new.self.past; told = c.call-outcome.new.news } in
     subst (λ (seen : Snapshot). AreSameOrGone seen now (λ e p. false)) c.self.view_is
     (λ e p _. gone-or-held s t changed f.access old new f.rest e p)
 
 pub returns-clause-telling : goal.returns-clause-telling
 returns-clause-telling g c =
-    let (changed, f, told) = c.call-outcome.ensures.changed in
-    subst (λ (seen : Snapshot). IsTelling seen.state c.call-outcome.new.self.state seen.told c.call-outcome.new.news) c.self.view_is
-    (record { changed = changed; access = f.access; told = told })
+    let (changed, f, told, silent) = c.call-outcome.ensures.changed in
+    subst (λ (seen : Snapshot). IsTelling (Call c.args.x) seen.state c.call-outcome.new.self.state seen.told c.call-outcome.new.news) c.self.view_is
+    (record { changed = changed; access = f.access; told = told; silent = silent })

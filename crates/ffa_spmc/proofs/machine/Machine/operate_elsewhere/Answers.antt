@@ -33,16 +33,16 @@ pub returns-in-Fetch-clause-forgotten : goal.returns-in-Fetch-clause-forgotten
 returns-in-Fetch-clause-forgotten g c = λ e p changed. absurd (changed (ap (λ (s : State). access s e p) c.fetch.ensures.state))
 
 pub returns-in-Call-clause-telling : goal.returns-in-Call-clause-telling
-returns-in-Call-clause-telling g c = nothing-told _ _ _ _ (λ e p. refl) refl
+returns-in-Call-clause-telling g c = nothing-told _ _ _ _ _ (λ e p. refl) refl
 
 pub returns-in-Load-clause-telling : goal.returns-in-Load-clause-telling
-returns-in-Load-clause-telling g c = nothing-told _ _ _ _ (λ e p. ap (λ (s : State). access s e p) c.load.ensures.state) c.load.ensures.told
+returns-in-Load-clause-telling g c = nothing-told _ _ _ _ _ (λ e p. ap (λ (s : State). access s e p) c.load.ensures.state) c.load.ensures.told
 
 pub returns-in-Store-clause-telling : goal.returns-in-Store-clause-telling
 returns-in-Store-clause-telling g c =
-    nothing-told _ _ _ _
+    nothing-told _ _ _ _ _
     (store-access c.args.self.now.state c.args.endpoint.0 c.store.new.self.state c.in-Store.addr c.in-Store.size c.in-Store.value c.store.ensures.state)
     c.store.ensures.told
 
 pub returns-in-Fetch-clause-telling : goal.returns-in-Fetch-clause-telling
-returns-in-Fetch-clause-telling g c = nothing-told _ _ _ _ (λ e p. ap (λ (s : State). access s e p) c.fetch.ensures.state) c.fetch.ensures.told
+returns-in-Fetch-clause-telling g c = nothing-told _ _ _ _ _ (λ e p. ap (λ (s : State). access s e p) c.fetch.ensures.state) c.fetch.ensures.told

@@ -1,11 +1,13 @@
 -- SPDX-License-Identifier: MIT OR Apache-2.0
-use Rattle.std.proofs.Common.{◌∙◌, ap}
+use Rattle.std.proofs.Common.{◌∙◌, Bool, ap, subst}
 use Rattle.ffa_model.specs.Refusals.{passes_no_error}
+use Rattle.ffa_laws.specs.OwnAccess.{is_memory_call}
 use Rattle.ffa_model.proofs.Named.{decode-named}
+use Rattle.ffa_spmc.specs.Served.{IsSilent}
 use Rattle.ffa_spmc.proofs.manager.Manager.call.Goals as goal
 
 pub reply-reply-requires : goal.reply-reply-requires
 reply-reply-requires g c = ap passes_no_error c.decode.ensures ∙ decode-named c.args.x
 
 pub returns-clause-changed : goal.returns-clause-changed
-returns-clause-changed g c = let a = c.reply-reply.ensures in (a.changed, a.forgotten, a.told)
+returns-clause-changed g c = let a = c.reply-reply.ensures in (a.changed, a.forgotten, a.told, λ other. subst (λ (b : Bool). IsSilent b a.changed) (ap is_memory_call c.decode.ensures ∙ other) a.silent)
