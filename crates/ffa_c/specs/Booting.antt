@@ -10,6 +10,7 @@ use Rattle.ffa_model.specs.State.{page_at}
 use Rattle.ffa_manifest.specs.Document.{Parts, machine_of}
 use Rattle.ffa_manifest.specs.declared.error.ManifestError.{ManifestError}
 use Rattle.ffa_manifest.specs.declared.error.ManifestError.TheVariants as causes
+use Rattle.ffa_spmc.specs.Booted.{AreDescribed}
 use Rattle.ffa_spmc.specs.Snapshot.{Snapshot}
 use Rattle.ffa_c.specs.Boarded.{Boarded}
 use Rattle.ffa_c.specs.declared.board.FirstBytes.{FirstBytes}
@@ -32,24 +33,29 @@ cause_number causes.RegionOutside = 12
 cause_number causes.RegionOverlap = 13
 cause_number causes.Version = 14
 
--- the machine of these parts in its first state: the tables give its access, and all pages behind them are zeros
+-- the machine of these parts in its first state: the tables give its access, by the descriptors of pages and blocks, all
+-- pages behind them are zeros, and nothing is told of access that changed
 pub record IsFirst (parts : Parts) (s : Snapshot) : Type 0 where
   pub state : s.state ≡ first parts.ram_base parts.ram_blocks parts.endpoints
   pub agrees : Agrees s.ram s.state
+  pub words : AreDescribed parts.ram_blocks s.state s.ram
   pub cleared :
       (p : ℕ) → length s.state.parties * table_pages parts.ram_blocks ≤ p → p < length s.ram.pages
       → page_of s.ram p ≡ replicate 4096 0
   pub sound : IsSoundState s.state
+  pub told : s.told ≡ None
 
 -- the same where pages of its regions have the bytes of pages that are given, and all others behind the tables are
 -- zeros
 pub record IsFirstHeld (pages : List (List ℕ)) (parts : Parts) (s : Snapshot) : Type 0 where
   pub state : s.state ≡ first_held parts.ram_base parts.ram_blocks parts.endpoints (λ p. slice_index_or pages p [])
   pub agrees : Agrees s.ram s.state
+  pub words : AreDescribed parts.ram_blocks s.state s.ram
   pub cleared :
       (p : ℕ) → length s.state.parties * table_pages parts.ram_blocks ≤ p → p < length s.ram.pages
       → page_at s.state p ≡ None → page_of s.ram p ≡ replicate 4096 0
   pub sound : IsSoundState s.state
+  pub told : s.told ≡ None
 
 -- by what a boot does with the bytes of lent pages
 abbrev pub IsFirstBy : FirstBytes → List (List ℕ) → Parts → Snapshot → Type 0

@@ -275,6 +275,7 @@ booted-zeros m given s ram zeros booted =
     record {
       state = booted.state ∙ (λ i. record (first m.ram_base.0 m.ram_blocks m.endpoints.items) { pages = same i });
       agrees = booted.agrees;
+      words = booted.words;
       cleared = λ p behind inside. of p behind inside (page_at s p) refl;
       sound = booted.sound;
     }
@@ -306,6 +307,7 @@ booted-kept m given cleared s ram kept booted =
                 (λ p lt. given-same m.ram_base.0 p m.endpoints.items (page_of cleared p) (page_of given p) (kept p)) i;
           });
       agrees = booted.agrees;
+      words = booted.words;
       cleared = booted.cleared;
       sound = booted.sound;
     }

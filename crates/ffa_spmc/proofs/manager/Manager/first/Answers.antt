@@ -1,5 +1,5 @@
 -- SPDX-License-Identifier: MIT OR Apache-2.0
-use Rattle.std.proofs.Common.{◌∙◌, sym, subst}
+use Rattle.std.proofs.Common.{◌∙◌, ◌<◌, ℕ, sym, subst}
 use Rattle.ffa_spmc.specs.declared.records.Records.{Records}
 use Rattle.ffa_spmc.specs.FirstRecords.{AreFirstRecords}
 use Rattle.ffa_spmc.specs.KeptParts.{kept_parts}
@@ -7,6 +7,7 @@ use Rattle.ffa_spmc.specs.Meaning.{IsManager, Parts, state_of}
 use Rattle.ffa_spmc.specs.Booted.{IsBootedHeld}
 use Rattle.ffa_spmc.proofs.Boots.{cleared-behind, machine-first, state-first}
 use Rattle.ffa_spmc.proofs.Agreements.{agrees}
+use Rattle.ffa_spmc.proofs.Held.{parties_are}
 use Rattle.ffa_spmc.proofs.Inside.{with_records}
 use Rattle.ffa_spmc.proofs.manager.Manager.first.Goals as goal
 
@@ -29,6 +30,7 @@ returns g c =
     (record {
       state = state-first (g.M.PhysMem.ram c.args.ram) x c.requires.ram are.base are.ram_blocks are.regions c.build.ensures.built c.build.ensures.rest c.first-kept.ensures.pages c.first-kept.ensures.slots c.first-kept.ensures.sent c.first-kept.ensures.buffers c.first-kept.ensures.chain are.bitmaps are.bound are.pending are.uuids c.built_tables.ensures;
       agrees = agrees x first;
+      words = λ e k known block. first.tables.built.each e k (subst (λ (n : ℕ). e < n) (parties_are x) known) block;
       cleared = cleared-behind (g.M.PhysMem.ram c.args.ram) x c.requires.ram are.base are.ram_blocks are.regions c.build.ensures.built c.build.ensures.rest c.first-kept.ensures.pages c.first-kept.ensures.slots c.first-kept.ensures.sent c.first-kept.ensures.buffers c.first-kept.ensures.chain are.bitmaps are.bound are.pending are.uuids c.built_tables.ensures;
       sound = first.sound;
     })
