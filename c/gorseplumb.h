@@ -617,8 +617,8 @@ enum gorseplumb_answer gorseplumb_audit_tables(struct gorseplumb_lent *lent, uin
 
 /* Ends the machine. RAM of the heap goes back to the heap, and `lent` stays as it is (it may be { 0 }). RAM that was
  * lent goes whole to `lent`, an empty list: every page, in order, with the bytes that it has; and so does the machine's
- * memory, so the next boot in the list takes none. GORSEPLUMB_OK: there is no machine any more. Else nothing has
- * changed: GORSEPLUMB_NO_MACHINE, and where RAM was lent GORSEPLUMB_NO_LIST or GORSEPLUMB_HAS_PAGES. */
+ * memory, so the next boot in these pages takes none, whichever endpoints it has, but for what a text takes while it is
+ * read. GORSEPLUMB_OK: there is no machine any more. Else nothing has changed: GORSEPLUMB_NO_MACHINE, and where RAM was lent GORSEPLUMB_NO_LIST or GORSEPLUMB_HAS_PAGES. */
 enum gorseplumb_answer gorseplumb_free(struct gorseplumb_machine *machine, struct gorseplumb_lent *lent);
 
 /* The same of a machine whose RAM is of the heap, without a list. GORSEPLUMB_OK: there is no machine any more. Else

@@ -28,7 +28,7 @@ use ffa_lent::{Frames, LentRam};
 use ffa_memshare::Changed;
 use ffa_model::{CertRun, EndpointId, Grant, MOST_ENDPOINTS, Manifest, Op, PageNo, Why};
 use ffa_physmem::{FlatRam, PhysMem};
-use ffa_spmc::{Given, Machine, Storage};
+use ffa_spmc::{Given, Machine, Ready, Storage};
 use ffa_tlb::NoTlb;
 use std::alloc::Global;
 use std::marker::Model;
@@ -76,7 +76,7 @@ impl Board {
     pub fn boot_lent(
         manifest: &Manifest,
         ram: LentRam,
-        storage: Storage<Given<Global>>,
+        storage: Storage<Ready<Global>>,
         bytes: FirstBytes,
     ) -> Board
         requires storage { IsRoomFor manifest.now storage }
@@ -102,10 +102,12 @@ impl Board {
     }
 
     /// Ends the machine: the pages that were lent, with the bytes that they had in the end, and the room for another
-    /// machine.
-    pub fn into_frames(self) -> (Frames, Storage<Given<Global>>)
+    /// machine in them.
+    pub fn into_frames(self) -> (Frames, Storage<Ready<Global>>)
         requires { self.is_lent ≡ true }
         ensures pages { result.0.pages ≡ self.machine.ram.pages }
+        ensures ready { result.0.is_ready ≡ true }
+        ensures room { length result.1.pages ≡ length result.0.pages }
     {
         match self.kind {
             BoardMachine::Lent(machine) => {

@@ -15,7 +15,7 @@ use crate::outcome::COutcome;
 use ffa_lent::LentRam;
 use ffa_model::{CertRun, Data, EndpointId, MOST_ENDPOINTS, Op, PageNo, Rights};
 use ffa_physmem::{FlatRam, PhysMem};
-use ffa_spmc::{Given, Machine, Store};
+use ffa_spmc::{Given, Machine, Ready, Store};
 use ffa_tlb::NoTlb;
 use std::alloc::Global;
 
@@ -25,7 +25,7 @@ pub enum BoardMachine {
     /// The RAM is one piece of the heap.
     Heap(Machine<FlatRam, NoTlb, Given<Global>>),
     /// The RAM is lent, page by page.
-    Lent(Machine<LentRam, NoTlb, Given<Global>>),
+    Lent(Machine<LentRam, NoTlb, Ready<Global>>),
 }
 
 /// An operation of a machine, with the outcome for C.

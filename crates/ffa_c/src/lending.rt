@@ -245,8 +245,8 @@ pub extern "C" fn gorseplumb_end_lending(alloc: Global, lent: &mut CLent) -> u32
 
 /// Ends a machine. RAM of the heap is given back to it. RAM that was lent goes, page by page and in order, with the
 /// bytes that it had in the end, to the list, which has to be there and empty, and so does the machine's own memory:
-/// the next boot in the list takes none. 0 is that the machine has ended. Else nothing has changed: `NO_MACHINE`, and
-/// for RAM that was lent `NO_LIST` or `HAS_PAGES`.
+/// the next boot in these pages takes none, whichever endpoints it has. 0 is that the machine has ended. Else nothing has
+/// changed: `NO_MACHINE`, and for RAM that was lent `NO_LIST` or `HAS_PAGES`.
 #[unsafe(no_mangle)]
 pub extern "C" fn gorseplumb_free(alloc: Global, machine: &mut CMachine, lent: &mut CLent) -> u32
     ensures answer { result ≡ freed_answer machine.old.held.value (pages_of lent.old.held.value) }
@@ -256,6 +256,8 @@ pub extern "C" fn gorseplumb_free(alloc: Global, machine: &mut CMachine, lent: &
     ensures heap { IfSome machine.old.held.value (λ b. b.is_lent ≡ false → lent.new.held.value ≡ lent.old.held.value) }
     ensures machine { result ≢ 0 → machine.new.held.value ≡ machine.old.held.value }
     ensures list { result ≢ 0 → lent.new.held.value ≡ lent.old.held.value }
+    ensures ready { result ≡ 0 → lends machine.old.held.value ≡ Some true
+        → ready_for lent.new.held.value ≡ page_count (pages_of lent.new.held.value) }
 {
     let Some(seat) = take(machine, alloc) else {
         return NO_MACHINE;
@@ -277,6 +279,7 @@ fn free_lent(alloc: Global, machine: &mut CMachine, lent: &mut CLent, seat: Box<
     ensures given_back { result ≡ 0 → pages_of lent.new.held.value ≡ ram_pages seat.value }
     ensures machine { result ≢ 0 → machine.new.held.value ≡ seat.value }
     ensures list { result ≢ 0 → lent.new.held.value ≡ lent.old.held.value }
+    ensures ready { result ≡ 0 → ready_for lent.new.held.value ≡ page_count (pages_of lent.new.held.value) }
 {
     let Some(mut list) = take_list(lent, alloc) else {
         put(machine, seat);

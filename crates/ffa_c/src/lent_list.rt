@@ -16,7 +16,7 @@ use crate::board::{Board, FirstBytes};
 use crate::seat::Seat;
 use ffa_lent::{Frames, Lent, LentRam, Span};
 use ffa_model::{Address, CertRun, MOST_ENDPOINTS, MOST_PAGES, Manifest};
-use ffa_spmc::{Given, Storage};
+use ffa_spmc::{Ready, Storage};
 use std::alloc::{AllocError, Global};
 use std::marker::Model;
 use std::mem;
@@ -28,7 +28,7 @@ use std::mem;
 pub struct LentList {
     frames: Frames,
     seat: Option<Box<Seat>>,
-    storage: Option<Storage<Given<Global>>>,
+    storage: Option<Storage<Ready<Global>>>,
 }
 
 impl Model for LentList {
@@ -54,7 +54,7 @@ impl LentList {
     {
         let frames = Frames::with_room(alloc, pages)?;
         let seat = Some(Seat::empty(alloc)?);
-        let storage = Some(Storage::allocate(alloc, pages.min(MOST_PAGES), MOST_ENDPOINTS)?);
+        let storage = Some(Storage::ready(alloc, pages.min(MOST_PAGES))?);
         Ok(LentList {
             frames,
             seat,
@@ -173,44 +173,42 @@ impl LentList {
     }
 
     /// Ends the machine in a seat, whose RAM is lent: its pages are those of the list, with the bytes that they had in
-    /// the end, and so is its memory.
+    /// the end, and so is its memory, so that a boot in them takes none.
     pub fn take_in(&mut self, seat: Box<Seat>)
         requires { lends seat.value ≡ Some true }
         ensures pages { Some self.new.pages ≡ ram_pages seat.value }
+        ensures ready { self.new.ready_for ≡ length self.new.pages }
     {
         let mut seat = seat;
-        let (frames, mut storage) = seat.vacate();
-        storage.widen();
+        let (frames, storage) = seat.vacate();
         self.frames = frames;
         self.storage = Some(storage);
         self.seat = Some(seat);
     }
 }
 
-// The room that is there, if it is enough for the machine of a manifest, or other room.
+// The room that is there, or other room, made room for the machine of a manifest.
 fn storage_in(
-    own: &mut Option<Storage<Given<Global>>>,
+    own: &mut Option<Storage<Ready<Global>>>,
     alloc: Global,
     manifest: &Manifest,
-) -> Result<Storage<Given<Global>>, AllocError>
+) -> Result<Storage<Ready<Global>>, AllocError>
     ensures room { IfOk result (IsRoomFor manifest.now) }
     ensures kept { IfErr result (λ _. own.new ≡ own.old) }
     ensures lacking { IfErr result (λ _. storage_pages own.old < 512 * manifest.now.ram_blocks) }
 {
     let Some(mut storage) = own.take() else {
-        return Storage::allocate_for(alloc, manifest);
+        let mut storage = Storage::ready(alloc, 512 * manifest.ram_blocks as usize)?;
+        storage.begin(manifest)?;
+        return Ok(storage);
     };
-    if storage.is_room_for(manifest) {
-        match storage.fit(manifest) {
-            Ok(()) => return Ok(storage),
-            Err(AllocError) => unreachable!(),
+    match storage.begin(manifest) {
+        Ok(()) => Ok(storage),
+        Err(AllocError) => {
+            *own = Some(storage);
+            Err(AllocError)
         }
     }
-    let made = Storage::allocate_for(alloc, manifest);
-    if made.is_err() {
-        *own = Some(storage);
-    }
-    made
 }
 
 // The seat that is there, or another.

@@ -1,6 +1,6 @@
 // SPDX-License-Identifier: MIT OR Apache-2.0
 //! A board's place in memory.
-ghost use Rattle.std.specs.Prelude.{◌≡◌, true, Option, Some, None, IsSome, IfOk, is_some};
+ghost use Rattle.std.specs.Prelude.{◌≡◌, true, Option, Some, None, IsSome, IfOk, is_some, length};
 ghost use Rattle.std.specs.Option.{option_map};
 ghost use Rattle.std.specs.Coded.{coded_option};
 ghost use Rattle.ffa_c.specs.Boarded.{Boarded, coded_boarded, lends, ram_pages};
@@ -14,7 +14,7 @@ use crate::outcome::COutcome;
 use ffa_lent::Frames;
 use ffa_memshare::Changed;
 use ffa_model::{EndpointId, Op};
-use ffa_spmc::{Given, Storage};
+use ffa_spmc::{Ready, Storage};
 use std::alloc::{AllocError, Global};
 use std::marker::Model;
 
@@ -52,10 +52,12 @@ impl Seat {
     }
 
     /// Ends the machine that is there, in RAM that is lent: the pages with the bytes that they had in the end, and the
-    /// room for another machine.
-    pub fn vacate(&mut self) -> (Frames, Storage<Given<Global>>)
+    /// room for another machine in them.
+    pub fn vacate(&mut self) -> (Frames, Storage<Ready<Global>>)
         requires { lends self.old ≡ Some true }
         ensures pages { Some result.0.pages ≡ ram_pages self.old }
+        ensures ready { result.0.is_ready ≡ true }
+        ensures room { length result.1.pages ≡ length result.0.pages }
         ensures emptied { self.new ≡ None }
     {
         self.board.take().unwrap().into_frames()

@@ -14,4 +14,4 @@ pub mod storage;
 
 pub use machine::Machine;
 pub use records::Records;
-pub use storage::{Given, Inline, Storage, Store};
+pub use storage::{Given, Inline, Ready, Storage, Store};

@@ -240,9 +240,10 @@ impl<M: PhysMem + Drop, T: Translations + Drop, S: Store> Machine<M, T, S> {
         self.manager.into_ram()
     }
 
-    /// The same, with the room for another machine.
+    /// The same, with the room for another machine, which is for as many pages.
     pub fn into_parts(self) -> (M, Storage<S>)
-        ensures { M.ram result.0 ≡ self.ram }
+        ensures ram { M.ram result.0 ≡ self.ram }
+        ensures pages { length result.1.pages ≡ length self.ram.pages }
     {
         let Machine {
             manager,

@@ -110,9 +110,10 @@ impl<M: PhysMem + Drop, S: Store> Manager<M, S> {
         self.ram
     }
 
-    // The same, and the room for what was kept.
+    // The same, and the room for what was kept, which is for as many pages.
     pub(crate) fn into_parts(self) -> (M, Storage<S>)
-        ensures { M.ram result.0 ≡ self.ram }
+        ensures ram { M.ram result.0 ≡ self.ram }
+        ensures pages { length result.1.pages ≡ length self.ram.pages }
     {
         let Manager { ram, kept } = self;
         let Kept {

@@ -6,8 +6,8 @@ ghost use Rattle.ffa_spmc.specs.Storages.{IsRoomFor};
 
 use crate::records::Records;
 use arrayvec::ArrayVec;
-use ffa_memshare::{MOST_SLOTS, OpenSlot, Pool};
-use ffa_model::{Here, Home, MOST_ENDPOINTS, MOST_PAGES, MOST_RANGES, Manifest, Room, built_in};
+use ffa_memshare::{MOST_SLOTS, OpenSlot, Pool, Slots};
+use ffa_model::{Here, Home, MOST_PAGES, MOST_RANGES, Manifest, Room, built_in};
 use ffa_pages::{KeptPage, PageTable};
 use std::alloc::{AllocError, Allocator};
 use std::marker::PhantomData;
@@ -45,6 +45,21 @@ impl<A: Allocator + Drop> Store for Given<A> {
     type Pages = Vec<KeptPage, A>;
 
     type Open = Vec<OpenSlot, A>;
+
+    type Records = Box<Records, A>;
+}
+
+/// In memory of an allocator, for as many pages as the machine's RAM needs, and for as many open transactions as there may be,
+/// whichever endpoints the machine has.
+#[derive(Drop)]
+pub struct Ready<A: Allocator + Drop> {
+    marker: PhantomData<A>,
+}
+
+impl<A: Allocator + Drop> Store for Ready<A> {
+    type Pages = Vec<KeptPage, A>;
+
+    type Open = Slots<A>;
 
     type Records = Box<Records, A>;
 }
@@ -133,13 +148,6 @@ impl<A: Allocator + Copy + Drop> Storage<Given<A>> {
             && manifest.endpoints.len() <= self.pool.endpoints()
     }
 
-    /// Makes it room for as many endpoints as there may be, where there is memory for that: where it was that once, there is.
-    pub fn widen(&mut self)
-        ensures { self.new.pages ≡ self.old.pages }
-    {
-        let _ = self.pool.restart(MOST_ENDPOINTS);
-    }
-
     /// Makes it room for the machine of a manifest. It takes memory only where it is room for fewer pages, or fewer endpoints.
     pub fn fit(&mut self, manifest: &Manifest) -> Result<(), AllocError>
         ensures fits { OnOk result (IsRoomFor manifest.now self.new) }
@@ -148,5 +156,31 @@ impl<A: Allocator + Copy + Drop> Storage<Given<A>> {
     {
         self.pages.resize(512 * manifest.ram_blocks as usize)?;
         self.pool.restart(manifest.endpoints.len())
+    }
+}
+
+impl<A: Allocator + Copy + Drop> Storage<Ready<A>> {
+    /// Room for machines of so many pages of RAM, whichever endpoints they have, in memory of an allocator.
+    pub fn ready(alloc: A, pages: usize) -> Result<Storage<Ready<A>>, AllocError>
+        requires { pages ≤ MOST_PAGES }
+        ensures { IfOk result (λ storage. length storage.pages ≡ pages) }
+    {
+        Ok(Storage {
+            pages: PageTable::of_managers(alloc, pages)?,
+            pool: Pool::ready_in(alloc)?,
+            records: Box::new(alloc, Records::of(&built_in()))?,
+        })
+    }
+
+    /// Makes it room for the machine of a manifest. It takes memory only where it is room for fewer pages, and where that is
+    /// refused it stays as it is.
+    pub fn begin(&mut self, manifest: &Manifest) -> Result<(), AllocError>
+        ensures fits { OnOk result (IsRoomFor manifest.now self.new) }
+        ensures refused { OnErr result (self.new ≡ self.old) }
+        ensures more { OnErr result (length self.old.pages < 512 * manifest.now.ram_blocks) }
+    {
+        self.pages.resize(512 * manifest.ram_blocks as usize)?;
+        self.pool.begin(manifest.endpoints.len());
+        Ok(())
     }
 }
