@@ -1,6 +1,7 @@
 -- SPDX-License-Identifier: MIT OR Apache-2.0
 -- What a check that fails is about, where the call's registers tell it: a register and its value, an endpoint that one names,
--- or a handle (DEN0077A, 11 to 16).
+-- or a handle (DEN0077A, 11 to 16). Of a check that compares two registers it is the later one; checks of a
+-- UUID and of an empty bitmap, which stand in more than one, tell nothing.
 use Rattle.std.specs.Prelude.{ℕ, Option, Some, None}
 use Rattle.ffa_model.specs.declared.call.Call.{Call}
 use Rattle.ffa_model.specs.declared.call.Call.TheVariants.{Features, RxtxMap, RxtxUnmap, Run, DirectRequest, DirectResponse, MemDonate, MemLend, MemShare, MemRetrieve, MemReclaim, BitmapCreate, BitmapDestroy, NotificationBind, NotificationUnbind, NotificationSet, NotificationGet, Unknown}

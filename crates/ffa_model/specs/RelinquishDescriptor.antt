@@ -4,7 +4,8 @@ use Rattle.std.specs.Prelude.{◌≡◌, ◌≤◌, ℕ, ◌==◌, ◌&&◌, nat
 use Rattle.ffa_model.specs.declared.descriptor.RelinquishDesc.{RelinquishDesc}
 use Rattle.ffa_model.specs.DescriptorPlaces.{u16_at, u32_at, u64_at}
 
--- The bytes are a relinquish descriptor of one endpoint, and say this. All other bytes are free
+-- The bytes are a relinquish descriptor of one endpoint, and say this. All other bytes are
+-- free. There may be more than 18, so that the whole page of TX may be handed over
 pub record Relinquish (bytes : List ℕ) (relinquish : RelinquishDesc) : Type 0 where
   pub whole : 18 ≤ length bytes
   pub flags : u32_at bytes 8 ≤ 1

@@ -24,7 +24,8 @@ is_page_address ram address = address % 4096 == 0 && is_in_ram ram address
 abbrev pub entry : Ram → ℕ → ℕ → ℕ
 entry ram table index = word_of (page_of ram ((table - ram.base) / 4096)) index
 
--- what a leaf descriptor says: AF is bit 10, S2AP is bit 6 to read and bit 7 to write, XN is bit 54
+-- what a leaf descriptor says: AF is bit 10, S2AP is bit 6 to read and bit 7 to write, XN is bit 54. What may
+-- not be read may not be executed: each right that the manager writes may be read, so that is chosen for other tables
 unfoldable pub leaf_of : ℕ → ℕ → Answer
 leaf_of word address =
     if bits 10 10 word == 0

@@ -1,6 +1,7 @@
 // SPDX-License-Identifier: MIT OR Apache-2.0
 //! Function identifiers (DEN0077A, 11 to 16). Each number stands here once, and every definition, contract and function
-//! names it. Each is of the 32-bit form where its name does not end in 64.
+//! names it. Each is of the 32-bit form where its name does not end in 64. A wrong number breaks no
+//! proof: they are to be read beside the standard's tables.
 
 /// What the identifier of a 64-bit form has beside that of the 32-bit form (DEN0028, 2).
 pub const WIDE: u32 = 1 << 30;
