@@ -1,7 +1,8 @@
 -- SPDX-License-Identifier: MIT OR Apache-2.0
 -- What stays of a loan, and what an offer says. A borrower that stores into a loan, and by its next call zeroes it and gives
 -- it up, leaves no trace of what it stored; and the bytes in the pages of an offer make no difference to a receiver before
--- it retrieves them.
+-- it retrieves them. Both follow from what can be read (Readable), and are laws of their own: `readably` and `revealed` are
+-- definitions, and ones that told or showed more would meet all other laws.
 use Rattle.std.specs.Prelude.{◌≡◌, ◌≢◌, ℕ, Bool, true, false, List, [], ◌∷◌, ◌++◌, Some, None}
 use Rattle.std.specs.List.{list_all}
 use Rattle.std.specs.Option.{option_map_or}
