@@ -1,5 +1,6 @@
 // SPDX-License-Identifier: MIT OR Apache-2.0
-//! The machine of parts, without a text.
+//! The machine of parts, without a text. The reader of a text has the same tests once more: its causes come endpoint by
+//! endpoint, and those of an early one would come behind those for which a later one tells no parts.
 ghost use Rattle.std.specs.Prelude.{true, ◌≡◌, ◌↔◌, ◌++◌, [], Some, None, IfOk, IfErr, IsOk};
 ghost use Rattle.std.specs.Result.{result_err};
 ghost use Rattle.ffa_model.specs.Manifest.{is_accepted, is_nil as is_nil_in, regions_of};

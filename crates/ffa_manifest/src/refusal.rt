@@ -135,7 +135,8 @@ impl fmt::Display for Nth {
     }
 }
 
-// A number as a trace has it, an address in eight digits or more, with the decimal digits behind it where they are others.
+// A number as a trace has it, an address in eight digits or more, with the decimal digits behind it where they are others: a
+// value of TOML doesn't tell in which form it was written.
 #[derive(Clone, Copy)]
 struct Number {
     sign: &'static str,
