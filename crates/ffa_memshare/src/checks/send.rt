@@ -196,7 +196,8 @@ fn asks_for_writes(offer: &SendDesc) -> bool
 }
 
 // Whether the pages that are offered, which are those of these ranges, have rw themselves, where that is
-// asked for, or what it is asked for.
+// asked for, or what it is asked for. These are two checks in one pass, since both ask for rw of all pages:
+// where a page lacks it, the first of them fails exactly if somebody is granted rw.
 fn check_writes<P: Room<KeptPage> + Drop>(
     offer: &SendDesc,
     ranges: &PageRanges,
