@@ -6,7 +6,8 @@ ghost use Rattle.ffa_model.specs.Identifiers.{identifier};
 
 use ffa_model::EndpointId;
 
-/// The endpoint whose turn it is, on a machine with so many endpoints: in each round everybody has a turn.
+/// The endpoint whose turn it is, on a machine with so many endpoints: in each round everybody has a turn, since
+/// chance alone seldom hands cycles to the last ones.
 pub fn actor_of(turn: u64, endpoints: usize) -> EndpointId
     requires some { 1 ≤ endpoints }
     requires few { endpoints ≤ MOST_ENDPOINTS }
