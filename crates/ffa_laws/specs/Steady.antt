@@ -20,7 +20,7 @@ is_joint t = is_share t.kind || (is_lend t.kind && nat_le 2 (length t.receivers)
 
 -- An open transaction is of pages of its sender. Who holds it is one of its receivers, has no more than the owner's right,
 -- and is alone with it, unless the transaction lets several have the pages. Nobody could hold more than the owner's right, and
--- a donate is to one.
+-- a donate is to one: without these two a retrieve would break what isolation asks.
 pub record IsSteadyTransaction (s : State) (t : Transaction) : Type 0 where
   pub owned : (p : ℕ) → names s t.ranges p ≡ true → owner_of s p ≡ t.sender
   pub receiver : (e : ℕ) (right : Rights) → held_by t e ≡ Some right → is_receiver e t ≡ true
@@ -51,7 +51,8 @@ pub record IsSteadyBinding (entry : List ℕ) : Type 0 where
   pub in_word : bit < 64
 
 -- A page stands in one open transaction at most, and a buffer's pages in none. Whoever runs, and whoever waits for an
--- answer, is an endpoint. A handle is its sender's, of a send that it has made.
+-- answer, is an endpoint. A handle is its sender's, of a send that it has made: else a send could take the place of
+-- another.
 pub record IsSteady (s : State) : Type 0 where
   pub some : 1 ≤ length s.parties
   pub few : length s.parties ≤ MOST_ENDPOINTS
