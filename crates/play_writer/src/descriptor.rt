@@ -115,7 +115,8 @@ fn call_with(descriptor: &DescriptorContents, length: u64) -> [u64; 8]
     [u64::from(function), told, told, 0, 0, 0, 0, 0]
 }
 
-// Puts the stores of bytes from an address on, and a call behind them.
+// Puts the stores of bytes from an address on, and a call behind them. Zeros are stored too, since TX may hold anything, and eight bytes
+// at once where eight are left: so the lines can be read beside the tables of a descriptor.
 fn put_called<A: Allocator>(
     text: &mut Vec<u8, A>,
     tx: Address,
