@@ -89,6 +89,7 @@ bitflag_items! {
     }
 }
 
+// Written by hand, since this form of `bitflags` has contracts.
 impl Flags for Properties {
     type Bits = u32;
 
@@ -197,7 +198,7 @@ impl Endpoint {
         right_in(self.regions.as_slice(), ram_base, page)
     }
 
-    /// The same endpoint once more, whose UUID has 16 bytes, as the type says. It takes no memory.
+    /// The same endpoint once more, whose UUID has 16 bytes, as the type says. It takes no memory, where `Clone` would answer a `Result`.
     pub fn copy(&self) -> Endpoint
         ensures same { result ≡ self.now }
         ensures uuid { is_uuid self.now.uuid ≡ true }
