@@ -22,8 +22,8 @@
  *   and in no signal or interrupt handler, and no two questions either.
  * - Memory that is lent is nobody else's until it is taken back: C neither reads nor writes it, through any mapping.
  *   Endpoints that a processor runs do, each within the access that the machine gives it. While a call is on its way the
- *   pages of the caller's TX may be written: what the call reads of them it copies first. What else may be, and what of
- *   this no proof speaks of, is in docs/EMBEDDING.md.
+ *   pages of the caller's TX may be written: what the call reads of them it copies first. What else may be is in
+ *   docs/EMBEDDING.md, and what of this no proof speaks of in docs/SECURITY.md.
  * - The library's memory and the stack are memory in which accesses that aren't aligned are done: on AArch64 normal
  *   memory, with SCTLR_ELx.A clear. With the MMU off memory is device memory, and there they fault.
  */
