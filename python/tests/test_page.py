@@ -68,12 +68,13 @@ def is_error(found: object) -> bool:
 
 
 def test_names_are_there() -> None:
-    rows = [row for row in re.findall(r"^\| (.*?) \| .* \|$", PAGE, re.M) if "`" in row]
-    for row in rows:
-        for name in re.findall(r"`([A-Za-z_]\w+)(?:\(|`)", row):
-            if name not in ("call", "fetch", "load", "store"):
-                there = [gorseplumb, Machine]
-                assert any(hasattr(it, name) for it in there), name
+    section = re.search(r"^## What is there\n(.*?)^## ", PAGE, re.M | re.S)
+    assert section is not None
+    heads = re.findall(r"^- (`[^:]*`): ", section[1], re.M)
+    names = [name for head in heads for name in re.findall(r"`([A-Za-z_]\w+)(?:\(|`)", head)]
+    assert len(names) > 30
+    for name in [*names, *re.findall(r"`([A-Z]\w+)(?:\(|`)", section[1])]:
+        assert any(hasattr(it, name) for it in (gorseplumb, Machine)), name
     table = re.search(r"^## Errors\n(.*?)^## ", PAGE, re.M | re.S)
     assert table is not None
     told = set(re.findall(r"`([A-Z]\w+)`", table[1])) - {"ValueError", "Ram"}
