@@ -65,7 +65,7 @@ fn each_check_is_told() {
     rows().iter().for_each(told_of);
 }
 
-/// What docs/COMMANDS.md has in its table of reasons.
+/// What docs/COMMANDS.md says that checks are about.
 #[test]
 fn what_checks_are_about() {
     let mut machine = Machine::boot(&MACHINE).unwrap();
