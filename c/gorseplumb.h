@@ -532,7 +532,7 @@ enum gorseplumb_about {
 
 /* What stands in the way at an address that the runner's tables don't map, or at a page. */
 enum gorseplumb_obstacle {
-    GORSEPLUMB_OBSTACLE_NONE = 0,          /* nothing is told: also of an address from 100000000 on */
+    GORSEPLUMB_OBSTACLE_NONE = 0,          /* nothing is told: also of an address from 100000000 on, and of the runner's own page in no open transaction */
     GORSEPLUMB_OBSTACLE_OUTSIDE_RAM = 1,   /* it is not in RAM */
     GORSEPLUMB_OBSTACLE_MANAGERS_PAGE = 2, /* the page is the manager's */
     GORSEPLUMB_OBSTACLE_OWNED_BY = 3,      /* the page is the endpoint's that `owner` names */
