@@ -1,6 +1,6 @@
 -- SPDX-License-Identifier: MIT OR Apache-2.0
--- FOR PROOFS ALONE
--- The steps of a play, which private functions promise one another: a line, bytes that are kept, a block of lines.
+-- The steps of a play: bytes that are fed (`Feeding`, `StopsIn`), which `Player::feed` promises, and a line and bytes that are kept,
+-- which private functions promise one another.
 use Rattle.std.specs.Prelude.{◌≡◌, ◌≤◌, ℕ, ◌+◌, true, false, List, ◌∷◌, ◌++◌, length, Option, Some, Result, Ok, Err}
 use Rattle.std.specs.Io.KnownBytes.{Appends, Keeps}
 use Rattle.ffa_model.specs.State.{State}
