@@ -4,7 +4,7 @@ from __future__ import annotations
 
 import ctypes
 from dataclasses import dataclass
-from typing import Iterator, NoReturn, Protocol, Sequence
+from typing import Iterable, Iterator, NoReturn, Protocol
 
 from . import _library as c
 from ._library import library
@@ -158,9 +158,10 @@ class Questions:
         """What the program prints for `show`."""
         return self.access_map().show()
 
-    def audit(self, runs: Sequence[Run] | None = None) -> bool:
-        """Whether the tables in RAM give just the access that these runs say: the machine's own, if none are given."""
-        told = tuple(self.runs()) if runs is None else runs
+    def audit(self, runs: Iterable[Run] | None = None) -> bool:
+        """Whether the tables in RAM give just the access that these runs say, which may be a list, a generator or any
+        other iterable: the machine's own, if none are given."""
+        told = tuple(self.runs() if runs is None else runs)
         answer = library.audit(self._raw, raw_runs(told), len(told))
         if answer == Answer.NO_MEMORY:
             raise OutOfMemory("an allocation was refused")

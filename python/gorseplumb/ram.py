@@ -4,7 +4,7 @@ from __future__ import annotations
 
 import ctypes
 import mmap
-from typing import TYPE_CHECKING, Sequence
+from typing import TYPE_CHECKING, Iterable
 
 from . import _library as c
 from ._library import library
@@ -47,17 +47,18 @@ class Ram:
         self._check(offset, len(data))
         self._memory[offset : offset + len(data)] = data
 
-    def audit(self, base: int, roots: Sequence[int], runs: Sequence[Run]) -> bool:
+    def audit(self, base: int, roots: Iterable[int], runs: Iterable[Run]) -> bool:
         """Whether the tables in these bytes, from level 1 tables at `roots` on, give just the access that the runs say,
-        where RAM begins at `base`. The checker knows nothing of a machine."""
+        where RAM begins at `base`. Both may be any iterable. The checker knows nothing of a machine."""
         from .access import raw_runs
 
-        if base >> 32 or any(root >> 32 for root in roots):
+        tables, named = tuple(roots), tuple(runs)  # read before the loan, since they may ask this RAM
+        if base >> 32 or any(root >> 32 for root in tables):
             raise ValueError("RAM and its tables stand below 4 GiB")
         lent = self.lend()
         try:
-            told = (ctypes.c_uint32 * len(roots))(*roots)
-            answer = library.audit_tables(lent, base, told, len(roots), raw_runs(runs), len(runs))
+            told = (ctypes.c_uint32 * len(tables))(*tables)
+            answer = library.audit_tables(lent, base, told, len(tables), raw_runs(named), len(named))
         finally:
             self.take_back()
         if answer == Answer.NO_MEMORY:

@@ -74,6 +74,14 @@ def test_judges_certificates(partitions: Machine) -> None:
         partitions.audit([replace(runs[0], last=-1)])
 
 
+def test_judges_what_any_iterable_gives(partitions: Machine) -> None:
+    shared(partitions)
+    assert partitions.audit(partitions.runs()) and partitions.audit(partitions.access_map().runs)
+    assert partitions.audit(run for run in partitions.runs())
+    assert not partitions.audit(run for run in partitions.runs() if run.first != 0x28)
+    assert not partitions.audit(iter(()))
+
+
 def test_prints_what_the_program_audits(program: Program) -> None:
     trace = (EXAMPLES / "sharing.trace").read_text().replace("show\n", "audit\nshow\n") + "audit\n"
     with Machine(MANIFEST) as machine:
@@ -87,6 +95,9 @@ def test_judges_the_tables_in_any_bytes() -> None:
         runs, roots = list(machine.runs()), [machine.root(endpoint) for endpoint in machine.endpoints]
     assert ram.audit(0x40000000, roots, runs)
     assert not ram.audit(0x44000000, roots, runs)
+    assert ram.audit(0x40000000, iter(roots), iter(runs)) and not ram.audit(0x40000000, iter(roots), iter(runs[1:]))
+    reading = (run for run in runs if ram.read(0, 1) is not None)
+    assert ram.audit(0x40000000, roots, reading), "an iterable may ask the RAM that is judged"
     word = bytearray(ram.read(0xA000 + 8 * 0x28, 8))
     assert word != bytes(8), "8002's level 3 table has the page that it holds"
     ram.write(0xA000 + 8 * 0x28, bytes(8))
