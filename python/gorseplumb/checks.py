@@ -8,7 +8,7 @@ from enum import IntEnum
 
 
 class _Worded(IntEnum):
-    """Numbers, each with its words."""
+    """Numbers, each with its words, which are its `str`. A format of a number, as `{check:d}`, gives the number."""
 
     words: str
 
@@ -18,9 +18,17 @@ class _Worded(IntEnum):
         member.words = words
         return member
 
+    def __str__(self) -> str:
+        return self.words
+
+    def __format__(self, spec: str) -> str:
+        is_of_text = spec[-1:] == "s" or not spec[-1:].isalpha()
+        return format(self.words if is_of_text else int(self), spec)
+
 
 class Check(_Worded):
-    """The check of a call that fails. Calls that check the same share it."""
+    """The check of a call that fails, by the library's number. Calls that check the same share it: its number in the
+    manual's list of one call is `check_number` of a Reason."""
 
     FUNCTION_UNKNOWN = 1, "no such function is served"
     BUFFERS_MISSING = 2, "the caller has no RX and TX"

@@ -65,6 +65,15 @@ def test_flaws_are_those_of_the_core_with_the_programs_words() -> None:
     assert [it[1] if it else None for it in told.values()] == [flaw.words for flaw in Flaw]
 
 
+def test_checks_and_flaws_are_printed_by_their_words() -> None:
+    words = "the caller has no RX and TX"
+    assert str(Check.BUFFERS_MISSING) == f"{Check.BUFFERS_MISSING}" == words
+    assert f"{Check.BUFFERS_MISSING:>30}" == f"{Check.BUFFERS_MISSING:>30s}" == f"   {words}"
+    assert f"{Check.BUFFERS_MISSING:d}" == f"{Check.BUFFERS_MISSING:X}" == "2" == str(int(Check.BUFFERS_MISSING))
+    assert repr(Check.BUFFERS_MISSING) == "<Check.BUFFERS_MISSING: 2>"
+    assert all(str(it) == it.words for members in (Check, Flaw) for it in members)
+
+
 def test_causes_are_those_of_the_manual() -> None:
     told = re.findall(r"^\| (M\d+ \w+) \|", (TOP / "docs" / "FORMATS.md").read_text(), re.M)
     assert [cause.text for cause in Cause] == told[1:]
