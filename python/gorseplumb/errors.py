@@ -32,11 +32,12 @@ class OutOfMemory(GorseplumbError, MemoryError):
 
 
 class ManifestRefused(GorseplumbError, ValueError):
-    """A manifest makes no machine: `cause` is the first that applies."""
+    """A manifest makes no machine: `cause` is the first that applies. `hint`, which the message ends in, says what was
+    given in a manifest's place, where that can be told."""
 
-    def __init__(self, cause: Cause) -> None:
-        super().__init__(cause.text)
-        self.cause = cause
+    def __init__(self, cause: Cause, hint: str = "") -> None:
+        super().__init__(f"{cause.text}: {hint}" if hint else cause.text)
+        self.cause, self.hint = cause, hint
 
 
 class WrongRamSize(GorseplumbError, ValueError):

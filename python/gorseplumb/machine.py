@@ -14,7 +14,7 @@ from ._library import library
 from .batch import Batch, Outcomes
 from .codes import Answer, Fault, Form, Function
 from .descriptors import Offer, Relinquish, Retrieve, stores
-from .errors import LibraryError, ManifestRefused, access_fault, call_refused
+from .errors import LibraryError, access_fault, call_refused
 from .manifest import Manifest, checked_boot
 from .messages import IndirectMessage
 from .outcomes import DONE, FAULTED, SIZES, Call, Data, Done, Faulted, Fetch, Load, Operation, Outcome, Registers, Store
@@ -61,8 +61,9 @@ _set_size: Callable[[Data, int], None] = Data.__dict__["size"].__set__
 class Machine(Questions):
     """A machine, of which one endpoint runs. It ends by `close`, at the end of a `with`, or when nobody has it.
 
-    Its manifest is a text, a path to one, or a Manifest. Its RAM is of the heap, or a Ram, of which all is zeros then
-    but the tables; with `keep` the pages of regions keep the bytes that they have."""
+    Its manifest is a text, a path to one (a str is a text, so give a `pathlib.Path`), or a Manifest. Its RAM is of the
+    heap, or a Ram, of which all is zeros then but the tables; with `keep` the pages of regions keep the bytes that they
+    have."""
 
     __slots__ = ("_at", "_ram", "_manifest", "_values", "_watchers", "__weakref__")
 
@@ -74,12 +75,7 @@ class Machine(Questions):
         self._manifest = Path(manifest).read_bytes() if isinstance(manifest, os.PathLike) else manifest
         self._values = self._manifest if isinstance(self._manifest, Manifest) else None
         self._raw, self._ram = c.Held(), ram
-        try:
-            self._boot(self._manifest, keep)
-        except ManifestRefused as wrong:
-            if isinstance(manifest, str) and "=" not in manifest:
-                wrong.add_note("a str is a manifest's text: to name a file give a pathlib.Path")
-            raise
+        self._boot(self._manifest, keep)
         self._end = weakref.finalize(self, _end, self._raw, ram)
         self._at = ctypes.byref(self._raw)
         self._endpoints = tuple(place and 0x8000 + place for place in range(library.endpoints(self._raw)))
@@ -95,11 +91,11 @@ class Machine(Questions):
             told = (text, len(text))
         boot = getattr(library, kind)
         if self._ram is None:
-            checked_boot(boot(self._raw, *told))
+            checked_boot(boot(self._raw, *told), manifest)
             return
         lent = self._ram.lend()
         try:
-            checked_boot(boot(self._raw, lent, *told))
+            checked_boot(boot(self._raw, lent, *told), manifest)
         except BaseException:
             self._ram.take_back()
             raise

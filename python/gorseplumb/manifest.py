@@ -4,6 +4,7 @@ from __future__ import annotations
 
 import uuid as uuids
 from dataclasses import dataclass
+from pathlib import Path
 from typing import Sequence
 
 from . import _library as c
@@ -11,6 +12,7 @@ from ._library import library
 from .codes import Answer, Cause, Form, Properties, Right
 from .errors import LibraryError, ManifestRefused, OutOfMemory, WrongRamSize
 
+_MOST_SHOWN = 200
 _NIL = uuids.UUID(int=0)
 _RIGHTS = {Right.RO: "ro", Right.RW: "rw", Right.ROX: "rox", Right.RWX: "rwx"}
 
@@ -44,10 +46,11 @@ class Manifest:
 
     @classmethod
     def read(cls, text: str | bytes) -> Manifest:
-        """What a manifest's text says. A text that can't be read is refused by its cause, as a boot does."""
+        """What a manifest's text says. A text that can't be read is refused by its cause, as a boot does. The text of a
+        file is `Path(name).read_text()`."""
         data = text.encode() if isinstance(text, str) else text
         raw = c.Manifest()
-        checked_boot(library.read_manifest(data, len(data), raw))
+        checked_boot(library.read_manifest(data, len(data), raw), text)
         endpoints = [_endpoint(it, place) for place, it in enumerate(raw.endpoints[: raw.endpoint_count])]
         return cls(raw.ram_base, raw.ram_blocks, endpoints)
 
@@ -77,8 +80,8 @@ class Manifest:
         return raw
 
 
-def checked_boot(answer: int) -> None:
-    """Raises what a boot answers, where it isn't that it is done."""
+def checked_boot(answer: int, given: object = None) -> None:
+    """Raises what a boot of what was given answers, where it isn't that it is done."""
     if answer == Answer.OK:
         return
     if answer == Answer.NO_MEMORY:
@@ -89,7 +92,27 @@ def checked_boot(answer: int) -> None:
         cause = Cause(answer)
     except ValueError:
         raise LibraryError(f"a boot answers {answer}") from None
-    raise ManifestRefused(cause)
+    raise ManifestRefused(cause, _hint(given))
+
+
+def _hint(given: object) -> str:
+    """What is said of a str that is the name of a file, or may be meant for one: it has one line, and nothing that a
+    manifest consists of, which are keys with `=`, tables in brackets, and comments."""
+    if not isinstance(given, str) or not given.strip():
+        return ""
+    is_name = _is_file(given)
+    if not is_name and any(it in given for it in "=[#\n"):
+        return ""
+    shown = given if len(given) <= _MOST_SHOWN else f"{given[:_MOST_SHOWN]}.."
+    verb = "is" if is_name else "looks like"
+    return f"{shown!r} {verb} the name of a file, and a str is a manifest's text: give a pathlib.Path, or what it holds"
+
+
+def _is_file(name: str) -> bool:
+    try:
+        return Path(name).is_file()
+    except (OSError, ValueError):  # a name that is too long, or has a NUL
+        return False
 
 
 def _fit(number: int, cause: Cause) -> int:

@@ -4,6 +4,7 @@ from __future__ import annotations
 
 import gc
 import uuid
+from pathlib import Path
 from typing import Callable
 
 import pytest
@@ -13,10 +14,11 @@ from gorseplumb import AccessFault, AlignmentFault, Busy, Call, CallRefused, Cau
 from gorseplumb import Done, Endpoint, ErrorCode, Fault, Faulted, Fetch, Function, InstructionAccess
 from gorseplumb import InvalidParameters, Kind, Load, Machine, MachineEnded, Manifest, ManifestRefused, NoSuchEndpoint
 from gorseplumb import NoSuchPage, NotSupported, Offer, Operation, Outcome, PageRange, PermissionFault, Properties
-from gorseplumb import Receiver, Region, Registers, Retrieve, RetrieveResponse, Right, Store, TranslationFault
+from gorseplumb import Ram, Receiver, Region, Registers, Retrieve, RetrieveResponse, Right, Store, TranslationFault
 from gorseplumb import Watcher
 
 RAM = 0x40000000
+MANUALS = EXAMPLES / "partitions.toml"
 MANIFEST = Manifest(
     RAM,
     1,
@@ -206,10 +208,25 @@ def test_says_why_a_text_is_refused(change: tuple[str, str], cause: Cause) -> No
     assert refused.value.cause is cause and str(refused.value) == cause.text
 
 
-def test_says_that_a_str_is_no_path() -> None:
-    with pytest.raises(ManifestRefused) as refused:
-        Machine(str(EXAMPLES / "partitions.toml"))
-    assert refused.value.__notes__ == ["a str is a manifest's text: to name a file give a pathlib.Path"]
+def test_says_that_a_str_is_no_path(tmp_path: Path) -> None:
+    is_text = "and a str is a manifest's text: give a pathlib.Path, or what it holds"
+    odd = tmp_path / "a=[1] #.toml"
+    odd.touch()
+    booting: list[Callable[[str], object]] = [Machine, lambda name: Machine(name, Ram(1)), Manifest.read]
+    for asked in booting:
+        for name in (str(MANUALS), str(odd), "bench.toml", "a\0b"):
+            told = "is" if name in (str(MANUALS), str(odd)) else "looks like"
+            with pytest.raises(ManifestRefused) as refused:
+                asked(name)
+            said = f"M2 Toml: {name!r} {told} the name of a file, {is_text}"
+            assert str(refused.value) == said and refused.value.cause is Cause.TOML
+        with pytest.raises(ManifestRefused) as refused:
+            asked("x" * 5000)
+        assert len(str(refused.value)) < 400 and "xx..'" in str(refused.value)
+        for text in ("", " ", "# nothing", "[endpoint", "ram_base 1\nram_blocks", "ram_base = x"):
+            with pytest.raises(ManifestRefused) as refused:
+                asked(text)
+            assert str(refused.value) == refused.value.cause.text and not refused.value.hint
 
 
 def test_says_why_values_are_refused() -> None:
