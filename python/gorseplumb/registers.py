@@ -28,6 +28,8 @@ _PAIR_OF_ENDPOINTS = {"sender": _bits(1, 31, 16), "receiver": _bits(1, 15, 0)}
 _TARGET = {"partition": _bits(1, 31, 16), "context": _bits(1, 15, 0)}
 _DESCRIPTOR = {"length": _word(1), "fragment": _word(2), "address": _word(3), "pages": _word(4)}
 _MESSAGE = {**_PAIR_OF_ENDPOINTS, "flags": _word(2), **{f"payload{i}": _word(3 + i) for i in range(5)}}
+_UNSENT = frozenset(_MESSAGE) - _PAIR_OF_ENDPOINTS.keys()
+_UNTOLD = frozenset(_DESCRIPTOR) - {"length"}
 _BITS = {**_PAIR_OF_ENDPOINTS, "flags": _word(2), "bits": _pair(3)}
 
 ARGUMENTS: Mapping[Function, Mapping[str, Place]] = {
@@ -65,6 +67,27 @@ ARGUMENTS: Mapping[Function, Mapping[str, Place]] = {
     Function.FFA_MSG_SEND2: {},
 }
 """What the registers of each call and answer hold, in the 32-bit form."""
+
+OPTIONAL: Mapping[Function, frozenset[str]] = {
+    Function.FFA_RXTX_UNMAP: frozenset({"endpoint"}),
+    Function.FFA_PARTITION_INFO_GET: frozenset({"uuid", "count_only"}),
+    Function.FFA_MSG_WAIT: frozenset({"partition", "context"}),
+    Function.FFA_YIELD: frozenset({"partition", "context"}),
+    Function.FFA_RUN: frozenset({"context"}),
+    Function.FFA_MSG_SEND_DIRECT_REQ: _UNSENT,
+    Function.FFA_MSG_SEND_DIRECT_RESP: _UNSENT,
+    Function.FFA_MEM_DONATE: _UNTOLD,
+    Function.FFA_MEM_LEND: _UNTOLD,
+    Function.FFA_MEM_SHARE: _UNTOLD,
+    Function.FFA_MEM_RETRIEVE_REQ: _UNTOLD,
+    Function.FFA_MEM_RETRIEVE_RESP: frozenset({"fragment"}),
+    Function.FFA_MEM_RECLAIM: frozenset({"flags"}),
+    Function.FFA_NOTIFICATION_BIND: frozenset({"flags"}),
+    Function.FFA_NOTIFICATION_UNBIND: frozenset({"flags"}),
+    Function.FFA_NOTIFICATION_SET: frozenset({"flags"}),
+    Function.FFA_NOTIFICATION_GET: frozenset({"context"}),
+}
+"""Which of a call's arguments may be left out. They are 0 then, but for `fragment`, which is `length`."""
 
 RESULTS: Mapping[Function, Mapping[str, Place]] = {
     Function.FFA_FEATURES: {"properties": _word(2)},
@@ -117,13 +140,27 @@ def places(function: Function) -> Mapping[str, Place]:
     }
 
 
+def signature(function: Function, value: str = "", between: str = ", ") -> str:
+    """The arguments of a call, in order, those in brackets that may be left out: `partition, [context]`. Behind each
+    name stands `value`."""
+    optional = _optional(function)
+    told = [(f"{name}{value}", name in optional) for name in places(function)]
+    return between.join(f"[{text}]" if may_be_left_out else text for text, may_be_left_out in told)
+
+
 def encode(function: Function, /, **arguments: int) -> tuple[int, ...]:
-    """Eight registers that make a call. Arguments that aren't given are 0, but for `fragment`, which is `length`."""
-    known = places(function)
+    """Eight registers that make a call, by the names of its arguments. An argument that the call
+    doesn't have, or that is missing, is a TypeError; one that may be left out is 0 then, but for `fragment`, which is
+    `length`. To write registers as they are make a `Call`."""
+    known, optional = places(function), _optional(function)
     unknown = [name for name in arguments if name not in known]
     if unknown:
-        has = ", ".join(known) or "no arguments"
+        has = signature(function) or "no arguments"
         raise TypeError(f"{function.call_name} has no argument {unknown[0]!r}: it has {has}")
+    missing = [name for name in known if name not in arguments and name not in optional]
+    if missing:
+        named = f"argument{'s' if len(missing) > 1 else ''} {', '.join(missing)}"
+        raise TypeError(f"{function.call_name} lacks the {named}: it has {signature(function)}")
     if "fragment" in known and "fragment" not in arguments:
         arguments["fragment"] = arguments.get("length", 0)
     x = [int(function), *(0,) * 7]
@@ -142,6 +179,10 @@ def decode(x: tuple[int, ...], answers: int | None = None) -> NamedRegisters | N
     if function is Function.FFA_SUCCESS and asked is not None:
         found = RESULTS.get(Function[asked.call_name], {})
     return NamedRegisters(function, {name: _read(x, place) for name, place in found.items()})
+
+
+def _optional(function: Function) -> frozenset[str]:
+    return OPTIONAL.get(Function[function.call_name], frozenset())
 
 
 def _read(x: tuple[int, ...], place: Place) -> int:

@@ -13,7 +13,7 @@ from .errors import GorseplumbError
 from .machine import Machine, Watcher
 from .outcomes import Call, Faulted, Operation, Outcome, Registers
 from .recording import TraceRecording
-from .registers import decode, encode, places
+from .registers import decode, encode, places, signature
 from .trace import Player, parse
 
 _CALLS = {function.call_name: function for function in reversed(Function)}
@@ -105,7 +105,7 @@ class Session:
         if words:
             if words[0] not in _CALLS:
                 raise ValueError(f"no such call: {words[0]}")
-            return [" ".join([words[0], *(f"{name}=.." for name in places(_CALLS[words[0]]))])]
+            return [f"{words[0]} {signature(_CALLS[words[0]], '=..', ' ')}".rstrip()]
         told = [
             "call X0 .. X7             a call, by its registers",
             "load A N, store A V       a load of N bytes, a store",

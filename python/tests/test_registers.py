@@ -5,10 +5,11 @@ from __future__ import annotations
 import uuid
 
 import pytest
+from conftest import BUILT_IN
 
-from gorseplumb import Call, Form, Function, IndirectMessage, PartitionInfo, Properties, Registers, decode, encode
-from gorseplumb import read_partitions
-from gorseplumb.registers import ARGUMENTS, is_read_whole
+from gorseplumb import Call, Form, Function, IndirectMessage, Machine, PartitionInfo, Properties, Registers
+from gorseplumb import decode, encode, read_partitions
+from gorseplumb.registers import ARGUMENTS, OPTIONAL, is_read_whole
 
 
 @pytest.mark.parametrize(
@@ -68,16 +69,44 @@ def test_reads_all_of_a_register_where_the_64_bit_form_does() -> None:
     assert x[1] == 0x140000000
     assert is_read_whole(0xC4000066, 1) and not is_read_whole(0xC4000066, 3) and not is_read_whole(0x84000066, 1)
     with pytest.raises(ValueError, match="tx has 32 bits"):
-        encode(Function.FFA_RXTX_MAP, tx=0x140000000)
+        encode(Function.FFA_RXTX_MAP, tx=0x140000000, rx=0x4001F000, pages=1)
 
 
 def test_refuses_what_a_call_does_not_take() -> None:
-    with pytest.raises(TypeError, match="FFA_RUN has no argument 'endpoint': it has partition, context"):
+    with pytest.raises(TypeError, match=r"FFA_RUN has no argument 'endpoint': it has partition, \[context\]$"):
         encode(Function.FFA_RUN, endpoint=0x8001)
     with pytest.raises(ValueError, match="partition has 16 bits, and is 0x10000"):
         encode(Function.FFA_RUN, partition=0x10000)
     with pytest.raises(ValueError):
         encode(Function.FFA_RUN, partition=-1)
+
+
+def test_refuses_a_call_that_lacks_arguments() -> None:
+    cases: list[tuple[Function, dict[str, int], str]] = [
+        (Function.FFA_RUN, {}, "lacks the argument partition: it has partition, [context]"),
+        (Function.FFA_RUN, {"context": 0}, "lacks the argument partition: it has partition, [context]"),
+        (Function.FFA_RXTX_MAP_64, {"rx": 0}, "lacks the arguments tx, pages: it has tx, rx, pages"),
+        (Function.FFA_MEM_SHARE, {}, "lacks the argument length: it has length, [fragment], [address], [pages]"),
+        (Function.FFA_MEM_RECLAIM, {"flags": 0}, "lacks the argument handle: it has handle, [flags]"),
+    ]
+    for function, given, told in cases:
+        with pytest.raises(TypeError) as wrong:
+            encode(function, **given)
+        assert str(wrong.value) == f"{function.call_name} {told}"
+    with Machine(BUILT_IN) as machine:
+        with pytest.raises(TypeError, match="FFA_RUN lacks the argument partition"):
+            machine.do(Function.FFA_RUN)
+        assert machine.is_fresh and machine.runner == 0
+
+
+def test_arguments_that_may_be_left_out_are_zero() -> None:
+    assert encode(Function.FFA_RUN, partition=0x8001) == encode(Function.FFA_RUN, partition=0x8001, context=0)
+    assert encode(Function.FFA_MSG_WAIT) == (Function.FFA_MSG_WAIT, *(0,) * 7)
+    assert encode(Function.FFA_MEM_LEND, length=0x60)[1:5] == (0x60, 0x60, 0, 0)
+    for function, names in OPTIONAL.items():
+        assert names and names <= ARGUMENTS[function].keys()
+        needed = {name: 0 for name in ARGUMENTS[function] if name not in names}
+        assert encode(function, **needed) == (function, *(0,) * 7)
 
 
 def test_names_registers_as_the_program_does() -> None:

@@ -36,7 +36,8 @@ def test_does_operations_and_calls_by_name(session: Session) -> None:
     assert session.line("write 40028009 0x00FF") == ["2 bytes"]
     assert session.line("read 40028000 B") == ["40028000: 74 77 6F 20 77 6F 72 64 73 00 FF"]
     assert session.line("decode 84000077 1 8001") == ["FFA_MEM_RECLAIM handle=0000800100000001 flags=0"]
-    assert session.line("help FFA_RUN") == ["FFA_RUN partition=.. context=.."]
+    assert session.line("help FFA_RUN") == ["FFA_RUN partition=.. [context=..]"]
+    assert session.line("help FFA_ID_GET") == ["FFA_ID_GET"]
     assert len(session.line("help")) > 10
     assert session.line("") == session.line("# a comment") == []
 
@@ -48,6 +49,7 @@ def test_does_operations_and_calls_by_name(session: Session) -> None:
         ("load 40010000", "a word is missing"),
         ("load 40010000 x", "a size that is none"),
         ("FFA_RUN endpoint=8001", "FFA_RUN has no argument 'endpoint'"),
+        ("FFA_RUN", "FFA_RUN lacks the argument partition: it has partition, [context]"),
         ("FFA_RUN 8001", "an argument is NAME=NUMBER"),
         ("FFA_RUN partition=x", "no hexadecimal numbers"),
         ("read 40020000 1", "translation fault of 0000 at 40020000"),
