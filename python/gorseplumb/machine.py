@@ -245,7 +245,39 @@ class Machine(Questions):
         return outcomes
 
     def do(self, function: Function, /, **arguments: int) -> Registers:
-        """A call by the names of its arguments, as `registers` has them. Where it is refused, that is raised."""
+        """A call by the names of its arguments. Where it is refused, that is raised. These are the calls:
+
+            FFA_VERSION                      major, minor
+            FFA_FEATURES                     feature
+            FFA_RX_RELEASE                   -
+            FFA_RXTX_MAP*                    tx, rx, pages
+            FFA_RXTX_UNMAP                   [endpoint]
+            FFA_PARTITION_INFO_GET           [uuid], [count_only]
+            FFA_ID_GET                       -
+            FFA_MSG_WAIT                     [partition], [context]
+            FFA_YIELD                        [partition], [context]
+            FFA_RUN                          partition, [context]
+            FFA_MSG_SEND_DIRECT_REQ*         sender, receiver, [flags], [payload0] .. [payload4]
+            FFA_MSG_SEND_DIRECT_RESP*        sender, receiver, [flags], [payload0] .. [payload4]
+            FFA_MEM_DONATE*                  length, [fragment], [address], [pages]
+            FFA_MEM_LEND*                    length, [fragment], [address], [pages]
+            FFA_MEM_SHARE*                   length, [fragment], [address], [pages]
+            FFA_MEM_RETRIEVE_REQ*            length, [fragment], [address], [pages]
+            FFA_MEM_RELINQUISH               -
+            FFA_MEM_RECLAIM                  handle, [flags]
+            FFA_NOTIFICATION_BITMAP_CREATE   endpoint, contexts
+            FFA_NOTIFICATION_BITMAP_DESTROY  endpoint
+            FFA_NOTIFICATION_BIND            sender, receiver, [flags], bits
+            FFA_NOTIFICATION_UNBIND          sender, receiver, [flags], bits
+            FFA_NOTIFICATION_SET             sender, receiver, [flags], bits
+            FFA_NOTIFICATION_GET             receiver, [context], flags
+            FFA_SPM_ID_GET                   -
+            FFA_MSG_SEND2                    -
+
+        What stands in brackets may be left out, and is 0 then, but for `fragment`, which is `length`. A call with a
+        star has a 64-bit form too, whose name ends in `_64`. The first byte of a `uuid` is its lowest, as in
+        `int.from_bytes(it.bytes, "little")`. Descriptors and messages go by `send`, and registers as they are by
+        `call`."""
         return self.require(Call(encode(function, **arguments)))
 
     def require(self, call: Call) -> Registers:

@@ -149,7 +149,7 @@ def signature(function: Function, value: str = "", between: str = ", ") -> str:
 
 
 def encode(function: Function, /, **arguments: int) -> tuple[int, ...]:
-    """Eight registers that make a call, by the names of its arguments. An argument that the call
+    """Eight registers that make a call, of which `help(Machine.do)` has the arguments. An argument that the call
     doesn't have, or that is missing, is a TypeError; one that may be left out is 0 then, but for `fragment`, which is
     `length`. To write registers as they are make a `Call`."""
     known, optional = places(function), _optional(function)

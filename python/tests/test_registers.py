@@ -9,7 +9,7 @@ from conftest import BUILT_IN
 
 from gorseplumb import Call, Form, Function, IndirectMessage, Machine, PartitionInfo, Properties, Registers
 from gorseplumb import decode, encode, read_partitions
-from gorseplumb.registers import ARGUMENTS, OPTIONAL, is_read_whole
+from gorseplumb.registers import ARGUMENTS, OPTIONAL, is_read_whole, signature
 
 
 @pytest.mark.parametrize(
@@ -107,6 +107,19 @@ def test_arguments_that_may_be_left_out_are_zero() -> None:
         assert names and names <= ARGUMENTS[function].keys()
         needed = {name: 0 for name in ARGUMENTS[function] if name not in names}
         assert encode(function, **needed) == (function, *(0,) * 7)
+
+
+def test_help_has_the_arguments_of_each_call() -> None:
+    answers = (Function.FFA_ERROR, Function.FFA_SUCCESS, Function.FFA_MEM_RETRIEVE_RESP)
+    names = [function.name for function in Function]
+    wanted = [
+        [function.name + ("*" if f"{function.name}_64" in names else ""), signature(function) or "-"]
+        for function in Function
+        if not function.is_wide and function not in answers
+    ]
+    table = (Machine.do.__doc__ or "").replace("] .. [payload4]", "], [payload1], [payload2], [payload3], [payload4]")
+    told = [line.split(maxsplit=1) for line in table.splitlines() if "    FFA_" in line]
+    assert told == wanted
 
 
 def test_names_registers_as_the_program_does() -> None:
