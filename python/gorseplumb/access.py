@@ -10,6 +10,7 @@ from xml.sax.saxutils import escape
 from . import _library as c
 from .codes import MANAGER, PAGE_SIZE, Right
 from .errors import NoSuchEndpoint, NoSuchPage
+from .hexadecimal import by_fields
 
 
 @dataclass(frozen=True, slots=True)
@@ -21,6 +22,8 @@ class Run:
     owner: int
     handle: int | None
     rights: tuple[Right, ...]
+
+    __repr__ = by_fields
 
     @property
     def pages(self) -> int:
@@ -34,6 +37,8 @@ class Cell:
     right: Right
     owns: bool
 
+    __repr__ = by_fields
+
 
 @dataclass(frozen=True)
 class AccessMap:
@@ -43,6 +48,8 @@ class AccessMap:
     endpoints: tuple[int, ...]
     runner: int
     runs: tuple[Run, ...]
+
+    __repr__ = by_fields
 
     @property
     def matrix(self) -> tuple[tuple[Cell, ...], ...]:

@@ -53,6 +53,9 @@ class Function(IntEnum):
     FFA_SPM_ID_GET = 0x84000085
     FFA_MSG_SEND2 = 0x84000086
 
+    def __repr__(self) -> str:
+        return f"<{type(self).__name__}.{self.name}: 0x{int(self):08X}>"
+
     @classmethod
     def of(cls, x0: int) -> Function | None:
         """The function that x0 names by its low half, or none."""

@@ -10,6 +10,7 @@ from typing import Iterator, NamedTuple, Sequence
 from .checks import Flaw
 from .codes import PAGE_SIZE, Form, Function, Kind
 from .errors import MalformedDescriptor
+from .hexadecimal import by_fields
 from .outcomes import Call, Operation, Store
 
 NORMAL_MEMORY = 0x2F
@@ -50,6 +51,8 @@ class Receiver:
     data: DataAccess = DataAccess.UNSPECIFIED
     instructions: InstructionAccess = InstructionAccess.UNSPECIFIED
 
+    __repr__ = by_fields
+
     @property
     def permissions(self) -> int:
         return self.data | self.instructions << 2
@@ -61,6 +64,8 @@ class PageRange:
 
     address: int
     pages: int
+
+    __repr__ = by_fields
 
     @property
     def end(self) -> int:
@@ -77,6 +82,8 @@ class Offer:
     ranges: tuple[PageRange, ...]
     zero: bool = False
     tag: int = 0
+
+    __repr__ = by_fields
 
     def to_bytes(self, form: Form = Form.FFA_1_1, *, checked: bool = True) -> bytes:
         """The descriptor. Where the machine would find it malformed, that is raised, unless it isn't to be checked."""
@@ -123,6 +130,8 @@ class Retrieve:
     tag: int = 0
     kind: Kind | None = None
 
+    __repr__ = by_fields
+
     def to_bytes(self, form: Form = Form.FFA_1_1, *, checked: bool = True) -> bytes:
         """The descriptor, checked as that of an offer is."""
         flags = (self.kind or 0) << 3
@@ -168,6 +177,8 @@ class RetrieveResponse:
     zeroed: bool = False
     tag: int = 0
 
+    __repr__ = by_fields
+
     def to_bytes(self, form: Form = Form.FFA_1_1) -> bytes:
         """The response, as the machine writes it."""
         composite = header_size(form) + ENTRY_SIZE
@@ -203,6 +214,8 @@ class Relinquish:
     handle: int
     endpoint: int
     zero: bool = False
+
+    __repr__ = by_fields
 
     def to_bytes(self) -> bytes:
         """The descriptor."""

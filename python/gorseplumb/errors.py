@@ -53,7 +53,7 @@ class NoSuchEndpoint(GorseplumbError, LookupError):
 
 
 class NoSuchPage(GorseplumbError, IndexError):
-    """RAM has no page of this number."""
+    """RAM has no page of this number, which counts from RAM's first page, or none that has this address."""
 
 
 class BadLine(GorseplumbError, ValueError):

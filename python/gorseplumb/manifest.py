@@ -11,6 +11,7 @@ from . import _library as c
 from ._library import library
 from .codes import Answer, Cause, Form, Properties, Right
 from .errors import LibraryError, ManifestRefused, OutOfMemory, WrongRamSize
+from .hexadecimal import by_fields
 
 _MOST_SHOWN = 200
 _NIL = uuids.UUID(int=0)
@@ -25,6 +26,8 @@ class Region:
     pages: int
     rights: Right = Right.RW
 
+    __repr__ = by_fields
+
 
 @dataclass(frozen=True)
 class Endpoint:
@@ -35,6 +38,8 @@ class Endpoint:
     uuid: uuids.UUID | None = None
     form: Form = Form.FFA_1_1
 
+    __repr__ = by_fields
+
 
 @dataclass(frozen=True)
 class Manifest:
@@ -43,6 +48,8 @@ class Manifest:
     ram_base: int
     ram_blocks: int
     endpoints: Sequence[Endpoint]
+
+    __repr__ = by_fields
 
     @classmethod
     def read(cls, text: str | bytes) -> Manifest:

@@ -8,6 +8,7 @@ from dataclasses import dataclass
 
 from .codes import Form, Function, Properties
 from .descriptors import stores
+from .hexadecimal import by_fields
 from .outcomes import Call, Operation
 
 HEADER_SIZE = 20
@@ -27,6 +28,8 @@ class IndirectMessage:
     receiver: int
     payload: bytes
     offset: int = HEADER_SIZE
+
+    __repr__ = by_fields
 
     def to_bytes(self) -> bytes:
         """Header and message, with zeros between."""
@@ -65,6 +68,8 @@ class PartitionInfo:
     properties: Properties
     uuid: uuid.UUID | None = None
     contexts: int = 1
+
+    __repr__ = by_fields
 
     def to_bytes(self, form: Form = Form.FFA_1_1) -> bytes:
         """The descriptor, as the machine writes it."""

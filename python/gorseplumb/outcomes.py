@@ -9,6 +9,7 @@ from typing import Union
 
 from .codes import ErrorCode, Fault, Function
 from .errors import call_refused
+from .hexadecimal import by_fields
 
 SIZES = (1, 2, 4, 8)
 
@@ -25,6 +26,8 @@ class Call:
     """A call with these registers, x0 first. Those that aren't given are 0."""
 
     x: tuple[int, ...]
+
+    __repr__ = by_fields
 
     def __post_init__(self) -> None:
         if not 1 <= len(self.x) <= 8:
@@ -47,6 +50,8 @@ class Load:
     address: int
     size: int
 
+    __repr__ = by_fields
+
     def __post_init__(self) -> None:
         _check_access(self.address, self.size)
 
@@ -62,6 +67,8 @@ class Store:
     size: int
     value: int
 
+    __repr__ = by_fields
+
     def __post_init__(self) -> None:
         _check_access(self.address, self.size)
         if self.value >> 8 * self.size:
@@ -76,6 +83,8 @@ class Fetch:
     """A fetch of one instruction, which is 4 bytes."""
 
     address: int
+
+    __repr__ = by_fields
 
     def __post_init__(self) -> None:
         _check_access(self.address, 4)
@@ -93,6 +102,8 @@ class Registers:
 
     runner: int
     x: tuple[int, ...]
+
+    __repr__ = by_fields
 
     def __str__(self) -> str:
         return f"regs {self.runner:04X} " + " ".join(f"{register:016X}" for register in self.x)
@@ -143,6 +154,8 @@ class Data:
     value: int
     size: int
 
+    __repr__ = by_fields
+
     def __str__(self) -> str:
         return f"data {self.value:0{2 * self.size}X}"
 
@@ -163,6 +176,8 @@ class Faulted:
     """An access wasn't done, and changed nothing."""
 
     fault: Fault
+
+    __repr__ = by_fields
 
     def __str__(self) -> str:
         return f"fault {self.fault.text}"

@@ -13,6 +13,7 @@ from .checks import Check, Flaw
 from .codes import BLOCK_SIZE, MANAGER, PAGE_SIZE, PAGES_OF_BLOCK
 from .codes import About, Answer, ErrorCode, Fault, GrantKind, Obstacle, Right
 from .errors import MachineEnded, NoSuchEndpoint, NoSuchPage, OutOfMemory
+from .hexadecimal import by_fields
 from .outcomes import Call, Load, Operation, Store
 from .reasons import Hindrance, Reason, Subject
 
@@ -24,6 +25,8 @@ class Grant:
     kind: GrantKind
     handle: int | None
 
+    __repr__ = by_fields
+
 
 @dataclass(frozen=True, slots=True)
 class Change:
@@ -31,6 +34,8 @@ class Change:
 
     endpoint: int
     ranges: tuple[tuple[int, int], ...]
+
+    __repr__ = by_fields
 
 
 class Ending(Protocol):
@@ -237,7 +242,9 @@ class Questions:
     def _refuse_page(self, page: int) -> NoReturn:
         if library.runner(self._raw) == c.NOTHING:
             self._refuse_ended()
-        raise NoSuchPage(f"RAM has no page {page}")
+        is_address = self.ram_base <= page < self.ram_base + PAGE_SIZE * self.pages
+        hint = f"; page_of({page:#x}) is the page of that address" if is_address else ""
+        raise NoSuchPage(f"RAM has no page {page:#x}: it has {self.pages:#x} pages{hint}")
 
     def _refuse_ended(self) -> NoReturn:
         raise MachineEnded("the machine was closed")

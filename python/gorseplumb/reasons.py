@@ -2,11 +2,12 @@
 """Why an operation is refused."""
 from __future__ import annotations
 
-from dataclasses import dataclass
+from dataclasses import dataclass, field
 
 from .checks import Check, Flaw
 from .codes import MANAGER, About, ErrorCode, Fault, Function, Obstacle
 from .errors import call_name, flaw_text
+from .hexadecimal import DECIMAL, by_fields
 from .outcomes import Call, Fetch, Load, Operation, Store
 from .registers import is_read_whole
 
@@ -18,6 +19,8 @@ class Hindrance:
     obstacle: Obstacle
     owner: int = MANAGER
     transaction: int = 0
+
+    __repr__ = by_fields
 
     def __str__(self) -> str:
         return {
@@ -46,6 +49,8 @@ class Subject:
     first: int = 0
     size: int = 0
 
+    __repr__ = by_fields
+
 
 @dataclass(frozen=True, slots=True)
 class Reason:
@@ -54,11 +59,13 @@ class Reason:
     operation: Operation
     fault: Fault | None
     check: Check | None
-    check_number: int
+    check_number: int = field(metadata=DECIMAL)
     """The number of the check in the manual's list of the call; 0 where there is none."""
     code: ErrorCode | None
     subject: Subject
     hindrance: Hindrance
+
+    __repr__ = by_fields
 
     def __str__(self) -> str:
         if isinstance(self.operation, Call):

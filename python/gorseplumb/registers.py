@@ -7,6 +7,7 @@ from typing import Mapping
 
 from .codes import ErrorCode, Function
 from .errors import call_name
+from .hexadecimal import by_fields
 
 Place = tuple[tuple[int, int, int], ...]
 """Where a number stands: pieces of a register each, as (register, lowest bit, bits), the lowest piece first."""
@@ -118,6 +119,8 @@ class NamedRegisters:
 
     function: Function
     arguments: Mapping[str, int]
+
+    __repr__ = by_fields
 
     def __str__(self) -> str:
         told = [f"{name}={_text(self.function, name, value)}" for name, value in self.arguments.items()]

@@ -45,8 +45,10 @@ def test_runs_cover_all_pages(partitions: Machine) -> None:
         for page in (run.first, run.last):
             assert partitions.owner(page) == run.owner
             assert tuple(partitions.access(endpoint, page) for endpoint in partitions.endpoints) == run.rights
-    with pytest.raises(NoSuchPage):
+    with pytest.raises(NoSuchPage, match="^RAM has no page 0x400: it has 0x400 pages$"):
         partitions.run_at(1024)
+    with pytest.raises(NoSuchPage, match=r"0x400 pages; page_of\(0x40021000\) is the page of that address$"):
+        partitions.owner(0x40021000)
 
 
 def test_tells_the_open_transaction(partitions: Machine) -> None:
