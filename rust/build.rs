@@ -1,25 +1,36 @@
 // SPDX-License-Identifier: MIT OR Apache-2.0
 //! Finds the archive `libgorseplumb.a` and links it: in the folder GORSEPLUMB_LIB_DIR where that is set, else where
 //! `c/archive` leaves it in the repository that this crate stands in, `out/<target>`. Where GORSEPLUMB_MAKE is set it
-//! has `c/archive` make one that is missing, which may prove all crates below first. An archive of another processor is
-//! refused.
+//! has `c/archive` make one that is missing, which may prove all crates below first.
+//!
+//! One that is missing, or another processor's, ends a build and no `cargo check` or `cargo doc`, which link nothing:
+//! cargo doesn't tell this script which of them runs, so it warns, and asks for a library that the compiler won't find.
 use std::path::{Path, PathBuf};
 use std::process::{exit, Command};
 use std::{env, fs};
 
 const NAME: &str = "libgorseplumb.a";
 
+/// The library's name where there is none to link: of a crate that isn't the user's own cargo hides the warning, so
+/// that what the compiler says of this name is all there is to read.
+const NOTHING: &str = "gorseplumb (set GORSEPLUMB_LIB_DIR, or run c/archive)";
+
 fn main() {
     println!("cargo:rerun-if-env-changed=GORSEPLUMB_LIB_DIR");
     println!("cargo:rerun-if-env-changed=GORSEPLUMB_MAKE");
-    let archive = archive().and_then(for_this_target).unwrap_or_else(|why| {
-        eprintln!("gorseplumb: {why}");
-        exit(1)
-    });
-    println!("cargo:rerun-if-changed={}", archive.display());
-    let folder = archive.parent().expect("an archive stands in a folder");
-    println!("cargo:rustc-link-search=native={}", folder.display());
-    println!("cargo:rustc-link-lib=static=gorseplumb");
+    match archive().and_then(for_this_target) {
+        Ok(archive) => {
+            println!("cargo:rerun-if-changed={}", archive.display());
+            let folder = archive.parent().expect("an archive stands in a folder");
+            println!("cargo:rustc-link-search=native={}", folder.display());
+            println!("cargo:rustc-link-lib=static=gorseplumb");
+        }
+        Err(why) => {
+            println!("cargo:warning=gorseplumb: {why}");
+            println!("cargo:warning=gorseplumb: `cargo check` and `cargo doc` go on without it, and a build doesn't");
+            println!("cargo:rustc-link-lib=static={NOTHING}");
+        }
+    }
 }
 
 fn variable(name: &str) -> String {
@@ -30,6 +41,7 @@ fn variable(name: &str) -> String {
 fn archive() -> Result<PathBuf, String> {
     if let Some(folder) = env::var_os("GORSEPLUMB_LIB_DIR") {
         let archive = Path::new(&folder).join(NAME);
+        println!("cargo:rerun-if-changed={}", archive.display());
         let missing = format!("there is no {}; GORSEPLUMB_LIB_DIR names its folder", archive.display());
         return if archive.is_file() { Ok(archive) } else { Err(missing) };
     }
@@ -59,11 +71,14 @@ fn make(top: &Path, archive: &Path) -> Result<(), String> {
         ));
     }
     let made = Command::new(top.join("c/archive")).args(["--target", &variable("TARGET")]).arg(archive).status();
-    match made {
-        Ok(status) if status.success() && archive.is_file() => Ok(()),
-        Ok(status) => Err(format!("{missing}, and `{command}` made none: {status}")),
-        Err(why) => Err(format!("{missing}, and `{command}` can't be run: {why}")),
-    }
+    let why = match made {
+        Ok(status) if status.success() && archive.is_file() => return Ok(()),
+        Ok(status) => format!("{missing}, and `{command}` made none: {status}"),
+        Err(why) => format!("{missing}, and `{command}` can't be run: {why}"),
+    };
+    // It was asked for, so that this ends even what links nothing.
+    eprintln!("gorseplumb: {why}");
+    exit(1)
 }
 
 /// The archive, if it is for the processor that is built for.

@@ -53,11 +53,15 @@ quiet() {
     echo "$1: $(summary "$to/log")"
 }
 
-# Builds with an archive that isn't to be linked, and looks for what is said: refused NAME FOLDER PATTERN
+# With an archive that isn't to be linked a check goes on, and a build ends; both say why: refused NAME FOLDER PATTERN
 refused() {
     local said
-    if said=$(GORSEPLUMB_LIB_DIR=$2 cargo check -q 2>&1); then echo "$1: built" >&2; exit 1; fi
+    said=$(GORSEPLUMB_LIB_DIR=$2 cargo check --all-targets 2>&1) || { echo "$1: no check: $said" >&2; exit 1; }
+    grep -q "gorseplumb: .*$3" <<<"$said" || { echo "$1: a check says $said" >&2; exit 1; }
+    if said=$(GORSEPLUMB_LIB_DIR=$2 cargo build --example first 2>&1); then echo "$1: built" >&2; exit 1; fi
     grep -q "gorseplumb: .*$3" <<<"$said" || { echo "$1: $said" >&2; exit 1; }
+    grep -q "error: could not find native static library .gorseplumb (set GORSEPLUMB_LIB_DIR" <<<"$said" ||
+        { echo "$1: the compiler says $said" >&2; exit 1; }
     echo "$1: refused: $(sed -n "s|$to|..|g; s/.*gorseplumb: //p" <<<"$said" | head -1)"
 }
 
@@ -138,6 +142,8 @@ refused "an archive for AArch64" "$to/other" "is for aarch64, and x86_64 is buil
 refused "no archive" "$to/none" "there is no .*libgorseplumb.a"
 echo nothing >"$to/none/libgorseplumb.a"
 refused "a file that is no archive" "$to/none" "is no archive of ELF files"
+rm "$to/none/libgorseplumb.a"
+quiet "pages without an archive" env GORSEPLUMB_LIB_DIR="$to/none" RUSTDOCFLAGS="-D warnings" cargo doc --no-deps
 
 if has_arm && archive $arm "$to/arm"; then
     export CARGO_TARGET_AARCH64_UNKNOWN_LINUX_GNU_LINKER=aarch64-linux-gnu-gcc
