@@ -118,6 +118,13 @@ quiet "the first example" cargo run --example first
 for profile in "" --release; do
     quiet "a program without std${profile:+, optimized}" cargo run $profile --manifest-path bare/Cargo.toml
 done
+# The functions that the archive calls and hasn't are those that the crate's page names.
+nm "$to/lib/libgorseplumb.a" 2>/dev/null | awk '$1 == "U" { asked[$2] } NF == 3 { had[$3] }
+    END { for (name in asked) if (!(name in had)) print name }' | sort >"$to/asked"
+named=$(sed -n '/^.*# What the program has to have/,/^.*# What the types ask/p' src/lib.rs |
+    grep '^//! - ' | sed 's/:.*//' | grep -o '`[a-z_]*`' | tr -d '`' | sort)
+diff <(echo "$named") "$to/asked" >&2 || { echo "the crate's page doesn't name what the archive calls" >&2; exit 1; }
+echo "the crate's page names the $(wc -l <"$to/asked") functions that the archive calls"
 toml() { nm "$1" 2>/dev/null | grep -ci toml || true; }
 if (($(toml "$to/lib/libgorseplumb.a") == 0 || $(toml "$CARGO_TARGET_DIR/release/bare") > 0)); then
     echo "a program that boots from numbers links the reader of TOML, or the archive has none by this name" >&2

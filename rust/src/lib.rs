@@ -35,6 +35,19 @@
 //! # Ok(()) }
 //! ```
 //!
+//! # What the program has to have
+//!
+//! The archive calls seven functions, by these names. With a C library, and the feature `heap`, which is on, a program
+//! has them all.
+//!
+//! - `rattle_alloc`, `rattle_realloc`, `rattle_dealloc`: the feature `heap` has them over the program's global
+//!   allocator; without it the program has to, as `rust/bare/src/memory.rs` does.
+//! - `memcpy`, `memmove`, `memset`: a C library has them, and for targets without one (`*-none`) Rust itself.
+//! - `write`: a C library has it. Without one it is to be defined by [`settle_by!`], over a function that does nothing
+//!   where no processor walks the tables.
+//!
+//! To check a crate or to read its pages takes no archive; to build a program or a test does.
+//!
 //! # What the types ask
 //!
 //! Lent pages can't be reached while a machine stands in them:

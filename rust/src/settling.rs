@@ -31,7 +31,8 @@ pub unsafe fn settling(descriptor: i32, bytes: *const u8, size: usize) -> Option
 }
 
 /// Has the library settle what it writes by a function of type `fn(Settling)`, which may not call the library. For a
-/// program without a C library whose processors walk the tables: it defines the `write` that the library calls.
+/// program without a C library: it defines the `write` that the library calls. Where no processor walks the tables the
+/// function may do nothing.
 ///
 /// ```no_run
 /// # fn main() {}
