@@ -1,5 +1,6 @@
 // SPDX-License-Identifier: MIT OR Apache-2.0
 //! What a machine's tables give, as a certificate that anybody can have checked.
+use crate::hexadecimal::Hexadecimal;
 use crate::machine::Machine;
 use crate::manifest::Rights;
 use crate::operation::known;
@@ -9,7 +10,7 @@ use core::fmt;
 use core::iter;
 
 /// By what an endpoint has its access to a page.
-#[derive(Clone, Copy, Debug, PartialEq, Eq, Hash)]
+#[derive(Clone, Copy, PartialEq, Eq, Hash)]
 pub enum Grant {
     /// It owns the page.
     Own,
@@ -17,6 +18,16 @@ pub enum Grant {
     Shared(u64),
     /// It holds the open transaction of this handle.
     Held(u64),
+}
+
+impl fmt::Debug for Grant {
+    fn fmt(&self, to: &mut fmt::Formatter<'_>) -> fmt::Result {
+        match self {
+            Grant::Own => to.write_str("Own"),
+            Grant::Shared(handle) => to.debug_tuple("Shared").field(&Hexadecimal(*handle)).finish(),
+            Grant::Held(handle) => to.debug_tuple("Held").field(&Hexadecimal(*handle)).finish(),
+        }
+    }
 }
 
 /// A run of pages that have one owner, one open transaction or none, and one access of each endpoint.
@@ -93,8 +104,8 @@ impl fmt::Debug for PageRun {
             .field("first", &self.first())
             .field("last", &self.last())
             .field("owner", &self.owner())
-            .field("transaction", &self.transaction())
-            .field("access", &self.0.access)
+            .field("transaction", &self.transaction().map(Hexadecimal))
+            .field("access", &self.0.access.map(Rights::of))
             .finish()
     }
 }

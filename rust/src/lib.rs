@@ -125,6 +125,7 @@ mod checks;
 mod codes;
 #[cfg(feature = "heap")]
 mod heap;
+mod hexadecimal;
 mod lists;
 mod machine;
 mod manifest;
@@ -155,8 +156,15 @@ pub use settling::Settling;
 use core::fmt;
 
 /// The identifier of an endpoint, or of the manager.
-#[derive(Clone, Copy, Debug, PartialEq, Eq, PartialOrd, Ord, Hash)]
+#[derive(Clone, Copy, PartialEq, Eq, PartialOrd, Ord, Hash)]
 pub struct Id(pub u16);
+
+/// In hexadecimal, as `Id(0x8001)`.
+impl fmt::Debug for Id {
+    fn fmt(&self, to: &mut fmt::Formatter<'_>) -> fmt::Result {
+        to.debug_tuple("Id").field(&hexadecimal::Hexadecimal(self.0)).finish()
+    }
+}
 
 impl Id {
     /// The manifest's first endpoint.

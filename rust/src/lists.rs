@@ -1,6 +1,7 @@
 // SPDX-License-Identifier: MIT OR Apache-2.0
 //! Operations in a list, and the text of a manifest as numbers.
 use crate::codes::{BootError, Fault};
+use crate::hexadecimal::{All, Hexadecimal};
 use crate::machine::{booted, Machine};
 use crate::manifest::Manifest;
 use crate::operation::{accessed, Answer, Registers, Size};
@@ -9,7 +10,7 @@ use crate::raw;
 use core::fmt;
 
 /// An operation of the endpoint that runs.
-#[derive(Clone, Copy, Debug, PartialEq, Eq)]
+#[derive(Clone, Copy, PartialEq, Eq)]
 #[repr(transparent)]
 pub struct Operation(raw::Operation);
 
@@ -41,13 +42,31 @@ impl Operation {
     }
 }
 
+impl fmt::Debug for Operation {
+    fn fmt(&self, to: &mut fmt::Formatter<'_>) -> fmt::Result {
+        let raw::Operation { kind, size, address, value, ref x } = self.0;
+        let address = Hexadecimal(address);
+        match kind {
+            raw::OPERATION_LOAD => to.debug_struct("Load").field("address", &address).field("size", &size).finish(),
+            raw::OPERATION_STORE => to
+                .debug_struct("Store")
+                .field("address", &address)
+                .field("size", &size)
+                .field("value", &Hexadecimal(value))
+                .finish(),
+            raw::OPERATION_FETCH => to.debug_struct("Fetch").field("address", &address).finish(),
+            _ => to.debug_tuple("Call").field(&All(x)).finish(),
+        }
+    }
+}
+
 /// The place of an outcome in a list.
 #[derive(Clone, Copy, PartialEq, Eq)]
 #[repr(transparent)]
 pub struct Outcome(raw::Outcome);
 
 /// What an operation gives.
-#[derive(Clone, Copy, Debug, PartialEq, Eq)]
+#[derive(Clone, Copy, PartialEq, Eq)]
 pub enum Told {
     /// A call's answer.
     Answer(Answer),
@@ -57,6 +76,17 @@ pub enum Told {
     Done,
     /// An access is refused.
     Fault(Fault),
+}
+
+impl fmt::Debug for Told {
+    fn fmt(&self, to: &mut fmt::Formatter<'_>) -> fmt::Result {
+        match self {
+            Told::Answer(answer) => to.debug_tuple("Answer").field(answer).finish(),
+            Told::Data(value) => to.debug_tuple("Data").field(&Hexadecimal(*value)).finish(),
+            Told::Done => to.write_str("Done"),
+            Told::Fault(fault) => to.debug_tuple("Fault").field(fault).finish(),
+        }
+    }
 }
 
 impl Outcome {

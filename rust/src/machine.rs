@@ -1,6 +1,7 @@
 // SPDX-License-Identifier: MIT OR Apache-2.0
 //! The machine: how it begins, what it does, and how it ends.
 use crate::codes::{AccessError, BootError, Cause, Fault, NoEndpoint};
+use crate::hexadecimal::Hexadecimal;
 use crate::operation::{accessed, accessed_by, known, Answer, Registers, Size};
 use crate::ram::{Heap, Lent, Page, Ram};
 use crate::{raw, Id, Manifest};
@@ -281,12 +282,19 @@ impl<R: Ram> fmt::Debug for Machine<R> {
 }
 
 /// Pages in a row.
-#[derive(Clone, Copy, Debug, PartialEq, Eq, Hash)]
+#[derive(Clone, Copy, PartialEq, Eq, Hash)]
 pub struct Range {
     /// The address of the first byte.
     pub address: u64,
     /// The bytes of all pages.
     pub size: u64,
+}
+
+impl fmt::Debug for Range {
+    fn fmt(&self, to: &mut fmt::Formatter<'_>) -> fmt::Result {
+        let (address, size) = (Hexadecimal(self.address), Hexadecimal(self.size));
+        to.debug_struct("Range").field("address", &address).field("size", &size).finish()
+    }
 }
 
 /// Whose access to which pages has changed. To each of them the endpoint had none before, or has none now.
@@ -315,8 +323,17 @@ impl Change {
 
 impl fmt::Debug for Change {
     fn fmt(&self, to: &mut fmt::Formatter<'_>) -> fmt::Result {
-        write!(to, "{:?} ", self.endpoint())?;
-        to.debug_list().entries(self.ranges()).finish()
+        let ranges = Ranges(self);
+        to.debug_struct("Change").field("endpoint", &self.endpoint()).field("ranges", &ranges).finish()
+    }
+}
+
+/// The ranges of a change, for `Debug`.
+struct Ranges<'change>(&'change Change);
+
+impl fmt::Debug for Ranges<'_> {
+    fn fmt(&self, to: &mut fmt::Formatter<'_>) -> fmt::Result {
+        to.debug_list().entries(self.0.ranges()).finish()
     }
 }
 

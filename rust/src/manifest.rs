@@ -1,5 +1,6 @@
 // SPDX-License-Identifier: MIT OR Apache-2.0
 //! A manifest as numbers, which a program can have as a constant.
+use crate::hexadecimal::Hexadecimal;
 use crate::raw;
 use core::fmt;
 use core::ops::BitOr;
@@ -45,9 +46,21 @@ impl fmt::Display for Rights {
 }
 
 /// Pages in a row that an endpoint owns from the start.
-#[derive(Clone, Copy, Debug, PartialEq, Eq)]
+#[derive(Clone, Copy, PartialEq, Eq)]
 #[repr(transparent)]
 pub struct Region(raw::Region);
+
+impl fmt::Debug for Region {
+    fn fmt(&self, to: &mut fmt::Formatter<'_>) -> fmt::Result {
+        let raw::Region { base, pages, rights } = self.0;
+        let mut shown = to.debug_struct("Region");
+        shown.field("base", &Hexadecimal(base)).field("pages", &pages);
+        match Rights::of(rights) {
+            Some(rights) => shown.field("rights", &rights).finish(),
+            None => shown.field("rights", &rights).finish(),
+        }
+    }
+}
 
 impl Region {
     const NONE: Region = Region(raw::Region { base: 0, pages: 0, rights: 0 });
@@ -133,9 +146,32 @@ impl fmt::Display for CountError {
 impl std::error::Error for CountError {}
 
 /// An endpoint of a machine.
-#[derive(Clone, Copy, Debug, PartialEq, Eq)]
+#[derive(Clone, Copy, PartialEq, Eq)]
 #[repr(transparent)]
 pub struct Endpoint(raw::Endpoint);
+
+/// Without the places that hold no region.
+impl fmt::Debug for Endpoint {
+    fn fmt(&self, to: &mut fmt::Formatter<'_>) -> fmt::Result {
+        let raw::Endpoint { version, properties, uuid, region_count, ref regions } = self.0;
+        let version = if version == Version::V1_1 as u32 { Version::V1_1 } else { Version::Compact };
+        to.debug_struct("Endpoint")
+            .field("version", &version)
+            .field("properties", &Properties(properties))
+            .field("uuid", &Hexadecimal(u128::from_be_bytes(uuid)))
+            .field("regions", &First(regions, region_count, Region))
+            .finish()
+    }
+}
+
+/// The first of some places, for `Debug`: as many as is told, each as what shows it.
+struct First<'list, T, U>(&'list [T], u32, fn(T) -> U);
+
+impl<T: Copy, U: fmt::Debug> fmt::Debug for First<'_, T, U> {
+    fn fmt(&self, to: &mut fmt::Formatter<'_>) -> fmt::Result {
+        to.debug_list().entries(self.0.iter().take(self.1 as usize).map(|place| self.2(*place))).finish()
+    }
+}
 
 impl Endpoint {
     const NONE: Endpoint = Endpoint(raw::Endpoint {
@@ -196,9 +232,21 @@ impl Endpoint {
 }
 
 /// A manifest as numbers. Its counts are those that there may be; whether it describes a machine, a boot says.
-#[derive(Clone, Copy, Debug, PartialEq, Eq)]
+#[derive(Clone, Copy, PartialEq, Eq)]
 #[repr(transparent)]
 pub struct Manifest(raw::Manifest);
+
+/// Without the places that hold no endpoint.
+impl fmt::Debug for Manifest {
+    fn fmt(&self, to: &mut fmt::Formatter<'_>) -> fmt::Result {
+        let raw::Manifest { ram_base, ram_blocks, endpoint_count, ref endpoints } = self.0;
+        to.debug_struct("Manifest")
+            .field("ram_base", &Hexadecimal(ram_base))
+            .field("ram_blocks", &ram_blocks)
+            .field("endpoints", &First(endpoints, endpoint_count, Endpoint))
+            .finish()
+    }
+}
 
 impl Manifest {
     pub(crate) const EMPTY: Manifest = Manifest(raw::Manifest {

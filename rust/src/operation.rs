@@ -1,6 +1,7 @@
 // SPDX-License-Identifier: MIT OR Apache-2.0
 //! What an operation is given, and what comes of it.
 use crate::codes::{AccessError, ErrorCode, Fault, NoEndpoint};
+use crate::hexadecimal::All;
 use crate::{raw, Id};
 use core::fmt;
 
@@ -115,7 +116,8 @@ impl Answer {
 
 impl fmt::Debug for Answer {
     fn fmt(&self, to: &mut fmt::Formatter<'_>) -> fmt::Result {
-        to.debug_struct("Answer").field("runner", &self.runner()).field("registers", self.registers()).finish()
+        let registers = All(self.registers());
+        to.debug_struct("Answer").field("runner", &self.runner()).field("registers", &registers).finish()
     }
 }
 

@@ -2,6 +2,7 @@
 //! Why an operation would be refused, or was refused just before.
 use crate::checks::{Check, Flaw};
 use crate::codes::{ErrorCode, Fault};
+use crate::hexadecimal::Hexadecimal;
 use crate::machine::{of, Machine};
 use crate::operation::{known, Registers, Size};
 use crate::ram::Ram;
@@ -29,7 +30,7 @@ pub struct AccessReason {
 }
 
 /// What a check is about.
-#[derive(Clone, Copy, Debug, PartialEq, Eq, Hash)]
+#[derive(Clone, Copy, PartialEq, Eq, Hash)]
 pub enum About {
     /// A page, counted from RAM's first.
     Page {
@@ -67,7 +68,7 @@ pub enum About {
 }
 
 /// What stands in the way at a page.
-#[derive(Clone, Copy, Debug, PartialEq, Eq, Hash)]
+#[derive(Clone, Copy, PartialEq, Eq, Hash)]
 pub enum Obstacle {
     /// RAM has no such page.
     OutsideRam,
@@ -77,6 +78,41 @@ pub enum Obstacle {
     OwnedBy(Id),
     /// It stands in the open transaction of this handle.
     InTransaction(u64),
+}
+
+impl fmt::Debug for Obstacle {
+    fn fmt(&self, to: &mut fmt::Formatter<'_>) -> fmt::Result {
+        match self {
+            Obstacle::OutsideRam => to.write_str("OutsideRam"),
+            Obstacle::ManagersPage => to.write_str("ManagersPage"),
+            Obstacle::OwnedBy(owner) => to.debug_tuple("OwnedBy").field(owner).finish(),
+            Obstacle::InTransaction(handle) => to.debug_tuple("InTransaction").field(&Hexadecimal(*handle)).finish(),
+        }
+    }
+}
+
+impl fmt::Debug for About {
+    fn fmt(&self, to: &mut fmt::Formatter<'_>) -> fmt::Result {
+        match self {
+            About::Page { page, obstacle } => {
+                to.debug_struct("Page").field("page", page).field("obstacle", obstacle).finish()
+            }
+            About::Endpoint(endpoint) => to.debug_tuple("Endpoint").field(endpoint).finish(),
+            About::Handle(handle) => to.debug_tuple("Handle").field(&Hexadecimal(*handle)).finish(),
+            About::Register { number, value } => {
+                to.debug_struct("Register").field("number", number).field("value", &Hexadecimal(*value)).finish()
+            }
+            About::Bit(bit) => to.debug_tuple("Bit").field(bit).finish(),
+            About::Field { flaw, index, first, size, value } => to
+                .debug_struct("Field")
+                .field("flaw", flaw)
+                .field("index", index)
+                .field("first", first)
+                .field("size", size)
+                .field("value", &value.map(Hexadecimal))
+                .finish(),
+        }
+    }
 }
 
 impl fmt::Display for Obstacle {

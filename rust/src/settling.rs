@@ -1,11 +1,13 @@
 // SPDX-License-Identifier: MIT OR Apache-2.0
 //! What firmware settles while an operation is on its way.
+use crate::hexadecimal::Hexadecimal;
 use crate::{raw, Id};
+use core::fmt;
 
 /// What is to be settled: when the function that [`settle_by!`](crate::settle_by) names returns, all that the library
 /// has stored so far is seen by every processor and every walk of tables, and no processor holds a translation for an
 /// address of these pages that came of this endpoint's tables as they were before.
-#[derive(Clone, Copy, Debug, PartialEq, Eq, Hash)]
+#[derive(Clone, Copy, PartialEq, Eq, Hash)]
 pub struct Settling {
     /// Whose tables.
     pub endpoint: Id,
@@ -14,6 +16,17 @@ pub struct Settling {
     /// The bytes of all pages; 0 where the page at this address was filled with zeros, and no translation is to be
     /// forgotten.
     pub size: u64,
+}
+
+impl fmt::Debug for Settling {
+    fn fmt(&self, to: &mut fmt::Formatter<'_>) -> fmt::Result {
+        let (address, size) = (Hexadecimal(self.address), Hexadecimal(self.size));
+        to.debug_struct("Settling")
+            .field("endpoint", &self.endpoint)
+            .field("address", &address)
+            .field("size", &size)
+            .finish()
+    }
 }
 
 /// Reads what the library writes.

@@ -178,5 +178,5 @@ fn what_a_machine_is_asked() {
     assert_eq!(bytes.0, [7; 4096]);
     assert!(machine.read_page(16, &mut bytes));
     assert_eq!(bytes.0[..9], [0xEF, 0xCD, 0xAB, 0x89, 0x67, 0x45, 0x23, 0x01, 0]);
-    assert_eq!(format!("{machine:?}"), "Machine { runner: Id(0), .. }");
+    assert_eq!(format!("{machine:?}"), "Machine { runner: Id(0x0), .. }");
 }

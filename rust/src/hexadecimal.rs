@@ -1,0 +1,22 @@
+// SPDX-License-Identifier: MIT OR Apache-2.0
+//! Numbers as `Debug` shows them here: addresses, registers, identifiers and handles in hexadecimal, whatever the flags,
+//! as they stand in a program's text.
+use core::fmt;
+
+/// A number that is shown so.
+pub(crate) struct Hexadecimal<T>(pub T);
+
+impl<T: fmt::UpperHex> fmt::Debug for Hexadecimal<T> {
+    fn fmt(&self, to: &mut fmt::Formatter<'_>) -> fmt::Result {
+        write!(to, "0x{:X}", self.0)
+    }
+}
+
+/// Numbers in a list that are shown so.
+pub(crate) struct All<'list, T>(pub &'list [T]);
+
+impl<T: fmt::UpperHex> fmt::Debug for All<'_, T> {
+    fn fmt(&self, to: &mut fmt::Formatter<'_>) -> fmt::Result {
+        to.debug_list().entries(self.0.iter().map(Hexadecimal)).finish()
+    }
+}

@@ -1,0 +1,94 @@
+// SPDX-License-Identifier: MIT OR Apache-2.0
+//! What `Debug` shows: addresses, registers, identifiers and handles in hexadecimal, and each type by its name.
+mod common;
+
+use common::machines::MACHINE;
+use common::play;
+use gorseplumb::{registers, About, Check, ErrorCode, Flaw, Grant, Id, Machine, Obstacle, Operation, Outcome, Range};
+use gorseplumb::{CallReason, Endpoint, Manifest, Properties, Region, Rights, Settling, Size, Version};
+
+fn shows(what: impl std::fmt::Debug, text: &str) {
+    assert_eq!(format!("{what:?}"), text);
+}
+
+#[test]
+fn operations_and_what_they_give() {
+    let mut machine = Machine::boot(&MACHINE).unwrap();
+    shows(Id(0x8001), "Id(0x8001)");
+    shows(&machine, "Machine { runner: Id(0x0), .. }");
+    let list = [
+        Operation::store(0x4001_0000, Size::B2, 0xABCD),
+        Operation::load(0x4001_0000, Size::B1),
+        Operation::fetch(0x4001_0000),
+        Operation::call(registers([0x8400_0069])),
+    ];
+    shows(list[0], "Store { address: 0x40010000, size: 2, value: 0xABCD }");
+    shows(list[1], "Load { address: 0x40010000, size: 1 }");
+    shows(list[2], "Fetch { address: 0x40010000 }");
+    shows(list[3], "Call([0x84000069, 0x0, 0x0, 0x0, 0x0, 0x0, 0x0, 0x0])");
+    let mut outcomes = [Outcome::NONE; 4];
+    assert_eq!(machine.run(&list, &mut outcomes), 4);
+    shows(outcomes[0], "Done");
+    shows(outcomes[1], "Data(0xCD)");
+    shows(outcomes[2], "Fault(Permission)");
+    let zeros = ", 0x0".repeat(7);
+    shows(outcomes[3], &format!("Answer(Answer {{ runner: Id(0x0), registers: [0x84000061{zeros}] }})"));
+}
+
+#[test]
+fn what_is_told_of_pages() {
+    let mut machine = Machine::boot(&MACHINE).unwrap();
+    let lend = "call 84000066 4001E000 4001F000 1\nstore 4001E000 0000000000000000\n\
+                  store 4001E018 0000000100000010\nstore 4001E020 0000000000000030\n\
+                  store 4001E030 0000004000028001\nstore 4001E040 0000000100000001\n\
+                  store 4001E050 0000000040010000\nstore 4001E058 0000000000000001\n";
+    play(&mut machine, lend);
+    machine.call(&registers([0x8400_0072, 0x60, 0x60])).done().unwrap();
+    let change = machine.changed().unwrap();
+    shows(&change, "Change { endpoint: Id(0x0), ranges: [Range { address: 0x40010000, size: 0x1000 }] }");
+    let run = machine.run_from(48).unwrap();
+    let shown = "PageRun { first: 48, last: 63, owner: Id(0x8002), transaction: None, \
+                 access: [None, None, Some(Rw), None, None, None, None, None] }";
+    shows(run, shown);
+    let run = machine.run_from(16).unwrap();
+    assert!(format!("{run:?}").contains(&format!("transaction: Some(0x{:X})", run.transaction().unwrap())));
+    shows(Range { address: 0x4001_0000, size: 0x2000 }, "Range { address: 0x40010000, size: 0x2000 }");
+    let settling = Settling { endpoint: Id(0x8001), address: 0x4001_0000, size: 0x1000 };
+    shows(settling, "Settling { endpoint: Id(0x8001), address: 0x40010000, size: 0x1000 }");
+    shows([Grant::Own, Grant::Shared(0xA), Grant::Held(0x1_0000)], "[Own, Shared(0xA), Held(0x10000)]");
+}
+
+#[test]
+fn manifests() {
+    let regions = [Region::new(0x4001_0000, 16, Rights::Rw)];
+    let world = Endpoint::normal_world(Version::V1_1, Properties::SENDS_REQUESTS, &regions);
+    shows(
+        Manifest::new(0x4000_0000, 1, &[world]),
+        "Manifest { ram_base: 0x40000000, ram_blocks: 1, endpoints: [Endpoint { version: V1_1, \
+         properties: Properties(2), uuid: 0x0, \
+         regions: [Region { base: 0x40010000, pages: 16, rights: Rw }] }] }",
+    );
+    let manifest = format!("{MACHINE:?}");
+    assert!(manifest.contains("uuid: 0x112233445566778899AABBCCDDEEFF,"), "{manifest}");
+    assert_eq!(manifest.matches("Endpoint {").count(), 3);
+}
+
+#[test]
+fn reasons() {
+    let about = About::Register { number: 2, value: 0x4001_0000 };
+    shows(
+        CallReason { check: Check::BuffersOverlap, error: ErrorCode::InvalidParameters, about: Some(about) },
+        "CallReason { check: BuffersOverlap, error: InvalidParameters, \
+         about: Some(Register { number: 2, value: 0x40010000 }) }",
+    );
+    let obstacle = Some(Obstacle::InTransaction(0x1_0000));
+    shows(About::Page { page: 16, obstacle }, "Page { page: 16, obstacle: Some(InTransaction(0x10000)) }");
+    shows([Obstacle::OutsideRam, Obstacle::ManagersPage], "[OutsideRam, ManagersPage]");
+    shows(Obstacle::OwnedBy(Id(0x8002)), "OwnedBy(Id(0x8002))");
+    shows(About::Endpoint(Id(0x8002)), "Endpoint(Id(0x8002))");
+    shows([About::Handle(0xAB), About::Bit(12)], "[Handle(0xAB), Bit(12)]");
+    shows(
+        About::Field { flaw: Flaw::AccessPermissions, index: 0, first: 50, size: 1, value: Some(0xF) },
+        "Field { flaw: AccessPermissions, index: 0, first: 50, size: 1, value: Some(0xF) }",
+    );
+}
