@@ -21,8 +21,10 @@ pub struct CallReason {
 }
 
 /// Why an access is refused.
-#[derive(Clone, Copy, Debug, PartialEq, Eq, Hash)]
+#[derive(Clone, Copy, PartialEq, Eq, Hash)]
 pub struct AccessReason {
+    /// The address of its first byte.
+    pub address: u64,
     /// The fault.
     pub fault: Fault,
     /// What stands in the way, of a translation fault. None there: the address has more than 32 bits.
@@ -78,6 +80,16 @@ pub enum Obstacle {
     OwnedBy(Id),
     /// It stands in the open transaction of this handle.
     InTransaction(u64),
+}
+
+impl fmt::Debug for AccessReason {
+    fn fmt(&self, to: &mut fmt::Formatter<'_>) -> fmt::Result {
+        to.debug_struct("AccessReason")
+            .field("address", &Hexadecimal(self.address))
+            .field("fault", &self.fault)
+            .field("obstacle", &self.obstacle)
+            .finish()
+    }
 }
 
 impl fmt::Debug for Obstacle {
@@ -148,11 +160,16 @@ impl fmt::Display for CallReason {
     }
 }
 
-/// The fault, and what stands in the way.
+/// The fault, the address, and what stands in the way.
 impl fmt::Display for AccessReason {
     fn fmt(&self, to: &mut fmt::Formatter<'_>) -> fmt::Result {
-        self.fault.fmt(to)?;
-        self.obstacle.map_or(Ok(()), |obstacle| write!(to, ": the page {obstacle}"))
+        let digits = if self.address > u32::MAX.into() { 16 } else { 8 };
+        write!(to, "{} at {:0digits$X}", self.fault, self.address)?;
+        match (self.fault, self.obstacle) {
+            (_, Some(obstacle)) => write!(to, ": the page {obstacle}"),
+            (Fault::Translation, None) => to.write_str(": the address has more than 32 bits"),
+            _ => Ok(()),
+        }
     }
 }
 
@@ -181,8 +198,8 @@ impl CallReason {
 }
 
 impl AccessReason {
-    fn of(told: &raw::Reason) -> AccessReason {
-        AccessReason { fault: known(Fault::of(told.fault)), obstacle: Obstacle::of(told) }
+    fn of(address: u64, told: &raw::Reason) -> AccessReason {
+        AccessReason { address, fault: known(Fault::of(told.fault)), obstacle: Obstacle::of(told) }
     }
 }
 
@@ -241,11 +258,23 @@ impl<R: Ram> Machine<R> {
     }
 
     /// The same of a load.
+    ///
+    /// ```
+    /// # use gorseplumb::*;
+    /// # const RAM: u32 = 0x4000_0000;
+    /// # const WORLD: Endpoint =
+    /// #     Endpoint::normal_world(Version::V1_1, Properties::NONE, &[Region::new(RAM + 0x10000, 16, Rights::Rw)]);
+    /// # let mut machine = Machine::boot(&Manifest::new(RAM, 1, &[WORLD]))?;
+    /// assert_eq!(machine.load(0x4000_0000, Size::B8), Err(Fault::Translation));
+    /// let reason = machine.why_load(0x4000_0000, Size::B8).unwrap();
+    /// assert_eq!(reason.to_string(), "translation fault at 40000000: the page belongs to the manager");
+    /// # Ok::<(), BootError>(())
+    /// ```
     #[must_use]
     pub fn why_load(&self, address: u64, size: Size) -> Option<AccessReason> {
         let mut told = raw::Reason::default();
         unsafe { raw::gorseplumb_why_load(self.asked(), address, size as u32, &mut told) }
-            .then(|| AccessReason::of(&told))
+            .then(|| AccessReason::of(address, &told))
     }
 
     /// The same of a store.
@@ -253,13 +282,13 @@ impl<R: Ram> Machine<R> {
     pub fn why_store(&self, address: u64, size: Size) -> Option<AccessReason> {
         let mut told = raw::Reason::default();
         unsafe { raw::gorseplumb_why_store(self.asked(), address, size as u32, &mut told) }
-            .then(|| AccessReason::of(&told))
+            .then(|| AccessReason::of(address, &told))
     }
 
     /// The same of a fetch.
     #[must_use]
     pub fn why_fetch(&self, address: u64) -> Option<AccessReason> {
         let mut told = raw::Reason::default();
-        unsafe { raw::gorseplumb_why_fetch(self.asked(), address, &mut told) }.then(|| AccessReason::of(&told))
+        unsafe { raw::gorseplumb_why_fetch(self.asked(), address, &mut told) }.then(|| AccessReason::of(address, &told))
     }
 }

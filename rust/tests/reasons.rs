@@ -109,7 +109,8 @@ fn why_accesses_fault() {
     machine.call(&registers([0x8400_006D, 0x8001_0000])).done().unwrap();
     assert_eq!(told(machine.why_store(0x4002_0000, Size::B1)), Some((Fault::Permission, None)));
     let reason = machine.why_load(0x4020_0000, Size::B1).unwrap();
-    assert_eq!(reason.to_string(), "translation fault: the page belongs to 8002");
+    assert_eq!(reason.address, 0x4020_0000);
+    assert_eq!(reason.to_string(), "translation fault at 40200000: the page belongs to 8002");
 }
 
 fn text(name: *const u8) -> String {

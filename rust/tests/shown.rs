@@ -5,7 +5,9 @@ mod common;
 use common::machines::MACHINE;
 use common::play;
 use gorseplumb::{registers, About, Check, ErrorCode, Flaw, Grant, Id, Machine, Obstacle, Operation, Outcome, Range};
-use gorseplumb::{CallReason, Endpoint, Manifest, Properties, Region, Rights, Settling, Size, Version};
+use gorseplumb::{
+    AccessReason, CallReason, Endpoint, Fault, Manifest, Properties, Region, Rights, Settling, Size, Version,
+};
 
 fn shows(what: impl std::fmt::Debug, text: &str) {
     assert_eq!(format!("{what:?}"), text);
@@ -82,6 +84,9 @@ fn reasons() {
          about: Some(Register { number: 2, value: 0x40010000 }) }",
     );
     let obstacle = Some(Obstacle::InTransaction(0x1_0000));
+    let reason = AccessReason { address: 0x4001_0000, fault: Fault::Translation, obstacle };
+    let held = "InTransaction(0x10000)";
+    shows(reason, &format!("AccessReason {{ address: 0x40010000, fault: Translation, obstacle: Some({held}) }}"));
     shows(About::Page { page: 16, obstacle }, "Page { page: 16, obstacle: Some(InTransaction(0x10000)) }");
     shows([Obstacle::OutsideRam, Obstacle::ManagersPage], "[OutsideRam, ManagersPage]");
     shows(Obstacle::OwnedBy(Id(0x8002)), "OwnedBy(Id(0x8002))");
