@@ -120,6 +120,7 @@ extern crate alloc;
 #[cfg(feature = "std")]
 extern crate std;
 
+mod bytes;
 mod certificate;
 mod checks;
 mod codes;
