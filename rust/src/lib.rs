@@ -124,6 +124,7 @@ mod bytes;
 mod certificate;
 mod checks;
 mod codes;
+mod functions;
 #[cfg(feature = "heap")]
 mod heap;
 mod hexadecimal;
@@ -141,6 +142,7 @@ mod settling;
 pub use certificate::{AuditError, Grant, PageRun};
 pub use checks::{Check, Flaw};
 pub use codes::{AccessError, BootError, Cause, ErrorCode, Fault, NoEndpoint};
+pub use functions::Function;
 pub use lists::{Operation, Outcome, Told};
 pub use machine::{Change, Description, Machine, Range};
 pub use manifest::{
