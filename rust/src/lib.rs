@@ -131,6 +131,7 @@ mod hexadecimal;
 mod lists;
 mod machine;
 mod manifest;
+mod named;
 mod names;
 mod operation;
 mod questions;
@@ -148,6 +149,7 @@ pub use machine::{Change, Description, Machine, Range};
 pub use manifest::{
     CountError, Endpoint, Manifest, Properties, Region, Rights, Version, MOST_BLOCKS, MOST_ENDPOINTS, MOST_REGIONS,
 };
+pub use named::{decode, encode, ArgumentError, Named};
 pub use names::{call_name, declarations};
 pub use operation::{registers, Answer, Registers, Size};
 pub use ram::{Heap, Lent, Page, Ram, PAGE_SIZE};

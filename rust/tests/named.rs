@@ -1,0 +1,88 @@
+// SPDX-License-Identifier: MIT OR Apache-2.0
+//! Registers by name, as the standard lays them out: what is written is what is read.
+use gorseplumb::{decode, encode, registers, ArgumentError, Function, Registers};
+
+fn told(registers: Registers, answers: Option<Function>) -> String {
+    decode(&registers, answers).unwrap().to_string()
+}
+
+#[test]
+fn calls_and_answers() {
+    let rows = [
+        (registers([0x8400_0069]), "FFA_ID_GET"),
+        (registers([0x8400_0063, 0x1_0001]), "FFA_VERSION major=1 minor=1"),
+        (registers([0x8400_0064, 0x8400_006D]), "FFA_FEATURES feature=FFA_RUN"),
+        (registers([0x8400_0060, 0, 0xFFFF_FFFA]), "FFA_ERROR code=DENIED"),
+        (registers([0x8400_0077, 1, 0x8001]), "FFA_MEM_RECLAIM handle=0000800100000001 flags=0"),
+        (
+            registers([0x8400_0068, 0x3322_1100, 0x7766_5544, 0xBBAA_9988, 0xFFEE_DDCC, 1]),
+            "FFA_PARTITION_INFO_GET uuid=00112233445566778899aabbccddeeff count_only=1",
+        ),
+        (
+            registers([0xC400_006F, 0x8001, 0, u64::MAX, 2]),
+            "FFA_MSG_SEND_DIRECT_REQ sender=0000 receiver=8001 flags=0 \
+             payload0=FFFFFFFFFFFFFFFF payload1=2 payload2=0 payload3=0 payload4=0",
+        ),
+        (
+            registers([0x8400_0081, 0x8001, 0, 8, 1]),
+            "FFA_NOTIFICATION_SET sender=0000 receiver=8001 flags=0 bits=100000008",
+        ),
+        (registers([0x8400_0082, 0x2_8001, 3]), "FFA_NOTIFICATION_GET receiver=8001 context=2 flags=3"),
+    ];
+    for (registers, expected) in rows {
+        assert_eq!(told(registers, None), expected);
+    }
+    let success = registers([0x8400_0061, 0, 1, 2, 3, 4, 5]);
+    assert_eq!(told(success, None), "FFA_SUCCESS");
+    assert_eq!(told(success, Some(Function::RxtxMap64)), "FFA_SUCCESS");
+    assert_eq!(told(success, Some(Function::PartitionInfoGet)), "FFA_SUCCESS count=1 size=2");
+    let pending = "FFA_SUCCESS partitions=200000001 normal_world=400000003 manager=5";
+    assert_eq!(told(success, Some(Function::NotificationGet)), pending);
+    assert_eq!(decode(&registers([0x8400_0062]), None), None);
+    assert_eq!(format!("{:?}", decode(&registers([0x8400_0069]), None)), "Some(Named(FFA_ID_GET))");
+}
+
+#[test]
+fn what_is_written_is_read() {
+    for function in Function::ALL {
+        let empty = decode(&registers([function.number().into()]), None).unwrap();
+        let names: Vec<&str> = empty.iter().map(|(name, _)| name).collect();
+        // Each argument alone, full: the others are none, and one bit more has no room.
+        let mut all = [0; 8];
+        for name in names {
+            let ones =
+                decode(&[&[u64::from(function.number())][..], &[u64::MAX; 7]].concat().try_into().unwrap(), None);
+            let full = ones.unwrap().get(name).unwrap();
+            let given = [(name, full), ("fragment", 0)];
+            let call = encode(*function, &given[..if name == "length" { 2 } else { 1 }]).unwrap();
+            for (other, value) in decode(&call, None).unwrap().iter() {
+                assert_eq!(value, if other == name { full } else { 0 }, "{function:?}: {name}, {other}");
+            }
+            for (all, register) in all.iter_mut().zip(call).skip(1) {
+                assert_eq!(*all & register, 0, "{function:?}: {name} has a bit of another argument");
+                *all |= register;
+            }
+            if let Some(more) = full.checked_add(1) {
+                let bits = more.trailing_zeros();
+                let error = encode(*function, &[(name, more)]).unwrap_err();
+                let told = format!("{name} has {bits} bits, and is {more:#X}");
+                assert_eq!(error.to_string(), told);
+            }
+        }
+    }
+}
+
+#[test]
+fn what_makes_no_call() {
+    let error = encode(Function::Run, &[("context", 0), ("endpoint", 1)]).unwrap_err();
+    assert_eq!(error, ArgumentError::Unknown { function: Function::Run, place: 1 });
+    let told = "FFA_RUN has no argument of the name at place 1: it has partition, context";
+    assert_eq!(error.to_string(), told);
+    let error = encode(Function::IdGet, &[("context", 0)]).unwrap_err();
+    assert_eq!(error.to_string(), "FFA_ID_GET has no argument of the name at place 0: it has none");
+    let error = encode(Function::Run, &[("context", 0), ("context", 0)]).unwrap_err();
+    assert_eq!(error.to_string(), "context is given twice");
+    assert_eq!(encode(Function::MemShare, &[("length", 0x60)]), Ok(registers([0x8400_0073, 0x60, 0x60])));
+    let parts = encode(Function::MemShare, &[("length", 0x60), ("fragment", 0x20)]);
+    assert_eq!(parts, Ok(registers([0x8400_0073, 0x60, 0x20])));
+}
