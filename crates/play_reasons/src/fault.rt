@@ -174,40 +174,50 @@ fn count_fault(command: Command, count: usize, ninth: usize, bytes: usize) -> Li
 }
 
 impl fmt::Display for LineFault {
+    ghost use Rattle.std.specs.Prelude.{Some};
+    ghost use Rattle.play_reasons.specs.FaultWords.{fault_words};
+
+    ghost output = { λ fault. Some (fault_words fault) };
+
     fn fmt<W: fmt::Write>(&self, f: &mut fmt::Formatter<W>) -> fmt::Result {
-        let words = match self {
-            LineFault::NoEnd => "no line end",
-            LineFault::CarriageReturn => "a CR before the line's end",
-            LineFault::Words { column, cause } => return write!(f, "column {column}: {cause}"),
-            LineFault::Whole => "no line of a trace",
-        };
-        f.write_str(words)
+        match self {
+            LineFault::NoEnd => write!(f, "no line end"),
+            LineFault::CarriageReturn => write!(f, "a CR before the line's end"),
+            LineFault::Words { column, cause } => write!(f, "column {column}: {cause}"),
+            LineFault::Whole => write!(f, "no line of a trace"),
+        }
     }
 }
 
 impl fmt::Display for WordFault {
+    ghost use Rattle.std.specs.Prelude.{Some};
+    ghost use Rattle.play_reasons.specs.FaultWords.{word_fault_words};
+
+    ghost output = { λ fault. Some (word_fault_words fault) };
+
     fn fmt<W: fmt::Write>(&self, f: &mut fmt::Formatter<W>) -> fmt::Result {
-        let words = match self {
-            WordFault::Empty => "an empty word",
-            WordFault::UnknownCommand => "an unknown command",
-            WordFault::NoNumber => "no hexadecimal number",
+        match self {
+            WordFault::Empty => write!(f, "an empty word"),
+            WordFault::UnknownCommand => write!(f, "an unknown command"),
+            WordFault::NoNumber => write!(f, "no hexadecimal number"),
             WordFault::LongNumber(digits) => {
-                return write!(f, "a number of {digits} digits, where 16 are the most");
+                write!(f, "a number of {digits} digits, where 16 are the most")
             }
-            WordFault::Size => "a size that is none of 1, 2, 4 and 8",
-            WordFault::Digits(1) => "a value of 1 digit, which is none of 2, 4, 8 and 16",
+            WordFault::Size => write!(f, "a size that is none of 1, 2, 4 and 8"),
+            WordFault::Digits(1) => {
+                write!(f, "a value of 1 digit, which is none of 2, 4, 8 and 16")
+            }
             WordFault::Digits(digits) => {
-                return write!(
+                write!(
                     f,
                     "a value of {digits} digits, which are none of 2, 4, 8 and 16"
-                );
+                )
             }
             WordFault::Registers(count) => {
-                return write!(f, "{count} registers, where a call has 1 to 8");
+                write!(f, "{count} registers, where a call has 1 to 8")
             }
-            WordFault::Missing => "a word is missing",
-            WordFault::TooMany => "a word too many",
-        };
-        f.write_str(words)
+            WordFault::Missing => write!(f, "a word is missing"),
+            WordFault::TooMany => write!(f, "a word too many"),
+        }
     }
 }
