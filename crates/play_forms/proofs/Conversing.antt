@@ -1,7 +1,7 @@
 -- SPDX-License-Identifier: MIT OR Apache-2.0
 -- A session, line by line: a bad line prints nothing and changes nothing.
 use Rattle.std.proofs.Common.{◌≡◌, ℕ, ◌+◌, ◌<◌, ◌^◌, Bool, true, false, List, [], ◌∷◌, ◌++◌, length, Option, None, Some, Result, Ok, Err, inl, inr, sym, ap, ◌∙◌, subst, refl}
-use Rattle.std.specs.Prelude.{IfErr, is_some}
+use Rattle.std.specs.Prelude.{is_some}
 use Rattle.std.specs.Option.{option_map_or}
 use Rattle.std.specs.Io.KnownBytes.{Appends, Consumes}
 use Rattle.std.specs.List.{list_all}
@@ -18,7 +18,7 @@ use Rattle.play_player.proofs.Runs.{joined-append}
 use Rattle.play_forms.specs.Cut.{CutsTo}
 use Rattle.play_forms.specs.Forms.{line_text_in, text_in, text_of_in}
 use Rattle.play_forms.specs.Sessions.{Conversed, IsOver, SessionIn, good_lines, good_text_in}
-use Rattle.play_forms.specs.SessionSteps.{AnswersLine, HearsLine}
+use Rattle.play_forms.specs.SessionSteps.{AnswersLine, HearsLine, TellsOrLoses}
 use Rattle.play_forms.specs.Steps.{PrintsLine}
 use Rattle.play_forms.specs.declared.form.Form.{Form}
 use Rattle.play_forms.proofs.CutOff.{cuts_text}
@@ -90,11 +90,14 @@ answers_good form start now number bytes line held holds is (Err (BadLine n)) r 
 
 -- a bad line was told, or there is no memory for that
 pub answers_bad : (form : Form) (start : State) (number : ℕ) (bytes : List ℕ) (held : Option (List ℕ)) → None ≡ line_of bytes
-    → (r : Result (Unit {0}) PlayError) → IfErr r (λ e. e ≡ NoMemory) → AnswersLine form start start number bytes held held r
-answers_bad form start number bytes held none (Ok x) short =
+    → (before after : Option (List ℕ)) (r : Result (Unit {0}) PlayError) → TellsOrLoses number (bytes ++ feed ∷ []) before after r → AnswersLine form start start number bytes held held r
+answers_bad form start number bytes held none before after (Ok x) told =
     let bad : is_good bytes ≡ false = ap is_some (sym none) in
     (sym (bad_after start bytes bad), subst (Appends held held) (sym (bad_text_in form number start bytes bad)) (Appends-nil held))
-answers_bad form start number bytes held none (Err e) short = subst (λ e. AnswersLine {X = Unit {0}} form start start number bytes held held (Err e)) (sym short) tt
+answers_bad form start number bytes held none before after (Err NoMemory) kept = tt
+answers_bad form start number bytes held none before after (Err Read) never = absurd never
+answers_bad form start number bytes held none before after (Err Write) never = absurd never
+answers_bad form start number bytes held none before after (Err (BadLine n)) never = absurd never
 
 -- there is a line
 pub heard : (had has : Option (List ℕ)) (line : List ℕ) (number : ℕ) (b : Bool) → b ≡ true → HearsLine had has line number (Ok b)

@@ -1,4 +1,5 @@
 -- SPDX-License-Identifier: MIT OR Apache-2.0
+pub mod BadLines
 pub mod Cames
 pub mod Compares
 pub mod Conversing

@@ -2,7 +2,7 @@
 -- FOR PROOFS ALONE
 -- The steps of a session, which private functions promise one another.
 use Rattle.std.specs.Prelude.{◌≡◌, ◌<◌, ◌-◌, ◌^◌, ℕ, ◌+◌, Bool, true, false, List, [], ◌∷◌, ◌++◌, Option, Result, Ok, Err, ⊤}
-use Rattle.std.specs.Io.KnownBytes.{Appends, Consumes}
+use Rattle.std.specs.Io.KnownBytes.{Appends, Consumes, Keeps}
 use Rattle.ffa_model.specs.State.{State}
 use Rattle.play_syntax.specs.TraceLines.{feed, has_no_feed, is_good}
 use Rattle.play_syntax.specs.TraceText.{after}
@@ -11,8 +11,8 @@ use Rattle.play_syntax.specs.declared.output.PlayError.{PlayError}
 use Rattle.play_syntax.specs.declared.output.PlayError.TheVariants.{Read, Write, NoMemory, BadLine}
 use Rattle.play_forms.specs.declared.form.Form.{Form}
 use Rattle.play_forms.specs.Forms.{text_of_in}
-use Rattle.play_forms.specs.Reading.{ReadsNoLine}
-use Rattle.play_forms.specs.Sessions.{IsOver}
+use Rattle.play_forms.specs.Reading.{IsAll, ReadsNoLine}
+use Rattle.play_forms.specs.Sessions.{IsOver, TellsOf, ToldOf, ToldOfLine, ToldOfRest}
 
 -- a line of this number was read, which leaves a number for the next; or none is left
 abbrev pub HearsLine : Option (List ℕ) → Option (List ℕ) → List ℕ → ℕ → Result Bool PlayError → Type 0
@@ -34,3 +34,37 @@ AnswersLine form start now number line held holds (Err Write) =
 AnswersLine form start now number line held holds (Err NoMemory) = ⊤
 AnswersLine form start now number line held holds (Err Read) = ⊥
 AnswersLine form start now number line held holds (Err (BadLine n)) = ⊥
+
+-- What follows speaks of what `told` held before, and holds.
+
+-- where a line is bad was told, or a front of that, where the writer failed; without memory nothing was
+abbrev pub TellsBadLine : {X : Type 0} → ℕ → List ℕ → (held holds : Option (List ℕ)) → Result X PlayError → Type 0
+TellsBadLine number bytes held holds (Ok _) =
+    (text : List ℕ) × TellsOf number bytes text × Appends held holds text
+TellsBadLine number bytes held holds (Err Write) =
+    (text : List ℕ) × TellsOf number bytes text × TookFront held holds text
+TellsBadLine number bytes held holds (Err NoMemory) = Keeps held holds
+TellsBadLine number bytes held holds (Err Read) = ⊥
+TellsBadLine number bytes held holds (Err (BadLine n)) = ⊥
+
+-- the same, where what can't be told is lost
+abbrev pub TellsOrLoses : {X : Type 0} → ℕ → List ℕ → (held holds : Option (List ℕ)) → Result X PlayError → Type 0
+TellsOrLoses number bytes held holds (Ok _) = (said : List ℕ) × ToldOf number bytes said × Appends held holds said
+TellsOrLoses number bytes held holds (Err NoMemory) = Keeps held holds
+TellsOrLoses number bytes held holds (Err Write) = ⊥
+TellsOrLoses number bytes held holds (Err Read) = ⊥
+TellsOrLoses number bytes held holds (Err (BadLine n)) = ⊥
+
+-- the rest was told, if a rest was left that no LF ends, and nothing else
+abbrev pub HearsTelling : Option (List ℕ) → ℕ → (held holds : Option (List ℕ)) → Result Bool PlayError → Type 0
+HearsTelling had number held holds (Ok true) = Keeps held holds
+HearsTelling had number held holds (Ok false) =
+    (rest said : List ℕ) × IsAll had rest × (has_no_feed rest ≡ true) × ToldOfRest number rest said
+    × Appends held holds said
+HearsTelling had number held holds (Err e) = Keeps held holds
+
+-- a bad line was told, and a good one wasn't
+abbrev pub AnswersTelling : {X : Type 0} → List ℕ → ℕ → (held holds : Option (List ℕ)) → Result X PlayError → Type 0
+AnswersTelling bytes number held holds (Ok _) =
+    (said : List ℕ) × ToldOfLine number bytes said × Appends held holds said
+AnswersTelling bytes number held holds (Err e) = Keeps held holds

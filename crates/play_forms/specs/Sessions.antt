@@ -1,14 +1,18 @@
 -- SPDX-License-Identifier: MIT OR Apache-2.0
 -- What a session leaves: a play that tells of a bad line and goes on.
-use Rattle.std.specs.Prelude.{◌≡◌, ◌≤◌, ◌⊎◌, ℕ, ◌+◌, true, List, [], ◌∷◌, ◌++◌, filter, length, Option, Result, Ok, Err, ⊤, if◌then◌else◌}
+use Rattle.std.specs.Prelude.{◌≡◌, ◌≤◌, ◌⊎◌, ◌↔◌, ℕ, ◌+◌, true, false, List, [], ◌∷◌, ◌++◌, codes, decimal, filter, length, Option, None, Some, IsNone, Result, Ok, Err, ⊤, if◌then◌else◌}
 use Rattle.std.specs.Io.KnownBytes.{Appends, Consumes, IsAtEnd}
 use Rattle.std.specs.List.{list_all}
 use Rattle.ffa_model.specs.State.{State}
-use Rattle.play_syntax.specs.TraceLines.{has_no_feed, is_good, joined}
+use Rattle.play_syntax.specs.TraceLines.{feed, has_no_feed, is_good, joined}
 use Rattle.play_syntax.specs.TraceText.{after, after_all, text}
 use Rattle.play_syntax.specs.Output.{TookFront}
 use Rattle.play_syntax.specs.declared.output.PlayError.{PlayError}
 use Rattle.play_syntax.specs.declared.output.PlayError.TheVariants.{Read, Write, NoMemory, BadLine}
+use Rattle.play_reasons.specs.FaultWords.{fault_words}
+use Rattle.play_reasons.specs.Whole.{IsWhole}
+use Rattle.play_reasons.specs.declared.fault.LineFault.{LineFault}
+use Rattle.play_reasons.specs.declared.fault.LineFault.TheVariants.{NoEnd, CarriageReturn, Words, Whole}
 use Rattle.play_forms.specs.declared.form.Form.{Form}
 use Rattle.play_forms.specs.Cut.{CutsTo}
 use Rattle.play_forms.specs.Forms.{text_of_in}
@@ -70,3 +74,67 @@ SessionIn form start now held holds had has (Err Read) =
 SessionIn form start now held holds had has (Err Write) = FailsToAnswer form start now held holds had
 SessionIn form start now held holds had has (Err NoMemory) = ⊤
 SessionIn form start now held holds had has (Err (BadLine n)) = ⊥
+
+-- WHAT IS TOLD OF BAD LINES
+
+-- what stands between a line's number and what is wrong with it: a column goes on from the number
+abbrev pub joint_of : LineFault → List ℕ
+joint_of NoEnd = codes ": "
+joint_of CarriageReturn = codes ": "
+joint_of (Words column cause) = codes ", "
+joint_of Whole = codes ": "
+
+-- that there is this wrong with the line of this number
+abbrev pub fault_text : ℕ → LineFault → List ℕ
+fault_text number fault =
+    codes "ffaplay: line " ++ decimal number ++ joint_of fault ++ fault_words fault ++ codes "\n"
+
+-- the same where something is, or nothing
+abbrev pub bad_line_text : ℕ → Option LineFault → List ℕ
+bad_line_text number None = codes "ffaplay: line " ++ decimal number ++ codes ": bad line\n"
+bad_line_text number (Some fault) = fault_text number fault
+
+-- this is told of the line of this number, whose bytes are these, with its LF where it has one: there is nothing wrong
+-- just with a whole line
+abbrev pub TellsOf : ℕ → List ℕ → List ℕ → Type 0
+TellsOf number bytes text =
+    (fault : Option LineFault) × (IsNone fault ↔ IsWhole bytes) × (text ≡ bad_line_text number fault)
+
+-- this was told of it: all that is told, or a front of that, where the writer failed
+abbrev pub ToldOf : ℕ → List ℕ → List ℕ → Type 0
+ToldOf number bytes said = (lost : List ℕ) × TellsOf number bytes (said ++ lost)
+
+-- this was told of a line that was read whole: nothing of a good one
+abbrev pub ToldOfLine : ℕ → List ℕ → List ℕ → Type 0
+ToldOfLine number line said =
+    ((is_good line ≡ true) × (said ≡ []))
+    ⊎ ((is_good line ≡ false) × ToldOf number (line ++ feed ∷ []) said)
+
+-- this was told of these lines, of each in order, of which the first has this number
+abbrev pub ToldOfAll : ℕ → List (List ℕ) → List ℕ → Type 0
+ToldOfAll number [] said = said ≡ []
+ToldOfAll number (line ∷ lines) said =
+    (own more : List ℕ) × (said ≡ own ++ more) × ToldOfLine number line own × ToldOfAll (number + 1) lines more
+
+-- this was told of a rest that no LF ends, if there is one
+abbrev pub ToldOfRest : ℕ → List ℕ → List ℕ → Type 0
+ToldOfRest number rest said = ((rest ≡ []) × (said ≡ [])) ⊎ ((1 ≤ length rest) × ToldOf number rest said)
+
+-- lines were read, and this was told of them
+abbrev pub ToldOfRead : (had held holds : Option (List ℕ)) → Type 0
+ToldOfRead had held holds =
+    (lines : List (List ℕ)) × (left : Option (List ℕ)) × (list_all has_no_feed lines ≡ true)
+    × Consumes had left (joined lines) × ((said : List ℕ) × ToldOfAll 1 lines said × Appends held holds said)
+
+-- What a session told, by what was unread in the reader before, and by what `told` held and holds: of all lines that the
+-- reader had, and of the rest that no LF ends; or, where it could read or write no further, of lines that it had read.
+abbrev pub TellsBadLines : {X : Type 0} → (had held holds : Option (List ℕ)) → Result X PlayError → Type 0
+TellsBadLines had held holds (Ok _) =
+    (lines : List (List ℕ)) × (rest : List ℕ) × (list_all has_no_feed lines ≡ true) × (has_no_feed rest ≡ true)
+    × IsAll had (joined lines ++ rest)
+    × ((said last : List ℕ) × ToldOfAll 1 lines said × ToldOfRest (1 + length lines) rest last
+    × Appends held holds (said ++ last))
+TellsBadLines had held holds (Err Read) = ToldOfRead had held holds
+TellsBadLines had held holds (Err Write) = ToldOfRead had held holds
+TellsBadLines had held holds (Err NoMemory) = ⊤
+TellsBadLines had held holds (Err (BadLine n)) = ⊤

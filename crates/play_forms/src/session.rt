@@ -1,8 +1,9 @@
 // SPDX-License-Identifier: MIT OR Apache-2.0
 //! A session: a play that tells of a bad line and goes on.
-ghost use Rattle.std.specs.Prelude.{◌≡◌, IfErr};
-ghost use Rattle.play_forms.specs.Sessions.{SessionIn};
-ghost use Rattle.play_forms.specs.SessionSteps.{AnswersLine, HearsLine};
+ghost use Rattle.std.specs.Prelude.{◌≡◌, ◌++◌, ◌∷◌, [], codes, decimal, IfErr, OnOk};
+ghost use Rattle.play_syntax.specs.TraceLines.{feed};
+ghost use Rattle.play_forms.specs.Sessions.{SessionIn, TellsBadLines, bad_line_text, fault_text, joint_of};
+ghost use Rattle.play_forms.specs.SessionSteps.{AnswersLine, AnswersTelling, HearsLine, HearsTelling, TellsBadLine, TellsOrLoses};
 
 use crate::form::Form;
 use crate::playing::print_line;
@@ -10,7 +11,7 @@ use crate::read::next_line;
 use ffa_playable::Playable;
 use play_player::Player;
 use play_reasons::{LineFault, line_fault};
-use play_syntax::{Line, PlayError};
+use play_syntax::{Line, PlayError, output};
 use std::alloc::Allocator;
 use std::io::{BufRead, Write};
 
@@ -18,11 +19,12 @@ use std::io::{BufRead, Write};
 /// before the next is read. Lines count from 1, bad ones too.
 ///
 /// A bad line isn't done, and the machine stays as it is: `told` is told its number and what is wrong with it. A rest that
-/// no LF ends is a bad line, and the last.
+/// no LF ends is a bad line, and the last. What `told` doesn't take is lost: it was told of each bad line, in order, or a
+/// front of that.
 ///
 /// Where the reader fails, the good ones of the lines that were read whole were done, and nothing more, and their whole
-/// text was written; where the writer fails, it took a beginning of the text of the line that was done last. What `told`
-/// takes, and what is left where there is no memory, is in no clause.
+/// text was written; where the writer fails, it took a beginning of the text of the line that was done last. What is left
+/// where there is no memory is in no clause.
 pub fn play_session<P: Playable, A: Allocator + Copy, R: BufRead, W: Write, E: Write>(
     player: &mut Player<P>,
     alloc: A,
@@ -31,15 +33,16 @@ pub fn play_session<P: Playable, A: Allocator + Copy, R: BufRead, W: Write, E: W
     writer: &mut W,
     told: &mut E,
 ) -> Result<(), PlayError>
-    ensures { let held = W.contents writer.old in
+    ensures done { let held = W.contents writer.old in
         let holds = W.contents writer.new in
         let had = R.remaining reader.old in
         let has = R.remaining reader.new in
         SessionIn form player.old.state player.new.state held holds had has result }
+    ensures told { TellsBadLines (R.remaining reader.old) (E.contents told.old) (E.contents told.new) result }
 {
     let (mut bytes, mut text) = (Vec::new(alloc), Vec::new(alloc));
     let mut number = 1;
-    while hear_line(reader, &mut bytes, number, told)? {
+    while hear_line(reader, &mut bytes, number, told, &mut text)? {
         answer_line(
             player, alloc, form, number, &mut bytes, writer, told, &mut text,
         )?;
@@ -55,17 +58,19 @@ fn hear_line<A: Allocator, R: BufRead, E: Write>(
     bytes: &mut Vec<u8, A>,
     number: u64,
     told: &mut E,
+    text: &mut Vec<u8, A>,
 ) -> Result<bool, PlayError>
-    ensures { let had = R.remaining reader.old in
+    ensures heard { let had = R.remaining reader.old in
         let has = R.remaining reader.new in
         HearsLine had has bytes.new.items number result }
+    ensures told { HearsTelling (R.remaining reader.old) number (E.contents told.old) (E.contents told.new) result }
 {
     if number == u64::MAX {
         return Err(PlayError::Read);
     }
     match next_line(reader, bytes, number) {
         Err(PlayError::BadLine(_)) => {
-            tell_bad_line(told, number, bytes);
+            tell_or_lose(told, number, bytes, text)?;
             Ok(false)
         }
         read => read,
@@ -83,13 +88,14 @@ fn answer_line<P: Playable, A: Allocator + Copy, W: Write, E: Write>(
     told: &mut E,
     text: &mut Vec<u8, A>,
 ) -> Result<(), PlayError>
-    ensures { let held = W.contents writer.old in
+    ensures done { let held = W.contents writer.old in
         let holds = W.contents writer.new in
         AnswersLine form player.old.state player.new.state number bytes.old.items held holds result }
+    ensures told { AnswersTelling bytes.old.items number (E.contents told.old) (E.contents told.new) result }
 {
     match Line::read(bytes) {
         Some(line) => print_line(player, alloc, form, number, &line, writer, text),
-        None => refuse_line(bytes, number, told),
+        None => refuse_line(bytes, number, told, text),
     }
 }
 
@@ -98,25 +104,90 @@ fn refuse_line<A: Allocator, E: Write>(
     bytes: &mut Vec<u8, A>,
     number: u64,
     told: &mut E,
+    text: &mut Vec<u8, A>,
 ) -> Result<(), PlayError>
-    ensures { IfErr result (λ e. e ≡ PlayError.NoMemory) }
+    ensures { TellsOrLoses number (bytes.old.items ++ feed ∷ []) (E.contents told.old) (E.contents told.new) result }
 {
     match bytes.push(b'\n') {
-        Ok(()) => {
-            tell_bad_line(told, number, bytes);
-            Ok(())
-        }
+        Ok(()) => tell_or_lose(told, number, bytes, text),
         Err(_) => Err(PlayError::NoMemory),
     }
 }
 
 // Tells where a line is bad. What can't be told is lost.
-fn tell_bad_line<E: Write>(told: &mut E, number: u64, line: &[u8]) {
-    let _ = match line_fault(line) {
-        Some(fault @ LineFault::Words { .. }) => {
-            writeln!(told, "ffaplay: line {number}, {fault}")
-        }
-        Some(fault) => writeln!(told, "ffaplay: line {number}: {fault}"),
-        None => writeln!(told, "ffaplay: line {number}: bad line"),
-    };
+fn tell_or_lose<A: Allocator, E: Write>(
+    told: &mut E,
+    number: u64,
+    line: &[u8],
+    text: &mut Vec<u8, A>,
+) -> Result<(), PlayError>
+    ensures { TellsOrLoses number line.now (E.contents told.old) (E.contents told.new) result }
+{
+    match tell_bad_line(told, number, line, text) {
+        Ok(()) | Err(PlayError::Write) => Ok(()),
+        Err(error) => Err(error),
+    }
+}
+
+// Tells where a line is bad. It makes what it tells in `text`.
+fn tell_bad_line<A: Allocator, E: Write>(
+    told: &mut E,
+    number: u64,
+    line: &[u8],
+    text: &mut Vec<u8, A>,
+) -> Result<(), PlayError>
+    ensures { TellsBadLine number line.now (E.contents told.old) (E.contents told.new) result }
+{
+    text.clear();
+    put_bad_line(text, number, line_fault(line))?;
+    output::write_text(told, text)
+}
+
+fn put_bad_line<A: Allocator>(
+    text: &mut Vec<u8, A>,
+    number: u64,
+    fault: Option<LineFault>,
+) -> Result<(), PlayError>
+    ensures written { OnOk result (text.new.items ≡ text.old.items ++ bad_line_text number fault) }
+    ensures failed { IfErr result (λ e. e ≡ PlayError.NoMemory) }
+{
+    match fault {
+        Some(fault) => put_fault(text, number, fault),
+        None => put_faultless(text, number),
+    }
+}
+
+fn put_faultless<A: Allocator>(text: &mut Vec<u8, A>, number: u64) -> Result<(), PlayError>
+    ensures written { OnOk result (text.new.items ≡ text.old.items ++ (codes "ffaplay: line " ++ decimal number ++ codes ": bad line\n")) }
+    ensures failed { IfErr result (λ e. e ≡ PlayError.NoMemory) }
+{
+    match write!(text, "ffaplay: line {number}: bad line\n") {
+        Ok(()) => Ok(()),
+        Err(_) => Err(PlayError::NoMemory),
+    }
+}
+
+fn put_fault<A: Allocator>(
+    text: &mut Vec<u8, A>,
+    number: u64,
+    fault: LineFault,
+) -> Result<(), PlayError>
+    ensures written { OnOk result (text.new.items ≡ text.old.items ++ fault_text number fault) }
+    ensures failed { IfErr result (λ e. e ≡ PlayError.NoMemory) }
+{
+    let joint = joint(fault);
+    match write!(text, "ffaplay: line {number}{joint}{fault}\n") {
+        Ok(()) => Ok(()),
+        Err(_) => Err(PlayError::NoMemory),
+    }
+}
+
+// What stands between a line's number and what is wrong with it. A column goes on from the number.
+fn joint(fault: LineFault) -> &'static str
+    ensures { result.now ≡ joint_of fault }
+{
+    match fault {
+        LineFault::Words { .. } => ", ",
+        LineFault::NoEnd | LineFault::CarriageReturn | LineFault::Whole => ": ",
+    }
 }

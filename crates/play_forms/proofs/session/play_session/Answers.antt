@@ -1,33 +1,61 @@
 -- SPDX-License-Identifier: MIT OR Apache-2.0
 use Rattle.std.proofs.Common.{◌++◌, ◌∷◌, [], arith, length-append, refl}
-use Rattle.std.proofs.KnownBytes.{Appends-nil, Appends-trans, Consumes-nil}
+use Rattle.std.proofs.KnownBytes.{Appends-nil, Appends-trans, Consumes-nil, Keeps-trans}
 use Rattle.std.proofs.lemmas.Result.{err_from_is_err_and}
 use Rattle.play_forms.specs.Forms.{text_of_in}
+use Rattle.play_forms.proofs.BadLines.{cut_told, heard_told, over_told, told_more}
 use Rattle.play_forms.proofs.Conversing.{conversed, heard, more, over, unanswered, unheard}
 use Rattle.play_forms.proofs.session.play_session.Goals as goal
 
 pub loop-text-init : goal.loop-text-init
-loop-text-init g c = ([], [], refl, Consumes-nil _, refl, refl, Appends-nil _, omega arith)
+loop-text-init g c = ([], [], refl, Consumes-nil _, refl, refl, Appends-nil _, omega arith, [], refl, Appends-nil _)
 
-pub returns-in_err-hear_line : goal.returns-in_err-hear_line
-returns-in_err-hear_line g c =
+pub returns-in_err-hear_line-clause-done : goal.returns-in_err-hear_line-clause-done
+returns-in_err-hear_line-clause-done g c =
     let i = c.loop-text.invariant in
     let p = err_from_is_err_and c.from_residual.result c.from_residual.ensures.1 in
     rw (p.1, p.2)
     (unheard c.args.form c.args.player.now.state c.loop-text.player.state (g.R.Read.remaining c.args.reader.now) (g.R.Read.remaining c.loop-text.reader) i.0 i.1 i.2 i.3 i.4 i.5 c.in_err-hear_line.field-0.0
-    (g.R.Read.remaining c.hear_line.new.reader) c.hear_line.new.bytes.items c.loop-text.number (g.W.Write.contents c.args.writer.now) (g.W.Write.contents c.loop-text.writer) i.6 c.in_err-hear_line.ensures)
+    (g.R.Read.remaining c.hear_line.new.reader) c.hear_line.new.bytes.items c.loop-text.number (g.W.Write.contents c.args.writer.now) (g.W.Write.contents c.loop-text.writer) i.6 c.in_err-hear_line.ensures.heard)
 
-pub returns-in_err-answer_line : goal.returns-in_err-answer_line
-returns-in_err-answer_line g c =
+pub returns-in_err-answer_line-clause-done : goal.returns-in_err-answer_line-clause-done
+returns-in_err-answer_line-clause-done g c =
     let i = c.loop-text.invariant in
     let has = g.R.Read.remaining c.loop-text.reader in
     let then = g.R.Read.remaining c.hear_line.new.reader in
     let line = c.hear_line.new.bytes.items in
-    let one = heard has then line c.loop-text.number c.in_ok-hear_line.field-0 c.if-branch.true c.in_ok-hear_line.ensures in
+    let one = heard has then line c.loop-text.number c.in_ok-hear_line.field-0 c.if-branch.true c.in_ok-hear_line.ensures.heard in
     let p = err_from_is_err_and c.from_residual-in_err-answer_line.result c.from_residual-in_err-answer_line.ensures.1 in
     rw (p.1, p.2)
     (unanswered c.args.form c.args.player.now.state c.loop-text.player.state (g.R.Read.remaining c.args.reader.now) has i.0 i.1 i.2 i.3 i.4 i.5 c.answer_line.new.player.state then line c.loop-text.number i.7 one.0 one.1
-    c.in_err-answer_line.field-0.0 (g.W.Write.contents c.args.writer.now) (g.W.Write.contents c.loop-text.writer) (g.W.Write.contents c.answer_line.new.writer) i.6 c.in_err-answer_line.ensures)
+    c.in_err-answer_line.field-0.0 (g.W.Write.contents c.args.writer.now) (g.W.Write.contents c.loop-text.writer) (g.W.Write.contents c.answer_line.new.writer) i.6 c.in_err-answer_line.ensures.done)
+
+pub returns-in_err-hear_line-clause-told : goal.returns-in_err-hear_line-clause-told
+returns-in_err-hear_line-clause-told g c =
+    let i = c.loop-text.invariant in
+    let p = err_from_is_err_and c.from_residual.result c.from_residual.ensures.1 in
+    rw (p.1, p.2)
+    (cut_told (g.R.Read.remaining c.args.reader.now) (g.R.Read.remaining c.loop-text.reader) i.0 i.2 i.3 c.loop-text.number i.7 (g.E.Write.contents c.args.told.now) (g.E.Write.contents c.loop-text.told) i.8 i.9 i.10
+    c.in_err-hear_line.field-0.0 (g.E.Write.contents c.hear_line.new.told) c.in_err-hear_line.ensures.told)
+
+pub returns-in_err-answer_line-clause-told : goal.returns-in_err-answer_line-clause-told
+returns-in_err-answer_line-clause-told g c =
+    let i = c.loop-text.invariant in
+    let has = g.R.Read.remaining c.loop-text.reader in
+    let mid = g.E.Write.contents c.loop-text.told in
+    let heard = g.E.Write.contents c.hear_line.new.told in
+    let holds = g.E.Write.contents c.answer_line.new.told in
+    let silent = heard_told has c.loop-text.number mid heard c.in_ok-hear_line.field-0 c.if-branch.true c.in_ok-hear_line.ensures.told in
+    let p = err_from_is_err_and c.from_residual-in_err-answer_line.result c.from_residual-in_err-answer_line.ensures.1 in
+    rw (p.1, p.2)
+    (cut_told (g.R.Read.remaining c.args.reader.now) has i.0 i.2 i.3 c.loop-text.number i.7 (g.E.Write.contents c.args.told.now) mid i.8 i.9 i.10 c.in_err-answer_line.field-0.0 holds
+    (Keeps-trans mid heard holds silent c.in_err-answer_line.ensures.told))
+
+pub returns-clause-told : goal.returns-clause-told
+returns-clause-told g c =
+    let i = c.loop-text.invariant in
+    over_told (g.R.Read.remaining c.args.reader.now) (g.R.Read.remaining c.loop-text.reader) i.0 i.2 i.3 c.loop-text.number i.7 (g.E.Write.contents c.args.told.now) (g.E.Write.contents c.loop-text.told) i.8 i.9 i.10
+    (g.E.Write.contents c.hear_line.new.told) c.in_ok-hear_line.field-0 c.if-branch.false c.in_ok-hear_line.ensures.told
 
 pub loop-text-preserved : goal.loop-text-preserved
 loop-text-preserved g c =
@@ -35,8 +63,11 @@ loop-text-preserved g c =
     let has = g.R.Read.remaining c.loop-text.reader in
     let then = g.R.Read.remaining c.hear_line.new.reader in
     let line = c.hear_line.new.bytes.items in
-    let one = heard has then line c.loop-text.number c.in_ok-hear_line.field-0 c.if-branch.true c.in_ok-hear_line.ensures in
-    let made = c.in_ok-answer_line.ensures in
+    let one = heard has then line c.loop-text.number c.in_ok-hear_line.field-0 c.if-branch.true c.in_ok-hear_line.ensures.heard in
+    let made = c.in_ok-answer_line.ensures.done in
+    let silent = heard_told has c.loop-text.number (g.E.Write.contents c.loop-text.told) (g.E.Write.contents c.hear_line.new.told) c.in_ok-hear_line.field-0 c.if-branch.true c.in_ok-hear_line.ensures.told in
+    let told = told_more (g.R.Read.remaining c.args.reader.now) has i.0 i.2 i.3 c.loop-text.number i.7 (g.E.Write.contents c.args.told.now) (g.E.Write.contents c.loop-text.told) i.8 i.9 i.10 line
+    (g.E.Write.contents c.hear_line.new.told) (g.E.Write.contents c.answer_line.new.told) silent c.in_ok-answer_line.ensures.told in
     let next = more c.args.form c.args.player.now.state c.loop-text.player.state (g.R.Read.remaining c.args.reader.now) has i.0 i.1 i.2 i.3 i.4 i.5 c.answer_line.new.player.state then line c.loop-text.number i.7 one.0 one.1 made.0 in (
       i.0 ++ line ∷ [],
       i.1 ++ text_of_in c.args.form c.loop-text.number c.loop-text.player.state line,
@@ -46,16 +77,19 @@ loop-text-preserved g c =
       next.3,
       Appends-trans _ _ _ _ _ i.6 made.1,
       omega (arith, i.7, length-append i.0 (line ∷ [])),
+      told.0,
+      told.1,
+      told.2,
     )
 
-pub returns : goal.returns
-returns g c =
+pub returns-clause-done : goal.returns-clause-done
+returns-clause-done g c =
     let i = c.loop-text.invariant in
     let has = g.R.Read.remaining c.loop-text.reader in (
       has,
       i.0,
       i.1,
       conversed c.args.form c.args.player.now.state c.loop-text.player.state (g.R.Read.remaining c.args.reader.now) has i.0 i.1 i.2 i.3 i.4 i.5,
-      over has (g.R.Read.remaining c.hear_line.new.reader) c.hear_line.new.bytes.items c.loop-text.number c.in_ok-hear_line.field-0 c.if-branch.false c.in_ok-hear_line.ensures,
+      over has (g.R.Read.remaining c.hear_line.new.reader) c.hear_line.new.bytes.items c.loop-text.number c.in_ok-hear_line.field-0 c.if-branch.false c.in_ok-hear_line.ensures.heard,
       i.6,
     )

@@ -1,0 +1,128 @@
+-- SPDX-License-Identifier: MIT OR Apache-2.0
+-- What a session tells of bad lines.
+use Rattle.std.proofs.Common.{◌≡◌, ◌≢◌, ◌⊎◌, ◌≤◌, ℕ, ◌+◌, Bool, true, false, List, [], ◌∷◌, ◌++◌, length, Option, None, Some, Result, Ok, Err, inl, inr, sym, ap, ◌∙◌, subst, arith, append_assoc, append-nil, refl}
+use Rattle.std.specs.Prelude.{is_some}
+use Rattle.std.specs.Io.KnownBytes.{Appends, Consumes, IsAtEnd, Keeps}
+use Rattle.std.specs.List.{list_all}
+use Rattle.std.proofs.KnownBytes.{Appends-kept, Appends-nil, Appends-trans, Keeps-refl}
+use Rattle.play_syntax.specs.Output.{TookFront, Writes}
+use Rattle.play_syntax.specs.TraceLines.{Line, feed, has_no_feed, is_good, joined, line_of}
+use Rattle.play_syntax.specs.declared.output.PlayError.{PlayError}
+use Rattle.play_syntax.specs.declared.output.PlayError.TheVariants.{Read, Write, NoMemory, BadLine}
+use Rattle.play_forms.specs.Reading.{IsAll, ReadsLine}
+use Rattle.play_forms.specs.Sessions.{TellsBadLines, TellsOf, ToldOf, ToldOfAll, ToldOfLine, ToldOfRest}
+use Rattle.play_forms.specs.SessionSteps.{AnswersTelling, HearsTelling, TellsBadLine, TellsOrLoses}
+
+-- ONE LINE
+
+-- what is told was written, or a front of it
+pub written_told : (number : ℕ) (bytes text : List ℕ) (held holds : Option (List ℕ)) (r : Result (Unit {0}) PlayError) → TellsOf number bytes text → Writes held holds text r
+    → TellsBadLine number bytes held holds r
+written_told number bytes text held holds (Ok x) tells written = (text, tells, written)
+written_told number bytes text held holds (Err Write) tells began = (text, tells, began)
+written_told number bytes text held holds (Err Read) tells never = absurd never
+written_told number bytes text held holds (Err NoMemory) tells never = absurd never
+written_told number bytes text held holds (Err (BadLine n)) tells never = absurd never
+
+-- what couldn't be told is lost
+pub front_told : (number : ℕ) (bytes : List ℕ) (held holds : Option (List ℕ)) → TellsBadLine {X = Unit {0}} number bytes held holds (Err Write)
+    → TellsOrLoses {X = Unit {0}} number bytes held holds (Ok tt)
+front_told number bytes held holds (text, tells, began) = (began.front, (began.rest, subst (TellsOf number bytes) began.whole tells), began.written)
+
+pub whole_told : (number : ℕ) (bytes : List ℕ) (held holds : Option (List ℕ)) → TellsBadLine {X = Unit {0}} number bytes held holds (Ok tt)
+    → TellsOrLoses {X = Unit {0}} number bytes held holds (Ok tt)
+whole_told number bytes held holds (text, tells, written) = (text, ([], subst (TellsOf number bytes) (sym (append-nil text)) tells), written)
+
+pub told_or_lost : (number : ℕ) (bytes : List ℕ) (held holds : Option (List ℕ)) (r : Result (Unit {0}) PlayError) → r ≢ Err Write → TellsBadLine number bytes held holds r
+    → TellsOrLoses number bytes held holds r
+told_or_lost number bytes held holds (Ok x) other r = whole_told number bytes held holds r
+told_or_lost number bytes held holds (Err Write) other r = absurd (other refl)
+told_or_lost number bytes held holds (Err Read) other r = r
+told_or_lost number bytes held holds (Err NoMemory) other r = r
+told_or_lost number bytes held holds (Err (BadLine n)) other r = r
+
+-- a good line was done, and nothing told
+pub good_told : (bytes : List ℕ) (number : ℕ) (held : Option (List ℕ)) (line : Line) → Some line ≡ line_of bytes → (r : Result (Unit {0}) PlayError)
+    → AnswersTelling bytes number held held r
+good_told bytes number held line is (Ok x) = ([], inl (ap is_some (sym is), refl), Appends-nil held)
+good_told bytes number held line is (Err e) = Keeps-refl held
+
+-- a bad line was told
+pub bad_told : (bytes : List ℕ) (number : ℕ) (held holds : Option (List ℕ)) → None ≡ line_of bytes → (r : Result (Unit {0}) PlayError)
+    → TellsOrLoses number (bytes ++ feed ∷ []) held holds r → AnswersTelling bytes number held holds r
+bad_told bytes number held holds none (Ok x) (said, told, written) = (said, inr (ap is_some (sym none), told), written)
+bad_told bytes number held holds none (Err NoMemory) kept = kept
+bad_told bytes number held holds none (Err Read) never = absurd never
+bad_told bytes number held holds none (Err Write) never = absurd never
+bad_told bytes number held holds none (Err (BadLine n)) never = absurd never
+
+no_rest : (left : Option (List ℕ)) → IsAtEnd left → IsAll left []
+no_rest None ended = tt
+no_rest (Some xs) ended = ended
+
+-- nothing was told of what was read
+pub read_told : (had has : Option (List ℕ)) (line : List ℕ) (number : ℕ) (held : Option (List ℕ)) (r : Result Bool PlayError) → ReadsLine had has line number r → HearsTelling had number held held r
+read_told had has line number held (Ok true) r = Keeps-refl held
+read_told had has line number held (Ok false) r = ([], [], no_rest had r, refl, inl (refl, refl), Appends-nil held)
+read_told had has line number held (Err e) r = Keeps-refl held
+
+-- the rest was told
+pub rest_told : (had has : Option (List ℕ)) (line : List ℕ) (number n : ℕ) (held holds : Option (List ℕ)) → ReadsLine had has line number (Err (BadLine n))
+    → TellsOrLoses {X = Unit {0}} number line held holds (Ok tt) → HearsTelling had number held holds (Ok false)
+rest_told had has line number n held holds (is, all, single, some) (said, told, written) = (line, said, all, single, inr (some, told), written)
+
+-- there is a line
+pub heard_told : (had : Option (List ℕ)) (number : ℕ) (held holds : Option (List ℕ)) (b : Bool) → b ≡ true → HearsTelling had number held holds (Ok b) → Keeps held holds
+heard_told had number held holds true h r = r
+heard_told had number held holds false h r = absurd cc
+
+-- ALL LINES
+
+behind_all : (had has : Option (List ℕ)) (before rest : List ℕ) → Consumes had has before → IsAll has rest → IsAll had (before ++ rest)
+behind_all None has before rest c all = tt
+behind_all (Some xs) None before rest c all = absurd c
+behind_all (Some xs) (Some ys) before rest c all = c ∙ ap (λ l. before ++ l) all
+
+told_from : (number : ℕ) (lines : List (List ℕ)) (line said own : List ℕ) → ToldOfAll number lines said → ToldOfLine (number + length lines) line own
+    → ToldOfAll number (lines ++ line ∷ []) (said ++ own)
+told_from number [] line said own none told =
+    let count : number + length {A = List ℕ} [] ≡ number = omega arith in
+    (own, [], ap (λ l. l ++ own) none ∙ sym (append-nil own), subst (λ n. ToldOfLine n line own) count told, refl)
+told_from number (first ∷ lines) line said own (its, more, is, what, rest) told =
+    let count : number + length (first ∷ lines) ≡ number + 1 + length lines = omega arith in (
+      its,
+      more ++ own,
+      ap (λ l. l ++ own) is ∙ append_assoc its more own,
+      what,
+      told_from (number + 1) lines line more own rest (subst (λ n. ToldOfLine n line own) count told),
+    )
+
+-- This was told of these lines, which were read.
+module _ (had has : Option (List ℕ)) (lines : List (List ℕ)) (each : list_all has_no_feed lines ≡ true) (read : Consumes had has (joined lines)) (number : ℕ) (count : number ≡ 1 + length lines) (held mid : Option (List ℕ)) (said : List ℕ) (told : ToldOfAll 1 lines said) (written : Appends held mid said) where
+  -- and of one line more
+  pub told_more : (line : List ℕ) (heard holds : Option (List ℕ)) → Keeps mid heard → AnswersTelling {X = Unit {0}} line number heard holds (Ok tt)
+      → (all : List ℕ) × ToldOfAll 1 (lines ++ line ∷ []) all × Appends held holds all
+  told_more line heard holds kept (own, what, more) = (
+    said ++ own,
+    told_from 1 lines line said own told (subst (λ n. ToldOfLine n line own) count what),
+    Appends-trans held heard holds said own (Appends-kept held mid heard said written kept) more,
+  )
+
+  -- no line is left
+  pub over_told : (holds : Option (List ℕ)) (b : Bool) → b ≡ false → HearsTelling has number mid holds (Ok b) → TellsBadLines {X = Unit {0}} had held holds (Ok tt)
+  over_told holds true h r = absurd cc
+  over_told holds false h (rest, last, all, single, what, more) = (
+    lines,
+    rest,
+    each,
+    single,
+    behind_all had has (joined lines) rest read all,
+    (said, last, told, subst (λ n. ToldOfRest n rest last) count what, Appends-trans held mid holds said last written more),
+  )
+
+  -- no more could be read or written
+  pub cut_told : (e : PlayError) (holds : Option (List ℕ)) → Keeps mid holds → TellsBadLines {X = Unit {0}} had held holds (Err e)
+  cut_told Read holds kept = (lines, has, each, read, (said, told, Appends-kept held mid holds said written kept))
+  cut_told Write holds kept = (lines, has, each, read, (said, told, Appends-kept held mid holds said written kept))
+  cut_told NoMemory holds kept = tt
+  cut_told (BadLine n) holds kept = tt
