@@ -15,7 +15,7 @@ use Rattle.play_syntax.specs.declared.output.PlayError.{PlayError}
 use Rattle.play_syntax.specs.declared.output.PlayError.TheVariants.{Read, Write, NoMemory, BadLine}
 use Rattle.play_player.proofs.Runs.{joined-append}
 use Rattle.play_reasons.specs.Reasons.{reason_if, told_line}
-use Rattle.play_forms.specs.Compared.{Compared, DiffersAt, IsNext, unexplained}
+use Rattle.play_forms.specs.Compared.{Compared, DiffersAt, FailsToMatch, IsNext, StopsInLast, unexplained}
 use Rattle.play_forms.specs.Comparing.{ComparesEnd, ComparesLine}
 use Rattle.play_forms.specs.Followed.{EndsBadly, Followed}
 use Rattle.play_forms.specs.Forms.{line_text_in, text_of_in}
@@ -24,7 +24,7 @@ use Rattle.play_forms.specs.declared.comparison.CompareError.{CompareError}
 use Rattle.play_forms.specs.declared.comparison.CompareError.TheVariants.{Play, Expected}
 use Rattle.play_forms.specs.declared.comparison.Mismatch.{Mismatch}
 use Rattle.play_forms.specs.declared.form.Form.{Form}
-use Rattle.play_forms.proofs.Follows.{ends_at, followed_more}
+use Rattle.play_forms.proofs.Follows.{ends_at, followed_more, own_text}
 
 all_alike : (wants unread : Option (List ℕ)) (printed : List ℕ) → Consumes wants unread printed → IfSome unread (λ bytes. bytes ≡ []) → IsAll wants printed
 all_alike None unread printed c none = tt
@@ -33,11 +33,11 @@ all_alike (Some xs) (Some ys) printed c none = c ∙ ap (λ l. printed ++ l) non
 
 -- These lines were done, and their text, of these rows, was read of the expected text.
 module _ (form : Form) (start mid : State) (had has wants unread : Option (List ℕ)) (lines : List (List ℕ)) (printed : List ℕ) (rows : List (List ℕ)) (f : Followed (unexplained form) start mid had has lines printed) (whole : printed ≡ joined rows) (each : list_all has_no_feed rows ≡ true) (alike : Consumes wants unread printed) (number : ℕ) (count : number ≡ 1 + length lines) (read : ℕ) (counted : read ≡ length rows) where
-  pub untaken_compared : (e : PlayError) (then : Option (List ℕ)) (bytes text wanted : List ℕ) → TakesLine has then bytes number (Err e) → Compared form start mid had then wants bytes text wanted (Err (Play e))
-  untaken_compared Read then bytes text wanted r = (has, lines, printed, unread, alike, f, r)
-  untaken_compared Write then bytes text wanted r = absurd r
-  untaken_compared NoMemory then bytes text wanted r = tt
-  untaken_compared (BadLine n) then bytes text wanted (is, bad) =
+  pub untaken_compared : (e : PlayError) (then rests : Option (List ℕ)) (bytes text wanted : List ℕ) → TakesLine has then bytes number (Err e) → Compared form start mid had then wants rests bytes text wanted (Err (Play e))
+  untaken_compared Read then rests bytes text wanted r = (has, lines, printed, unread, alike, f, r)
+  untaken_compared Write then rests bytes text wanted r = absurd r
+  untaken_compared NoMemory then rests bytes text wanted r = tt
+  untaken_compared (BadLine n) then rests bytes text wanted (is, bad) =
       (printed, unread, alike, subst (EndsBadly (unexplained form) start mid had printed bytes) (sym is) (ends_at (unexplained form) start mid had has lines printed f number count bytes bad))
 
   -- one line more was done
@@ -97,25 +97,35 @@ module _ (form : Form) (start mid : State) (had has wants unread : Option (List 
 
     -- the expected text can't be read, or there is no memory
     pub line_failed : (e : CompareError) (then_unread : Option (List ℕ)) (new : ℕ) (text wanted : List ℕ) → ComparesLine form mid now number meant unread then_unread read new text wanted (Err e)
-        → Compared form start now had then wants line text wanted (Err e)
+        → Compared form start now had then wants then_unread line text wanted (Err e)
     line_failed (Play NoMemory) then_unread new text wanted r = tt
     line_failed (Play Read) then_unread new text wanted r = absurd r
     line_failed (Play Write) then_unread new text wanted r = absurd r
     line_failed (Play (BadLine n)) then_unread new text wanted r = absurd r
-    line_failed Expected then_unread new text wanted (next, (front, back, more, makes, own_alike)) = (
-      then,
-      lines ++ line ∷ [],
-      printed ++ front,
-      back,
-      more,
-      Consumes-trans wants unread more printed front alike own_alike,
-      subst (Followed (unexplained form) start now had then (lines ++ line ∷ [])) (sym (append_assoc printed front back))
-          (followed_more (unexplained form) start mid had has lines printed f number count now then line meant (front ++ back) taken single is next (sym makes)),
-    )
+    line_failed Expected then_unread new text wanted (next, (front, rest, more, makes, some, own_alike, unended)) = record {
+      left = then;
+      lines = lines ++ line ∷ [];
+      printed = printed ++ (front ++ rest);
+      found = printed ++ front;
+      more = more;
+      followed = followed_more (unexplained form) start mid had has lines printed f number count now then line meant (front ++ rest) taken single is next (sym makes);
+      alike = Consumes-trans wants unread more printed front alike own_alike;
+      no_row = unended;
+      stops = inr (record {
+        before = lines;
+        last = line;
+        front = front;
+        rest = rest;
+        are = refl;
+        own = sym (own_text (unexplained form) start mid had has lines printed f number count line meant is) ∙ makes;
+        some = some;
+        whole = ap (λ l. l ++ front) f.said;
+      });
+    }
 
   -- no line is left
-  module _ (then : Option (List ℕ)) (bytes text wanted : List ℕ) (at_end : IsAtEnd has) (none : text ≡ []) where
-    pub end_compared : (mismatch : Option Mismatch) → ComparesEnd unread read number wanted (Ok mismatch) → Compared form start mid had then wants bytes text wanted (Ok mismatch)
+  module _ (then rests : Option (List ℕ)) (bytes text wanted : List ℕ) (at_end : IsAtEnd has) (none : text ≡ []) where
+    pub end_compared : (mismatch : Option Mismatch) → ComparesEnd unread rests read number wanted (Ok mismatch) → Compared form start mid had then wants rests bytes text wanted (Ok mismatch)
     end_compared None over = (has, lines, printed, f, at_end, all_alike wants unread printed alike over)
     end_compared (Some mismatch) (next, some, is) =
         subst (DiffersAt form start mid had wants bytes text wanted) (sym is) (record {
@@ -138,14 +148,23 @@ module _ (form : Form) (start mid : State) (had has wants unread : Option (List 
           place = omega (arith, ap length whole);
         })
 
-    pub end_failed : (e : CompareError) → ComparesEnd unread read number wanted (Err e) → Compared form start mid had then wants bytes text wanted (Err e)
+    pub end_failed : (e : CompareError) → ComparesEnd unread rests read number wanted (Err e) → Compared form start mid had then wants rests bytes text wanted (Err e)
     end_failed (Play NoMemory) r = tt
     end_failed (Play Read) r = absurd r
     end_failed (Play Write) r = absurd r
     end_failed (Play (BadLine n)) r = absurd r
-    end_failed Expected r =
-        (has, lines, printed, [], unread, alike, subst (Followed (unexplained form) start mid had has lines) (sym (append-nil printed)) f)
+    end_failed Expected r = record {
+      left = has;
+      lines = lines;
+      printed = printed;
+      found = printed;
+      more = unread;
+      followed = f;
+      alike = alike;
+      no_row = r;
+      stops = inl (at_end, refl);
+    }
 
-    pub end_any : (r : Result (Option Mismatch) CompareError) → ComparesEnd unread read number wanted r → Compared form start mid had then wants bytes text wanted r
+    pub end_any : (r : Result (Option Mismatch) CompareError) → ComparesEnd unread rests read number wanted r → Compared form start mid had then wants rests bytes text wanted r
     end_any (Ok mismatch) r = end_compared mismatch r
     end_any (Err e) r = end_failed e r

@@ -53,7 +53,7 @@ none_free [] none = refl
 none_free (x ∷ xs) none = absurd (omega (arith, none))
 
 -- nor has the last, where no LF ends the bytes
-unended_free : (all : List ℕ) → StopsAt all feed → (length all ≡ 0) ⊎ ((front : List ℕ) × (last : ℕ) × (all ≡ front ++ last ∷ []) × (last ≢ feed)) → has_no_feed all ≡ true
+pub unended_free : (all : List ℕ) → StopsAt all feed → (length all ≡ 0) ⊎ ((front : List ℕ) × (last : ℕ) × (all ≡ front ++ last ∷ []) × (last ≢ feed)) → has_no_feed all ≡ true
 unended_free all stops (inl none) = none_free all none
 unended_free all stops (inr (front, last, are, other)) =
     let before = front_free front last (subst (λ l. StopsAt l feed) are stops) in

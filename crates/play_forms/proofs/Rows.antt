@@ -1,6 +1,6 @@
 -- SPDX-License-Identifier: MIT OR Apache-2.0
 -- The lines of a text, each with its LF, and what reading one of them takes.
-use Rattle.std.proofs.Common.{◌≡◌, ◌≢◌, Bor, ℕ, ◌+◌, ◌-◌, ◌≤◌, true, false, List, [], ◌∷◌, ◌++◌, length, Option, None, Some, Err, sym, ap, ◌∙◌, subst, arith, append_assoc, append-nil, length-append, refl}
+use Rattle.std.proofs.Common.{◌≡◌, ◌≢◌, Bor, ℕ, ◌+◌, ◌-◌, ◌≤◌, true, false, List, [], ◌∷◌, ◌++◌, length, Option, None, Some, Result, Ok, Err, inr, sym, ap, ◌∙◌, subst, arith, append_assoc, append-nil, length-append, refl}
 use Rattle.std.specs.Prelude.{◌==◌, not, IfSome}
 use Rattle.std.specs.Option.{MatchOption}
 use Rattle.std.specs.Io.{StopsAt}
@@ -13,7 +13,7 @@ use Rattle.std.proofs.lemmas.List.Folds.{list_all-append}
 use Rattle.ffa_model.specs.State.{State}
 use Rattle.play_syntax.specs.TraceLines.{Line, feed, has_no_feed, joined}
 use Rattle.play_player.proofs.Runs.{joined-append}
-use Rattle.play_forms.specs.Comparing.{AreRows, Parts, ReadsRow, TakesText}
+use Rattle.play_forms.specs.Comparing.{AreRows, EndsRow, Parts, ReadsRow, TakesText}
 use Rattle.play_forms.specs.declared.comparison.CompareError.{CompareError}
 use Rattle.play_forms.specs.declared.comparison.CompareError.TheVariants.{Play, Expected}
 use Rattle.play_syntax.specs.declared.output.PlayError.TheVariants.{Read, Write, NoMemory, BadLine}
@@ -21,7 +21,7 @@ use Rattle.play_forms.specs.Compared.{next_row}
 use Rattle.play_forms.specs.Forms.{line_text_in}
 use Rattle.play_forms.specs.declared.form.Form.{Form}
 use Rattle.play_forms.proofs.CutOff.{line_cuts}
-use Rattle.play_forms.proofs.ReadLines.{front_free}
+use Rattle.play_forms.proofs.ReadLines.{front_free, unended_free}
 
 -- a line's text, in whichever form, is lines
 pub text_rows : (form : Form) (n : ℕ) (s : State) (line : Line) (text : List ℕ) → text ≡ line_text_in form n s line → AreRows text
@@ -53,6 +53,34 @@ take_row (c ∷ row) more single =
     let parts = and_parts (not (c == feed)) (has_no_feed row) single in
     let other : (c == feed) ≡ false = not-true (c == feed) parts.0 in
     rw other (ap (λ l. c ∷ l) (take_row row more parts.1))
+
+-- the last byte, and those before it
+last_of : (x : ℕ) (xs : List ℕ) → (front : List ℕ) × (last : ℕ) × (x ∷ xs ≡ front ++ last ∷ [])
+last_of x [] = ([], x, refl)
+last_of x (y ∷ ys) =
+    let more = last_of y ys in
+    (x ∷ more.0, more.1, ap (λ l. x ∷ l) more.2)
+
+-- what was read up to an LF, and isn't ended by one, has none
+unended_row : (row : List ℕ) → StopsAt row feed → ((line : List ℕ) → row ≢ line ++ feed ∷ []) → has_no_feed row ≡ true
+unended_row [] stops other = refl
+unended_row (x ∷ xs) stops other =
+    let last = last_of x xs in
+    unended_free (x ∷ xs) stops (inr (last.0, last.1, last.2, λ same. other last.0 (last.2 ∙ ap (λ c. last.0 ++ c ∷ []) same)))
+
+-- what was read before the reader failed
+pub failed_row : (wants has : Option (List ℕ)) (old new : ℕ) (row : List ℕ) (r : Result (Unit {0}) CompareError) → new ≡ 1 + old → Consumes wants has row → StopsAt row feed → EndsRow row r
+    → ReadsRow wants has old new row r
+failed_row wants has old new row (Ok x) count read stops (line, is) = (count, read, stops, through wants has read)
+  where
+    through : (wants has : Option (List ℕ)) → Consumes wants has row → IfSome wants (λ bytes. row ≡ take_through feed bytes)
+    through None has c = tt
+    through (Some xs) None c = absurd c
+    through (Some xs) (Some ys) c =
+        let single = front_free line feed (subst (λ l. StopsAt l feed) is stops) in
+        is ∙ sym (take_row line ys single) ∙ ap (take_through feed) (sym (c ∙ ap (λ l. l ++ ys) is ∙ append_assoc line (feed ∷ []) ys))
+failed_row wants has old new row (Err Expected) count read stops other = (row, read, unended_row row stops other)
+failed_row wants has old new row (Err (Play e)) count read stops never = absurd never
 
 -- there is no text where no row is left
 pub no_row : (rows : List (List ℕ)) → joined rows ≡ [] → rows ≡ []
@@ -88,13 +116,14 @@ module _ (text rest : List ℕ) (done todo : List (List ℕ)) (whole : text ≡ 
   shorter = omega (arith, ap length left, ap length (whole ∙ joined-append done todo), length-append (joined done) (joined todo))
 
   -- no more could be read
-  pub text_unread : (wants unread has : Option (List ℕ)) (old read new : ℕ) (row : List ℕ) (e : CompareError) → Consumes wants unread (joined done)
+  pub text_unread : (wants unread has : Option (List ℕ)) (old read new : ℕ) (row : List ℕ) (e : CompareError) → Consumes wants unread (joined done) → 1 ≤ length rest
       → ReadsRow {X = Unit {0}} unread has read new row (Err e) → TakesText wants has old new text row (Err e)
-  text_unread wants unread has old read new row (Play NoMemory) alike r = tt
-  text_unread wants unread has old read new row (Play Read) alike r = absurd r
-  text_unread wants unread has old read new row (Play Write) alike r = absurd r
-  text_unread wants unread has old read new row (Play (BadLine n)) alike r = absurd r
-  text_unread wants unread has old read new row Expected alike r = (joined done, joined todo, unread, whole ∙ joined-append done todo, alike)
+  text_unread wants unread has old read new row (Play NoMemory) alike some r = tt
+  text_unread wants unread has old read new row (Play Read) alike some r = absurd r
+  text_unread wants unread has old read new row (Play Write) alike some r = absurd r
+  text_unread wants unread has old read new row (Play (BadLine n)) alike some r = absurd r
+  text_unread wants unread has old read new row Expected alike some r =
+      (joined done, joined todo, unread, whole ∙ joined-append done todo, omega (arith, ap length left, some), alike, r)
 
   -- no row is left
   pub rows_taken : rest ≡ [] → (text ≡ joined done) × (list_all has_no_feed done ≡ true)

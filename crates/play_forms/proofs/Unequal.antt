@@ -102,12 +102,12 @@ never_prints form start now (Some trace) (Some expected) bytes text wanted misma
         let is : more ≡ joined d.behind ++ prints.0 = goes_on expected d.printed text more prints.0 d.rows d.behind (sym same ∙ prints.1) d.whole alike in
         d.other (next ∙ ap (take_through feed) is ∙ reads_next d.behind prints.0 (parts_each d.rows d.behind d.each).1 (λ none. absurd (omega (arith, ap length none, some))))
 
-pub compared_unequal : (form : Form) (start now : State) (had has wants : Option (List ℕ)) (bytes text wanted : List ℕ) (mismatch : Option Mismatch) → Compared form start now had has wants bytes text wanted (Ok mismatch)
+pub compared_unequal : (form : Form) (start now : State) (had has wants unread : Option (List ℕ)) (bytes text wanted : List ℕ) (mismatch : Option Mismatch) → Compared form start now had has wants unread bytes text wanted (Ok mismatch)
     → IfSome mismatch (λ _. NeverPrints (unexplained form) start had wants)
-compared_unequal form start now had has wants bytes text wanted None d = tt
-compared_unequal form start now had has wants bytes text wanted (Some mismatch) d = never_prints form start now had wants bytes text wanted mismatch d
+compared_unequal form start now had has wants unread bytes text wanted None d = tt
+compared_unequal form start now had has wants unread bytes text wanted (Some mismatch) d = never_prints form start now had wants bytes text wanted mismatch d
 
-pub result_unequal : (form : Form) (start now : State) (had has wants : Option (List ℕ)) (bytes text wanted : List ℕ) (r : Result (Option Mismatch) CompareError) → Compared form start now had has wants bytes text wanted r
+pub result_unequal : (form : Form) (start now : State) (had has wants unread : Option (List ℕ)) (bytes text wanted : List ℕ) (r : Result (Option Mismatch) CompareError) → Compared form start now had has wants unread bytes text wanted r
     → IfOk r (λ d. IfSome d (λ _. NeverPrints (unexplained form) start had wants))
-result_unequal form start now had has wants bytes text wanted (Ok mismatch) d = compared_unequal form start now had has wants bytes text wanted mismatch d
-result_unequal form start now had has wants bytes text wanted (Err e) d = tt
+result_unequal form start now had has wants unread bytes text wanted (Ok mismatch) d = compared_unequal form start now had has wants unread bytes text wanted mismatch d
+result_unequal form start now had has wants unread bytes text wanted (Err e) d = tt

@@ -6,7 +6,7 @@ use Rattle.std.specs.Io.KnownBytes.{Consumes, IsAtEnd}
 use Rattle.std.specs.List.{list_all}
 use Rattle.ffa_model.specs.State.{State}
 use Rattle.play_syntax.specs.TraceLines.{feed, has_no_feed, is_line, are_lines, joined}
-use Rattle.play_syntax.specs.TraceText.{after}
+use Rattle.play_syntax.specs.TraceText.{after, after_all}
 use Rattle.play_syntax.specs.declared.output.PlayError.TheVariants.{Read, Write, NoMemory, BadLine}
 use Rattle.play_reasons.specs.Reasons.{reason_of_bytes, told_line}
 use Rattle.play_forms.specs.declared.comparison.CompareError.{CompareError}
@@ -61,28 +61,52 @@ pub record DiffersAt (form : Form) (start now : State) (had wants : Option (List
   pub expected_line : mismatch.expected_line ≡ 1 + length rows
   pub place : length printed + mismatch.place ≡ length (joined rows)
 
+-- of the text of these lines this was found: the text of all but the last one, and a front of the last one's text, of
+-- which a rest is left
+pub record StopsInLast (form : Form) (start : State) (lines : List (List ℕ)) (found : List ℕ) : Type 0 where
+  pub before : List (List ℕ)
+  pub last : List ℕ
+  pub front : List ℕ
+  pub rest : List ℕ
+  pub are : lines ≡ before ++ last ∷ []
+  pub own : text_of_in form (1 + length before) (after_all start before) last ≡ front ++ rest
+  pub some : 1 ≤ length rest
+  pub whole : found ≡ text_in form 1 start before ++ front
+
+-- The expected text could be read no further, of which this is unread now. These lines were done. It begins with what was
+-- found of their text, which is all of it where no line is left, and no row behind that was read whole.
+pub record FailsToMatch (form : Form) (start now : State) (had wants unread : Option (List ℕ)) : Type 0 where
+  pub left : Option (List ℕ)
+  pub lines : List (List ℕ)
+  pub printed : List ℕ
+  pub found : List ℕ
+  pub more : Option (List ℕ)
+  pub followed : Followed form start now had left lines printed
+  pub alike : Consumes wants more found
+  pub no_row : ReadsNoLine more unread
+  pub stops : (IsAtEnd left × (found ≡ printed)) ⊎ StopsInLast form start lines found
+
 -- A comparison: the whole text is what is expected, or it differs, or a line is bad, or no more could be read of the
--- trace, of which each line that was read whole was done, or of the expected text, which goes on with a beginning of what
--- these lines print. It writes nothing, and of what it leaves where there is no memory nothing is said.
-abbrev pub Compared : Form → State → State → (had has wants : Option (List ℕ)) → (bytes text wanted : List ℕ)
+-- trace, of which each line that was read whole was done, or of the expected text, of which `unread` is unread now. It
+-- writes nothing, and of what it leaves where there is no memory nothing is said.
+abbrev pub Compared : Form → State → State → (had has wants unread : Option (List ℕ)) → (bytes text wanted : List ℕ)
     → Result (Option Mismatch) CompareError → Type 0
-Compared form start now had has wants bytes text wanted (Ok None) =
+Compared form start now had has wants unread bytes text wanted (Ok None) =
     (left : Option (List ℕ)) × (lines : List (List ℕ)) × (printed : List ℕ)
     × Followed (unexplained form) start now had left lines printed × IsAtEnd left × IsAll wants printed
-Compared form start now had has wants bytes text wanted (Ok (Some mismatch)) =
+Compared form start now had has wants unread bytes text wanted (Ok (Some mismatch)) =
     DiffersAt form start now had wants bytes text wanted mismatch
-Compared form start now had has wants bytes text wanted (Err (Play (BadLine n))) =
+Compared form start now had has wants unread bytes text wanted (Err (Play (BadLine n))) =
     (printed : List ℕ) × (more : Option (List ℕ)) × Consumes wants more printed
     × EndsBadly (unexplained form) start now had printed bytes n
-Compared form start now had has wants bytes text wanted (Err (Play Read)) =
+Compared form start now had has wants unread bytes text wanted (Err (Play Read)) =
     (left : Option (List ℕ)) × (lines : List (List ℕ)) × (printed : List ℕ) × (more : Option (List ℕ))
     × Consumes wants more printed × Followed (unexplained form) start now had left lines printed
     × ReadsNoLine left has
-Compared form start now had has wants bytes text wanted (Err (Play Write)) = ⊥
-Compared form start now had has wants bytes text wanted (Err (Play NoMemory)) = ⊤
-Compared form start now had has wants bytes text wanted (Err Expected) =
-    (left : Option (List ℕ)) × (lines : List (List ℕ)) × (front back : List ℕ) × (more : Option (List ℕ))
-    × Consumes wants more front × Followed (unexplained form) start now had left lines (front ++ back)
+Compared form start now had has wants unread bytes text wanted (Err (Play Write)) = ⊥
+Compared form start now had has wants unread bytes text wanted (Err (Play NoMemory)) = ⊤
+Compared form start now had has wants unread bytes text wanted (Err Expected) =
+    FailsToMatch (unexplained form) start now had wants unread
 
 -- of all lines that a reader of known bytes can give, none print what is expected
 abbrev pub NeverPrints : Form → State → (had wants : Option (List ℕ)) → Type 0

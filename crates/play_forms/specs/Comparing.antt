@@ -1,7 +1,7 @@
 -- SPDX-License-Identifier: MIT OR Apache-2.0
 -- FOR PROOFS ALONE
 -- The steps of a comparison, which private functions promise one another.
-use Rattle.std.specs.Prelude.{◌≡◌, ◌≢◌, ◌≤◌, ℕ, ◌+◌, true, List, [], ◌++◌, length, Option, None, Some, IfSome, Result, Ok, Err, ⊤}
+use Rattle.std.specs.Prelude.{◌≡◌, ◌≢◌, ◌≤◌, ℕ, ◌+◌, true, List, [], ◌∷◌, ◌++◌, length, Option, None, Some, IfSome, Result, Ok, Err, ⊤}
 use Rattle.std.specs.Io.{StopsAt}
 use Rattle.std.specs.Io.BufRead.{take_through}
 use Rattle.std.specs.Io.KnownBytes.{Consumes}
@@ -17,6 +17,7 @@ use Rattle.play_forms.specs.declared.comparison.Mismatch.{Mismatch}
 use Rattle.play_forms.specs.declared.form.Form.{Form}
 use Rattle.play_forms.specs.Compared.{next_row, unexplained}
 use Rattle.play_forms.specs.Forms.{line_text_in}
+use Rattle.play_forms.specs.Reading.{ReadsNoLine}
 
 -- What follows speaks of what was unread of the expected text before and after (`wants`, `has`), and of how many of its
 -- lines were read before and after (`old`, `new`).
@@ -31,7 +32,13 @@ ReadsRow wants has old new row (Ok _) =
     (new ≡ 1 + old) × Consumes wants has row × StopsAt row feed × IfSome wants (λ bytes. row ≡ take_through feed bytes)
 ReadsRow wants has old new row (Err (Play NoMemory)) = ⊤
 ReadsRow wants has old new row (Err (Play other)) = ⊥
-ReadsRow wants has old new row (Err Expected) = ⊤
+ReadsRow wants has old new row (Err Expected) = ReadsNoLine wants has
+
+-- what was read before the reader failed is a row where LF ends it
+abbrev pub EndsRow : {X : Type 0} → List ℕ → Result X CompareError → Type 0
+EndsRow row (Ok _) = (line : List ℕ) × (row ≡ line ++ feed ∷ [])
+EndsRow row (Err Expected) = (line : List ℕ) → row ≢ line ++ feed ∷ []
+EndsRow row (Err (Play e)) = ⊥
 
 -- a text, of which these rows were read, and what is behind them wasn't: the next row is another
 pub record Parts (wants : Option (List ℕ)) (old new : ℕ) (text wanted : List ℕ) (at : ℕ) : Type 0 where
@@ -57,7 +64,8 @@ TakesText wants has old new text wanted (Ok (Some place)) = Parts wants old new 
 TakesText wants has old new text wanted (Err (Play NoMemory)) = ⊤
 TakesText wants has old new text wanted (Err (Play other)) = ⊥
 TakesText wants has old new text wanted (Err Expected) =
-    (front back : List ℕ) × (more : Option (List ℕ)) × (text ≡ front ++ back) × Consumes wants more front
+    (front rest : List ℕ) × (more : Option (List ℕ)) × (text ≡ front ++ rest) × (1 ≤ length rest)
+    × Consumes wants more front × ReadsNoLine more has
 
 -- a line was done, and its text was read of what is expected, or differs
 abbrev pub ComparesLine : Form → State → State → ℕ → Line → (wants has : Option (List ℕ)) (old new : ℕ)
@@ -73,16 +81,17 @@ ComparesLine form start now number line wants has old new text wanted (Err (Play
 ComparesLine form start now number line wants has old new text wanted (Err (Play other)) = ⊥
 ComparesLine form start now number line wants has old new text wanted (Err Expected) =
     (now ≡ line_after start line)
-    × ((front back : List ℕ) × (more : Option (List ℕ))
-    × (line_text_in (unexplained form) number start line ≡ front ++ back) × Consumes wants more front)
+    × ((front rest : List ℕ) × (more : Option (List ℕ))
+    × (line_text_in (unexplained form) number start line ≡ front ++ rest) × (1 ≤ length rest)
+    × Consumes wants more front × ReadsNoLine more has)
 
 -- no line is left: neither is one of the expected text, or there is
-abbrev pub ComparesEnd : (wants : Option (List ℕ)) (old : ℕ) (number : ℕ) (wanted : List ℕ)
+abbrev pub ComparesEnd : (wants has : Option (List ℕ)) (old : ℕ) (number : ℕ) (wanted : List ℕ)
     → Result (Option Mismatch) CompareError → Type 0
-ComparesEnd wants old number wanted (Ok None) = IfSome wants (λ bytes. bytes ≡ [])
-ComparesEnd wants old number wanted (Ok (Some mismatch)) =
+ComparesEnd wants has old number wanted (Ok None) = IfSome wants (λ bytes. bytes ≡ [])
+ComparesEnd wants has old number wanted (Ok (Some mismatch)) =
     IfSome wants (λ bytes. wanted ≡ take_through feed bytes) × (1 ≤ length wanted)
     × (mismatch ≡ record { number = number; expected_line = 1 + old; place = 0; reason = None })
-ComparesEnd wants old number wanted (Err (Play NoMemory)) = ⊤
-ComparesEnd wants old number wanted (Err (Play other)) = ⊥
-ComparesEnd wants old number wanted (Err Expected) = ⊤
+ComparesEnd wants has old number wanted (Err (Play NoMemory)) = ⊤
+ComparesEnd wants has old number wanted (Err (Play other)) = ⊥
+ComparesEnd wants has old number wanted (Err Expected) = ReadsNoLine wants has

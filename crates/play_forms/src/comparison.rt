@@ -5,7 +5,7 @@ ghost use Rattle.std.specs.Option.{MatchOption};
 ghost use Rattle.play_syntax.specs.Lines.{meant, outcome_of};
 ghost use Rattle.play_syntax.specs.TraceLines.{feed};
 ghost use Rattle.play_forms.specs.Compared.{Compared, NeverPrints, unexplained};
-ghost use Rattle.play_forms.specs.Comparing.{AreRows, ComparesEnd, ComparesLine, ReadsRow, TakesText};
+ghost use Rattle.play_forms.specs.Comparing.{AreRows, ComparesEnd, ComparesLine, EndsRow, ReadsRow, TakesText};
 ghost use Rattle.play_forms.specs.Forms.{WritesIn};
 
 use crate::form::{Form, put_number_in, put_text};
@@ -85,8 +85,9 @@ impl<A: Allocator + Copy> Sides<A> {
 ///
 /// At a bad line the lines before it were done, and where the trace can't be read each that was read whole, and nothing
 /// more, and their text begins the expected one. The bytes of a bad line stand in `sides` as they stand in the trace,
-/// with the LF that ends them, where one does. Where the expected text can't be read, so much of it was read as begins
-/// the text of the lines that were done. What is left where there is no memory is in no clause.
+/// with the LF that ends them, where one does. Where the expected text can't be read, the text of the lines
+/// before the one that was done last was found in it, and each row more that was read whole begins the text of that one.
+/// What is left where there is no memory is in no clause.
 pub fn compare<P: Playable, A: Allocator + Copy, R: BufRead, E: BufRead>(
     player: &mut Player<P>,
     alloc: A,
@@ -98,8 +99,9 @@ pub fn compare<P: Playable, A: Allocator + Copy, R: BufRead, E: BufRead>(
     ensures compared { let had = R.remaining reader.old in
         let has = R.remaining reader.new in
         let wants = E.remaining expected.old in
+        let unread = E.remaining expected.new in
         let now = player.new.state in
-        Compared form player.old.state now had has wants sides.new.line.items sides.new.text.items sides.new.expected.items result }
+        Compared form player.old.state now had has wants unread sides.new.line.items sides.new.text.items sides.new.expected.items result }
     ensures unequal { let had = R.remaining reader.old in
         let wants = E.remaining expected.old in
         IfOk result (λ d. IfSome d (λ _. NeverPrints (unexplained form) player.old.state had wants)) }
@@ -163,7 +165,7 @@ impl Rows {
         expected: &mut E,
         row: &mut Vec<u8, A>,
     ) -> Result<Option<Mismatch>, CompareError>
-        ensures { ComparesEnd (E.remaining expected.old) self.old.read number row.new.items result }
+        ensures { ComparesEnd (E.remaining expected.old) (E.remaining expected.new) self.old.read number row.new.items result }
     {
         self.next(expected, row)?;
         if row.is_empty() {
@@ -221,8 +223,18 @@ impl Rows {
             Err(error) if error.kind() == ErrorKind::OutOfMemory => {
                 Err(CompareError::Play(PlayError::NoMemory))
             }
-            Err(_) => Err(CompareError::Expected),
+            Err(_) => end_row(row),
         }
+    }
+}
+
+// What was read before the reader failed is a line where LF ends it.
+fn end_row(row: &[u8]) -> Result<(), CompareError>
+    ensures { EndsRow row.now result }
+{
+    match row.strip_suffix(b"\n") {
+        Some(_line) => Ok(()),
+        None => Err(CompareError::Expected),
     }
 }
 

@@ -12,7 +12,7 @@ use Rattle.play_syntax.specs.declared.output.PlayError.{PlayError}
 use Rattle.play_syntax.specs.declared.output.PlayError.TheVariants as play_error
 use Rattle.play_forms.specs.declared.form.Form.{Form}
 use Rattle.play_reasons.specs.declared.fault.LineFault.{LineFault}
-use Rattle.play_forms.specs.Compared.{Compared, NeverPrints, unexplained}
+use Rattle.play_forms.specs.Compared.{Compared, NeverPrints, StopsInLast, unexplained}
 use Rattle.play_forms.specs.Followed as followed
 use Rattle.play_forms.specs.Forms.{plain, text_in}
 use Rattle.play_forms.specs.Guards.{GuardedIn, guards_among, near_from}
@@ -277,32 +277,37 @@ recorded_failed remaining start now held holds had has bytes path fault (play_er
 
 -- COMPARISONS
 
-pub compared_whole : (form : Form) (start now : State) (had has wants : Option (List ℕ)) (bytes said wanted : List ℕ) → Compared form start now had has wants bytes said wanted (Ok None) → PrintsExpected (unexplained form) start had wants
-compared_whole form start now had has wants bytes said wanted (left, lines, printed, f, ended, all) = record {
+pub compared_whole : (form : Form) (start now : State) (had has wants unread : Option (List ℕ)) (bytes said wanted : List ℕ) → Compared form start now had has wants unread bytes said wanted (Ok None) → PrintsExpected (unexplained form) start had wants
+compared_whole form start now had has wants unread bytes said wanted (left, lines, printed, f, ended, all) = record {
   lines = lines;
   each = f.each;
   all = all_consumed had left (joined lines) f.read ended;
   same = subst (IsAll wants) f.said all;
 }
 
-cut_short : (form : Form) (start now : State) (had has wants : Option (List ℕ)) (bytes said wanted : List ℕ) (n : ℕ) → Compared form start now had has wants bytes said wanted (Err (compare_error.Play (play_error.BadLine n)))
+cut_short : (form : Form) (start now : State) (had has wants unread : Option (List ℕ)) (bytes said wanted : List ℕ) (n : ℕ) → Compared form start now had has wants unread bytes said wanted (Err (compare_error.Play (play_error.BadLine n)))
     → IsCutShort (unexplained form) start had wants n
-cut_short form start now had has wants bytes said wanted n (printed, more, alike, e) =
+cut_short form start now had has wants unread bytes said wanted n (printed, more, alike, e) =
     (e.lines, ends_badly (unexplained form) start now had printed bytes n e, (more, subst (Consumes wants more) e.followed.said alike))
 
-module _ {R : Type 0} (remaining : R → Option (List ℕ)) (form : Form) (start now : State) (had has held : Option (List ℕ)) (expected : Expected R) (bytes said wanted : List ℕ) where
-  pub compared_failed : (path : Bor (List ℕ)) (fault : Option LineFault) (error : PlayError) → Compared form start now had has (remaining expected.reader) bytes said wanted (Err (compare_error.Play error))
+module _ {R : Type 0} (remaining : R → Option (List ℕ)) (form : Form) (start now : State) (had has unread held : Option (List ℕ)) (expected : Expected R) (bytes said wanted : List ℕ) where
+  pub compared_failed : (path : Bor (List ℕ)) (fault : Option LineFault) (error : PlayError) → Compared form start now had has (remaining expected.reader) unread bytes said wanted (Err (compare_error.Play error))
       → PlayFails remaining (Compare expected form) path start (passed had held held) (failure_of (Read path) fault error)
   compared_failed path fault play_error.Read (left, lines, printed, more, alike, f, unended) =
       inl (((lines, (f.each, (left, f.read)), (more, subst (Consumes (remaining expected.reader) more) f.said alike)), kept held), refl)
   compared_failed path fault play_error.Write p = absurd p
   compared_failed path fault play_error.NoMemory p = tt
-  compared_failed path fault (play_error.BadLine n) p = (cut_short form start now had has (remaining expected.reader) bytes said wanted n p, kept held)
+  compared_failed path fault (play_error.BadLine n) p = (cut_short form start now had has (remaining expected.reader) unread bytes said wanted n p, kept held)
 
   -- the expected text couldn't be read
-  pub compared_unmatched : (path : Bor (List ℕ)) → Compared form start now had has (remaining expected.reader) bytes said wanted (Err compare_error.Expected)
+  pub compared_unmatched : (path : Bor (List ℕ)) → Compared form start now had has (remaining expected.reader) unread bytes said wanted (Err compare_error.Expected)
       → PlayFails remaining (Compare expected form) path start (passed had held held) (Read expected.path)
-  compared_unmatched path (left, lines, front, back, more, alike, f) = inr ((lines, (f.each, (left, f.read)), (front, back, more, sym f.said, alike)), kept held, refl)
+  compared_unmatched path p = inr ((p.lines, (p.followed.each, (p.left, p.followed.read)), (p.found, p.more, p.alike, stopped_at p.stops)), kept held, refl)
+    where
+      stopped_at : (IsAtEnd p.left × (p.found ≡ p.printed)) ⊎ StopsInLast (unexplained form) start p.lines p.found
+          → (IsAll had (joined p.lines) × (p.found ≡ text_in (unexplained form) 1 start p.lines)) ⊎ StopsInLast (unexplained form) start p.lines p.found
+      stopped_at (inl (at_end, all)) = inl (all_consumed had p.left (joined p.lines) p.followed.read at_end, all ∙ p.followed.said)
+      stopped_at (inr stops) = inr stops
 
 -- where a difference was found
 pub differing : {R : Type 0} (remaining : R → Option (List ℕ)) (form : Form) (start : State) (streams : Streams) (expected : Expected R) (path : Bor (List ℕ)) → NeverPrints (unexplained form) start streams.trace (remaining expected.reader)

@@ -11,7 +11,7 @@ use Rattle.play_arguments.specs.declared.command_line.PictureOptions.{PictureOpt
 use Rattle.play_arguments.specs.declared.command_line.TextOptions.{TextOptions}
 use Rattle.play_forms.specs.declared.form.Form.{Form}
 use Rattle.play_forms.specs.declared.guards.Asks.{Asks}
-use Rattle.play_forms.specs.Compared.{NeverPrints, unexplained}
+use Rattle.play_forms.specs.Compared.{NeverPrints, StopsInLast, unexplained}
 use Rattle.play_forms.specs.Forms.{plain, text_in}
 use Rattle.play_forms.specs.Guards.{AreMet, IsMet, guard_of, guards_among, near_from}
 use Rattle.play_forms.specs.Reading.{IsAll, IsBadLine}
@@ -190,12 +190,13 @@ abbrev pub IsCutOff : Form → State → (trace expected : Option (List ℕ)) �
 IsCutOff form start trace expected =
     (lines : List (List ℕ)) × BeganWith trace lines × BeginsExpected form start expected lines
 
--- a comparison could read no further of what is expected, which begins with a front of the text of these lines
+-- a comparison could read no further of what is expected, which begins with the text of all of the trace's lines; or these
+-- lines were done, and it begins with the text of all but the last one, and a front of that one's text
 abbrev pub IsUnmatched : Form → State → (trace expected : Option (List ℕ)) → Type 0
 IsUnmatched form start trace expected =
     (lines : List (List ℕ)) × BeganWith trace lines
-    × ((front back : List ℕ) × (more : Option (List ℕ)) × (text_in form 1 start lines ≡ front ++ back)
-    × Consumes expected more front)
+    × ((found : List ℕ) × (more : Option (List ℕ)) × Consumes expected more found
+    × ((IsAll trace (joined lines) × (found ≡ text_in form 1 start lines)) ⊎ StopsInLast form start lines found))
 
 -- what is printed, in this form: by a play, or by a session, of which guards aren't checked
 abbrev pub IsPrinted : (strict interactive : Bool) → Form → State → Streams → Type 0

@@ -20,6 +20,7 @@ returns-in_err-number-clause-compared g c =
     rw (p.1, p.2)
     (untaken_compared c.args.form c.args.player.now.state c.loop-number.player.state (g.R.Read.remaining c.args.reader.now) (g.R.Read.remaining c.loop-number.reader) (g.E.Read.remaining c.args.expected.now)
     (g.E.Read.remaining c.loop-number.expected) i.0 i.1 i.2 i.3 i.4 i.5 i.6 c.loop-number.lines.number i.7 c.loop-number.rows.read i.8 c.in_err-number.field-0.0 (g.R.Read.remaining c.next.new.reader)
+    (g.E.Read.remaining c.loop-number.expected)
     c.next.new.bytes.items c.loop-number.sides.text.items c.loop-number.sides.expected.items c.in_err-number.ensures)
 
 pub returns-in_err-mismatch-clause-compared : goal.returns-in_err-mismatch-clause-compared
@@ -66,8 +67,8 @@ returns-clause-compared g c =
     let i = c.loop-number.invariant in
     let end = subst (λ o. TakesNext c.loop-number.lines.number c.next.new.self.number (g.R.Read.remaining c.loop-number.reader) (g.R.Read.remaining c.next.new.reader) c.next.new.bytes.items (Ok o)) c.in_default.is c.in_ok-number.ensures in
     end_any c.args.form c.args.player.now.state c.loop-number.player.state (g.R.Read.remaining c.args.reader.now) (g.R.Read.remaining c.loop-number.reader) (g.E.Read.remaining c.args.expected.now)
-    (g.E.Read.remaining c.loop-number.expected) i.0 i.1 i.2 i.3 i.4 i.5 i.6 c.next.new.self.number (end.0 ∙ i.7) c.loop-number.rows.read i.8 (g.R.Read.remaining c.next.new.reader) c.next.new.bytes.items _ c.compare_end.new.row.items end.1
+    (g.E.Read.remaining c.loop-number.expected) i.0 i.1 i.2 i.3 i.4 i.5 i.6 c.next.new.self.number (end.0 ∙ i.7) c.loop-number.rows.read i.8 (g.R.Read.remaining c.next.new.reader) (g.E.Read.remaining c.compare_end.new.expected) c.next.new.bytes.items _ c.compare_end.new.row.items end.1
     c.clear.ensures.items c.compare_end.result c.compare_end.ensures
 
 pub returns-clause-unequal : goal.returns-clause-unequal
-returns-clause-unequal g c = result_unequal _ _ _ _ _ _ _ _ _ c.compare_end.result (returns-clause-compared g c)
+returns-clause-unequal g c = result_unequal _ _ _ _ _ _ _ _ _ _ c.compare_end.result (returns-clause-compared g c)

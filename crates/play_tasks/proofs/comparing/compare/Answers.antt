@@ -18,9 +18,10 @@ returns-in-Ok-None g c =
     let sides = c.compare.new.sides in
     let had = reader_remaining g.R.Read.remaining c.in_ok-reader.reader in
     let has = reader_remaining g.R.Read.remaining c.compare.new.reader in
+    let unread = reader_remaining g.R.Read.remaining c.compare.new.expected in
     let wants = g.R.Read.remaining c.args.expected.reader in
-    let at_wanted = subst (λ wants. Compared form start now had has wants sides.line.items sides.text.items sides.expected.items (Ok None)) c.in_ok-wanted.ensures.unread (rw c.in-Ok-None.field-0-is at c.in-Ok-None.ensures.compared) in
-    let whole = compared_whole form start now had has wants sides.line.items sides.text.items sides.expected.items at_wanted in
+    let at_wanted = subst (λ wants. Compared form start now had has wants unread sides.line.items sides.text.items sides.expected.items (Ok None)) c.in_ok-wanted.ensures.unread (rw c.in-Ok-None.field-0-is at c.in-Ok-None.ensures.compared) in
+    let whole = compared_whole form start now had has wants unread sides.line.items sides.text.items sides.expected.items at_wanted in
     let from_reader = subst (λ had. PrintsExpected (unexplained form) start had wants) c.in_ok-reader.ensures.unread whole in
     record { played = (from_reader, kept (g.W.Write.contents c.args.out.now)); failed = tt }
 
@@ -47,10 +48,11 @@ returns-in-Err-Play g c =
     let held = g.W.Write.contents c.args.out.now in
     let had = reader_remaining g.R.Read.remaining c.in_ok-reader.reader in
     let has = reader_remaining g.R.Read.remaining c.compare.new.reader in
+    let unread = reader_remaining g.R.Read.remaining c.compare.new.expected in
     let fault = c.of_line.ensures.0 in
     let error = c.in-Err-Play.error in
-    let at_wanted = subst (λ wants. Compared form start now had has wants sides.line.items sides.text.items sides.expected.items (Err (compare_error.Play error))) c.in_ok-wanted.ensures.unread (rw c.in-Err-Play.field-0-is at c.in-Err-Play.ensures.compared) in
-    let failed = compared_failed g.R.Read.remaining form start now had has held c.args.expected sides.line.items sides.text.items sides.expected.items c.args.trace.path fault error at_wanted in
+    let at_wanted = subst (λ wants. Compared form start now had has wants unread sides.line.items sides.text.items sides.expected.items (Err (compare_error.Play error))) c.in_ok-wanted.ensures.unread (rw c.in-Err-Play.field-0-is at c.in-Err-Play.ensures.compared) in
+    let failed = compared_failed g.R.Read.remaining form start now had has unread held c.args.expected sides.line.items sides.text.items sides.expected.items c.args.trace.path fault error at_wanted in
     let task = Compare c.args.expected form in
     let from_reader = subst (λ had. PlayFails g.R.Read.remaining task c.args.trace.path start (passed had held held) (failure_of (Read c.args.trace.path) fault error)) c.in_ok-reader.ensures.unread failed in
     let told : failure_of (Read c.args.trace.path) fault error ≡ c.of_line.result = cc (c.of_line.ensures.1, c.in-Err-Play.error-is) in
@@ -65,7 +67,8 @@ returns g c =
     let held = g.W.Write.contents c.args.out.now in
     let had = reader_remaining g.R.Read.remaining c.in_ok-reader.reader in
     let has = reader_remaining g.R.Read.remaining c.compare.new.reader in
-    let at_wanted = subst (λ wants. Compared form start now had has wants sides.line.items sides.text.items sides.expected.items (Err compare_error.Expected)) c.in_ok-wanted.ensures.unread (rw c.in-Err-Expected.field-0-is at c.in-Err-Expected.ensures.compared) in
-    let failed = compared_unmatched g.R.Read.remaining form start now had has held c.args.expected sides.line.items sides.text.items sides.expected.items c.args.trace.path at_wanted in
+    let unread = reader_remaining g.R.Read.remaining c.compare.new.expected in
+    let at_wanted = subst (λ wants. Compared form start now had has wants unread sides.line.items sides.text.items sides.expected.items (Err compare_error.Expected)) c.in_ok-wanted.ensures.unread (rw c.in-Err-Expected.field-0-is at c.in-Err-Expected.ensures.compared) in
+    let failed = compared_unmatched g.R.Read.remaining form start now had has unread held c.args.expected sides.line.items sides.text.items sides.expected.items c.args.trace.path at_wanted in
     let task = Compare c.args.expected form in
     record { played = tt; failed = subst (λ had. PlayFails g.R.Read.remaining task c.args.trace.path start (passed had held held) (Read c.args.expected.path)) c.in_ok-reader.ensures.unread failed }

@@ -15,10 +15,11 @@ loop-rest-init g c = ([], c.requires.0, c.requires.1, c.requires.1, c.requires.2
 pub returns-in_err-next : goal.returns-in_err-next
 returns-in_err-next g c =
     let i = c.loop-rest.invariant in
+    let some : length c.loop-rest.rest.now ≢ 0 = eqb-false _ _ (sym c.is_empty.ensures ∙ c.loop-rest-test.true) in
     let p = err_from_is_err_and c.from_residual.result c.from_residual.ensures.1 in
     rw (p.1, p.2)
     (text_unread c.args.text.now c.loop-rest.rest.now i.0 i.1 i.2 i.3 i.4 (g.E.Read.remaining c.args.expected.now) (g.E.Read.remaining c.loop-rest.expected) (g.E.Read.remaining c.next.new.expected) c.args.self.now.read
-    c.loop-rest.self.read c.next.new.self.read c.next.new.row.items c.in_err-next.field-0.0 i.5 c.in_err-next.ensures)
+    c.loop-rest.self.read c.next.new.self.read c.next.new.row.items c.in_err-next.field-0.0 i.5 (omega (arith, some)) c.in_err-next.ensures)
 
 pub overflow_sub-result : goal.overflow_sub-result
 overflow_sub-result g c =
