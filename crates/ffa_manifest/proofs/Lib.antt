@@ -4,6 +4,7 @@ pub mod Identifiers
 pub mod Taken
 pub mod Bits
 pub mod Steps
+pub mod Places
 pub mod RegionsRead
 pub mod Accepted
 pub mod FirstFailure

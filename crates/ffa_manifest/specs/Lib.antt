@@ -7,3 +7,4 @@ pub mod Endpoints
 pub mod Document
 pub mod Parts
 pub mod Meeting
+pub mod Places

@@ -5,6 +5,7 @@
 ghost use Rattle.std.specs.Prelude.{◌≡◌, ◌≢◌, Ok, Err, IfOk, IfErr};
 ghost use Rattle.ffa_manifest.specs.Document.{machine_of, parts_of};
 ghost use Rattle.ffa_manifest.specs.Meeting.{SharesPage};
+ghost use Rattle.ffa_manifest.specs.Places.{IsPlaceIn};
 
 mod document;
 mod endpoints;
@@ -42,9 +43,9 @@ pub fn read(alloc: Global, text: &str) -> Result<Manifest, ManifestError>
 
 /// Reads a text as `read` does, and of one that is refused finds where.
 ///
-/// The cause is the one that `read` answers. The place is where reading ends, with the key and the value that stand
-/// there, or the region that another one meets, which does have a page of it. The clauses say nothing else of the place,
-/// which tests show.
+/// The cause is the one that `read` answers. The place is where reading ends: the endpoint and the region before which all
+/// is read, and which is refused. With it come the key and the value that stand there, which tests show, or the region
+/// that another one meets, which does have a page of it.
 ///
 /// # Errors
 ///
@@ -53,6 +54,7 @@ pub fn read(alloc: Global, text: &str) -> Result<Manifest, ManifestError>
 pub fn explain(alloc: Global, text: &str) -> Result<Result<Manifest, ManifestRefusal>, AllocError>
     ensures accepted { IfOk result (λ read. IfOk read (λ m. machine_of text.now ≡ Ok (parts_of m))) }
     ensures refused { IfOk result (λ read. IfErr read (λ r. machine_of text.now ≡ Err r.cause)) }
+    ensures place { IfOk result (λ read. IfErr read (λ r. IsPlaceIn text.now r.place)) }
     ensures met { IfOk result (λ read. IfErr read (λ r. SharesPage r.place.found)) }
 {
     let table = match toml::table_from_str(alloc, text) {

@@ -2,24 +2,32 @@
 //! Where a document is refused.
 //!
 //! This is a second walk over its tables, by the functions that read them and in their order, up to the first that
-//! refuses: they say which value that is, and what stands here is the words for what is wrong with it. That the walk
-//! ends where the cause applies is shown by tests.
-ghost use Rattle.std.specs.Prelude.{◌≡◌, ◌≤◌, IfOk, length};
+//! refuses: they say which value that is, and what stands here is the words for what is wrong with it. Clauses say at
+//! which endpoint and in which of its regions the walk ends: what stands before is read, and this is refused. Which key
+//! and value is told there, and in which words, is shown by tests.
+ghost use Rattle.std.specs.Prelude.{◌≡◌, ◌≤◌, [], Some, IfOk, IsErr, length};
+ghost use Rattle.toml.specs.View.{view, table_view, items_view};
+ghost use Rattle.ffa_model.specs.Manifest.{regions_of};
+ghost use Rattle.ffa_manifest.specs.Document.{machine};
+ghost use Rattle.ffa_manifest.specs.Endpoints.{endpoints_from as endpoints_in, next_endpoint as next_endpoint_in, normal_world, partition};
 ghost use Rattle.ffa_manifest.specs.Meeting.{SharesPage};
+ghost use Rattle.ffa_manifest.specs.Places.{IsAtEndpoint, IsAtRegion, IsAtTop, IsPlaceOf, IsWithin, items_after, normal_world_items, partition_items, region_items as region_items_in};
+ghost use Rattle.ffa_manifest.specs.RegionSpace.{is_in};
+ghost use Rattle.ffa_manifest.specs.Regions.{regions_at, regions_from as regions_in};
 
 use crate::document::{TOP_KEYS, endpoint_items, ram_base_at, ram_blocks_at, top_keys};
 use crate::endpoints::{
-    NORMAL_WORLD_KEYS, PARTITION_KEYS, endpoints_from, next_endpoint, normal_world_keys,
-    normal_world_properties, partition_keys, properties_at, uuid_at, version_at,
+    NORMAL_WORLD_KEYS, PARTITION_KEYS, next_endpoint, normal_world_keys, normal_world_properties,
+    partition_keys, properties_at, uuid_at, version_at,
 };
 use crate::keys::is_among;
 use crate::met::met_region;
 use crate::refusal::{Fault, Found, Location};
 use crate::region_space::RegionSpace;
 use crate::regions::{
-    REGION_KEYS, base_at, next_region, pages_at, region, region_items, region_keys, regions_from,
-    rights_at,
+    REGION_KEYS, base_at, next_region, pages_at, region, region_items, region_keys, rights_at,
 };
+use arrayvec::ArrayVec;
 use ffa_model::{Endpoint, EndpointId, MOST_ENDPOINTS, MOST_REGIONS, Region};
 use std::alloc::{AllocError, Global};
 use std::fmt::InlineText;
@@ -30,7 +38,8 @@ const SHOWN: usize = 60;
 
 /// Where a text is no TOML: all that its parser says, on one line.
 pub(crate) fn in_text(alloc: Global, error: &toml::de::Error) -> Result<Location, AllocError>
-    ensures { IfOk result (λ place. SharesPage place.found) }
+    ensures place { IfOk result IsAtTop }
+    ensures met { IfOk result (λ location. SharesPage location.found) }
 {
     let said = error.to_string(alloc)?;
     let said = said.as_str().trim_end().replace(alloc, "\n", ": ")?;
@@ -38,7 +47,8 @@ pub(crate) fn in_text(alloc: Global, error: &toml::de::Error) -> Result<Location
 }
 
 fn in_no_endpoint(found: Found) -> Location
-    ensures { result.found ≡ found }
+    ensures found { result.found ≡ found }
+    ensures place { IsAtTop result }
 {
     Location {
         endpoint: None,
@@ -48,113 +58,189 @@ fn in_no_endpoint(found: Found) -> Location
 }
 
 /// Where the document of a top table is refused.
+#[tactic(auto, using(crate::proofs::Views::item_count_view), unfolding(crate::specs::Document::machine, crate::specs::Places::top))]
 pub(crate) fn in_top(alloc: Global, table: &Table) -> Result<Location, AllocError>
-    ensures { IfOk result (λ place. SharesPage place.found) }
+    requires { IsErr (machine (table_view table.now)) }
+    ensures place { IfOk result (IsPlaceOf (table_view table.now)) }
+    ensures met { IfOk result (λ location. SharesPage location.found) }
 {
-    let found = match (
-        ram_base_at(table),
-        ram_blocks_at(table),
-        endpoint_items(table),
-    ) {
-        _ if top_keys(table).is_err() => unknown_key(alloc, table, &TOP_KEYS)?,
-        (Err(_), ..) => at_number(alloc, table, "ram_base", Fault::RamBase)?,
-        (_, Err(_), _) => at_key(alloc, table, "ram_blocks", Fault::BlockCount)?,
-        (_, _, Err(_)) => at_array(alloc, table, "endpoint", MOST_ENDPOINTS)?,
-        (Ok(base), Ok(blocks), Ok(values)) => {
-            let space = RegionSpace {
-                base,
-                blocks,
-                endpoints: values.len() as u32,
-            };
-            return in_endpoints(alloc, table, values, &space);
-        }
+    if top_keys(table).is_err() {
+        return Ok(in_no_endpoint(unknown_key(alloc, table, &TOP_KEYS)?));
+    }
+    let Ok(base) = ram_base_at(table) else {
+        let found = at_number(alloc, table, "ram_base", Fault::RamBase)?;
+        return Ok(in_no_endpoint(found));
     };
-    Ok(in_no_endpoint(found))
+    let Ok(blocks) = ram_blocks_at(table) else {
+        let found = at_key(alloc, table, "ram_blocks", Fault::BlockCount)?;
+        return Ok(in_no_endpoint(found));
+    };
+    let Ok(values) = endpoint_items(table) else {
+        let found = at_array(alloc, table, "endpoint", MOST_ENDPOINTS)?;
+        return Ok(in_no_endpoint(found));
+    };
+    let space = RegionSpace {
+        base,
+        blocks,
+        endpoints: values.len() as u32,
+    };
+    in_endpoints(alloc, values, &space)
 }
 
 // Where the endpoints of a top table are refused.
 fn in_endpoints(
     alloc: Global,
-    table: &Table,
     values: &[Value],
     space: &RegionSpace,
 ) -> Result<Location, AllocError>
-    requires { length values.now ≤ MOST_ENDPOINTS }
-    ensures { IfOk result (λ place. SharesPage place.found) }
+    requires few { length values.now ≤ MOST_ENDPOINTS }
+    requires refused { IsErr (endpoints_in (is_in space.now) (items_view values.now)) }
+    ensures place { IfOk result (IsAtEndpoint (is_in space.now) (items_view values.now)) }
+    ensures met { IfOk result (λ location. SharesPage location.found) }
 {
+    let mut before = ArrayVec::<Endpoint, MOST_ENDPOINTS>::new();
     for (index, value) in values.iter().enumerate() {
-        let Ok(before) = endpoints_from(&values[..index], space) else {
-            break;
-        };
-        if next_endpoint(value, space, before.as_slice()).is_err() {
-            let (region, found) = in_endpoint(alloc, value, space, before.as_slice())?;
-            return Ok(Location {
-                endpoint: Some(EndpointId::at(index)),
-                region,
-                found,
-            });
+        match next_endpoint(value, space, before.as_slice()) {
+            Ok(endpoint) => before.push(endpoint),
+            Err(_) => {
+                let (region, found) = in_endpoint(alloc, value, space, before.as_slice())?;
+                return Ok(Location {
+                    endpoint: Some(EndpointId::at(index)),
+                    region,
+                    found,
+                });
+            }
         }
     }
-    let found = at_array(alloc, table, "endpoint", MOST_ENDPOINTS)?;
-    Ok(in_no_endpoint(found))
+    unreachable!()
 }
 
 // In which region an endpoint is refused after those before it, where it's in one.
+#[tactic(auto, unfolding(crate::specs::Endpoints::next_endpoint, crate::specs::Places::items_after))]
 fn in_endpoint(
     alloc: Global,
     value: &Value,
     space: &RegionSpace,
     before: &[Endpoint],
 ) -> Result<(Option<usize>, Found), AllocError>
-    requires { length before.now ≤ MOST_ENDPOINTS }
-    ensures { IfOk result (λ place. SharesPage place.1) }
+    requires few { length before.now ≤ MOST_ENDPOINTS }
+    requires refused { IsErr (next_endpoint_in (is_in space.now) before.now (view value.now)) }
+    ensures region { IfOk result (λ place.
+        IsWithin (is_in space.now) before.now (items_after before.now (view value.now)) place.0) }
+    ensures met { IfOk result (λ place. SharesPage place.1) }
 {
     let Some(table) = value.as_table() else {
         return Ok((None, no_table(alloc, value)?));
     };
-    let is_first = before.is_empty();
-    let found = if is_first && normal_world_keys(table).is_err() {
-        unknown_key(alloc, table, &NORMAL_WORLD_KEYS)?
-    } else if !is_first && partition_keys(table).is_err() {
-        unknown_key(alloc, table, &PARTITION_KEYS)?
-    } else if version_at(table).is_err() {
-        let fault = Fault::Words("neither \"1.1\" nor \"compact\"");
-        at_key(alloc, table, "version", fault)?
-    } else if !is_first && uuid_at(table).is_err() {
-        let fault = Fault::Words("no UUID, or the Nil UUID");
-        at_key(alloc, table, "uuid", fault)?
-    } else if !is_first && properties_at(table).is_err() {
-        at_key(alloc, table, "properties", Fault::Words("0 to 15"))?
-    } else if is_first && normal_world_properties(table).is_err() {
-        at_key(alloc, table, "properties", Fault::Words("0, 2, 4 or 6"))?
+    if before.is_empty() {
+        in_normal_world(alloc, table, space)
     } else {
-        return in_regions(alloc, table, space, before);
-    };
-    Ok((None, found))
+        in_partition(alloc, table, space, before)
+    }
+}
+
+// In which of its regions the normal world's table is refused, where it's in one.
+#[tactic(auto, unfolding(crate::specs::Endpoints::normal_world, crate::specs::Places::normal_world_items))]
+fn in_normal_world(
+    alloc: Global,
+    table: &Table,
+    space: &RegionSpace,
+) -> Result<(Option<usize>, Found), AllocError>
+    requires { IsErr (normal_world (is_in space.now) (table_view table.now)) }
+    ensures region { IfOk result (λ place.
+        IsWithin (is_in space.now) [] (normal_world_items (table_view table.now)) place.0) }
+    ensures met { IfOk result (λ place. SharesPage place.1) }
+{
+    if normal_world_keys(table).is_err() {
+        return Ok((None, unknown_key(alloc, table, &NORMAL_WORLD_KEYS)?));
+    }
+    if version_at(table).is_err() {
+        return Ok((None, at_version(alloc, table)?));
+    }
+    if normal_world_properties(table).is_err() {
+        let fault = Fault::Words("0, 2, 4 or 6");
+        return Ok((None, at_key(alloc, table, "properties", fault)?));
+    }
+    in_regions(alloc, table, space, &[])
+}
+
+// In which of its regions a partition's table is refused, after these endpoints, where it's in one.
+#[tactic(auto, unfolding(crate::specs::Endpoints::partition, crate::specs::Places::partition_items))]
+fn in_partition(
+    alloc: Global,
+    table: &Table,
+    space: &RegionSpace,
+    before: &[Endpoint],
+) -> Result<(Option<usize>, Found), AllocError>
+    requires few { length before.now ≤ MOST_ENDPOINTS }
+    requires refused { IsErr (partition (is_in space.now) before.now (table_view table.now)) }
+    ensures region { IfOk result (λ place.
+        IsWithin (is_in space.now) before.now (partition_items (table_view table.now)) place.0) }
+    ensures met { IfOk result (λ place. SharesPage place.1) }
+{
+    if partition_keys(table).is_err() {
+        return Ok((None, unknown_key(alloc, table, &PARTITION_KEYS)?));
+    }
+    if version_at(table).is_err() {
+        return Ok((None, at_version(alloc, table)?));
+    }
+    if uuid_at(table).is_err() {
+        let fault = Fault::Words("no UUID, or the Nil UUID");
+        return Ok((None, at_key(alloc, table, "uuid", fault)?));
+    }
+    if properties_at(table).is_err() {
+        let fault = Fault::Words("0 to 15");
+        return Ok((None, at_key(alloc, table, "properties", fault)?));
+    }
+    in_regions(alloc, table, space, before)
 }
 
 // In which of its regions an endpoint's table is refused, where it's in one.
+#[tactic(auto, unfolding(crate::specs::Regions::regions_at, crate::specs::Places::region_items))]
 fn in_regions(
     alloc: Global,
     table: &Table,
     space: &RegionSpace,
     before: &[Endpoint],
 ) -> Result<(Option<usize>, Found), AllocError>
-    requires { length before.now ≤ MOST_ENDPOINTS }
-    ensures { IfOk result (λ place. SharesPage place.1) }
+    requires few { length before.now ≤ MOST_ENDPOINTS }
+    requires refused { IsErr (regions_at (is_in space.now) (regions_of before.now) (table_view table.now)) }
+    ensures region { IfOk result (λ place.
+        IsWithin (is_in space.now) before.now (region_items_in (table_view table.now)) place.0) }
+    ensures met { IfOk result (λ place. SharesPage place.1) }
 {
-    if let Ok(values) = region_items(table) {
-        for (index, value) in values.iter().enumerate() {
-            let Ok(own) = regions_from(&values[..index], space, before) else {
-                break;
-            };
-            if next_region(value, space, before, own.as_slice()).is_err() {
+    let Ok(values) = region_items(table) else {
+        return Ok((None, at_array(alloc, table, "regions", MOST_REGIONS)?));
+    };
+    let (number, found) = in_items(alloc, values, space, before)?;
+    Ok((Some(number), found))
+}
+
+// In which item of an array of regions it is refused, from 1.
+fn in_items(
+    alloc: Global,
+    values: &[Value],
+    space: &RegionSpace,
+    before: &[Endpoint],
+) -> Result<(usize, Found), AllocError>
+    requires few { length before.now ≤ MOST_ENDPOINTS }
+    requires most { length values.now ≤ MOST_REGIONS }
+    requires refused { IsErr (regions_in (is_in space.now) (regions_of before.now) (items_view values.now)) }
+    ensures region { IfOk result (λ place.
+        IsAtRegion (is_in space.now) (regions_of before.now) (items_view values.now) (Some place.0)) }
+    ensures met { IfOk result (λ place. SharesPage place.1) }
+{
+    let mut own = ArrayVec::<Region, MOST_REGIONS>::new();
+    for (index, value) in values.iter().enumerate() {
+        match next_region(value, space, before, own.as_slice()) {
+            Ok(region) => own.push(region),
+            Err(_) => {
                 let found = in_region(alloc, value, space, before, own.as_slice())?;
-                return Ok((Some(index + 1), found));
+                return Ok((index + 1, found));
             }
         }
     }
-    Ok((None, at_array(alloc, table, "regions", MOST_REGIONS)?))
+    unreachable!()
 }
 
 // What is refused in a region, after the regions of these endpoints and own ones.
@@ -295,6 +381,14 @@ fn at_array(
         }),
         None => at_key(alloc, table, key, Fault::Words("no array")),
     }
+}
+
+// The same of an endpoint's version.
+fn at_version(alloc: Global, table: &Table) -> Result<Found, AllocError>
+    ensures { IfOk result SharesPage }
+{
+    let fault = Fault::Words("neither \"1.1\" nor \"compact\"");
+    at_key(alloc, table, "version", fault)
 }
 
 fn no_table(alloc: Global, value: &Value) -> Result<Found, AllocError>

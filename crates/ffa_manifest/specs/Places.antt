@@ -1,0 +1,106 @@
+-- SPDX-License-Identifier: MIT OR Apache-2.0
+-- Where a document is refused: at which endpoint, and in which of its regions.
+use Rattle.std.specs.Prelude.{◌≡◌, ℕ, zero, suc, Bool, ◌==◌, List, [], ◌++◌, length, Option, Some, None, Result, Ok, IsErr, MatchOption, MatchResult, if◌then◌else◌, codes}
+use Rattle.toml.specs.Data.{Data, Items, no_items, item, Members, as_table, get_item}
+use Rattle.toml.specs.Parse.{parse_document}
+use Rattle.ffa_model.specs.declared.limits.TheConstants.{MOST_REGIONS}
+use Rattle.ffa_model.specs.declared.endpoint.Region.{Region}
+use Rattle.ffa_model.specs.declared.endpoint.Endpoint.{Endpoint}
+use Rattle.ffa_model.specs.Identifiers.{identifier}
+use Rattle.ffa_model.specs.Manifest.{is_placed, regions_of}
+use Rattle.ffa_manifest.specs.declared.error.ManifestError.{ManifestError}
+use Rattle.ffa_manifest.specs.declared.error.ManifestError.TheVariants.{WrongKind, RegionCount}
+use Rattle.ffa_manifest.specs.declared.refusal.Location.{Location}
+use Rattle.ffa_manifest.specs.Reading.{◌>>=◌, or_cause, item_count}
+use Rattle.ffa_manifest.specs.Keys.{items_at}
+use Rattle.ffa_manifest.specs.Regions.{next_region, regions_from}
+use Rattle.ffa_manifest.specs.Endpoints.{normal_world_keys, partition_keys, version_at, uuid_at, properties_at, normal_world_properties, endpoint_items, next_endpoint, endpoints_from}
+use Rattle.ffa_manifest.specs.Document.{top_keys, ram_base_at, ram_blocks_at}
+
+-- so many items of an array, from its first on
+abbrev pub first_items : ℕ → Items → Items
+first_items zero ds = no_items
+first_items (suc n) no_items = no_items
+first_items (suc n) (item d ds) = item d (first_items n ds)
+
+-- a region is named, from 1: those before it are read, beside the regions that are taken, and it is refused
+pub record IsAtRegion (is_placed : Region → Bool) (taken : List Region) (ds : Items) (region : Option ℕ) : Type 0 where
+  pub index : ℕ
+  pub own : List Region
+  pub value : Data
+  pub named : region ≡ Some (suc index)
+  pub before : regions_from is_placed taken (first_items index ds) ≡ Ok own
+  pub there : get_item index ds ≡ Some value
+  pub refused : IsErr (next_region is_placed (taken ++ own) value)
+
+unfoldable pub region_items : Members → Result Items ManifestError
+region_items ms = items_at (codes "regions") MOST_REGIONS RegionCount ms
+
+-- the items of the first table's regions, where all that is read before them is good
+unfoldable pub normal_world_items : Members → Result Items ManifestError
+normal_world_items ms = do
+  known ← normal_world_keys ms
+  version ← version_at ms
+  properties ← normal_world_properties ms
+  region_items ms
+
+-- the same of a partition's table
+unfoldable pub partition_items : Members → Result Items ManifestError
+partition_items ms = do
+  known ← partition_keys ms
+  version ← version_at ms
+  uuid ← uuid_at ms
+  properties ← properties_at ms
+  region_items ms
+
+-- the same of a table after those of these endpoints
+unfoldable pub items_after : List Endpoint → Data → Result Items ManifestError
+items_after before d = do
+  ms ← or_cause WrongKind (as_table d)
+  if length before == 0 then normal_world_items ms else partition_items ms
+
+-- where an endpoint after these is refused: in one of its regions, or in none where what is read before them is refused
+abbrev pub IsWithin : (Region → Bool) → List Endpoint → Result Items ManifestError → Option ℕ → Type 0
+IsWithin is_placed before items region =
+    MatchResult items (λ ds. IsAtRegion is_placed (regions_of before) ds region) (λ cause. region ≡ None)
+
+-- an endpoint is named: those before it are read, and it is refused, in the region that is named or in none
+pub record IsAtEndpoint (is_placed : Region → Bool) (ds : Items) (location : Location) : Type 0 where
+  pub index : ℕ
+  pub endpoints : List Endpoint
+  pub value : Data
+  pub named : location.endpoint ≡ Some (record { 0 = identifier index })
+  pub before : endpoints_from is_placed (first_items index ds) ≡ Ok endpoints
+  pub there : get_item index ds ≡ Some value
+  pub refused : IsErr (next_endpoint is_placed endpoints value)
+  pub within : IsWithin is_placed endpoints (items_after endpoints value) location.region
+
+-- neither an endpoint nor a region is named
+pub record IsAtTop (location : Location) : Type 0 where
+  pub endpoint : location.endpoint ≡ None
+  pub region : location.region ≡ None
+
+-- what the top table says of RAM, and the items of its endpoints
+pub record Top : Type 0 where
+  pub base : ℕ
+  pub blocks : ℕ
+  pub items : Items
+
+unfoldable pub top : Members → Result Top ManifestError
+top ms = do
+  known ← top_keys ms
+  base ← ram_base_at ms
+  blocks ← ram_blocks_at ms
+  ds ← endpoint_items ms
+  Ok (record { base = base; blocks = blocks; items = ds })
+
+-- where a document is refused: at an endpoint exactly where all else of the top table is good
+abbrev pub IsPlaceOf : Members → Location → Type 0
+IsPlaceOf ms location =
+    MatchResult (top ms)
+    (λ t. IsAtEndpoint (is_placed t.base t.blocks (item_count t.items)) t.items location)
+    (λ cause. IsAtTop location)
+
+-- the same of a text, which may be no document
+abbrev pub IsPlaceIn : List ℕ → Location → Type 0
+IsPlaceIn text location = MatchOption (parse_document text) (IsAtTop location) (λ ms. IsPlaceOf ms location)
