@@ -6,7 +6,7 @@ use Rattle.std.proofs.lemmas.Bool.{cases_Bool}
 use Rattle.std.proofs.lemmas.List.{get_or-set_other, get_or-set_same}
 use Rattle.std.specs.Vec.{with_item}
 use Rattle.ffa_model.specs.Lists.{is_in_run, map_at}
-use Rattle.ffa_model.specs.Ram.{Ram, with_page}
+use Rattle.ffa_model.specs.Ram.{Ram, page_of, with_page}
 use Rattle.ffa_model.proofs.Runs.{in-run}
 use Rattle.ffa_physmem.specs.FrameRam.{ram_of as frame_ram, with_frame, ram_of-with_frame}
 use Rattle.ffa_lent.specs.declared.frames.LentRam.{LentRam}
@@ -111,3 +111,9 @@ ram_of-with_bytes m i bytes = elim (cases_Bool (is_observed m i)) [
   | inl at ↦ ap (λ c. ram_of (cond c (copied m i bytes) (framed m i bytes))) at ∙ ram_of-copied m i bytes at
   | inr off ↦ ap (λ c. ram_of (cond c (copied m i bytes) (framed m i bytes))) off ∙ ram_of-framed m i bytes off
 ]
+
+-- a page that is observed changes in its copy alone
+pub frame-kept :
+    (m : LentRam) (i : ℕ) (bytes : List ℕ) (p : ℕ) → is_observed m i ≡ true
+    → page_of (frame_ram (with_bytes m i bytes).frames) p ≡ page_of (frame_ram m.frames) p
+frame-kept m i bytes p at = ap (λ c. page_of (frame_ram (cond c (copied m i bytes) (framed m i bytes)).frames) p) at

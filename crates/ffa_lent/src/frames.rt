@@ -317,7 +317,7 @@ impl PhysMem for LentRam {
 
 impl Observed for LentRam {
     ghost use Rattle.std.specs.Prelude.{true};
-    ghost use Rattle.ffa_lent.specs.LentRam.{is_observed};
+    ghost use Rattle.ffa_lent.specs.LentRam.{is_observed, frame-kept};
     ghost use Rattle.ffa_model.specs.Ram.{page_of};
     ghost use Rattle.ffa_physmem.specs.FrameRam.{ram_of as frame_ram};
 
@@ -327,6 +327,10 @@ impl Observed for LentRam {
 
     // What others write to a frame no contract sees.
     ghost is_alone = { true };
+
+    ghost is_copied = { true };
+
+    ghost beneath_kept = { λ m page bytes p _. frame-kept m page bytes p };
 
     fn rest(&mut self) {
         self.write_back();

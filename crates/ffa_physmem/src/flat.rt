@@ -124,14 +124,19 @@ impl<A: Allocator> PhysMem for FlatRam<A> {
 
 // Nobody else writes to it, so each page is always what one reading gives.
 impl<A: Allocator> Observed for FlatRam<A> {
-    ghost use Rattle.std.specs.Prelude.{true};
+    ghost use Rattle.std.specs.Prelude.{true, false};
     ghost use Rattle.ffa_model.specs.Ram.{page_of};
+    ghost use Rattle.ffa_physmem.specs.Copies.{no_copy};
 
     ghost beneath = { λ m p. page_of (⟦<FlatRam<A> as PhysMem>⟧.ram m) p };
 
     ghost is_held = { λ _ _. true };
 
     ghost is_alone = { true };
+
+    ghost is_copied = { false };
+
+    ghost beneath_kept = { λ _ _ _ _. no_copy };
 
     fn rest(&mut self) {}
 

@@ -127,8 +127,9 @@ impl<A: Allocator, L: Allocator> PhysMem for FrameRam<A, L> {
 
 // Nobody else writes to it, so each page is always what one reading gives.
 impl<A: Allocator, L: Allocator> Observed for FrameRam<A, L> {
-    ghost use Rattle.std.specs.Prelude.{true};
+    ghost use Rattle.std.specs.Prelude.{true, false};
     ghost use Rattle.ffa_model.specs.Ram.{page_of};
+    ghost use Rattle.ffa_physmem.specs.Copies.{no_copy};
     ghost use Rattle.ffa_physmem.specs.FrameRam.{ram_of};
 
     ghost beneath = { λ m p. page_of (ram_of m) p };
@@ -136,6 +137,10 @@ impl<A: Allocator, L: Allocator> Observed for FrameRam<A, L> {
     ghost is_held = { λ _ _. true };
 
     ghost is_alone = { true };
+
+    ghost is_copied = { false };
+
+    ghost beneath_kept = { λ _ _ _ _. no_copy };
 
     fn rest(&mut self) {}
 

@@ -21,6 +21,9 @@ pub trait Observed: PhysMem {
     /// Whether, as far as contracts see, nobody else writes there.
     ghost is_alone: { Bool };
 
+    /// Whether a page that is held is read and written in a copy, beside what stands in memory.
+    ghost is_copied: { Bool };
+
     /// Ends all that is observed, and what was seen of it then stands in memory. No byte that is seen changes.
     fn rest(&mut self)
         ensures ram { Self.ram self.new ≡ Self.ram self.old }
@@ -29,12 +32,14 @@ pub trait Observed: PhysMem {
             → beneath self.new p ≡ page_of (Self.ram self.new) p };
 
     /// Reads pages, from one on, to which others may write at the same time. Until `release` each of them is what this one
-    /// reading gave, and that is what stood in memory.
+    /// reading gave, and that is what stood in memory. Where it is read in a copy nothing is written to memory.
     fn observe(&mut self, first: PageNo, count: u32)
         requires within { first.0 + count ≤ length (Self.ram self.old).pages }
         requires few { count ≤ MOST_BUFFER_PAGES }
         ensures seen { (p : ℕ) → is_in_run first.0 count p ≡ true → page_of (Self.ram self.new) p ≡ beneath self.old p }
         ensures held { (p : ℕ) → is_in_run first.0 count p ≡ true → is_held self.new p ≡ true }
+        ensures unwritten { is_copied ≡ true → (p : ℕ) → is_in_run first.0 count p ≡ true
+            → beneath self.new p ≡ beneath self.old p }
         ensures beside { IsBeside (Self.ram self.old) (Self.ram self.new) (is_in_run first.0 count) }
         ensures whole { (p : ℕ) → length (page_of (Self.ram self.new) p) ≡ length (page_of (Self.ram self.old) p) }
         ensures steps { One (Self.past self.old) (Self.past self.new)
@@ -49,4 +54,8 @@ pub trait Observed: PhysMem {
         ensures whole { (p : ℕ) → length (page_of (Self.ram self.new) p) ≡ length (page_of (Self.ram self.old) p) }
         ensures steps { One (Self.past self.old) (Self.past self.new)
             (λ s. IsReading (Self.ram self.old) (Self.ram self.new) first.0 count false s) };
+
+    /// What is written to the copy of a page that is held isn't written to memory.
+    ghost beneath_kept: { (m : Self) (page : ℕ) (bytes : List ℕ) (p : ℕ) → is_copied ≡ true → is_held m page ≡ true
+        → beneath (Self.with_bytes m page bytes) p ≡ beneath m p };
 }

@@ -185,14 +185,19 @@ impl PhysMem for Recorded {
 
 // Nobody else writes to this RAM, so each page is always what one reading gives.
 impl Observed for Recorded {
-    ghost use Rattle.std.specs.Prelude.{true};
+    ghost use Rattle.std.specs.Prelude.{true, false};
     ghost use Rattle.ffa_model.specs.Ram.{page_of};
+    ghost use Rattle.ffa_physmem.specs.Copies.{no_copy};
 
     ghost beneath = { λ m p. page_of (⟦<FlatRam as PhysMem>⟧.ram m.ram) p };
 
     ghost is_held = { λ _ _. true };
 
     ghost is_alone = { true };
+
+    ghost is_copied = { false };
+
+    ghost beneath_kept = { λ _ _ _ _. no_copy };
 
     fn rest(&mut self) {}
 

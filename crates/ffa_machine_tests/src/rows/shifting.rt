@@ -145,6 +145,7 @@ impl PhysMem for Shifting {
 impl Observed for Shifting {
     ghost use Rattle.std.specs.Prelude.{◌==◌, true, false, if◌then◌else◌};
     ghost use Rattle.ffa_model.specs.Ram.{page_of, with_word};
+    ghost use Rattle.ffa_physmem.specs.Copies.{no_copy};
 
     // What others wrote to the page of TX, and of any other page what stands in RAM.
     ghost beneath = { λ m p.
@@ -155,6 +156,10 @@ impl Observed for Shifting {
     ghost is_held = { λ _ _. true };
 
     ghost is_alone = { false };
+
+    ghost is_copied = { false };
+
+    ghost beneath_kept = { λ _ _ _ _. no_copy };
 
     fn rest(&mut self) {}
 

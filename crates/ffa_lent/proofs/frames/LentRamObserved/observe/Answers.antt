@@ -21,6 +21,9 @@ returns-clause-seen c = λ p at.
     (unchanged m c.args.first.0 c.args.count c.copy_frames.new.copies (c.copy_frames.ensures.room ∙ c.deref_mut.ensures.len) within c.forget.ensures.none c.copy_frames.ensures.copied)
     ∙ page_of-frame m p inside (none-in m.first.0 m.count p c.forget.ensures.none) ∙ c.forget.ensures.memory p at
 
+pub returns-clause-unwritten : goal.returns-clause-unwritten
+returns-clause-unwritten c = λ _ p at. c.forget.ensures.memory p at
+
 pub returns-clause-beside : goal.returns-clause-beside
 returns-clause-beside c =
     let m = c.forget.new.self in
