@@ -1,6 +1,8 @@
 -- SPDX-License-Identifier: MIT OR Apache-2.0
 pub mod CertificateKept
 pub mod ColumnSteps
+pub mod Escaping
+pub mod Growing
 pub mod Kept
 pub mod RowsAmong
 pub mod RowsMore

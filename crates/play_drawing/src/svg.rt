@@ -1,7 +1,8 @@
 // SPDX-License-Identifier: MIT OR Apache-2.0
 //! A picture as the text of an SVG, which is complete in itself: no script, no font and no link.
-ghost use Rattle.std.specs.Prelude.{◌<◌};
+ghost use Rattle.std.specs.Prelude.{◌<◌, OnOk};
 ghost use Rattle.ffa_model.specs.declared.limits.TheConstants.{MOST_ENDPOINTS};
+ghost use Rattle.play_drawing.specs.Written.{Grows, WritesPicture};
 
 mod escape;
 mod label;
@@ -11,10 +12,10 @@ mod sizes;
 use crate::cell::{Cell, band_of};
 use crate::column::Column;
 use crate::picture::Picture;
+use crate::row::Row;
 use ffa_model::{Address, Data, EndpointId, MOST_ENDPOINTS, PageNo, Rights};
 use sizes::{HEADER, ROWS_BELOW, Sizes};
 use std::alloc::Allocator;
-use std::fmt;
 use std::io::{self, Write};
 
 // Pages as they are told: the addresses of their first and last byte, and how many they are.
@@ -32,14 +33,15 @@ impl Pages {
     }
 }
 
-impl fmt::Display for Pages {
-    fn fmt<W: fmt::Write>(&self, f: &mut fmt::Formatter<W>) -> fmt::Result {
-        let first = self.first();
-        let last = u64::from(self.base.0) + 4096 * u64::from(self.last.0) + 4095;
-        let count = u64::from(self.last.0.saturating_sub(self.first.0)) + 1;
-        let unit = if count == 1 { "page" } else { "pages" };
-        write!(f, "{first:08X}-{last:08X}, {count} {unit}")
-    }
+// Writes which pages these are.
+fn write_pages<W: Write>(pages: &Pages, writer: &mut W) -> io::Result<()>
+    ensures { OnOk result (Grows (W.contents writer.old) (W.contents writer.new)) }
+{
+    let first = pages.first();
+    let last = u64::from(pages.base.0) + 4096 * u64::from(pages.last.0) + 4095;
+    let count = u64::from(pages.last.0.saturating_sub(pages.first.0)) + 1;
+    let unit = if count == 1 { "page" } else { "pages" };
+    write!(writer, "{first:08X}-{last:08X}, {count} {unit}")
 }
 
 // How a right is told.
@@ -73,29 +75,42 @@ fn right_text(right: Option<Rights>) -> &'static str {
     }
 }
 
-/// Writes the picture as an SVG, which is to fit this width in pixels where that isn't 0. Across stand its columns, with
-/// the address of the first page of each; down its rows, with number and text of the line, the name of its call and the
-/// endpoint that runs. A cell has a band for each endpoint that reaches its pages, and a mark where it is another than
-/// the one above it.
+/// Writes the picture as an SVG, whole, which is to fit this width in pixels where that isn't 0. Across stand its
+/// columns, with the address of the first page of each; down its rows, with number and text of the line, the name of its
+/// call and the endpoint that runs. A cell has a band for each endpoint that reaches its pages, and a mark where it is
+/// another than the one above it.
 pub fn write_svg<A: Allocator, W: Write>(
     picture: &Picture<A>,
     width: u64,
     writer: &mut W,
-) -> io::Result<()> {
+) -> io::Result<()>
+    ensures { OnOk result (WritesPicture (W.contents writer.old) (W.contents writer.new)) }
+{
     let sizes = Sizes::of(picture, width);
     legend::write_head(&sizes, writer)?;
     legend::write_legend(&sizes, writer)?;
     for (index, row) in picture.rows.iter().enumerate() {
-        if index % ROWS_BELOW == 0 {
-            write_header(picture, &sizes, index, writer)?;
-        }
-        let top = sizes.row_top(index);
-        writeln!(writer, "<g transform=\"translate(0 {top})\">")?;
-        label::write_label(row, &sizes, writer)?;
-        write_cells(picture, index, &sizes, writer)?;
-        writeln!(writer, "</g>")?;
+        write_header(picture, &sizes, index, writer)?;
+        write_row(picture, row, index, &sizes, writer)?;
     }
     writeln!(writer, "</svg>")
+}
+
+// Writes the row of this index: what is said of its line, and its cells.
+fn write_row<A: Allocator, W: Write>(
+    picture: &Picture<A>,
+    row: &Row<A>,
+    index: usize,
+    sizes: &Sizes,
+    writer: &mut W,
+) -> io::Result<()>
+    ensures { OnOk result (Grows (W.contents writer.old) (W.contents writer.new)) }
+{
+    let top = sizes.row_top(index);
+    writeln!(writer, "<g transform=\"translate(0 {top})\">")?;
+    label::write_label(row, sizes, writer)?;
+    write_cells(picture, index, sizes, writer)?;
+    writeln!(writer, "</g>")
 }
 
 // The cells of the row of this index.
@@ -106,17 +121,21 @@ fn row_cells<A: Allocator>(picture: &Picture<A>, index: usize) -> &[Cell] {
     picture.cells.get(from..to).unwrap_or(&[])
 }
 
-// Writes the addresses above the row of this index, and but for the first row, which colour is whose.
+// Writes the addresses above the row of this index, where they stand there, and but for the first row, which colour is
+// whose.
 fn write_header<A: Allocator, W: Write>(
     picture: &Picture<A>,
     sizes: &Sizes,
     index: usize,
     writer: &mut W,
-) -> io::Result<()> {
-    let top = sizes.row_top(index);
-    if index > 0 {
-        legend::write_legend_again(sizes, top.saturating_sub(HEADER), writer)?;
+) -> io::Result<()>
+    ensures { OnOk result (Grows (W.contents writer.old) (W.contents writer.new)) }
+{
+    if index % ROWS_BELOW != 0 {
+        return Ok(());
     }
+    let top = sizes.row_top(index);
+    legend::write_legend_again(sizes, index, top.saturating_sub(HEADER), writer)?;
     write_addresses(picture, sizes, top, writer)
 }
 
@@ -126,7 +145,9 @@ fn write_addresses<A: Allocator, W: Write>(
     sizes: &Sizes,
     bottom: u64,
     writer: &mut W,
-) -> io::Result<()> {
+) -> io::Result<()>
+    ensures { OnOk result (Grows (W.contents writer.old) (W.contents writer.new)) }
+{
     let bottom = bottom.saturating_sub(6);
     for (index, column) in picture.columns.iter().enumerate() {
         let left = sizes
@@ -138,10 +159,12 @@ fn write_addresses<A: Allocator, W: Write>(
             last: column.last,
         };
         let first = pages.first();
-        writeln!(
+        write!(
             writer,
-            "<text transform=\"translate({left} {bottom}) rotate(-90)\">{first:08X}<title>{pages}</title></text>"
+            "<text transform=\"translate({left} {bottom}) rotate(-90)\">{first:08X}<title>"
         )?;
+        write_pages(&pages, writer)?;
+        writeln!(writer, "</title></text>")?;
     }
     Ok(())
 }
@@ -152,7 +175,9 @@ fn write_cells<A: Allocator, W: Write>(
     row: usize,
     sizes: &Sizes,
     writer: &mut W,
-) -> io::Result<()> {
+) -> io::Result<()>
+    ensures { OnOk result (Grows (W.contents writer.old) (W.contents writer.new)) }
+{
     let above: &[Cell] = if row == 0 {
         &[]
     } else {
@@ -160,25 +185,41 @@ fn write_cells<A: Allocator, W: Write>(
     };
     for (index, cell) in row_cells(picture, row).iter().enumerate() {
         let left = sizes.column_left(index);
-        writeln!(writer, "<g transform=\"translate({left} 0)\">")?;
-        write_title(picture, cell, writer)?;
-        write_ground(cell, sizes, writer)?;
-        for place in 0..picture.endpoints.min(MOST_ENDPOINTS) {
-            write_band(cell, place, sizes, writer)?;
-        }
-        if above
+        let is_other = above
             .get(index)
-            .is_some_and(|other| other.pages != cell.pages)
-        {
-            write_mark(sizes, writer)?;
-        }
+            .is_some_and(|other| other.pages != cell.pages);
+        writeln!(writer, "<g transform=\"translate({left} 0)\">")?;
+        write_cell(picture, cell, is_other, sizes, writer)?;
         writeln!(writer, "</g>")?;
     }
     Ok(())
 }
 
+// Writes a cell, which is another than the one above it or isn't.
+fn write_cell<A: Allocator, W: Write>(
+    picture: &Picture<A>,
+    cell: &Cell,
+    is_other: bool,
+    sizes: &Sizes,
+    writer: &mut W,
+) -> io::Result<()>
+    ensures { OnOk result (Grows (W.contents writer.old) (W.contents writer.new)) }
+{
+    write_title(picture, cell, writer)?;
+    write_ground(cell, sizes, writer)?;
+    for place in 0..picture.endpoints.min(MOST_ENDPOINTS) {
+        write_band(cell, place, sizes, writer)?;
+    }
+    write_mark(is_other, sizes, writer)
+}
+
 // Writes the mark of a cell that is another than the one above it: a corner.
-fn write_mark<W: Write>(sizes: &Sizes, writer: &mut W) -> io::Result<()> {
+fn write_mark<W: Write>(is_other: bool, sizes: &Sizes, writer: &mut W) -> io::Result<()>
+    ensures { OnOk result (Grows (W.contents writer.old) (W.contents writer.new)) }
+{
+    if !is_other {
+        return Ok(());
+    }
     let left = sizes.column.saturating_sub(6);
     writeln!(writer, "<path class=\"d\" d=\"M{left} 1h5v5z\"/>")
 }
@@ -188,21 +229,18 @@ fn write_title<A: Allocator, W: Write>(
     picture: &Picture<A>,
     cell: &Cell,
     writer: &mut W,
-) -> io::Result<()> {
+) -> io::Result<()>
+    ensures { OnOk result (Grows (W.contents writer.old) (W.contents writer.new)) }
+{
     let pages = Pages {
         base: picture.base,
         first: cell.pages.first,
         last: cell.pages.last,
     };
-    write!(writer, "<title>{pages}")?;
-    if cell.pages.owner == EndpointId::MANAGER {
-        write!(writer, "\nthe manager's")?;
-    } else {
-        write!(writer, "\nowner {:04X}", cell.pages.owner.0)?;
-    }
-    if let Some(handle) = cell.pages.handle {
-        write!(writer, "\ntransaction {handle:016X}")?;
-    }
+    writer.write_all(b"<title>")?;
+    write_pages(&pages, writer)?;
+    write_owner(cell.pages.owner, writer)?;
+    write_handle(cell.pages.handle, writer)?;
     for place in 0..picture.endpoints.min(MOST_ENDPOINTS) {
         let endpoint = EndpointId::at(place).0;
         let right = right_text(band_of(cell, place).right);
@@ -211,9 +249,32 @@ fn write_title<A: Allocator, W: Write>(
     writeln!(writer, "</title>")
 }
 
+// Writes whose pages they are.
+fn write_owner<W: Write>(owner: EndpointId, writer: &mut W) -> io::Result<()>
+    ensures { OnOk result (Grows (W.contents writer.old) (W.contents writer.new)) }
+{
+    if owner == EndpointId::MANAGER {
+        return writer.write_all(b"\nthe manager's");
+    }
+    let owner = owner.0;
+    write!(writer, "\nowner {owner:04X}")
+}
+
+// Writes in which transaction they are, where they are in one.
+fn write_handle<W: Write>(handle: Option<u64>, writer: &mut W) -> io::Result<()>
+    ensures { OnOk result (Grows (W.contents writer.old) (W.contents writer.new)) }
+{
+    match handle {
+        Some(handle) => write!(writer, "\ntransaction {handle:016X}"),
+        None => Ok(()),
+    }
+}
+
 // Writes what is behind the bands of a cell: grey where its pages are the manager's, and else a bar of their owner's
 // colour, with a line below where they stand in a transaction.
-fn write_ground<W: Write>(cell: &Cell, sizes: &Sizes, writer: &mut W) -> io::Result<()> {
+fn write_ground<W: Write>(cell: &Cell, sizes: &Sizes, writer: &mut W) -> io::Result<()>
+    ensures { OnOk result (Grows (W.contents writer.old) (W.contents writer.new)) }
+{
     let (width, height) = (sizes.column, sizes.row);
     if cell.pages.owner == EndpointId::MANAGER {
         return writeln!(
@@ -226,19 +287,20 @@ fn write_ground<W: Write>(cell: &Cell, sizes: &Sizes, writer: &mut W) -> io::Res
         writer,
         "<rect class=\"c\" width=\"{width}\" height=\"{height}\"/><rect class=\"e{place}\" width=\"3\" height=\"{height}\"/>"
     )?;
-    if cell.pages.handle.is_some() {
-        let below = height.saturating_sub(3);
-        writeln!(
-            writer,
-            "<rect class=\"t\" x=\"3\" y=\"{below}\" width=\"{width}\" height=\"2\"/>"
-        )?;
+    if cell.pages.handle.is_none() {
+        return Ok(());
     }
-    Ok(())
+    let below = height.saturating_sub(3);
+    writeln!(
+        writer,
+        "<rect class=\"t\" x=\"3\" y=\"{below}\" width=\"{width}\" height=\"2\"/>"
+    )
 }
 
 // Writes the band of the endpoint at a place, where it reaches the cell's pages.
 fn write_band<W: Write>(cell: &Cell, place: usize, sizes: &Sizes, writer: &mut W) -> io::Result<()>
     requires { place < MOST_ENDPOINTS }
+    ensures { OnOk result (Grows (W.contents writer.old) (W.contents writer.new)) }
 {
     let band = band_of(cell, place);
     let Some(right) = band.right else {
@@ -254,18 +316,32 @@ fn write_band<W: Write>(cell: &Cell, place: usize, sizes: &Sizes, writer: &mut W
         writer,
         "<rect class=\"e{place}\" x=\"5\" y=\"{top}\" width=\"{width}\" height=\"{height}\"/>"
     )?;
-    if !band.is_owner {
-        writeln!(
-            writer,
-            "<rect class=\"h\" x=\"5\" y=\"{top}\" width=\"{width}\" height=\"{height}\"/>"
-        )?;
+    write_hatching(band.is_owner, top, height, width, writer)?;
+    if !right.exec {
+        return Ok(());
     }
-    if right.exec {
-        let middle = top + height / 2 - 1;
-        writeln!(
-            writer,
-            "<rect class=\"x\" x=\"5\" y=\"{middle}\" width=\"{width}\" height=\"2\"/>"
-        )?;
+    let middle = top + height / 2 - 1;
+    writeln!(
+        writer,
+        "<rect class=\"x\" x=\"5\" y=\"{middle}\" width=\"{width}\" height=\"2\"/>"
+    )
+}
+
+// Writes what is over the band of an endpoint that isn't the owner.
+fn write_hatching<W: Write>(
+    is_owner: bool,
+    top: usize,
+    height: usize,
+    width: u32,
+    writer: &mut W,
+) -> io::Result<()>
+    ensures { OnOk result (Grows (W.contents writer.old) (W.contents writer.new)) }
+{
+    if is_owner {
+        return Ok(());
     }
-    Ok(())
+    writeln!(
+        writer,
+        "<rect class=\"h\" x=\"5\" y=\"{top}\" width=\"{width}\" height=\"{height}\"/>"
+    )
 }

@@ -1,5 +1,9 @@
 // SPDX-License-Identifier: MIT OR Apache-2.0
 //! Bytes as text of an SVG.
+ghost use Rattle.std.specs.Prelude.{◌≡◌, true, Some};
+ghost use Rattle.std.specs.Fmt.{WritesOnOk};
+ghost use Rattle.std.specs.List.{flat_map};
+ghost use Rattle.play_drawing.specs.Escapes.{escaped, is_bare};
 
 use std::fmt;
 
@@ -9,17 +13,26 @@ use std::fmt;
 pub(super) struct Escaped<'a>(pub(super) &'a [u8]);
 
 impl fmt::Display for Escaped<'_> {
+    ghost output = { λ bytes. Some (flat_map escaped bytes.0.now) };
+
     fn fmt<W: fmt::Write>(&self, f: &mut fmt::Formatter<W>) -> fmt::Result {
         for byte in self.0 {
-            match *byte {
-                b'&' => f.write_str("&amp;")?,
-                b'<' => f.write_str("&lt;")?,
-                b'>' => f.write_str("&gt;")?,
-                b'"' => f.write_str("&quot;")?,
-                byte @ b' '..=b'~' => f.write_char(char::from(byte))?,
-                byte => write!(f, "\\x{byte:02X}")?,
-            }
+            write_byte(*byte, f)?;
         }
         Ok(())
+    }
+}
+
+fn write_byte<W: fmt::Write>(byte: u8, f: &mut fmt::Formatter<W>) -> fmt::Result
+    ensures writes { WritesOnOk W.write_str_gives f.old result (escaped byte) f.new }
+    ensures bare { is_bare (escaped byte) ≡ true }
+{
+    match byte {
+        b'&' => f.write_str("&amp;"),
+        b'<' => f.write_str("&lt;"),
+        b'>' => f.write_str("&gt;"),
+        b'"' => f.write_str("&quot;"),
+        b' '..=b'~' => f.write_char(char::from(byte)),
+        _ => write!(f, "\\x{byte:02X}"),
     }
 }

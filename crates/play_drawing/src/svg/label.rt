@@ -1,5 +1,7 @@
 // SPDX-License-Identifier: MIT OR Apache-2.0
 //! What stands before the cells of a row: its line, the name of its call, and the endpoint that runs.
+ghost use Rattle.std.specs.Prelude.{OnOk};
+ghost use Rattle.play_drawing.specs.Written.{Grows};
 
 use super::escape::Escaped;
 use super::sizes::Sizes;
@@ -63,15 +65,10 @@ pub(super) fn write_label<A: Allocator, W: Write>(
     row: &Row<A>,
     sizes: &Sizes,
     writer: &mut W,
-) -> io::Result<()> {
-    if row.number == 0 {
-        writeln!(
-            writer,
-            "<text x=\"54\" y=\"13\" class=\"b\">at the beginning</text>"
-        )?;
-    } else {
-        write_line(row, writer)?;
-    }
+) -> io::Result<()>
+    ensures { OnOk result (Grows (W.contents writer.old) (W.contents writer.new)) }
+{
+    write_line(row, writer)?;
     let runner = row.runner.0;
     let place = row.runner.place();
     let swatch = sizes.runner_left();
@@ -82,9 +79,17 @@ pub(super) fn write_label<A: Allocator, W: Write>(
     )
 }
 
-// Writes number and text of a row's line.
-fn write_line<A: Allocator, W: Write>(row: &Row<A>, writer: &mut W) -> io::Result<()> {
+// Writes number and text of a row's line, or that it is the beginning.
+fn write_line<A: Allocator, W: Write>(row: &Row<A>, writer: &mut W) -> io::Result<()>
+    ensures { OnOk result (Grows (W.contents writer.old) (W.contents writer.new)) }
+{
     let number = row.number;
+    if number == 0 {
+        return writeln!(
+            writer,
+            "<text x=\"54\" y=\"13\" class=\"b\">at the beginning</text>"
+        );
+    }
     let label = Label::of_line(&row.line);
     let (line, whole) = (Escaped(label.shown), Escaped(&row.line));
     let more = if label.is_cut { "…" } else { "" };
@@ -93,10 +98,17 @@ fn write_line<A: Allocator, W: Write>(row: &Row<A>, writer: &mut W) -> io::Resul
         writer,
         "<text x=\"46\" y=\"13\" class=\"n\">{number}</text><text x=\"54\" y=\"13\"{class}>{line}{more}"
     )?;
-    if !label.name.is_empty() {
-        let name = label.name;
-        write!(writer, " <tspan class=\"k\">{name}</tspan>")?;
-    }
+    write_name(label.name, writer)?;
     let refused = if row.refused { "\nrefused" } else { "" };
     writeln!(writer, "<title>{whole}{refused}</title></text>")
+}
+
+// Writes the name of a line's call, where it has one.
+fn write_name<W: Write>(name: &str, writer: &mut W) -> io::Result<()>
+    ensures { OnOk result (Grows (W.contents writer.old) (W.contents writer.new)) }
+{
+    if name.is_empty() {
+        return Ok(());
+    }
+    write!(writer, " <tspan class=\"k\">{name}</tspan>")
 }

@@ -1,5 +1,7 @@
 // SPDX-License-Identifier: MIT OR Apache-2.0
 //! The head of a picture: its size, its colours, and what they say.
+ghost use Rattle.std.specs.Prelude.{OnOk};
+ghost use Rattle.play_drawing.specs.Written.{Grows};
 
 use super::sizes::Sizes;
 use ffa_model::EndpointId;
@@ -50,7 +52,9 @@ const SAMPLES: &str = "\
 const REFUSED: &str = "<text class=\"r\" x=\"804\" y=\"22\">a refused call</text>\n";
 
 /// Writes the size of a picture and its colours.
-pub(super) fn write_head<W: Write>(sizes: &Sizes, writer: &mut W) -> io::Result<()> {
+pub(super) fn write_head<W: Write>(sizes: &Sizes, writer: &mut W) -> io::Result<()>
+    ensures { OnOk result (Grows (W.contents writer.old) (W.contents writer.new)) }
+{
     let (width, height) = (sizes.width(), sizes.height());
     writeln!(
         writer,
@@ -60,24 +64,32 @@ pub(super) fn write_head<W: Write>(sizes: &Sizes, writer: &mut W) -> io::Result<
 }
 
 /// Writes which colour is whose, and what a band, a mark and a red line say.
-pub(super) fn write_legend<W: Write>(sizes: &Sizes, writer: &mut W) -> io::Result<()> {
+pub(super) fn write_legend<W: Write>(sizes: &Sizes, writer: &mut W) -> io::Result<()>
+    ensures { OnOk result (Grows (W.contents writer.old) (W.contents writer.new)) }
+{
     for place in 0..sizes.endpoints {
         write_swatch(place, 54 + 72 * u64::from(place), 12, writer)?;
     }
     writer.write_all(SAMPLES.as_bytes())?;
-    if sizes.refusals {
-        writer.write_all(REFUSED.as_bytes())?;
+    if !sizes.refusals {
+        return Ok(());
     }
-    Ok(())
+    writer.write_all(REFUSED.as_bytes())
 }
 
-/// Writes which colour is whose again, below what stands at this height: four endpoints one below the other, and the
-/// others beside them.
+/// Writes which colour is whose again, but not above the first row, below what stands at this height: four endpoints one
+/// below the other, and the others beside them.
 pub(super) fn write_legend_again<W: Write>(
     sizes: &Sizes,
+    row: usize,
     top: u64,
     writer: &mut W,
-) -> io::Result<()> {
+) -> io::Result<()>
+    ensures { OnOk result (Grows (W.contents writer.old) (W.contents writer.new)) }
+{
+    if row == 0 {
+        return Ok(());
+    }
     for place in 0..sizes.endpoints {
         let left = 54 + 72 * u64::from(place / 4);
         let below = 4 + 16 * u64::from(place % 4);
@@ -87,7 +99,9 @@ pub(super) fn write_legend_again<W: Write>(
 }
 
 // Writes the colour of the endpoint at a place, and the endpoint.
-fn write_swatch<W: Write>(place: u8, left: u64, top: u64, writer: &mut W) -> io::Result<()> {
+fn write_swatch<W: Write>(place: u8, left: u64, top: u64, writer: &mut W) -> io::Result<()>
+    ensures { OnOk result (Grows (W.contents writer.old) (W.contents writer.new)) }
+{
     let text = left.saturating_add(16);
     let bottom = top.saturating_add(10);
     let endpoint = EndpointId::at(usize::from(place)).0;

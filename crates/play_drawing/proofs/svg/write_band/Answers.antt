@@ -1,0 +1,12 @@
+-- SPDX-License-Identifier: MIT OR Apache-2.0
+use Rattle.std.proofs.Common.{rules}
+use Rattle.play_drawing.proofs.Growing.{grows_then, last_grows}
+use Rattle.play_drawing.proofs.svg.write_band.Goals as goal
+
+pub returns-then-not-right : goal.returns-then-not-right
+returns-then-not-right g c =
+    grows_then (g.W.Write.contents c.args.writer.now) (g.W.Write.contents c.writeln.new.self) (g.W.Write.contents c.write_hatching.new.writer) (search rules) (c.in_ok-write_hatching.ensures)
+
+pub returns : goal.returns
+returns g c =
+    last_grows c.writeln-2.result (g.W.Write.contents c.args.writer.now) (g.W.Write.contents c.write_hatching.new.writer) (g.W.Write.contents c.writeln-2.new.self) (grows_then (g.W.Write.contents c.args.writer.now) (g.W.Write.contents c.writeln.new.self) (g.W.Write.contents c.write_hatching.new.writer) (search rules) (c.in_ok-write_hatching.ensures)) (search rules)
