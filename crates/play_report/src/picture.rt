@@ -1,6 +1,7 @@
 // SPDX-License-Identifier: MIT OR Apache-2.0
 //! The text of a picture.
-ghost use Rattle.std.specs.Prelude.{◌≡◌, IfErr};
+ghost use Rattle.std.specs.Prelude.{◌≡◌, IfErr, OnOk};
+ghost use Rattle.play_drawing.specs.Written.{WritesPicture};
 
 use crate::failure::Failure;
 use play_drawing::{Picture, write_svg};
@@ -13,7 +14,8 @@ pub fn print_picture<A: Allocator, W: Write>(
     width: u64,
     out: &mut W,
 ) -> Result<(), Failure<'static>>
-    ensures { IfErr result (λ failure. failure ≡ Failure.Write) }
+    ensures printed { OnOk result (WritesPicture (W.contents out.old) (W.contents out.new)) }
+    ensures failed { IfErr result (λ failure. failure ≡ Failure.Write) }
 {
     match write_svg(picture, width, out) {
         Ok(()) => Ok(()),
