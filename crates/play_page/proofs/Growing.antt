@@ -1,0 +1,219 @@
+-- SPDX-License-Identifier: MIT OR Apache-2.0
+-- Writers that grow by texts in which nothing is `<`.
+use denote.Ref.{Bor}
+use Rattle.std.proofs.Common.{◌≡◌, ℕ, zero, suc, ◌+◌, ◌-◌, ◌/◌, ◌%◌, ◌^◌, ◌<◌, Bool, true, false, List, [], ◌∷◌, ◌++◌, length, replicate, Option, Some, None, Result, inl, inr, sym, ap, ◌∙◌, subst, append_assoc, append-nil, true≢false, arith, refl}
+use Rattle.std.specs.Prelude.{◌==◌, ◌||◌, not, IfSome, OnOk, decimal, slice_index, unwrap_or}
+use Rattle.std.specs.Option.{option_map}
+use Rattle.std.specs.Fmt.{digits, digits_onto, digit_glyph, format_spec, number_padding, padded_integral, option_append}
+use Rattle.std.specs.Io.KnownBytes.{Appends}
+use Rattle.std.specs.List.{flat_map, list_all}
+use Rattle.std.proofs.KnownBytes.{Appends-nil, Appends-trans}
+use Rattle.std.proofs.lemmas.Bool.{cases_Bool, cases_lt, and_from, and_parts, lt-ltb, le-ltb, ne_eqb}
+use Rattle.std.proofs.lemmas.List.Folds.{list_all-append}
+use Rattle.std.proofs.lemmas.Result.{on_ok_weaker}
+use Rattle.ffa_abi.specs.Names.{Row, call_name_of, call_names, error_name_of, error_names, name_in}
+use Rattle.ffa_model.specs.Registers.{low}
+use Rattle.ffa_model.specs.declared.function.TheConstants.{FFA_ERROR}
+use Rattle.play_page.specs.Escapes.{escaped, has_meaning, is_bare}
+use Rattle.play_page.specs.Written.{Grows, WritesData, WritesPage, before_data, behind_data, endpoints_key, is_inert}
+use Rattle.play_page.proofs.Escaping.{escaped-bare}
+
+-- TEXTS
+
+pub inert_append : (xs ys : List ℕ) → is_inert xs ≡ true → is_inert ys ≡ true → is_inert (xs ++ ys) ≡ true
+inert_append xs ys p q = list_all-append (λ byte. not (byte == 60)) xs ys ∙ and_from _ _ p q
+
+glyph_inert : (d : ℕ) → d < 16 → not (digit_glyph true d == 60) ≡ true
+glyph_inert d small =
+    elim (cases_lt d 10) [
+      | inl low ↦ rw (lt-ltb d 10 low) (rw (ne_eqb (48 + d) 60 (λ same. omega arith)) refl)
+      | inr high ↦ rw (le-ltb d 10 high) (rw (ne_eqb (55 + d) 60 (λ same. omega arith)) refl)
+    ]
+
+onto_inert : (k n : ℕ) (more : List ℕ) → is_inert more ≡ true → is_inert (digits_onto k 16 true n more) ≡ true
+onto_inert zero n more h = h
+onto_inert (suc k) n more h =
+    let one : is_inert (digit_glyph true (n % 16) ∷ more) ≡ true = and_from _ _ (glyph_inert (n % 16) (omega arith)) h in
+    elim (cases_Bool (n / 16 == 0)) [
+      | inl last ↦ rw last one
+      | inr goes_on ↦ rw goes_on (onto_inert k (n / 16) _ one)
+    ]
+
+pub hex_inert : (n : ℕ) → is_inert (digits 16 true n) ≡ true
+unfolding digits
+hex_inert n = onto_inert 64 n [] refl
+
+decimal_glyph : (n : ℕ) → not (digit_glyph false (n % 10) == 60) ≡ true
+decimal_glyph n =
+    let few : n % 10 < 10 = omega arith in
+    rw (lt-ltb (n % 10) 10 few) (rw (ne_eqb (48 + n % 10) 60 (λ same. omega arith)) refl)
+
+decimal_onto : (k n : ℕ) (more : List ℕ) → is_inert more ≡ true → is_inert (digits_onto k 10 false n more) ≡ true
+decimal_onto zero n more h = h
+decimal_onto (suc k) n more h =
+    let one : is_inert (digit_glyph false (n % 10) ∷ more) ≡ true = and_from _ _ (decimal_glyph n) h in
+    elim (cases_Bool (n / 10 == 0)) [
+      | inl last ↦ rw last one
+      | inr goes_on ↦ rw goes_on (decimal_onto k (n / 10) _ one)
+    ]
+
+pub decimal_inert : (n : ℕ) → is_inert (decimal n) ≡ true
+unfolding digits
+decimal_inert n = decimal_onto 64 n [] refl
+
+zeros_inert : (n : ℕ) → is_inert (replicate n 48) ≡ true
+zeros_inert zero = refl
+zeros_inert (suc n) = zeros_inert n
+
+-- a number behind zeros
+padded_inert : (places : ℕ) (text : List ℕ) → is_inert text ≡ true → is_inert (padded_integral (format_spec 32 0 4 places (2 ^ 64 - 1)) false [] text) ≡ true
+unfolding padded_integral
+padded_inert places text h =
+    let zeros = number_padding (format_spec 32 0 4 places (2 ^ 64 - 1)) false [] (length text) in
+    inert_append (replicate zeros 48) (text ++ []) (zeros_inert zeros) (inert_append text [] h refl)
+
+fourth_of : (a b c d e : Bool) → not (a || (b || (c || (d || e)))) ≡ true → not d ≡ true
+fourth_of true b c d e h = absurd (true≢false (sym h))
+fourth_of false true c d e h = absurd (true≢false (sym h))
+fourth_of false false true d e h = absurd (true≢false (sym h))
+fourth_of false false false true e h = h
+fourth_of false false false false e h = refl
+
+less_has_meaning : (byte : ℕ) → not (has_meaning byte) ≡ true → not (byte == 60) ≡ true
+less_has_meaning byte = fourth_of (byte == 34) (byte == 38) (byte == 39) (byte == 60) (byte == 62)
+
+bare_inert : (text : List ℕ) → is_bare text ≡ true → is_inert text ≡ true
+bare_inert [] h = refl
+bare_inert (byte ∷ text) h = let parts = and_parts _ _ h in and_from _ _ (less_has_meaning byte parts.0) (bare_inert text parts.1)
+
+pub escaped_inert : (bytes : List ℕ) → is_inert (flat_map escaped bytes) ≡ true
+escaped_inert [] = refl
+escaped_inert (byte ∷ bytes) = inert_append (escaped byte) (flat_map escaped bytes) (bare_inert (escaped byte) (escaped-bare byte)) (escaped_inert bytes)
+
+-- NAMES
+
+abbrev pub are_inert : List Row → Bool
+are_inert rows = list_all (λ row. is_inert row.1) rows
+
+-- one of a list of names, or another
+pub name_inert : (rows : List Row) (number : ℕ) (other : List ℕ) → are_inert rows ≡ true → is_inert other ≡ true → is_inert (unwrap_or (name_in rows number) other) ≡ true
+name_inert [] number other h o = o
+name_inert (row ∷ rows) number other h o =
+    let parts = and_parts _ _ h in
+    elim (cases_Bool (row.0 == number)) [
+      | inl found ↦ rw found parts.0
+      | inr further ↦ rw further (name_inert rows number other parts.1 o)
+    ]
+
+-- the name of a call, or another
+pub call_inert : (x other : List ℕ) → is_inert other ≡ true → is_inert (unwrap_or (call_name_of x) other) ≡ true
+unfolding call_name_of
+call_inert x other o = name_inert call_names (low (slice_index x 0)) other refl o
+
+pub or_now : (name : Option (Bor (List ℕ))) (other : Bor (List ℕ)) → (unwrap_or name other).now ≡ unwrap_or (option_map (λ n. n.now) name) other.now
+or_now None other = refl
+or_now (Some name) other = refl
+
+-- the name of an error, where there is one
+error_or_inert : (x : List ℕ) → is_inert (unwrap_or (error_name_of x) []) ≡ true
+unfolding error_name_of
+error_or_inert x =
+    elim (cases_Bool (low (slice_index x 0) == FFA_ERROR)) [
+      | inl is ↦ rw is (name_inert error_names (low (slice_index x 2)) [] refl refl)
+      | inr other ↦ rw other refl
+    ]
+
+pub error_inert : (x name : List ℕ) → Some name ≡ error_name_of x → is_inert name ≡ true
+error_inert x name e = ap (λ o. is_inert (unwrap_or o [])) e ∙ error_or_inert x
+
+-- WHAT A FORMAT WRITES
+
+-- it is known, and nothing in it is `<`
+pub record IsTold (output : Option (List ℕ)) : Type 0 where
+  pub text : List ℕ
+  pub is : output ≡ Some text
+  pub inert : is_inert text ≡ true
+
+pub told : (text : List ℕ) → is_inert text ≡ true → IsTold (Some text)
+told text inert = record { text = text; is = refl; inert = inert }
+
+pub told_then : (o p : Option (List ℕ)) → IsTold o → IsTold p → IsTold (option_append o p)
+told_then o p a b = record { text = a.text ++ b.text; is = rw (a.is, b.is) refl; inert = inert_append a.text b.text a.inert b.inert }
+
+pub told_decimal : (n : ℕ) → IsTold (Some (decimal n))
+told_decimal n = told (decimal n) (decimal_inert n)
+
+pub told_escaped : (bytes : List ℕ) → IsTold (Some (flat_map escaped bytes))
+told_escaped bytes = told (flat_map escaped bytes) (escaped_inert bytes)
+
+-- with the options that a hole has
+pub told_at : {S : Type 0} (shown : S → Option (List ℕ)) (spec wide : S) → spec ≡ wide → IsTold (shown wide) → IsTold (shown spec)
+told_at shown spec wide is h = subst (λ s. IsTold (shown s)) (sym is) h
+
+-- hexadecimal digits behind zeros
+pub told_places : (places n : ℕ) (output : Option (List ℕ)) → output ≡ Some (digits 16 true n)
+    → IsTold (option_map (padded_integral (format_spec 32 0 4 places (2 ^ 64 - 1)) false []) output)
+told_places places n output is =
+    let shown = padded_integral (format_spec 32 0 4 places (2 ^ 64 - 1)) false [] in record {
+      text = shown (digits 16 true n);
+      is = ap (option_map shown) is;
+      inert = padded_inert places (digits 16 true n) (hex_inert n);
+    }
+
+-- hexadecimal digits
+pub told_digits : (n : ℕ) (output : Option (List ℕ)) → output ≡ Some (digits 16 true n) → IsTold output
+told_digits n output is = record { text = digits 16 true n; is = is; inert = hex_inert n }
+
+-- WRITERS
+
+pub grows_none : (held : Option (List ℕ)) → Grows held held
+grows_none held = record { text = []; inert = refl; written = Appends-nil held }
+
+pub grows_by : (held holds : Option (List ℕ)) (text : List ℕ) → is_inert text ≡ true → Appends held holds text → Grows held holds
+grows_by held holds text inert written = record { text = text; inert = inert; written = written }
+
+pub grows_told : (held holds output : Option (List ℕ)) → IsTold output → IfSome output (Appends held holds) → Grows held holds
+grows_told held holds output is written = grows_by held holds is.text is.inert (subst (λ o. IfSome o (Appends held holds)) is.is written)
+
+pub grows_then : (held mid holds : Option (List ℕ)) → Grows held mid → Grows mid holds → Grows held holds
+grows_then held mid holds g h = record {
+  text = g.text ++ h.text;
+  inert = inert_append g.text h.text g.inert h.inert;
+  written = Appends-trans held mid holds g.text h.text g.written h.written;
+}
+
+-- one write, whose result is returned
+module _ {E : Type 0} (result : Result (Unit {0}) E) (held holds : Option (List ℕ)) where
+  pub only_by : (text : List ℕ) → is_inert text ≡ true → OnOk result (Appends held holds text) → OnOk result (Grows held holds)
+  only_by text inert = on_ok_weaker result (grows_by held holds text inert)
+
+  pub only_told : (output : Option (List ℕ)) → IsTold output → OnOk result (IfSome output (Appends held holds)) → OnOk result (Grows held holds)
+  only_told output is = on_ok_weaker result (grows_told held holds output is)
+
+-- a last write behind others, whose result is returned
+module _ {E : Type 0} (result : Result (Unit {0}) E) (held mid holds : Option (List ℕ)) where
+  pub last_grows : Grows held mid → OnOk result (Grows mid holds) → OnOk result (Grows held holds)
+  last_grows g = on_ok_weaker result (grows_then held mid holds g)
+
+  pub last_by : (text : List ℕ) → is_inert text ≡ true → Grows held mid → OnOk result (Appends mid holds text) → OnOk result (Grows held holds)
+  last_by text inert g = on_ok_weaker result (λ w. grows_then held mid holds g (grows_by mid holds text inert w))
+
+  pub last_told : (output : Option (List ℕ)) → IsTold output → Grows held mid → OnOk result (IfSome output (Appends mid holds)) → OnOk result (Grows held holds)
+  last_told output is g = on_ok_weaker result (λ w. grows_then held mid holds g (grows_told mid holds output is w))
+
+  -- the data, behind their key
+  pub last_data : Appends held mid endpoints_key → OnOk result (Grows mid holds) → OnOk result (WritesData held holds)
+  last_data key = on_ok_weaker result (λ g. record { rest = g.text; inert = g.inert; written = Appends-trans held mid holds endpoints_key g.text key g.written })
+
+-- a page is its beginning, its data and its end
+pub page_written : {E : Type 0} (result : Result (Unit {0}) E) (held head told holds : Option (List ℕ)) → Appends held head before_data → WritesData head told
+    → OnOk result (Appends told holds behind_data) → OnOk result (WritesPage held holds)
+page_written result held head told holds began wrote =
+    on_ok_weaker result (λ ended.
+    record {
+      rest = wrote.rest;
+      inert = wrote.inert;
+      written =
+          Appends-trans held head holds before_data (endpoints_key ++ wrote.rest ++ behind_data) began
+          (Appends-trans head told holds (endpoints_key ++ wrote.rest) behind_data wrote.written ended);
+    })
