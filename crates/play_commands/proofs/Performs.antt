@@ -144,7 +144,7 @@ module _ {R : Type 0} (remaining : R → Option (List ℕ)) (path : Bor (List �
     -- its picture is printed
     pub picture_does : (how : Drawing) (keep : Keep) → keep ≡ keep_of how.drawing → (result : Result (Unit {0}) Failure) → Plays remaining (Drawn keep how.drawing.width) trace (first_of parts) streams result
         → Does (picture_of path how) (opened manifest is_expected_open expected streams) result
-    picture_does how keep asked (Ok x) plays = record { done = (parts, is, plays.played); opened = λ needed. refl; failed = tt; read = tt }
+    picture_does how keep asked (Ok x) plays = record { done = (parts, is, plays.played.0); opened = λ needed. refl; failed = tt; read = tt }
     picture_does how keep asked (Err failure) plays = record { done = tt; opened = tt; failed = picture_fails how keep asked failure plays.failed; read = could_read failure }
 
     record_fails : (how : Recording) (failure : Failure) → PlayFails remaining Recorded trace (first_of parts) streams failure
@@ -172,7 +172,7 @@ module _ {R : Type 0} (remaining : R → Option (List ℕ)) (path : Bor (List �
     -- its page is printed
     pub page_does : (how : Drawing) (result : Result (Unit {0}) Failure) → Plays remaining Paged trace (first_of parts) streams result
         → Does (picture_of path how) (opened manifest is_expected_open expected streams) result
-    page_does how (Ok x) plays = record { done = (parts, is, plays.played); opened = λ needed. refl; failed = tt; read = tt }
+    page_does how (Ok x) plays = record { done = (parts, is, plays.played.0); opened = λ needed. refl; failed = tt; read = tt }
     page_does how (Err failure) plays = record { done = tt; opened = tt; failed = page_fails how failure plays.failed; read = could_read failure }
 
 -- THE STATUS

@@ -19,6 +19,8 @@ use Rattle.play_forms.specs.Recorded.{Replays, recorded}
 use Rattle.play_forms.specs.Sessions.{good_text_in}
 use Rattle.play_drawing.specs.declared.row.Keep.{Keep}
 use Rattle.play_drawing.specs.declared.row.Pace.TheVariants.{Changes, Every}
+use Rattle.play_drawing.specs.Written.{WritesPicture}
+use Rattle.play_page.specs.Written.{WritesPage}
 use Rattle.play_picture.specs.Watching.{IsTooLarge}
 use Rattle.play_report.specs.Guarded.{met_text, near_text}
 use Rattle.play_report.specs.declared.failure.Failure.{Failure}
@@ -239,8 +241,9 @@ IsDoneBy remaining task.Recorded start streams = IsRecorded start streams
 IsDoneBy remaining (task.Session form) start streams = IsHeld form start streams
 IsDoneBy remaining (task.Compare expected form) start streams =
     PrintsExpected (unexplained form) start streams.trace (remaining expected.reader) × Keeps streams.held streams.holds
-IsDoneBy remaining (task.Drawn keep width) start streams = IsDrawn streams.trace
-IsDoneBy remaining task.Paged start streams = IsDrawn streams.trace
+IsDoneBy remaining (task.Drawn keep width) start streams =
+    IsDrawn streams.trace × WritesPicture streams.held streams.holds
+IsDoneBy remaining task.Paged start streams = IsDrawn streams.trace × WritesPage streams.held streams.holds
 
 -- a task stopped at line n
 abbrev pub StopsBy : {R : Type 0} → (R → Option (List ℕ)) → Task R → State → Streams → ℕ → Type 0

@@ -1,6 +1,7 @@
 // SPDX-License-Identifier: MIT OR Apache-2.0
 //! Plays of a trace whose page is printed.
-ghost use Rattle.std.specs.Prelude.{◌≡◌, IfErr};
+ghost use Rattle.std.specs.Prelude.{◌≡◌, IfErr, OnOk};
+ghost use Rattle.play_page.specs.Written.{WritesPage};
 ghost use Rattle.play_tasks.specs.Plays.{Plays, streams_of};
 
 use crate::playing::buffer;
@@ -32,7 +33,8 @@ pub(crate) fn print_page<'a, A: Allocator + Copy, P: Playable, R: Read + Drop, W
 }
 
 fn write<A: Allocator, W: Write>(page: &Page<A>, out: &mut W) -> Result<(), Failure<'static>>
-    ensures { IfErr result (λ failure. failure ≡ Failure.Write) }
+    ensures printed { OnOk result (WritesPage (W.contents out.old) (W.contents out.new)) }
+    ensures failed { IfErr result (λ failure. failure ≡ Failure.Write) }
 {
     match write_page(page, out) {
         Ok(()) => Ok(()),

@@ -7,8 +7,8 @@ use Rattle.play_tasks.specs.Plays.{IsDrawn, IsOverfull, PlayFails}
 use Rattle.play_report.specs.Failures.{failure_of}
 use Rattle.play_report.specs.declared.failure.Failure.TheVariants.{Read}
 use Rattle.play_tasks.specs.declared.task.Task.TheVariants.{Drawn}
-use Rattle.play_report.proofs.Results.{on_err}
-use Rattle.play_tasks.proofs.Plays.{always_ok, drawn_over, drawn_whole, drawn_failed, passed}
+use Rattle.play_report.proofs.Results.{on_err, on_ok}
+use Rattle.play_tasks.proofs.Plays.{drawn_over, drawn_whole, drawn_failed, passed}
 use Rattle.play_tasks.proofs.playing.draw.Goals as goal
 
 pub returns-in-Ok-Ok : goal.returns-in-Ok-Ok
@@ -22,8 +22,8 @@ returns-in-Ok-Ok g c =
     let drawn = subst IsDrawn c.in_ok-reader.ensures.unread (drawn_whole {A = g.row.A.Denot} c.in-Ok-Ok.picture c.args.keep start now had has bytes is) in
     let streams = passed (g.R.Read.remaining c.args.trace.reader) (g.W.Write.contents c.args.out.now) (g.W.Write.contents c.print_picture.new.out) in
     record {
-      played = always_ok c.print_picture.result drawn;
-      failed = on_err c.print_picture.result (λ failure is. subst (PlayFails g.R.Read.remaining (Drawn c.args.keep c.args.width) c.args.trace.path c.args.player.now.state streams) (sym is) tt) c.print_picture.ensures;
+      played = on_ok c.print_picture.result (λ written. (drawn, written)) c.print_picture.ensures.printed;
+      failed = on_err c.print_picture.result (λ failure is. subst (PlayFails g.R.Read.remaining (Drawn c.args.keep c.args.width) c.args.trace.path c.args.player.now.state streams) (sym is) tt) c.print_picture.ensures.failed;
     }
 
 pub returns-in-Ok-Err : goal.returns-in-Ok-Err
