@@ -1,6 +1,6 @@
 -- SPDX-License-Identifier: MIT OR Apache-2.0
 -- Where a document is refused: at which endpoint, and in which of its regions.
-use Rattle.std.specs.Prelude.{◌≡◌, ℕ, zero, suc, Bool, ◌==◌, List, [], ◌++◌, length, Option, Some, None, Result, Ok, IsErr, MatchOption, MatchResult, if◌then◌else◌, codes}
+use Rattle.std.specs.Prelude.{◌≡◌, ℕ, zero, suc, Bool, ◌==◌, List, ◌++◌, length, Option, Some, None, Result, Ok, IsErr, MatchOption, MatchResult, if◌then◌else◌, codes}
 use Rattle.toml.specs.Data.{Data, Items, no_items, item, Members, as_table, get_item}
 use Rattle.toml.specs.Parse.{parse_document}
 use Rattle.ffa_model.specs.declared.limits.TheConstants.{MOST_REGIONS}

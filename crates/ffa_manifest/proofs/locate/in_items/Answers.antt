@@ -1,14 +1,12 @@
 -- SPDX-License-Identifier: MIT OR Apache-2.0
-use Rattle.std.proofs.Common.{◌≡◌, ◌≤◌, ◌++◌, List, Some, Ok, true, false, refl, sym, ap, ◌∙◌, arith, length}
+use Rattle.std.proofs.Common.{◌≤◌, ◌++◌, List, Some, Ok, sym, ap, ◌∙◌, arith, length}
 use Rattle.std.specs.Prelude.{is_err}
-use Rattle.toml.specs.Data.{Data, Items, get_item}
 use Rattle.toml.specs.View.{view, items_view}
 use Rattle.ffa_model.specs.declared.endpoint.Region.{Region}
 use Rattle.ffa_model.specs.Manifest.{regions_of}
 use Rattle.ffa_manifest.specs.RegionSpace.{is_in}
 use Rattle.ffa_manifest.specs.Reading.{item_count}
 use Rattle.ffa_manifest.specs.Regions.{next_region, regions_from}
-use Rattle.ffa_manifest.specs.Places.{first_items}
 use Rattle.ffa_manifest.proofs.Views.{item_count_view}
 use Rattle.ffa_manifest.proofs.Places.{get_item-view, first_items-all, read_each-next}
 use Rattle.ffa_manifest.proofs.locate.in_items.Goals as goal
@@ -23,7 +21,6 @@ loop-index-init c = record {
 pub returns-in-Err-clause-region : goal.returns-in-Err-clause-region
 returns-in-Err-clause-region c =
     let own = c.loop-index.own.items in
-    let one : List Region → Data → _ = λ rs d. next_region (is_in c.args.space.now) (regions_of c.args.before.now ++ rs) d in
     record {
       index = c.loop-index.index;
       own = own;
