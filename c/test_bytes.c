@@ -1,13 +1,14 @@
 /* SPDX-License-Identifier: MIT OR Apache-2.0 */
-/* Tries bytes.c, whose functions have other names here, at each place within words, with each size up to some words and each overlap:
- * each byte of the memory is looked at, around the copy too. A sanitizer sees that no word is loaded or stored that isn't aligned. */
+/* Tries bytes.c, whose functions have other names here, at each place within words, with each size up to two groups of words and more, and
+ * each overlap: each byte of the memory is looked at, around the copy too. A sanitizer sees that no word is loaded or stored that isn't
+ * aligned. */
 #include <stdint.h>
 #include <stdio.h>
 #include <stdlib.h>
 #include "bytes.h"
 
-#define PLACES 48
-#define SIZES 33
+#define PLACES 80
+#define SIZES 145
 #define GUARD 16
 #define BYTES (GUARD + PLACES + SIZES + GUARD)
 
