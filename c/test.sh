@@ -17,7 +17,7 @@ if [[ ${1:-} == --install-only ]]; then exit 0; fi
 to=$(mktemp -d)
 trap 'rm -rf "$to"' EXIT
 strict="-std=c11 -Wall -Wextra -Wpedantic -Wshadow -Werror -I$here"
-tests="test test_questions test_reasons test_runs test_races"
+tests="test test_ffa test_questions test_reasons test_runs test_races"
 sanitized="-O1 -g -fsanitize=address,undefined -fno-sanitize-recover=all"
 deep=${UNPROVED:+-DGORSEPLUMB_STACK_BYTES=0x80000} # what tests/all compiled without proofs tests more, and takes more stack
 renamed="-Dmemcpy=copy_bytes -Dmemmove=move_bytes -Dmemset=set_bytes" # bytes.c beside a C library, which has these
@@ -160,7 +160,16 @@ for compiler in gcc clang; do
         -o "$to/every"
 done
 if has g++; then
-    printf '#include "gorseplumb.h"\n#include "lending.h"\n' >"$to/header.cpp"
+    cat >"$to/header.cpp" <<'CPP'
+#include "gorseplumb.h"
+#include "gorseplumb_ffa.h"
+#include "lending.h"
+bool is_denied(gorseplumb_machine &machine, uint16_t partition);
+bool is_denied(gorseplumb_machine &machine, uint16_t partition) {
+    gorseplumb_outcome told = GORSEPLUMB_CALL(&machine, GORSEPLUMB_FFA_RUN, gorseplumb_pair(partition, 0));
+    return gorseplumb_error_of(told) == GORSEPLUMB_ERROR_DENIED;
+}
+CPP
     g++ -std=c++17 -Wall -Wextra -Wpedantic -Werror "-I$here" -c "$to/header.cpp" -o "$to/header.o"
     echo "g++: the headers are C++ too"
 fi
