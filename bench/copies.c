@@ -7,17 +7,10 @@
 #include <stdlib.h>
 #include <string.h>
 #include "gorseplumb.h"
+#include "gorseplumb_ffa.h"
 #include "lending.h"
 
 #define RAM_PAGES (4 * 512)
-#define BUFFER_MAP 0x84000066
-#define RUN 0x8400006D
-#define WAIT 0x8400006B
-#define LEND 0x84000072
-#define RETRIEVE 0x84000074
-#define RELINQUISH 0x84000076
-#define RECLAIM 0x84000077
-#define SUCCEEDS 0x84000061
 #define PARTITION 0x8001
 #define TX UINT64_C(0x4001E000)
 #define TX_OF_PARTITION UINT64_C(0x4002E000)
@@ -65,7 +58,7 @@ static void stop(const char *why) {
 static struct gorseplumb_outcome call(uint64_t x0, uint64_t x1, uint64_t x2, uint64_t x3) {
     struct gorseplumb_registers registers = {{x0, x1, x2, x3}};
     struct gorseplumb_outcome told = gorseplumb_call(&machine, &registers);
-    if (told.kind != GORSEPLUMB_KIND_REGISTERS || told.x[0] == 0x84000060) stop("a call is refused");
+    if (told.kind != GORSEPLUMB_KIND_REGISTERS || gorseplumb_is_error(told)) stop("a call is refused");
     return told;
 }
 
@@ -90,17 +83,17 @@ static void transaction(uint64_t ranges) {
         store(TX + 80 + 16 * i, PAGES + 2 * GORSEPLUMB_PAGE_SIZE * i);
         store(TX + 88 + 16 * i, 1);
     }
-    uint64_t handle = count("lend", LEND, size, size).x[2];
-    call(RUN, PARTITION << 16, 0, 0);
+    uint64_t handle = gorseplumb_handle_of(count("lend", GORSEPLUMB_FFA_MEM_LEND, size, size));
+    call(GORSEPLUMB_FFA_RUN, gorseplumb_pair(PARTITION, 0), 0, 0);
     uint64_t asked[] = {0, handle, 0, 1ull << 32 | 16, 48, 0, 6 << 16 | PARTITION, 0};
     for (uint64_t i = 0; i < 8; i++) store(TX_OF_PARTITION + 8 * i, asked[i]);
-    count("retrieve", RETRIEVE, 64, 64);
+    count("retrieve", GORSEPLUMB_FFA_MEM_RETRIEVE_REQ, 64, 64);
     store(TX_OF_PARTITION, handle);
     store(TX_OF_PARTITION + 8, 1ull << 32);
     store(TX_OF_PARTITION + 16, PARTITION);
-    count("relinquish", RELINQUISH, 0, 0);
-    call(WAIT, 0, 0, 0);
-    count("reclaim", RECLAIM, handle, 0);
+    count("relinquish", GORSEPLUMB_FFA_MEM_RELINQUISH, 0, 0);
+    call(GORSEPLUMB_FFA_MSG_WAIT, 0, 0, 0);
+    count("reclaim", GORSEPLUMB_FFA_MEM_RECLAIM, gorseplumb_low_half(handle), gorseplumb_high_half(handle));
 }
 
 int main(void) {
@@ -108,10 +101,10 @@ int main(void) {
     if (gorseplumb_lend_all(&lent, pages, RAM_PAGES) != GORSEPLUMB_OK) stop("no pages were lent");
     if (gorseplumb_boot_lent(&machine, &lent, (const uint8_t *)manifest, sizeof manifest - 1) != GORSEPLUMB_OK)
         stop("the manifest is refused");
-    call(BUFFER_MAP, TX, TX + GORSEPLUMB_PAGE_SIZE, 1);
-    call(RUN, PARTITION << 16, 0, 0);
-    call(BUFFER_MAP, TX_OF_PARTITION, TX_OF_PARTITION + GORSEPLUMB_PAGE_SIZE, 1);
-    call(WAIT, 0, 0, 0);
+    call(GORSEPLUMB_FFA_RXTX_MAP, TX, TX + GORSEPLUMB_PAGE_SIZE, 1);
+    call(GORSEPLUMB_FFA_RUN, gorseplumb_pair(PARTITION, 0), 0, 0);
+    call(GORSEPLUMB_FFA_RXTX_MAP, TX_OF_PARTITION, TX_OF_PARTITION + GORSEPLUMB_PAGE_SIZE, 1);
+    call(GORSEPLUMB_FFA_MSG_WAIT, 0, 0, 0);
     transaction(1);
     transaction(GORSEPLUMB_MOST_RANGES);
     transaction(1);
