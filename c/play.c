@@ -1,11 +1,12 @@
 /* SPDX-License-Identifier: MIT OR Apache-2.0 */
-/* Plays a trace through the border, and prints what the program prints: play heap|lent MANIFEST TRACE. With `lent` the machine
- * stands in pages of this program. Whether the tables agree with gorseplumb_access is found by a walk of their bytes. */
+/* Plays a trace through the border, and prints what the program prints: play heap|lent|explain MANIFEST TRACE. With `lent` the machine
+ * stands in pages of this program, and with `explain` a reason follows each operation that is refused. Whether the tables agree with gorseplumb_access is found by a walk of their bytes. */
 #include <inttypes.h>
 #include <stdio.h>
 #include <stdlib.h>
 #include <string.h>
 #include "gorseplumb.h"
+#include "gorseplumb_explain.h"
 #include "lending.h"
 
 #define PAGES_OF_BLOCK 512
@@ -46,6 +47,16 @@ static void print_value(uint64_t value, unsigned size) {
     printf("data %0*" PRIX64 "\n", (int)(2 * size), value);
 }
 
+/* Whether reasons are printed, and the one of the operation that comes next: empty where it would be done. */
+static bool explains;
+static char reason[256];
+
+/* Asks for the reason by one of the four that tell it: EXPLAIN(kind, words) */
+#define EXPLAIN(kind, ...) \
+    do { \
+        if (explains && gorseplumb_explain_##kind(&machine, __VA_ARGS__, reason, sizeof reason) >= sizeof reason) stop("a long reason"); \
+    } while (0)
+
 static void print_outcome(struct gorseplumb_outcome told, unsigned size) {
     static const char *const faults[] = {"", "translation", "permission", "alignment", "access-flag", "outside-ram"};
     switch (told.kind) {
@@ -67,6 +78,7 @@ static void print_outcome(struct gorseplumb_outcome told, unsigned size) {
     default:
         stop("an outcome of no kind");
     }
+    if (reason[0] != '\0') printf("# refused: %s\n", reason);
 }
 
 static uint16_t identifier(uint32_t place) { return place == 0 ? 0 : (uint16_t)(0x8000 + place); }
@@ -173,12 +185,16 @@ static void play(char *line) {
     if (strcmp(word, "call") == 0) {
         struct gorseplumb_registers registers;
         memcpy(registers.x, numbers, sizeof registers.x);
+        EXPLAIN(call, &registers);
         print_outcome(gorseplumb_call(&machine, &registers), 0);
     } else if (strcmp(word, "load") == 0) {
+        EXPLAIN(load, numbers[0], (uint32_t)numbers[1]);
         print_outcome(gorseplumb_load(&machine, numbers[0], (uint32_t)numbers[1]), (unsigned)numbers[1]);
     } else if (strcmp(word, "store") == 0) {
+        EXPLAIN(store, numbers[0], (uint32_t)(digits / 2));
         print_outcome(gorseplumb_store(&machine, numbers[0], (uint32_t)(digits / 2), numbers[1]), 0);
     } else if (strcmp(word, "fetch") == 0) {
+        EXPLAIN(fetch, numbers[0]);
         print_outcome(gorseplumb_fetch(&machine, numbers[0]), 4);
     } else if (strcmp(word, "show") == 0) {
         show();
@@ -206,7 +222,8 @@ static uint32_t boot_in(struct gorseplumb_page *pages, struct gorseplumb_lent *l
 int main(int count, char **words) {
     static struct gorseplumb_page pages[MOST_PAGES];
     struct gorseplumb_lent lent = {0};
-    if (count != 4) stop("play heap|lent MANIFEST TRACE");
+    if (count != 4) stop("play heap|lent|explain MANIFEST TRACE");
+    explains = strcmp(words[1], "explain") == 0;
     bool is_lent = strcmp(words[1], "lent") == 0;
     size_t size, trace_size;
     uint32_t lent_pages = 0;

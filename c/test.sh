@@ -2,9 +2,9 @@
 # SPDX-License-Identifier: MIT OR Apache-2.0
 # Builds the C library and what stands in this folder over it, with every warning an error, and runs it: the tests under
 # sanitizers and valgrind and over a shared library, that of copies of bytes, the example, the traces of examples/
-# through the border beside the program, texts on a stack of 256 KiB, and links with no C library, of which one runs on
-# a stack of 64 KiB; for AArch64 too, where there are a compiler and an emulator for it. With --install it first installs Debian's packages for
-# that; with --install-only it does nothing else.
+# through the border beside the program, reasons too, texts on a stack of 256 KiB, and links with no C library, of which
+# one runs on a stack of 64 KiB; for AArch64 too, where there are a compiler and an emulator for it. With --install it
+# first installs Debian's packages for that; with --install-only it does nothing else.
 set -euo pipefail
 here=$(cd "$(dirname "${BASH_SOURCE[0]}")" && pwd)
 top=$(dirname "$here")
@@ -119,6 +119,18 @@ plays() {
     echo "$name: five traces and $(wc -l <"$to/generated") generated lines, on the heap's RAM and on lent pages: as the program prints them"
 }
 
+# Whether play tells each reason of the generated lines, and those of each check that a table of tests has, as the program does: explains
+# NAME PLAY
+explains() {
+    local name=$1
+    export PLAYER PLAY=$2
+    PLAYER=$(realpath "$player")
+    "$here/explained" run --explain "$top/examples/partitions.toml" "$to/generated" >"$to/explained"
+    FFAPLAY=$here/explained "$top/tests/tables" "$top/tests/tables.d/explained.table" >"$to/tables" || { cat "$to/tables" >&2; exit 1; }
+    echo "$name: $(grep -c '^# refused: ' "$to/explained") reasons of generated lines are the program's," \
+        "and of those of a table $(tail -n 1 "$to/tables")"
+}
+
 make_archive x86_64-unknown-linux-gnu || exit 1
 native=$made
 [ -n "${FFAPLAY:-}" ] || "$top/ffaplay" prove
@@ -141,6 +153,7 @@ for compiler in gcc clang; do
     "$to/example"
     $compiler $strict $sanitized "$here/play.c" "$here/heap.c" "$native" -o "$to/play"
     plays "$compiler, sanitized" "$to/play"
+    explains "$compiler, sanitized" "$to/play"
     bare="$strict -O2 -ffreestanding -fno-stack-protector -nostdlib -static"
     $compiler $bare "$here"/{freestanding,array,bytes,settle}.c "$native" -o "$to/whole"
     $compiler $bare -Wl,--gc-sections "$here"/{freestanding,array,bytes,settle}.c "$native" -o "$to/free"
@@ -162,6 +175,7 @@ done
 if has g++; then
     cat >"$to/header.cpp" <<'CPP'
 #include "gorseplumb.h"
+#include "gorseplumb_explain.h"
 #include "gorseplumb_ffa.h"
 #include "lending.h"
 bool is_denied(gorseplumb_machine &machine, uint16_t partition);

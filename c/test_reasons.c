@@ -1,5 +1,5 @@
 /* SPDX-License-Identifier: MIT OR Apache-2.0 */
-/* Why operations are refused, and names as text. The machine is that of machine.toml.h: 0000 has the 16 pages from
+/* Why operations are refused, also as lines of text, and names. The machine is that of machine.toml.h: 0000 has the 16 pages from
  * 40010000 on, 8001 those from 40020000 and 8002 those from 40030000. Numbers and texts are the manual's:
  * docs/CALLS.md, docs/MEMORY.md and docs/COMMANDS.md. Reasons are asked of a struct in memory that can only be read. */
 #define _DEFAULT_SOURCE
@@ -9,6 +9,7 @@
 #include "../board/calls.h"
 #include "check.h"
 #include "gorseplumb.h"
+#include "gorseplumb_explain.h"
 #include "machine.toml.h"
 
 #define WIDE UINT32_C(0x40000000)
@@ -168,6 +169,20 @@ static void calls(void) {
     done(FFA_MSG_WAIT, CALL(FFA_MSG_WAIT));
 }
 
+/* A line has this text, and so has its beginning where there is less room, of which no byte behind is written. */
+#define LINE(wanted, kind, ...) \
+    do { \
+        char text[256]; \
+        const size_t size = sizeof(wanted) - 1; \
+        for (size_t room = 0; room < sizeof text; room++) { \
+            memset(text, 0x5A, sizeof text); \
+            CHECK(gorseplumb_explain_##kind(shown(&machine), __VA_ARGS__, text, room) == size); \
+            size_t kept = room > size ? size : room != 0 ? room - 1 : 0; \
+            CHECK(memcmp(text, wanted, kept) == 0 && (room == 0 || text[kept] == '\0')); \
+            CHECK(text[room > size ? size + 1 : room] == 0x5A); \
+        } \
+    } while (0)
+
 /* The normal world lends the first page of its region, and asks for it. */
 static void descriptors(void) {
     done(FFA_SUCCESS, CALL(FFA_RXTX_MAP, 0x4001E000, 0x4001F000, 1));
@@ -187,15 +202,22 @@ static void descriptors(void) {
     refuses(CALL(FFA_MEM_LEND, 0x70, 0x70), REASON(DESCRIPTOR_MALFORMED, -2, .about = GORSEPLUMB_ABOUT_FIELD,
                                                    .flaw = GORSEPLUMB_FLAW_ACCESS_PERMISSIONS, .index = 1, .first = 66,
                                                    .size = 1, .value = 0x0F, .has_value = 1));
+    LINE("FFA_MEM_LEND check 6: the bytes in TX are no descriptor of this call: access descriptor 01: "
+         "the permissions are none that this call may grant: byte 42 is 0F",
+         call, &CALL(FFA_MEM_LEND, 0x70, 0x70));
     /* The reserved part of a header has 12 bytes from 36 on, which are no number. */
     stores(0x4001E040, 0x0000005000018002);
     stores(0x4001E020, 0x0000000100000030);
     refuses(CALL(FFA_MEM_LEND, 0x70, 0x70), REASON(DESCRIPTOR_MALFORMED, -2, .about = GORSEPLUMB_ABOUT_FIELD,
                                                    .flaw = GORSEPLUMB_FLAW_HEADER_RESERVED, .first = 36, .size = 12));
+    LINE("FFA_MEM_LEND check 6: the bytes in TX are no descriptor of this call: reserved bytes at the header's end are not 0: "
+         "bytes 24 to 2F",
+         call, &CALL(FFA_MEM_LEND, 0x70, 0x70));
     stores(0x4001E020, 0x30);
     done(FFA_SUCCESS, CALL(FFA_MEM_LEND, 0x70, 0x70));
     /* The first handle of the normal world is 1. */
     refuses_load(0x40010008, 8, TRANSLATION(.obstacle = GORSEPLUMB_OBSTACLE_IN_TRANSACTION, .transaction = 1));
+    LINE("40010008 is in the open transaction 0000000000000001", load, 0x40010008, 8);
     refuses(CALL(FFA_MEM_LEND, 0x70, 0x70), REASON(PAGE_UNSENDABLE, -6, .about = GORSEPLUMB_ABOUT_PAGE, .page = 16,
                                                    .obstacle = GORSEPLUMB_OBSTACLE_IN_TRANSACTION, .transaction = 1));
     done(FFA_SUCCESS, CALL(FFA_MEM_RECLAIM, 1));
@@ -208,9 +230,35 @@ static void without_a_machine(void) {
           !gorseplumb_why_load(shown(&none), 0, 1, &reason));
     CHECK(!gorseplumb_why_store(shown(&none), 0, 1, &reason) && !gorseplumb_why_fetch(shown(&none), 0, &reason));
     CHECK(is_marked(&reason) && !none.live && none.at == NULL);
+    char text[] = "text";
+    CHECK(gorseplumb_explain_call(shown(&none), &CALL(0x84000099), text, sizeof text) == 0 && text[0] == '\0');
 }
 
 static bool is(const char *name, const char *wanted) { return strcmp(name, wanted) == 0; }
+
+static void lines(void) {
+    LINE("", call, &CALL(FFA_ID_GET));
+    LINE("", load, 0x40010000, 8);
+    LINE("", load, 0x40020000, 3); /* no size */
+    LINE("check 1: no such function is served: w0 is 84000099", call, &CALL(0x1234567884000099));
+    LINE("FFA_RX_RELEASE check 1: the caller has no RX and TX, or its RX is not full", call, &CALL(FFA_RX_RELEASE));
+    LINE("FFA_RUN check 2: no partition has the target's identifier: endpoint 8003", call, &CALL(FFA_RUN, 0x80030000));
+    LINE("FFA_RXTX_MAP check 3: TX does not begin at a page and lie in RAM: x1 is 000000014001E000", call,
+         &CALL(FFA_RXTX_MAP | WIDE, 0x14001E000, 0x4001F000, 1));
+    LINE("FFA_RXTX_MAP check 6: a page of TX is not the caller's own to read and write, or is in an open transaction: "
+         "40020000 belongs to 8001",
+         call, &CALL(FFA_RXTX_MAP, 0x40020000, 0x4001F000, 1));
+    LINE("FFA_MEM_RECLAIM check 2: no open transaction of the caller has the handle: handle 0000800100000007", call,
+         &CALL(FFA_MEM_RECLAIM, 7, 0x8001));
+    LINE("FFA_NOTIFICATION_SET check 6: one of the bits is not the caller's: bit 23", call,
+         &CALL(FFA_NOTIFICATION_SET, 0x00008001, 0, 0, 0x28));
+    LINE("40020FFF belongs to 8001", load, 0x40020FFF, 1);
+    LINE("40000000 belongs to the manager", store, 0x40000000, 8);
+    LINE("3FFFFFFC is outside RAM", fetch, 0x3FFFFFFC);
+    LINE("0000000100000000 is above FFFFFFFF", load, 0x100000000, 1);
+    LINE("40010001 is no multiple of 2", load, 0x40010001, 2);
+    LINE("40010000 may not be executed", fetch, 0x40010000);
+}
 
 static void names(void) {
     CHECK(is(gorseplumb_call_name(FFA_RUN), "FFA_RUN") && is(gorseplumb_call_name(FFA_MSG_SEND2), "FFA_MSG_SEND2"));
@@ -271,6 +319,7 @@ int main(void) {
     CHECK(gorseplumb_boot(&machine, (const uint8_t *)manifest_text, sizeof manifest_text - 1) == GORSEPLUMB_OK);
     boots = false;
     accesses();
+    lines();
     calls();
     descriptors();
     CHECK(gorseplumb_free(&machine, &untouched) == GORSEPLUMB_OK);

@@ -1,0 +1,223 @@
+/* SPDX-License-Identifier: MIT OR Apache-2.0 */
+/* Why an operation of the endpoint that runs would be refused, as a line of text: what gorseplumb_why_call and its like
+ * tell, with the words of the names. It is what the program prints with --explain (docs/COMMANDS.md) behind
+ * `# refused: `, but for what is to be mended, of which a reason tells nothing. It is optional, C, and not proved;
+ * c/test.sh compares it with the program. It asks nothing of a C library. */
+#ifndef GORSEPLUMB_EXPLAIN_H
+#define GORSEPLUMB_EXPLAIN_H
+
+#include "gorseplumb_ffa.h"
+
+/* A text as it is written. `size` counts all that was put, also where there was no room for it. */
+struct gorseplumb_text {
+    char *to;
+    size_t room;
+    size_t size;
+};
+
+static inline void gorseplumb_put_char(struct gorseplumb_text *text, char one) {
+    if (text->size + 1 < text->room) text->to[text->size] = one;
+    text->size++;
+}
+
+static inline void gorseplumb_put(struct gorseplumb_text *text, const char *words) {
+    for (; *words != '\0'; words++) gorseplumb_put_char(text, *words);
+}
+
+static inline void gorseplumb_put_hex(struct gorseplumb_text *text, uint64_t digits, uint64_t number) {
+    for (; digits > 0; digits--) gorseplumb_put_char(text, "0123456789ABCDEF"[number >> 4 * (digits - 1) & 15]);
+}
+
+/* A number of at most two digits, as a register's or a check's. */
+static inline void gorseplumb_put_decimal(struct gorseplumb_text *text, uint32_t number) {
+    if (number >= 10) gorseplumb_put_char(text, (char)('0' + number / 10 % 10));
+    gorseplumb_put_char(text, (char)('0' + number % 10));
+}
+
+/* An address or a register: in 16 digits where 8 are too few. */
+static inline void gorseplumb_put_address(struct gorseplumb_text *text, uint64_t number) {
+    gorseplumb_put_hex(text, number >> 32 == 0 ? 8 : 16, number);
+}
+
+/* A bit, an index or a place in a descriptor: in two digits where they are enough. */
+static inline void gorseplumb_put_short(struct gorseplumb_text *text, uint64_t number) {
+    if (number >> 16 == 0) gorseplumb_put_hex(text, number >> 8 == 0 ? 2 : 4, number);
+    else gorseplumb_put_address(text, number);
+}
+
+/* What stands in the way, behind an address. */
+static inline void gorseplumb_put_obstacle(struct gorseplumb_text *text, const struct gorseplumb_reason *reason) {
+    switch (reason->obstacle) {
+    case GORSEPLUMB_OBSTACLE_OUTSIDE_RAM:
+        gorseplumb_put(text, " is outside RAM");
+        break;
+    case GORSEPLUMB_OBSTACLE_MANAGERS_PAGE:
+        gorseplumb_put(text, " belongs to the manager");
+        break;
+    case GORSEPLUMB_OBSTACLE_OWNED_BY:
+        gorseplumb_put(text, " belongs to ");
+        gorseplumb_put_hex(text, 4, reason->owner);
+        break;
+    case GORSEPLUMB_OBSTACLE_IN_TRANSACTION:
+        gorseplumb_put(text, " is in the open transaction ");
+        gorseplumb_put_hex(text, 16, reason->transaction);
+        break;
+    default:
+        break;
+    }
+}
+
+/* Whether a call reads all 64 bits of a register, of those that a check is about. */
+static inline bool gorseplumb_reads_whole(uint32_t function, uint32_t number) {
+    switch (function) {
+    case GORSEPLUMB_FFA_RXTX_MAP_64:
+        return number == 1 || number == 2;
+    case GORSEPLUMB_FFA_MEM_DONATE_64:
+    case GORSEPLUMB_FFA_MEM_LEND_64:
+    case GORSEPLUMB_FFA_MEM_SHARE_64:
+    case GORSEPLUMB_FFA_MEM_RETRIEVE_REQ_64:
+        return number == 3;
+    default:
+        return false;
+    }
+}
+
+/* Which access descriptor or which range has the flaw, the flaw, and the bytes of its field. */
+static inline void gorseplumb_put_field(struct gorseplumb_text *text, const struct gorseplumb_reason *reason) {
+    uint32_t flaw = reason->flaw;
+    bool is_access = flaw >= GORSEPLUMB_FLAW_ACCESS_PERMISSIONS && flaw <= GORSEPLUMB_FLAW_ACCESS_RECEIVER_TWICE;
+    bool is_range = flaw >= GORSEPLUMB_FLAW_RANGE_EMPTY && flaw <= GORSEPLUMB_FLAW_RANGE_OVERLAP;
+    bool is_byte = reason->size <= 1;
+    if (is_access || is_range) {
+        gorseplumb_put(text, is_access ? "access descriptor " : "range ");
+        gorseplumb_put_short(text, reason->index);
+        gorseplumb_put(text, ": ");
+    }
+    gorseplumb_put(text, gorseplumb_flaw_name(flaw));
+    gorseplumb_put(text, is_byte ? ": byte " : ": bytes ");
+    gorseplumb_put_short(text, reason->first);
+    if (!is_byte) {
+        gorseplumb_put(text, " to ");
+        gorseplumb_put_short(text, reason->first + reason->size - 1);
+    }
+    if (reason->has_value == 0) return;
+    gorseplumb_put(text, is_byte ? " is " : " are ");
+    gorseplumb_put_hex(text, 2 * reason->size, reason->value);
+}
+
+/* What a check is about, behind its words. */
+static inline void gorseplumb_put_about(struct gorseplumb_text *text, const struct gorseplumb_machine *machine,
+                                        uint32_t function, const struct gorseplumb_reason *reason) {
+    if (reason->about != GORSEPLUMB_ABOUT_NOTHING) gorseplumb_put(text, ": ");
+    switch (reason->about) {
+    case GORSEPLUMB_ABOUT_PAGE:
+        gorseplumb_put_address(text, gorseplumb_ram_base(machine) + (uint64_t)GORSEPLUMB_PAGE_SIZE * reason->page);
+        gorseplumb_put_obstacle(text, reason);
+        break;
+    case GORSEPLUMB_ABOUT_ENDPOINT:
+        gorseplumb_put(text, "endpoint ");
+        gorseplumb_put_hex(text, 4, reason->endpoint);
+        break;
+    case GORSEPLUMB_ABOUT_HANDLE:
+        gorseplumb_put(text, "handle ");
+        gorseplumb_put_hex(text, 16, reason->handle);
+        break;
+    case GORSEPLUMB_ABOUT_REGISTER:
+        gorseplumb_put(text, gorseplumb_reads_whole(function, reason->number) ? "x" : "w");
+        gorseplumb_put_decimal(text, reason->number);
+        gorseplumb_put(text, " is ");
+        gorseplumb_put_address(text, reason->value);
+        break;
+    case GORSEPLUMB_ABOUT_BIT:
+        gorseplumb_put(text, "bit ");
+        gorseplumb_put_short(text, reason->number);
+        break;
+    case GORSEPLUMB_ABOUT_FIELD:
+        gorseplumb_put_field(text, reason);
+        break;
+    default:
+        break;
+    }
+}
+
+/* Ends a text, as far as there is room: its size. */
+static inline size_t gorseplumb_end_text(struct gorseplumb_text *text) {
+    if (text->room != 0) text->to[text->size < text->room ? text->size : text->room - 1] = '\0';
+    return text->size;
+}
+
+/* Writes why a call would be refused, or an access, to `room` bytes: the line without its end, a byte of 0 behind it,
+ * and no more of it than there is room for. The answer is the size of the whole line without that byte, as snprintf's
+ * is, and 0, with an empty line, where the operation would be done. When to ask, and what stays as it is, is as with
+ * gorseplumb_why_call and its like. 256 bytes have room for each line. */
+static inline size_t gorseplumb_explain_call(const struct gorseplumb_machine *machine,
+                                             const struct gorseplumb_registers *registers, char *to, size_t room) {
+    struct gorseplumb_text text = {to, room, 0};
+    struct gorseplumb_reason reason;
+    if (gorseplumb_why_call(machine, registers, &reason)) {
+        uint32_t function = (uint32_t)registers->x[0], number = gorseplumb_check_number(function, reason.check);
+        const char *name = gorseplumb_call_name(function);
+        gorseplumb_put(&text, name);
+        gorseplumb_put(&text, *name == '\0' ? "check " : " check ");
+        gorseplumb_put_decimal(&text, number);
+        gorseplumb_put(&text, ": ");
+        gorseplumb_put(&text, gorseplumb_check_name(reason.check));
+        gorseplumb_put_about(&text, machine, function, &reason);
+    }
+    return gorseplumb_end_text(&text);
+}
+
+/* The line of an access, of which `may_not` names the right that it lacks where that is the fault. */
+static inline size_t gorseplumb_explain_access(const struct gorseplumb_reason *reason, uint64_t address, uint32_t size,
+                                               const char *may_not, char *to, size_t room) {
+    struct gorseplumb_text text = {to, room, 0};
+    gorseplumb_put_address(&text, address);
+    switch (reason->fault) {
+    case GORSEPLUMB_FAULT_TRANSLATION:
+        if (reason->obstacle == GORSEPLUMB_OBSTACLE_NONE) gorseplumb_put(&text, " is above FFFFFFFF");
+        else gorseplumb_put_obstacle(&text, reason);
+        break;
+    case GORSEPLUMB_FAULT_PERMISSION:
+        gorseplumb_put(&text, may_not);
+        break;
+    case GORSEPLUMB_FAULT_ALIGNMENT:
+        gorseplumb_put(&text, " is no multiple of ");
+        gorseplumb_put_decimal(&text, size);
+        break;
+    case GORSEPLUMB_FAULT_ACCESS_FLAG:
+        gorseplumb_put(&text, " has no access flag");
+        break;
+    default:
+        gorseplumb_put(&text, " leads out of RAM");
+        break;
+    }
+    return gorseplumb_end_text(&text);
+}
+
+static inline size_t gorseplumb_explain_nothing(char *to, size_t room) {
+    struct gorseplumb_text text = {to, room, 0};
+    return gorseplumb_end_text(&text);
+}
+
+static inline size_t gorseplumb_explain_load(const struct gorseplumb_machine *machine, uint64_t address, uint32_t size,
+                                             char *to, size_t room) {
+    struct gorseplumb_reason reason;
+    if (!gorseplumb_why_load(machine, address, size, &reason)) return gorseplumb_explain_nothing(to, room);
+    return gorseplumb_explain_access(&reason, address, size, " may not be read", to, room);
+}
+
+static inline size_t gorseplumb_explain_store(const struct gorseplumb_machine *machine, uint64_t address, uint32_t size,
+                                              char *to, size_t room) {
+    struct gorseplumb_reason reason;
+    if (!gorseplumb_why_store(machine, address, size, &reason)) return gorseplumb_explain_nothing(to, room);
+    return gorseplumb_explain_access(&reason, address, size, " may not be written", to, room);
+}
+
+static inline size_t gorseplumb_explain_fetch(const struct gorseplumb_machine *machine, uint64_t address, char *to,
+                                              size_t room) {
+    struct gorseplumb_reason reason;
+    if (!gorseplumb_why_fetch(machine, address, &reason)) return gorseplumb_explain_nothing(to, room);
+    return gorseplumb_explain_access(&reason, address, 4, " may not be executed", to, room);
+}
+
+#endif
