@@ -9,6 +9,7 @@
  *
  * Every name begins with gorseplumb_ or GORSEPLUMB_, but for the three functions of memory, whose names are the
  * toolchain's: those of the standard, as of calls and error codes, aren't used, since firmware has headers with them.
+ * Who has none includes gorseplumb_ffa.h, which names them behind this prefix.
  * An enum is 32 bits wide, as compilers make it that aren't told otherwise (-fshort-enums).
  *
  * What C owes, and nothing checks:
@@ -565,7 +566,7 @@ struct gorseplumb_reason {
  * there is no machine, or the size is none of 1, 2, 4 and 8; `reason` stays. These are questions too: nothing else
  * changes. A refused operation changes nothing, so asked just behind it they say why it was refused; in RAM that is lent
  * they do where nobody has written to the runner's TX since that call began, and while somebody writes there they
- * promise nothing, since they read it where it lies. */
+ * promise nothing, since they read it where it lies. gorseplumb_explain.h writes a reason as a line of text. */
 bool gorseplumb_why_call(const struct gorseplumb_machine *machine, const struct gorseplumb_registers *registers,
                          struct gorseplumb_reason *reason);
 bool gorseplumb_why_load(const struct gorseplumb_machine *machine, uint64_t address, uint32_t size,

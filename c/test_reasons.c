@@ -12,8 +12,6 @@
 #include "gorseplumb_explain.h"
 #include "machine.toml.h"
 
-#define WIDE UINT32_C(0x40000000)
-
 static struct gorseplumb_machine machine;
 
 #include "shown.h"
@@ -244,7 +242,7 @@ static void lines(void) {
     LINE("FFA_RX_RELEASE check 1: the caller has no RX and TX, or its RX is not full", call, &CALL(FFA_RX_RELEASE));
     LINE("FFA_RUN check 2: no partition has the target's identifier: endpoint 8003", call, &CALL(FFA_RUN, 0x80030000));
     LINE("FFA_RXTX_MAP check 3: TX does not begin at a page and lie in RAM: x1 is 000000014001E000", call,
-         &CALL(FFA_RXTX_MAP | WIDE, 0x14001E000, 0x4001F000, 1));
+         &CALL(FFA_RXTX_MAP | WITH_64_BITS, 0x14001E000, 0x4001F000, 1));
     LINE("FFA_RXTX_MAP check 6: a page of TX is not the caller's own to read and write, or is in an open transaction: "
          "40020000 belongs to 8001",
          call, &CALL(FFA_RXTX_MAP, 0x40020000, 0x4001F000, 1));
@@ -262,9 +260,9 @@ static void lines(void) {
 
 static void names(void) {
     CHECK(is(gorseplumb_call_name(FFA_RUN), "FFA_RUN") && is(gorseplumb_call_name(FFA_MSG_SEND2), "FFA_MSG_SEND2"));
-    CHECK(is(gorseplumb_call_name(FFA_MEM_SHARE | WIDE), "FFA_MEM_SHARE") &&
+    CHECK(is(gorseplumb_call_name(FFA_MEM_SHARE | WITH_64_BITS), "FFA_MEM_SHARE") &&
           is(gorseplumb_call_name(FFA_ERROR), "FFA_ERROR"));
-    CHECK(is(gorseplumb_call_name(FFA_RUN | WIDE), "") && is(gorseplumb_call_name(0), "") &&
+    CHECK(is(gorseplumb_call_name(FFA_RUN | WITH_64_BITS), "") && is(gorseplumb_call_name(0), "") &&
           is(gorseplumb_call_name(UINT32_MAX), ""));
     CHECK(is(gorseplumb_error_name(-1), "NOT_SUPPORTED") && is(gorseplumb_error_name(-6), "DENIED"));
     CHECK(is(gorseplumb_error_name(-9), "NO_DATA"));
@@ -298,12 +296,12 @@ static void names(void) {
 /* The number of a check in the manual's list of its call. */
 static void check_numbers(void) {
     CHECK(gorseplumb_check_number(FFA_MEM_LEND, GORSEPLUMB_CHECK_PAGE_UNSENDABLE) == 10);
-    CHECK(gorseplumb_check_number(FFA_MEM_LEND | WIDE, GORSEPLUMB_CHECK_BUFFERS_MISSING) == 1);
+    CHECK(gorseplumb_check_number(FFA_MEM_LEND | WITH_64_BITS, GORSEPLUMB_CHECK_BUFFERS_MISSING) == 1);
     CHECK(gorseplumb_check_number(FFA_RXTX_MAP, GORSEPLUMB_CHECK_BUFFER_PAGE_COUNT) == 2);
     CHECK(gorseplumb_check_number(FFA_NOTIFICATION_SET, GORSEPLUMB_CHECK_BITS_NOT_THE_CALLERS) == 6);
     CHECK(gorseplumb_check_number(FFA_MSG_SEND2, GORSEPLUMB_CHECK_RECEIVER_RX_SMALL) == 14);
     CHECK(gorseplumb_check_number(0x84000099, GORSEPLUMB_CHECK_FUNCTION_UNKNOWN) == 1);
-    CHECK(gorseplumb_check_number(FFA_RUN | WIDE, GORSEPLUMB_CHECK_FUNCTION_UNKNOWN) == 1);
+    CHECK(gorseplumb_check_number(FFA_RUN | WITH_64_BITS, GORSEPLUMB_CHECK_FUNCTION_UNKNOWN) == 1);
     CHECK(gorseplumb_check_number(FFA_ID_GET, GORSEPLUMB_CHECK_FUNCTION_UNKNOWN) == 0);
     CHECK(gorseplumb_check_number(FFA_MEM_LEND, GORSEPLUMB_CHECK_NOT_HELD) == 0 &&
           gorseplumb_check_number(FFA_MEM_LEND, 0) == 0);
