@@ -1,8 +1,9 @@
 /* SPDX-License-Identifier: MIT OR Apache-2.0 */
-/* Boots a machine, lets the normal world store and load a byte, and runs the partition. */
+/* Boots a machine, lets the normal world store and load a byte, runs a partition, and says why that may not run another. */
 #include <inttypes.h>
 #include <stdio.h>
 #include "gorseplumb.h"
+#include "gorseplumb_explain.h"
 #include "gorseplumb_ffa.h"
 #include "machine.toml.h"
 
@@ -17,5 +18,8 @@ int main(void) {
     printf("loaded %02" PRIX64 "\n", gorseplumb_load(&machine, 0x40010000, 1).value);
     struct gorseplumb_outcome told = GORSEPLUMB_CALL(&machine, GORSEPLUMB_FFA_RUN, gorseplumb_pair(0x8001, 0));
     printf("runner %04" PRIX32 " sees %s\n", told.runner, gorseplumb_call_name(gorseplumb_function_of(told)));
+    struct gorseplumb_registers other = GORSEPLUMB_REGISTERS(GORSEPLUMB_FFA_RUN, gorseplumb_pair(0x8002, 0));
+    char reason[256];
+    if (gorseplumb_explain_call(&machine, &other, reason, sizeof reason) != 0) printf("refused: %s\n", reason);
     return gorseplumb_end(&machine) == GORSEPLUMB_OK ? 0 : 1;
 }
