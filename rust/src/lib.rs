@@ -124,10 +124,12 @@ mod bytes;
 mod certificate;
 mod checks;
 mod codes;
+mod descriptors;
 mod functions;
 #[cfg(feature = "heap")]
 mod heap;
 mod hexadecimal;
+mod layout;
 mod lists;
 mod machine;
 mod manifest;
@@ -143,7 +145,12 @@ mod settling;
 pub use certificate::{AuditError, Grant, PageRun};
 pub use checks::{Check, Flaw};
 pub use codes::{AccessError, BootError, Cause, ErrorCode, Fault, NoEndpoint};
+pub use descriptors::{
+    DataAccess, DescriptorError, InstructionAccess, Kind, Offer, OfferRoom, PageRange, Receiver, Relinquish, Retrieve,
+    RetrieveResponse, MOST_DESCRIPTOR, MOST_RANGES, MOST_RECEIVERS,
+};
 pub use functions::Function;
+pub use layout::DescriptorBytes;
 pub use lists::{Operation, Outcome, Told};
 pub use machine::{Change, Description, Machine, Range};
 pub use manifest::{

@@ -8,6 +8,7 @@ use gorseplumb::{registers, About, Check, ErrorCode, Flaw, Grant, Id, Machine, O
 use gorseplumb::{
     AccessReason, CallReason, Endpoint, Fault, Manifest, Properties, Region, Rights, Settling, Size, Version,
 };
+use gorseplumb::{Kind, Offer, PageRange, Receiver, Relinquish, Retrieve, RetrieveResponse};
 
 fn shows(what: impl std::fmt::Debug, text: &str) {
     assert_eq!(format!("{what:?}"), text);
@@ -96,4 +97,34 @@ fn reasons() {
         About::Field { flaw: Flaw::AccessPermissions, index: 0, first: 50, size: 1, value: Some(0xF) },
         "Field { flaw: AccessPermissions, index: 0, first: 50, size: 1, value: Some(0xF) }",
     );
+}
+
+#[test]
+fn descriptors() {
+    let ranges = [PageRange::new(0x4001_0000, 16)];
+    shows(ranges[0], "PageRange { address: 0x40010000, pages: 16 }");
+    let to = [Receiver::ro(Id(0x8001))];
+    let receiver = "Receiver { endpoint: Id(0x8001), data: Ro, instructions: Unspecified }";
+    let range = "PageRange { address: 0x40010000, pages: 16 }";
+    let offer = Offer { tag: 0xAB, ..Offer::new(Kind::Lend, Id(0), &to, &ranges) };
+    let told =
+        format!("kind: Lend, sender: Id(0x0), receivers: [{receiver}], ranges: [{range}], zero: false, tag: 0xAB");
+    shows(offer, &format!("Offer {{ {told} }}"));
+    let asked = Retrieve::new(Id(0), 0x8001_0000_0001, to[0]);
+    let told = format!("sender: Id(0x0), handle: 0x800100000001, receiver: {receiver}, tag: 0x0, kind: None");
+    shows(asked, &format!("Retrieve {{ {told} }}"));
+    let given_up = Relinquish::new(0xA, Id(0x8001));
+    shows(given_up, "Relinquish { handle: 0xA, endpoint: Id(0x8001), zero: false }");
+    let bytes = "0xA, 0x0, 0x0, 0x0, 0x0, 0x0, 0x0, 0x0, 0x0, 0x0, 0x0, 0x0, 0x1, 0x0, 0x0, 0x0, 0x1, 0x80";
+    shows(given_up.to_bytes(), &format!("[{bytes}]"));
+    // As docs/MEMORY.md lays a compact response out.
+    let mut words = [0_u64; 10];
+    words[..5].copy_from_slice(&[0x11_002F_0000, 0xA, 0, 0x1_0000_0000, 0x30_0006_8001]);
+    words[6..9].copy_from_slice(&[0x1_0000_0010, 0, 0x4001_0000]);
+    words[9] = 16;
+    let response: Vec<u8> = words.iter().flat_map(|word| word.to_le_bytes()).collect();
+    let receiver = "Receiver { endpoint: Id(0x8001), data: Rw, instructions: Nx }";
+    let told = format!("receiver: {receiver}, ranges: [{range}], zeroed: true, tag: 0x0");
+    let response = RetrieveResponse::read(&response, Version::Compact).unwrap();
+    shows(response, &format!("RetrieveResponse {{ kind: Lend, sender: Id(0x0), handle: 0xA, {told} }}"));
 }
