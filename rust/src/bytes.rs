@@ -37,7 +37,7 @@ impl<R: Ram> Machine<R> {
         let (mut at, mut rest) = (address, bytes);
         while !rest.is_empty() {
             let size = widest(at, rest.len());
-            let value = self.load(at, size).map_err(|fault| AccessReason { address: at, fault, obstacle: None })?;
+            let value = self.load_or_why(at, size)?;
             let (loaded, behind) = rest.split_at_mut(size as usize);
             loaded.copy_from_slice(&value.to_le_bytes()[..size as usize]);
             at += size as u64;
@@ -59,11 +59,7 @@ impl<R: Ram> Machine<R> {
             let (stored, behind) = rest.split_at(size as usize);
             let mut value = [0; 8];
             value[..size as usize].copy_from_slice(stored);
-            self.store(at, size, u64::from_le_bytes(value)).map_err(|fault| AccessReason {
-                address: at,
-                fault,
-                obstacle: None,
-            })?;
+            self.store_or_why(at, size, u64::from_le_bytes(value))?;
             at += size as u64;
             rest = behind;
         }

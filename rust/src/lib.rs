@@ -125,6 +125,7 @@ mod certificate;
 mod checks;
 mod codes;
 mod descriptors;
+mod explaining;
 mod functions;
 #[cfg(feature = "heap")]
 mod heap;
@@ -149,6 +150,7 @@ pub use descriptors::{
     DataAccess, DescriptorError, InstructionAccess, Kind, Offer, OfferRoom, PageRange, Receiver, Relinquish, Retrieve,
     RetrieveResponse, MOST_DESCRIPTOR, MOST_RANGES, MOST_RECEIVERS,
 };
+pub use explaining::CallError;
 pub use functions::Function;
 pub use layout::DescriptorBytes;
 pub use lists::{Operation, Outcome, Told};

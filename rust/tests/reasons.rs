@@ -6,7 +6,9 @@ use common::explained::{briefly, explain};
 use common::machines::{MACHINE, PARTITIONS};
 use common::refusals::{rows, Row};
 use common::{example, generated, play, play_line, ram, refusals, top};
-use gorseplumb::{call_name, raw, registers, About, Check, ErrorCode, Fault, Flaw, Id, Machine, Obstacle, Size};
+use gorseplumb::{
+    call_name, raw, registers, About, CallError, Check, ErrorCode, Fault, Flaw, Function, Id, Machine, Obstacle, Size,
+};
 use std::ffi::CStr;
 
 #[test]
@@ -57,6 +59,8 @@ fn told_of(row: &Row) {
     assert_eq!(reason.check.number_in(given[0] as u32), Some(number as u32), "{call} {number}");
     assert_eq!(machine.call(&given).error(), Some(reason.error), "{call} {number}");
     assert_eq!(machine.why_call(&given), Some(reason), "{call} {number}");
+    let refused = CallError { function: given[0] as u32, error: reason.error, reason: Some(reason) };
+    assert_eq!(machine.call_or_why(&given), Err(refused), "{call} {number}");
     assert_eq!(call_name(given[0] as u32), Some(call).filter(|call| call.starts_with("FFA_")));
 }
 
@@ -111,6 +115,38 @@ fn why_accesses_fault() {
     let reason = machine.why_load(0x4020_0000, Size::B1).unwrap();
     assert_eq!(reason.address, 0x4020_0000);
     assert_eq!(reason.to_string(), "translation fault at 40200000: the page belongs to 8002");
+}
+
+#[test]
+fn operations_that_say_why() {
+    let (mut machine, mut plain) = (Machine::boot(&PARTITIONS).unwrap(), Machine::boot(&PARTITIONS).unwrap());
+    let words = |refused: &dyn std::error::Error| refused.to_string();
+    for (address, size) in [(0x4000_0000, Size::B8), (0x4001_0001, Size::B2), (0x1_0000_0000, Size::B1)] {
+        let refused = machine.load_or_why(address, size).unwrap_err();
+        assert_eq!((Some(refused), Err(refused.fault)), (plain.why_load(address, size), plain.load(address, size)));
+        let refused = machine.store_or_why(address, size, 0).unwrap_err();
+        assert_eq!(
+            (Some(refused), Err(refused.fault)),
+            (plain.why_store(address, size), plain.store(address, size, 0))
+        );
+        let refused = machine.fetch_or_why(address).unwrap_err();
+        assert_eq!((Some(refused), Err(refused.fault)), (plain.why_fetch(address), plain.fetch(address)));
+    }
+    let refused = machine.store_or_why(0x4020_0000, Size::B1, 0).unwrap_err();
+    assert_eq!(words(&refused), "translation fault at 40200000: the page belongs to 8002");
+    assert_eq!(machine.store_or_why(0x4001_0000, Size::B4, 42), Ok(()));
+    assert_eq!(machine.load_or_why(0x4001_0000, Size::B4), Ok(42));
+    let refused = machine.call_or_why(&registers([0x8400_0083])).unwrap_err();
+    let check = "no such function is served: register 0 is 84000083";
+    assert_eq!(words(&refused), format!("call 84000083 is refused: NOT_SUPPORTED: {check}"));
+    let refused = machine.call_or_why(&Function::MemReclaim.with([1, 0x8001])).unwrap_err();
+    let check = "no open transaction of the caller has the handle: handle 0000800100000001";
+    assert_eq!(words(&refused), format!("FFA_MEM_RECLAIM is refused: INVALID_PARAMETERS: {check}"));
+    let answer = machine.call_or_why(&Function::Run.with([0x8001_0000])).unwrap();
+    assert_eq!(answer.runner(), Id(0x8001));
+    assert_eq!(machine.fetch_or_why(0x4002_0000), Ok(0));
+    let shown = format!("{:?}", CallError { reason: None, ..refused });
+    assert_eq!(shown, "CallError { function: 0x84000077, error: InvalidParameters, reason: None }");
 }
 
 fn text(name: *const u8) -> String {
