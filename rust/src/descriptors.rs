@@ -189,7 +189,8 @@ impl std::error::Error for DescriptorError {
     }
 }
 
-/// What a sender offers by FFA_MEM_SHARE, FFA_MEM_LEND or FFA_MEM_DONATE.
+/// What a sender offers by FFA_MEM_SHARE, FFA_MEM_LEND or FFA_MEM_DONATE. [`Machine::send`](crate::Machine::send) makes
+/// the call.
 ///
 /// ```
 /// # use gorseplumb::*;
@@ -438,6 +439,31 @@ impl fmt::Debug for Retrieve {
 }
 
 /// What FFA_MEM_RETRIEVE_RESP leaves in RX.
+///
+/// ```
+/// # use gorseplumb::*;
+/// # const RAM: u32 = 0x4000_0000;
+/// # const DATA: &[Region] = &[Region::new(RAM + 0x10000, 16, Rights::Rw)];
+/// # const MANIFEST: Manifest = Manifest::new(RAM, 1, &[
+/// #     Endpoint::normal_world(Version::V1_1, Properties::NONE, DATA),
+/// #     Endpoint::partition([1; 16], Version::V1_1, Properties::NONE, &[Region::new(RAM + 0x20000, 16, Rights::Rw)]),
+/// # ]);
+/// # let mut machine = Machine::boot(&MANIFEST)?;
+/// # machine.call(&Function::RxtxMap.with([0x4001_E000, 0x4001_F000, 1])).done()?;
+/// # let (receivers, ranges) = ([Receiver::rw(Id(0x8001))], [PageRange::new(0x4001_0000, 2)]);
+/// # let lend = Offer::new(Kind::Lend, Id::NORMAL_WORLD, &receivers, &ranges);
+/// # let handle = machine.send(&lend, 0x4001_E000, Version::V1_1)?.handle().unwrap();
+/// # machine.call(&Function::Run.with([0x8001_0000])).done()?;
+/// # let (tx, rx) = (0x4002_E000, 0x4002_F000);
+/// # machine.call(&Function::RxtxMap.with([tx, rx, 1])).done()?;
+/// let asked = Retrieve::new(Id::NORMAL_WORLD, handle, Receiver::new(Id(0x8001)));
+/// machine.send(&asked, tx, Version::V1_1)?;
+/// let mut page = Page::ZERO;
+/// machine.load_bytes(rx, &mut page.0)?;
+/// let response = RetrieveResponse::read(&page.0, Version::V1_1)?;
+/// assert_eq!((response.receiver.data, response.ranges()), (DataAccess::Rw, &[PageRange::new(0x4001_0000, 2)][..]));
+/// # Ok::<(), Box<dyn std::error::Error>>(())
+/// ```
 #[derive(Clone, PartialEq, Eq)]
 pub struct RetrieveResponse {
     /// The transaction's kind.

@@ -141,6 +141,7 @@ mod questions;
 mod ram;
 pub mod raw;
 mod reasons;
+mod sending;
 mod settling;
 
 pub use certificate::{AuditError, Grant, PageRun};
@@ -163,6 +164,7 @@ pub use names::{call_name, declarations};
 pub use operation::{registers, Answer, Registers, Size};
 pub use ram::{Heap, Lent, Page, Ram, PAGE_SIZE};
 pub use reasons::{About, AccessReason, CallReason, Obstacle};
+pub use sending::{Descriptor, SendError};
 #[doc(hidden)]
 pub use settling::settling;
 pub use settling::Settling;

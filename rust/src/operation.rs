@@ -66,6 +66,7 @@ impl Size {
 pub struct Answer(raw::Outcome);
 
 const FFA_ERROR: u32 = 0x8400_0060;
+const FFA_SUCCESS: u32 = 0x8400_0061;
 
 impl Answer {
     /// Who runs next. It may be another than who called.
@@ -88,6 +89,14 @@ impl Answer {
     pub fn error(&self) -> Option<ErrorCode> {
         let [w0, _, w2, ..] = self.0.x;
         (w0 as u32 == FFA_ERROR).then(|| known(ErrorCode::of(w2 as i32)))
+    }
+
+    /// The handle in w2 and w3, where an offer of memory is answered. None: this is no FFA_SUCCESS.
+    #[inline]
+    #[must_use]
+    pub fn handle(&self) -> Option<u64> {
+        let [w0, _, w2, w3, ..] = self.0.x;
+        (w0 as u32 == FFA_SUCCESS).then_some(u64::from(w2 as u32) | w3 << 32)
     }
 
     /// The answer to a call that was done, or the code of one that is refused.
