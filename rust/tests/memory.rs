@@ -8,6 +8,7 @@ mod common;
 use common::machines::MACHINE;
 use common::{example, ram};
 use gorseplumb::{registers, BootError, Lent, Machine, Ram, Size};
+use gorseplumb::{Function, Id, Kind, Offer, OfferRoom, PageRange, Receiver, Version};
 use std::alloc::{GlobalAlloc, Layout, System};
 use std::cell::Cell;
 
@@ -129,4 +130,19 @@ fn an_operation_asks_for_nothing() {
         machine.load(0x4001_0000, Size::B1).unwrap()
     });
     assert_eq!(asked, 0);
+}
+
+#[test]
+fn a_descriptor_asks_for_nothing() {
+    let mut machine = Machine::boot(&MACHINE).unwrap();
+    let tx = 0x4001_E000;
+    machine.call(&Function::RxtxMap.with([tx, tx + 0x1000, 1])).done().unwrap();
+    let (receivers, ranges) = ([Receiver::rw(Id(0x8001))], [PageRange::new(0x4001_0000, 2)]);
+    let (handle, asked) = with_refused(1, || {
+        let lend = Offer::new(Kind::Lend, Id::NORMAL_WORLD, &receivers, &ranges);
+        let bytes = lend.to_bytes(Version::Compact).unwrap();
+        assert_eq!(Offer::read(&bytes, Kind::Lend, Version::Compact, &mut OfferRoom::new()), Ok(lend));
+        machine.send(&lend, tx, Version::V1_1).unwrap().handle()
+    });
+    assert_eq!((handle, asked), (Some(1), 0));
 }

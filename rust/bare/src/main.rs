@@ -10,8 +10,10 @@ mod memory;
 
 use core::panic::PanicInfo;
 use core::sync::atomic::{AtomicUsize, Ordering::Relaxed};
-use gorseplumb::{registers, settle_by, Endpoint, Id, Lent, Machine, Manifest, Page, Properties, Ram, Region};
-use gorseplumb::{Rights, Settling, Size, Version};
+use gorseplumb::{
+    settle_by, Endpoint, Function, Id, Kind, Lent, Machine, Manifest, Offer, Page, PageRange, Properties, Ram,
+    Receiver, Region, Registers, Relinquish, Retrieve, RetrieveResponse, Rights, Settling, Size, Version,
+};
 
 #[link(name = "c")]
 extern "C" {
@@ -22,6 +24,7 @@ const RAM: u32 = 0x4000_0000;
 const PAGE: u64 = 0x4001_0000;
 const TX: u64 = 0x4001_E000;
 const PARTITIONS_TX: u64 = 0x4002_E000;
+const PARTITIONS_RX: u64 = 0x4002_F000;
 const PARTITION: Id = Id::at(1);
 
 const MANIFEST: Manifest = Manifest::new(
@@ -63,31 +66,31 @@ fn stop(_: &PanicInfo<'_>) -> ! {
 extern "C" fn rust_eh_personality() {}
 
 /// A call that is done, or nothing.
-fn done<R: Ram, const N: usize>(machine: &mut Machine<R>, given: [u64; N]) -> Option<()> {
-    machine.call(&registers(given)).done().ok().map(drop)
+fn done<R: Ram>(machine: &mut Machine<R>, given: Registers) -> Option<()> {
+    machine.call(&given).done().ok().map(drop)
 }
 
-fn stores<R: Ram>(machine: &mut Machine<R>, buffer: u64, words: &[(u64, u64)]) -> Option<()> {
-    words.iter().try_for_each(|(place, word)| machine.store(buffer + place, Size::B8, *word).ok())
+/// The normal world shares a page, and the partition retrieves it. What is there is the handle.
+fn share<R: Ram>(machine: &mut Machine<R>) -> Option<u64> {
+    done(machine, Function::RxtxMap.with([TX, TX + 0x1000, 1]))?;
+    let (receivers, ranges) = ([Receiver::rw(PARTITION)], [PageRange::new(PAGE, 1)]);
+    let offer = Offer::new(Kind::Share, Id::NORMAL_WORLD, &receivers, &ranges);
+    let handle = machine.send(&offer, TX, Version::V1_1).ok()?.handle()?;
+    done(machine, Function::Run.with([0x8001_0000]))?;
+    done(machine, Function::RxtxMap.with([PARTITIONS_TX, PARTITIONS_RX, 1]))?;
+    let asked = Retrieve::new(Id::NORMAL_WORLD, handle, Receiver::new(PARTITION));
+    machine.send(&asked, PARTITIONS_TX, Version::V1_1).ok()?;
+    machine.store(PAGE, Size::B1, 42).ok()?;
+    Some(handle)
 }
 
-/// The normal world shares a page, and the partition retrieves it.
-fn share<R: Ram>(machine: &mut Machine<R>) -> Option<()> {
-    done(machine, [0x8400_0066, TX, TX + 0x1000, 1])?;
-    stores(machine, TX, &[(0, 0x2F_0000), (0x18, 0x1_0000_0010), (0x20, 0x30), (0x30, 0x40_0002_8001)])?;
-    stores(machine, TX, &[(0x40, 0x1_0000_0001), (0x50, PAGE), (0x58, 1)])?;
-    done(machine, [0x8400_0073, 0x60, 0x60])?;
-    done(machine, [0x8400_006D, 0x8001_0000])?;
-    done(machine, [0x8400_0066, PARTITIONS_TX, PARTITIONS_TX + 0x1000, 1])?;
-    stores(machine, PARTITIONS_TX, &[(0, 0), (8, 1), (0x18, 0x1_0000_0010), (0x20, 0x30), (0x30, 0x8001)])?;
-    done(machine, [0x8400_0074, 0x40, 0x40])?;
-    machine.store(PAGE, Size::B1, 42).ok()
-}
-
-/// The partition gives the page up.
-fn give_up<R: Ram>(machine: &mut Machine<R>) -> Option<()> {
-    stores(machine, PARTITIONS_TX, &[(0, 1), (8, 0x1_0000_0000), (0x10, 0x8001)])?;
-    done(machine, [0x8400_0076])
+/// Whether the partition is told of the page in its RX.
+fn is_told<R: Ram>(machine: &mut Machine<R>) -> bool {
+    let mut bytes = [0; 96];
+    if machine.load_bytes(PARTITIONS_RX, &mut bytes).is_err() {
+        return false;
+    }
+    RetrieveResponse::read(&bytes, Version::V1_1).map_or(false, |told| told.ranges() == [PageRange::new(PAGE, 1)])
 }
 
 /// The step that went otherwise, if one did.
@@ -95,11 +98,11 @@ fn play(pages: &mut [Page]) -> Result<(), u8> {
     let mut lent = Lent::new(pages).map_err(|_| 1)?;
     let asked = memory::asked();
     let mut machine = lent.boot(&MANIFEST).map_err(|_| 2)?;
-    share(&mut machine).ok_or(3)?;
-    if SETTLED.load(Relaxed) != 0 || machine.access(PARTITION, 16) != Some(Rights::Rw) {
+    let handle = share(&mut machine).ok_or(3)?;
+    if SETTLED.load(Relaxed) != 0 || machine.access(PARTITION, 16) != Some(Rights::Rw) || !is_told(&mut machine) {
         return Err(4);
     }
-    give_up(&mut machine).ok_or(5)?;
+    machine.send(&Relinquish::new(handle, PARTITION), PARTITIONS_TX, Version::V1_1).map_err(|_| 5)?;
     if SETTLED.load(Relaxed) != 1 || LAST.load(Relaxed) as u64 != PAGE || machine.access(PARTITION, 16).is_some() {
         return Err(6);
     }
