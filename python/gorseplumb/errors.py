@@ -107,7 +107,7 @@ class AccessFault(GorseplumbError):
 
     def __init__(self, fault: Fault, address: int, endpoint: int, reason: Reason | None = None) -> None:
         digits = 8 if address >> 32 == 0 else 16
-        words = f": {reason}" if reason is not None else ""
+        words = f", which {reason.words}" if reason is not None else ""
         super().__init__(f"{fault.text} fault of {endpoint:04X} at {address:0{digits}X}{words}")
         self.fault, self.address, self.endpoint, self.reason = fault, address, endpoint, reason
 
@@ -141,7 +141,8 @@ class CallRefused(GorseplumbError):
         name = code.name if isinstance(code, ErrorCode) else f"error {code}"
         by = f"{caller:04X}: " if caller is not None else ""
         asked = f"{call_name(x0)}: " if x0 is not None else ""
-        super().__init__(f"{by}{asked}{name}" + (f": {reason}" if reason is not None else ""))
+        told = reason if reason is None or x0 is None else reason.words  # its call is named once
+        super().__init__(f"{by}{asked}{name}" + (f": {told}" if told is not None else ""))
         self.code, self.x0, self.caller, self.reason = code, x0, caller, reason
 
     @property

@@ -25,10 +25,10 @@ class Hindrance:
     def __str__(self) -> str:
         return {
             Obstacle.NONE: "",
-            Obstacle.OUTSIDE_RAM: " is outside RAM",
-            Obstacle.MANAGERS_PAGE: " belongs to the manager",
-            Obstacle.OWNED_BY: f" belongs to {self.owner:04X}",
-            Obstacle.IN_TRANSACTION: f" is in the open transaction {self.transaction:016X}",
+            Obstacle.OUTSIDE_RAM: "is outside RAM",
+            Obstacle.MANAGERS_PAGE: "belongs to the manager",
+            Obstacle.OWNED_BY: f"belongs to {self.owner:04X}",
+            Obstacle.IN_TRANSACTION: f"is in the open transaction {self.transaction:016X}",
         }[self.obstacle]
 
 
@@ -68,27 +68,34 @@ class Reason:
     __repr__ = by_fields
 
     def __str__(self) -> str:
+        if not isinstance(self.operation, Call):
+            return f"{_address(self.operation.address)} {self.words}".rstrip()
+        x0 = self.operation.x[0]
+        return f"{call_name(x0)} {self.words}" if Function.of(x0) is not None else self.words
+
+    @property
+    def words(self) -> str:
+        """The same without the call's name, or the address, that it begins with."""
         if isinstance(self.operation, Call):
-            return _call_text(self.operation, self)
-        return _access_text(self.operation, self)
+            return _call_words(self.operation, self)
+        return _access_words(self.operation, self)
 
 
 def _address(address: int) -> str:
     return f"{address:08X}" if address >> 32 == 0 else f"{address:016X}"
 
 
-def _call_text(call: Call, reason: Reason) -> str:
-    name = f"{call_name(call.x[0])} " if Function.of(call.x[0]) is not None else ""
+def _call_words(call: Call, reason: Reason) -> str:
     number = f"check {reason.check_number}: " if reason.check_number else ""
     words = reason.check.words if reason.check is not None else ""
     told = _subject_text(call, reason)
-    return f"{name}{number}{words}" + (f": {told}" if told else "")
+    return f"{number}{words}" + (f": {told}" if told else "")
 
 
 def _subject_text(call: Call, reason: Reason) -> str:
     it = reason.subject
     if it.about is About.PAGE:
-        return f"{_address(it.address)}{reason.hindrance}"
+        return f"{_address(it.address)} {reason.hindrance}".rstrip()
     if it.about is About.ENDPOINT:
         return f"endpoint {it.endpoint:04X}"
     if it.about is About.HANDLE:
@@ -111,14 +118,14 @@ def _field_text(it: Subject) -> str:
     return f"{words}: {place}{value}"
 
 
-def _access_text(operation: Load | Store | Fetch, reason: Reason) -> str:
+def _access_words(operation: Load | Store | Fetch, reason: Reason) -> str:
     size = 4 if isinstance(operation, Fetch) else operation.size
     verb = {Load: "read", Store: "written", Fetch: "executed"}[type(operation)]
     words = {
-        Fault.TRANSLATION: str(reason.hindrance) or " is above FFFFFFFF",
-        Fault.PERMISSION: f" may not be {verb}",
-        Fault.ALIGNMENT: f" is no multiple of {size}",
-        Fault.ACCESS_FLAG: " has no access flag",
-        Fault.OUTSIDE_RAM: " leads out of RAM",
+        Fault.TRANSLATION: str(reason.hindrance) or "is above FFFFFFFF",
+        Fault.PERMISSION: f"may not be {verb}",
+        Fault.ALIGNMENT: f"is no multiple of {size}",
+        Fault.ACCESS_FLAG: "has no access flag",
+        Fault.OUTSIDE_RAM: "leads out of RAM",
     }
-    return _address(operation.address) + (words[reason.fault] if reason.fault is not None else "")
+    return words[reason.fault] if reason.fault is not None else ""

@@ -11,6 +11,7 @@ from gorseplumb import About, AccessFault, Call, Check, DataAccess, Denied, Erro
 from gorseplumb import Function, Hindrance, InstructionAccess, InvalidParameters, Kind, Load, Machine
 from gorseplumb import MalformedDescriptor, Obstacle, Offer, Operation, PageRange, Reason, Receiver, Relinquish
 from gorseplumb import Retrieve, Store, Subject, play
+from gorseplumb.errors import call_refused
 
 NOBODY = Hindrance(Obstacle.NONE)
 MANIFEST = EXAMPLES / "partitions.toml"
@@ -94,11 +95,17 @@ def test_prints_what_the_program_explains(program: Program) -> None:
 
 
 def test_raises_with_the_reason(partitions: Machine) -> None:
-    with pytest.raises(InvalidParameters, match="0000: FFA_RUN: INVALID_PARAMETERS: FFA_RUN check 2: ") as wrong:
+    words = "check 2: no partition has the target's identifier: endpoint 8009"
+    with pytest.raises(InvalidParameters, match=f"^0000: FFA_RUN: INVALID_PARAMETERS: {words}$") as wrong:
         partitions.do(Function.FFA_RUN, partition=0x8009)
     assert wrong.value.check is Check.TARGET_UNKNOWN
-    with pytest.raises(AccessFault, match="at 40020000: 40020000 belongs to 8001") as fault:
+    assert str(wrong.value.reason) == f"FFA_RUN {words}"
+    assert str(call_refused(wrong.value.code, reason=wrong.value.reason)) == f"INVALID_PARAMETERS: FFA_RUN {words}"
+    with pytest.raises(AccessFault, match="^translation fault of 0000 at 40020000, which belongs to 8001$") as fault:
         partitions.read(0x40020000, 1)
+    assert str(fault.value.reason) == "40020000 belongs to 8001"
+    with pytest.raises(AccessFault, match="at 0000000100000000, which is above FFFFFFFF$"):
+        partitions.write(1 << 32, b"x")
     assert fault.value.reason is not None
     assert fault.value.reason.hindrance == Hindrance(Obstacle.OWNED_BY, 0x8001)
     with pytest.raises(Denied) as denied:
