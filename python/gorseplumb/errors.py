@@ -6,6 +6,7 @@ from typing import TYPE_CHECKING
 
 from .checks import Check, Flaw
 from .codes import Cause, ErrorCode, Fault, Function
+from .hexadecimal import address_text, short_text
 
 if TYPE_CHECKING:
     from .reasons import Reason
@@ -96,9 +97,9 @@ class MalformedDescriptor(GorseplumbError, ValueError):
 def flaw_text(flaw: Flaw, index: int) -> str:
     """The words of a flaw, behind the access descriptor or the range of which they are."""
     if Flaw.ACCESS_PERMISSIONS <= flaw <= Flaw.ACCESS_RECEIVER_TWICE:
-        return f"access descriptor {index}: {flaw.words}"
+        return f"access descriptor {short_text(index)}: {flaw.words}"
     if Flaw.RANGE_EMPTY <= flaw <= Flaw.RANGE_OVERLAP:
-        return f"range {index}: {flaw.words}"
+        return f"range {short_text(index)}: {flaw.words}"
     return flaw.words
 
 
@@ -106,9 +107,8 @@ class AccessFault(GorseplumbError):
     """A load, a store or a fetch that wasn't done. There is a class for each kind of fault."""
 
     def __init__(self, fault: Fault, address: int, endpoint: int, reason: Reason | None = None) -> None:
-        digits = 8 if address >> 32 == 0 else 16
         words = f", which {reason.words}" if reason is not None else ""
-        super().__init__(f"{fault.text} fault of {endpoint:04X} at {address:0{digits}X}{words}")
+        super().__init__(f"{fault.text} fault of {endpoint:04X} at {address_text(address)}{words}")
         self.fault, self.address, self.endpoint, self.reason = fault, address, endpoint, reason
 
 

@@ -21,6 +21,18 @@ def by_fields(value: Any) -> str:
     return f"{type(value).__qualname__}({', '.join(told)})"
 
 
+def address_text(address: int) -> str:
+    """An address or a register, as the program prints it: in 16 digits where 8 are too few."""
+    return f"{address:08X}" if address >> 32 == 0 else f"{address:016X}"
+
+
+def short_text(number: int) -> str:
+    """A bit, an index or a place in a descriptor, as the program prints it: in two digits where they are enough."""
+    if number >> 16:
+        return address_text(number)
+    return f"{number:04X}" if number >> 8 else f"{number:02X}"
+
+
 def shown(value: object) -> str:
     """A field's value, and what is in it where it is a tuple, a list or a mapping of the language's own."""
     if isinstance(value, Enum):

@@ -7,7 +7,7 @@ from dataclasses import dataclass, field
 from .checks import Check, Flaw
 from .codes import MANAGER, About, ErrorCode, Fault, Function, Obstacle
 from .errors import call_name, flaw_text
-from .hexadecimal import DECIMAL, by_fields
+from .hexadecimal import DECIMAL, address_text, by_fields, short_text
 from .outcomes import Call, Fetch, Load, Operation, Store
 from .registers import is_read_whole
 
@@ -54,7 +54,8 @@ class Subject:
 
 @dataclass(frozen=True, slots=True)
 class Reason:
-    """Why an operation is refused. `str` is what the program says of it with `--explain`."""
+    """Why an operation is refused. `str` is what the program says of it with `--explain`, up to what is wanted
+    instead."""
 
     operation: Operation
     fault: Fault | None
@@ -69,7 +70,7 @@ class Reason:
 
     def __str__(self) -> str:
         if not isinstance(self.operation, Call):
-            return f"{_address(self.operation.address)} {self.words}".rstrip()
+            return f"{address_text(self.operation.address)} {self.words}".rstrip()
         x0 = self.operation.x[0]
         return f"{call_name(x0)} {self.words}" if Function.of(x0) is not None else self.words
 
@@ -79,10 +80,6 @@ class Reason:
         if isinstance(self.operation, Call):
             return _call_words(self.operation, self)
         return _access_words(self.operation, self)
-
-
-def _address(address: int) -> str:
-    return f"{address:08X}" if address >> 32 == 0 else f"{address:016X}"
 
 
 def _call_words(call: Call, reason: Reason) -> str:
@@ -95,25 +92,25 @@ def _call_words(call: Call, reason: Reason) -> str:
 def _subject_text(call: Call, reason: Reason) -> str:
     it = reason.subject
     if it.about is About.PAGE:
-        return f"{_address(it.address)} {reason.hindrance}".rstrip()
+        return f"{address_text(it.address)} {reason.hindrance}".rstrip()
     if it.about is About.ENDPOINT:
         return f"endpoint {it.endpoint:04X}"
     if it.about is About.HANDLE:
         return f"handle {it.handle:016X}"
     if it.about is About.REGISTER:
         letter = "x" if is_read_whole(call.x[0], it.number) else "w"
-        return f"{letter}{it.number} is {_address(it.value or 0)}"
+        return f"{letter}{it.number} is {address_text(it.value or 0)}"
     if it.about is About.BIT:
-        return f"bit {it.number}"
+        return f"bit {short_text(it.number)}"
     return _field_text(it) if it.about is About.FIELD else ""
 
 
 def _field_text(it: Subject) -> str:
     words = flaw_text(it.flaw, it.number) if it.flaw is not None else ""
     if it.size <= 1:
-        place, verb = f"byte {it.first}", "is"
+        place, verb = f"byte {short_text(it.first)}", "is"
     else:
-        place, verb = f"bytes {it.first} to {it.first + it.size - 1}", "are"
+        place, verb = f"bytes {short_text(it.first)} to {short_text(it.first + it.size - 1)}", "are"
     value = f" {verb} {it.value:0{2 * it.size}X}" if it.value is not None else ""
     return f"{words}: {place}{value}"
 

@@ -189,7 +189,7 @@ def test_names_the_first_condition_that_a_relinquish_breaks(data: bytes, flaw: s
 def test_refuses_what_no_descriptor_can_say() -> None:
     with pytest.raises(MalformedDescriptor, match="a flag is set that this call does not have"):
         Offer(Kind.SHARE, 1, (Receiver(2, RW),), (PageRange(4096, 1),), zero=True).to_bytes()
-    with pytest.raises(MalformedDescriptor, match="access descriptor 0: it names the sender"):
+    with pytest.raises(MalformedDescriptor, match="access descriptor 00: it names the sender"):
         Offer(Kind.LEND, 1, (Receiver(1, RW),), (PageRange(4096, 1),)).to_bytes()
     with pytest.raises(ValueError, match="doesn't hold its number"):
         Offer(Kind.LEND, 0x10000, (Receiver(1, RW),), (PageRange(4096, 1),)).to_bytes()

@@ -38,14 +38,17 @@ def test_has_the_programs_words() -> None:
     assert refused(wide, Check.TX_MISPLACED, 3, x1).endswith("x1 is 000000014001E000")
     field = Subject(About.FIELD, number=0, flaw=Flaw.ACCESS_PERMISSIONS, value=0x0F, first=50, size=1)
     assert refused(lend, Check.DESCRIPTOR_MALFORMED, 6, field).endswith(
-        "access descriptor 0: the permissions are none that this call may grant: byte 50 is 0F"
+        "access descriptor 00: the permissions are none that this call may grant: byte 32 is 0F"
     )
+    field = Subject(About.FIELD, number=10, flaw=Flaw.RANGE_RESERVED, value=1, first=252, size=8)
+    told = "range 0A: its reserved bytes are not 0: bytes FC to 0103 are 0000000000000001"
+    assert refused(lend, Check.DESCRIPTOR_MALFORMED, 6, field).endswith(told)
     unknown = Call((0x84000083,))
     w0 = Subject(About.REGISTER, number=0, value=0x84000083)
     assert refused(unknown, Check.FUNCTION_UNKNOWN, 1, w0) == "check 1: no such function is served: w0 is 84000083"
-    handle, bit = Subject(About.HANDLE, handle=0x0000800100000001), Subject(About.BIT, number=2)
+    handle, bit = Subject(About.HANDLE, handle=0x0000800100000001), Subject(About.BIT, number=18)
     assert refused(lend, Check.HANDLE_UNKNOWN, 7, handle).endswith(": handle 0000800100000001")
-    assert refused(lend, Check.BITS_TAKEN, 7, bit).endswith(": bit 2")
+    assert refused(lend, Check.BITS_TAKEN, 7, bit).endswith(": bit 12")
     endpoint = Subject(About.ENDPOINT, endpoint=0x8003)
     assert refused(lend, Check.RECEIVER_UNKNOWN, 8, endpoint).endswith(": endpoint 8003")
     nothing = refused(lend, Check.BUFFERS_MISSING, 1, Subject(About.NOTHING))
@@ -71,16 +74,16 @@ def test_has_the_programs_words_of_faults(
     assert str(Reason(operation, fault, None, 0, None, Subject(About.NOTHING), hindrance)) == told
 
 
-def briefly(line: str) -> str:
-    """A reason up to the words of the check, or to the fault: what is to be mended the program alone tells."""
-    if not line.startswith("# refused: "):
-        return line
-    return ": ".join(line.split(": ")[: 3 if "check " in line else 2])
+def are_alike(told: list[str], wanted: list[str]) -> bool:
+    """Whether lines are the same, where a reason need not have what the program says behind it: what is wanted instead,
+    and bytes of a message."""
+    pairs = zip(told, wanted, strict=True)
+    return all(ours == its or ours.startswith("# refused: ") and its.startswith(ours) for ours, its in pairs)
 
 
 def test_prints_the_refused_example(partitions: Machine) -> None:
-    played = [briefly(line) for line in play(partitions, EXAMPLES / "refused.trace", explain=True)]
-    assert played == [briefly(line) for line in (EXAMPLES / "refused.out").read_text().splitlines()]
+    played = list(play(partitions, EXAMPLES / "refused.trace", explain=True))
+    assert are_alike(played, (EXAMPLES / "refused.out").read_text().splitlines())
 
 
 def test_prints_what_the_program_explains(program: Program) -> None:
@@ -90,8 +93,7 @@ def test_prints_what_the_program_explains(program: Program) -> None:
         wanted = program.lines("run", "--explain", manifest, "-", text=trace)
         assert sum(line.startswith("# refused: ") for line in wanted) > 1000
         with Machine(manifest) as machine:
-            told = play(machine, trace, explain=True)
-            assert [briefly(line) for line in told] == [briefly(line) for line in wanted]
+            assert are_alike(list(play(machine, trace, explain=True)), wanted)
 
 
 def test_raises_with_the_reason(partitions: Machine) -> None:

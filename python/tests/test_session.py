@@ -99,7 +99,7 @@ def test_sends_descriptors(session: Session, program: Program, tmp_path: Path) -
     done = [line for line in path.read_text().splitlines() if not line.startswith("#")]
     assert done[-len(lines) :] == lines
     assert session.line("lend 4002E000 8002:rx 40029000+1")[0].startswith("error: a right is none of ro, rw")
-    assert session.line("lend 4002E000 8001:ro 40029000+1") == ["error: access descriptor 0: it names the sender"]
+    assert session.line("lend 4002E000 8001:ro 40029000+1") == ["error: access descriptor 00: it names the sender"]
     assert session.line("donate 40020000 8002 40029000+1")[0] == "fault permission"
     for line in ("FFA_MSG_WAIT", "FFA_RUN partition=8002", "FFA_RXTX_MAP tx=40206000 rx=40207000 pages=1"):
         session.line(line)
