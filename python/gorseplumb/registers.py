@@ -8,6 +8,7 @@ from typing import Mapping
 from .codes import ErrorCode, Function
 from .errors import call_name
 from .hexadecimal import by_fields
+from .misuse import check_member, check_number
 
 Place = tuple[tuple[int, int, int], ...]
 """Where a number stands: pieces of a register each, as (register, lowest bit, bits), the lowest piece first."""
@@ -153,8 +154,9 @@ def signature(function: Function, value: str = "", between: str = ", ") -> str:
 
 def encode(function: Function, /, **arguments: int) -> tuple[int, ...]:
     """Eight registers that make a call, of which `help(Machine.do)` has the arguments. An argument that the call
-    doesn't have, or that is missing, is a TypeError; one that may be left out is 0 then, but for `fragment`, which is
-    `length`. To write registers as they are make a `Call`."""
+    doesn't have, or that is missing, is a TypeError, as is a name or a number in a Function's place; one that may be
+    left out is 0 then, but for `fragment`, which is `length`. To write registers as they are make a `Call`."""
+    check_member("a call", function, Function)
     known, optional = places(function), _optional(function)
     unknown = [name for name in arguments if name not in known]
     if unknown:
@@ -198,6 +200,7 @@ def _read(x: tuple[int, ...], place: Place) -> int:
 
 def _write(x: list[int], place: Place, value: int, name: str) -> None:
     room = sum(bits for _, _, bits in place)
+    check_number(name, value)
     if value >> room:
         raise ValueError(f"{name} has {room} bits, and is {value:#x}")
     for register, low, bits in place:

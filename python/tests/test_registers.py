@@ -3,12 +3,13 @@
 from __future__ import annotations
 
 import uuid
+from typing import Callable
 
 import pytest
 from conftest import BUILT_IN
 
-from gorseplumb import Call, Form, Function, IndirectMessage, Machine, PartitionInfo, Properties, Registers
-from gorseplumb import decode, encode, read_partitions
+from gorseplumb import Call, ErrorCode, Form, Function, IndirectMessage, Machine, PartitionInfo, Properties
+from gorseplumb import Registers, decode, encode, read_partitions
 from gorseplumb.registers import ARGUMENTS, OPTIONAL, is_read_whole, signature
 
 
@@ -96,6 +97,33 @@ def test_refuses_a_call_that_lacks_arguments() -> None:
     with Machine(BUILT_IN) as machine:
         with pytest.raises(TypeError, match="FFA_RUN lacks the argument partition"):
             machine.do(Function.FFA_RUN)
+        assert machine.is_fresh and machine.runner == 0
+
+
+def test_refuses_what_is_no_function() -> None:
+    cases: list[tuple[object, str]] = [
+        ("FFA_RUN", "the str 'FFA_RUN': give Function.FFA_RUN"),
+        ("Function.FFA_RUN", "the str 'Function.FFA_RUN': give Function.FFA_RUN"),
+        ("mem_lend_64", "the str 'mem_lend_64': give Function.FFA_MEM_LEND_64"),
+        ("FFA_RNU", "the str 'FFA_RNU': give Function.FFA_RUN"),
+        ("FFA_NOTHING_ALIKE", "the str 'FFA_NOTHING_ALIKE'"),
+        (0x8400006D, "the int 0x8400006D: give Function.FFA_RUN"),
+        (0x84000083, "the int 0x84000083"),
+        (ErrorCode.DENIED, "ErrorCode.DENIED"),
+        (None, "None"),
+    ]
+    with Machine(BUILT_IN) as machine:
+        for given, told in cases:
+            asks: list[Callable[[], object]] = [
+                lambda: machine.do(given, partition=0x8001),  # type: ignore[arg-type]
+                lambda: encode(given),  # type: ignore[arg-type]
+            ]
+            for asked in asks:
+                with pytest.raises(TypeError) as wrong:
+                    asked()
+                assert str(wrong.value) == f"a call is a Function, and not {told}"
+        with pytest.raises(TypeError, match="^partition is a number, and not the str '8001': give 0x8001$"):
+            machine.do(Function.FFA_RUN, partition="8001")  # type: ignore[arg-type]
         assert machine.is_fresh and machine.runner == 0
 
 

@@ -1,0 +1,92 @@
+# SPDX-License-Identifier: MIT OR Apache-2.0
+"""What is given in another's place, by who has no type checker: a TypeError that says what to give."""
+from __future__ import annotations
+
+import difflib
+import reprlib
+from collections.abc import Sequence
+from enum import Enum
+from typing import NoReturn
+
+from .hexadecimal import shown
+
+_MOST_LISTED = 8
+_brief = reprlib.Repr()
+_brief.maxstring = _brief.maxother = 60
+
+
+def check_number(what: str, given: object) -> None:
+    """Refuses what is no number. A text of hexadecimal digits is told as the number that it may mean."""
+    if _is_number(given):
+        return
+    meant = _number_of(given)
+    refuse(what, "a number", given, f"0x{meant:X}" if meant is not None else None)
+
+
+def check_member(what: str, given: object, members: type[Enum]) -> None:
+    """Refuses what is no member of an enumeration, and names the member that may be meant, or else all where they are
+    few."""
+    if isinstance(given, members):
+        return
+    meant = _member_of(given, members)
+    listed = [meant] if meant is not None else list(members)
+    named = " or ".join(shown(it) for it in listed) if len(listed) <= _MOST_LISTED else None
+    refuse(what, _with_article(members.__name__), given, named)
+
+
+def check_member_or_number(what: str, given: object, members: type[Enum]) -> None:
+    """The same, where a plain number is taken as it is."""
+    if not _is_number(given) or isinstance(given, Enum):
+        check_member(what, given, members)
+
+
+def check_each(what: str, given: object, kind: type) -> None:
+    """Refuses what is no tuple, or list, of values of a type."""
+    if not isinstance(given, Sequence):
+        refuse(what, f"a tuple of {kind.__name__}", given)
+    for place, it in enumerate(given):
+        if not isinstance(it, kind):
+            refuse(f"{what}[{place}]", _with_article(kind.__name__), it)
+
+
+def refuse(what: str, wanted: str, given: object, instead: str | None = None) -> NoReturn:
+    """Raises it."""
+    hint = f": give {instead}" if instead is not None else ""
+    raise TypeError(f"{what} is {wanted}, and not {_described(given)}{hint}")
+
+
+def _is_number(given: object) -> bool:
+    return hasattr(type(given), "__index__")
+
+
+def _described(given: object) -> str:
+    if given is None or isinstance(given, Enum):
+        return shown(given)
+    text = shown(given) if type(given) is int else _brief.repr(given)
+    return text if text.startswith(type(given).__name__) else f"the {type(given).__name__} {text}"
+
+
+def _with_article(name: str) -> str:
+    return f"an {name}" if name[0] in "AEIOU" else f"a {name}"
+
+
+def _number_of(given: object) -> int | None:
+    try:
+        return int(given, 16) if isinstance(given, str) and given.isalnum() else None
+    except ValueError:
+        return None
+
+
+def _member_of(given: object, members: type[Enum]) -> Enum | None:
+    """The member that may be meant: by its name or its text, in a whole name or without `FFA_`, or nearly so; by its
+    number; or by the name of another enumeration's member."""
+    if isinstance(given, Enum):
+        return members.__members__.get(given.name)
+    if not isinstance(given, str):
+        return next((it for it in members if it.value == given), None)
+    name = given.strip().rpartition(".")[2].upper().replace("-", "_")
+    for it in members:
+        if name in (it.name, it.name.removeprefix("FFA_")) or given == getattr(it, "text", None):
+            return it
+    near = difflib.get_close_matches(name, members.__members__, 1, 0.8)
+    return members[near[0]] if near else None
