@@ -10,7 +10,8 @@ from typing import Iterator, NamedTuple, Sequence
 from .checks import Flaw
 from .codes import PAGE_SIZE, Form, Function, Kind
 from .errors import MalformedDescriptor
-from .hexadecimal import by_fields
+from .hexadecimal import by_fields, shown
+from .misuse import check_each, check_member, check_member_or_number, refuse
 from .outcomes import Call, Operation, Store
 
 NORMAL_MEMORY = 0x2F
@@ -53,6 +54,10 @@ class Receiver:
 
     __repr__ = by_fields
 
+    def __post_init__(self) -> None:
+        check_member_or_number("data", self.data, DataAccess)
+        check_member_or_number("instructions", self.instructions, InstructionAccess)
+
     @property
     def permissions(self) -> int:
         return self.data | self.instructions << 2
@@ -85,6 +90,11 @@ class Offer:
 
     __repr__ = by_fields
 
+    def __post_init__(self) -> None:
+        check_member("kind", self.kind, Kind)
+        check_each("receivers", self.receivers, Receiver)
+        check_each("ranges", self.ranges, PageRange)
+
     def to_bytes(self, form: Form = Form.FFA_1_1, *, checked: bool = True) -> bytes:
         """The descriptor. Where the machine would find it malformed, that is raised, unless it isn't to be checked."""
         size = header_size(form)
@@ -102,6 +112,7 @@ class Offer:
     @classmethod
     def from_bytes(cls, data: bytes, kind: Kind, form: Form = Form.FFA_1_1) -> Offer:
         """What a descriptor of this kind says."""
+        check_member("kind", kind, Kind)
         header = _read_header(data, form)
         _check_send(kind, header)
         composite = _u32(data, header.array + 4)
@@ -131,6 +142,11 @@ class Retrieve:
     kind: Kind | None = None
 
     __repr__ = by_fields
+
+    def __post_init__(self) -> None:
+        _check_receiver(self.receiver)
+        if self.kind is not None:
+            check_member_or_number("kind", self.kind, Kind)
 
     def to_bytes(self, form: Form = Form.FFA_1_1, *, checked: bool = True) -> bytes:
         """The descriptor, checked as that of an offer is."""
@@ -178,6 +194,11 @@ class RetrieveResponse:
     tag: int = 0
 
     __repr__ = by_fields
+
+    def __post_init__(self) -> None:
+        check_member_or_number("kind", self.kind, Kind)
+        _check_receiver(self.receiver)
+        check_each("ranges", self.ranges, PageRange)
 
     def to_bytes(self, form: Form = Form.FFA_1_1) -> bytes:
         """The response, as the machine writes it."""
@@ -237,6 +258,7 @@ class Relinquish:
 
 def header_size(form: Form) -> int:
     """How many bytes a transaction header has."""
+    check_member("form", form, Form)
     return 48 if form is Form.FFA_1_1 else 32
 
 
@@ -249,6 +271,12 @@ def stores(address: int, data: bytes) -> Iterator[Store]:
             size //= 2
         yield Store(address + at, size, int.from_bytes(data[at : at + size], "little"))
         at += size
+
+
+def _check_receiver(given: object) -> None:
+    if not isinstance(given, Receiver):
+        meant = f"Receiver({shown(given)})" if isinstance(given, int) else None
+        refuse("receiver", "a Receiver", given, meant)
 
 
 class _Header(NamedTuple):
@@ -274,9 +302,10 @@ def _pack(form: struct.Struct, *fields: int) -> bytes:
 
 
 def _pack_header(form: Form, sender: int, attributes: int, flags: int, handle: int, tag: int, count: int) -> bytes:
+    size = header_size(form)
     told = ENTRY_SIZE if form is Form.FFA_1_1 else 0
     front = _pack(_HEADER, sender, attributes, flags, handle, tag, told, count)
-    return front + (_pack(_REST, 48, 0, 0) if form is Form.FFA_1_1 else b"")
+    return front + (_pack(_REST, size, 0, 0) if form is Form.FFA_1_1 else b"")
 
 
 def _pack_composite(ranges: Sequence[PageRange]) -> bytes:

@@ -12,6 +12,7 @@ from ._library import library
 from .codes import Answer, Cause, Form, Properties, Right
 from .errors import LibraryError, ManifestRefused, OutOfMemory, WrongRamSize
 from .hexadecimal import by_fields
+from .misuse import check_member_or_number, refuse
 
 _MOST_SHOWN = 200
 _NIL = uuids.UUID(int=0)
@@ -28,6 +29,9 @@ class Region:
 
     __repr__ = by_fields
 
+    def __post_init__(self) -> None:
+        check_member_or_number("rights", self.rights, Right)
+
 
 @dataclass(frozen=True)
 class Endpoint:
@@ -39,6 +43,12 @@ class Endpoint:
     form: Form = Form.FFA_1_1
 
     __repr__ = by_fields
+
+    def __post_init__(self) -> None:
+        check_member_or_number("properties", self.properties, Properties)
+        check_member_or_number("form", self.form, Form)
+        if self.uuid is not None and not isinstance(self.uuid, uuids.UUID):
+            refuse("uuid", "a UUID", self.uuid, f"UUID({self.uuid!r})" if isinstance(self.uuid, str) else None)
 
 
 @dataclass(frozen=True)

@@ -9,6 +9,7 @@ from dataclasses import dataclass
 from .codes import Form, Function, Properties
 from .descriptors import stores
 from .hexadecimal import by_fields
+from .misuse import check_member
 from .outcomes import Call, Operation
 
 HEADER_SIZE = 20
@@ -73,6 +74,7 @@ class PartitionInfo:
 
     def to_bytes(self, form: Form = Form.FFA_1_1) -> bytes:
         """The descriptor, as the machine writes it."""
+        check_member("form", form, Form)
         if form is Form.COMPACT:
             return _COMPACT_INFORMATION.pack(self.identifier, self.contexts, self.properties & 7)
         told = (self.uuid or _NIL).bytes
@@ -93,6 +95,7 @@ class PartitionInfo:
 
 def information_size(form: Form) -> int:
     """How many bytes a partition's information has."""
+    check_member("form", form, Form)
     return (_INFORMATION if form is Form.FFA_1_1 else _COMPACT_INFORMATION).size
 
 

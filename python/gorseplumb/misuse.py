@@ -30,7 +30,7 @@ def check_member(what: str, given: object, members: type[Enum]) -> None:
         return
     meant = _member_of(given, members)
     listed = [meant] if meant is not None else list(members)
-    named = " or ".join(shown(it) for it in listed) if len(listed) <= _MOST_LISTED else None
+    named = " or ".join(map(_name_of, listed)) if len(listed) <= _MOST_LISTED else None
     refuse(what, _with_article(members.__name__), given, named)
 
 
@@ -43,7 +43,8 @@ def check_member_or_number(what: str, given: object, members: type[Enum]) -> Non
 def check_each(what: str, given: object, kind: type) -> None:
     """Refuses what is no tuple, or list, of values of a type."""
     if not isinstance(given, Sequence):
-        refuse(what, f"a tuple of {kind.__name__}", given)
+        instead = f"({kind.__name__}(..),)" if isinstance(given, kind) else None
+        refuse(what, f"a tuple of {kind.__name__}", given, instead)
     for place, it in enumerate(given):
         if not isinstance(it, kind):
             refuse(f"{what}[{place}]", _with_article(kind.__name__), it)
@@ -60,10 +61,16 @@ def _is_number(given: object) -> bool:
 
 
 def _described(given: object) -> str:
-    if given is None or isinstance(given, Enum):
-        return shown(given)
+    if isinstance(given, Enum):
+        return _name_of(given)
+    if given is None:
+        return "None"
     text = shown(given) if type(given) is int else _brief.repr(given)
     return text if text.startswith(type(given).__name__) else f"the {type(given).__name__} {text}"
+
+
+def _name_of(member: Enum) -> str:
+    return f"{type(member).__name__}.{member.name}"
 
 
 def _with_article(name: str) -> str:

@@ -3,11 +3,13 @@
 from __future__ import annotations
 
 import struct
+from typing import Any, Callable
 
 import pytest
 
 from gorseplumb import DataAccess, Flaw, Form, InstructionAccess, Kind, MalformedDescriptor, Offer, PageRange
-from gorseplumb import Receiver, Relinquish, Retrieve, RetrieveResponse, Store
+from gorseplumb import PartitionInfo, Properties, Receiver, Relinquish, Retrieve, RetrieveResponse, Right, Store
+from gorseplumb import read_partitions
 
 FORMS = [Form.FFA_1_1, Form.COMPACT]
 RW = DataAccess.RW
@@ -184,6 +186,81 @@ def test_names_the_first_condition_that_a_relinquish_breaks(data: bytes, flaw: s
     with pytest.raises(MalformedDescriptor) as wrong:
         Relinquish.from_bytes(whole)
     assert wrong.value.flaw is Flaw[f"RELINQUISH_{flaw}"]
+
+
+def untyped(value: object) -> Any:
+    """A value of which no type checker knows what it is."""
+    return value
+
+
+@pytest.mark.parametrize(
+    "kind, form, told, other",
+    [
+        ("lend", "compact", "the str 'lend': give Kind.LEND", "the str 'compact': give Form.COMPACT"),
+        (2, 1, "the int 2: give Kind.LEND", "the int 1: give Form.COMPACT"),
+        (None, "1.1", "None: give Kind.SHARE or Kind.LEND or Kind.DONATE", "the str '1.1': give Form.FFA_1_1"),
+        (Right.RW, 1.2, "Right.RW: give Kind.", "the float 1.2: give Form.FFA_1_1 or Form.COMPACT"),
+    ],
+)
+def test_names_the_kind_and_the_form_that_are_meant(kind: Any, form: Any, told: str, other: str) -> None:
+    of_kind: list[Callable[[], object]] = [
+        lambda: Offer(kind, 0x8001, LEND.receivers, LEND.ranges),
+        lambda: Offer.from_bytes(LEND.to_bytes(), kind),
+    ]
+    of_form: list[Callable[[], object]] = [
+        lambda: LEND.to_bytes(form),
+        lambda: Offer.from_bytes(LEND.to_bytes(), Kind.LEND, form),
+        lambda: Retrieve(0x8001, 1, Receiver(0x8002)).to_bytes(form),
+        lambda: PartitionInfo(0x8001, Properties(7)).to_bytes(form),
+        lambda: read_partitions(bytes(24), 1, form),
+    ]
+    for asked in of_kind:
+        with pytest.raises(TypeError, match=f"^kind is a Kind, and not {told}"):
+            asked()
+    for asked in of_form:
+        with pytest.raises(TypeError, match=f"^form is a Form, and not {other}$"):
+            asked()
+
+
+def test_refuses_what_is_no_part_of_a_descriptor() -> None:
+    makes: list[tuple[Callable[[], object], str]] = [
+        (lambda: Receiver(1, untyped("rw")), "data is a DataAccess, and not the str 'rw': give DataAccess.RW"),
+        (lambda: Receiver(1, untyped(Right.RW)), "data is a DataAccess, and not Right.RW: give DataAccess.RW"),
+        (
+            lambda: Receiver(1, RW, untyped(Right.ROX)),
+            "instructions is an InstructionAccess, and not Right.ROX: give InstructionAccess.UNSPECIFIED or "
+            "InstructionAccess.NX or InstructionAccess.X",
+        ),
+        (
+            lambda: Offer(Kind.LEND, 1, LEND.receivers, untyped(LEND.ranges[0])),
+            "ranges is a tuple of PageRange, and not PageRange(address=0x40021000, pages=1): give (PageRange(..),)",
+        ),
+        (lambda: Offer(Kind.LEND, 1, untyped((2,)), LEND.ranges), "receivers[0] is a Receiver, and not the int 2"),
+        (
+            lambda: Offer(Kind.LEND, 1, LEND.receivers, untyped((LEND.ranges[0], (4096, 1)))),
+            "ranges[1] is a PageRange, and not the tuple (4096, 1)",
+        ),
+        (
+            lambda: Retrieve(1, 2, untyped(0x8002)),
+            "receiver is a Receiver, and not the int 0x8002: give Receiver(0x8002)",
+        ),
+        (
+            lambda: Retrieve(1, 2, Receiver(3), kind=untyped("lend")),
+            "kind is a Kind, and not the str 'lend': give Kind.LEND",
+        ),
+        (lambda: RetrieveResponse(Kind.LEND, 1, 2, untyped(None), ()), "receiver is a Receiver, and not None"),
+    ]
+    for make, told in makes:
+        with pytest.raises(TypeError) as wrong:
+            make()
+        assert str(wrong.value) == told
+
+
+def test_takes_plain_numbers_and_lists() -> None:
+    odd = Offer(Kind.LEND, 1, (Receiver(2, untyped(3)),), LEND.ranges)
+    assert odd.to_bytes(checked=False)[50] == 3
+    assert Retrieve(1, 2, Receiver(3), kind=untyped(2)).to_bytes() == Retrieve(1, 2, Receiver(3), 0, Kind.LEND).to_bytes()
+    assert Offer(Kind.LEND, 0x8001, untyped([*LEND.receivers]), LEND.ranges).to_bytes() == LEND.to_bytes()
 
 
 def test_refuses_what_no_descriptor_can_say() -> None:

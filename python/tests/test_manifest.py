@@ -2,6 +2,7 @@
 """Manifests: what a text says, and a text of what values say."""
 from __future__ import annotations
 
+from typing import Any, Callable
 from uuid import UUID
 
 import pytest
@@ -40,6 +41,31 @@ def test_reads_what_a_text_says() -> None:
     assert Manifest.read((EXAMPLES / "partitions.toml").read_bytes()) == PARTITIONS
     for manifest in (PARTITIONS, COMPACT):
         assert Manifest.read(manifest.text()) == manifest
+
+
+def test_names_the_member_that_is_meant() -> None:
+    # a type checker refuses these
+    odd: list[Any] = ["rw", "rw-", "compact", "sends_requests", "all", "00112233-4455-6677-8899-aabbccddeeff"]
+    region = Region(0x40010000, 1)
+    makes: list[tuple[Callable[[], object], str]] = [
+        (lambda: Region(0, 1, odd[0]), "rights is a Right, and not the str 'rw': give Right.RW"),
+        (lambda: Region(0, 1, odd[1]), "rights is a Right, and not the str 'rw-': give Right.RW"),
+        (lambda: Endpoint([region], form=odd[2]), "form is a Form, and not the str 'compact': give Form.COMPACT"),
+        (
+            lambda: Endpoint([region], odd[3]),
+            "properties is a Properties, and not the str 'sends_requests': give Properties.SENDS_REQUESTS",
+        ),
+        (
+            lambda: Endpoint([region], odd[4]),
+            "properties is a Properties, and not the str 'all': give Properties.RECEIVES_REQUESTS or "
+            "Properties.SENDS_REQUESTS or Properties.INDIRECT_MESSAGES or Properties.NOTIFICATIONS",
+        ),
+        (lambda: Endpoint([region], uuid=odd[5]), f"uuid is a UUID, and not the str '{odd[5]}': give UUID('{odd[5]}')"),
+    ]
+    for make, told in makes:
+        with pytest.raises(TypeError) as wrong:
+            make()
+        assert str(wrong.value) == told
 
 
 def test_says_why_a_text_is_refused() -> None:
