@@ -7,7 +7,8 @@ from typing import Iterable, Iterator, Sequence, overload
 
 from . import _library as c
 from .codes import Fault
-from .outcomes import DONE, FAULTED, Call, Data, Fetch, Load, Operation, Outcome, Registers
+from .misuse import refuse
+from .outcomes import DONE, FAULTED, KINDS, Call, Data, Fetch, Load, Operation, Outcome, Registers, Store
 
 _NO_REGISTERS = (0,) * 8
 
@@ -31,7 +32,9 @@ def _pack(operation: Operation) -> bytes:
         return c.OPERATION.pack(c.OPERATION_FETCH, 0, operation.address, 0, *_NO_REGISTERS)
     if isinstance(operation, Load):
         return c.OPERATION.pack(c.OPERATION_LOAD, operation.size, operation.address, 0, *_NO_REGISTERS)
-    return c.OPERATION.pack(c.OPERATION_STORE, operation.size, operation.address, operation.value, *_NO_REGISTERS)
+    if isinstance(operation, Store):
+        return c.OPERATION.pack(c.OPERATION_STORE, operation.size, operation.address, operation.value, *_NO_REGISTERS)
+    refuse("an operation", KINDS, operation)
 
 
 class Outcomes(Sequence[Outcome]):

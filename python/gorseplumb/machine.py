@@ -17,7 +17,9 @@ from .descriptors import Offer, Relinquish, Retrieve, stores
 from .errors import LibraryError, access_fault, call_refused
 from .manifest import Manifest, checked_boot
 from .messages import IndirectMessage
-from .outcomes import DONE, FAULTED, SIZES, Call, Data, Done, Faulted, Fetch, Load, Operation, Outcome, Registers, Store
+from .misuse import check_number, refuse
+from .outcomes import DONE, FAULTED, KINDS, SIZES
+from .outcomes import Call, Data, Done, Faulted, Fetch, Load, Operation, Outcome, Registers, Store
 from .questions import Questions
 from .ram import Ram
 from .registers import encode
@@ -157,7 +159,11 @@ class Machine(Questions):
 
     def load(self, address: int, size: int) -> Data | Faulted:
         """A load of 1, 2, 4 or 8 bytes."""
-        if address >> 64 or size not in SIZES:
+        try:
+            is_wrong = address >> 64 or size not in SIZES
+        except TypeError:
+            is_wrong = True
+        if is_wrong:
             Load(address, size)  # says which is wrong
         found = self._accessed(_load(self._raw, address, size), size)
         if self._watchers:
@@ -166,7 +172,11 @@ class Machine(Questions):
 
     def store(self, address: int, size: int, value: int) -> Done | Faulted:
         """A store of a value of 1, 2, 4 or 8 bytes."""
-        if address >> 64 or size not in SIZES or value >> 8 * size:
+        try:
+            is_wrong = address >> 64 or size not in SIZES or value >> 8 * size
+        except TypeError:
+            is_wrong = True
+        if is_wrong:
             Store(address, size, value)
         found = self._stored(_store(self._raw, address, size, value))
         if self._watchers:
@@ -175,7 +185,11 @@ class Machine(Questions):
 
     def fetch(self, address: int) -> Data | Faulted:
         """A fetch of one instruction, which is 4 bytes."""
-        if address >> 64:
+        try:
+            is_wrong = address >> 64
+        except TypeError:
+            is_wrong = True
+        if is_wrong:
             Fetch(address)
         found = self._accessed(_fetch(self._raw, address), 4)
         if self._watchers:
@@ -229,7 +243,9 @@ class Machine(Questions):
             return self.load(operation.address, operation.size)
         if isinstance(operation, Store):
             return self.store(operation.address, operation.size, operation.value)
-        return self.fetch(operation.address)
+        if isinstance(operation, Fetch):
+            return self.fetch(operation.address)
+        refuse("an operation", KINDS, operation)
 
     def run(self, operations: Batch | Iterable[Operation]) -> Outcomes:
         """Operations one behind the other, by one call of the library."""
@@ -282,6 +298,8 @@ class Machine(Questions):
 
     def require(self, call: Call) -> Registers:
         """A call which, where it is refused, is raised with its reason."""
+        if not isinstance(call, Call):
+            refuse("a call", "a Call", call)
         caller = self.runner
         answer = self.call(*call.x)
         code = answer.code
@@ -292,6 +310,9 @@ class Machine(Questions):
     def send(self, request: Offer | Retrieve | Relinquish | IndirectMessage, tx: int) -> Registers:
         """Writes a descriptor or a message to TX of the runner, in its form, and makes its call. Where a store or the
         call is refused, that is raised."""
+        if not hasattr(request, "operations"):
+            refuse("a request", "an Offer, a Retrieve, a Relinquish or an IndirectMessage", request)
+        check_number("tx", tx)
         for operation in request.operations(tx, self.form(self.runner)):
             if isinstance(operation, Call):
                 answer = self.require(operation)
@@ -311,6 +332,9 @@ class Machine(Questions):
 
     def write(self, address: int, data: bytes) -> None:
         """Stores bytes to any place, as `read` reads them. A fault is raised; what stands before it was stored."""
+        check_number("an address", address)
+        if isinstance(data, str):
+            refuse("data", "bytes", data, "its encode()")
         if address < 0 or address + len(data) > 1 << 64:
             raise ValueError(f"{len(data)} bytes at {address:#x} aren't all in 64 bits")
         for store in stores(address, data):
@@ -390,6 +414,8 @@ def _end(raw: c.Held, ram: Ram | None) -> None:
 
 def _pieces(address: int, size: int) -> Iterator[tuple[int, int]]:
     """Where the largest aligned accesses begin that make up these bytes, and how large each is."""
+    check_number("an address", address)
+    check_number("a size", size)
     if size < 0 or address < 0 or address + size > 1 << 64:
         raise ValueError(f"{size} bytes at {address:#x} aren't all in 64 bits")
     end = address + size

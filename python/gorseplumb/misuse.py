@@ -23,6 +23,15 @@ def check_number(what: str, given: object) -> None:
     refuse(what, "a number", given, f"0x{meant:X}" if meant is not None else None)
 
 
+def check_registers(given: object) -> None:
+    """Refuses what are no registers, and names the first that is no number."""
+    if isinstance(given, str) or not isinstance(given, Sequence):
+        instead = f"({_name_of(given) if isinstance(given, Enum) else shown(given)},)" if _is_number(given) else None
+        refuse("x", "a tuple of registers", given, instead)
+    for place, register in enumerate(given):
+        check_number(f"x{place}", register)
+
+
 def check_member(what: str, given: object, members: type[Enum]) -> None:
     """Refuses what is no member of an enumeration, and names the member that may be meant, or else all where they are
     few."""

@@ -1,7 +1,7 @@
 # SPDX-License-Identifier: MIT OR Apache-2.0
 """Operations, and what comes of them. `str` of each is its line: that of a trace, or that which the program prints.
 
-An operation whose numbers have no room is a ValueError when it is made."""
+An operation whose numbers have no room is a ValueError when it is made, and one of what are no numbers a TypeError."""
 from __future__ import annotations
 
 from dataclasses import dataclass
@@ -10,15 +10,21 @@ from typing import Union
 from .codes import ErrorCode, Fault, Function
 from .errors import call_refused
 from .hexadecimal import by_fields
+from .misuse import check_number, check_registers
 
 SIZES = (1, 2, 4, 8)
 
 
 def _check_access(address: int, size: int) -> None:
-    if address >> 64:
+    try:
+        is_wide = address >> 64
+    except TypeError:
+        check_number("an address", address)
+        raise
+    if is_wide:
         raise ValueError(f"an address has 64 bits, and is {address:#x}")
     if size not in SIZES:
-        raise ValueError(f"an access has 1, 2, 4 or 8 bytes, and not {size}")
+        raise ValueError(f"an access has 1, 2, 4 or 8 bytes, and not {size!r}")
 
 
 @dataclass(frozen=True, slots=True)
@@ -30,13 +36,20 @@ class Call:
     __repr__ = by_fields
 
     def __post_init__(self) -> None:
+        try:
+            self._check()
+        except TypeError:
+            check_registers(self.x)
+            raise
+        if len(self.x) < 8:
+            object.__setattr__(self, "x", (*self.x, *(0,) * (8 - len(self.x))))
+
+    def _check(self) -> None:
         if not 1 <= len(self.x) <= 8:
             raise ValueError(f"a call has one to eight registers, and not {len(self.x)}")
         for place, register in enumerate(self.x):
             if register >> 64:
                 raise ValueError(f"x{place} has 64 bits, and is {register:#x}")
-        if len(self.x) < 8:
-            object.__setattr__(self, "x", (*self.x, *(0,) * (8 - len(self.x))))
 
     def __str__(self) -> str:
         used = max((place for place, register in enumerate(self.x, 1) if register), default=1)
@@ -71,7 +84,12 @@ class Store:
 
     def __post_init__(self) -> None:
         _check_access(self.address, self.size)
-        if self.value >> 8 * self.size:
+        try:
+            is_wide = self.value >> 8 * self.size
+        except TypeError:
+            check_number("a value", self.value)
+            raise
+        if is_wide:
             raise ValueError(f"{self.value:#x} doesn't fit in {self.size} bytes")
 
     def __str__(self) -> str:
@@ -94,6 +112,7 @@ class Fetch:
 
 
 Operation = Union[Call, Load, Store, Fetch]
+KINDS = "a Call, a Load, a Store or a Fetch"
 
 
 @dataclass(frozen=True, slots=True)

@@ -14,7 +14,8 @@ from .codes import BLOCK_SIZE, MANAGER, PAGE_SIZE, PAGES_OF_BLOCK
 from .codes import About, Answer, ErrorCode, Fault, GrantKind, Obstacle, Right
 from .errors import MachineEnded, NoSuchEndpoint, NoSuchPage, OutOfMemory
 from .hexadecimal import by_fields
-from .outcomes import Call, Load, Operation, Store
+from .misuse import check_number, refuse
+from .outcomes import KINDS, Call, Fetch, Load, Operation, Store
 from .reasons import Hindrance, Reason, Subject
 
 
@@ -200,8 +201,10 @@ class Questions:
             refused = library.why_load(self._raw, operation.address, operation.size, raw)
         elif isinstance(operation, Store):
             refused = library.why_store(self._raw, operation.address, operation.size, raw)
-        else:
+        elif isinstance(operation, Fetch):
             refused = library.why_fetch(self._raw, operation.address, raw)
+        else:
+            refuse("an operation", KINDS, operation)
         return self._reason(operation, raw) if refused else None
 
     def _reason(self, operation: Operation, raw: c.Reason) -> Reason:
@@ -237,6 +240,7 @@ class Questions:
 
     def _check_endpoint(self, endpoint: int) -> None:
         if endpoint not in self._endpoints:
+            check_number("an endpoint", endpoint)
             raise NoSuchEndpoint(endpoint)
 
     def _refuse_page(self, page: int) -> NoReturn:

@@ -259,7 +259,8 @@ def test_refuses_what_is_no_part_of_a_descriptor() -> None:
 def test_takes_plain_numbers_and_lists() -> None:
     odd = Offer(Kind.LEND, 1, (Receiver(2, untyped(3)),), LEND.ranges)
     assert odd.to_bytes(checked=False)[50] == 3
-    assert Retrieve(1, 2, Receiver(3), kind=untyped(2)).to_bytes() == Retrieve(1, 2, Receiver(3), 0, Kind.LEND).to_bytes()
+    lent = Retrieve(1, 2, Receiver(3), kind=Kind.LEND)
+    assert Retrieve(1, 2, Receiver(3), kind=untyped(2)).to_bytes() == lent.to_bytes()
     assert Offer(Kind.LEND, 0x8001, untyped([*LEND.receivers]), LEND.ranges).to_bytes() == LEND.to_bytes()
 
 

@@ -5,7 +5,7 @@ from __future__ import annotations
 import gc
 import uuid
 from pathlib import Path
-from typing import Callable
+from typing import Any, Callable
 
 import pytest
 from conftest import EXAMPLES
@@ -14,8 +14,8 @@ from gorseplumb import AccessFault, AlignmentFault, Busy, Call, CallRefused, Cau
 from gorseplumb import Done, Endpoint, ErrorCode, Fault, Faulted, Fetch, Function, InstructionAccess
 from gorseplumb import InvalidParameters, Kind, Load, Machine, MachineEnded, Manifest, ManifestRefused, NoSuchEndpoint
 from gorseplumb import NoSuchPage, NotSupported, Offer, Operation, Outcome, PageRange, PermissionFault, Properties
-from gorseplumb import Ram, Receiver, Region, Registers, Retrieve, RetrieveResponse, Right, Store, TranslationFault
-from gorseplumb import Watcher
+from gorseplumb import Ram, Receiver, Region, Registers, Relinquish, Retrieve, RetrieveResponse, Right, Store
+from gorseplumb import TranslationFault, Watcher
 
 RAM = 0x40000000
 MANUALS = EXAMPLES / "partitions.toml"
@@ -171,6 +171,49 @@ def test_an_operation_has_room_for_its_numbers() -> None:
         with pytest.raises(ValueError):
             make()
     assert Call((1,)) == Call((1, 0, 0, 0, 0, 0, 0, 0))
+
+
+def test_says_what_is_no_number_and_no_operation() -> None:
+    # a type checker refuses these
+    text: Any = "40010000"
+    run: Any = Function.FFA_RUN
+    half: Any = 1.5
+    number = "a number, and not the str '40010000': give 0x40010000"
+    kinds = "an operation is a Call, a Load, a Store or a Fetch, and not"
+    with Machine(MANIFEST) as machine:
+        asks: list[tuple[Callable[[], object], str]] = [
+            (lambda: machine.call(text), f"x0 is {number}"),
+            (lambda: machine.call_as(0, 1, text), f"x1 is {number}"),
+            (lambda: machine.load(text, 1), f"an address is {number}"),
+            (lambda: machine.fetch(text), f"an address is {number}"),
+            (lambda: machine.fetch(half), "an address is a number, and not the float 1.5"),
+            (lambda: machine.store(RAM, 1, text), f"a value is {number}"),
+            (lambda: machine.read(text, 1), f"an address is {number}"),
+            (lambda: machine.write(text, b""), f"an address is {number}"),
+            (lambda: machine.write(RAM, text), "data is bytes, and not the str '40010000': give its encode()"),
+            (lambda: machine.access(text, 0), f"an endpoint is {number}"),
+            (lambda: machine.load_as(text, 0, 1), f"an endpoint is {number}"),
+            (lambda: machine.send(Relinquish(1, 0), text), f"tx is {number}"),
+            (lambda: Call(text), "x is a tuple of registers, and not the str '40010000'"),
+            (lambda: Call(run), "x is a tuple of registers, and not Function.FFA_RUN: give (Function.FFA_RUN,)"),
+            (lambda: machine.perform(text), f"{kinds} the str '40010000'"),
+            (lambda: machine.run(text), f"{kinds} the str '4'"),
+            (lambda: machine.why(run), f"{kinds} Function.FFA_RUN"),
+            (lambda: machine.require(run), "a call is a Call, and not Function.FFA_RUN"),
+            (
+                lambda: machine.send(run, RAM),
+                "a request is an Offer, a Retrieve, a Relinquish or an IndirectMessage, and not Function.FFA_RUN",
+            ),
+        ]
+        for asked, told in asks:
+            with pytest.raises(TypeError) as wrong:
+                asked()
+            assert str(wrong.value) == told
+        with pytest.raises(ValueError, match="^an access has 1, 2, 4 or 8 bytes, and not '40010000'$"):
+            machine.load(RAM, text)
+        with pytest.raises(ValueError, match="^an access has 1, 2, 4 or 8 bytes, and not '40010000'$"):
+            machine.store(RAM, text, 0)
+        assert machine.is_fresh
 
 
 def test_refuses_pages_and_endpoints_that_are_not_there() -> None:
