@@ -58,16 +58,18 @@ class NoSuchPage(GorseplumbError, IndexError):
 
 
 class BadLine(GorseplumbError, ValueError):
-    """A line is none of a trace or of a log. `number` and `column` count from 1; 0 is none."""
+    """A line is none of a trace or of a log. `number` and `column` count from 1; 0 is none. `hint`, which the message
+    ends in, says that the name of a file was given in a text's place, where that can be told."""
 
-    def __init__(self, why: str, column: int = 0, number: int = 0) -> None:
-        super().__init__(why, column, number)
-        self.why, self.column, self.number = why, column, number
+    def __init__(self, why: str, column: int = 0, number: int = 0, hint: str = "") -> None:
+        super().__init__(why, column, number, hint)
+        self.why, self.column, self.number, self.hint = why, column, number, hint
 
     def __str__(self) -> str:
         places = [f"line {self.number}"] if self.number else []
         places += [f"column {self.column}"] if self.column else []
-        return ": ".join([", ".join(places), self.why] if places else [self.why])
+        told = [", ".join(places), self.why, self.hint]
+        return ": ".join(it for it in told if it)
 
 
 class GuardUnmet(GorseplumbError, AssertionError):

@@ -4,7 +4,6 @@ from __future__ import annotations
 
 import uuid as uuids
 from dataclasses import dataclass
-from pathlib import Path
 from typing import Sequence
 
 from . import _library as c
@@ -12,9 +11,8 @@ from ._library import library
 from .codes import Answer, Cause, Form, Properties, Right
 from .errors import LibraryError, ManifestRefused, OutOfMemory, WrongRamSize
 from .hexadecimal import by_fields
-from .misuse import check_member_or_number, refuse
+from .misuse import check_member_or_number, file_hint, refuse
 
-_MOST_SHOWN = 200
 _NIL = uuids.UUID(int=0)
 _RIGHTS = {Right.RO: "ro", Right.RW: "rw", Right.ROX: "rox", Right.RWX: "rwx"}
 
@@ -117,19 +115,7 @@ def _hint(given: object) -> str:
     manifest consists of, which are keys with `=`, tables in brackets, and comments."""
     if not isinstance(given, str) or not given.strip():
         return ""
-    is_name = _is_file(given)
-    if not is_name and any(it in given for it in "=[#\n"):
-        return ""
-    shown = given if len(given) <= _MOST_SHOWN else f"{given[:_MOST_SHOWN]}.."
-    verb = "is" if is_name else "looks like"
-    return f"{shown!r} {verb} the name of a file, and a str is a manifest's text: give a pathlib.Path, or what it holds"
-
-
-def _is_file(name: str) -> bool:
-    try:
-        return Path(name).is_file()
-    except (OSError, ValueError):  # a name that is too long, or has a NUL
-        return False
+    return file_hint(given, "a manifest's text", not any(it in given for it in "=[#\n"))
 
 
 def _fit(number: int, cause: Cause) -> int:

@@ -1,16 +1,19 @@
 # SPDX-License-Identifier: MIT OR Apache-2.0
-"""What is given in another's place, by who has no type checker: a TypeError that says what to give."""
+"""What is given in another's place, by who has no type checker: a TypeError that says what to give; and of a file's
+name, which no type tells from a text, a hint."""
 from __future__ import annotations
 
 import difflib
 import reprlib
 from collections.abc import Sequence
 from enum import Enum
+from pathlib import Path
 from typing import NoReturn
 
 from .hexadecimal import shown
 
 _MOST_LISTED = 8
+_MOST_SHOWN = 200
 _brief = reprlib.Repr()
 _brief.maxstring = _brief.maxother = 60
 
@@ -63,6 +66,23 @@ def refuse(what: str, wanted: str, given: object, instead: str | None = None) ->
     """Raises it."""
     hint = f": give {instead}" if instead is not None else ""
     raise TypeError(f"{what} is {wanted}, and not {_described(given)}{hint}")
+
+
+def file_hint(given: str, what: str, looks_like_name: bool) -> str:
+    """What is said of a str in a text's place that is the name of a file, or looks like one; else nothing."""
+    is_name = _is_file(given)
+    if not is_name and not looks_like_name:
+        return ""
+    told = given if len(given) <= _MOST_SHOWN else f"{given[:_MOST_SHOWN]}.."
+    verb = "is" if is_name else "looks like"
+    return f"{told!r} {verb} the name of a file, and a str is {what}: give a pathlib.Path, or what it holds"
+
+
+def _is_file(name: str) -> bool:
+    try:
+        return Path(name).is_file()
+    except (OSError, ValueError):  # a name that is too long, or has a NUL
+        return False
 
 
 def _is_number(given: object) -> bool:

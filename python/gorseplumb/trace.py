@@ -10,6 +10,7 @@ from typing import Iterable, Iterator, Literal, Union
 
 from .errors import BadLine, GuardUnmet
 from .machine import Machine
+from .misuse import file_hint
 from .outcomes import Call, Faulted, Fetch, Load, Operation, Registers, Store
 
 Question = Literal["show", "audit"]
@@ -102,10 +103,13 @@ def lines(trace: Trace) -> Iterator[tuple[int, str]]:
     *whole, rest = text.split("\n")
     yield from enumerate(whole, 1)
     if rest:
-        wrong = BadLine("no line end", number=len(whole) + 1)
-        if not whole and isinstance(trace, str):
-            wrong.add_note("a str is a trace's text: to name a file give a pathlib.Path")
-        raise wrong
+        hint = file_hint(rest, "the text itself", _may_be_name(rest)) if isinstance(trace, str) and not whole else ""
+        raise BadLine("no line end", number=len(whole) + 1, hint=hint)
+
+
+def _may_be_name(line: str) -> bool:
+    """Whether a line has what names of files have, and lines of traces only in comments."""
+    return not line.startswith("#") and ("." in line or "/" in line)
 
 
 @dataclass(frozen=True)

@@ -2,12 +2,15 @@
 """Lines of a trace: what they say, and what is wrong with others, in the program's words."""
 from __future__ import annotations
 
+from pathlib import Path
+from typing import Callable
+
 import pytest
 from conftest import BUILT_IN, EXAMPLES, Program
 
 from gorseplumb import BadLine, Call, Difference, Fetch, GuardUnmet, Load, Machine, Store, compare, play
+from gorseplumb.log import read_log
 from gorseplumb.trace import Trace, parse
-
 
 
 def test_reads_each_kind_of_line() -> None:
@@ -65,14 +68,35 @@ def test_judges_a_line_when_it_is_reached() -> None:
         assert next(played) == "done" and next(played) == "data 2A"
         with pytest.raises(BadLine, match="line 3, column 14: a word is missing"):
             next(played)
-        with pytest.raises(BadLine, match="line 1: no line end") as wrong:
-            list(play(machine, "examples/first.trace"))
-        assert wrong.value.__notes__ == ["a str is a trace's text: to name a file give a pathlib.Path"]
         with pytest.raises(BadLine, match="line 2: no line end"):
             list(play(machine, b"# \xff\nload 40010000 1"))
         assert list(play(machine, ["load 40010000 1"], numbers=True)) == ["1: data 2A"]
         named = list(play(machine, ["call 84000069", "call 84000083", "call 84000063 10001"], names=True))
         assert [line.partition(" #")[2] for line in named] == [" FFA_SUCCESS", " FFA_ERROR NOT_SUPPORTED", ""]
+
+
+def test_says_that_a_str_is_no_path(tmp_path: Path) -> None:
+    is_text = "and a str is the text itself: give a pathlib.Path, or what it holds"
+    odd = tmp_path / "load"
+    odd.touch()
+    with Machine(BUILT_IN) as machine:
+        asks: list[Callable[[str], object]] = [
+            lambda text: list(play(machine, text)),
+            lambda text: compare(machine, text, "done\n"),
+            lambda text: compare(machine, "load 40010000 1\n", text),
+            lambda text: list(read_log(text)),
+        ]
+        for asked in asks:
+            for name in (str(EXAMPLES / "first.trace"), str(odd), "first.trace", "../bench", "a\0.b"):
+                told = "is" if name in (str(EXAMPLES / "first.trace"), str(odd)) else "looks like"
+                with pytest.raises(BadLine) as wrong:
+                    asked(name)
+                hint = f"{name!r} {told} the name of a file, {is_text}"
+                assert str(wrong.value) == f"line 1: no line end: {hint}" and wrong.value.hint == hint
+        texts: list[str | bytes] = ["load 40010000 1", "# see first.trace", "# 1\nfirst.trace", b"first.trace"]
+        for text in texts:
+            with pytest.raises(BadLine, match="^line [12]: no line end$"):
+                list(play(machine, text))
 
 
 def test_stops_at_a_guard_that_is_not_met() -> None:
