@@ -6,7 +6,6 @@ import ctypes
 import os
 import struct
 import weakref
-from pathlib import Path
 from typing import TYPE_CHECKING, Callable, Iterable, Iterator, NoReturn
 
 from . import _library as c
@@ -15,7 +14,7 @@ from .batch import Batch, Outcomes
 from .codes import Answer, Fault, Form, Function
 from .descriptors import Offer, Relinquish, Retrieve, stores
 from .errors import LibraryError, access_fault, call_refused
-from .manifest import Manifest, checked_boot
+from .manifest import Manifest, checked_boot, text_of
 from .messages import IndirectMessage
 from .misuse import check_number, refuse
 from .outcomes import DONE, FAULTED, KINDS, SIZES
@@ -74,7 +73,11 @@ class Machine(Questions):
     ) -> None:
         if keep and ram is None:
             raise ValueError("RAM of the heap has no bytes to keep: give a Ram")
-        self._manifest = Path(manifest).read_bytes() if isinstance(manifest, os.PathLike) else manifest
+        if ram is not None and not isinstance(ram, Ram):
+            refuse("ram", "a Ram", ram, f"Ram({ram})" if isinstance(ram, int) else None)
+        if not isinstance(manifest, (str, Manifest)):
+            manifest = text_of(manifest, "a text, a path or a Manifest")
+        self._manifest = manifest
         self._values = self._manifest if isinstance(self._manifest, Manifest) else None
         self._raw, self._ram = c.Held(), ram
         self._boot(self._manifest, keep)
@@ -89,7 +92,7 @@ class Machine(Questions):
         if isinstance(manifest, Manifest):
             kind, told = f"{kind}_manifest", (manifest.raw(),)
         else:
-            text = manifest.encode() if isinstance(manifest, str) else bytes(manifest)
+            text = text_of(manifest)
             told = (text, len(text))
         boot = getattr(library, kind)
         if self._ram is None:
@@ -121,9 +124,7 @@ class Machine(Questions):
     def manifest_text(self) -> bytes:
         """The text of its manifest, as the program takes it."""
         manifest = self._manifest
-        if isinstance(manifest, Manifest):
-            return manifest.text().encode()
-        return manifest.encode() if isinstance(manifest, str) else bytes(manifest)
+        return text_of(manifest.text() if isinstance(manifest, Manifest) else manifest)
 
     @property
     def manifest(self) -> Manifest:

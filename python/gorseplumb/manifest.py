@@ -2,8 +2,10 @@
 """A manifest as values, from which a machine boots without a text."""
 from __future__ import annotations
 
+import os
 import uuid as uuids
 from dataclasses import dataclass
+from pathlib import Path
 from typing import Sequence
 
 from . import _library as c
@@ -60,10 +62,10 @@ class Manifest:
     __repr__ = by_fields
 
     @classmethod
-    def read(cls, text: str | bytes) -> Manifest:
-        """What a manifest's text says. A text that can't be read is refused by its cause, as a boot does. The text of a
-        file is `Path(name).read_text()`."""
-        data = text.encode() if isinstance(text, str) else text
+    def read(cls, text: str | bytes | os.PathLike[str]) -> Manifest:
+        """What a manifest's text says, or that of a file, by its path (a str is a text, so give a `pathlib.Path`). A
+        text that can't be read is refused by its cause, as a boot does."""
+        data = text_of(text)
         raw = c.Manifest()
         checked_boot(library.read_manifest(data, len(data), raw), text)
         endpoints = [_endpoint(it, place) for place, it in enumerate(raw.endpoints[: raw.endpoint_count])]
@@ -93,6 +95,17 @@ class Manifest:
         for place, endpoint in zip(raw.endpoints, self.endpoints):
             _put_endpoint(place, endpoint)
         return raw
+
+
+def text_of(given: str | bytes | os.PathLike[str], wanted: str = "a text or a path") -> bytes:
+    """The text of a manifest: as it is given, or that of a file."""
+    if isinstance(given, os.PathLike):
+        return Path(given).read_bytes()
+    if isinstance(given, str):
+        return given.encode()
+    if not isinstance(given, (bytes, bytearray, memoryview)):
+        refuse("a manifest", wanted, given)
+    return bytes(given)
 
 
 def checked_boot(answer: int, given: object = None) -> None:

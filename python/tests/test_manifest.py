@@ -2,13 +2,14 @@
 """Manifests: what a text says, and a text of what values say."""
 from __future__ import annotations
 
+from pathlib import Path
 from typing import Any, Callable
 from uuid import UUID
 
 import pytest
 from conftest import EXAMPLES
 
-from gorseplumb import Cause, Endpoint, Form, Manifest, ManifestRefused, Properties, Region, Right
+from gorseplumb import Cause, Endpoint, Form, Machine, Manifest, ManifestRefused, Properties, Region, Right
 
 PARTITIONS = Manifest(
     0x40000000,
@@ -38,7 +39,10 @@ def test_writes_its_text() -> None:
 
 
 def test_reads_what_a_text_says() -> None:
-    assert Manifest.read((EXAMPLES / "partitions.toml").read_bytes()) == PARTITIONS
+    path = EXAMPLES / "partitions.toml"
+    texts: list[str | bytes | Path] = [path, path.read_text(), path.read_bytes(), bytearray(path.read_bytes())]
+    for text in texts:
+        assert Manifest.read(text) == PARTITIONS
     for manifest in (PARTITIONS, COMPACT):
         assert Manifest.read(manifest.text()) == manifest
 
@@ -66,6 +70,24 @@ def test_names_the_member_that_is_meant() -> None:
         with pytest.raises(TypeError) as wrong:
             make()
         assert str(wrong.value) == told
+
+
+def test_says_what_is_no_manifest() -> None:
+    # a type checker refuses these
+    given: list[Any] = [5, None, {"ram_base": 0x40000000}]
+    blocks: Any = 2
+    told = ["the int 5", "None", "the dict {'ram_base': 1073741824}"]
+    for odd, words in zip(given, told):
+        with pytest.raises(TypeError) as wrong:
+            Machine(odd)
+        assert str(wrong.value) == f"a manifest is a text, a path or a Manifest, and not {words}"
+        with pytest.raises(TypeError) as wrong:
+            Manifest.read(odd)
+        assert str(wrong.value) == f"a manifest is a text or a path, and not {words}"
+    with pytest.raises(TypeError, match=r"^ram is a Ram, and not the int 2: give Ram\(2\)$"):
+        Machine(PARTITIONS, blocks)
+    with pytest.raises(FileNotFoundError):
+        Manifest.read(EXAMPLES / "nothing.toml")
 
 
 def test_says_why_a_text_is_refused() -> None:
