@@ -159,10 +159,13 @@ class Registers:
         return function.call_name + (f" {code.name}" if code is not None else "")
 
     def ok(self) -> Registers:
-        """Itself, where it is no FFA_ERROR; else the exception of its code."""
+        """Itself, where it is no FFA_ERROR; else the exception of its code, which names the caller, who sees it.
+
+        It has no reason, since registers know no machine. `Machine.require` and `Machine.do` make a call and raise what
+        is refused with its reason; else `Machine.why` tells it, asked of that call before anything else is done."""
         code = self.code
         if code is not None:
-            raise call_refused(code)
+            raise call_refused(code, caller=self.runner)
         return self
 
 

@@ -58,8 +58,11 @@ def test_does_calls(partitions: Machine) -> None:
     assert answer.function is Function.FFA_RUN and answer.code is None and answer.ok() is answer
     refused = partitions.call(Function.FFA_RUN, 0x80020000)
     assert refused.code is ErrorCode.DENIED and refused.is_error
-    with pytest.raises(Denied, match="DENIED"):
+    with pytest.raises(Denied, match="^8001: DENIED$") as wrong:
         refused.ok()
+    assert (wrong.value.caller, wrong.value.reason) == (0x8001, None)
+    with pytest.raises(Busy, match="^8002: BUSY$"):
+        partitions.call_as(0x8002, Function.FFA_ID_GET).ok()
     assert partitions.fetch(0x40020000) == Data(0, 4)
     with pytest.raises(AttributeError):
         refused.runner = 1  # type: ignore[misc]
