@@ -1,5 +1,8 @@
 # SPDX-License-Identifier: MIT OR Apache-2.0
-"""What may go wrong, as exceptions by name. All are GorseplumbError."""
+"""What may go wrong, as exceptions by name. All are GorseplumbError.
+
+`args` of an exception are what it was made of, and `str` is its message: so it is copied, and goes from one process to
+another, as it is."""
 from __future__ import annotations
 
 from typing import TYPE_CHECKING
@@ -37,8 +40,11 @@ class ManifestRefused(GorseplumbError, ValueError):
     given in a manifest's place, where that can be told."""
 
     def __init__(self, cause: Cause, hint: str = "") -> None:
-        super().__init__(f"{cause.text}: {hint}" if hint else cause.text)
+        super().__init__(cause, hint)
         self.cause, self.hint = cause, hint
+
+    def __str__(self) -> str:
+        return f"{self.cause.text}: {self.hint}" if self.hint else self.cause.text
 
 
 class WrongRamSize(GorseplumbError, ValueError):
@@ -49,8 +55,11 @@ class NoSuchEndpoint(GorseplumbError, LookupError):
     """The machine has no endpoint of this identifier."""
 
     def __init__(self, endpoint: int) -> None:
-        super().__init__(f"the machine has no endpoint {endpoint:04X}")
+        super().__init__(endpoint)
         self.endpoint = endpoint
+
+    def __str__(self) -> str:
+        return f"the machine has no endpoint {self.endpoint:04X}"
 
 
 class NoSuchPage(GorseplumbError, IndexError):
@@ -76,9 +85,12 @@ class GuardUnmet(GorseplumbError, AssertionError):
     """A guard of a trace asks for another text than there is."""
 
     def __init__(self, number: int, wanted: str, got: str | None) -> None:
-        told = "nothing" if got is None else f'"{got}"'
-        super().__init__(f'line {number}: wanted "{wanted}", got {told}')
+        super().__init__(number, wanted, got)
         self.number, self.wanted, self.got = number, wanted, got
+
+    def __str__(self) -> str:
+        told = "nothing" if self.got is None else f'"{self.got}"'
+        return f'line {self.number}: wanted "{self.wanted}", got {told}'
 
 
 class NotRecordable(GorseplumbError):
@@ -109,9 +121,12 @@ class AccessFault(GorseplumbError):
     """A load, a store or a fetch that wasn't done. There is a class for each kind of fault."""
 
     def __init__(self, fault: Fault, address: int, endpoint: int, reason: Reason | None = None) -> None:
-        words = f", which {reason.words}" if reason is not None else ""
-        super().__init__(f"{fault.text} fault of {endpoint:04X} at {address_text(address)}{words}")
+        super().__init__(fault, address, endpoint, reason)
         self.fault, self.address, self.endpoint, self.reason = fault, address, endpoint, reason
+
+    def __str__(self) -> str:
+        words = f", which {self.reason.words}" if self.reason is not None else ""
+        return f"{self.fault.text} fault of {self.endpoint:04X} at {address_text(self.address)}{words}"
 
 
 class TranslationFault(AccessFault):
@@ -140,12 +155,16 @@ class CallRefused(GorseplumbError):
     def __init__(
         self, code: ErrorCode | int, x0: int | None = None, caller: int | None = None, reason: Reason | None = None
     ) -> None:
-        name = code.name if isinstance(code, ErrorCode) else f"error {code}"
-        by = f"{caller:04X}: " if caller is not None else ""
-        asked = f"{call_name(x0)}: " if x0 is not None else ""
-        told = reason if reason is None or x0 is None else reason.words  # its call is named once
-        super().__init__(f"{by}{asked}{name}" + (f": {told}" if told is not None else ""))
+        super().__init__(code, x0, caller, reason)
         self.code, self.x0, self.caller, self.reason = code, x0, caller, reason
+
+    def __str__(self) -> str:
+        told = [f"{self.caller:04X}"] if self.caller is not None else []
+        told += [call_name(self.x0)] if self.x0 is not None else []
+        told.append(self.code.name if isinstance(self.code, ErrorCode) else f"error {self.code}")
+        if self.reason is not None:  # which names the call, where that isn't told yet
+            told.append(str(self.reason) if self.x0 is None else self.reason.words)
+        return ": ".join(told)
 
     @property
     def check(self) -> Check | None:
