@@ -6,7 +6,7 @@ import ctypes
 import os
 import struct
 import weakref
-from typing import TYPE_CHECKING, Callable, Iterable, Iterator, NoReturn
+from typing import TYPE_CHECKING, Callable, Iterable, Iterator, NoReturn, SupportsIndex
 
 from . import _library as c
 from ._library import library
@@ -64,7 +64,7 @@ class Machine(Questions):
 
     Its manifest is a text, a path to one (a str is a text, so give a `pathlib.Path`), or a Manifest. Its RAM is of the
     heap, or a Ram, of which all is zeros then but the tables; with `keep` the pages of regions keep the bytes that they
-    have."""
+    have. It isn't copied: `copy` and `pickle` are refused."""
 
     __slots__ = ("_at", "_ram", "_manifest", "_values", "_watchers", "__weakref__")
 
@@ -114,6 +114,9 @@ class Machine(Questions):
 
     def __exit__(self, *_: object) -> None:
         self.close()
+
+    def __reduce_ex__(self, protocol: SupportsIndex) -> NoReturn:
+        raise TypeError("a machine isn't copied or pickled: boot another, and do on it what was done")
 
     def __repr__(self) -> str:
         if not self._end.alive:

@@ -4,7 +4,7 @@ from __future__ import annotations
 
 import ctypes
 import mmap
-from typing import TYPE_CHECKING, Iterable
+from typing import TYPE_CHECKING, Iterable, NoReturn, SupportsIndex
 
 from . import _library as c
 from ._library import library
@@ -29,6 +29,9 @@ class Ram:
 
     def __len__(self) -> int:
         return self.blocks * BLOCK_SIZE
+
+    def __reduce_ex__(self, protocol: SupportsIndex) -> NoReturn:
+        raise TypeError("RAM isn't copied or pickled: make another, and write to it what `read` gives")
 
     def __repr__(self) -> str:
         return f"Ram({self.blocks})" + (", lent" if self.is_lent else "")

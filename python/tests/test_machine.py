@@ -2,7 +2,9 @@
 """The machine: operations, questions, and what is refused, on the machine of the manual's worked example."""
 from __future__ import annotations
 
+import copy
 import gc
+import pickle
 import uuid
 from pathlib import Path
 from typing import Any, Callable
@@ -320,6 +322,15 @@ def test_ends_once() -> None:
         with pytest.raises(MachineEnded):
             asked()
     assert repr(machine) == "<Machine, ended>"
+
+
+def test_is_not_copied() -> None:
+    copies: list[Callable[[object], object]] = [copy.copy, copy.deepcopy, pickle.dumps]
+    with Machine(MANIFEST) as machine:
+        for copied in copies:
+            with pytest.raises(TypeError, match="^a machine isn't copied or pickled: boot another"):
+                copied(machine)
+        assert machine.is_fresh and machine.store(RAM + 0x10000, 1, 42) == Done()
 
 
 def test_tells_its_watchers(partitions: Machine) -> None:

@@ -2,7 +2,9 @@
 """RAM that is lent: whose its bytes are, and when."""
 from __future__ import annotations
 
+import copy
 import gc
+import pickle
 from typing import Callable
 
 import pytest
@@ -71,6 +73,14 @@ def test_refuses_bytes_that_are_not_there() -> None:
     for blocks in (0, 33):
         with pytest.raises(ValueError):
             Ram(blocks)
+
+
+def test_is_not_copied() -> None:
+    ram = Ram(1)
+    copies: list[Callable[[object], object]] = [copy.copy, copy.deepcopy, pickle.dumps]
+    for copied in copies:
+        with pytest.raises(TypeError, match="^RAM isn't copied or pickled: make another"):
+            copied(ram)
 
 
 def test_boots_the_largest_machine_many_times() -> None:
