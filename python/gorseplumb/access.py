@@ -27,6 +27,7 @@ class Run:
 
     @property
     def pages(self) -> int:
+        """How many pages it has."""
         return self.last - self.first + 1
 
 

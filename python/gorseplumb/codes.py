@@ -152,14 +152,17 @@ class Right(IntEnum):
 
     @property
     def reads(self) -> bool:
+        """Whether it has loads."""
         return bool(self & 1)
 
     @property
     def writes(self) -> bool:
+        """Whether it has stores."""
         return bool(self & 2)
 
     @property
     def executes(self) -> bool:
+        """Whether it has fetches."""
         return bool(self & 4)
 
 

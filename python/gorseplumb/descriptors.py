@@ -60,6 +60,7 @@ class Receiver:
 
     @property
     def permissions(self) -> int:
+        """The byte of an access descriptor that says this."""
         return self.data | self.instructions << 2
 
 
@@ -74,6 +75,7 @@ class PageRange:
 
     @property
     def end(self) -> int:
+        """The address behind the last page."""
         return self.address + PAGE_SIZE * self.pages
 
 

@@ -173,11 +173,11 @@ class CallRefused(GorseplumbError):
 
 
 class NotSupported(CallRefused):
-    pass
+    """No such function is served, or FFA_FEATURES knows no such feature."""
 
 
 class InvalidParameters(CallRefused):
-    pass
+    """What the call is given, in registers or in TX, isn't what it may be, or the caller has no buffers."""
 
 
 class NoMemory(CallRefused):
@@ -185,27 +185,27 @@ class NoMemory(CallRefused):
 
 
 class Busy(CallRefused):
-    pass
+    """A buffer is full, or an endpoint isn't ready: later the same call may be done."""
 
 
 class Interrupted(CallRefused):
-    pass
+    """The standard has this code; the machine never answers it."""
 
 
 class Denied(CallRefused):
-    pass
+    """The caller may not do this, by its manifest or as things stand: `reason` says what stands in the way."""
 
 
 class Retry(CallRefused):
-    pass
+    """The standard has this code; the machine never answers it."""
 
 
 class Aborted(CallRefused):
-    pass
+    """The standard has this code; the machine never answers it."""
 
 
 class NoData(CallRefused):
-    pass
+    """The standard has this code; the machine never answers it."""
 
 
 _FAULTS: dict[Fault, type[AccessFault]] = {

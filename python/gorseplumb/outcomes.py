@@ -112,6 +112,7 @@ class Fetch:
 
 
 Operation = Union[Call, Load, Store, Fetch]
+"""What an endpoint can do."""
 KINDS = "a Call, a Load, a Store or a Fetch"
 
 
@@ -142,6 +143,7 @@ class Registers:
 
     @property
     def is_error(self) -> bool:
+        """Whether w0 is that of FFA_ERROR."""
         return self.x[0] & 0xFFFFFFFF == Function.FFA_ERROR
 
     @property
@@ -206,5 +208,6 @@ class Faulted:
 
 
 Outcome = Union[Registers, Data, Done, Faulted]
+"""What comes of an operation."""
 DONE = Done()
 FAULTED = {fault: Faulted(fault) for fault in Fault}

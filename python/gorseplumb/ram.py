@@ -38,6 +38,7 @@ class Ram:
 
     @property
     def is_lent(self) -> bool:
+        """Whether a machine has it."""
         return self._list is not None
 
     def read(self, offset: int, size: int) -> bytes:

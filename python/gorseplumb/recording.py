@@ -64,10 +64,12 @@ class TraceRecording(Recording):
         self._runner = machine.runner
 
     def before(self, machine: Machine, by: int, operation: Operation) -> None:
+        """Refuses a store of another endpoint than the runner, which no trace can have."""
         if isinstance(operation, Store) and by != self._runner:
             raise NotRecordable(f"a trace has stores of the endpoint that runs alone, which is {self._runner:04X}")
 
     def after(self, machine: Machine, by: int | None, operation: Operation, outcome: Outcome) -> None:
+        """Writes the operation, with its outcome as a guard; as a comment where another than the runner was asked."""
         if by is not None and by != self._runner:
             self.note(f"{by:04X}, which doesn't run: {operation}: {outcome}")
             return
@@ -103,6 +105,7 @@ class JsonRecording(Recording):
     """Lines of JSON, one for each operation and its outcome."""
 
     def after(self, machine: Machine, by: int | None, operation: Operation, outcome: Outcome) -> None:
+        """Writes a line."""
         self._put(jsonlines.dumps(operation, outcome, by))
 
 

@@ -2,6 +2,7 @@
 """Names, numbers and words against the manual, the core's lists, the program's words and C's header."""
 from __future__ import annotations
 
+import inspect
 import re
 import tomllib
 from enum import IntEnum
@@ -137,6 +138,18 @@ def test_numbers_of_checks_are_those_of_the_manual() -> None:
 def test_the_declarations_are_those_that_the_package_has() -> None:
     told = re.search(r"#define GORSEPLUMB_DECLARATIONS (\d+)", HEADER)
     assert told is not None and int(told[1]) == c.DECLARATIONS
+
+
+def test_each_public_name_says_what_it_is() -> None:
+    kinds = [(name, it) for name, it in vars(gorseplumb).items() if name in gorseplumb.__all__]
+    for name, it in kinds:
+        if isinstance(it, type) or inspect.isfunction(it):
+            assert it.__doc__ and not it.__doc__.startswith(f"{name}("), name
+        if isinstance(it, type):
+            for of, member in vars(it).items():
+                function = member.fget if isinstance(member, property) else getattr(member, "__func__", member)
+                is_told = not inspect.isfunction(function) or of.startswith("_") or function.__doc__
+                assert is_told, f"{name}.{of}"
 
 
 def test_the_version_is_the_programs() -> None:
