@@ -14,6 +14,7 @@ from .batch import Batch, Outcomes
 from .codes import Answer, Fault, Form, Function
 from .descriptors import Offer, Relinquish, Retrieve, stores
 from .errors import LibraryError, access_fault, call_refused
+from .hexadecimal import shown
 from .manifest import Manifest, checked_boot, text_of
 from .messages import IndirectMessage
 from .misuse import check_number, refuse
@@ -303,7 +304,7 @@ class Machine(Questions):
     def require(self, call: Call) -> Registers:
         """A call which, where it is refused, is raised with its reason."""
         if not isinstance(call, Call):
-            refuse("a call", "a Call", call)
+            refuse("a call", "a Call", call, f"Call(({shown(call)},))" if isinstance(call, int) else None)
         caller = self.runner
         answer = self.call(*call.x)
         code = answer.code

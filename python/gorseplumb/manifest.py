@@ -13,7 +13,7 @@ from ._library import library
 from .codes import Answer, Cause, Form, Properties, Right
 from .errors import LibraryError, ManifestRefused, OutOfMemory, WrongRamSize
 from .hexadecimal import by_fields
-from .misuse import check_member_or_number, file_hint, refuse
+from .misuse import check_member_or_number, check_number, file_hint, refuse
 
 _NIL = uuids.UUID(int=0)
 _RIGHTS = {Right.RO: "ro", Right.RW: "rw", Right.ROX: "rox", Right.RWX: "rwx"}
@@ -90,7 +90,9 @@ class Manifest:
         if len(self.endpoints) > c.MOST_ENDPOINTS:
             raise ManifestRefused(Cause.ENDPOINT_COUNT)
         raw = c.Manifest(
-            _fit(self.ram_base, Cause.RAM_BASE), _fit(self.ram_blocks, Cause.RAM_BLOCKS), len(self.endpoints)
+            _fit("ram_base", self.ram_base, Cause.RAM_BASE),
+            _fit("ram_blocks", self.ram_blocks, Cause.RAM_BLOCKS),
+            len(self.endpoints),
         )
         for place, endpoint in zip(raw.endpoints, self.endpoints):
             _put_endpoint(place, endpoint)
@@ -131,7 +133,8 @@ def _hint(given: object) -> str:
     return file_hint(given, "a manifest's text", not any(it in given for it in "=[#\n"))
 
 
-def _fit(number: int, cause: Cause) -> int:
+def _fit(what: str, number: int, cause: Cause) -> int:
+    check_number(what, number)
     if number >> 32:
         raise ManifestRefused(cause)
     return number
@@ -141,12 +144,12 @@ def _put_endpoint(place: c.Endpoint, endpoint: Endpoint) -> None:
     if len(endpoint.regions) > c.MOST_REGIONS:
         raise ManifestRefused(Cause.REGION_COUNT)
     place.version = int(endpoint.form)
-    place.properties = _fit(int(endpoint.properties), Cause.PROPERTY)
+    place.properties = _fit("properties", int(endpoint.properties), Cause.PROPERTY)
     place.uuid[:] = (endpoint.uuid or _NIL).bytes
     place.region_count = len(endpoint.regions)
     for slot, region in zip(place.regions, endpoint.regions):
-        slot.base = _fit(region.base, Cause.REGION_OUTSIDE)
-        slot.pages = _fit(region.pages, Cause.REGION_OUTSIDE)
+        slot.base = _fit("base", region.base, Cause.REGION_OUTSIDE)
+        slot.pages = _fit("pages", region.pages, Cause.REGION_OUTSIDE)
         slot.rights = int(region.rights)
 
 

@@ -29,8 +29,8 @@ def check_number(what: str, given: object) -> None:
 def check_registers(given: object) -> None:
     """Refuses what are no registers, and names the first that is no number."""
     if isinstance(given, str) or not isinstance(given, Sequence):
-        instead = f"({_name_of(given) if isinstance(given, Enum) else shown(given)},)" if _is_number(given) else None
-        refuse("x", "a tuple of registers", given, instead)
+        number = f"({shown(given)},)" if _is_number(given) else None
+        refuse("x", "a tuple of registers", given, "its x" if hasattr(given, "x") else number)
     for place, register in enumerate(given):
         check_number(f"x{place}", register)
 

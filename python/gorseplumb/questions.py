@@ -86,6 +86,7 @@ class Questions:
 
     def page_of(self, address: int) -> int:
         """The number of the page that has an address."""
+        check_number("an address", address)
         page = (address - self.ram_base) // PAGE_SIZE
         if not 0 <= page < self.pages:
             raise NoSuchPage(f"{address:08X} is outside RAM")
@@ -93,7 +94,7 @@ class Questions:
 
     def owner(self, page: int) -> int:
         """Who owns a page: an endpoint, or the manager."""
-        owner = library.owner(self._raw, page) if page >> 32 == 0 else c.NOTHING
+        owner = library.owner(self._raw, page) if _has_room(page) else c.NOTHING
         if owner == c.NOTHING:
             self._refuse_page(page)
         return int(owner)
@@ -126,7 +127,7 @@ class Questions:
     def page(self, page: int) -> bytes:
         """The bytes of a page, whoever reaches it."""
         found = ctypes.create_string_buffer(PAGE_SIZE)
-        if page >> 32 or not library.read_page(self._raw, page, found):
+        if not (_has_room(page) and library.read_page(self._raw, page, found)):
             self._refuse_page(page)
         return found.raw
 
@@ -141,7 +142,7 @@ class Questions:
     def run_at(self, page: int) -> Run:
         """The longest run of pages from this one on with one owner, one transaction or none, and the same rights."""
         raw = c.CertRun()
-        if page >> 32 or not library.cert_run(self._raw, page, raw):
+        if not (_has_room(page) and library.cert_run(self._raw, page, raw)):
             self._refuse_page(page)
         return run_of_raw(raw, len(self._endpoints))
 
@@ -252,6 +253,15 @@ class Questions:
 
     def _refuse_ended(self) -> NoReturn:
         raise MachineEnded("the machine was closed")
+
+
+def _has_room(page: int) -> bool:
+    """Whether the library can be asked of a page of this number."""
+    try:
+        return page >> 32 == 0
+    except TypeError:
+        check_number("a page", page)
+        raise
 
 
 def _hindrance(raw: c.Reason) -> Hindrance:

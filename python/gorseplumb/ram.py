@@ -10,6 +10,7 @@ from . import _library as c
 from ._library import library
 from .codes import BLOCK_SIZE, PAGES_OF_BLOCK, Answer
 from .errors import LibraryError, OutOfMemory, RamLent
+from .misuse import check_number
 
 if TYPE_CHECKING:
     from .access import Run
@@ -20,6 +21,7 @@ class Ram:
     given out and no view, so none can outlive the loan."""
 
     def __init__(self, blocks: int) -> None:
+        check_number("blocks", blocks)
         if not 1 <= blocks <= c.MOST_BLOCKS:
             raise ValueError(f"RAM has 1 to {c.MOST_BLOCKS} blocks, and not {blocks}")
         self.blocks = blocks

@@ -8,7 +8,7 @@ from typing import Mapping
 from .codes import ErrorCode, Function
 from .errors import call_name
 from .hexadecimal import by_fields
-from .misuse import check_member, check_number
+from .misuse import check_member, check_number, check_registers
 
 Place = tuple[tuple[int, int, int], ...]
 """Where a number stands: pieces of a register each, as (register, lowest bit, bits), the lowest piece first."""
@@ -176,7 +176,11 @@ def encode(function: Function, /, **arguments: int) -> tuple[int, ...]:
 
 def decode(x: tuple[int, ...], answers: int | None = None) -> NamedRegisters | None:
     """What registers hold, by name; none where w0 names nothing. `answers` is the w0 of the call that they answer."""
-    function = Function.of(x[0])
+    try:
+        function = Function.of(x[0])
+    except TypeError:
+        check_registers(x)
+        raise
     if function is None:
         return None
     found = places(function)

@@ -3,7 +3,7 @@
 from __future__ import annotations
 
 import uuid
-from typing import Callable
+from typing import Any, Callable
 
 import pytest
 from conftest import BUILT_IN
@@ -63,6 +63,9 @@ def test_reads_what_an_answer_holds_by_the_call_that_it_answers() -> None:
     assert str(decode((Function.FFA_ERROR, 0, 0xFFFFFFFA, 0, 0, 0, 0, 0))) == "FFA_ERROR code=DENIED"
     assert str(decode((0x8400006B, 0x80010000, 0, 0, 0, 0, 0, 0))) == "FFA_MSG_WAIT partition=8001 context=0"
     assert decode((0x00010001, 0, 0, 0, 0, 0, 0, 0)) is None
+    answer: Any = Registers(0, success)
+    with pytest.raises(TypeError, match=r"^x is a tuple of registers, and not Registers\(.*\): give its x$"):
+        decode(answer)
 
 
 def test_reads_all_of_a_register_where_the_64_bit_form_does() -> None:
