@@ -224,7 +224,7 @@ class Session:
 
     def _play(self, words: list[str]) -> Iterable[str]:
         """play FILE                 plays a trace, with its guards"""
-        (path,) = words
+        (path,) = _exactly(words, "a file")
         recorded = _Operations()
         self.machine.watch(recorded)
         told: list[str] = []
@@ -240,7 +240,7 @@ class Session:
 
     def _save(self, words: list[str]) -> list[str]:
         """save FILE                 writes what was done as a trace with guards"""
-        (path,) = words
+        (path,) = _exactly(words, "a file")
         with Machine(self._manifest) as machine, TraceRecording(machine, path):
             for operation in self._done:
                 machine.perform(operation)
@@ -281,7 +281,7 @@ class _Operations(Watcher):
 
 def _exactly(words: list[str], *names: str) -> list[str]:
     if len(words) != len(names):
-        raise ValueError(f"wanted are {', '.join(names)}")
+        raise ValueError(f"wanted {'are' if len(names) > 1 else 'is'} {', '.join(names)}")
     return words
 
 
@@ -299,7 +299,8 @@ def _words_of(wrong: Exception) -> str:
 
 def _numbers(words: list[str], count: int) -> list[int]:
     if len(words) != count:
-        raise ValueError(f"{count} numbers are wanted, and not {len(words)}")
+        wanted = "1 number is" if count == 1 else f"{count} numbers are"
+        raise ValueError(f"{wanted} wanted, and not {len(words)}")
     try:
         return [int(word.removeprefix("0x"), 16) for word in words]
     except ValueError:

@@ -59,7 +59,10 @@ def test_does_operations_and_calls_by_name(session: Session) -> None:
         ("play /nowhere", "No such file"),
         ("undo", "0 lines did something"),
         ("help FFA_NOTHING", "no such call"),
-        ("save", ""),
+        ("save", "wanted is a file"),
+        ("play a b", "wanted is a file"),
+        ("access", "1 number is wanted, and not 0"),
+        ("read 1", "2 numbers are wanted, and not 1"),
     ],
 )
 def test_survives_a_mistake(session: Session, line: str, told: str) -> None:
