@@ -171,6 +171,11 @@ class CallRefused(GorseplumbError):
         """The check that failed, where the library told it."""
         return self.reason.check if self.reason is not None else None
 
+    @property
+    def check_number(self) -> int | None:
+        """Its number in the manual's list of the call, as the message has it."""
+        return self.reason.check_number if self.reason is not None else None
+
 
 class NotSupported(CallRefused):
     """No such function is served, or FFA_FEATURES knows no such feature."""

@@ -44,7 +44,8 @@ def test_is_copied_with_its_reason() -> None:
             machine.do(Function.FFA_RUN, partition=0x8009)
         with pytest.raises(AccessFault) as fault:
             machine.read(0x40020000, 1)
-    assert refused.value.check is Check.TARGET_UNKNOWN
+    assert refused.value.check is Check.TARGET_UNKNOWN and refused.value.check_number == 2
+    assert call_refused(ErrorCode.BUSY).check is call_refused(ErrorCode.BUSY).check_number is None
     assert fault.value.reason is not None and fault.value.reason.operation == Load(0x40020000, 1)
     assert_is_copied(refused.value)
     assert_is_copied(fault.value)
