@@ -2,10 +2,11 @@
 //! Calls in registers.
 ghost use Rattle.std.specs.Prelude.{◌≡◌, ◌<◌, slice_index};
 ghost use Rattle.ffa_model.specs.Bits.{high_half, is_set, low_half, word_of_halves};
-ghost use Rattle.ffa_model.specs.Registers.{additions, decode, high_endpoint, is_function, low, low_endpoint, memory, messages, notifications, setup};
+ghost use Rattle.ffa_model.specs.Registers.{additions, decode, functions, high_endpoint, is_function, low, low_endpoint, memory, messages, notifications, setup};
 ghost use Rattle.ffa_abi.specs.Parts.{called_in, bits_of_call, message_of, payload_of, transfer_of, widest};
 ghost use Rattle.ffa_abi.specs.Widths.{is_read_whole, is_widened};
 
+use crate::names::call_row;
 use ffa_model::function::*;
 use ffa_model::{Call, DirectMessage, EndpointId, Handle, NotificationBits, Transfer};
 
@@ -240,6 +241,12 @@ impl Registers {
 pub fn decode(x: [u64; 8]) -> Call
     ensures { result ≡ decode x }
 {
+    called(x).unwrap_or(Call::Unknown)
+}
+
+fn called(x: [u64; 8]) -> Option<Call>
+    ensures { result ≡ called_in functions x }
+{
     let registers = Registers(x);
     registers
         .setup()
@@ -247,7 +254,6 @@ pub fn decode(x: [u64; 8]) -> Call
         .or_else(|| registers.memory())
         .or_else(|| registers.notification())
         .or_else(|| registers.addition())
-        .unwrap_or(Call::Unknown)
 }
 
 /// Whether the call that the registers hold reads this one whole, as its 64-bit form does some, or the low half alone.
@@ -255,20 +261,16 @@ pub fn decode(x: [u64; 8]) -> Call
 pub fn is_read_whole(x: &[u64; 8], register: u32) -> bool
     ensures { result ≡ is_read_whole x.now register }
 {
-    Registers(*x).is_wide() && is_widened(&decode(*x), register)
+    Registers(*x).is_wide() && is_widened(low(x[0]), register)
 }
 
 // Whether the 64-bit form of a call reads a register whole.
-fn is_widened(call: &Call, register: u32) -> bool
-    ensures { result ≡ is_widened call.now register }
+fn is_widened(function: u32, register: u32) -> bool
+    ensures { result ≡ is_widened function register }
 {
-    match call {
-        Call::RxtxMap { .. } => register == 1 || register == 2,
-        Call::DirectRequest(_) | Call::DirectResponse(_) => 3 <= register && register <= 7,
-        Call::MemDonate(_) | Call::MemLend(_) | Call::MemShare(_) | Call::MemRetrieve(_) => {
-            register == 3
-        }
-        _ => false,
+    match call_row(function) {
+        Some((_, _, whole, _)) => whole.contains(&register),
+        None => false,
     }
 }
 
@@ -276,40 +278,5 @@ fn is_widened(call: &Call, register: u32) -> bool
 pub fn is_function(function: u32) -> bool
     ensures { result ≡ is_function function }
 {
-    matches!(
-        function,
-        FFA_VERSION
-            | FFA_FEATURES
-            | FFA_RX_RELEASE
-            | FFA_RXTX_MAP
-            | FFA_RXTX_MAP_64
-            | FFA_RXTX_UNMAP
-            | FFA_PARTITION_INFO_GET
-            | FFA_ID_GET
-            | FFA_MSG_WAIT
-            | FFA_YIELD
-            | FFA_RUN
-            | FFA_MSG_SEND_DIRECT_REQ
-            | FFA_MSG_SEND_DIRECT_REQ_64
-            | FFA_MSG_SEND_DIRECT_RESP
-            | FFA_MSG_SEND_DIRECT_RESP_64
-            | FFA_MEM_DONATE
-            | FFA_MEM_DONATE_64
-            | FFA_MEM_LEND
-            | FFA_MEM_LEND_64
-            | FFA_MEM_SHARE
-            | FFA_MEM_SHARE_64
-            | FFA_MEM_RETRIEVE_REQ
-            | FFA_MEM_RETRIEVE_REQ_64
-            | FFA_MEM_RELINQUISH
-            | FFA_MEM_RECLAIM
-            | FFA_NOTIFICATION_BITMAP_CREATE
-            | FFA_NOTIFICATION_BITMAP_DESTROY
-            | FFA_NOTIFICATION_BIND
-            | FFA_NOTIFICATION_UNBIND
-            | FFA_NOTIFICATION_SET
-            | FFA_NOTIFICATION_GET
-            | FFA_SPM_ID_GET
-            | FFA_MSG_SEND2
-    )
+    called([u64::from(function), 0, 0, 0, 0, 0, 0, 0]).is_some()
 }

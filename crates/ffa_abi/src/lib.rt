@@ -8,7 +8,7 @@ mod reasons;
 mod reply;
 
 pub use call::{decode, is_function, is_read_whole, low};
-pub use ffa_model::{Call, Reply};
-pub use names::{call_name, error_name};
+pub use ffa_model::{Call, CallRow, Reply};
+pub use names::{call_name, call_row, error_name};
 pub use reasons::about_registers;
 pub use reply::encode;

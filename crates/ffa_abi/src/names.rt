@@ -2,47 +2,45 @@
 //! What the standard calls the functions and the error codes that registers hold.
 ghost use Rattle.std.specs.Prelude.{◌≡◌, option_map};
 ghost use Rattle.ffa_model.specs.Registers.{low};
-ghost use Rattle.ffa_abi.specs.Names.{call_name_of, error_name_of, error_names, name_in};
+ghost use Rattle.ffa_model.specs.Rows.{row_of, told};
+ghost use Rattle.ffa_abi.specs.Names.{answer_names, call_name_of, error_name_of, error_names, name_in};
 
 use crate::call::low;
-use ffa_model::function::*;
+use ffa_model::function::{FFA_ERROR, FFA_MEM_RETRIEVE_RESP, FFA_SUCCESS, WIDE};
+use ffa_model::{CALLS, CallRow};
 
-/// The name of the call that these registers are, in either form that the call has (DEN0077A, 11 to 16). The low half of
-/// x0 identifies it: None where that is no function identifier that the manager knows, as where it is a version.
+/// The row of the call of which a number is the identifier, in either form that the call has (DEN0077A, 11 to 16).
+#[tactic(auto, unfolding(ffa_model::specs::Rows::row_of))]
+pub fn call_row(function: u32) -> Option<&'static CallRow>
+    ensures { option_map (λ row. told row.now) result ≡ row_of function }
+{
+    CALLS.iter().find(|row| {
+        function == row.0
+            || !row.2.is_empty() && u64::from(function) == u64::from(row.0) + u64::from(WIDE)
+    })
+}
+
+/// The name of the call that these registers are, in either form that the call has. The low half of x0 identifies it: None
+/// where that is no function identifier that the manager knows, as where it is a version.
 #[tactic(auto, unfolding(crate::specs::Names::call_name_of))]
 pub fn call_name(x: &[u64; 8]) -> Option<&'static str>
     ensures { option_map (λ name. name.now) result ≡ call_name_of x.now }
 {
-    let name = match low(x[0]) {
+    let function = low(x[0]);
+    match call_row(function) {
+        Some((_, name, _, _)) => Some(name),
+        None => answer_name(function),
+    }
+}
+
+// The name of what a caller sees, and is no call.
+fn answer_name(function: u32) -> Option<&'static str>
+    ensures { option_map (λ name. name.now) result ≡ name_in answer_names function }
+{
+    let name = match function {
         FFA_ERROR => "FFA_ERROR",
         FFA_SUCCESS => "FFA_SUCCESS",
-        FFA_VERSION => "FFA_VERSION",
-        FFA_FEATURES => "FFA_FEATURES",
-        FFA_RX_RELEASE => "FFA_RX_RELEASE",
-        FFA_RXTX_MAP | FFA_RXTX_MAP_64 => "FFA_RXTX_MAP",
-        FFA_RXTX_UNMAP => "FFA_RXTX_UNMAP",
-        FFA_PARTITION_INFO_GET => "FFA_PARTITION_INFO_GET",
-        FFA_ID_GET => "FFA_ID_GET",
-        FFA_MSG_WAIT => "FFA_MSG_WAIT",
-        FFA_YIELD => "FFA_YIELD",
-        FFA_RUN => "FFA_RUN",
-        FFA_MSG_SEND_DIRECT_REQ | FFA_MSG_SEND_DIRECT_REQ_64 => "FFA_MSG_SEND_DIRECT_REQ",
-        FFA_MSG_SEND_DIRECT_RESP | FFA_MSG_SEND_DIRECT_RESP_64 => "FFA_MSG_SEND_DIRECT_RESP",
-        FFA_MEM_DONATE | FFA_MEM_DONATE_64 => "FFA_MEM_DONATE",
-        FFA_MEM_LEND | FFA_MEM_LEND_64 => "FFA_MEM_LEND",
-        FFA_MEM_SHARE | FFA_MEM_SHARE_64 => "FFA_MEM_SHARE",
-        FFA_MEM_RETRIEVE_REQ | FFA_MEM_RETRIEVE_REQ_64 => "FFA_MEM_RETRIEVE_REQ",
         FFA_MEM_RETRIEVE_RESP => "FFA_MEM_RETRIEVE_RESP",
-        FFA_MEM_RELINQUISH => "FFA_MEM_RELINQUISH",
-        FFA_MEM_RECLAIM => "FFA_MEM_RECLAIM",
-        FFA_NOTIFICATION_BITMAP_CREATE => "FFA_NOTIFICATION_BITMAP_CREATE",
-        FFA_NOTIFICATION_BITMAP_DESTROY => "FFA_NOTIFICATION_BITMAP_DESTROY",
-        FFA_NOTIFICATION_BIND => "FFA_NOTIFICATION_BIND",
-        FFA_NOTIFICATION_UNBIND => "FFA_NOTIFICATION_UNBIND",
-        FFA_NOTIFICATION_SET => "FFA_NOTIFICATION_SET",
-        FFA_NOTIFICATION_GET => "FFA_NOTIFICATION_GET",
-        FFA_SPM_ID_GET => "FFA_SPM_ID_GET",
-        FFA_MSG_SEND2 => "FFA_MSG_SEND2",
         _ => return None,
     };
     Some(name)

@@ -1,8 +1,9 @@
 -- SPDX-License-Identifier: MIT OR Apache-2.0
 -- The first element that passes a test.
-use Rattle.std.proofs.Common.{◌≡◌, ◌∙◌, ℕ, zero, suc, ◌<◌, Bool, true, false, cond, List, [], ◌∷◌, filter, Option, Some, None, refl, ap, arith}
+use Rattle.std.proofs.Common.{◌≡◌, ◌∙◌, ℕ, zero, suc, ◌<◌, Bool, true, false, cond, List, [], ◌∷◌, filter, map, Option, Some, None, refl, ap, arith}
 use Rattle.std.specs.Prelude.{◌&&◌, find, if◌then◌else◌}
 use Rattle.std.specs.List.{All}
+use Rattle.std.specs.Option.{option_map}
 use Rattle.std.proofs.lemmas.List.Elements.{All-head, All-tail}
 use Rattle.ffa_model.specs.Lists.{listed}
 
@@ -41,3 +42,16 @@ find-alike test also [] same = refl
 find-alike {X = X} test also (x ∷ xs) same =
     let P : X → Type 0 = λ y. test y ≡ also y in
     λ i. cond (All-head P x xs same i) (Some x) (find-alike test also xs (All-tail P x xs same) i)
+
+-- of what is told of each
+pub find-map : {X Y : Type 0} (f : X → Y) (test : Y → Bool) (xs : List X) → option_map f (find (λ x. test (f x)) xs) ≡ find test (map f xs)
+find-map f test [] = refl
+find-map {Y = Y} f test (x ∷ xs) =
+    elim (test (f x)) as (λ b. option_map f (cond b (Some x) (find (λ y. test (f y)) xs)) ≡ cond b (Some (f x)) (find test (map f xs))) [
+      | true ↦ refl
+      | false ↦ find-map f test xs
+    ]
+
+pub option-twice : {X Y Z : Type 0} (f : X → Y) (g : Y → Z) (o : Option X) → option_map (λ x. g (f x)) o ≡ option_map g (option_map f o)
+option-twice f g None = refl
+option-twice f g (Some x) = refl

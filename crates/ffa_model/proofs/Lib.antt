@@ -4,7 +4,7 @@ pub mod Listed
 pub mod Owners
 pub mod Written
 pub mod Places
-pub mod Named
+pub mod Served
 pub mod Guards
 pub mod Handles
 pub mod Holders
@@ -31,3 +31,5 @@ pub mod ResponseSize
 pub mod Runs
 pub mod Reasons
 pub mod Finds
+pub mod CheckLists
+pub mod WordRows

@@ -32,7 +32,7 @@ use Rattle.ffa_model.specs.State.{State}
 use Rattle.ffa_model.specs.Step.{service, step}
 use Rattle.ffa_model.specs.Why.{grant_by, granted, outcome_of, refused, why, why_fault}
 use Rattle.ffa_model.proofs.Guards.{failure-code}
-use Rattle.ffa_model.proofs.Named.{decode-named}
+use Rattle.ffa_model.proofs.Served.{decode-named}
 use Rattle.byteorder.specs.Endian.{little_bytes}
 
 -- what a call replies that no guard refuses isn't seen as FFA_ERROR

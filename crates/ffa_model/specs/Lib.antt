@@ -19,6 +19,8 @@ pub mod Access
 pub mod RefusalCodes
 pub mod Calls
 pub mod Registers
+pub mod Rows
+pub mod Words
 pub mod Memory
 pub mod Refusals
 pub mod Buffers
@@ -46,6 +48,7 @@ pub mod MemoryRetrieve
 pub mod MemoryReturn
 pub mod SoundState
 pub mod Step
+pub mod Checks
 pub mod Elsewhere
 pub mod Obstacles
 pub mod AboutRegisters

@@ -167,6 +167,89 @@ pub enum Refusal {
     StillHeld,
 }
 
+macro_rules! words {
+    ($($refusal:ident $words:literal;)*) => { [$((Refusal::$refusal, $words)),*] };
+}
+
+/// What each check finds where it fails, in words, in the order of the variants.
+pub const WORDS: &[(Refusal, &str)] = &words![
+    FunctionUnknown "no such function is served";
+    BuffersMissing "the caller has no RX and TX";
+    FlagsReserved "a flag is set that has to be 0";
+    SenderIsAnother "the sender is not the caller";
+    ReceiverIsAnother "the receiver is not the caller";
+    ReceiverUnknown "no endpoint has the receiver's identifier";
+    ReceiverIsCaller "the receiver is the caller";
+    NotNormalWorld "the caller is not the normal world";
+    ContextUnknown "the execution context is not 0";
+    RxFull "the caller's RX is full";
+    UuidUnknown "no partition has the UUID";
+    BuffersMapped "the caller has RX and TX already";
+    BufferPageCount "a buffer has no page, or more than it may have";
+    TxMisplaced "TX does not begin at a page and lie in RAM";
+    RxMisplaced "RX does not begin at a page and lie in RAM";
+    BuffersOverlap "RX and TX have a page in common";
+    TxUnusable "a page of TX is not the caller's own to read and write, or is in an open transaction";
+    RxUnusable "a page of RX is not the caller's own to read and write, or is in an open transaction";
+    EndpointNotZero "the endpoint is not 0";
+    RxEmpty "the caller has no RX and TX, or its RX is not full";
+    ReceiverIsNormalWorld "the receiver is the normal world";
+    RequestsUnsent "the caller does not send direct requests";
+    RequestsUnreceived "the receiver does not receive direct requests";
+    ReceiverNotWaiting "the receiver does not wait";
+    NoRequest "the caller works on no direct request";
+    AnswerMisdirected "the response is not from the caller to the endpoint that asked";
+    TargetUnknown "no partition has the target's identifier";
+    TargetNotReady "the target neither waits nor has yielded";
+    NotRun "the caller does not run by cycles of the normal world";
+    NobodyToYieldTo "the caller works for nobody to whom it may yield";
+    HeaderReserved "a reserved field of the header is not 0";
+    MessageInHeader "the message begins inside its header";
+    MessageEmpty "the message has no byte";
+    MessageTooLong "the message does not end inside TX";
+    MessagesUnsent "the caller does not send indirect messages";
+    MessagesUnreceived "the receiver does not receive indirect messages";
+    ReceiverBuffersMissing "the receiver has no RX and TX";
+    ReceiverRxFull "the receiver's RX is full";
+    ReceiverRxSmall "the message with its header is longer than the receiver's RX";
+    EndpointNotNormalWorld "the endpoint is not the normal world";
+    ContextCount "the count of execution contexts is not 1";
+    BitmapsExist "the normal world has bitmaps already";
+    BitmapsMissing "the endpoint has no bitmaps";
+    BitsPending "a bit of the normal world is pending";
+    SenderUnknown "no endpoint has the sender's identifier";
+    SenderIsCaller "the sender is the caller";
+    BitsNone "no bit is named";
+    BitsTaken "another sender has one of the bits, or one is pending";
+    BitsNotTheSenders "one of the bits is not the sender's, or is pending";
+    BitsNotTheCallers "one of the bits is not the caller's";
+    ClassesUnknown "the flags ask for a class that is none of the four";
+    Fragmented "the fragment is not the whole descriptor";
+    DescriptorTooLong "the descriptor is longer than TX";
+    BufferAddressGiven "the address of a buffer is given, and there is TX alone";
+    BufferPagesGiven "the pages of a buffer are counted, and there is TX alone";
+    DescriptorMalformed "the bytes in TX are no descriptor of this call";
+    RangeOutside "a range does not lie in RAM";
+    PageUnsendable "a page is not the caller's own, or is in an open transaction or a buffer";
+    GrantTooMuch "a grant is more than the owner's right to a page";
+    ZerosUnwritable "zeros are asked of a page that its owner may not write to";
+    TransactionsFull "the caller has as many open transactions as it may have";
+    HandlesUsedUp "the caller has used up its handles";
+    HandleUnknown "no open transaction has the handle";
+    NotReceiver "the caller is no receiver of the transaction";
+    TransactionSenderDiffers "the sender is not that of the transaction";
+    TagDiffers "the tag is not that of the transaction";
+    KindDiffers "the kind is not that of the transaction";
+    AlreadyRetrieved "the caller holds the transaction already";
+    RightTooMuch "the right that is asked for is more than the caller may get";
+    EndpointIsAnother "the endpoint of the descriptor is not the caller";
+    NotOffered "no open transaction with the handle has the caller among its receivers";
+    NotHeld "the caller does not hold the transaction";
+    ZerosNotAllowed "zeros are asked of memory that is not lent to the caller to write to";
+    NotTheSenders "no open transaction of the caller has the handle";
+    StillHeld "a receiver holds the transaction";
+];
+
 impl Refusal {
     /// The error code that the call answers.
     pub fn code(self) -> ErrorCode

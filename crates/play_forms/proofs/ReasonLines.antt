@@ -1,7 +1,7 @@
 -- SPDX-License-Identifier: MIT OR Apache-2.0
 -- A line that says why an operation is refused has no LF, and nothing is left of it.
 use Rattle.std.proofs.Common.{◌≡◌, ℕ, ◌+◌, ◌-◌, Bool, true, false, List, [], ◌++◌, Option, None, Some, inl, inr, ◌∙◌, refl}
-use Rattle.std.specs.Prelude.{codes, decimal, nat_le}
+use Rattle.std.specs.Prelude.{codes, decimal, nat_le, slice_index}
 use Rattle.std.specs.Option.{option_map_or}
 use Rattle.std.proofs.lemmas.Bool.{cases_Bool, and_from}
 use Rattle.std.proofs.lemmas.List.Folds.{list_all-append}
@@ -10,31 +10,16 @@ use Rattle.ffa_model.specs.declared.operation.FaultKind.TheVariants.{Translation
 use Rattle.ffa_model.specs.declared.operation.Op.{Op}
 use Rattle.ffa_model.specs.declared.operation.Op.TheVariants.{Call, Load, Store, Fetch}
 use Rattle.ffa_model.specs.declared.refusal.Refusal.{Refusal}
-use Rattle.ffa_model.specs.declared.refusal.Refusal.TheVariants.{FunctionUnknown, BuffersMissing, FlagsReserved, SenderIsAnother, ReceiverIsAnother, ReceiverUnknown, ReceiverIsCaller, NotNormalWorld, ContextUnknown, RxFull, UuidUnknown, BuffersMapped, BufferPageCount, TxMisplaced, RxMisplaced, BuffersOverlap, TxUnusable, RxUnusable, EndpointNotZero, RxEmpty, ReceiverIsNormalWorld, RequestsUnsent, RequestsUnreceived, ReceiverNotWaiting, NoRequest, AnswerMisdirected, TargetUnknown, TargetNotReady, NotRun, NobodyToYieldTo, HeaderReserved, MessageInHeader, MessageEmpty, MessageTooLong, MessagesUnsent, MessagesUnreceived, ReceiverBuffersMissing, ReceiverRxFull, ReceiverRxSmall, EndpointNotNormalWorld, ContextCount, BitmapsExist, BitmapsMissing, BitsPending, SenderUnknown, SenderIsCaller, BitsNone, BitsTaken, BitsNotTheSenders, BitsNotTheCallers, ClassesUnknown, Fragmented, DescriptorTooLong, BufferAddressGiven, BufferPagesGiven, DescriptorMalformed, RangeOutside, PageUnsendable, GrantTooMuch, ZerosUnwritable, TransactionsFull, HandlesUsedUp, HandleUnknown, NotReceiver, TransactionSenderDiffers, TagDiffers, KindDiffers, AlreadyRetrieved, RightTooMuch, EndpointIsAnother, NotOffered, NotHeld, ZerosNotAllowed, NotTheSenders, StillHeld}
 use Rattle.ffa_model.specs.declared.flaw.FieldPlace.{FieldPlace}
 use Rattle.ffa_model.specs.declared.flaw.Flaw.{Flaw}
 use Rattle.ffa_model.specs.declared.flaw.Flaw.TheVariants.{Header, Send, Access, Composite, Range, Retrieve, Relinquish}
-use Rattle.ffa_model.specs.declared.flaw.HeaderFlaw.{HeaderFlaw}
-use Rattle.ffa_model.specs.declared.flaw.HeaderFlaw.TheVariants.{Short, AccessSize, ArrayUnaligned, ArrayInHeader, ArrayOutside, Reserved as RestReserved}
-use Rattle.ffa_model.specs.declared.flaw.SendFlaw.{SendFlaw}
-use Rattle.ffa_model.specs.declared.flaw.SendFlaw.TheVariants.{Attributes, Flags, Handle as HandleGiven, NoReceiver, ManyReceivers}
-use Rattle.ffa_model.specs.declared.flaw.AccessFlaw.{AccessFlaw}
-use Rattle.ffa_model.specs.declared.flaw.AccessFlaw.TheVariants.{Permissions, Flags as AccessFlags, OtherComposite, Reserved as AccessReserved, ReceiverIsSender, ReceiverTwice}
-use Rattle.ffa_model.specs.declared.flaw.CompositeFlaw.{CompositeFlaw}
-use Rattle.ffa_model.specs.declared.flaw.CompositeFlaw.TheVariants.{Outside, Unaligned, InArray, NoRange, ManyRanges, Reserved as CompositeReserved, RangesOutside, Total}
-use Rattle.ffa_model.specs.declared.flaw.RangeFlaw.{RangeFlaw}
-use Rattle.ffa_model.specs.declared.flaw.RangeFlaw.TheVariants.{Empty, Unaligned as RangeUnaligned, TooHigh, Reserved as RangeReserved, Overlap}
-use Rattle.ffa_model.specs.declared.flaw.RetrieveFlaw.{RetrieveFlaw}
-use Rattle.ffa_model.specs.declared.flaw.RetrieveFlaw.TheVariants as asked
-use Rattle.ffa_model.specs.declared.flaw.RelinquishFlaw.{RelinquishFlaw}
-use Rattle.ffa_model.specs.declared.flaw.RelinquishFlaw.TheVariants as returned
 use Rattle.ffa_model.specs.declared.why.About.{About}
 use Rattle.ffa_model.specs.declared.why.About.TheVariants.{Page, Endpoint, Handle, Register, Bit, Field}
 use Rattle.ffa_model.specs.declared.why.Obstacle.{Obstacle}
 use Rattle.ffa_model.specs.declared.why.Obstacle.TheVariants as obstacles
 use Rattle.ffa_model.specs.declared.why.Why.{Why}
 use Rattle.ffa_model.specs.declared.why.Why.TheVariants.{Refused, Fault}
-use Rattle.ffa_model.specs.Registers.{decode}
+use Rattle.ffa_model.specs.Registers.{low}
 use Rattle.ffa_model.specs.State.{State}
 use Rattle.play_syntax.specs.TraceLines.{Line, operate, show, audit, skip, has_no_feed}
 use Rattle.play_syntax.specs.TraceText.{bytes_moved, hex}
@@ -42,8 +27,9 @@ use Rattle.ffa_model.specs.Why.{why}
 use Rattle.ffa_abi.specs.Names.{call_name_of}
 use Rattle.ffa_abi.specs.Widths.{is_read_whole}
 use Rattle.play_reasons.specs.Checks.{number_of}
-use Rattle.play_reasons.specs.FlawWords.{access_words, composite_words, flaw_words_of, header_words, range_words, relinquish_words, retrieve_words, send_words}
-use Rattle.play_reasons.specs.Words.{words_of}
+use Rattle.play_reasons.specs.FlawWords.{flaw_words_of}
+use Rattle.ffa_model.specs.Words.{words_of}
+use Rattle.play_reasons.proofs.SingleWords.{single_flaw, single_words}
 use Rattle.play_forms.specs.Cut.{CutsTo}
 use Rattle.play_reasons.specs.Reasons.{about_text, call_text, check_text, fault_text, field_digits, field_text, handle_text, index_text, last_of, letter_text, name_text, named_text, number_in_field, number_text, obstacle_text, page_address, page_text, place_text, reason_if, reason_line, reason_mark, reason_text, register_text, right_text, subject_text, transaction_text, value_text, verb_text, why_text}
 use Rattle.play_forms.proofs.MendLines.{single_address, single_allowed, single_mended, single_short, single_wanted}
@@ -57,83 +43,6 @@ use Rattle.play_forms.proofs.PrintedWords.{inner_hex, single_call}
 
 -- CALLS
 
-single_words : (refusal : Refusal) → IsSingle (words_of refusal)
-single_words FunctionUnknown = refl
-single_words BuffersMissing = refl
-single_words FlagsReserved = refl
-single_words SenderIsAnother = refl
-single_words ReceiverIsAnother = refl
-single_words ReceiverUnknown = refl
-single_words ReceiverIsCaller = refl
-single_words NotNormalWorld = refl
-single_words ContextUnknown = refl
-single_words RxFull = refl
-single_words UuidUnknown = refl
-single_words BuffersMapped = refl
-single_words BufferPageCount = refl
-single_words TxMisplaced = refl
-single_words RxMisplaced = refl
-single_words BuffersOverlap = refl
-single_words TxUnusable = refl
-single_words RxUnusable = refl
-single_words EndpointNotZero = refl
-single_words RxEmpty = refl
-single_words ReceiverIsNormalWorld = refl
-single_words RequestsUnsent = refl
-single_words RequestsUnreceived = refl
-single_words ReceiverNotWaiting = refl
-single_words NoRequest = refl
-single_words AnswerMisdirected = refl
-single_words TargetUnknown = refl
-single_words TargetNotReady = refl
-single_words NotRun = refl
-single_words NobodyToYieldTo = refl
-single_words HeaderReserved = refl
-single_words MessageInHeader = refl
-single_words MessageEmpty = refl
-single_words MessageTooLong = refl
-single_words MessagesUnsent = refl
-single_words MessagesUnreceived = refl
-single_words ReceiverBuffersMissing = refl
-single_words ReceiverRxFull = refl
-single_words ReceiverRxSmall = refl
-single_words EndpointNotNormalWorld = refl
-single_words ContextCount = refl
-single_words BitmapsExist = refl
-single_words BitmapsMissing = refl
-single_words BitsPending = refl
-single_words SenderUnknown = refl
-single_words SenderIsCaller = refl
-single_words BitsNone = refl
-single_words BitsTaken = refl
-single_words BitsNotTheSenders = refl
-single_words BitsNotTheCallers = refl
-single_words ClassesUnknown = refl
-single_words Fragmented = refl
-single_words DescriptorTooLong = refl
-single_words BufferAddressGiven = refl
-single_words BufferPagesGiven = refl
-single_words DescriptorMalformed = refl
-single_words RangeOutside = refl
-single_words PageUnsendable = refl
-single_words GrantTooMuch = refl
-single_words ZerosUnwritable = refl
-single_words TransactionsFull = refl
-single_words HandlesUsedUp = refl
-single_words HandleUnknown = refl
-single_words NotReceiver = refl
-single_words TransactionSenderDiffers = refl
-single_words TagDiffers = refl
-single_words KindDiffers = refl
-single_words AlreadyRetrieved = refl
-single_words RightTooMuch = refl
-single_words EndpointIsAnother = refl
-single_words NotOffered = refl
-single_words NotHeld = refl
-single_words ZerosNotAllowed = refl
-single_words NotTheSenders = refl
-single_words StillHeld = refl
-
 single_name : (name : Option (List ℕ)) → option_map_or has_no_feed name true ≡ true → IsSingle (name_text name)
 single_name None h = refl
 single_name (Some name) h = single_append name (codes " ") h refl
@@ -145,7 +54,7 @@ single_number (Some n) = single_append (decimal n) (codes ": ") (digits_single (
 single_check : (op : Op) (refusal : Refusal) → IsSingle (call_text op refusal)
 unfolding check_text
 single_check (Call x) refusal =
-    single_append (name_text (call_name_of x)) (number_text (number_of (decode x) refusal)) (single_name (call_name_of x) (single_call x)) (single_number (number_of (decode x) refusal))
+    single_append (name_text (call_name_of x)) (number_text (number_of (low (slice_index x 0)) refusal)) (single_name (call_name_of x) (single_call x)) (single_number (number_of (low (slice_index x 0)) refusal))
 single_check (Load address size) refusal = refl
 single_check (Store address size value) refusal = refl
 single_check (Fetch address) refusal = refl
@@ -174,72 +83,6 @@ single_fault op AccessFlag obstacle = refl
 single_fault op OutsideRam obstacle = refl
 
 -- FIELDS OF A DESCRIPTOR
-
-single_header : (flaw : HeaderFlaw) → IsSingle (header_words flaw)
-single_header Short = refl
-single_header AccessSize = refl
-single_header ArrayUnaligned = refl
-single_header ArrayInHeader = refl
-single_header ArrayOutside = refl
-single_header RestReserved = refl
-
-single_send : (flaw : SendFlaw) → IsSingle (send_words flaw)
-single_send Attributes = refl
-single_send Flags = refl
-single_send HandleGiven = refl
-single_send NoReceiver = refl
-single_send ManyReceivers = refl
-
-single_access : (flaw : AccessFlaw) → IsSingle (access_words flaw)
-single_access Permissions = refl
-single_access AccessFlags = refl
-single_access OtherComposite = refl
-single_access AccessReserved = refl
-single_access ReceiverIsSender = refl
-single_access ReceiverTwice = refl
-
-single_composite : (flaw : CompositeFlaw) → IsSingle (composite_words flaw)
-single_composite Outside = refl
-single_composite Unaligned = refl
-single_composite InArray = refl
-single_composite NoRange = refl
-single_composite ManyRanges = refl
-single_composite CompositeReserved = refl
-single_composite RangesOutside = refl
-single_composite Total = refl
-
-single_range : (flaw : RangeFlaw) → IsSingle (range_words flaw)
-single_range Empty = refl
-single_range RangeUnaligned = refl
-single_range TooHigh = refl
-single_range RangeReserved = refl
-single_range Overlap = refl
-
-single_retrieve : (flaw : RetrieveFlaw) → IsSingle (retrieve_words flaw)
-single_retrieve asked.Attributes = refl
-single_retrieve asked.Flags = refl
-single_retrieve asked.AccessCount = refl
-single_retrieve asked.ReceiverIsAnother = refl
-single_retrieve asked.DataPermission = refl
-single_retrieve asked.InstructionPermission = refl
-single_retrieve asked.PermissionsReserved = refl
-single_retrieve asked.AccessFlags = refl
-single_retrieve asked.CompositeTold = refl
-single_retrieve asked.AccessReserved = refl
-
-single_relinquish : (flaw : RelinquishFlaw) → IsSingle (relinquish_words flaw)
-single_relinquish returned.Short = refl
-single_relinquish returned.Flags = refl
-single_relinquish returned.EndpointCount = refl
-
-single_flaw : (flaw : Flaw) → IsSingle (flaw_words_of flaw)
-single_flaw (Header flaw) = single_header flaw
-single_flaw (Send flaw) = single_send flaw
-single_flaw (Access index flaw) = single_access flaw
-single_flaw (Composite flaw) = single_composite flaw
-single_flaw (Range index flaw) = single_range flaw
-single_flaw (Retrieve flaw) = single_retrieve flaw
-single_flaw (Relinquish flaw) = single_relinquish flaw
 
 single_decimal : (n : ℕ) → IsSingle (decimal n)
 single_decimal n = digits_single (decimal n) (decimal_digits n)

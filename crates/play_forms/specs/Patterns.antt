@@ -1,6 +1,6 @@
 -- SPDX-License-Identifier: MIT OR Apache-2.0
 -- What the text of a guard wants of a printed line: to be that line, or to fit a pattern.
-use Rattle.std.specs.Prelude.{ℕ, ◌-◌, ◌==◌, Bool, true, false, not, ◌&&◌, ◌||◌, nat_eq, nat_le, List, [], ◌∷◌, ◌++◌, codes, decimal, drop, length, take, Option, None, Some, if◌then◌else◌}
+use Rattle.std.specs.Prelude.{ℕ, ◌-◌, ◌==◌, Bool, true, false, not, ◌&&◌, ◌||◌, nat_eq, nat_le, List, [], ◌∷◌, ◌++◌, codes, decimal, drop, length, slice_index, take, Option, None, Some, if◌then◌else◌}
 use Rattle.std.specs.List.{position_or_len, starts_with}
 use Rattle.std.specs.Option.{option_map_or}
 use Rattle.std.specs.Str.{bytes_eq}
@@ -11,7 +11,7 @@ use Rattle.ffa_model.specs.declared.operation.Outcome.{Outcome}
 use Rattle.ffa_model.specs.declared.operation.Outcome.TheVariants.{Regs}
 use Rattle.ffa_model.specs.declared.why.Why.{Why}
 use Rattle.ffa_model.specs.declared.why.Why.TheVariants.{Refused, Fault}
-use Rattle.ffa_model.specs.Registers.{decode}
+use Rattle.ffa_model.specs.Registers.{low}
 use Rattle.ffa_model.specs.State.{State}
 use Rattle.ffa_model.specs.Step.{step}
 use Rattle.ffa_model.specs.Why.{why}
@@ -27,7 +27,7 @@ use Rattle.play_forms.specs.declared.patterns.Pattern.TheVariants.{Words, Name, 
 -- the number of the check by which this call is refused
 abbrev pub check_in : List ℕ → Option Why → Option ℕ
 check_in x None = None
-check_in x (Some (Refused refusal about)) = number_of (decode x) refusal
+check_in x (Some (Refused refusal about)) = number_of (low (slice_index x 0)) refusal
 check_in x (Some (Fault kind obstacle)) = None
 
 abbrev pub check_of : State → Op → Option ℕ

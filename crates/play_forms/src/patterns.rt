@@ -9,7 +9,7 @@ ghost use Rattle.play_forms.specs.Asking.{AreWords, SaysCame, SaysCheck};
 ghost use Rattle.play_forms.specs.Patterns.{error_behind, fit, fits, is_alike, meets, named, pattern_of, told, told_by_name, without_zeros};
 
 use crate::reason::is_refused;
-use ffa_abi::{call_name, decode, error_name};
+use ffa_abi::{call_name, error_name, low};
 use ffa_model::{Op, Outcome, Why};
 use ffa_playable::Playable;
 use play_player::Player;
@@ -93,7 +93,7 @@ fn check_of<P: Playable>(player: &Player<P>, op: &Op, outcome: Option<Outcome>) 
         return None;
     };
     match player.machine().why(op)? {
-        Why::Refused { refusal, .. } => check_number(&decode(x), refusal),
+        Why::Refused { refusal, .. } => check_number(low(x[0]), refusal),
         Why::Fault { .. } => None,
     }
 }

@@ -1,5 +1,5 @@
 -- SPDX-License-Identifier: MIT OR Apache-2.0
-pub mod Listed
 pub mod Numbered
-pub mod Orders
 pub mod PutWords
+pub mod FlawRows
+pub mod SingleWords

@@ -1,31 +1,33 @@
 -- SPDX-License-Identifier: MIT OR Apache-2.0
 -- The first check that fails has a number.
 use Rattle.std.proofs.Common.{◌≡◌, ℕ, ◌<◌, ◌-◌, Bool, true, false, List, [], ◌∷◌, length, map, Some, inl, inr, ap, arith, refl}
-use Rattle.std.specs.Prelude.{◌==◌, is_some, not}
+use Rattle.std.specs.Prelude.{◌==◌, is_some, not, slice_index}
 use Rattle.std.specs.List.{prefix_len}
 use Rattle.std.proofs.lemmas.Bool.{cases_Bool, eq-eqb, lt-ltb}
-use Rattle.ffa_model.specs.declared.call.Call.{Call}
 use Rattle.ffa_model.specs.declared.refusal.Refusal.{Refusal}
 use Rattle.ffa_model.specs.Calls.{first_refusal}
 use Rattle.ffa_model.specs.State.{State}
+use Rattle.ffa_model.specs.Registers.{decode, low}
 use Rattle.ffa_model.specs.Step.{service}
-use Rattle.play_reasons.specs.Checks.{checks, is_of_reading, made, number_of, order_of, place_number}
-use Rattle.play_reasons.proofs.Listed.{listed}
+use Rattle.ffa_model.specs.Words.{place_of}
+use Rattle.ffa_model.specs.Checks.{checks_of, is_of_reading, made}
+use Rattle.ffa_model.proofs.Served.{listed}
+use Rattle.play_reasons.specs.Checks.{number_of, place_number}
 
 -- how many checks of a list stand before one of this name
 abbrev before : Refusal → List Refusal → ℕ
-before refusal all = prefix_len (λ check. not (order_of check == order_of refusal)) all
+before refusal all = prefix_len (λ check. not (place_of check == place_of refusal)) all
 
 before_behind : (x : Refusal) (xs : List Refusal) (refusal : Refusal) → before refusal xs < length xs → before refusal (x ∷ xs) < length (x ∷ xs)
 before_behind x xs refusal inside =
-    elim (cases_Bool (not (order_of x == order_of refusal))) [
+    elim (cases_Bool (not (place_of x == place_of refusal))) [
       | inl other ↦ rw other (omega arith)
       | inr same ↦ rw same (omega arith)
     ]
 
 before_here : (x : Refusal) (xs : List Refusal) (refusal : Refusal) → x ≡ refusal → before refusal (x ∷ xs) < length (x ∷ xs)
 before_here x xs refusal same =
-    let equal : not (order_of x == order_of refusal) ≡ false = ap not (eq-eqb (order_of x) (order_of refusal) (ap order_of same)) in
+    let equal : not (place_of x == place_of refusal) ≡ false = ap not (eq-eqb (place_of x) (place_of refusal) (ap place_of same)) in
     rw equal (omega arith)
 
 -- the guards of some names have their first failure among the checks of a list
@@ -65,7 +67,9 @@ before_inside read (x ∷ xs) refusal =
 number_some : (all : List Refusal) (refusal : Refusal) → before refusal all < length all → is_some (place_number all refusal) ≡ true
 number_some all refusal inside = rw (lt-ltb (before refusal all) (length all) inside) refl
 
-pub numbered : (s : State) (call : Call) (refusal : Refusal) → first_refusal (service s call).guards ≡ Some refusal → is_some (number_of call refusal) ≡ true
-numbered s call refusal first =
-    let are = listed s call in
-    number_some (checks call) refusal (before_inside are.0 (checks call) refusal (service s call).guards are.1 first)
+pub numbered : (s : State) (x : List ℕ) (refusal : Refusal) → first_refusal (service s (decode x)).guards ≡ Some refusal
+    → is_some (number_of (low (slice_index x 0)) refusal) ≡ true
+numbered s x refusal first =
+    let all = checks_of (low (slice_index x 0)) in
+    let are = listed s x in
+    number_some all refusal (before_inside are.0 all refusal (service s (decode x)).guards are.1 first)

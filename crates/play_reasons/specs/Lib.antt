@@ -2,7 +2,6 @@
 pub mod Checks
 pub mod FaultWords
 pub mod FlawWords
-pub mod Words
 pub mod Marks
 pub mod Mends
 pub mod Reasons

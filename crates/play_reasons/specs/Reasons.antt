@@ -1,6 +1,6 @@
 -- SPDX-License-Identifier: MIT OR Apache-2.0
 -- The line that says why an operation is refused.
-use Rattle.std.specs.Prelude.{ℕ, ◌+◌, ◌-◌, ◌*◌, ◌^◌, min, nat_le, Bool, List, [], ◌++◌, codes, decimal, Option, None, Some, if◌then◌else◌}
+use Rattle.std.specs.Prelude.{ℕ, ◌+◌, ◌-◌, ◌*◌, ◌^◌, min, nat_le, Bool, List, [], ◌++◌, codes, decimal, slice_index, Option, None, Some, if◌then◌else◌}
 use Rattle.std.specs.Option.{option_map_or}
 use Rattle.ffa_model.specs.declared.flaw.FieldPlace.{FieldPlace}
 use Rattle.ffa_model.specs.declared.flaw.Flaw.{Flaw}
@@ -16,11 +16,12 @@ use Rattle.ffa_model.specs.declared.why.Obstacle.{Obstacle}
 use Rattle.ffa_model.specs.declared.why.Obstacle.TheVariants as obstacles
 use Rattle.ffa_model.specs.declared.why.Why.{Why}
 use Rattle.ffa_model.specs.declared.why.Why.TheVariants.{Refused, Fault}
-use Rattle.ffa_model.specs.Registers.{decode}
+use Rattle.ffa_model.specs.Registers.{low}
 use Rattle.ffa_model.specs.State.{State}
 use Rattle.play_syntax.specs.TraceLines.{Line, operate, show, audit, skip, line_of}
 use Rattle.play_syntax.specs.TraceText.{bytes_moved, ended, hex}
 use Rattle.ffa_model.specs.Why.{why}
+use Rattle.ffa_model.specs.Words.{words_of}
 use Rattle.ffa_mend.specs.declared.Mend.{Mend}
 use Rattle.ffa_mend.specs.Mend.{address_of, call_of, mend}
 use Rattle.ffa_abi.specs.Names.{call_name_of}
@@ -28,7 +29,6 @@ use Rattle.ffa_abi.specs.Widths.{is_read_whole}
 use Rattle.play_reasons.specs.Checks.{number_of}
 use Rattle.play_reasons.specs.FlawWords.{flaw_words_of}
 use Rattle.play_reasons.specs.Mends.{address_text, allowed_field, allowed_text, kind_of, mended_text, short_text, wanted_text}
-use Rattle.play_reasons.specs.Words.{words_of}
 use Rattle.play_reasons.specs.declared.allowed.Allowed.{Allowed}
 use Rattle.play_reasons.specs.declared.reason.Reason.{Reason}
 
@@ -45,7 +45,7 @@ abbrev pub number_text : Option ℕ → List ℕ
 number_text number = option_map_or (λ n. codes "check " ++ decimal n ++ codes ": ") number []
 
 unfoldable pub check_text : List ℕ → Refusal → List ℕ
-check_text x refusal = name_text (call_name_of x) ++ number_text (number_of (decode x) refusal)
+check_text x refusal = name_text (call_name_of x) ++ number_text (number_of (low (slice_index x 0)) refusal)
 
 abbrev pub call_text : Op → Refusal → List ℕ
 call_text (Call x) refusal = check_text x refusal

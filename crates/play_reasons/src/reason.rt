@@ -3,7 +3,7 @@
 ghost use Rattle.std.specs.Prelude.{◌≡◌, ◌++◌, ◌≤◌, IfErr, OnOk, None, Some, codes, option_map};
 ghost use Rattle.ffa_model.specs.Memory.{size_of};
 ghost use Rattle.play_syntax.specs.TraceText.{bytes_moved};
-ghost use Rattle.play_reasons.specs.Words.{words_of};
+ghost use Rattle.ffa_model.specs.Words.{words_of};
 ghost use Rattle.ffa_mend.specs.Mend.{address_of};
 ghost use Rattle.play_reasons.specs.Mends.{address_text, mended_text, short_text, wanted_text};
 ghost use Rattle.play_reasons.specs.Reasons.{about_text, bit_text, call_text, check_text, fault_text, field_digits, field_text, handle_text, index_text, letter_text, number_in_field, name_text, named_text, number_text, obstacle_text, page_address, page_text, place_text, reason_line, register_text, right_text, subject_text, told_line, transaction_text, value_text, verb_text, why_text};
@@ -13,7 +13,7 @@ use crate::digits::{put_address, put_digits, put_short};
 use crate::mark::put;
 use crate::mend::{put_allowed, put_mended, put_wanted};
 use crate::{check_number, flaw_words, words};
-use ffa_abi::{call_name, decode, is_read_whole};
+use ffa_abi::{call_name, is_read_whole, low};
 use ffa_mend::Mend;
 use ffa_model::{
     About, Address, EndpointId, FaultKind, FieldPlace, Flaw, Obstacle, Op, PageNo, Refusal, Size,
@@ -138,7 +138,7 @@ fn put_check<A: Allocator>(
     ensures failed { IfErr result (λ e. e ≡ PlayError.NoMemory) }
 {
     put_name(text, call_name(&x))?;
-    put_number(text, check_number(&decode(x), refusal))
+    put_number(text, check_number(low(x[0]), refusal))
 }
 
 fn put_name<A: Allocator>(

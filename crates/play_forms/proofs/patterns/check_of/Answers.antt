@@ -28,6 +28,6 @@ returns-in-Refused g c =
     let reason = c.in_ok-refusal.field-0 in
     let answer : Some reason ≡ why now op = c.in_ok-refusal.ensures.why ∙ ap (λ s. why s op) c.machine.ensures in
     let tells : c.check_number.result ≡ check_in x (Some reason) =
-    c.check_number.ensures.number ∙ ap (λ call. number_of call refusal) c.decode.ensures ∙ ap (λ w. check_in x (Some w)) (sym c.in-Refused.is) in
+    c.check_number.ensures.number ∙ ap (λ w0. number_of w0 refusal) c.low.ensures ∙ ap (λ w. check_in x (Some w)) (sym c.in-Refused.is) in
     refused_checked now op c.args.outcome c.check_number.result (sym c.is_refused.ensures ∙ c.if-not-is_refused.false)
     (check_answered now op x (Some reason) c.check_number.result c.in-Call.is answer tells)

@@ -2,7 +2,7 @@
 use Rattle.std.proofs.Common.{◌∙◌, Bool, ap, subst}
 use Rattle.ffa_model.specs.Refusals.{passes_no_error}
 use Rattle.ffa_laws.specs.OwnAccess.{is_memory_call}
-use Rattle.ffa_model.proofs.Named.{decode-named}
+use Rattle.ffa_model.proofs.Served.{decode-named}
 use Rattle.ffa_spmc.specs.Served.{IsSilent}
 use Rattle.ffa_spmc.proofs.manager.Manager.call.Goals as goal
 

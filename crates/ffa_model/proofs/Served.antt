@@ -1,0 +1,112 @@
+-- SPDX-License-Identifier: MIT OR Apache-2.0
+-- What holds of each call that registers hold, by the rows of the definition's table and of the code's.
+use Rattle.std.proofs.Common.{◌≡◌, ℕ, Bool, true, false, cond, List, [], ◌∷◌, map, Option, Some, None, refl, ap, arith}
+use Rattle.std.specs.Prelude.{◌==◌, ◌&&◌, ◌||◌, find, slice_index, if◌then◌else◌}
+use Rattle.std.specs.List.{list_any}
+use Rattle.std.specs.Option.{option_map_or}
+use Rattle.std.proofs.lemmas.Bool.Decides.{nat_tests}
+use Rattle.ffa_model.specs.declared.refusal.Refusal.TheVariants.{FunctionUnknown}
+use Rattle.ffa_model.specs.declared.rights.Kind.TheVariants.{Share, Lend, Donate}
+use Rattle.ffa_model.specs.MemoryRetrieve.{retrieve_read}
+use Rattle.ffa_model.specs.MemoryReturn.{relinquish_read}
+use Rattle.ffa_model.specs.MemorySend.{send_read}
+use Rattle.ffa_model.specs.Refusals.{passes_no_error}
+use Rattle.ffa_model.specs.Registers.{Function, called, decode, function_of, functions, is_form_of, low, transfer, wide_of}
+use Rattle.ffa_model.specs.Rows.{Row, is_row_of, is_wide, row_of, rows}
+use Rattle.ffa_model.specs.State.{State, buffers_of}
+use Rattle.ffa_model.specs.Transactions.{open_of, scene_of}
+use Rattle.ffa_model.specs.Checks.{AreListed, checks_of}
+use Rattle.ffa_model.proofs.CheckLists.{relinquish_listed, retrieve_listed, send_listed}
+
+-- a function and its row: in either form it passes no error on, it reads whole no register that the row doesn't list, and its
+-- guards are the checks that the row lists
+abbrev IsServed : Function → Row → Type 0
+IsServed f row =
+    ((w x : ℕ → ℕ) → is_form_of (w 0) f ≡ true → passes_no_error (f.call w x) ≡ true)
+    × ((w x : ℕ → ℕ) → f.call w x ≡ f.call w (λ i. if list_any (λ whole. whole == i) row.whole then x i else w i))
+    × ((s : State) (w x : ℕ → ℕ) → AreListed s (f.call w x) row.checks)
+
+abbrev AreServed : List Function → List Row → Type 0
+AreServed [] rs = Unit {0}
+AreServed (f ∷ fs) [] = Unit {0}
+AreServed (f ∷ fs) (row ∷ rs) = IsServed f row × AreServed fs rs
+
+infixr 20 ◌▸◌
+◌▸◌ : {A B : Type 0} → A → B → A × B
+a ▸ b = (a, b)
+
+functions-served : AreServed functions rows
+functions-served =
+    (λ w x form. refl, λ w x. refl, λ s w x. (0, refl))
+    ▸ (λ w x form. refl, λ w x. refl, λ s w x. (0, refl))
+    ▸ (λ w x form. refl, λ w x. refl, λ s w x. (0, refl))
+    ▸ (λ w x form. refl, λ w x. refl, λ s w x. (0, refl))
+    ▸ (λ w x form. refl, λ w x. refl, λ s w x. (0, refl))
+    ▸ (λ w x form. refl, λ w x. refl, λ s w x. (0, refl))
+    ▸ (λ w x form. refl, λ w x. refl, λ s w x. (0, refl))
+    ▸ (λ w x form. refl, λ w x. refl, λ s w x. (0, refl))
+    ▸ (λ w x form. refl, λ w x. refl, λ s w x. (0, refl))
+    ▸ (λ w x form. refl, λ w x. refl, λ s w x. (0, refl))
+    ▸ (λ w x form. grind (arith, nat_tests, form), λ w x. refl, λ s w x. (0, refl))
+    ▸ (λ w x form. grind (arith, nat_tests, form), λ w x. refl, λ s w x. (0, refl))
+    ▸ (λ w x form. refl, λ w x. refl, λ s w x. send_listed (scene_of s) s.runner (transfer w x) (send_read s Donate (w 1)))
+    ▸ (λ w x form. refl, λ w x. refl, λ s w x. send_listed (scene_of s) s.runner (transfer w x) (send_read s Lend (w 1)))
+    ▸ (λ w x form. refl, λ w x. refl, λ s w x. send_listed (scene_of s) s.runner (transfer w x) (send_read s Share (w 1)))
+    ▸ (λ w x form. refl, λ w x. refl, λ s w x. retrieve_listed (scene_of s) s.runner (transfer w x) (retrieve_read s (w 1)))
+    ▸ (λ w x form. refl, λ w x. refl, λ s w x. relinquish_listed (buffers_of s s.runner) (open_of s) s.runner (relinquish_read s))
+    ▸ (λ w x form. refl, λ w x. refl, λ s w x. (0, refl))
+    ▸ (λ w x form. refl, λ w x. refl, λ s w x. (0, refl))
+    ▸ (λ w x form. refl, λ w x. refl, λ s w x. (0, refl))
+    ▸ (λ w x form. refl, λ w x. refl, λ s w x. (0, refl))
+    ▸ (λ w x form. refl, λ w x. refl, λ s w x. (0, refl))
+    ▸ (λ w x form. refl, λ w x. refl, λ s w x. (0, refl))
+    ▸ (λ w x form. refl, λ w x. refl, λ s w x. (0, refl))
+    ▸ (λ w x form. refl, λ w x. refl, λ s w x. (0, refl))
+    ▸ (λ w x form. refl, λ w x. refl, λ s w x. (0, refl))
+    ▸ tt
+
+-- the identifier, and whether there is a 64-bit form
+abbrev Key : Type 0
+Key = ℕ × Bool
+
+abbrev key_of : Function → Key
+key_of f = (f.function, f.is_wide)
+
+abbrev key_in : Row → Key
+key_in row = (row.function, is_wide row)
+
+abbrev is_key_of : ℕ → Key → Bool
+is_key_of w0 key = w0 == key.0 || (key.1 && w0 == wide_of key.0)
+
+rows-agree : map key_in rows ≡ map key_of functions
+rows-agree = refl
+
+-- what holds of each function with its row, and of none, holds of those that are found
+module _ (w0 : ℕ) (P : Option Function → Option Row → Type 0) (none : P None None) (some : (f : Function) (row : Row) → IsServed f row → is_form_of w0 f ≡ true → P (Some f) (Some row)) where
+  found-in : (fs : List Function) (rs : List Row) → map key_in rs ≡ map key_of fs → AreServed fs rs → P (find (is_form_of w0) fs) (find (is_row_of w0) rs)
+  found-in [] [] same are = none
+  found-in [] (row ∷ rs) same are = absurd cc
+  found-in (f ∷ fs) [] same are = absurd cc
+  found-in (f ∷ fs) (row ∷ rs) same are =
+      let key : key_in row ≡ key_of f = cc in
+      let others : map key_in rs ≡ map key_of fs = cc in
+      elim (is_form_of w0 f)
+      as (λ b. is_row_of w0 row ≡ b → is_form_of w0 f ≡ b → P (cond b (Some f) (find (is_form_of w0) fs)) (find (is_row_of w0) (row ∷ rs))) [
+        | true ↦ λ is form. rw is (some f row are.0 form)
+        | false ↦ λ other form. rw other (found-in fs rs others are.1)
+      ] (ap (is_key_of w0) key) refl
+
+  found : P (function_of w0) (row_of w0)
+  unfolding row_of
+  found = found-in functions rows rows-agree functions-served
+
+-- no call passes on what is seen as FFA_ERROR
+pub decode-named : (x : List ℕ) → passes_no_error (decode x) ≡ true
+unfolding decode
+decode-named x = found (low (slice_index x 0)) (λ o row. passes_no_error (called x o) ≡ true) refl (λ f row is form. is.0 _ _ form)
+
+-- the guards of a call are the checks that its row lists
+pub listed : (s : State) (x : List ℕ) → AreListed s (decode x) (checks_of (low (slice_index x 0)))
+unfolding decode
+listed s x =
+    found (low (slice_index x 0)) (λ o row. AreListed s (called x o) (option_map_or (λ r. r.checks) row (FunctionUnknown ∷ []))) (0, refl) (λ f row is form. is.2 s _ _)

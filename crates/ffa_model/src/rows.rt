@@ -1,0 +1,78 @@
+// SPDX-License-Identifier: MIT OR Apache-2.0
+//! What is told of each call by its identifier, once: definitions, contracts and functions name these tables.
+
+use crate::function::*;
+use crate::refusal::Refusal;
+
+/// Of a call the identifier of its 32-bit form and its name; the registers that its 64-bit form reads whole, none where it
+/// has no such form; and its checks, in the order in which they are made.
+pub type CallRow = (u32, &'static str, &'static [u32], &'static [Refusal]);
+
+macro_rules! checks {
+    ([$($check:ident)*]) => { &[$(Refusal::$check),*] };
+    ($checks:ident) => { $checks };
+}
+
+macro_rules! rows {
+    ($($function:ident $whole:tt $checks:tt;)*) => {
+        [$(($function, stringify!($function), &$whole, checks!($checks))),*]
+    };
+}
+
+// Of FFA_MEM_DONATE, FFA_MEM_LEND and FFA_MEM_SHARE.
+const SEND: &[Refusal] = checks!([
+    BuffersMissing Fragmented DescriptorTooLong BufferAddressGiven BufferPagesGiven DescriptorMalformed
+    SenderIsAnother ReceiverUnknown RangeOutside PageUnsendable GrantTooMuch ZerosUnwritable TransactionsFull
+    HandlesUsedUp
+]);
+
+/// The calls, in the order of the definition's table.
+pub const CALLS: &[CallRow] = &rows![
+    FFA_VERSION [] [];
+    FFA_FEATURES [] [FunctionUnknown];
+    FFA_RX_RELEASE [] [RxEmpty];
+    FFA_RXTX_MAP [1, 2] [
+        BuffersMapped BufferPageCount TxMisplaced RxMisplaced BuffersOverlap TxUnusable RxUnusable
+    ];
+    FFA_RXTX_UNMAP [] [EndpointNotZero BuffersMissing];
+    FFA_PARTITION_INFO_GET [] [UuidUnknown BuffersMissing RxFull];
+    FFA_ID_GET [] [];
+    FFA_MSG_WAIT [] [NotRun];
+    FFA_YIELD [] [NobodyToYieldTo];
+    FFA_RUN [] [NotNormalWorld TargetUnknown ContextUnknown TargetNotReady];
+    FFA_MSG_SEND_DIRECT_REQ [3, 4, 5, 6, 7] [
+        SenderIsAnother FlagsReserved ReceiverUnknown ReceiverIsCaller ReceiverIsNormalWorld RequestsUnsent
+        RequestsUnreceived ReceiverNotWaiting
+    ];
+    FFA_MSG_SEND_DIRECT_RESP [3, 4, 5, 6, 7] [NoRequest AnswerMisdirected FlagsReserved];
+    FFA_MEM_DONATE [3] SEND;
+    FFA_MEM_LEND [3] SEND;
+    FFA_MEM_SHARE [3] SEND;
+    FFA_MEM_RETRIEVE_REQ [3] [
+        BuffersMissing Fragmented DescriptorTooLong BufferAddressGiven BufferPagesGiven DescriptorMalformed
+        HandleUnknown NotReceiver TransactionSenderDiffers TagDiffers KindDiffers AlreadyRetrieved RightTooMuch
+        RxFull
+    ];
+    FFA_MEM_RELINQUISH [] [
+        BuffersMissing DescriptorMalformed EndpointIsAnother NotOffered NotHeld ZerosNotAllowed
+    ];
+    FFA_MEM_RECLAIM [] [FlagsReserved NotTheSenders StillHeld ZerosUnwritable];
+    FFA_NOTIFICATION_BITMAP_CREATE [] [NotNormalWorld EndpointNotNormalWorld ContextCount BitmapsExist];
+    FFA_NOTIFICATION_BITMAP_DESTROY [] [NotNormalWorld EndpointNotNormalWorld BitmapsMissing BitsPending];
+    FFA_NOTIFICATION_BIND [] [
+        ReceiverIsAnother SenderUnknown SenderIsCaller FlagsReserved BitsNone BitmapsMissing BitsTaken
+    ];
+    FFA_NOTIFICATION_UNBIND [] [
+        ReceiverIsAnother SenderUnknown SenderIsCaller FlagsReserved BitsNone BitmapsMissing BitsNotTheSenders
+    ];
+    FFA_NOTIFICATION_SET [] [
+        SenderIsAnother ReceiverUnknown ReceiverIsCaller FlagsReserved BitsNone BitsNotTheCallers
+    ];
+    FFA_NOTIFICATION_GET [] [ReceiverIsAnother ContextUnknown ClassesUnknown BitmapsMissing];
+    FFA_SPM_ID_GET [] [];
+    FFA_MSG_SEND2 [] [
+        BuffersMissing FlagsReserved HeaderReserved SenderIsAnother ReceiverUnknown ReceiverIsCaller MessageInHeader
+        MessageEmpty MessageTooLong MessagesUnsent MessagesUnreceived ReceiverBuffersMissing ReceiverRxFull
+        ReceiverRxSmall
+    ];
+];
