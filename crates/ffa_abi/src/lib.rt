@@ -9,6 +9,6 @@ mod reply;
 
 pub use call::{decode, is_function, is_read_whole, low};
 pub use ffa_model::{Call, CallRow, Reply};
-pub use names::{call_name, call_row, error_name};
+pub use names::{call_name, call_place, call_row, error_name};
 pub use reasons::about_registers;
 pub use reply::encode;

@@ -1,8 +1,8 @@
 // SPDX-License-Identifier: MIT OR Apache-2.0
 //! What the standard calls the functions and the error codes that registers hold.
-ghost use Rattle.std.specs.Prelude.{◌≡◌, option_map};
+ghost use Rattle.std.specs.Prelude.{◌≡◌, ◌≤◌, length, option_map};
 ghost use Rattle.ffa_model.specs.Registers.{low};
-ghost use Rattle.ffa_model.specs.Rows.{row_of, told};
+ghost use Rattle.ffa_model.specs.Rows.{place_in_rows, row_of, rows, told};
 ghost use Rattle.ffa_abi.specs.Names.{answer_names, call_name_of, error_name_of, error_names, name_in};
 
 use crate::call::low;
@@ -18,6 +18,21 @@ pub fn call_row(function: u32) -> Option<&'static CallRow>
         function == row.0
             || !row.2.is_empty() && u64::from(function) == u64::from(row.0) + u64::from(WIDE)
     })
+}
+
+/// The place of that row; behind all where there is none.
+#[tactic(auto, unfolding(ffa_model::specs::Rows::place_in_rows))]
+pub fn call_place(function: u32) -> usize
+    ensures place { result ≡ place_in_rows function }
+    ensures few { result ≤ length rows }
+{
+    CALLS
+        .iter()
+        .position(|row| {
+            function == row.0
+                || !row.2.is_empty() && u64::from(function) == u64::from(row.0) + u64::from(WIDE)
+        })
+        .unwrap_or(CALLS.len())
 }
 
 /// The name of the call that these registers are, in either form that the call has. The low half of x0 identifies it: None

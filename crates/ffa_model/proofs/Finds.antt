@@ -1,9 +1,10 @@
 -- SPDX-License-Identifier: MIT OR Apache-2.0
 -- The first element that passes a test.
-use Rattle.std.proofs.Common.{◌≡◌, ◌∙◌, ℕ, zero, suc, ◌<◌, Bool, true, false, cond, List, [], ◌∷◌, filter, map, Option, Some, None, refl, ap, arith}
-use Rattle.std.specs.Prelude.{◌&&◌, find, if◌then◌else◌}
-use Rattle.std.specs.List.{All}
-use Rattle.std.specs.Option.{option_map}
+use Rattle.std.proofs.Common.{◌≡◌, ◌∙◌, ℕ, zero, suc, ◌<◌, Bool, true, false, cond, List, [], ◌∷◌, ◌+◌, ◌≤◌, filter, length, map, Option, Some, None, inl, inr, refl, ap, arith}
+use Rattle.std.specs.Prelude.{◌&&◌, nat_lt, not, find, position, if◌then◌else◌}
+use Rattle.std.specs.List.{All, position_or_len}
+use Rattle.std.proofs.lemmas.Bool.{cases_Bool, ltb-false}
+use Rattle.std.specs.Option.{option_map, unwrap_or}
 use Rattle.std.proofs.lemmas.List.Elements.{All-head, All-tail}
 use Rattle.ffa_model.specs.Lists.{listed}
 
@@ -55,3 +56,24 @@ find-map {Y = Y} f test (x ∷ xs) =
 pub option-twice : {X Y Z : Type 0} (f : X → Y) (g : Y → Z) (o : Option X) → option_map (λ x. g (f x)) o ≡ option_map g (option_map f o)
 option-twice f g None = refl
 option-twice f g (Some x) = refl
+
+-- the first place that passes is in the list, or behind it
+pub place-inside : {X : Type 0} (test : X → Bool) (xs : List X) → position_or_len test xs ≤ length xs
+place-inside test [] = omega arith
+place-inside test (x ∷ xs) =
+    elim (test x) as (λ b. cond (not b) (1 + position_or_len test xs) 0 ≤ length (x ∷ xs)) [
+      | true ↦ omega arith
+      | false ↦ omega (arith, place-inside test xs)
+    ]
+
+pub place-or-behind : {X : Type 0} (test : X → Bool) (xs : List X) → unwrap_or (position test xs) (length xs) ≡ position_or_len test xs
+place-or-behind test xs =
+    elim (cases_Bool (nat_lt (position_or_len test xs) (length xs))) [
+      | inl inside ↦ rw inside refl
+      | inr behind ↦ rw behind (omega (arith, place-inside test xs, ltb-false (position_or_len test xs) (length xs) behind))
+    ]
+
+-- and it is that of what is told of each
+pub place-map : {X Y : Type 0} (f : X → Y) (test : Y → Bool) (xs : List X) → position_or_len (λ x. test (f x)) xs ≡ position_or_len test (map f xs)
+place-map f test [] = refl
+place-map f test (x ∷ xs) = ap (λ n. cond (not (test (f x))) (1 + n) 0) (place-map f test xs)

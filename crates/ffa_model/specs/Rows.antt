@@ -1,6 +1,7 @@
 -- SPDX-License-Identifier: MIT OR Apache-2.0
 -- What is told of each call by its identifier.
 use Rattle.std.specs.Prelude.{ℕ, ◌==◌, nat_lt, Bool, ◌&&◌, ◌||◌, List, length, map, Option, find}
+use Rattle.std.specs.List.{position_or_len}
 use Rattle.std.specs.Borrow.{Bor}
 use Rattle.ffa_model.specs.declared.refusal.Refusal.{Refusal}
 use Rattle.ffa_model.specs.declared.rows.TheConstants.{CALLS}
@@ -30,3 +31,7 @@ is_row_of w0 row = w0 == row.function || (is_wide row && w0 == wide_of row.funct
 -- the row of the call of which a number is the identifier, in either form that the call has
 unfoldable pub row_of : ℕ → Option Row
 row_of w0 = find (is_row_of w0) rows
+
+-- its place among the rows; what is no call has the place behind them
+unfoldable pub place_in_rows : ℕ → ℕ
+place_in_rows w0 = position_or_len (is_row_of w0) rows

@@ -3,7 +3,6 @@
 //! that they are played to their end, and that what was counted comes again.
 use crate::checks::same;
 use crate::machines::{booted, play};
-use ffa_abi::decode;
 use ffa_model::function::*;
 use ffa_model::{
     EndpointId, ErrorCode, FaultKind, Manifest, Op, Outcome, Properties, Refusal, Why, built_in,
@@ -149,7 +148,7 @@ fn reaches_each_check_of(
 ) -> u64 {
     let everyone = Everyone::of(manifest);
     let mut reached = 0;
-    for check in checks(&decode(bare_call(function))) {
+    for check in checks(function) {
         let count = counts.count_refused(&bare_call(function), *check);
         let reason = why_unreached(everyone, function, *check);
         assert_eq!(rt;

@@ -3,7 +3,6 @@
 -- access; in a row a column for what was done, and one for each error or fault. And where the check is counted at which a call
 -- was refused: each row has a place for each check of its call.
 use Rattle.std.specs.Prelude.{◌≡◌, ℕ, suc, ◌+◌, ◌-◌, ◌*◌, ◌^◌, ◌==◌, List, [], ◌∷◌, length, map, min, position, slice_index, slice_set, Option, Some, None, if◌then◌else◌}
-use Rattle.std.specs.List.{position_or_len}
 use Rattle.std.specs.Option.{option_map, option_map_or}
 use Rattle.ffa_model.specs.declared.function.TheConstants.{FFA_ERROR}
 use Rattle.ffa_model.specs.declared.operation.ErrorCode.{ErrorCode}
@@ -16,7 +15,8 @@ use Rattle.ffa_model.specs.declared.operation.Outcome.{Outcome}
 use Rattle.ffa_model.specs.declared.operation.Outcome.TheVariants.{Regs, Data, Done, Fault}
 use Rattle.ffa_model.specs.Calls.{code_number}
 use Rattle.ffa_model.specs.declared.refusal.Refusal.{Refusal}
-use Rattle.ffa_model.specs.Registers.{decode, low, functions, is_form_of}
+use Rattle.ffa_model.specs.Registers.{low}
+use Rattle.ffa_model.specs.Rows.{place_in_rows, rows}
 use Rattle.play_reasons.specs.Checks.{number_of}
 use Rattle.play_transcript.specs.declared.counts.AccessKind.{AccessKind}
 use Rattle.play_transcript.specs.declared.counts.AccessKind.TheVariants.{Load as LoadAccess, Store as StoreAccess, Fetch as FetchAccess}
@@ -24,16 +24,13 @@ use Rattle.play_transcript.specs.declared.counts.AccessKind.TheVariants.{Load as
 -- ROWS
 
 -- a call's row is its place among the calls; what is no call has the row behind them
-unfoldable pub row_of : ℕ → ℕ
-row_of function = position_or_len (is_form_of function) functions
-
 abbrev pub row_of_access : AccessKind → ℕ
-row_of_access LoadAccess = length functions + 1
-row_of_access StoreAccess = length functions + 2
-row_of_access FetchAccess = length functions + 3
+row_of_access LoadAccess = length rows + 1
+row_of_access StoreAccess = length rows + 2
+row_of_access FetchAccess = length rows + 3
 
 abbrev pub row_of_operation : Op → ℕ
-row_of_operation (Call x) = row_of (low (slice_index x 0))
+row_of_operation (Call x) = place_in_rows (low (slice_index x 0))
 row_of_operation (Load addr size) = row_of_access LoadAccess
 row_of_operation (Store addr size value) = row_of_access StoreAccess
 row_of_operation (Fetch addr) = row_of_access FetchAccess
@@ -93,7 +90,7 @@ check_cell row number = 14 * row + number - 1
 
 -- where the count of an operation's check stands, if that is one of the call's
 abbrev pub check_cell_of : Op → Refusal → Option ℕ
-check_cell_of (Call x) refusal = option_map (check_cell (row_of (low (slice_index x 0)))) (number_of (decode x) refusal)
+check_cell_of (Call x) refusal = option_map (check_cell (place_in_rows (low (slice_index x 0)))) (number_of (low (slice_index x 0)) refusal)
 check_cell_of (Load addr size) refusal = None
 check_cell_of (Store addr size value) refusal = None
 check_cell_of (Fetch addr) refusal = None

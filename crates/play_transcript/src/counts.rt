@@ -2,30 +2,34 @@
 //! How often what came.
 ghost use Rattle.std.specs.Prelude.{◌≡◌, ◌<◌, ◌≤◌, ◌==◌, ◌∷◌, suc, position, replicate, slice_index, IfSome};
 ghost use Rattle.std.specs.Option.{option_map_or};
-ghost use Rattle.ffa_model.specs.Registers.{decode};
+ghost use Rattle.ffa_model.specs.Registers.{low};
+ghost use Rattle.ffa_model.specs.Rows.{place_in_rows};
 ghost use Rattle.play_reasons.specs.Checks.{number_of};
-ghost use Rattle.play_transcript.specs.Counting.{row_of, row_of_access, row_of_operation, column_of_error, column_of_fault, error_numbers, column_of_registers, column_of, cell, check_cell, check_cell_of, CountsOne, CountsCheck};
+ghost use Rattle.play_transcript.specs.Counting.{row_of_access, row_of_operation, column_of_error, column_of_fault, error_numbers, column_of_registers, column_of, cell, check_cell, check_cell_of, CountsOne, CountsCheck};
 
 use crate::unreached::Everyone;
-use ffa_abi::decode;
-use ffa_model::function::*;
-use ffa_model::{ErrorCode, FaultKind, Manifest, Op, Outcome, Refusal};
+use ffa_abi::{call_place, low};
+use ffa_model::function::FFA_ERROR;
+use ffa_model::{CALLS, ErrorCode, FaultKind, Manifest, Op, Outcome, Refusal};
 use play_reasons::check_number;
 
 /// The row of what is no call.
-const UNKNOWN: usize = 26;
+const UNKNOWN: usize = CALLS.len();
+
+/// As many rows as calls, one of what is no call, and those of three kinds of access.
+const ROWS: usize = CALLS.len() + 4;
 
 /// How many counts a row has: one of what was done, and one for each error or fault.
 const COLUMNS: usize = 6;
 
 /// The calls, what is no call, and the accesses.
-const CELLS: usize = 180;
+const CELLS: usize = COLUMNS * ROWS;
 
 /// No call has more checks.
 const MOST_CHECKS: usize = 14;
 
 /// As many checks of each call, and of what is no call.
-const CHECKS: usize = 378;
+const CHECKS: usize = MOST_CHECKS * (UNKNOWN + 1);
 
 /// FFA_VERSION's refusal, in w0.
 const NO_VERSION: u64 = 0xFFFF_FFFF;
@@ -52,46 +56,17 @@ pub struct Counts {
 }
 
 // The row of a call, in either form that it has.
-#[tactic(auto, unfolding(crate::specs::Counting::row_of))]
 fn row_of(function: u32) -> usize
-    ensures row { result ≡ row_of function }
-    ensures few { result < 27 }
+    ensures row { result ≡ place_in_rows function }
+    ensures few { result ≤ UNKNOWN }
 {
-    match function {
-        FFA_VERSION => 0,
-        FFA_FEATURES => 1,
-        FFA_RX_RELEASE => 2,
-        FFA_RXTX_MAP | FFA_RXTX_MAP_64 => 3,
-        FFA_RXTX_UNMAP => 4,
-        FFA_PARTITION_INFO_GET => 5,
-        FFA_ID_GET => 6,
-        FFA_MSG_WAIT => 7,
-        FFA_YIELD => 8,
-        FFA_RUN => 9,
-        FFA_MSG_SEND_DIRECT_REQ | FFA_MSG_SEND_DIRECT_REQ_64 => 10,
-        FFA_MSG_SEND_DIRECT_RESP | FFA_MSG_SEND_DIRECT_RESP_64 => 11,
-        FFA_MEM_DONATE | FFA_MEM_DONATE_64 => 12,
-        FFA_MEM_LEND | FFA_MEM_LEND_64 => 13,
-        FFA_MEM_SHARE | FFA_MEM_SHARE_64 => 14,
-        FFA_MEM_RETRIEVE_REQ | FFA_MEM_RETRIEVE_REQ_64 => 15,
-        FFA_MEM_RELINQUISH => 16,
-        FFA_MEM_RECLAIM => 17,
-        FFA_NOTIFICATION_BITMAP_CREATE => 18,
-        FFA_NOTIFICATION_BITMAP_DESTROY => 19,
-        FFA_NOTIFICATION_BIND => 20,
-        FFA_NOTIFICATION_UNBIND => 21,
-        FFA_NOTIFICATION_SET => 22,
-        FFA_NOTIFICATION_GET => 23,
-        FFA_SPM_ID_GET => 24,
-        FFA_MSG_SEND2 => 25,
-        _ => UNKNOWN,
-    }
+    call_place(function)
 }
 
 // The row of an access.
 fn row_of_access(access: AccessKind) -> usize
     ensures row { result ≡ row_of_access access }
-    ensures few { result < 30 }
+    ensures few { result < ROWS }
 {
     match access {
         AccessKind::Load => UNKNOWN + 1,
@@ -102,10 +77,10 @@ fn row_of_access(access: AccessKind) -> usize
 
 fn row_of_operation(op: &Op) -> usize
     ensures row { result ≡ row_of_operation op.now }
-    ensures few { result < 30 }
+    ensures few { result < ROWS }
 {
     match op {
-        Op::Call(x) => row_of((x[0] % (1 << 32)) as u32),
+        Op::Call(x) => row_of(low(x[0])),
         Op::Load { .. } => row_of_access(AccessKind::Load),
         Op::Store { .. } => row_of_access(AccessKind::Store),
         Op::Fetch { .. } => row_of_access(AccessKind::Fetch),
@@ -174,7 +149,7 @@ fn column_of(outcome: &Outcome) -> usize
 }
 
 fn cell(row: usize, column: usize) -> usize
-    requires row { row < 30 }
+    requires row { row < ROWS }
     requires column { column < 6 }
     ensures cell { result ≡ cell row column }
     ensures few { result < CELLS }
@@ -184,7 +159,7 @@ fn cell(row: usize, column: usize) -> usize
 
 // Where the count of a row's check stands, which is counted from 1.
 fn check_cell(row: usize, number: usize) -> usize
-    requires row { row < 27 }
+    requires row { row ≤ UNKNOWN }
     requires some { 1 ≤ number }
     requires few { number ≤ MOST_CHECKS }
     ensures cell { result ≡ check_cell row number }
@@ -195,11 +170,11 @@ fn check_cell(row: usize, number: usize) -> usize
 
 // The number of a call's check, which is one of its first 14.
 fn number_of(x: &[u64; 8], refusal: Refusal) -> Option<usize>
-    ensures number { result ≡ number_of (decode x.now) refusal }
+    ensures number { result ≡ number_of (low (slice_index x.now 0)) refusal }
     ensures some { IfSome result (λ number. 1 ≤ number) }
     ensures few { IfSome result (λ number. number ≤ MOST_CHECKS) }
 {
-    check_number(&decode(*x), refusal)
+    check_number(low(x[0]), refusal)
 }
 
 // Where the count of an operation's check stands, if it has that check.
@@ -210,7 +185,7 @@ fn check_cell_of(op: &Op, refusal: Refusal) -> Option<usize>
     match op {
         Op::Call(x) => {
             let number = number_of(x, refusal)?;
-            Some(check_cell(row_of((x[0] % (1 << 32)) as u32), number))
+            Some(check_cell(row_of(low(x[0])), number))
         }
         Op::Load { .. } | Op::Store { .. } | Op::Fetch { .. } => None,
     }
@@ -270,14 +245,14 @@ impl Counts {
 
     /// How often a call succeeded, by its identifier in either form.
     pub fn successes(&self, function: u32) -> u64
-        ensures { result ≡ slice_index self.now.cells (cell (row_of function) 0) }
+        ensures { result ≡ slice_index self.now.cells (cell (place_in_rows function) 0) }
     {
         self.cells[cell(row_of(function), 0)]
     }
 
     /// How often a call was refused with this error, by its identifier in either form.
     pub fn refusals(&self, function: u32, code: ErrorCode) -> u64
-        ensures { result ≡ slice_index self.now.cells (cell (row_of function) (column_of_error code)) }
+        ensures { result ≡ slice_index self.now.cells (cell (place_in_rows function) (column_of_error code)) }
     {
         self.cells[cell(row_of(function), column_of_error(code))]
     }

@@ -2,41 +2,10 @@
 //! What was counted, as text.
 use crate::counts::{AccessKind, Counts};
 use crate::unreached::why_unreached;
-use ffa_abi::{call_name, decode};
-use ffa_model::function::*;
-use ffa_model::{ErrorCode, FaultKind, Refusal};
+use ffa_model::function::FFA_ERROR;
+use ffa_model::{CALLS, ErrorCode, FaultKind, Refusal};
 use play_reasons::{checks, words};
 use std::fmt;
-
-/// The calls, each by its identifier in the 32-bit form, in the order of their rows.
-const CALLS: [u32; 26] = [
-    FFA_VERSION,
-    FFA_FEATURES,
-    FFA_RX_RELEASE,
-    FFA_RXTX_MAP,
-    FFA_RXTX_UNMAP,
-    FFA_PARTITION_INFO_GET,
-    FFA_ID_GET,
-    FFA_MSG_WAIT,
-    FFA_YIELD,
-    FFA_RUN,
-    FFA_MSG_SEND_DIRECT_REQ,
-    FFA_MSG_SEND_DIRECT_RESP,
-    FFA_MEM_DONATE,
-    FFA_MEM_LEND,
-    FFA_MEM_SHARE,
-    FFA_MEM_RETRIEVE_REQ,
-    FFA_MEM_RELINQUISH,
-    FFA_MEM_RECLAIM,
-    FFA_NOTIFICATION_BITMAP_CREATE,
-    FFA_NOTIFICATION_BITMAP_DESTROY,
-    FFA_NOTIFICATION_BIND,
-    FFA_NOTIFICATION_UNBIND,
-    FFA_NOTIFICATION_SET,
-    FFA_NOTIFICATION_GET,
-    FFA_SPM_ID_GET,
-    FFA_MSG_SEND2,
-];
 
 const ERRORS: [ErrorCode; 5] = [
     ErrorCode::NotSupported,
@@ -126,7 +95,7 @@ impl Counts {
         function: u32,
     ) -> fmt::Result {
         let mut number = 1;
-        for check in checks(&decode(bare_call(function))) {
+        for check in checks(function) {
             write!(f, "{name} check {number}: {}: ", words(*check))?;
             self.put_check(f, function, *check)?;
             number = u64::saturating_add(number, 1);
@@ -153,8 +122,8 @@ impl Counts {
 
     // The lines of the checks of each call, and of what is no call.
     fn put_all_checks<W: fmt::Write>(&self, f: &mut fmt::Formatter<W>) -> fmt::Result {
-        for function in CALLS {
-            self.put_checks(f, name_of_call(function), function)?;
+        for (function, name, _, _) in CALLS {
+            self.put_checks(f, name, *function)?;
         }
         self.put_checks(f, "other", FFA_ERROR)
     }
@@ -165,17 +134,13 @@ fn bare_call(function: u32) -> [u64; 8] {
     [u64::from(function), 0, 0, 0, 0, 0, 0, 0]
 }
 
-fn name_of_call(function: u32) -> &'static str {
-    call_name(&bare_call(function)).unwrap_or("call")
-}
-
 /// A line for each call, for what is no call and for each kind of access: its name, how often it was done, and each error
 /// or fault that came, with how often. Behind these a line for each check of each call: how often it was the first to fail, or
 /// why it wasn't reached, where that is known.
 impl fmt::Display for Counts {
     fn fmt<W: fmt::Write>(&self, f: &mut fmt::Formatter<W>) -> fmt::Result {
-        for function in CALLS {
-            self.put_call(f, name_of_call(function), function)?;
+        for (function, name, _, _) in CALLS {
+            self.put_call(f, name, *function)?;
         }
         self.put_call(f, "other", FFA_ERROR)?;
         for access in ACCESSES {
