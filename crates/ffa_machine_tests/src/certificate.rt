@@ -3,11 +3,12 @@
 use crate::checks::{holds, same, same_at};
 use crate::machines::{booted, booted_in_frames, booted_with, four_in_turn};
 use ffa_manifest::read;
-use ffa_model::{Address, CertRun, Data, EndpointId, Manifest, PageNo, Rights, row_machine};
+use ffa_model::{Address, CertRun, Data, EndpointId, Manifest, PageNo, Rights};
 use ffa_physmem::{FlatRam, PhysMem};
 use ffa_spmc::Machine;
 use ffa_tlb::{NoTlb, Translations};
 use ffa_walker::{FaultKind, audit, is_in_ram, translate};
+use fixtures::row_machine;
 use std::alloc::{AllocError, Global};
 use std::process::Abort;
 use std::test::Fail;

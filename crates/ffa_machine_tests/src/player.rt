@@ -2,9 +2,11 @@
 //! The player's machine as it boots, and lines that it takes and refuses.
 use crate::checks::{holds, same, same_at};
 use crate::machines::{FlatPlayer, booted, play};
-use ffa_model::{Op, Outcome, PageNo, Size, built_in, row_machine};
+use ffa_model::{Op, Outcome, PageNo, Size};
 use ffa_physmem::{FlatRam, PhysMem};
 use ffa_spmc::Machine;
+use fixtures::row_machine;
+use play_demo::built_in;
 use play_player::{Begun, Player};
 use play_syntax::PlayError;
 use std::alloc::Global;

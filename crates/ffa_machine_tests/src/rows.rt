@@ -7,9 +7,10 @@
 //! zero. What is printed below a first line stands below it.
 use crate::checks::same;
 use crate::machines::{booted_in_frames, booted_in_room, booted_with, four_in_turn, play};
-use ffa_model::{Manifest, row_machine};
+use ffa_model::Manifest;
 use ffa_playable::Playable;
 use ffa_tlb::{NoTlb, Translations};
+use fixtures::row_machine;
 use play_player::Player;
 use std::alloc::Global;
 use std::process::Abort;

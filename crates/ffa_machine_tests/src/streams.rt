@@ -4,7 +4,7 @@ ghost use Rattle.std.specs.Prelude.{◌≡◌, IfOk};
 
 use crate::checks::{same, same_at};
 use crate::machines::{FlatPlayer, booted};
-use ffa_model::built_in;
+use play_demo::built_in;
 use play_player::Player;
 use play_syntax::PlayError;
 use std::alloc::{AllocError, Global};

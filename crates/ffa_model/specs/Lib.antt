@@ -4,7 +4,6 @@ pub mod Bits
 pub mod Ram
 pub mod Rights
 pub mod Manifest
-pub mod Machines
 pub mod Descriptor
 pub mod Walk
 pub mod Reach

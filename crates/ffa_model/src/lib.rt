@@ -11,7 +11,6 @@ pub mod function;
 pub mod home;
 pub mod leaf;
 pub mod limits;
-pub mod machines;
 pub mod manifest;
 pub mod operation;
 pub mod refusal;
@@ -38,7 +37,6 @@ pub use limits::{
     MOST_BLOCKS, MOST_BUFFER_PAGES, MOST_ENDPOINTS, MOST_OPEN, MOST_PAGES, MOST_RAM, MOST_RANGES,
     MOST_RECEIVERS, MOST_REGIONS, MOST_SENDS, SlotNumber,
 };
-pub use machines::{built_in, row_machine};
 pub use manifest::Manifest;
 pub use operation::{ErrorCode, FaultKind, Op, Outcome, Size};
 pub use refusal::{Refusal, WORDS};

@@ -2,7 +2,8 @@
 //! What is large of what a machine keeps, but for what it keeps of pages and open transactions.
 ghost use Rattle.ffa_spmc.specs.FirstRecords.{AreFirstRecords};
 
-use ffa_model::Manifest;
+use arrayvec::ArrayVec;
+use ffa_model::{Address, Data, Endpoint, Manifest, Properties, Region, Rights, Version};
 use ffa_notify::Bitmaps;
 use ffa_stage2::Layout;
 
@@ -28,4 +29,28 @@ impl Records {
             bitmaps: Bitmaps::of(manifest),
         }
     }
+
+    /// Those of no machine yet: the boot of one puts its own there.
+    pub(crate) fn none() -> Records {
+        Records::of(&least())
+    }
+}
+
+// The manifest with the fewest parts: a block of RAM, and a normal world with one page.
+fn least() -> Manifest {
+    let level = Data::Ro;
+    let mut regions = ArrayVec::new();
+    regions.push(Region {
+        base: 0x10_0000,
+        pages: 1,
+        rights: Rights { level, exec: false },
+    });
+    let mut endpoints = ArrayVec::new();
+    endpoints.push(Endpoint {
+        version: Version::V1_1,
+        uuid: [0; 16],
+        properties: Properties::empty(),
+        regions,
+    });
+    Manifest::of(Address(0), 1, endpoints)
 }

@@ -7,7 +7,7 @@ ghost use Rattle.ffa_spmc.specs.Storages.{IsRoomFor};
 use crate::records::Records;
 use arrayvec::ArrayVec;
 use ffa_memshare::{MOST_SLOTS, OpenSlot, Pool, Slots};
-use ffa_model::{Here, Home, MOST_PAGES, MOST_RANGES, Manifest, Room, built_in};
+use ffa_model::{Here, Home, MOST_PAGES, MOST_RANGES, Manifest, Room};
 use ffa_pages::{KeptPage, PageTable};
 use std::alloc::{AllocError, Allocator};
 use std::marker::PhantomData;
@@ -122,7 +122,7 @@ impl<A: Allocator + Copy + Drop> Storage<Given<A>> {
         Ok(Storage {
             pages: PageTable::of_managers(alloc, pages)?,
             pool: Pool::free_in(alloc, endpoints)?,
-            records: Box::new(alloc, Records::of(&built_in()))?,
+            records: Box::new(alloc, Records::none())?,
         })
     }
 
@@ -168,7 +168,7 @@ impl<A: Allocator + Copy + Drop> Storage<Ready<A>> {
         Ok(Storage {
             pages: PageTable::of_managers(alloc, pages)?,
             pool: Pool::ready_in(alloc)?,
-            records: Box::new(alloc, Records::of(&built_in()))?,
+            records: Box::new(alloc, Records::none())?,
         })
     }
 

@@ -4,8 +4,9 @@ ghost use Rattle.std.specs.Prelude.{◌≡◌, length};
 
 use crate::checks::{alike, same};
 use ffa_messages::{direct_req, direct_resp};
-use ffa_model::{DirectMessage, EndpointId, ErrorCode, Status, Work, row_machine};
+use ffa_model::{DirectMessage, EndpointId, ErrorCode, Status, Work};
 use ffa_schedule::Chain;
+use fixtures::row_machine;
 use std::test::Fail;
 
 const NORMAL: EndpointId = EndpointId(0);

@@ -4,7 +4,8 @@
 use crate::checks::same;
 use arrayvec::ArrayVec;
 use ffa_manifest::{ManifestError, of_parts, read};
-use ffa_model::{Endpoint, Manifest, Properties, Region, Rights, Version, row_machine};
+use ffa_model::{Endpoint, Manifest, Properties, Region, Rights, Version};
+use fixtures::row_machine;
 use std::process::Abort;
 use std::test::Fail;
 

@@ -1,8 +1,9 @@
 // SPDX-License-Identifier: MIT OR Apache-2.0
 //! The pages of the built-in machine.
 use crate::checks::{same, same_at};
-use ffa_model::{Data, EndpointId, PageNo, Rights, built_in};
+use ffa_model::{Data, EndpointId, PageNo, Rights};
 use ffa_pages::PageTable;
+use play_demo::built_in;
 use std::test::Fail;
 
 const WRITABLE: Rights = Rights {

@@ -1,10 +1,11 @@
 // SPDX-License-Identifier: MIT OR Apache-2.0
 //! Buffers on the pages of the row machine.
 use crate::words::word;
-use ffa_model::{Address, Data, EndpointId, ErrorCode, PageNo, Rights, row_machine};
+use ffa_model::{Address, Data, EndpointId, ErrorCode, PageNo, Rights};
 use ffa_pages::PageTable;
 use ffa_physmem::{FlatRam, PhysMem};
 use ffa_rxtx::{Buffers, Mapped};
+use fixtures::row_machine;
 use std::test::Fail;
 
 const BASE: Address = Address(0x4000_0000);

@@ -2,8 +2,9 @@
 //! Worked values, on the machine with two partitions.
 use crate::checks::{alike, holds, same};
 use byteorder::{ByteOrder, LittleEndian};
-use ffa_model::{EndpointId, ErrorCode, Reply, Version, row_machine};
+use ffa_model::{EndpointId, ErrorCode, Reply, Version};
 use ffa_setup::{count, features, id, info_bytes, is_recognized, spm_id, version};
+use fixtures::row_machine;
 
 #[test]
 fn versions(rt: HostRuntime) {

@@ -9,9 +9,11 @@ use crate::checks::{holds, same, same_at};
 use crate::words::word;
 use arrayvec::ArrayVec;
 use byteorder::{ByteOrder, LittleEndian};
-use ffa_model::{Address, Data, PageNo, Region, Rights, built_in, row_machine};
+use ffa_model::{Address, Data, PageNo, Region, Rights};
 use ffa_physmem::{FlatRam, NoMemory, PhysMem};
 use ffa_stage2::{Layout, Regions, build, is_uniform, leaf, set_page};
+use fixtures::row_machine;
+use play_demo::built_in;
 use std::alloc::Global;
 use std::process::Abort;
 

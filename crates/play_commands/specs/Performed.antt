@@ -5,7 +5,7 @@ use Rattle.std.specs.Option.{option_and_then}
 use Rattle.std.specs.Io.KnownBytes.{Keeps}
 use Rattle.ffa_model.specs.State.{State}
 use Rattle.ffa_model.specs.First.{first}
-use Rattle.ffa_model.specs.Machines.{built_in_endpoints}
+use Rattle.play_demo.specs.Machine.{built_in_endpoints}
 use Rattle.ffa_manifest.specs.Document.{Parts}
 use Rattle.play_writer.specs.declared.unfit.Unfit.{Unfit}
 use Rattle.play_transcript.specs.Traces.{Wrote}

@@ -5,11 +5,12 @@ use crate::checks::same;
 use crate::machines::{booted, play};
 use ffa_model::function::*;
 use ffa_model::{
-    EndpointId, ErrorCode, FaultKind, Manifest, Op, Outcome, Properties, Refusal, Why, built_in,
-    row_machine,
+    EndpointId, ErrorCode, FaultKind, Manifest, Op, Outcome, Properties, Refusal, Why,
 };
 use ffa_physmem::FlatRam;
 use ffa_spmc::Machine;
+use fixtures::row_machine;
+use play_demo::built_in;
 use play_generator::{AccessKind, Counts, Everyone, why_unreached};
 use play_machines::Booted;
 use play_player::Player;

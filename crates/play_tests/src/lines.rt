@@ -2,7 +2,8 @@
 //! Lines that are read, and machines that go on behind bad lines, differences and sessions.
 use crate::checks::{holds, same};
 use crate::machines::{FlatPlayer, booted};
-use ffa_model::{FaultKind, built_in};
+use ffa_model::FaultKind;
+use play_demo::built_in;
 use play_forms::{CompareError, Form, Mismatch, Sides, compare, next_line, play, play_session};
 use play_player::Player;
 use play_syntax::{PlayError, text};

@@ -3,7 +3,8 @@
 use crate::checks::same_at;
 use crate::machines::{FlatPlayer, booted, play};
 use crate::printed;
-use ffa_model::{EndpointId, MOST_SENDS, Op, PageNo, Size, row_machine};
+use ffa_model::{EndpointId, MOST_SENDS, Op, PageNo, Size};
+use fixtures::row_machine;
 use play_player::Player;
 use std::alloc::Global;
 use std::test::Fail;

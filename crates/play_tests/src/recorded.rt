@@ -2,7 +2,7 @@
 //! Traces that are written with the guards of their own play.
 use crate::checks::{holds, same_at};
 use crate::machines::{FlatPlayer, booted};
-use ffa_model::built_in;
+use play_demo::built_in;
 use play_forms::{Form, Tally, play_guarded, record};
 use play_machines::Booted;
 use play_player::Player;

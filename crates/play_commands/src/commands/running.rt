@@ -5,8 +5,8 @@ ghost use Rattle.play_commands.specs.Performed.{Does, is_session, ran};
 ghost use Rattle.play_commands.specs.Running.{compare_of, demo_of, picture_of, record_of, run_of};
 
 use super::paging::print_page;
-use ffa_model::built_in;
 use play_arguments::{MachineOptions, PictureOptions, TextOptions};
+use play_demo::built_in;
 use play_drawing::Keep;
 use play_files::Files;
 use play_report::{Failure, Notes, read_manifest};

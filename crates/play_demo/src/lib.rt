@@ -1,14 +1,15 @@
 // SPDX-License-Identifier: MIT OR Apache-2.0
-//! Two machines that are at hand without a manifest's text.
-ghost use Rattle.std.specs.Prelude.{◌≡◌};
-ghost use Rattle.ffa_model.specs.Machines.{sixteen_writable, endpoint_with, built_in_endpoints, row_endpoints};
+//! The machine of the program's demonstration, which needs no manifest's text.
+#![tactic(auto)]
 
-use crate::endpoint::{Address, Endpoint, Properties, Region, Version};
-use crate::limits::MOST_ENDPOINTS;
-use crate::manifest::Manifest;
-use crate::rights::{Data, Rights};
+ghost use Rattle.std.specs.Prelude.{◌≡◌};
+ghost use Rattle.play_demo.specs.Machine.{sixteen_writable, endpoint_with, built_in_endpoints};
+
 use arrayvec::ArrayVec;
 use bitflags::Flags;
+use ffa_model::{
+    Address, Data, Endpoint, MOST_ENDPOINTS, Manifest, Properties, Region, Rights, Version,
+};
 
 // Sixteen writable pages.
 fn region(base: u32, exec: bool) -> Region
@@ -56,18 +57,4 @@ pub fn built_in() -> Manifest
     ensures endpoints { result.endpoints.items ≡ built_in_endpoints }
 {
     Manifest::of(Address(0x4000_0000), 1, two_endpoints())
-}
-
-/// The built-in machine with a second partition, which has 16 writable pages at 0x40030000.
-pub fn row_machine() -> Manifest
-    ensures base { result.ram_base.0 ≡ 0x40000000 }
-    ensures blocks { result.ram_blocks ≡ 1 }
-    ensures endpoints { result.endpoints.items ≡ row_endpoints }
-{
-    let uuid = [
-        16, 17, 34, 51, 68, 85, 102, 119, 136, 153, 170, 187, 204, 221, 238, 255,
-    ];
-    let mut endpoints = two_endpoints();
-    endpoints.push(endpoint(uuid, 15, region(0x4003_0000, false)));
-    Manifest::of(Address(0x4000_0000), 1, endpoints)
 }

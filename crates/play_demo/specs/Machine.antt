@@ -1,6 +1,6 @@
 -- SPDX-License-Identifier: MIT OR Apache-2.0
--- The endpoints of the machines that are at hand.
-use Rattle.std.specs.Prelude.{ℕ, Bool, true, false, List, [], ◌∷◌, ◌++◌, replicate}
+-- The endpoints of the machine of the demonstration.
+use Rattle.std.specs.Prelude.{ℕ, Bool, true, false, List, [], ◌∷◌, replicate}
 use Rattle.ffa_model.specs.declared.rights.Data.TheVariants.{Rw}
 use Rattle.ffa_model.specs.declared.endpoint.Version.TheVariants.{V1_1}
 use Rattle.ffa_model.specs.declared.endpoint.Region.{Region}
@@ -24,7 +24,3 @@ built_in_endpoints =
     endpoint_with (replicate 16 0) 6 (sixteen_writable 0x40010000 false)
     ∷ endpoint_with (0 ∷ uuid_tail) 15 (sixteen_writable 0x40020000 true)
     ∷ []
-
--- and a second partition
-abbrev pub row_endpoints : List Endpoint
-row_endpoints = built_in_endpoints ++ endpoint_with (16 ∷ uuid_tail) 15 (sixteen_writable 0x40030000 false) ∷ []
