@@ -3,6 +3,7 @@
 ghost use Rattle.ffa_spmc.specs.FirstRecords.{AreFirstRecords};
 
 use arrayvec::ArrayVec;
+use bitflags::Flags;
 use ffa_model::{Address, Data, Endpoint, Manifest, Properties, Region, Rights, Version};
 use ffa_notify::Bitmaps;
 use ffa_stage2::Layout;
@@ -49,7 +50,7 @@ fn least() -> Manifest {
     endpoints.push(Endpoint {
         version: Version::V1_1,
         uuid: [0; 16],
-        properties: Properties::empty(),
+        properties: Properties::from_bits_retain(0),
         regions,
     });
     Manifest::of(Address(0), 1, endpoints)
