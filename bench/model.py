@@ -7,12 +7,12 @@ reckoned a tenth more processor time than was measured, and three quarters of it
 """
 import collections
 import os
-import re
 import sys
 
 sys.dont_write_bytecode = True
 TOP = os.path.dirname(os.path.dirname(os.path.realpath(__file__)))
 sys.path.insert(0, f"{TOP}/bench")
+import listed  # noqa: E402
 import toolchain  # noqa: E402
 
 # Seconds of processor time of the proofs of tests, with those of their crates: those of a run of 2026-11-26, by how many of their
@@ -23,11 +23,8 @@ OF_TESTS = {"ffa_machine_tests": 1000, "play_tests": 440, "ffa_tests": 600}
 def crates():
     """The crates, lowest first, and all that each stands on."""
     below = {}
-    for row in open(f"{TOP}/crates.txt"):
-        told = re.match(r"(\w+)[^:#\n]*:([^#\n]*)", row)
-        if told:
-            direct = [it for it in told[2].split() if it in below]
-            below[told[1]] = [*dict.fromkeys(it for low in direct for it in [*below[low], low])]
+    for name, crate in listed.crates().items():
+        below[name] = [*dict.fromkeys(it for low in crate.uses if low in below for it in [*below[low], low])]
     return below
 
 
