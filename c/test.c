@@ -1,11 +1,11 @@
 /* SPDX-License-Identifier: MIT OR Apache-2.0 */
 /* The first row of the manual, a lend that is retrieved, given up and reclaimed, what the border answers out of order, pages
  * that are lent and given back, with their bytes or cleared, what then boots in them, what is to be settled, what has changed, what is
- * pending, and each piece of memory refused in turn. It brings the library's memory itself. */
+ * pending, and each piece of memory refused in turn. */
 #include <stdio.h>
-#include <stdlib.h>
 #include <string.h>
 #include "check.h"
+#include "counted.h"
 #include "gorseplumb.h"
 #include "lending.h"
 #include "machine.toml.h"
@@ -14,35 +14,6 @@
 _Static_assert(sizeof(enum gorseplumb_answer) == sizeof(uint32_t), "an enum is 32 bits wide");
 
 static struct gorseplumb_machine machine;
-
-/* The library's memory: counts the pieces that it has, and refuses the one of a number. */
-static size_t pieces, asked, refused;
-
-/* Of a list: its own, its pages' addresses, copies of TX, and of the machine its place, its records, owners of pages and transactions. */
-enum { LIST_PIECES = 7 };
-
-static struct gorseplumb_block block_at(void *at) {
-    static char nothing;
-    return (struct gorseplumb_block){at != NULL, at != NULL ? at : &nothing};
-}
-
-struct gorseplumb_block rattle_alloc(size_t size, size_t align) {
-    if (++asked == refused) return block_at(NULL);
-    struct gorseplumb_block got = block_at(malloc(size != 0 ? size : align));
-    pieces += got.ok;
-    return got;
-}
-
-struct gorseplumb_block rattle_realloc(void *block, size_t kept, size_t size, size_t align) {
-    (void)kept;
-    if (++asked == refused) return block_at(NULL);
-    return block_at(realloc(block, size != 0 ? size : align));
-}
-
-void rattle_dealloc(void *block) {
-    pieces--;
-    free(block);
-}
 
 /* What the library had settled of pages, the first of it. */
 #define MOST_SETTLED 8

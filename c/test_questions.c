@@ -5,11 +5,11 @@
  * docs/FORMATS.md has them, handles and descriptors as docs/MEMORY.md. */
 #define _DEFAULT_SOURCE
 #include <stdio.h>
-#include <stdlib.h>
 #include <string.h>
 #include "../board/calls.h"
 #include "check.h"
 #include "gorseplumb.h"
+#include "heap.c"
 #include "machine.toml.h"
 
 #include "shown.h"
@@ -19,20 +19,6 @@ enum { RAM_PAGES = 512, LENT = 33, SHARED = 34 };
 static const uint64_t FIRST_HANDLE = 0x0000800100000001, SECOND_HANDLE = 0x0000800100000002;
 
 static struct gorseplumb_machine machine;
-
-static struct gorseplumb_block block_at(void *at) {
-    CHECK(at != NULL);
-    return (struct gorseplumb_block){true, at};
-}
-
-struct gorseplumb_block rattle_alloc(size_t size, size_t align) { return block_at(malloc(size != 0 ? size : align)); }
-
-struct gorseplumb_block rattle_realloc(void *block, size_t kept, size_t size, size_t align) {
-    (void)kept;
-    return block_at(realloc(block, size != 0 ? size : align));
-}
-
-void rattle_dealloc(void *block) { free(block); }
 
 void gorseplumb_settle(uint16_t endpoint, uint64_t address, uint64_t size) {
     (void)endpoint, (void)address, (void)size;

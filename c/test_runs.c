@@ -3,10 +3,10 @@
  * judged, of a machine and of tables in pages that are lent, also where memory is refused. Numbers and answers are by reasoning, or
  * the manual's, as in test.c. */
 #include <stdio.h>
-#include <stdlib.h>
 #include <string.h>
 #include "../board/calls.h"
 #include "check.h"
+#include "counted.h"
 #include "gorseplumb.h"
 #include "lending.h"
 #include "machine.toml.h"
@@ -14,33 +14,6 @@
 static struct gorseplumb_machine machine;
 static struct gorseplumb_page pages[512];
 static struct gorseplumb_lent list;
-
-/* The library's memory: counts the pieces that it has, and refuses the one of a number. */
-static size_t pieces, asked, refused;
-
-/* What a list has of them, with all that a machine in it takes. */
-enum { LIST_PIECES = 7 };
-
-static struct gorseplumb_block block_at(void *at) {
-    static char nothing;
-    return (struct gorseplumb_block){at != NULL, at != NULL ? at : &nothing};
-}
-
-struct gorseplumb_block rattle_alloc(size_t size, size_t align) {
-    if (++asked == refused) return block_at(NULL);
-    pieces++;
-    return block_at(malloc(size != 0 ? size : align));
-}
-
-struct gorseplumb_block rattle_realloc(void *block, size_t kept, size_t size, size_t align) {
-    (void)kept;
-    return block_at(++asked == refused ? NULL : realloc(block, size != 0 ? size : align));
-}
-
-void rattle_dealloc(void *block) {
-    pieces--;
-    free(block);
-}
 
 void gorseplumb_settle(uint16_t endpoint, uint64_t address, uint64_t size) {
     (void)endpoint, (void)address, (void)size; /* no processor walks the tables */

@@ -1,0 +1,38 @@
+/* SPDX-License-Identifier: MIT OR Apache-2.0 */
+/* The library's memory in a test: it counts the pieces, and refuses the one of a number. */
+#ifndef GORSEPLUMB_COUNTED_H
+#define GORSEPLUMB_COUNTED_H
+
+#include <stdlib.h>
+#include "gorseplumb.h"
+
+/* How many the library has, how many times it asked since a test began to count, and which time is refused, none at 0. */
+static size_t pieces, asked, refused;
+
+/* Of a list: its own, its pages' addresses, copies of TX, and of the machine its place, its records, owners of pages and transactions. */
+enum { LIST_PIECES = 7 };
+
+static struct gorseplumb_block block_at(void *at) {
+    static char nothing;
+    return (struct gorseplumb_block){at != NULL, at != NULL ? at : &nothing};
+}
+
+struct gorseplumb_block rattle_alloc(size_t size, size_t align) {
+    if (++asked == refused) return block_at(NULL);
+    struct gorseplumb_block got = block_at(malloc(size != 0 ? size : align));
+    pieces += got.ok;
+    return got;
+}
+
+struct gorseplumb_block rattle_realloc(void *block, size_t kept, size_t size, size_t align) {
+    (void)kept;
+    if (++asked == refused) return block_at(NULL);
+    return block_at(realloc(block, size != 0 ? size : align));
+}
+
+void rattle_dealloc(void *block) {
+    pieces--;
+    free(block);
+}
+
+#endif
