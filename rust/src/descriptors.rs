@@ -2,7 +2,7 @@
 //! Descriptors of memory transactions, as values and as bytes.
 use crate::checks::Flaw;
 use crate::functions::Function;
-use crate::hexadecimal::Hexadecimal;
+use crate::hexadecimal::{shown, Hexadecimal};
 use crate::layout::{
     attributes, check_access, check_asked, check_count, check_permissions, check_range, check_send, header_size,
     read_access, read_count, read_header, read_range, require, total, u16_at, u32_at, u64_at, Access, DescriptorBytes,
@@ -153,11 +153,7 @@ impl PageRange {
     }
 }
 
-impl fmt::Debug for PageRange {
-    fn fmt(&self, to: &mut fmt::Formatter<'_>) -> fmt::Result {
-        to.debug_struct("PageRange").field("address", &Hexadecimal(self.address)).field("pages", &self.pages).finish()
-    }
-}
+shown! { PageRange { address: hexadecimal, pages } }
 
 /// Why values, or bytes, are no descriptor: the first condition that they break.
 #[derive(Clone, Copy, Debug, PartialEq, Eq, Hash)]
@@ -359,18 +355,7 @@ impl<'lists> Offer<'lists> {
     }
 }
 
-impl fmt::Debug for Offer<'_> {
-    fn fmt(&self, to: &mut fmt::Formatter<'_>) -> fmt::Result {
-        to.debug_struct("Offer")
-            .field("kind", &self.kind)
-            .field("sender", &self.sender)
-            .field("receivers", &self.receivers)
-            .field("ranges", &self.ranges)
-            .field("zero", &self.zero)
-            .field("tag", &Hexadecimal(self.tag))
-            .finish()
-    }
-}
+shown! { Offer<'_> { kind, sender, receivers, ranges, zero, tag: hexadecimal } }
 
 /// What a receiver asks for by FFA_MEM_RETRIEVE_REQ.
 #[derive(Clone, Copy, PartialEq, Eq, Hash)]
@@ -426,17 +411,7 @@ impl Retrieve {
     }
 }
 
-impl fmt::Debug for Retrieve {
-    fn fmt(&self, to: &mut fmt::Formatter<'_>) -> fmt::Result {
-        to.debug_struct("Retrieve")
-            .field("sender", &self.sender)
-            .field("handle", &Hexadecimal(self.handle))
-            .field("receiver", &self.receiver)
-            .field("tag", &Hexadecimal(self.tag))
-            .field("kind", &self.kind)
-            .finish()
-    }
-}
+shown! { Retrieve { sender, handle: hexadecimal, receiver, tag: hexadecimal, kind } }
 
 /// What FFA_MEM_RETRIEVE_RESP leaves in RX.
 ///
@@ -573,12 +548,4 @@ impl Relinquish {
     }
 }
 
-impl fmt::Debug for Relinquish {
-    fn fmt(&self, to: &mut fmt::Formatter<'_>) -> fmt::Result {
-        to.debug_struct("Relinquish")
-            .field("handle", &Hexadecimal(self.handle))
-            .field("endpoint", &self.endpoint)
-            .field("zero", &self.zero)
-            .finish()
-    }
-}
+shown! { Relinquish { handle: hexadecimal, endpoint, zero } }

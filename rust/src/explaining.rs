@@ -2,7 +2,7 @@
 //! Operations whose errors say why, for `?` and for whoever reads it.
 use crate::codes::{ErrorCode, Fault};
 use crate::functions::Function;
-use crate::hexadecimal::Hexadecimal;
+use crate::hexadecimal::shown;
 use crate::machine::Machine;
 use crate::operation::{Answer, Registers, Size};
 use crate::ram::Ram;
@@ -20,15 +20,7 @@ pub struct CallError {
     pub reason: Option<CallReason>,
 }
 
-impl fmt::Debug for CallError {
-    fn fmt(&self, to: &mut fmt::Formatter<'_>) -> fmt::Result {
-        to.debug_struct("CallError")
-            .field("function", &Hexadecimal(self.function))
-            .field("error", &self.error)
-            .field("reason", &self.reason)
-            .finish()
-    }
-}
+shown! { CallError { function: hexadecimal, error, reason } }
 
 /// The call's name, or its number where it has none; the code; the check's words, and what it is about.
 impl fmt::Display for CallError {

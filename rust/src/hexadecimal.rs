@@ -20,3 +20,19 @@ impl<T: fmt::UpperHex> fmt::Debug for All<'_, T> {
         to.debug_list().entries(self.0.iter().map(Hexadecimal)).finish()
     }
 }
+
+/// `Debug` of a struct, as it is derived, but for the fields with `hexadecimal` behind them, which are shown so.
+macro_rules! shown {
+    ($name:ident $(<$lifetime:lifetime>)? { $($field:ident $(: $how:ident)?),* }) => {
+        impl core::fmt::Debug for $name $(<$lifetime>)? {
+            fn fmt(&self, to: &mut core::fmt::Formatter<'_>) -> core::fmt::Result {
+                to.debug_struct(stringify!($name))
+                    $(.field(stringify!($field), &$crate::hexadecimal::shown!(@ self.$field $(, $how)?)))*
+                    .finish()
+            }
+        }
+    };
+    (@ $value:expr) => { $value };
+    (@ $value:expr, hexadecimal) => { $crate::hexadecimal::Hexadecimal($value) };
+}
+pub(crate) use shown;

@@ -1,7 +1,7 @@
 // SPDX-License-Identifier: MIT OR Apache-2.0
 //! The machine: how it begins, what it does, and how it ends.
 use crate::codes::{AccessError, BootError, Cause, Fault, NoEndpoint};
-use crate::hexadecimal::Hexadecimal;
+use crate::hexadecimal::shown;
 use crate::operation::{accessed, accessed_by, known, Answer, Registers, Size};
 use crate::ram::{Heap, Lent, Page, Ram};
 use crate::{raw, Id, Manifest};
@@ -290,12 +290,7 @@ pub struct Range {
     pub size: u64,
 }
 
-impl fmt::Debug for Range {
-    fn fmt(&self, to: &mut fmt::Formatter<'_>) -> fmt::Result {
-        let (address, size) = (Hexadecimal(self.address), Hexadecimal(self.size));
-        to.debug_struct("Range").field("address", &address).field("size", &size).finish()
-    }
-}
+shown! { Range { address: hexadecimal, size: hexadecimal } }
 
 /// Whose access to which pages has changed. To each of them the endpoint had none before, or has none now.
 #[derive(Clone, PartialEq, Eq)]

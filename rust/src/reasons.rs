@@ -2,7 +2,7 @@
 //! Why an operation would be refused, or was refused just before.
 use crate::checks::{Check, Flaw};
 use crate::codes::{ErrorCode, Fault};
-use crate::hexadecimal::Hexadecimal;
+use crate::hexadecimal::{shown, Hexadecimal};
 use crate::machine::{of, Machine};
 use crate::operation::{known, Registers, Size};
 use crate::ram::Ram;
@@ -82,15 +82,7 @@ pub enum Obstacle {
     InTransaction(u64),
 }
 
-impl fmt::Debug for AccessReason {
-    fn fmt(&self, to: &mut fmt::Formatter<'_>) -> fmt::Result {
-        to.debug_struct("AccessReason")
-            .field("address", &Hexadecimal(self.address))
-            .field("fault", &self.fault)
-            .field("obstacle", &self.obstacle)
-            .finish()
-    }
-}
+shown! { AccessReason { address: hexadecimal, fault, obstacle } }
 
 impl fmt::Debug for Obstacle {
     fn fmt(&self, to: &mut fmt::Formatter<'_>) -> fmt::Result {

@@ -1,8 +1,7 @@
 // SPDX-License-Identifier: MIT OR Apache-2.0
 //! What firmware settles while an operation is on its way.
-use crate::hexadecimal::Hexadecimal;
+use crate::hexadecimal::shown;
 use crate::{raw, Id};
-use core::fmt;
 
 /// What is to be settled: when the function that [`settle_by!`](crate::settle_by) names returns, all that the library
 /// has stored so far is seen by every processor and every walk of tables, and no processor holds a translation for an
@@ -18,16 +17,7 @@ pub struct Settling {
     pub size: u64,
 }
 
-impl fmt::Debug for Settling {
-    fn fmt(&self, to: &mut fmt::Formatter<'_>) -> fmt::Result {
-        let (address, size) = (Hexadecimal(self.address), Hexadecimal(self.size));
-        to.debug_struct("Settling")
-            .field("endpoint", &self.endpoint)
-            .field("address", &address)
-            .field("size", &size)
-            .finish()
-    }
-}
+shown! { Settling { endpoint, address: hexadecimal, size: hexadecimal } }
 
 /// Reads what the library writes.
 ///
