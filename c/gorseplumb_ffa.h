@@ -1,8 +1,8 @@
 /* SPDX-License-Identifier: MIT OR Apache-2.0 */
 /* FF-A's numbers by name, and a call or an answer in a line, for test benches, and for firmware that has no header with
- * them. It is optional: gorseplumb.h needs nothing of it. tests/calls and tests/names compare the numbers with those of
- * the crates. The functions are C, and not proved: they put numbers into registers and take them out. They ask nothing
- * of a C library, and of Gorseplumb's they call gorseplumb_call alone. */
+ * them. It is optional: gorseplumb.h needs nothing of it. tests/copies writes the identifiers of the crates' table, and
+ * tests/names compares the other numbers. The functions are C, and not proved: they put numbers into registers and take
+ * them out. They ask nothing of a C library, and of Gorseplumb's they call gorseplumb_call alone. */
 #ifndef GORSEPLUMB_FFA_H
 #define GORSEPLUMB_FFA_H
 

@@ -1,8 +1,8 @@
 /* SPDX-License-Identifier: MIT OR Apache-2.0 */
-/* Names as text: the standard's, and what the program prints (crates/ffa_abi, crates/play_reasons,
- * crates/ffa_manifest), with which tests/names compares them. What stands here asks for no function and has no pointer
- * in its data, so it is right at whichever address it is loaded. c/archive puts it into the archive, with a section for
- * each function and each table, so that a linker drops those that nobody asks. */
+/* Names as text: the standard's, and what the program prints. tests/copies writes functions, checks and flaws of the
+ * crates' tables, and tests/names compares the others. What stands here asks for no function and has no pointer in its
+ * data, so it is right at whichever address it is loaded. c/archive puts it into the archive, with a section for each
+ * function and each table, so that a linker drops those that nobody asks. */
 #include "gorseplumb.h"
 
 #define CHECK(name) GORSEPLUMB_CHECK_##name

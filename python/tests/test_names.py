@@ -1,5 +1,6 @@
 # SPDX-License-Identifier: MIT OR Apache-2.0
-"""Names, numbers and words against the manual, the core's lists, the program's words and C's header."""
+"""Names, numbers and words against the manual, the core's lists and C's header. (tests/copies writes functions, checks and
+flaws.)"""
 from __future__ import annotations
 
 import inspect
@@ -22,48 +23,11 @@ def source(path: str) -> str:
     return (TOP / "crates" / path).read_text()
 
 
-def snake(name: str) -> str:
-    return re.sub(r"(?<=[a-z])(?=[A-Z])", "_", name).upper()
-
-
-def variants(text: str, name: str) -> list[str]:
-    body = re.search(rf"pub enum {name} \{{(.*?)\n\}}", text, re.S)
-    assert body is not None
-    return re.findall(r"^    (\w+),$", body[1], re.M)
-
-
-def test_functions_are_those_of_the_manual() -> None:
-    rows = re.findall(r"(84\w{6})(?: (C4\w{6}))? +(FFA_\w+)", (TOP / "docs" / "USING.md").read_text())
-    told = {name: int(number, 16) for number, _, name in rows}
-    told |= {f"{name}_64": int(wide, 16) for _, wide, name in rows if wide}
-    assert told == {function.name: int(function) for function in Function}
-
-
 def test_error_codes_are_those_of_the_core() -> None:
-    told = re.findall(r'0x(FFFF_FFF\w) => "(\w+)"', source("ffa_abi/src/names.rt"))
+    told = re.findall(r'0x(FFFF_FFF\w) => "(\w+)"', source("core/ffa_abi/src/names.rt"))
     assert {name: int(number.replace("_", ""), 16) - (1 << 32) for number, name in told} == {
         code.name: int(code) for code in ErrorCode
     }
-
-
-def test_checks_are_those_of_the_core_with_the_programs_words() -> None:
-    text = source("ffa_model/src/refusal.rt")
-    assert [check.name for check in Check] == [snake(name) for name in variants(text, "Refusal")]
-    assert [int(check) for check in Check] == list(range(1, len(Check) + 1))
-    words = re.findall(r'Refusal::(\w+) => (?:\{\s*)?"([^"]+)"', source("play_reasons/src/sentences.rt"))
-    assert {snake(name): told for name, told in words} == {check.name: check.words for check in Check}
-
-
-def test_flaws_are_those_of_the_core_with_the_programs_words() -> None:
-    text, words = source("ffa_model/src/flaw.rt"), source("play_reasons/src/flaws.rt")
-    parts = re.findall(r"^    (\w+)\((?:u32, )?(\w+Flaw)\),$", text, re.M)
-    told = {
-        f"{part.upper()}_{snake(name)}": re.search(rf'{kind}::{name} => (?:\{{\s*)?"([^"]+)"', words)
-        for part, kind in parts
-        for name in variants(text, kind)
-    }
-    assert list(told) == [flaw.name for flaw in Flaw]
-    assert [it[1] if it else None for it in told.values()] == [flaw.words for flaw in Flaw]
 
 
 def test_checks_and_flaws_are_printed_by_their_words() -> None:
@@ -96,8 +60,6 @@ def test_numbers_are_those_of_the_header() -> None:
     groups: dict[str, type[IntEnum]] = {
         "MANIFEST_": Cause,
         "FAULT_": Fault,
-        "CHECK_": Check,
-        "FLAW_": Flaw,
         "ABOUT_": About,
         "OBSTACLE_": Obstacle,
         "GRANT_": GrantKind,
@@ -135,11 +97,6 @@ def test_numbers_of_checks_are_those_of_the_manual() -> None:
     assert library.check_number(Function.FFA_RUN, Check.RX_FULL) == 0
 
 
-def test_the_declarations_are_those_that_the_package_has() -> None:
-    told = re.search(r"#define GORSEPLUMB_DECLARATIONS (\d+)", HEADER)
-    assert told is not None and int(told[1]) == c.DECLARATIONS
-
-
 def test_each_public_name_says_what_it_is() -> None:
     kinds = [(name, it) for name, it in vars(gorseplumb).items() if name in gorseplumb.__all__]
     for name, it in kinds:
@@ -153,6 +110,6 @@ def test_each_public_name_says_what_it_is() -> None:
 
 
 def test_the_version_is_the_programs() -> None:
-    told = re.search(r'pub const VERSION: &str = "([^"]+)"', source("play_arguments/src/program.rt"))
+    told = re.search(r'pub const VERSION: &str = "([^"]+)"', source("player/play_arguments/src/program.rt"))
     project = tomllib.loads((TOP / "python" / "pyproject.toml").read_text())["project"]
     assert told is not None and told[1] == project["version"] == gorseplumb.__version__

@@ -11,40 +11,7 @@ type Piece = (usize, u32, u32);
 /// Where a number stands: its pieces, the lowest one first.
 type Place = (&'static str, &'static [Piece]);
 
-const ENDPOINT: Place = ("endpoint", &[(1, 0, 32)]);
-const SENDER: Place = ("sender", &[(1, 16, 16)]);
-const RECEIVER: Place = ("receiver", &[(1, 0, 16)]);
-const FLAGS: Place = ("flags", &[(2, 0, 32)]);
-const HANDLE: Place = ("handle", &[(2, 0, 32), (3, 0, 32)]);
-const LENGTH: Place = ("length", &[(1, 0, 32)]);
-const FRAGMENT: Place = ("fragment", &[(2, 0, 32)]);
-const PAGES: Place = ("pages", &[(4, 0, 32)]);
-const TARGET: &[Place] = &[("partition", &[(1, 16, 16)]), ("context", &[(1, 0, 16)])];
-const DESCRIPTOR: &[Place] = &[LENGTH, FRAGMENT, ("address", &[(3, 0, 32)]), PAGES];
-const DESCRIPTOR_64: &[Place] = &[LENGTH, FRAGMENT, ("address", &[(3, 0, 64)]), PAGES];
-const BITS: &[Place] = &[SENDER, RECEIVER, FLAGS, ("bits", &[(3, 0, 32), (4, 0, 32)])];
-const MESSAGE: &[Place] = &[
-    SENDER,
-    RECEIVER,
-    FLAGS,
-    ("payload0", &[(3, 0, 32)]),
-    ("payload1", &[(4, 0, 32)]),
-    ("payload2", &[(5, 0, 32)]),
-    ("payload3", &[(6, 0, 32)]),
-    ("payload4", &[(7, 0, 32)]),
-];
-const MESSAGE_64: &[Place] = &[
-    SENDER,
-    RECEIVER,
-    FLAGS,
-    ("payload0", &[(3, 0, 64)]),
-    ("payload1", &[(4, 0, 64)]),
-    ("payload2", &[(5, 0, 64)]),
-    ("payload3", &[(6, 0, 64)]),
-    ("payload4", &[(7, 0, 64)]),
-];
-
-/// What the registers of a call or an answer hold.
+/// What the registers of a call or an answer hold. (tests/copies writes it and the next one, as Python has them.)
 const fn arguments(function: Function) -> &'static [Place] {
     match function {
         Function::Error => &[("code", &[(2, 0, 32)])],
@@ -52,28 +19,58 @@ const fn arguments(function: Function) -> &'static [Place] {
         Function::Features => &[("feature", &[(1, 0, 32)])],
         Function::RxtxMap => &[("tx", &[(1, 0, 32)]), ("rx", &[(2, 0, 32)]), ("pages", &[(3, 0, 32)])],
         Function::RxtxMap64 => &[("tx", &[(1, 0, 64)]), ("rx", &[(2, 0, 64)]), ("pages", &[(3, 0, 32)])],
-        Function::RxtxUnmap | Function::NotificationBitmapDestroy => &[ENDPOINT],
+        Function::RxtxUnmap | Function::NotificationBitmapDestroy => &[("endpoint", &[(1, 0, 32)])],
         Function::PartitionInfoGet => {
             &[("uuid", &[(1, 0, 32), (2, 0, 32), (3, 0, 32), (4, 0, 32)]), ("count_only", &[(5, 0, 1)])]
         }
-        Function::MsgWait | Function::Yield | Function::Run => TARGET,
-        Function::MsgSendDirectReq | Function::MsgSendDirectResp => MESSAGE,
-        Function::MsgSendDirectReq64 | Function::MsgSendDirectResp64 => MESSAGE_64,
-        Function::MemDonate | Function::MemLend | Function::MemShare | Function::MemRetrieveReq => DESCRIPTOR,
-        Function::MemDonate64 | Function::MemLend64 | Function::MemShare64 | Function::MemRetrieveReq64 => {
-            DESCRIPTOR_64
+        Function::MsgWait | Function::Yield | Function::Run => {
+            &[("partition", &[(1, 16, 16)]), ("context", &[(1, 0, 16)])]
         }
-        Function::MemRetrieveResp => &[LENGTH, FRAGMENT],
+        Function::MsgSendDirectReq | Function::MsgSendDirectResp => &[
+            ("sender", &[(1, 16, 16)]),
+            ("receiver", &[(1, 0, 16)]),
+            ("flags", &[(2, 0, 32)]),
+            ("payload0", &[(3, 0, 32)]),
+            ("payload1", &[(4, 0, 32)]),
+            ("payload2", &[(5, 0, 32)]),
+            ("payload3", &[(6, 0, 32)]),
+            ("payload4", &[(7, 0, 32)]),
+        ],
+        Function::MsgSendDirectReq64 | Function::MsgSendDirectResp64 => &[
+            ("sender", &[(1, 16, 16)]),
+            ("receiver", &[(1, 0, 16)]),
+            ("flags", &[(2, 0, 32)]),
+            ("payload0", &[(3, 0, 64)]),
+            ("payload1", &[(4, 0, 64)]),
+            ("payload2", &[(5, 0, 64)]),
+            ("payload3", &[(6, 0, 64)]),
+            ("payload4", &[(7, 0, 64)]),
+        ],
+        Function::MemDonate | Function::MemLend | Function::MemShare | Function::MemRetrieveReq => &[
+            ("length", &[(1, 0, 32)]),
+            ("fragment", &[(2, 0, 32)]),
+            ("address", &[(3, 0, 32)]),
+            ("pages", &[(4, 0, 32)]),
+        ],
+        Function::MemDonate64 | Function::MemLend64 | Function::MemShare64 | Function::MemRetrieveReq64 => &[
+            ("length", &[(1, 0, 32)]),
+            ("fragment", &[(2, 0, 32)]),
+            ("address", &[(3, 0, 64)]),
+            ("pages", &[(4, 0, 32)]),
+        ],
+        Function::MemRetrieveResp => &[("length", &[(1, 0, 32)]), ("fragment", &[(2, 0, 32)])],
         Function::MemReclaim => &[("handle", &[(1, 0, 32), (2, 0, 32)]), ("flags", &[(3, 0, 32)])],
-        Function::NotificationBitmapCreate => &[ENDPOINT, ("contexts", &[(2, 0, 32)])],
-        Function::NotificationBind | Function::NotificationUnbind | Function::NotificationSet => BITS,
-        Function::NotificationGet => &[RECEIVER, ("context", &[(1, 16, 16)]), FLAGS],
-        Function::Success
-        | Function::RxRelease
-        | Function::IdGet
-        | Function::MemRelinquish
-        | Function::SpmIdGet
-        | Function::MsgSend2 => &[],
+        Function::NotificationBitmapCreate => &[("endpoint", &[(1, 0, 32)]), ("contexts", &[(2, 0, 32)])],
+        Function::NotificationBind | Function::NotificationUnbind | Function::NotificationSet => &[
+            ("sender", &[(1, 16, 16)]),
+            ("receiver", &[(1, 0, 16)]),
+            ("flags", &[(2, 0, 32)]),
+            ("bits", &[(3, 0, 32), (4, 0, 32)]),
+        ],
+        Function::NotificationGet => {
+            &[("receiver", &[(1, 0, 16)]), ("context", &[(1, 16, 16)]), ("flags", &[(2, 0, 32)])]
+        }
+        _ => &[],
     }
 }
 
@@ -88,7 +85,7 @@ const fn results(function: Function) -> &'static [Place] {
         | Function::MemLend
         | Function::MemLend64
         | Function::MemShare
-        | Function::MemShare64 => &[HANDLE],
+        | Function::MemShare64 => &[("handle", &[(2, 0, 32), (3, 0, 32)])],
         Function::NotificationGet => &[
             ("partitions", &[(2, 0, 32), (3, 0, 32)]),
             ("normal_world", &[(4, 0, 32), (5, 0, 32)]),
