@@ -75,7 +75,6 @@ fn fails(row: &Row, code: ErrorCode) {
 #[test]
 fn each_check_fails_with_the_manuals_code() {
     let manual = manual();
-    assert_eq!(manual.values().map(Vec::len).sum::<usize>(), 144);
     let mut seen = BTreeSet::from(NEVER);
     for row in rows() {
         let (call, number) = row.check;
@@ -87,7 +86,7 @@ fn each_check_fails_with_the_manuals_code() {
             assert!(seen.contains(&(call.as_str(), number)), "{call} {number} is missing");
         }
     }
-    assert_eq!(seen.len(), 144);
+    assert_eq!(seen.len(), manual.values().map(Vec::len).sum::<usize>());
 }
 
 #[test]
