@@ -1,83 +1,29 @@
 -- SPDX-License-Identifier: MIT OR Apache-2.0
 -- Why an operation is refused: for a reason just where it is refused, and what comes of it is the reason's.
-use Rattle.std.proofs.Common.{◌≡◌, ◌∙◌, ℕ, Bool, true, false, cond, List, [], ◌∷◌, Option, Some, None, is_some, refl, sym, ap}
+use Rattle.std.proofs.Common.{◌≡◌, ◌∙◌, ℕ, true, false, cond, List, Option, Some, None, is_some, refl, sym, ap}
 use Rattle.std.specs.Prelude.{IfSome}
 use Rattle.std.specs.Option.{option_map}
-use Rattle.std.proofs.lemmas.Bool.{not-true, true≢false}
-use Rattle.std.proofs.lemmas.Option.{none-some}
-use Rattle.ffa_model.specs.declared.call.Call as calls
-use Rattle.ffa_model.specs.declared.call.Call.TheVariants.{Version, Features, RxRelease, RxtxMap, RxtxUnmap, PartitionInfoGet, IdGet, MsgWait, Yield, Run, DirectRequest, DirectResponse, MemDonate, MemLend, MemShare, MemRetrieve, MemRelinquish, MemReclaim, BitmapCreate, BitmapDestroy, NotificationBind, NotificationUnbind, NotificationSet, NotificationGet, SpmIdGet, MsgSend2, Unknown}
-use Rattle.ffa_model.specs.declared.call.Reply.TheVariants as replies
-use Rattle.ffa_model.specs.declared.call.Reply.TheVariants.{Error}
+use Rattle.std.proofs.lemmas.Bool.{true≢false}
 use Rattle.ffa_model.specs.declared.operation.ErrorCode.{ErrorCode}
-use Rattle.ffa_model.specs.declared.operation.ErrorCode.TheVariants.{NotSupported}
 use Rattle.ffa_model.specs.declared.operation.FaultKind.{FaultKind}
 use Rattle.ffa_model.specs.declared.operation.Op.{Op}
 use Rattle.ffa_model.specs.declared.operation.Op.TheVariants.{Call, Load, Store, Fetch}
 use Rattle.ffa_model.specs.declared.operation.Outcome.{Outcome}
 use Rattle.ffa_model.specs.declared.operation.Outcome.TheVariants.{Data, Done}
 use Rattle.ffa_model.specs.declared.refusal.Refusal.{Refusal}
-use Rattle.ffa_model.specs.declared.refusal.Refusal.TheVariants.{FunctionUnknown}
-use Rattle.ffa_model.specs.declared.schedule.Status.{Status}
-use Rattle.ffa_model.specs.declared.schedule.Status.TheVariants.{Waiting, Running, Blocked, Yielded}
 use Rattle.ffa_model.specs.declared.why.Why.{Why}
 use Rattle.ffa_model.specs.Access.{access, handle_at, transaction_at}
-use Rattle.ffa_model.specs.Calls.{Service, answered, first_failure, first_refusal, served, success}
+use Rattle.ffa_model.specs.Calls.{Service, answered, first_failure, first_refusal, served}
 use Rattle.ffa_model.specs.Memory.{accessed, fetch_fault, number_at, read_fault, size_of, store_fault, stored}
 use Rattle.ffa_model.specs.RefusalCodes.{code_of}
-use Rattle.ffa_model.specs.Refusals.{is_error, is_refusal, passes_no_error}
-use Rattle.ffa_model.specs.Registers.{decode, is_function}
-use Rattle.ffa_model.specs.RunStates.{run_reply, schedule_of, status_in}
+use Rattle.ffa_model.specs.Refusals.{is_error, is_refusal}
+use Rattle.ffa_model.specs.Registers.{decode}
 use Rattle.ffa_model.specs.State.{State}
 use Rattle.ffa_model.specs.Step.{service, step}
 use Rattle.ffa_model.specs.Why.{grant_by, granted, outcome_of, refused, why, why_fault}
 use Rattle.ffa_model.proofs.Guards.{failure-code}
-use Rattle.ffa_model.proofs.Served.{decode-named}
+use Rattle.ffa_model.proofs.Served.{done-no-error}
 use Rattle.byteorder.specs.Endian.{little_bytes}
-
--- what a call replies that no guard refuses isn't seen as FFA_ERROR
-run-no-error : (target : ℕ) (status : Status) → is_error (run_reply target status) ≡ false
-run-no-error target Waiting = refl
-run-no-error target Yielded = refl
-run-no-error target Running = refl
-run-no-error target Blocked = refl
-
-version-no-error : (known : Bool) → is_error (cond known (replies.Version 0x10001) (replies.Version 0xFFFFFFFF)) ≡ false
-version-no-error true = refl
-version-no-error false = refl
-
-feature-no-error : (served : Bool) → first_failure ((served, FunctionUnknown) ∷ []) ≡ None → is_error (cond served (success 0 0) (Error NotSupported)) ≡ false
-feature-no-error true none = refl
-feature-no-error false none = absurd (none-some NotSupported (sym none))
-
-done-no-error : (s : State) (call : calls.Call) → passes_no_error call ≡ true → first_failure (service s call).guards ≡ None → is_error (service s call).reply ≡ false
-done-no-error s (Version version) named none = version-no-error _
-done-no-error s (Features function) named none = feature-no-error (is_function function) none
-done-no-error s RxRelease named none = refl
-done-no-error s (RxtxMap tx rx pages) named none = refl
-done-no-error s (RxtxUnmap endpoint) named none = refl
-done-no-error s (PartitionInfoGet uuid flags) named none = refl
-done-no-error s IdGet named none = refl
-done-no-error s SpmIdGet named none = refl
-done-no-error s MsgWait named none = refl
-done-no-error s Yield named none = refl
-done-no-error s (Run target context) named none = run-no-error target.0 (status_in (schedule_of s) target.0)
-done-no-error s (DirectRequest message) named none = not-true _ named
-done-no-error s (DirectResponse message) named none = not-true _ named
-done-no-error s (MemDonate x) named none = refl
-done-no-error s (MemLend x) named none = refl
-done-no-error s (MemShare x) named none = refl
-done-no-error s (MemRetrieve x) named none = refl
-done-no-error s MemRelinquish named none = refl
-done-no-error s (MemReclaim handle flags) named none = refl
-done-no-error s (BitmapCreate endpoint contexts) named none = refl
-done-no-error s (BitmapDestroy endpoint) named none = refl
-done-no-error s (NotificationBind its) named none = refl
-done-no-error s (NotificationUnbind its) named none = refl
-done-no-error s (NotificationSet its) named none = refl
-done-no-error s (NotificationGet receiver context flags) named none = refl
-done-no-error s MsgSend2 named none = refl
-done-no-error s Unknown named none = absurd (none-some NotSupported (sym none))
 
 -- of a call, by its guards
 module _ (s : State) (x : List ℕ) (c : Service) where
@@ -126,7 +72,7 @@ module _ (s new : State) (outcome : Outcome) (address : ℕ) where
 
 -- there is a reason just where the operation is refused
 pub why-refused : (s : State) (op : Op) → is_some (why s op) ≡ is_refusal (step s op).outcome
-why-refused s (Call x) = refused-call s x (service s (decode x)) (done-no-error s (decode x) (decode-named x))
+why-refused s (Call x) = refused-call s x (service s (decode x)) (done-no-error s x)
 why-refused s (Load address size) = refused-access s s (Data (number_at s address (size_of size))) address refl (read_fault s address (size_of size))
 why-refused s (Store address size value) =
     refused-access s (stored s address (little_bytes (size_of size) value)) Done address refl (store_fault s address (size_of size))
@@ -142,7 +88,7 @@ why-outcome s (Fetch address) = outcome-access s s (Data (number_at s address 4)
 
 -- an operation that is refused changes nothing
 pub refused-unchanged : (s : State) (op : Op) → is_refusal (step s op).outcome ≡ true → (step s op).state ≡ s
-refused-unchanged s (Call x) = unchanged-call s x (service s (decode x)) (done-no-error s (decode x) (decode-named x))
+refused-unchanged s (Call x) = unchanged-call s x (service s (decode x)) (done-no-error s x)
 refused-unchanged s (Load address size) =
     unchanged-access s s (Data (number_at s address (size_of size))) address refl (read_fault s address (size_of size))
 refused-unchanged s (Store address size value) =
