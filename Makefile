@@ -55,10 +55,10 @@ linux:
 	board/linux/run.sh
 
 # Compares the pages and licence lines with the code, what other languages have of its tables, each list of calls with the definitions'
-# table, C's names with the crates', the manual's lists of checks with the definitions, and its pictures with what the program draws. It
-# proves nothing.
+# table, C's names with the crates', the manual's lists of checks with the definitions, and its pictures with what the program draws; and
+# adds the example's call to a copy. It proves nothing.
 docs:
-	tests/docs && tests/licence-lines && tests/copies && tests/calls && tests/names && tests/manual-checks && tests/pictures
+	tests/docs && tests/licence-lines && tests/copies && tests/calls && tests/names && tests/manual-checks && tests/a-call && tests/pictures
 
 # Looks at the page of a trace in a browser without a window.
 page:
