@@ -20,11 +20,11 @@ HEADER = (TOP / "c" / "gorseplumb.h").read_text()
 
 
 def source(path: str) -> str:
-    return (TOP / "crates" / path).read_text()
+    return (TOP / path).read_text()
 
 
 def test_error_codes_are_those_of_the_core() -> None:
-    told = re.findall(r'0x(FFFF_FFF\w) => "(\w+)"', source("core/ffa_abi/src/names.rt"))
+    told = re.findall(r'0x(FFFF_FFF\w) => "(\w+)"', source("crates/ffa_abi/src/names.rt"))
     assert {name: int(number.replace("_", ""), 16) - (1 << 32) for number, name in told} == {
         code.name: int(code) for code in ErrorCode
     }
@@ -110,6 +110,6 @@ def test_each_public_name_says_what_it_is() -> None:
 
 
 def test_the_version_is_the_programs() -> None:
-    told = re.search(r'pub const VERSION: &str = "([^"]+)"', source("player/play_arguments/src/program.rt"))
+    told = re.search(r'pub const VERSION: &str = "([^"]+)"', source("crates/play_arguments/src/program.rt"))
     project = tomllib.loads((TOP / "python" / "pyproject.toml").read_text())["project"]
     assert told is not None and told[1] == project["version"] == gorseplumb.__version__
