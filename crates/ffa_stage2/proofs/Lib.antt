@@ -14,3 +14,5 @@ pub mod OneBlock
 pub mod PageRuns
 pub mod RunChanges
 pub mod Moments
+pub mod Mixtures
+pub mod Rest

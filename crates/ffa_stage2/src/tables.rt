@@ -7,6 +7,7 @@ ghost use Rattle.ffa_model.specs.Descriptor.{page_word};
 ghost use Rattle.ffa_model.specs.declared.rights.Rights.{Rights};
 ghost use Rattle.ffa_physmem.specs.Moments.{Only};
 ghost use Rattle.ffa_stage2.specs.Moments.{IsBetweenFor, WalksBetween};
+ghost use Rattle.ffa_stage2.specs.Rest.{WalksMixed};
 ghost use Rattle.ffa_stage2.specs.Layout.{layout_right, IsBuiltFor, BlocksWhereOneFor, WalksToFor, TablesAreFor, KeepsRestFor};
 ghost use Rattle.ffa_stage2.specs.Tables.{with_pages, with_right, WalkChanges, WalksChange, KeepsOthers, TableLaws};
 ghost use Rattle.ffa_stage2.specs.Orders.{IsOrdered};
@@ -94,6 +95,11 @@ pub fn set_pages<M: PhysMem>(
     ensures each_walk { let endpoints = array_vec_len layout.now.regions in
         Only (M.past memory.old) (M.past memory.new)
         (λ _ s. WalksBetween (M.ram memory.old) (M.ram memory.new) endpoints layout.now.blocks s.after) }
+    // Where the tables were at rest, so it is of walks in mixtures, whose words are of different moments, are kept until the
+    // page is settled, or are seen out of order.
+    ensures mixtures { WalksMixed (M.ram memory.old) (M.ram memory.new)
+        (array_vec_len layout.now.regions) layout.now.blocks (M.past memory.old) (M.past memory.new) }
+
     // Break before make: each step is one at the place of a block in the endpoint's tables, and there a level 2 word that is
     // valid gives way to one of another size only by way of an invalid one, behind which every translation unit has
     // forgotten the block.

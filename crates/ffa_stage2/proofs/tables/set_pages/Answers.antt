@@ -1,11 +1,13 @@
 -- SPDX-License-Identifier: MIT OR Apache-2.0
-use Rattle.std.proofs.Common.{◌≡◌, ◌+◌, ◌*◌, ◌/◌, ◌%◌, ◌-◌, ◌<◌, arith, subst, sym}
+use Rattle.std.proofs.Common.{◌≡◌, ◌∷◌, ◌+◌, ◌*◌, ◌/◌, ◌%◌, ◌-◌, ◌<◌, arith, subst, sym}
 use Rattle.arrayvec.specs.ArrayVec.{array_vec_len}
 use Rattle.ffa_stage2.specs.Tables.{IsBuilt, rights_of_block, with_pages}
 use Rattle.ffa_stage2.proofs.Rights.{built-same, with_pages-none}
 use Rattle.ffa_stage2.proofs.Changes.{place-of, maps-of, others-beside, blocks-built}
 use Rattle.ffa_physmem.proofs.Moments.{Only-both, Only-map, Only-none, Only-then}
 use Rattle.ffa_stage2.proofs.Moments.{between-block, ordered-of, place-of-kept, walks-between}
+use Rattle.ffa_stage2.proofs.Mixtures.{mixtures-between}
+use Rattle.ffa_stage2.proofs.Rest.{mixed-along, one-changes, pages-moment}
 use Rattle.ffa_stage2.proofs.RunChanges.{KeepsOthers-same, KeepsOthers-then, runs-built, runs-walk}
 use Rattle.ffa_stage2.proofs.tables.set_pages.Goals as goal
 
@@ -125,3 +127,16 @@ returns-clause-each_walk g c =
 
 pub returns-clause-orders : goal.returns-clause-orders
 returns-clause-orders g c = c.loop-next.invariant.orders
+
+pub returns-clause-mixtures : goal.returns-clause-mixtures
+returns-clause-mixtures g c rest turns =
+    let (access, h) = c.requires.built in
+    let i = c.loop-next.invariant in
+    let l = c.args.layout.now in
+    let old = g.M.PhysMem.ram c.args.memory.now in
+    let new = g.M.PhysMem.ram c.loop-next.memory in
+    let is = returns-clause-built g c access h in
+    Only-map
+    (mixed-along old new _ _ _ _ rest turns (Only-map (Only-both (Only-both (i.steps access h) i.others_stay) i.orders)
+    (λ hist s ((between, others), ordered). pages-moment old new _ _ access _ h is i.others.base c.args.index c.requires.index hist s between others.base ordered)))
+    (λ hist s its. mixtures-between old new s.after _ _ (s ∷ hist) (one-changes old new _ _ c.args.index _ _ c.args.right (returns-clause-walks g c)) its)

@@ -1,0 +1,340 @@
+-- SPDX-License-Identifier: MIT OR Apache-2.0
+-- Steps on the way from one RAM to another: what walks in mixtures give at each, and that the tables are at rest behind the last.
+use Rattle.std.proofs.Common.{◌≡◌, ◌∙◌, ℕ, ◌+◌, ◌-◌, ◌*◌, ◌/◌, ◌^◌, ◌<◌, ◌≤◌, Bool, true, false, refl, ap, sym, subst, arith, List, [], ◌∷◌, length, Option, Some, None, inl, inr, ◌⊎◌}
+use Rattle.std.specs.Prelude.{◌==◌, ◌&&◌, is_some, is_ok, if◌then◌else◌}
+use Rattle.std.proofs.lemmas.Bool.{cases_Bool, true≢false}
+use Rattle.std.proofs.lemmas.Bool.Decides.{nat_tests}
+use Rattle.ffa_model.specs.declared.limits.TheConstants.{MOST_BLOCKS}
+use Rattle.ffa_model.specs.Ram.{Ram, page_of, word_of}
+use Rattle.ffa_model.specs.Walk.{Answer, is_in_ram, mapped_answer}
+use Rattle.ffa_model.specs.declared.rights.Rights.{Rights}
+use Rattle.ffa_physmem.specs.Moments.{Adds, IsSettledBy, Only, Settles, Step}
+use Rattle.ffa_physmem.proofs.Moments.{Only-along, Only-behind-all, Only-map, Only-none}
+use Rattle.ffa_stage2.specs.Held.{MayHold, StayPlaced}
+use Rattle.ffa_stage2.specs.Mixtures.{AreInTurn, IsMixture, MayRead, MixedBetween, TurnsIn}
+use Rattle.ffa_stage2.specs.Moments.{EndsSettled, IsBetween, IsMoment, walk_at}
+use Rattle.ffa_stage2.specs.Orders.{IsOrdered}
+use Rattle.ffa_stage2.specs.Rest.{AllSettled, AreAtRest, AreMixed, IsAsIn, IsWalked, Reads, ReadsBlock, ReadsTable, RestIn, WalksSameOrNone}
+use Rattle.ffa_stage2.specs.Tables.{IsBuilt, WalksChange, is_in_pages, level2_place, table_page}
+use Rattle.ffa_stage2.proofs.Mixtures.{IsAsInEither, OneDiffers, mixed-between, reads-behind}
+use Rattle.ffa_stage2.proofs.Moments.{ordered-behind}
+use Rattle.ffa_stage2.proofs.Places.{table_page-below_end}
+use Rattle.ffa_stage2.proofs.Walks.{walk-built}
+
+-- ---- many steps
+
+-- the walk to a byte of a page gives the right to the page
+walk-byte : (ram : Ram) (n b : ℕ) (rights : ℕ → ℕ → Option Rights) (e p i : ℕ) → IsBuilt ram n b rights → e < n → p < 512 * b → i < 4096
+    → walk_at ram b e (ram.base + 4096 * p + i) ≡ mapped_answer (rights e p) (ram.base + 4096 * p + i)
+walk-byte ram n b rights e p i built he hp hi =
+    let a : ℕ = ram.base + 4096 * p + i in
+    let size : length ram.pages ≡ 512 * b = built.fits.size in
+    let within : ram.base + 0x200000 * b ≤ 2 ^ 32 = built.fits.within in
+    let inside : is_in_ram ram a ≡ true = grind (arith, nat_tests) in
+    let page : (a - ram.base) / 4096 ≡ p = omega arith in
+    walk-built ram n b rights e a built he (omega arith)
+    ∙ ap (λ (t : Bool). mapped_answer (if t then rights e ((a - ram.base) / 4096) else None) a) inside
+    ∙ ap (λ (q : ℕ). mapped_answer (rights e q) a) page
+
+walked-of : (ram : Ram) (n b : ℕ) (rights : ℕ → ℕ → Option Rights) (e p : ℕ) (r : Option Rights) → IsBuilt ram n b rights → e < n → p < 512 * b → r ≡ rights e p → IsWalked ram b e p r
+walked-of ram n b rights e p r built he hp is i hi =
+    ap (λ (q : Option Rights). mapped_answer q (ram.base + 4096 * p + i)) is ∙ sym (walk-byte ram n b rights e p i built he hp hi)
+
+-- the rights at a moment are those before all steps, or behind all, or none
+moment-either : (old new : Ram) (n b : ℕ) (h : List Step) (s : Step) (m : IsMoment old new n b h s) (e p : ℕ) → e < n → p < 512 * b → IsAsInEither old new b e p (m.between.rights e p)
+moment-either old new n b h s m e p he hp = elim (m.between.each p) [
+  | inl kept ↦ elim (kept e) [ inl is ↦ inl (inr (walked-of old n b m.access e p (m.between.rights e p) m.was he hp is)) | inr none ↦ inl (inl none) ]
+  | inr changed ↦ elim (changed e) [ inl is ↦ inr (inr (walked-of new n b m.after e p (m.between.rights e p) m.is he hp is)) | inr none ↦ inl (inl none) ]
+]
+
+-- the RAM is told by the steps
+same-turn : (s : Step) (earlier h : List Step) (ram other : Ram) → h ≡ s ∷ earlier → AreInTurn h ram → AreInTurn h other → ram ≡ other
+same-turn s earlier h ram other is first second =
+    let (at, _) = subst (λ (g : List Step). AreInTurn g ram) is first in
+    let (there, _) = subst (λ (g : List Step). AreInTurn g other) is second in
+    sym at ∙ there
+
+reads-more : (base n b : ℕ) (h : List Step) (ram : Ram) (Is More : ℕ → ℕ → Option Rights → Type 0)
+    → ((e k j : ℕ) → e < n → k < b → j < 512 → (r : Option Rights) → Is e (512 * k + j) r → More e (512 * k + j) r)
+    → Reads base n b h ram Is → Reads base n b h ram More
+reads-more base n b h ram Is More more reads = record {
+  level1 = reads.level1;
+  outside = reads.outside;
+  each = λ e k j he hk hj. elim (reads.each e k j he hk hj) [
+    | inl x ↦ inl (record {
+      middle = λ v read. elim (x.middle v read) [ inl none ↦ inl none | inr (r, its, is) ↦ inr (r, more e k j he hk hj (Some r) its, is) ];
+    })
+    | inr x ↦ inr (record {
+      middle = x.middle;
+      leaf = λ v read. let (r, its, is) = x.leaf v read in (r, more e k j he hk hj r its, is);
+    })
+  ];
+}
+
+-- the steps behind a history follow one another, where all do
+Adds-turn : (past : Option (List Step)) (P : List Step → Step → Type 0) (h : List Step) (ram : Ram) → AreInTurn h ram → Adds past P h → Adds past (λ h s. AreInTurn h s.before × P h s) h
+Adds-turn past P [] ram turn there = there
+Adds-turn past P (s ∷ h) ram turn (inl there) = inl there
+Adds-turn past P (s ∷ h) ram (at, turn) (inr (its, rest)) = inr ((turn, its), Adds-turn past P h s.before turn rest)
+
+pub Only-turn : {past later : Option (List Step)} {P : List Step → Step → Type 0} (new : Ram) → TurnsIn new later → Only past later P → Only past later (λ h s. AreInTurn h s.before × P h s)
+Only-turn {past} {later} {P} new turns only = record { each = λ h there. Adds-turn past P h new (turns h there) (only.each h there) }
+
+module _ (old new : Ram) (n b : ℕ) (past later : Option (List Step)) (rest : RestIn old n b past) (turns : TurnsIn new later) (only : Only past later (λ h s. IsMoment old new n b h s)) where
+  abbrev AllRead : List Step → Type 0
+  AllRead h = (ram : Ram) → AreInTurn h ram → Reads old.base n b h ram (IsAsInEither old new b)
+
+  first-read : (h : List Step) → past ≡ Some h → AllRead h
+  first-read h there ram turn =
+      let its = rest h there in
+      let (s, earlier, is) = its.begun in
+      subst (λ (r : Ram). Reads old.base n b h r (IsAsInEither old new b)) (same-turn s earlier h old ram is its.turn turn)
+      (reads-more old.base n b h old (IsAsIn old b) (IsAsInEither old new b) (λ e k j he hk hj r its. inl its) its.reads)
+
+  next-read : (h : List Step) (s : Step) → AreInTurn h s.before × IsMoment old new n b h s → AllRead h → AllRead (s ∷ h)
+  next-read h s (turn, m) reads ram (at, _) =
+      subst (λ (r : Ram). Reads old.base n b (s ∷ h) r (IsAsInEither old new b)) at
+      (reads-behind old n b h s (IsAsInEither old new b) m.between.rights m.between.stands m.place (moment-either old new n b h s m) m.order (reads s.before turn))
+
+  pub reads-at : Only past later (λ h s. Reads old.base n b (s ∷ h) s.after (IsAsInEither old new b) × IsMoment old new n b h s)
+  reads-at = Only-map (Only-along AllRead first-read next-read (Only-turn new turns only)) (λ h s its.
+      let (reads, (turn, m)) = its in
+      (next-read h s (turn, m) reads s.after (refl, turn), m))
+
+  pub mixed-along : Only past later (λ h s. MixedBetween old new n b (s ∷ h) s.after)
+  mixed-along = Only-map reads-at (λ h s its.
+      let (reads, m) = its in
+      mixed-between old new s.after n b (s ∷ h) m.between.stands.fits m.place m.stays
+      (subst (λ (c : ℕ). Reads c n b (s ∷ h) s.after (IsAsInEither old new b)) (sym m.place) reads))
+
+  pub reads-last : (h : List Step) → later ≡ Some h → Reads old.base n b h new (IsAsInEither old new b)
+  reads-last h there = Only-behind-all AllRead first-read next-read (Only-turn new turns only) h there new (turns h there)
+
+-- ---- at rest again
+
+-- what was settled since a table changed is read as it stands
+may-unchanged : (end e p : ℕ) (h : List Step) (ram : Ram) → AreInTurn h ram → IsSettledBy end e p h → (page i v : ℕ) → page < end → MayRead e p h ram page i v
+    → v ≡ word_of (page_of ram page) i
+may-unchanged end e p [] ram turn settled page i v below read = absurd settled
+may-unchanged end e p (s ∷ h) ram (at, turn) (inl settles) page i v below read = elim read [ inl now ↦ now | inr (off, was) ↦ absurd (off settles) ]
+may-unchanged end e p (s ∷ h) ram (at, turn) (inr (kept, settled)) page i v below read = elim read [
+  | inl now ↦ now
+  | inr (off, was) ↦
+      may-unchanged end e p h s.before turn settled page i v below was ∙ sym (ap (λ (bytes : List ℕ). word_of bytes i) (kept page below))
+      ∙ ap (λ (r : Ram). word_of (page_of r page) i) at
+]
+
+some-answer : (r : Option Rights) (a : ℕ) → is_some r ≡ is_ok (mapped_answer r a)
+unfolding mapped_answer
+some-answer None a = refl
+some-answer (Some r) a = refl
+
+none-of : (r : Option Rights) → is_some r ≡ false → r ≡ None
+none-of None h = refl
+none-of (Some r) h = absurd (true≢false h)
+
+module _ (old new : Ram) (n b : ℕ) (access after : ℕ → ℕ → Option Rights) (was : IsBuilt old n b access) (is : IsBuilt new n b after) (stays : new.base ≡ old.base) (h : List Step)
+    (turn : AreInTurn h new)
+    (ended : (e p : ℕ) → e < n → p < 512 * b → is_ok (walk_at old b e (old.base + 4096 * p)) ≡ true → is_ok (walk_at new b e (new.base + 4096 * p)) ≡ false
+    → IsSettledBy (table_page b n 0) e p h)
+    (steady : WalksSameOrNone old new n b) where
+  -- a page of which nobody else reads anything
+  each-settled : (e k j : ℕ) → e < n → k < b → j < 512 → IsSettledBy (table_page b n 0) e (512 * k + j) h
+      → ReadsBlock new.base b e k j h new (IsAsIn new b e (512 * k + j)) ⊎ ReadsTable new.base b e k j h new (IsAsIn new b e (512 * k + j))
+  each-settled e k j he hk hj settled =
+      let hp : 512 * k + j < 512 * b = omega (arith, hk, hj) in
+      let second : table_page b e 1 < table_page b n 0 = omega (arith, table_page-below_end n b e 1 he (omega arith)) in
+      let third : table_page b e (2 + k) < table_page b n 0 = omega (arith, table_page-below_end n b e (2 + k) he (omega (arith, hk))) in
+      elim (is.each e k he hk) [
+        | inl it ↦ inl (record {
+          middle = λ v read. inr (
+            it.right,
+            inr (walked-of new n b after e (512 * k + j) (Some it.right) is he hp (sym (it.one j hj))),
+            may-unchanged (table_page b n 0) e (512 * k + j) h new turn settled (table_page b e 1) (level2_place new.base + k) v second read ∙ it.is,
+          );
+        })
+        | inr (it, _) ↦ inr (record {
+          middle = λ v read. inr (may-unchanged (table_page b n 0) e (512 * k + j) h new turn settled (table_page b e 1) (level2_place new.base + k) v second read ∙ it.is);
+          leaf = λ v read. (
+            after e (512 * k + j),
+            inr (walked-of new n b after e (512 * k + j) (after e (512 * k + j)) is he hp refl),
+            may-unchanged (table_page b n 0) e (512 * k + j) h new turn settled (table_page b e (2 + k)) j v third read ∙ it.pages j hj,
+          );
+        })
+      ]
+
+  -- a right that is what it was
+  as-new : (e p : ℕ) → e < n → p < 512 * b → ((is_some (access e p) ≡ false) ⊎ ((is_some (access e p) ≡ true) × (is_some (after e p) ≡ true)))
+      → (r : Option Rights) → IsAsInEither old new b e p r → IsAsIn new b e p r
+  as-new e p he hp kind r (inr its) = its
+  as-new e p he hp kind r (inl (inl none)) = inl none
+  as-new e p he hp kind r (inl (inr walked)) = elim kind [
+    | inl gone ↦
+        let first = walked 0 (omega arith) in
+        let same : is_some r ≡ is_some (access e p) =
+        some-answer r (old.base + 4096 * p + 0) ∙ ap is_ok (first ∙ walk-byte old n b access e p 0 was he hp (omega arith)) ∙ sym (some-answer (access e p) (old.base + 4096 * p + 0))
+        in
+        inl (none-of r (same ∙ gone))
+    | inr (there, here) ↦ inr (λ i hi.
+        let within : old.base + 0x200000 * b ≤ 2 ^ 32 = was.fits.within in
+        let x : ℕ = old.base + 4096 * p + i in
+        let same : new.base + 4096 * p + i ≡ x = ap (λ (c : ℕ). c + 4096 * p + i) stays in
+        let ok : is_ok (walk_at old b e x) ≡ true = ap is_ok (walk-byte old n b access e p i was he hp hi) ∙ sym (some-answer (access e p) x) ∙ there in
+        let ok' : is_ok (walk_at new b e x) ≡ true =
+        ap (λ (y : ℕ). is_ok (walk_at new b e y)) (sym same) ∙ ap is_ok (walk-byte new n b after e p i is he hp hi) ∙ sym (some-answer (after e p) (new.base + 4096 * p + i)) ∙ here
+        in
+        subst (λ (y : ℕ). mapped_answer r y ≡ walk_at new b e y) (sym same) (walked i hi ∙ sym (steady e x he (omega arith) ok ok')))
+  ]
+
+  pub rest-reads : Reads new.base n b h new (IsAsInEither old new b) → Reads new.base n b h new (IsAsIn new b)
+  rest-reads reads = record {
+    level1 = reads.level1;
+    outside = reads.outside;
+    each = λ e k j he hk hj.
+        let hp : 512 * k + j < 512 * b = omega (arith, hk, hj) in
+        elim (cases_Bool (is_some (access e (512 * k + j)))) [
+          | inr gone ↦ more e k j he hk hj (inl gone) (reads.each e k j he hk hj)
+          | inl there ↦ elim (cases_Bool (is_some (after e (512 * k + j)))) [
+            | inl here ↦ more e k j he hk hj (inr (there, here)) (reads.each e k j he hk hj)
+            | inr over ↦ each-settled e k j he hk hj (ended e (512 * k + j) he hp (some old access was e (512 * k + j) he hp ∙ there) (some new after is e (512 * k + j) he hp ∙ over))
+          ]
+        ];
+  }
+    where
+      some : (ram : Ram) (rights : ℕ → ℕ → Option Rights) → IsBuilt ram n b rights → (e p : ℕ) → e < n → p < 512 * b → is_ok (walk_at ram b e (ram.base + 4096 * p)) ≡ is_some (rights e p)
+      some ram rights built e p he hp =
+          let zero : ram.base + 4096 * p + 0 ≡ ram.base + 4096 * p = omega arith in
+          ap (λ (y : ℕ). is_ok (walk_at ram b e y)) (sym zero) ∙ ap is_ok (walk-byte ram n b rights e p 0 built he hp (omega arith)) ∙ sym (some-answer (rights e p) (ram.base + 4096 * p + 0))
+
+      more : (e k j : ℕ) → e < n → k < b → j < 512
+          → ((is_some (access e (512 * k + j)) ≡ false) ⊎ ((is_some (access e (512 * k + j)) ≡ true) × (is_some (after e (512 * k + j)) ≡ true)))
+          → (ReadsBlock new.base b e k j h new (IsAsInEither old new b e (512 * k + j)) ⊎ ReadsTable new.base b e k j h new (IsAsInEither old new b e (512 * k + j)))
+          → ReadsBlock new.base b e k j h new (IsAsIn new b e (512 * k + j)) ⊎ ReadsTable new.base b e k j h new (IsAsIn new b e (512 * k + j))
+      more e k j he hk hj kind (inl x) = inl (record {
+        middle = λ v read. elim (x.middle v read) [ inl none ↦ inl none | inr (r, its, same) ↦ inr (r, as-new e (512 * k + j) he (omega (arith, hk, hj)) kind (Some r) its, same) ];
+      })
+      more e k j he hk hj kind (inr x) = inr (record {
+        middle = x.middle;
+        leaf = λ v read. let (r, its, same) = x.leaf v read in (r, as-new e (512 * k + j) he (omega (arith, hk, hj)) kind r its, same);
+      })
+
+-- all of it, of steps that are moments on the way from one RAM to another, where what ended is settled
+module _ (old new : Ram) (n b : ℕ) (past later : Option (List Step)) (only : Only past later (λ h s. IsMoment old new n b h s)) (ended : EndsSettled old new n b later) where
+  still-at-rest : RestIn old n b past → TurnsIn new later → (h : List Step) → later ≡ Some h → past ≡ Some h → AreAtRest new n b h
+  still-at-rest rest turns h there was =
+      let its = rest h was in
+      let (s, earlier, is) = its.begun in
+      subst (λ (r : Ram). AreAtRest r n b h) (same-turn s earlier h old new is its.turn (turns h there)) its
+
+  at-rest : RestIn old n b past → TurnsIn new later → WalksSameOrNone old new n b → (h : List Step) → later ≡ Some h → Adds past (λ h s. IsMoment old new n b h s) h → AreAtRest new n b h
+  at-rest rest turns steady [] there was = still-at-rest rest turns [] there was
+  at-rest rest turns steady (s ∷ h) there (inl was) = still-at-rest rest turns (s ∷ h) there was
+  at-rest rest turns steady (s ∷ h) there (inr (m, more)) = record {
+    begun = (s, h, refl);
+    turn = turns (s ∷ h) there;
+    reads = rest-reads old new n b m.access m.after m.was m.is m.stays (s ∷ h) (turns (s ∷ h) there) (ended (s ∷ h) there) steady
+        (subst (λ (c : ℕ). Reads c n b (s ∷ h) new (IsAsInEither old new b)) (sym m.stays) (reads-last old new n b past later rest turns only (s ∷ h) there));
+  }
+
+  pub mixed-of : AreMixed old new n b past later
+  mixed-of = record {
+    each = λ rest turns. mixed-along old new n b past later rest turns only;
+    rest = λ rest turns steady h there. at-rest rest turns steady h there (only.each h there);
+  }
+
+-- where nothing was written
+pub mixed-still : (old new : Ram) (n b : ℕ) (past later : Option (List Step)) → new ≡ old → later ≡ past → AreMixed old new n b past later
+mixed-still old new n b past later same same_past = record {
+  each = λ _ _. subst (λ (l : Option (List Step)). Only past l (λ h s. MixedBetween old new n b (s ∷ h) s.after)) (sym same_past) Only-none;
+  rest = λ rest _ _ h there. subst (λ (r : Ram). AreAtRest r n b h) (sym same) (rest h (sym same_past ∙ there));
+}
+
+-- ---- translation units
+
+mixture-still : (b e p : ℕ) (s : Step) (h : List Step) (mixed : Ram) → s.after.base ≡ s.before.base → length s.after.pages ≡ length s.before.pages → (Settles e p s → ⊥)
+    → IsMixture b e p h s.before mixed → IsMixture b e p (s ∷ h) s.after mixed
+mixture-still b e p s h mixed base size off mix = record {
+  base = mix.base ∙ sym base;
+  size = mix.size ∙ sym size;
+  words = λ t i ht hi. inr (off, mix.words t i ht hi);
+}
+
+-- whatever a translation unit may hold is the answer of a walk in a mixture now
+pub held-mixed : (b e p a : ℕ) (h : List Step) (ram : Ram) (answer : Answer) → AreInTurn h ram → StayPlaced h → MayHold b e p a h ram answer
+    → (mixed : Ram) × IsMixture b e p h ram mixed × (answer ≡ walk_at mixed b e a)
+held-mixed b e p a [] ram answer turn placed held = held
+held-mixed b e p a (s ∷ h) ram answer turn placed (inl held) = held
+held-mixed b e p a (s ∷ h) ram answer (at, turn) (base, size, placed) (inr (off, held)) =
+    let (mixed, mix, is) = held-mixed b e p a h s.before answer turn placed held in
+    (mixed, subst (λ (r : Ram). IsMixture b e p (s ∷ h) r mixed) at (mixture-still b e p s h mixed base size off mix), is)
+
+-- ---- of pages that follow one another
+
+pub pages-moment : (old new : Ram) (n b : ℕ) (access after : ℕ → ℕ → Option Rights) → IsBuilt old n b access → IsBuilt new n b after → new.base ≡ old.base → (e : ℕ) → e < n
+    → (h : List Step) (s : Step) → IsBetween s.after n b access after → s.after.base ≡ old.base → IsOrdered old b e h s → IsMoment old new n b h s
+pages-moment old new n b access after was is stays e he h s between place ordered = record {
+  access = access;
+  after = after;
+  was = was;
+  is = is;
+  between = between;
+  order = inr (e, he, ordered);
+  unreached = inl (ordered-behind old b e n h s ordered he);
+  place = place;
+  stays = stays;
+}
+
+pub one-changes : (old new : Ram) (n b endpoint first end : ℕ) (right : Option Rights) → WalksChange old new n b endpoint first end right → OneDiffers old new n b
+one-changes old new n b endpoint first end right changes = (
+  endpoint,
+  λ e a he ha far.
+      let off : (e == endpoint && is_in_pages old first end a) ≡ false = grind (arith, nat_tests) in
+      changes e a he ha ∙ rw off refl,
+)
+
+-- tables that are built, where every page was settled since a table changed
+pub rest-of-settled : (ram : Ram) (n b : ℕ) (access : ℕ → ℕ → Option Rights) (h : List Step) → IsBuilt ram n b access → AreInTurn h ram
+    → ((s : Step) × (earlier : List Step) × (h ≡ s ∷ earlier))
+    → ((e p : ℕ) → e < n → p < 2 ^ 20 → IsSettledBy (table_page b n 0) e p h) → AreAtRest ram n b h
+rest-of-settled ram n b access h built turn begun settled = record {
+  begun = begun;
+  turn = turn;
+  reads = record {
+    level1 = λ e p i v he hp hi read.
+        may-unchanged (table_page b n 0) e p h ram turn (settled e p he hp) (table_page b e 0) i v (omega (arith, table_page-below_end n b e 0 he (omega arith))) read ∙ built.level1 e i he hi;
+    outside = λ e p i v he hp hi off read.
+        may-unchanged (table_page b n 0) e p h ram turn (settled e p he hp) (table_page b e 1) i v (omega (arith, table_page-below_end n b e 1 he (omega arith))) read ∙ built.outside e i he hi off;
+    each = λ e k j he hk hj.
+        let few : b ≤ MOST_BLOCKS = built.fits.few in
+        let hp : 512 * k + j < 512 * b = omega (arith, hk, hj) in
+        let its : IsSettledBy (table_page b n 0) e (512 * k + j) h = settled e (512 * k + j) he (omega (arith, hp, few)) in
+        let second : table_page b e 1 < table_page b n 0 = omega (arith, table_page-below_end n b e 1 he (omega arith)) in
+        let third : table_page b e (2 + k) < table_page b n 0 = omega (arith, table_page-below_end n b e (2 + k) he (omega (arith, hk))) in
+        elim (built.each e k he hk) [
+          | inl it ↦ inl (record {
+            middle = λ v read. inr (
+              it.right,
+              inr (walked-of ram n b access e (512 * k + j) (Some it.right) built he hp (sym (it.one j hj))),
+              may-unchanged (table_page b n 0) e (512 * k + j) h ram turn its (table_page b e 1) (level2_place ram.base + k) v second read ∙ it.is,
+            );
+          })
+          | inr (it, _) ↦ inr (record {
+            middle = λ v read. inr (may-unchanged (table_page b n 0) e (512 * k + j) h ram turn its (table_page b e 1) (level2_place ram.base + k) v second read ∙ it.is);
+            leaf = λ v read. (
+              access e (512 * k + j),
+              inr (walked-of ram n b access e (512 * k + j) (access e (512 * k + j)) built he hp refl),
+              may-unchanged (table_page b n 0) e (512 * k + j) h ram turn its (table_page b e (2 + k)) j v third read ∙ it.pages j hj,
+            );
+          })
+        ];
+  };
+}
+
+begun-of : (end e p : ℕ) (h : List Step) → IsSettledBy end e p h → (s : Step) × (earlier : List Step) × (h ≡ s ∷ earlier)
+begun-of end e p [] none = absurd none
+begun-of end e p (s ∷ h) settled = (s, h, refl)
+
+pub rest-settled : (ram : Ram) (n b : ℕ) (access : ℕ → ℕ → Option Rights) (past : Option (List Step)) → IsBuilt ram n b access → 0 < n → TurnsIn ram past
+    → AllSettled n b past → RestIn ram n b past
+rest-settled ram n b access past built some turns settled h there =
+    rest-of-settled ram n b access h built (turns h there) (begun-of (table_page b n 0) 0 0 h (settled h there 0 0 some (omega arith))) (settled h there)

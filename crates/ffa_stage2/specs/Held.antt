@@ -1,0 +1,28 @@
+-- SPDX-License-Identifier: MIT OR Apache-2.0
+-- What a translation unit may hold for a page: the answer of any walk since the page was last settled, each in a mixture of its
+-- own time (DDI 0487, C5.5, TLBI IPAS2E1IS and TLBI VMALLE1IS).
+use Rattle.std.specs.Prelude.{◌≡◌, ⊤, ℕ, ◌⊎◌, List, [], ◌∷◌, length}
+use Rattle.ffa_model.specs.Ram.{Ram}
+use Rattle.ffa_model.specs.Walk.{Answer}
+use Rattle.ffa_physmem.specs.Moments.{Settles, Step}
+use Rattle.ffa_stage2.specs.Mixtures.{IsMixture}
+use Rattle.ffa_stage2.specs.Moments.{walk_at}
+
+-- the answer of a walk in a mixture now
+abbrev pub IsMixedAnswer : ℕ → ℕ → ℕ → ℕ → List Step → Ram → Answer → Type 0
+IsMixedAnswer blocks e p address h ram answer =
+    (mixed : Ram) × IsMixture blocks e p h ram mixed × (answer ≡ walk_at mixed blocks e address)
+
+-- An answer that it may give at an address of page p for an endpoint: such a one now; or one that it might hold before the last step,
+-- unless that settled the page.
+abbrev pub MayHold : ℕ → ℕ → ℕ → ℕ → List Step → Ram → Answer → Type 0
+MayHold blocks e p address [] ram answer = IsMixedAnswer blocks e p address [] ram answer
+MayHold blocks e p address (s ∷ earlier) ram answer =
+    IsMixedAnswer blocks e p address (s ∷ earlier) ram answer
+    ⊎ ((Settles e p s → ⊥) × MayHold blocks e p address earlier s.before answer)
+
+-- the RAM stands where it did at each of these steps
+abbrev pub StayPlaced : List Step → Type 0
+StayPlaced [] = ⊤
+StayPlaced (s ∷ earlier) =
+    (s.after.base ≡ s.before.base) × (length s.after.pages ≡ length s.before.pages) × StayPlaced earlier
