@@ -1,6 +1,6 @@
 -- SPDX-License-Identifier: MIT OR Apache-2.0
 -- The laws of an operation of any endpoint: the runner's are those of a step, and another's access is a step where it runs.
-use Rattle.std.proofs.Common.{◌≡◌, ◌≢◌, ◌∙◌, ℕ, ◌-◌, ◌/◌, ◌%◌, Bool, true, false, cond, List, [], ◌∷◌, ◌++◌, Option, Some, None, refl, sym, ap, subst}
+use Rattle.std.proofs.Common.{◌≡◌, ◌≢◌, ◌∙◌, ℕ, ◌-◌, ◌/◌, ◌%◌, Bool, true, false, cond, List, [], ◌∷◌, ◌++◌, Option, Some, None, refl, sym, ap, subst, inl, inr}
 use Rattle.std.specs.Prelude.{◌==◌, ◌&&◌, not}
 use Rattle.std.specs.List.{list_all}
 use Rattle.std.proofs.lemmas.Bool.{eq-eqb, eqb-true, ne_eqb, true≢false}
@@ -25,7 +25,7 @@ use Rattle.ffa_laws.specs.Elsewhere.{ConfidentialAs, IntegrityAs, OneStepAs, Onl
 use Rattle.ffa_laws.specs.Events.{Event, Wrote, apply_all, events, where_passed, where_true}
 use Rattle.ffa_laws.specs.Public.{public_part}
 use Rattle.ffa_laws.specs.Isolation.{NeverGrow, fills_rx_page, is_indirect_message}
-use Rattle.ffa_laws.specs.OwnAccess.{AreApart, is_call}
+use Rattle.ffa_laws.specs.OwnAccess.{AreApart, IsSameOrNone, is_call}
 use Rattle.ffa_laws.specs.Readable.{all_readably, is_unreadable, readable, revealed}
 use Rattle.ffa_laws.specs.Silence.{AreBare, AreMet, AreNews, may_be_told, may_change_public}
 use Rattle.ffa_laws.specs.Writers.{is_filled_by, is_reclaimed_by}
@@ -367,6 +367,10 @@ own_access_as s e op steady apart =
           by_runner s e (λ b. is_within (access s e p) (access (stepped s e op b).state e p) ≡ true)
           (λ runs. subst (λ f. is_within (access s f p) (access (step s op).state f p) ≡ true) runs ((own_access s op steady apart).shrinks p none))
           (λ rests. same-within _ _ (sym (access-elsewhere s e op e p)));
+      keeps = λ p.
+          by_runner s e (λ b. IsSameOrNone (access s e p) (access (stepped s e op b).state e p))
+          (λ runs. subst (λ f. IsSameOrNone (access s f p) (access (step s op).state f p)) runs ((own_access s op steady apart).keeps p))
+          (λ rests. inr (inr (access-elsewhere s e op e p)));
     }
 
 pub only_writers_as : (s : State) (e : ℕ) (op : Op) → IsSoundState s → OnlyWritersAs s e op

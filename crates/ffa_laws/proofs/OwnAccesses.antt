@@ -1,6 +1,6 @@
 -- SPDX-License-Identifier: MIT OR Apache-2.0
 -- Nobody's access changes but the runner's, and the runner's grows and shrinks only by certain calls.
-use Rattle.std.proofs.Common.{◌≡◌, ◌≢◌, ◌∙◌, ℕ, ◌-◌, ◌/◌, ◌%◌, Bool, true, false, cond, Option, Some, None, refl, sym, ap, subst}
+use Rattle.std.proofs.Common.{◌≡◌, ◌≢◌, ◌∙◌, ℕ, ◌-◌, ◌/◌, ◌%◌, Bool, true, false, cond, Option, Some, None, refl, sym, ap, subst, inl, inr, ◌⊎◌}
 use Rattle.std.specs.Prelude.{◌==◌, ◌&&◌, is_none}
 use Rattle.std.specs.Option.{option_and_then, option_map_or}
 use Rattle.std.specs.FinMap as finite
@@ -38,7 +38,7 @@ use Rattle.ffa_model.proofs.CallAccesses.{access-filled, access-written}
 use Rattle.ffa_model.proofs.Guards.{guard-passes}
 use Rattle.ffa_model.proofs.Holders.{unheld-by}
 use Rattle.ffa_laws.specs.Steady.{IsSteady}
-use Rattle.ffa_laws.specs.OwnAccess.{AreApart, OwnAccess, gives_access, is_call, takes_access}
+use Rattle.ffa_laws.specs.OwnAccess.{AreApart, IsSameOrNone, OwnAccess, gives_access, is_call, takes_access}
 use Rattle.ffa_laws.proofs.Form.{accessed-kept, served-kept}
 use Rattle.ffa_laws.proofs.Opened.{opened, transaction_at-opened}
 use Rattle.ffa_laws.proofs.SendLaws.{IsOffer, alone, free, fresh, no-offer, offer}
@@ -58,6 +58,7 @@ record Own (s t : State) (gives takes : Bool) : Type 0 where
   pub others : (e p : ℕ) → s.runner ≢ e → access t e p ≡ access s e p
   pub grows : IsApart s.runner s → (p : ℕ) → gives ≡ false → is_within (access t s.runner p) (access s s.runner p) ≡ true
   pub shrinks : IsApart s.runner s → (p : ℕ) → takes ≡ false → is_within (access s s.runner p) (access t s.runner p) ≡ true
+  pub keeps : IsApart s.runner s → (p : ℕ) → IsSameOrNone (access s s.runner p) (access t s.runner p)
 
 same-within : (a b : Option Rights) → a ≡ b → is_within a b ≡ true
 same-within a b same = ap (is_within a) (sym same) ∙ within-same a
@@ -71,6 +72,7 @@ as_before s t gives takes same =
       others = λ e p apart. same e p;
       grows = λ apart p none. same-within _ _ (same s.runner p);
       shrinks = λ apart p none. same-within _ _ (sym (same s.runner p));
+      keeps = λ apart p. inr (inr (same s.runner p));
     }
 
 -- by pages: all other pages are as before, and of those that a test picks is known what follows
@@ -79,12 +81,14 @@ by_pages : (s t : State) (picked : ℕ → Bool) (gives takes : Bool)
     → ((e p : ℕ) → picked p ≡ true → s.runner ≢ e → access t e p ≡ access s e p)
     → (IsApart s.runner s → (p : ℕ) → picked p ≡ true → gives ≡ false → is_within (access t s.runner p) (access s s.runner p) ≡ true)
     → (IsApart s.runner s → (p : ℕ) → picked p ≡ true → takes ≡ false → is_within (access s s.runner p) (access t s.runner p) ≡ true)
+    → (IsApart s.runner s → (p : ℕ) → picked p ≡ true → IsSameOrNone (access s s.runner p) (access t s.runner p))
     → Own s t gives takes
-by_pages s t picked gives takes away others grows shrinks =
+by_pages s t picked gives takes away others grows shrinks keeps =
     record {
       others = λ e p apart. elim (picked p) as (λ b. picked p ≡ b → access t e p ≡ access s e p) [ true ↦ λ is. others e p is apart | false ↦ away e p ] refl;
       grows = λ apart p none. elim (picked p) as (λ b. picked p ≡ b → is_within (access t s.runner p) (access s s.runner p) ≡ true) [ true ↦ λ is. grows apart p is none | false ↦ λ is. same-within _ _ (away s.runner p is) ] refl;
       shrinks = λ apart p none. elim (picked p) as (λ b. picked p ≡ b → is_within (access s s.runner p) (access t s.runner p) ≡ true) [ true ↦ λ is. shrinks apart p is none | false ↦ λ is. same-within _ _ (sym (away s.runner p is)) ] refl;
+      keeps = λ apart p. elim (picked p) as (λ b. picked p ≡ b → IsSameOrNone (access s s.runner p) (access t s.runner p)) [ true ↦ λ is. keeps apart p is | false ↦ λ is. inr (inr (away s.runner p is)) ] refl;
     }
 
 -- ---- rights to a page
@@ -160,6 +164,10 @@ module _ (s : State) (steady : IsSteady s) where
           | false ↦ λ other. none-within _ _ (after-send s.runner p true named ∙ shareless s.runner (page_at s p) t (unheld s.runner) other)
         ] refl)
         (λ mine p named none. same-within _ _ (sym (same p named (shared none))))
+        (λ mine p named. elim (is_share kind) as (λ b. is_share kind ≡ b → IsSameOrNone (access s s.runner p) (access (memory_sent s kind (Some r)) s.runner p)) [
+          | true ↦ λ share. inr (inr (same p named share))
+          | false ↦ λ other. inl (after-send s.runner p true named ∙ shareless s.runner (page_at s p) t (unheld s.runner) other)
+        ] refl)
       where
         same : (p : ℕ) → names s r.ranges p ≡ true → is_share kind ≡ true → access (memory_sent s kind (Some r)) s.runner p ≡ access s s.runner p
         same p named share =
@@ -183,6 +191,7 @@ module _ (s : State) (steady : IsSteady s) where
       (λ mine p named none.
       none-within _ _ (zeroes s.runner p ∙ access-released s d.handle t there p (once p) named s.runner ∙ nothing mine (page_at s p)))
       (λ mine p named none. absurd (true≢false none))
+      (λ mine p named. inl (zeroes s.runner p ∙ access-released s d.handle t there p (once p) named s.runner ∙ nothing mine (page_at s p)))
     where
       zeroes : (e p : ℕ) → access (relinquished_from s d (Some t)) e p ≡ access (with_open s (with_transaction (open_of s) d.handle (not_holding t s.runner))) e p
       zeroes e p = access-zeroed d.zero (with_open s (with_transaction (open_of s) d.handle (not_holding t s.runner))) t.ranges e p
@@ -219,6 +228,11 @@ module _ (s : State) (steady : IsSteady s) where
       elim (is_share t.kind) as (λ b. is_share t.kind ≡ b → is_within (access s s.runner p) (access (reclaimed s h zero) s.runner p) ≡ true) [
         | true ↦ λ share. same-within _ _ (in-it s.runner p named ∙ sharers s.runner (page_at s p) t (none-held s.runner) (eq-eqb t.sender s.runner mine) share (owner p named) ∙ sym (zeroes s.runner p ∙ access-closed s h t there p (once p) named s.runner))
         | false ↦ λ other. none-within _ _ (in-it s.runner p named ∙ shareless s.runner (page_at s p) t (none-held s.runner) other)
+      ] refl)
+      (λ apart p named.
+      elim (is_share t.kind) as (λ b. is_share t.kind ≡ b → IsSameOrNone (access s s.runner p) (access (reclaimed s h zero) s.runner p)) [
+        | true ↦ λ share. inr (inr (sym (in-it s.runner p named ∙ sharers s.runner (page_at s p) t (none-held s.runner) (eq-eqb t.sender s.runner mine) share (owner p named) ∙ sym (zeroes s.runner p ∙ access-closed s h t there p (once p) named s.runner))))
+        | false ↦ λ other. inr (inl (in-it s.runner p named ∙ shareless s.runner (page_at s p) t (none-held s.runner) other))
       ] refl)
     where
       zeroes : (e p : ℕ) → access (reclaimed s h zero) e p ≡ access (with_open s (closed (open_of s) h)) e p
@@ -282,6 +296,7 @@ module _ (s : State) (steady : IsSteady s) where
         (λ e p named other. access-holding_beside s k u there p (once p) named s.runner right e (λ same. other (sym same)))
         (λ mine p named none. absurd (true≢false none))
         (λ mine p named none. none-within _ _ (nothing-before mine p named))
+        (λ mine p named. inr (inl (nothing-before mine p named)))
 
     given-own : u.kind ≡ Donate → Own s (with_pages (with_open s (closed (open_of s) k)) u.ranges (donated_page s.runner right)) true false
     given-own donate =
@@ -293,6 +308,7 @@ module _ (s : State) (steady : IsSteady s) where
         ∙ sym (in-it e p named ∙ shareless e (page_at s p) u (unheld e other) (ap is_share donate)))
         (λ mine p named none. absurd (true≢false none))
         (λ mine p named none. none-within _ _ (nothing-before mine p named))
+        (λ mine p named. inr (inl (nothing-before mine p named)))
       where
         nobody : {b : Bool} (page : Option Page) → b ≡ false → option_and_then (λ (_ : Page). cond b (Some right) None) page ≡ None
         nobody None is = refl
@@ -320,6 +336,7 @@ module _ (s : State) (steady : IsSteady s) where
           others = λ e p other. response e p ∙ before-own.others e p other;
           grows = λ mine p none. absurd (true≢false none);
           shrinks = λ mine p none. ap (is_within (access s s.runner p)) (response s.runner p) ∙ before-own.shrinks mine p none;
+          keeps = λ mine p. subst (IsSameOrNone (access s s.runner p)) (sym (response s.runner p)) (before-own.keeps mine p);
         })
 
   -- ---- any call, and any operation
@@ -363,4 +380,4 @@ pub own_access : (s : State) (op : Op) → IsSteady s → AreApart s → OwnAcce
 own_access s op steady apart =
     let own = own-op s steady op in
     let mine = each-apart s.runner s apart in
-    record { others = own.others; grows = own.grows mine; shrinks = own.shrinks mine }
+    record { others = own.others; grows = own.grows mine; shrinks = own.shrinks mine; keeps = own.keeps mine }

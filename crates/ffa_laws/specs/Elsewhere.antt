@@ -16,7 +16,7 @@ use Rattle.ffa_laws.specs.View.{view}
 use Rattle.ffa_laws.specs.Events.{Event, apply_all, events}
 use Rattle.ffa_laws.specs.Public.{public_part}
 use Rattle.ffa_laws.specs.Isolation.{fills_rx_page, is_indirect_message}
-use Rattle.ffa_laws.specs.OwnAccess.{gives_access, is_call, takes_access}
+use Rattle.ffa_laws.specs.OwnAccess.{IsSameOrNone, gives_access, is_call, takes_access}
 use Rattle.ffa_laws.specs.Readable.{all_readably, readable, revealed}
 use Rattle.ffa_laws.specs.Silence.{AreBare, AreMet, AreNews, may_be_told, may_change_public}
 use Rattle.ffa_laws.specs.Writers.{is_filled_by, is_reclaimed_by}
@@ -59,6 +59,7 @@ pub record OwnAccessAs (s : State) (e : ℕ) (op : Op) : Type 0 where
       → is_within (access (step_as s e op).state e p) (access s e p) ≡ true
   pub shrinks : (p : ℕ) → is_call takes_access op ≡ false
       → is_within (access s e p) (access (step_as s e op).state e p) ≡ true
+  pub keeps : (p : ℕ) → IsSameOrNone (access s e p) (access (step_as s e op).state e p)
 
 -- The bytes of a page stay where e may not write to it before, but for what a call of the runner may write besides: a page
 -- that it reclaims and may write to after, and its receiver's RX.

@@ -1,11 +1,12 @@
 -- SPDX-License-Identifier: MIT OR Apache-2.0
 -- What an endpoint may do with a page changes by its own calls alone.
-use Rattle.std.specs.Prelude.{◌≡◌, ◌≢◌, ℕ, Bool, true, false, Some}
+use Rattle.std.specs.Prelude.{◌≡◌, ◌≢◌, ◌⊎◌, ℕ, Bool, true, false, Option, None, Some}
 use Rattle.ffa_model.specs.declared.operation.Op.{Op}
 use Rattle.ffa_model.specs.declared.operation.Op.TheVariants.{Call, Load, Store, Fetch}
 use Rattle.ffa_model.specs.declared.call.Call as calls
 use Rattle.ffa_model.specs.declared.call.Call.TheVariants.{MemDonate, MemLend, MemShare, MemRetrieve, MemRelinquish, MemReclaim}
 use Rattle.ffa_model.specs.Rights.{is_within}
+use Rattle.ffa_model.specs.declared.rights.Rights.{Rights}
 use Rattle.ffa_model.specs.State.{State, Transaction, transaction_of}
 use Rattle.ffa_model.specs.Access.{access, is_receiver}
 use Rattle.ffa_model.specs.Registers.{decode}
@@ -44,13 +45,18 @@ is_call test (Fetch addr) = false
 abbrev pub AreApart : State → Type 0
 AreApart s = (h : ℕ) (t : Transaction) → transaction_of s h ≡ Some t → is_receiver t.sender t ≡ false
 
+-- nothing behind, or nothing before, or the same right
+abbrev pub IsSameOrNone : Option Rights → Option Rights → Type 0
+IsSameOrNone before behind = (behind ≡ None) ⊎ ((before ≡ None) ⊎ (behind ≡ before))
+
 -- One operation, in a state in which nobody is offered what it has sent itself: nobody's access changes but the
 -- runner's. The runner's grows only by FFA_MEM_RETRIEVE_REQ and FFA_MEM_RECLAIM, and shrinks only by FFA_MEM_DONATE,
 -- FFA_MEM_LEND and FFA_MEM_RELINQUISH. Who is offered its own share would get its rights back by giving it up, and lose
--- them by taking it.
+-- them by taking it. No right gives way to another one.
 pub record OwnAccess (s : State) (op : Op) : Type 0 where
   pub others : (e p : ℕ) → s.runner ≢ e → access (step s op).state e p ≡ access s e p
   pub grows : (p : ℕ) → is_call gives_access op ≡ false
       → is_within (access (step s op).state s.runner p) (access s s.runner p) ≡ true
   pub shrinks : (p : ℕ) → is_call takes_access op ≡ false
       → is_within (access s s.runner p) (access (step s op).state s.runner p) ≡ true
+  pub keeps : (p : ℕ) → IsSameOrNone (access s s.runner p) (access (step s op).state s.runner p)
