@@ -42,3 +42,4 @@ pub mod Reasons
 pub mod Abouts
 pub mod Mends
 pub mod Moments
+pub mod Mixtures

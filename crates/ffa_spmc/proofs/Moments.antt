@@ -18,10 +18,12 @@ use Rattle.ffa_physmem.specs.Moments.{IsWriting, Only, Step}
 use Rattle.ffa_physmem.proofs.Moments.{Only-map, Only-none}
 use Rattle.ffa_rxtx.specs.Parts.{IsRxWriting}
 use Rattle.ffa_stage2.specs.Moments.{EndsSettled, IsInOrder, IsMoment, WalksBetween, WritesUnreached}
+use Rattle.ffa_stage2.specs.Rest.{AreMixed}
 use Rattle.ffa_stage2.specs.Tables.{table_page}
 use Rattle.ffa_stage2.proofs.Moments.{between-first, moment-unreached, moment-walks, no-right-ends, nothing-ends}
+use Rattle.ffa_stage2.proofs.Rest.{mixed-of, mixed-still}
 use Rattle.ffa_spmc.specs.Meaning.{HasTables, IsManager, Parts, access_by_place, slot_names, state_of}
-use Rattle.ffa_spmc.specs.Moments.{AreMoments, IsSafeStep}
+use Rattle.ffa_spmc.specs.Moments.{AreMoments, IsMixed, IsSafeStep}
 use Rattle.ffa_spmc.proofs.Fills.{buffers-there, rx-unnamed, there-inside}
 use Rattle.ffa_spmc.proofs.Held.{owned-behind, parties_are, size_is}
 use Rattle.ffa_spmc.proofs.Moves.{of-manifest}
@@ -30,9 +32,11 @@ use Rattle.ffa_spmc.proofs.MemoryParts.{memory_parts_in}
 
 -- where nothing was written
 pub still-moments : (s : State) (old new : Ram) (past later : Option (List Step)) → new ≡ old → later ≡ past → AreMoments s old new past later
+unfolding IsMixed
 still-moments s old new past later same same_past = record {
   steps = subst (λ (l : Option (List Step)). Only past l (λ h step. IsSafeStep s old new h step)) (sym same_past) Only-none;
   ended = nothing-ends old new (length s.parties) (blocks_of s) later same;
+  mixtures = mixed-still old new (length s.parties) (blocks_of s) past later same same_past;
 }
 
 pub no-moments : (s : State) (ram : Ram) (past : Option (List Step)) → AreMoments s ram ram past past
@@ -66,30 +70,37 @@ module _ (x : Parts) (machine : IsManager x) where
   pub moments-of : (new : Ram) (past later : Option (List Step))
       → Only past later (λ h s. IsMoment x.ram new (array_vec_len x.kept.layout.regions) x.kept.layout.blocks h s)
       → EndsSettled x.ram new (array_vec_len x.kept.layout.regions) x.kept.layout.blocks later → AreMoments (state_of x) x.ram new past later
+  unfolding IsMixed
   moments-of new past later only ended = record {
     steps =
         Only-map (of-manifest x machine (λ base endpoints blocks. Only past later (λ h s. IsMoment x.ram new endpoints blocks h s)) only)
         (λ h s m. by-state x.ram new h s (moment-walks x.ram new n b h s m) m.order (moment-unreached x.ram new n b h s m));
     ended = of-state (λ k j. EndsSettled x.ram new k j later) (of-manifest x machine (λ base endpoints blocks. EndsSettled x.ram new endpoints blocks later) ended);
+    mixtures = of-state (λ k j. AreMixed x.ram new k j past later) (mixed-of x.ram new n b past later
+        (of-manifest x machine (λ base endpoints blocks. Only past later (λ h s. IsMoment x.ram new endpoints blocks h s)) only)
+        (of-manifest x machine (λ base endpoints blocks. EndsSettled x.ram new endpoints blocks later) ended));
   }
 
   -- pages behind the tables that are written while these stay
   pub beside-moments : (new : Ram) → HasTables new x.manifest (access_by_place (state_of x)) → {past later : Option (List Step)} {P : List Step → Step → Type 0} → Only past later P
       → ((h : List Step) (s : Step) → P h s → (named : ℕ → Bool) × ((p : ℕ) → named p ≡ true → table_page b n 0 ≤ p) × IsWriting x.ram named s)
       → AreMoments (state_of x) x.ram new past later
-  beside-moments new still {later = later} only its =
+  unfolding IsMixed
+  beside-moments new still {past = past} {later = later} only its =
       let old = machine.tables.built in
       let rights = access_by_place (state_of x) in
+      let moments : Only past later (λ h s. IsMoment x.ram new n b h s) =
+      Only-map only (λ h s holds.
+      let (named, behind, writing) = its h s holds in
+      written-moment x.ram new n b rights rights old still.built (still.base ∙ sym machine.tables.base) x.ram named rights behind old
+      (between-first x.ram n b rights rights old) refl h s writing
+      (λ p at e he. stays-same (rights e p) (rights e p) (rights e p) _ refl refl))
+      in
+      let ends : EndsSettled x.ram new n b later = no-right-ends x.ram new n b rights rights old still.built later (λ e p was. was) in
       record {
-        steps = Only-map only (λ h s holds.
-            let (named, behind, writing) = its h s holds in
-            let m : IsMoment x.ram new n b h s =
-            written-moment x.ram new n b rights rights old still.built (still.base ∙ sym machine.tables.base) x.ram named rights behind old
-            (between-first x.ram n b rights rights old) refl h s writing
-            (λ p at e he. stays-same (rights e p) (rights e p) (rights e p) _ refl refl)
-            in
-            by-state x.ram new h s (moment-walks x.ram new n b h s m) m.order (moment-unreached x.ram new n b h s m));
-        ended = of-state (λ k j. EndsSettled x.ram new k j later) (no-right-ends x.ram new n b rights rights old still.built later (λ e p was. was));
+        steps = Only-map moments (λ h s m. by-state x.ram new h s (moment-walks x.ram new n b h s m) m.order (moment-unreached x.ram new n b h s m));
+        ended = of-state (λ k j. EndsSettled x.ram new k j later) ends;
+        mixtures = of-state (λ k j. AreMixed x.ram new k j past later) (mixed-of x.ram new n b past later moments ends);
       }
 
   -- RX of an endpoint is behind the tables

@@ -17,4 +17,5 @@ pub mod Readied
 pub mod Unowned
 pub mod Operated
 pub mod Among
+pub mod Mixtures
 pub mod Moments

@@ -9,6 +9,7 @@ use Rattle.ffa_model.specs.Refusals.{is_refusal}
 use Rattle.ffa_model.specs.Step.{step}
 use Rattle.ffa_spmc.specs.AccessChange.{IsTelling}
 use Rattle.ffa_spmc.specs.Cached.{AreForgotten, AreKept, AreSameOrGone, AreWalks, is_accessed, is_miss, run_by}
+use Rattle.ffa_spmc.specs.Mixtures.{StayMixed}
 use Rattle.ffa_spmc.specs.Moments.{AreMoments}
 use Rattle.ffa_spmc.specs.Snapshot.{Snapshot}
 use Rattle.ffa_spmc.specs.Unowned.{KeepsUnowned}
@@ -21,6 +22,7 @@ pub record IsOperated (old : Snapshot) (op : Op) (new : Snapshot) : Type 0 where
   pub refused : is_refusal (step old.state op).outcome ≡ true → new ≡ old
   pub unowned : KeepsUnowned old.state old.ram new.ram
   pub moments : AreMoments old.state old.ram new.ram old.past new.past
+  pub mixtures : StayMixed old.state old.ram new.ram old.past new.past
   pub walks : AreWalks new
   pub forgotten : AreForgotten old new
   pub kept : is_miss old op ≡ false → AreKept old new
@@ -39,6 +41,7 @@ pub record IsOperatedAs (old : Snapshot) (e : ℕ) (op : Op) (new : Snapshot) : 
   pub refused : is_refusal (step_as old.state e op).outcome ≡ true → new ≡ old
   pub unowned : KeepsUnowned old.state old.ram new.ram
   pub moments : AreMoments old.state old.ram new.ram old.past new.past
+  pub mixtures : StayMixed old.state old.ram new.ram old.past new.past
   pub walks : AreWalks new
   pub forgotten : AreForgotten old new
   pub kept : is_miss (run_by e old) op ≡ false → AreKept old new

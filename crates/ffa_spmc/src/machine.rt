@@ -24,6 +24,7 @@ ghost use Rattle.ffa_spmc.specs.AccessChange.{IsTelling};
 ghost use Rattle.ffa_spmc.specs.Cached.{AreSameOrGone, AreForgotten, AreKept, AreWalks, is_accessed, is_miss};
 ghost use Rattle.ffa_spmc.specs.Operated.{AreOperated};
 ghost use Rattle.ffa_spmc.specs.Booted.{IsBooted, IsBootedHeld};
+ghost use Rattle.ffa_spmc.specs.Mixtures.{StayMixed};
 ghost use Rattle.ffa_spmc.specs.Moments.{AreMoments};
 ghost use Rattle.ffa_spmc.specs.Readied.{IsReadyFor};
 ghost use Rattle.ffa_spmc.specs.Storages.{IsRoomFor};
@@ -326,6 +327,10 @@ impl<M: PhysMem + Drop, T: Translations + Drop, S: Store> Machine<M, T, S> {
         // give what they give behind it or nothing. A descriptor goes by way of nothing where it has to, and a page changes
         // only while nobody reaches it but who does both before and behind.
         ensures moments { AreMoments self.old.state self.old.ram self.new.ram self.old.past self.new.past }
+
+        // Where the tables were at rest, so it is of walks in mixtures, whose words are of different moments, are kept until
+        // the page is settled, or are seen out of order; and behind it the tables are at rest again.
+        ensures mixtures { StayMixed self.old.state self.old.ram self.new.ram self.old.past self.new.past }
 
         // What the cache answers is the walk's answer over the bytes of the new RAM. It holds nothing for a page to which
         // an endpoint's access has changed. All else stays, but for an access that misses: it may take the place of others,

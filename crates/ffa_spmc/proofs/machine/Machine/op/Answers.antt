@@ -1,10 +1,12 @@
 -- SPDX-License-Identifier: MIT OR Apache-2.0
 use Rattle.std.proofs.Common.{subst}
+use Rattle.ffa_model.specs.Agreement.{Agrees}
 use Rattle.ffa_model.specs.SoundState.{IsSoundState}
 use Rattle.ffa_laws.specs.OwnAccess.{AreApart}
 use Rattle.ffa_spmc.specs.Cached.{AreWalks}
 use Rattle.ffa_spmc.specs.Snapshot.{Snapshot}
 use Rattle.ffa_spmc.proofs.Laws.{access-now, confidential-now, integrity-now, no_growth-now, open-now, silence-now, step-now, writers-now}
+use Rattle.ffa_spmc.proofs.Mixtures.{op-mixed}
 use Rattle.ffa_spmc.proofs.machine.Machine.op.Goals as goal
 
 pub returns-clause-step : goal.returns-clause-step
@@ -52,3 +54,10 @@ returns-clause-silent_offers g c =
     open-now c.args.self.now.state
     (subst (λ (seen : Snapshot). IsSoundState seen.state) c.self.view_is c.holds.ensures.sound)
     (subst (λ (seen : Snapshot). AreApart seen.state) c.self.view_is c.holds.ensures.apart) c.args.op.now
+
+pub returns-clause-mixtures : goal.returns-clause-mixtures
+returns-clause-mixtures g c =
+    op-mixed c.args.self.now.state _ c.args.op.now c.args.self.now.ram _ _ _ c.operate-outcome.ensures.state
+    (subst (λ (seen : Snapshot). Agrees seen.ram seen.state) c.self.view_is c.holds.ensures.agrees)
+    (subst (λ (seen : Snapshot). Agrees seen.ram seen.state) c.self-2.view_is c.holds-2.ensures.agrees)
+    (returns-clause-own_access g c) c.operate-outcome.ensures.moments

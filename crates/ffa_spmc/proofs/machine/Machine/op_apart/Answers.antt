@@ -14,6 +14,7 @@ returns-clause-done g c = record {
     refused = λ is. c.op.ensures.refused (ap is_refusal c.op.ensures.outcome ∙ is);
     unowned = c.op.ensures.unowned;
     moments = c.op.ensures.moments;
+    mixtures = c.op.ensures.mixtures;
     walks = c.op.ensures.walks;
     forgotten = c.op.ensures.forgotten;
     kept = c.op.ensures.kept;

@@ -1,10 +1,12 @@
 -- SPDX-License-Identifier: MIT OR Apache-2.0
 use Rattle.std.proofs.Common.{subst}
+use Rattle.ffa_model.specs.Agreement.{Agrees}
 use Rattle.ffa_model.specs.SoundState.{IsSoundState}
 use Rattle.ffa_laws.specs.OwnAccess.{AreApart}
 use Rattle.ffa_spmc.specs.Cached.{AreWalks}
 use Rattle.ffa_spmc.specs.Snapshot.{Snapshot}
 use Rattle.ffa_spmc.proofs.Laws.{access-as, confidential-as, integrity-as, no_growth-as, silence-as, step-as, writers-as}
+use Rattle.ffa_spmc.proofs.Mixtures.{op_as-mixed}
 use Rattle.ffa_spmc.proofs.machine.Machine.op_as.Goals as goal
 
 pub returns-clause-walks : goal.returns-clause-walks
@@ -47,3 +49,10 @@ returns-clause-confidential g c =
     confidential-as c.args.self.now.state
     (subst (λ (seen : Snapshot). IsSoundState seen.state) c.self.view_is c.holds.ensures.sound) c.args.endpoint.0 c.requires c.args.op.now
     (subst (λ (seen : Snapshot). AreApart seen.state) c.self.view_is c.holds.ensures.apart)
+
+pub returns-clause-mixtures : goal.returns-clause-mixtures
+returns-clause-mixtures g c =
+    op_as-mixed c.args.self.now.state _ c.args.endpoint.0 c.args.op.now c.args.self.now.ram _ _ _ c.operate_as-outcome.ensures.state
+    (subst (λ (seen : Snapshot). Agrees seen.ram seen.state) c.self.view_is c.holds.ensures.agrees)
+    (subst (λ (seen : Snapshot). Agrees seen.ram seen.state) c.self-2.view_is c.holds-2.ensures.agrees)
+    (returns-clause-own_access g c) c.operate_as-outcome.ensures.moments

@@ -25,6 +25,7 @@ loop-i-preserved g c =
             refused = λ is. c.op_as.ensures.refused (ap is_refusal c.op_as.ensures.outcome ∙ is);
             unowned = c.op_as.ensures.unowned;
             moments = c.op_as.ensures.moments;
+            mixtures = c.op_as.ensures.mixtures;
             walks = c.op_as.ensures.walks;
             forgotten = c.op_as.ensures.forgotten;
             kept = c.op_as.ensures.kept;

@@ -1,0 +1,140 @@
+-- SPDX-License-Identifier: MIT OR Apache-2.0
+-- What an operation changes of the walks, and so of those in mixtures.
+use Rattle.std.proofs.Common.{◌≡◌, ◌≢◌, ◌∙◌, ℕ, zero, suc, ◌-◌, ◌/◌, ◌^◌, ◌<◌, true, false, refl, ap, sym, subst, arith, List, ◌∷◌, length, Option, Some, None, inl, inr}
+use Rattle.std.specs.Prelude.{◌==◌, nat_le, nat_lt, ◌&&◌, if◌then◌else◌, is_ok}
+use Rattle.std.specs.Option.{option_and_then}
+use Rattle.std.proofs.lemmas.Bool.{cases_eq, cases_lt, false≢true}
+use Rattle.ffa_model.specs.declared.operation.Op.{Op}
+use Rattle.ffa_model.specs.declared.operation.Op.TheVariants.{Call, Load, Store, Fetch}
+use Rattle.ffa_model.specs.declared.rights.Rights.{Rights}
+use Rattle.ffa_model.specs.Access.{access}
+use Rattle.ffa_model.specs.Agreement.{Agrees, blocks_of}
+use Rattle.ffa_model.specs.Elsewhere.{as_run_by, step_as, step_elsewhere}
+use Rattle.ffa_model.specs.Identifiers.{identifier, place}
+use Rattle.ffa_model.specs.Manifest.{root_of}
+use Rattle.ffa_model.specs.Memory.{access_at, page_of_address}
+use Rattle.ffa_model.specs.Ram.{Ram}
+use Rattle.ffa_model.specs.State.{Party, State}
+use Rattle.ffa_model.specs.Step.{step}
+use Rattle.ffa_model.specs.Walk.{mapped_answer, walk}
+use Rattle.ffa_laws.specs.Elsewhere.{OwnAccessAs}
+use Rattle.ffa_laws.specs.OwnAccess.{IsSameOrNone, OwnAccess}
+use Rattle.ffa_laws.proofs.ElsewhereLaws.{fixed-step_as}
+use Rattle.ffa_laws.proofs.Kept.{step-fixed}
+use Rattle.ffa_physmem.specs.Moments.{Step}
+use Rattle.ffa_physmem.proofs.Moments.{Only-map}
+use Rattle.ffa_stage2.specs.Mixtures.{AreInTurn, IsMixture, MixturesBetween, page_at}
+use Rattle.ffa_stage2.specs.Moments.{walk_at}
+use Rattle.ffa_stage2.specs.Rest.{WalksMixed, WalksSameOrNone}
+use Rattle.ffa_stage2.proofs.Mixtures.{OneDiffers, mixtures-between}
+use Rattle.ffa_stage2.proofs.Rest.{Only-turn, held-mixed}
+use Rattle.ffa_spmc.specs.Mixtures.{HeldBetween, StayMixed}
+use Rattle.ffa_spmc.specs.Moments.{AreMoments, IsMixed}
+use Rattle.ffa_spmc.proofs.Sizes.{pages-step}
+
+-- who isn't at the place of an identifier has another one
+far-id : (e r : ℕ) → (e ≡ place r → ⊥) → r ≢ identifier e
+far-id zero r far same = far (omega (arith, same))
+far-id (suc i) r far same = far (omega (arith, same))
+
+at-none : (r : Option Rights) (a : ℕ) → r ≡ None → is_ok (mapped_answer r a) ≡ true → ⊥
+unfolding mapped_answer
+at-none r a none ok = false≢true (sym (ap (λ (q : Option Rights). is_ok (mapped_answer q a)) none) ∙ ok)
+
+and-then-same : (f g : ℕ → Option Rights) → ((p : ℕ) → f p ≡ g p) → (o : Option ℕ) → option_and_then f o ≡ option_and_then g o
+and-then-same f g same None = refl
+and-then-same f g same (Some p) = same p
+
+and-then-kept : (f g : ℕ → Option Rights) → ((p : ℕ) → IsSameOrNone (f p) (g p)) → (o : Option ℕ) → IsSameOrNone (option_and_then f o) (option_and_then g o)
+and-then-kept f g same None = inl refl
+and-then-kept f g same (Some p) = same p
+
+-- a walk gives the access
+seen : (x : State) (ram : Ram) (b e a : ℕ) → Agrees ram x → blocks_of x ≡ b → e < length x.parties → a < 2 ^ 32 → walk_at ram b e a ≡ mapped_answer (access_at x (identifier e) a) a
+seen x ram b e a agrees blocks he ha =
+    ap (λ (c : ℕ). walk ram (root_of c b e) a) agrees.place ∙ ap (λ (k : ℕ). walk ram (root_of x.ram_base k e) a) (sym blocks) ∙ agrees.walks e a he ha
+
+-- what may be held is the answer of a walk in a mixture
+held-between : (old new ram : Ram) (n b : ℕ) (h : List Step) → AreInTurn h ram → MixturesBetween old new n b h ram → HeldBetween old new n b h ram
+held-between old new ram n b h turn between placed a answer ha held =
+    elim (between a (λ e. (pick e).0) ha (λ e he. ((pick e).1 he).0)) [
+      | inl each ↦ inl (λ e he. elim (each e he) [ inl is ↦ inl (((pick e).1 he).1 ∙ is) | inr none ↦ inr (((pick e).1 he).1 ∙ none) ])
+      | inr each ↦ inr (λ e he. elim (each e he) [ inl is ↦ inl (((pick e).1 he).1 ∙ is) | inr none ↦ inr (((pick e).1 he).1 ∙ none) ])
+    ]
+  where
+    pick : (e : ℕ) → (m : Ram) × (e < n → IsMixture b e (page_at ram a) h ram m × (answer e ≡ walk_at m b e a))
+    pick e = elim (cases_lt e n) [
+      | inl lt ↦ let (m, mix, is) = held-mixed b e (page_at ram a) a h ram (answer e) turn placed (held e lt) in (m, λ _. (mix, is))
+      | inr out ↦ (ram, λ lt. absurd (omega (arith, out, lt)))
+    ]
+
+module _ (s t : State) (old new : Ram) (was : Agrees old s) (is : Agrees new t) (parties : length t.parties ≡ length s.parties) (base : t.ram_base ≡ s.ram_base)
+    (size : length t.pages ≡ length s.pages) (r : ℕ) (others : (e p : ℕ) → r ≢ e → access t e p ≡ access s e p)
+    (keeps : (p : ℕ) → IsSameOrNone (access s r p) (access t r p)) where
+  before : (e a : ℕ) → e < length s.parties → a < 2 ^ 32 → walk_at old (blocks_of s) e a ≡ mapped_answer (access_at s (identifier e) a) a
+  before e a he ha = seen s old (blocks_of s) e a was refl he ha
+
+  behind : (e a : ℕ) → e < length s.parties → a < 2 ^ 32 → walk_at new (blocks_of s) e a ≡ mapped_answer (option_and_then (access t (identifier e)) (page_of_address s a)) a
+  behind e a he ha =
+      seen t new (blocks_of s) e a is (ap (λ (n : ℕ). n / 512) size) (subst (λ (n : ℕ). e < n) (sym parties) he) ha
+      ∙ ap (λ (c : ℕ). mapped_answer (option_and_then (access t (identifier e)) (if nat_le c a && nat_lt a (2 ^ 32) then Some ((a - c) / 4096) else None)) a) base
+
+  pub one-differs : OneDiffers old new (length s.parties) (blocks_of s)
+  one-differs = (
+    place r,
+    λ e a he ha far.
+        behind e a he ha
+        ∙ ap (λ (o : Option Rights). mapped_answer o a) (and-then-same (access t (identifier e)) (access s (identifier e)) (λ p. others (identifier e) p (far-id e r far)) (page_of_address s a))
+        ∙ sym (before e a he ha),
+  )
+
+  each-keeps : (e p : ℕ) → IsSameOrNone (access s e p) (access t e p)
+  each-keeps e p = elim (cases_eq r e) [
+    | inl same ↦ subst (λ (f : ℕ). IsSameOrNone (access s f p) (access t f p)) same (keeps p)
+    | inr far ↦ inr (inr (others e p far))
+  ]
+
+  pub is-steady : WalksSameOrNone old new (length s.parties) (blocks_of s)
+  is-steady e a he ha ok ok' = elim (and-then-kept (access s (identifier e)) (access t (identifier e)) (each-keeps (identifier e)) (page_of_address s a)) [
+    | inl none ↦ absurd (at-none _ a none (ap is_ok (sym (behind e a he ha)) ∙ ok'))
+    | inr (inl none) ↦ absurd (at-none _ a none (ap is_ok (sym (before e a he ha)) ∙ ok))
+    | inr (inr same) ↦ behind e a he ha ∙ ap (λ (o : Option Rights). mapped_answer o a) same ∙ sym (before e a he ha)
+  ]
+
+  all-mixed : (past later : Option (List Step)) → AreMoments s old new past later → WalksMixed old new (length s.parties) (blocks_of s) past later
+  unfolding IsMixed
+  all-mixed past later moments rest turns =
+      Only-map (moments.mixtures.each rest turns) (λ h step its. mixtures-between old new step.after (length s.parties) (blocks_of s) (step ∷ h) one-differs its)
+
+  pub stay-mixed : (past later : Option (List Step)) → AreMoments s old new past later → StayMixed s old new past later
+  unfolding StayMixed IsMixed
+  stay-mixed past later moments = record {
+    walks = all-mixed past later moments;
+    held = λ rest turns. Only-map (Only-turn new turns (all-mixed past later moments rest turns)) (λ h step its.
+        let (turn, between) = its in
+        held-between old new step.after (length s.parties) (blocks_of s) (step ∷ h) (refl, turn) between);
+    rest = λ rest turns. moments.mixtures.rest rest turns is-steady;
+  }
+
+-- of an operation
+pub op-mixed : (s t : State) (op : Op) (old new : Ram) (past later : Option (List Step)) → t ≡ (step s op).state → Agrees old s → Agrees new t → OwnAccess s op
+    → AreMoments s old new past later → StayMixed s old new past later
+op-mixed s t op old new past later state was is own moments =
+    stay-mixed s (step s op).state old new was (subst (Agrees new) state is) (ap (λ (f : List Party × ℕ). length f.0) (step-fixed s op)) (ap (λ (f : List Party × ℕ). f.1) (step-fixed s op))
+    (pages-step s op) s.runner own.others own.keeps past later moments
+
+pages-elsewhere : (s : State) (e : ℕ) (op : Op) → length (step_elsewhere s e op).state.pages ≡ length s.pages
+pages-elsewhere s e (Call x) = refl
+pages-elsewhere s e (Load address size) = pages-step (as_run_by e s) (Load address size)
+pages-elsewhere s e (Store address size value) = pages-step (as_run_by e s) (Store address size value)
+pages-elsewhere s e (Fetch address) = pages-step (as_run_by e s) (Fetch address)
+
+pages-as : (s : State) (e : ℕ) (op : Op) → length (step_as s e op).state.pages ≡ length s.pages
+pages-as s e op = elim (s.runner == e) as (λ b. length (if b then step s op else step_elsewhere s e op).state.pages ≡ length s.pages) [ true ↦ pages-step s op | false ↦ pages-elsewhere s e op ]
+
+-- of an operation of any endpoint
+pub op_as-mixed : (s t : State) (e : ℕ) (op : Op) (old new : Ram) (past later : Option (List Step)) → t ≡ (step_as s e op).state → Agrees old s → Agrees new t → OwnAccessAs s e op
+    → AreMoments s old new past later → StayMixed s old new past later
+op_as-mixed s t e op old new past later state was is own moments =
+    stay-mixed s (step_as s e op).state old new was (subst (Agrees new) state is) (ap (λ (f : List Party × ℕ). length f.0) (fixed-step_as s e op)) (ap (λ (f : List Party × ℕ). f.1) (fixed-step_as s e op))
+    (pages-as s e op) e (λ f p far. own.others f p far) own.keeps past later moments
