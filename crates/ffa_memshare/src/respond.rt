@@ -16,7 +16,7 @@ use ffa_rxtx::{Buffers, Mapped};
 
 /// Writes a response in this version to the start of RX of an endpoint with these buffers, says that RX is
 /// full, and answers how many bytes the response has. The other bytes of RX stay.
-pub fn respond<M: PhysMem>(
+pub fn deliver<M: PhysMem>(
     ram: &mut M,
     buffers: &mut Buffers,
     endpoint: EndpointId,

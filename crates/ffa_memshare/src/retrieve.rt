@@ -30,7 +30,7 @@ use crate::marks::{Mark, mark_all};
 use crate::open_slot::OpenSlot;
 use crate::page_changes::change_pages;
 use crate::pool::Pool;
-use crate::respond::respond;
+use crate::respond::deliver;
 use crate::transaction::OpenTransaction;
 use arrayvec::ArrayVec;
 use ffa_model::{Address, EndpointId, ErrorCode, Kind, Response, Rights, Room, Version};
@@ -164,7 +164,7 @@ impl OpenTransaction {
         let to_caller = NewRight::Same(Some(found.right));
         change_pages(ram, layout, pages, &self.ranges, index, to_caller, false);
         let response = self.response(caller, found.right);
-        respond(ram, buffers, caller, found.own, version, &response)
+        deliver(ram, buffers, caller, found.own, version, &response)
     }
 
     // What an endpoint is told that has this right to the pages.

@@ -103,7 +103,7 @@ impl Chain {
     /// In this order: `Denied` where the runner isn't the normal world; `InvalidParameters` where the target is no
     /// partition, or the execution context isn't 0; `Busy` where the target neither waits nor has yielded, though
     /// there is no such partition while the normal world runs. An error changes nothing.
-    pub fn run(&mut self, target: EndpointId, context: u16) -> Result<Reply, ErrorCode>
+    pub fn run_partition(&mut self, target: EndpointId, context: u16) -> Result<Reply, ErrorCode>
         ensures refusal { result_err result
             ≡ first_failure (run_guards (length self.old.works) self.old target.0 context) }
         ensures reply { IfOk result (λ reply. reply ≡ run_reply target.0 (status_in self.old target.0)) }

@@ -25,13 +25,17 @@ fn run_and_wait(rt: HostRuntime) -> Result<(), Fail> {
     same(&rt, chain.runner(), NORMAL);
     alike(&rt, chain.wait(), Err(ErrorCode::Denied));
     alike(&rt, chain.yield_now(), Err(ErrorCode::Denied));
-    alike(&rt, chain.run(FIRST, 0), Ok(scheduled(0x8400_006D, FIRST)));
+    alike(
+        &rt,
+        chain.run_partition(FIRST, 0),
+        Ok(scheduled(0x8400_006D, FIRST)),
+    );
     same(&rt, chain.runner(), FIRST);
     same(&rt, chain.status(FIRST), Status::Running);
     same(&rt, chain.status(NORMAL), Status::Blocked);
     same(&rt, chain.status(SECOND), Status::Waiting);
     same(&rt, chain.work(FIRST), Some(Work::Run));
-    alike(&rt, chain.run(SECOND, 1), Err(ErrorCode::Denied));
+    alike(&rt, chain.run_partition(SECOND, 1), Err(ErrorCode::Denied));
     alike(&rt, chain.wait(), Ok(scheduled(0x8400_006B, FIRST)));
     same(&rt, chain.runner(), NORMAL);
     same(&rt, chain.status(FIRST), Status::Waiting);
@@ -45,7 +49,7 @@ fn refused_targets(rt: HostRuntime) -> Result<(), Fail> {
     for (target, context) in [(0, 0), (0x8000, 0), (0x8003, 0), (0x7FFF, 0), (0x8001, 1)] {
         alike(
             &rt,
-            chain.run(EndpointId(target), context),
+            chain.run_partition(EndpointId(target), context),
             Err(ErrorCode::InvalidParameters),
         );
     }
@@ -57,13 +61,21 @@ fn refused_targets(rt: HostRuntime) -> Result<(), Fail> {
 #[test]
 fn yield_and_run_again(rt: HostRuntime) -> Result<(), Fail> {
     let mut chain = Chain::first(3);
-    alike(&rt, chain.run(FIRST, 0), Ok(scheduled(0x8400_006D, FIRST)));
+    alike(
+        &rt,
+        chain.run_partition(FIRST, 0),
+        Ok(scheduled(0x8400_006D, FIRST)),
+    );
     alike(&rt, chain.yield_now(), Ok(scheduled(0x8400_006C, FIRST)));
     same(&rt, chain.runner(), NORMAL);
     same(&rt, chain.status(NORMAL), Status::Running);
     same(&rt, chain.status(FIRST), Status::Yielded);
     same(&rt, chain.work(FIRST), Some(Work::Run));
-    alike(&rt, chain.run(FIRST, 0), Ok(Reply::Success([0; 6])));
+    alike(
+        &rt,
+        chain.run_partition(FIRST, 0),
+        Ok(Reply::Success([0; 6])),
+    );
     same(&rt, chain.runner(), FIRST);
     same(&rt, chain.work(FIRST), Some(Work::Run));
     Ok(())
@@ -72,7 +84,11 @@ fn yield_and_run_again(rt: HostRuntime) -> Result<(), Fail> {
 #[test]
 fn requests(rt: HostRuntime) -> Result<(), Fail> {
     let mut chain = Chain::first(3);
-    alike(&rt, chain.run(FIRST, 0), Ok(scheduled(0x8400_006D, FIRST)));
+    alike(
+        &rt,
+        chain.run_partition(FIRST, 0),
+        Ok(scheduled(0x8400_006D, FIRST)),
+    );
     chain.request(SECOND);
     same(&rt, chain.runner(), SECOND);
     same(&rt, chain.status(FIRST), Status::Blocked);
@@ -93,7 +109,11 @@ fn request_of_the_normal_world(rt: HostRuntime) -> Result<(), Fail> {
     chain.request(SECOND);
     alike(&rt, chain.yield_now(), Ok(scheduled(0x8400_006C, SECOND)));
     same(&rt, chain.status(SECOND), Status::Yielded);
-    alike(&rt, chain.run(SECOND, 0), Ok(Reply::Success([0; 6])));
+    alike(
+        &rt,
+        chain.run_partition(SECOND, 0),
+        Ok(Reply::Success([0; 6])),
+    );
     same(&rt, chain.work(SECOND), Some(Work::Request(NORMAL)));
     chain.respond();
     same(&rt, chain.runner(), NORMAL);

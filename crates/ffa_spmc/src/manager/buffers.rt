@@ -25,7 +25,7 @@ fn is_count_alone(flags: u32) -> bool
 
 impl<M: PhysMem + Drop, S: Store> Manager<M, S> {
     // FFA_RX_RELEASE of the runner.
-    pub(super) fn release(&mut self) -> Reply
+    pub(super) fn rx_release(&mut self) -> Reply
         ensures { IsReplied self.old self.new (rx_release self.old.state) result }
     {
         let runner = self.kept.chain.runner();
@@ -33,7 +33,7 @@ impl<M: PhysMem + Drop, S: Store> Manager<M, S> {
     }
 
     // FFA_RXTX_MAP of the runner.
-    pub(super) fn map(&mut self, tx: u64, rx: u64, pages: u32) -> Reply
+    pub(super) fn rxtx_map(&mut self, tx: u64, rx: u64, pages: u32) -> Reply
         ensures { IsReplied self.old self.new (rxtx_map self.old.state tx rx pages) result }
     {
         let runner = self.kept.chain.runner();
@@ -44,7 +44,7 @@ impl<M: PhysMem + Drop, S: Store> Manager<M, S> {
     }
 
     // FFA_RXTX_UNMAP of the runner.
-    pub(super) fn unmap(&mut self, endpoint: u32) -> Reply
+    pub(super) fn rxtx_unmap(&mut self, endpoint: u32) -> Reply
         ensures { IsReplied self.old self.new (rxtx_unmap self.old.state endpoint) result }
     {
         let runner = self.kept.chain.runner();
@@ -52,7 +52,7 @@ impl<M: PhysMem + Drop, S: Store> Manager<M, S> {
     }
 
     // FFA_PARTITION_INFO_GET of the runner.
-    pub(super) fn partition_info(&mut self, uuid: [u32; 4], flags: u32) -> Reply
+    pub(super) fn partition_info_get(&mut self, uuid: [u32; 4], flags: u32) -> Reply
         ensures { IsReplied self.old self.new (info_get self.old.state uuid flags) result }
     {
         match self.check_info(uuid, flags) {

@@ -21,7 +21,7 @@ use ffa_tlb::Translations;
 impl<M: PhysMem + Drop, S: Store> Manager<M, S> {
     // FFA_MEM_DONATE, FFA_MEM_LEND or FFA_MEM_SHARE of the runner.
     #[inline(never)]
-    pub(super) fn offer<T: Translations>(
+    pub(super) fn mem_send<T: Translations>(
         &mut self,
         kind: Kind,
         transfer: Transfer,
@@ -63,7 +63,7 @@ impl<M: PhysMem + Drop, S: Store> Manager<M, S> {
 
     // FFA_MEM_RETRIEVE_REQ of the runner.
     #[inline(never)]
-    pub(super) fn retrieve<T: Translations>(
+    pub(super) fn mem_retrieve<T: Translations>(
         &mut self,
         transfer: Transfer,
         cache: &mut T,
@@ -103,7 +103,11 @@ impl<M: PhysMem + Drop, S: Store> Manager<M, S> {
 
     // FFA_MEM_RELINQUISH of the runner.
     #[inline(never)]
-    pub(super) fn relinquish<T: Translations>(&mut self, cache: &mut T, news: &mut News) -> Reply
+    pub(super) fn mem_relinquish<T: Translations>(
+        &mut self,
+        cache: &mut T,
+        news: &mut News,
+    ) -> Reply
         ensures { let held = T.entries cache.old in let kept = T.entries cache.new in
             let call = memory_relinquish self.old.state in
             IsAnswered self.old self.new held kept news.old news.new true call result }
@@ -135,7 +139,7 @@ impl<M: PhysMem + Drop, S: Store> Manager<M, S> {
 
     // FFA_MEM_RECLAIM of the runner.
     #[inline(never)]
-    pub(super) fn reclaim<T: Translations>(
+    pub(super) fn mem_reclaim<T: Translations>(
         &mut self,
         handle: Handle,
         flags: u32,

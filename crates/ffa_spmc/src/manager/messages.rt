@@ -18,11 +18,11 @@ impl<M: PhysMem + Drop, S: Store> Manager<M, S> {
     pub(super) fn run_partition(&mut self, target: EndpointId, context: u16) -> Reply
         ensures { IsReplied self.old self.new (run_partition self.old.state target.0 context) result }
     {
-        reply_or_error(self.kept.chain.run(target, context))
+        reply_or_error(self.kept.chain.run_partition(target, context))
     }
 
     // FFA_MSG_WAIT of the runner, whose RX is empty then.
-    pub(super) fn wait(&mut self) -> Reply
+    pub(super) fn msg_wait(&mut self) -> Reply
         ensures { IsReplied self.old self.new (msg_wait self.old.state) result }
     {
         let runner = self.kept.chain.runner();
@@ -41,7 +41,7 @@ impl<M: PhysMem + Drop, S: Store> Manager<M, S> {
     }
 
     // FFA_MSG_SEND_DIRECT_REQ of the runner.
-    pub(super) fn request(&mut self, message: &DirectMessage) -> Reply
+    pub(super) fn direct_request(&mut self, message: &DirectMessage) -> Reply
         requires { (message.now.function == FFA_ERROR) ≡ false }
         ensures { IsReplied self.old self.new (direct_request self.old.state message.now) result }
     {
@@ -52,7 +52,7 @@ impl<M: PhysMem + Drop, S: Store> Manager<M, S> {
     }
 
     // FFA_MSG_SEND_DIRECT_RESP of the runner.
-    pub(super) fn respond(&mut self, message: &DirectMessage) -> Reply
+    pub(super) fn direct_response(&mut self, message: &DirectMessage) -> Reply
         requires { (message.now.function == FFA_ERROR) ≡ false }
         ensures { IsReplied self.old self.new (direct_response self.old.state message.now) result }
     {
@@ -60,7 +60,7 @@ impl<M: PhysMem + Drop, S: Store> Manager<M, S> {
     }
 
     // FFA_MSG_SEND2 of the runner. The receiver is told of a message by a bit of the manager's.
-    pub(super) fn send(&mut self) -> Reply
+    pub(super) fn msg_send2(&mut self) -> Reply
         ensures { IsReplied self.old self.new (msg_send2 self.old.state) result }
     {
         let runner = self.kept.chain.runner();

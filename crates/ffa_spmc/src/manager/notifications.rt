@@ -19,7 +19,7 @@ impl<M: PhysMem + Drop, S: Store> Manager<M, S> {
     }
 
     // FFA_NOTIFICATION_BITMAP_CREATE of the runner.
-    pub(super) fn create_bitmaps(&mut self, endpoint: u32, contexts: u32) -> Reply
+    pub(super) fn bitmap_create(&mut self, endpoint: u32, contexts: u32) -> Reply
         ensures { IsReplied self.old self.new (bitmap_create self.old.state endpoint contexts) result }
     {
         let runner = self.kept.chain.runner();
@@ -28,7 +28,7 @@ impl<M: PhysMem + Drop, S: Store> Manager<M, S> {
     }
 
     // FFA_NOTIFICATION_BITMAP_DESTROY of the runner.
-    pub(super) fn destroy_bitmaps(&mut self, endpoint: u32) -> Reply
+    pub(super) fn bitmap_destroy(&mut self, endpoint: u32) -> Reply
         ensures { IsReplied self.old self.new (bitmap_destroy self.old.state endpoint) result }
     {
         let runner = self.kept.chain.runner();
@@ -37,7 +37,7 @@ impl<M: PhysMem + Drop, S: Store> Manager<M, S> {
     }
 
     // FFA_NOTIFICATION_BIND of the runner.
-    pub(super) fn bind(&mut self, bits: &NotificationBits) -> Reply
+    pub(super) fn notification_bind(&mut self, bits: &NotificationBits) -> Reply
         ensures { IsReplied self.old self.new (notification_bind self.old.state bits.now) result }
     {
         let runner = self.kept.chain.runner();
@@ -46,7 +46,7 @@ impl<M: PhysMem + Drop, S: Store> Manager<M, S> {
     }
 
     // FFA_NOTIFICATION_UNBIND of the runner.
-    pub(super) fn unbind(&mut self, bits: &NotificationBits) -> Reply
+    pub(super) fn notification_unbind(&mut self, bits: &NotificationBits) -> Reply
         ensures { IsReplied self.old self.new (notification_unbind self.old.state bits.now) result }
     {
         let runner = self.kept.chain.runner();
@@ -55,7 +55,7 @@ impl<M: PhysMem + Drop, S: Store> Manager<M, S> {
     }
 
     // FFA_NOTIFICATION_SET of the runner.
-    pub(super) fn set(&mut self, bits: &NotificationBits) -> Reply
+    pub(super) fn notification_set(&mut self, bits: &NotificationBits) -> Reply
         ensures { IsReplied self.old self.new (notification_set self.old.state bits.now) result }
     {
         let runner = self.kept.chain.runner();
@@ -64,7 +64,12 @@ impl<M: PhysMem + Drop, S: Store> Manager<M, S> {
     }
 
     // FFA_NOTIFICATION_GET of the runner.
-    pub(super) fn get(&mut self, receiver: EndpointId, context: u16, flags: u32) -> Reply
+    pub(super) fn notification_get(
+        &mut self,
+        receiver: EndpointId,
+        context: u16,
+        flags: u32,
+    ) -> Reply
         ensures { IsReplied self.old self.new (notification_get self.old.state receiver.0 context flags) result }
     {
         let runner = self.kept.chain.runner();

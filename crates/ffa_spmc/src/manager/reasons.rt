@@ -40,40 +40,42 @@ impl<M: PhysMem + Drop, S: Store> Manager<M, S> {
         match call {
             Call::Version { version: _ } => None,
             Call::Features { function } => ffa_setup::check_features(function).err(),
-            Call::RxRelease => self.release_refusal(),
-            Call::RxtxMap { tx, rx, pages } => self.map_refusal(tx, rx, pages),
-            Call::RxtxUnmap { endpoint } => self.unmap_refusal(endpoint),
+            Call::RxRelease => self.rx_release_refusal(),
+            Call::RxtxMap { tx, rx, pages } => self.rxtx_map_refusal(tx, rx, pages),
+            Call::RxtxUnmap { endpoint } => self.rxtx_unmap_refusal(endpoint),
             Call::PartitionInfoGet { uuid, flags } => self.check_info(uuid, flags).err(),
             Call::IdGet => None,
             Call::SpmIdGet => None,
-            Call::MsgWait => self.wait_refusal(),
+            Call::MsgWait => self.msg_wait_refusal(),
             Call::Yield => self.yield_refusal(),
             Call::Run { target, context } => self.run_refusal(target, context),
-            Call::DirectRequest(message) => self.request_refusal(&message),
-            Call::DirectResponse(message) => self.response_refusal(&message),
-            Call::MsgSend2 => self.send_refusal(),
-            Call::MemDonate(transfer) => self.offer_refusal(Kind::Donate, transfer),
-            Call::MemLend(transfer) => self.offer_refusal(Kind::Lend, transfer),
-            Call::MemShare(transfer) => self.offer_refusal(Kind::Share, transfer),
-            Call::MemRetrieve(transfer) => self.retrieve_refusal(transfer),
-            Call::MemRelinquish => self.relinquish_refusal(),
-            Call::MemReclaim { handle, flags } => self.reclaim_refusal(handle, flags),
-            Call::BitmapCreate { endpoint, contexts } => self.create_refusal(endpoint, contexts),
-            Call::BitmapDestroy { endpoint } => self.destroy_refusal(endpoint),
-            Call::NotificationBind(bits) => self.bind_refusal(&bits),
-            Call::NotificationUnbind(bits) => self.unbind_refusal(&bits),
-            Call::NotificationSet(bits) => self.set_refusal(&bits),
+            Call::DirectRequest(message) => self.direct_request_refusal(&message),
+            Call::DirectResponse(message) => self.direct_response_refusal(&message),
+            Call::MsgSend2 => self.msg_send2_refusal(),
+            Call::MemDonate(transfer) => self.mem_send_refusal(Kind::Donate, transfer),
+            Call::MemLend(transfer) => self.mem_send_refusal(Kind::Lend, transfer),
+            Call::MemShare(transfer) => self.mem_send_refusal(Kind::Share, transfer),
+            Call::MemRetrieve(transfer) => self.mem_retrieve_refusal(transfer),
+            Call::MemRelinquish => self.mem_relinquish_refusal(),
+            Call::MemReclaim { handle, flags } => self.mem_reclaim_refusal(handle, flags),
+            Call::BitmapCreate { endpoint, contexts } => self.bitmap_create_refusal(
+                endpoint, contexts,
+            ),
+            Call::BitmapDestroy { endpoint } => self.bitmap_destroy_refusal(endpoint),
+            Call::NotificationBind(bits) => self.notification_bind_refusal(&bits),
+            Call::NotificationUnbind(bits) => self.notification_unbind_refusal(&bits),
+            Call::NotificationSet(bits) => self.notification_set_refusal(&bits),
             Call::NotificationGet {
                 receiver,
                 context,
                 flags,
-            } => self.get_refusal(receiver, context, flags),
+            } => self.notification_get_refusal(receiver, context, flags),
             Call::Unknown => Some(Refusal::FunctionUnknown),
         }
     }
 
     // Of FFA_RX_RELEASE.
-    fn release_refusal(&self) -> Option<Refusal>
+    fn rx_release_refusal(&self) -> Option<Refusal>
         ensures { result ≡ first_refusal (rx_release self.now.state).guards }
     {
         let runner = self.kept.chain.runner();
@@ -81,7 +83,7 @@ impl<M: PhysMem + Drop, S: Store> Manager<M, S> {
     }
 
     // Of FFA_RXTX_MAP.
-    fn map_refusal(&self, tx: u64, rx: u64, pages: u32) -> Option<Refusal>
+    fn rxtx_map_refusal(&self, tx: u64, rx: u64, pages: u32) -> Option<Refusal>
         ensures { result ≡ first_refusal (rxtx_map self.now.state tx rx pages).guards }
     {
         let base = self.kept.records.get().manifest.ram_base;
@@ -94,7 +96,7 @@ impl<M: PhysMem + Drop, S: Store> Manager<M, S> {
     }
 
     // Of FFA_RXTX_UNMAP.
-    fn unmap_refusal(&self, endpoint: u32) -> Option<Refusal>
+    fn rxtx_unmap_refusal(&self, endpoint: u32) -> Option<Refusal>
         ensures { result ≡ first_refusal (rxtx_unmap self.now.state endpoint).guards }
     {
         let runner = self.kept.chain.runner();
@@ -102,7 +104,7 @@ impl<M: PhysMem + Drop, S: Store> Manager<M, S> {
     }
 
     // Of FFA_MSG_WAIT.
-    fn wait_refusal(&self) -> Option<Refusal>
+    fn msg_wait_refusal(&self) -> Option<Refusal>
         ensures { result ≡ first_refusal (msg_wait self.now.state).guards }
     {
         self.kept.chain.check_wait().err()
@@ -123,7 +125,7 @@ impl<M: PhysMem + Drop, S: Store> Manager<M, S> {
     }
 
     // Of FFA_MSG_SEND_DIRECT_REQ.
-    fn request_refusal(&self, message: &DirectMessage) -> Option<Refusal>
+    fn direct_request_refusal(&self, message: &DirectMessage) -> Option<Refusal>
         ensures { result ≡ first_refusal (direct_request self.now.state message.now).guards }
     {
         let records = self.kept.records.get();
@@ -131,14 +133,14 @@ impl<M: PhysMem + Drop, S: Store> Manager<M, S> {
     }
 
     // Of FFA_MSG_SEND_DIRECT_RESP.
-    fn response_refusal(&self, message: &DirectMessage) -> Option<Refusal>
+    fn direct_response_refusal(&self, message: &DirectMessage) -> Option<Refusal>
         ensures { result ≡ first_refusal (direct_response self.now.state message.now).guards }
     {
         check_direct_resp(&self.kept.chain, message).err()
     }
 
     // Of FFA_MSG_SEND2.
-    fn send_refusal(&self) -> Option<Refusal>
+    fn msg_send2_refusal(&self) -> Option<Refusal>
         ensures { result ≡ first_refusal (msg_send2 self.now.state).guards }
     {
         let runner = self.kept.chain.runner();
@@ -148,7 +150,7 @@ impl<M: PhysMem + Drop, S: Store> Manager<M, S> {
     }
 
     // Of FFA_MEM_DONATE, FFA_MEM_LEND or FFA_MEM_SHARE.
-    fn offer_refusal(&self, kind: Kind, transfer: Transfer) -> Option<Refusal>
+    fn mem_send_refusal(&self, kind: Kind, transfer: Transfer) -> Option<Refusal>
         ensures { result ≡ first_refusal (memory_send self.now.state kind transfer).guards }
     {
         let version = self.version();
@@ -171,7 +173,7 @@ impl<M: PhysMem + Drop, S: Store> Manager<M, S> {
     }
 
     // Of FFA_MEM_RETRIEVE_REQ.
-    fn retrieve_refusal(&self, transfer: Transfer) -> Option<Refusal>
+    fn mem_retrieve_refusal(&self, transfer: Transfer) -> Option<Refusal>
         ensures { result ≡ first_refusal (memory_retrieve self.now.state transfer).guards }
     {
         let version = self.version();
@@ -187,7 +189,7 @@ impl<M: PhysMem + Drop, S: Store> Manager<M, S> {
     }
 
     // Of FFA_MEM_RELINQUISH.
-    fn relinquish_refusal(&self) -> Option<Refusal>
+    fn mem_relinquish_refusal(&self) -> Option<Refusal>
         ensures { result ≡ first_refusal (memory_relinquish self.now.state).guards }
     {
         let runner = self.kept.chain.runner();
@@ -197,7 +199,7 @@ impl<M: PhysMem + Drop, S: Store> Manager<M, S> {
     }
 
     // Of FFA_MEM_RECLAIM.
-    fn reclaim_refusal(&self, handle: Handle, flags: u32) -> Option<Refusal>
+    fn mem_reclaim_refusal(&self, handle: Handle, flags: u32) -> Option<Refusal>
         ensures { result ≡ first_refusal (memory_reclaim self.now.state handle.0 flags).guards }
     {
         let runner = self.kept.chain.runner();
@@ -210,7 +212,7 @@ impl<M: PhysMem + Drop, S: Store> Manager<M, S> {
     }
 
     // Of FFA_NOTIFICATION_BITMAP_CREATE.
-    fn create_refusal(&self, endpoint: u32, contexts: u32) -> Option<Refusal>
+    fn bitmap_create_refusal(&self, endpoint: u32, contexts: u32) -> Option<Refusal>
         ensures { result ≡ first_refusal (bitmap_create self.now.state endpoint contexts).guards }
     {
         let runner = self.kept.chain.runner();
@@ -222,7 +224,7 @@ impl<M: PhysMem + Drop, S: Store> Manager<M, S> {
     }
 
     // Of FFA_NOTIFICATION_BITMAP_DESTROY.
-    fn destroy_refusal(&self, endpoint: u32) -> Option<Refusal>
+    fn bitmap_destroy_refusal(&self, endpoint: u32) -> Option<Refusal>
         ensures { result ≡ first_refusal (bitmap_destroy self.now.state endpoint).guards }
     {
         let runner = self.kept.chain.runner();
@@ -231,7 +233,7 @@ impl<M: PhysMem + Drop, S: Store> Manager<M, S> {
     }
 
     // Of FFA_NOTIFICATION_BIND.
-    fn bind_refusal(&self, bits: &NotificationBits) -> Option<Refusal>
+    fn notification_bind_refusal(&self, bits: &NotificationBits) -> Option<Refusal>
         ensures { result ≡ first_refusal (notification_bind self.now.state bits.now).guards }
     {
         let runner = self.kept.chain.runner();
@@ -240,7 +242,7 @@ impl<M: PhysMem + Drop, S: Store> Manager<M, S> {
     }
 
     // Of FFA_NOTIFICATION_UNBIND.
-    fn unbind_refusal(&self, bits: &NotificationBits) -> Option<Refusal>
+    fn notification_unbind_refusal(&self, bits: &NotificationBits) -> Option<Refusal>
         ensures { result ≡ first_refusal (notification_unbind self.now.state bits.now).guards }
     {
         let runner = self.kept.chain.runner();
@@ -249,7 +251,7 @@ impl<M: PhysMem + Drop, S: Store> Manager<M, S> {
     }
 
     // Of FFA_NOTIFICATION_SET.
-    fn set_refusal(&self, bits: &NotificationBits) -> Option<Refusal>
+    fn notification_set_refusal(&self, bits: &NotificationBits) -> Option<Refusal>
         ensures { result ≡ first_refusal (notification_set self.now.state bits.now).guards }
     {
         let runner = self.kept.chain.runner();
@@ -258,7 +260,12 @@ impl<M: PhysMem + Drop, S: Store> Manager<M, S> {
     }
 
     // Of FFA_NOTIFICATION_GET.
-    fn get_refusal(&self, receiver: EndpointId, context: u16, flags: u32) -> Option<Refusal>
+    fn notification_get_refusal(
+        &self,
+        receiver: EndpointId,
+        context: u16,
+        flags: u32,
+    ) -> Option<Refusal>
         ensures { result ≡ first_refusal (notification_get self.now.state receiver.0 context flags).guards }
     {
         let runner = self.kept.chain.runner();

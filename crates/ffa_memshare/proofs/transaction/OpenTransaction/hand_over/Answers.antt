@@ -15,8 +15,8 @@ use Rattle.ffa_memshare.proofs.Moments.{responded-ends, then-responded}
 use Rattle.ffa_memshare.proofs.Retrieves.{few-pages}
 use Rattle.ffa_memshare.proofs.transaction.OpenTransaction.hand_over.Goals as goal
 
-pub respond-requires-clause-total : goal.respond-requires-clause-total
-respond-requires-clause-total g c =
+pub deliver-requires-clause-total : goal.deliver-requires-clause-total
+deliver-requires-clause-total g c =
     let l = c.args.layout.now in
     let ranges = c.args.self.now.ranges in
     let (access, built) = c.requires.held.room.built in
@@ -36,9 +36,9 @@ returns-clause-answered g c =
           subst (λ (k : ℕ). IsMoved old granted (array_vec_len l.regions) l.blocks k (in_ranges l.base.0 ranges) (λ p. Some c.args.found.now.right) false) c.place-index.ensures
           c.change_pages.ensures.moved;
       answered =
-          c.respond.ensures.ram
+          c.deliver.ensures.ram
           ∙ ap (λ (r : ResponseRecord). with_rx_bytes granted (buffers_in c.args.buffers.now c.args.caller.0) (response_bytes c.args.version r)) c.response-response.ensures;
-      bytes = c.respond.ensures.size ∙ ap (λ (r : ResponseRecord). response_size c.args.version r.ranges) c.response-response.ensures;
+      bytes = c.deliver.ensures.size ∙ ap (λ (r : ResponseRecord). response_size c.args.version r.ranges) c.response-response.ensures;
     }
 
 pub returns-clause-steps : goal.returns-clause-steps
@@ -46,18 +46,18 @@ returns-clause-steps g c rx_apart =
     let l = c.args.layout.now in
     let memory = memory_of (g.M.PhysMem.ram c.args.ram.now) l c.args.pages.now in
     let granted = g.M.PhysMem.ram c.change_pages.new.ram in
-    let new = g.M.PhysMem.ram c.respond.new.ram in
+    let new = g.M.PhysMem.ram c.deliver.new.ram in
     let moved = c.change_pages.ensures.moved in
     let (access, built) = c.requires.held.room.built in
     let index = c.place-index.result in
-    then-responded memory granted new index (in_ranges l.base.0 c.args.self.now.ranges) (λ p. Some c.args.found.now.right) _ rx_apart access built moved.built moved.base c.respond.ensures.beside
-    (g.M.PhysMem.past c.args.ram.now) _ _ (c.change_pages.ensures.steps (λ p at zero. absurd (false≢true zero))) c.respond.ensures.steps
+    then-responded memory granted new index (in_ranges l.base.0 c.args.self.now.ranges) (λ p. Some c.args.found.now.right) _ rx_apart access built moved.built moved.base c.deliver.ensures.beside
+    (g.M.PhysMem.past c.args.ram.now) _ _ (c.change_pages.ensures.steps (λ p at zero. absurd (false≢true zero))) c.deliver.ensures.steps
 
 pub returns-clause-ended : goal.returns-clause-ended
 returns-clause-ended g c rx_apart =
     let l = c.args.layout.now in
     let moved = c.change_pages.ensures.moved in
     let (access, built) = c.requires.held.room.built in
-    responded-ends (memory_of (g.M.PhysMem.ram c.args.ram.now) l c.args.pages.now) (g.M.PhysMem.ram c.change_pages.new.ram) (g.M.PhysMem.ram c.respond.new.ram)
-    c.place-index.result (in_ranges l.base.0 c.args.self.now.ranges) (λ p. Some c.args.found.now.right) _ rx_apart access built moved.built moved.base c.respond.ensures.beside
+    responded-ends (memory_of (g.M.PhysMem.ram c.args.ram.now) l c.args.pages.now) (g.M.PhysMem.ram c.change_pages.new.ram) (g.M.PhysMem.ram c.deliver.new.ram)
+    c.place-index.result (in_ranges l.base.0 c.args.self.now.ranges) (λ p. Some c.args.found.now.right) _ rx_apart access built moved.built moved.base c.deliver.ensures.beside
     (λ p at. refl) _

@@ -4,19 +4,19 @@ use Rattle.ffa_spmc.proofs.Replied.{answered-beside, replied-still, answered-as}
 use Rattle.ffa_spmc.proofs.manager.Manager.reply.Goals as goal
 
 pub returns-in-RxRelease : goal.returns-in-RxRelease
-returns-in-RxRelease g c = answered-beside c.args.self.now _ _ _ _ _ c.release.result c.in-RxRelease.is refl c.release.ensures
+returns-in-RxRelease g c = answered-beside c.args.self.now _ _ _ _ _ c.rx_release.result c.in-RxRelease.is refl c.rx_release.ensures
 
 pub returns-in-RxtxMap : goal.returns-in-RxtxMap
-returns-in-RxtxMap g c = answered-beside c.args.self.now _ _ _ _ _ c.map.result c.in-RxtxMap.is refl c.map.ensures
+returns-in-RxtxMap g c = answered-beside c.args.self.now _ _ _ _ _ c.rxtx_map.result c.in-RxtxMap.is refl c.rxtx_map.ensures
 
 pub returns-in-RxtxUnmap : goal.returns-in-RxtxUnmap
-returns-in-RxtxUnmap g c = answered-beside c.args.self.now _ _ _ _ _ c.unmap.result c.in-RxtxUnmap.is refl c.unmap.ensures
+returns-in-RxtxUnmap g c = answered-beside c.args.self.now _ _ _ _ _ c.rxtx_unmap.result c.in-RxtxUnmap.is refl c.rxtx_unmap.ensures
 
 pub returns-in-PartitionInfoGet : goal.returns-in-PartitionInfoGet
-returns-in-PartitionInfoGet g c = answered-beside c.args.self.now _ _ _ _ _ c.partition_info.result c.in-PartitionInfoGet.is refl c.partition_info.ensures
+returns-in-PartitionInfoGet g c = answered-beside c.args.self.now _ _ _ _ _ c.partition_info_get.result c.in-PartitionInfoGet.is refl c.partition_info_get.ensures
 
 pub returns-in-MsgWait : goal.returns-in-MsgWait
-returns-in-MsgWait g c = answered-beside c.args.self.now _ _ _ _ _ c.wait.result c.in-MsgWait.is refl c.wait.ensures
+returns-in-MsgWait g c = answered-beside c.args.self.now _ _ _ _ _ c.msg_wait.result c.in-MsgWait.is refl c.msg_wait.ensures
 
 pub returns-in-Yield : goal.returns-in-Yield
 returns-in-Yield g c = answered-beside c.args.self.now _ _ _ _ _ c.yield_now.result c.in-Yield.is refl c.yield_now.ensures
@@ -25,49 +25,49 @@ pub returns-in-Run : goal.returns-in-Run
 returns-in-Run g c = answered-beside c.args.self.now _ _ _ _ _ c.run_partition.result c.in-Run.is refl c.run_partition.ensures
 
 pub returns-in-DirectRequest : goal.returns-in-DirectRequest
-returns-in-DirectRequest g c = answered-beside c.args.self.now _ _ _ _ _ c.request.result c.in-DirectRequest.is refl c.request.ensures
+returns-in-DirectRequest g c = answered-beside c.args.self.now _ _ _ _ _ c.direct_request.result c.in-DirectRequest.is refl c.direct_request.ensures
 
 pub returns-in-DirectResponse : goal.returns-in-DirectResponse
-returns-in-DirectResponse g c = answered-beside c.args.self.now _ _ _ _ _ c.respond.result c.in-DirectResponse.is refl c.respond.ensures
+returns-in-DirectResponse g c = answered-beside c.args.self.now _ _ _ _ _ c.direct_response.result c.in-DirectResponse.is refl c.direct_response.ensures
 
 pub returns-in-MsgSend2 : goal.returns-in-MsgSend2
-returns-in-MsgSend2 g c = answered-beside c.args.self.now _ _ _ _ _ c.send.result c.in-MsgSend2.is refl c.send.ensures
+returns-in-MsgSend2 g c = answered-beside c.args.self.now _ _ _ _ _ c.msg_send2.result c.in-MsgSend2.is refl c.msg_send2.ensures
 
 pub returns-in-BitmapCreate : goal.returns-in-BitmapCreate
-returns-in-BitmapCreate g c = answered-beside c.args.self.now _ _ _ _ _ c.create_bitmaps.result c.in-BitmapCreate.is refl c.create_bitmaps.ensures
+returns-in-BitmapCreate g c = answered-beside c.args.self.now _ _ _ _ _ c.bitmap_create.result c.in-BitmapCreate.is refl c.bitmap_create.ensures
 
 pub returns-in-BitmapDestroy : goal.returns-in-BitmapDestroy
-returns-in-BitmapDestroy g c = answered-beside c.args.self.now _ _ _ _ _ c.destroy_bitmaps.result c.in-BitmapDestroy.is refl c.destroy_bitmaps.ensures
+returns-in-BitmapDestroy g c = answered-beside c.args.self.now _ _ _ _ _ c.bitmap_destroy.result c.in-BitmapDestroy.is refl c.bitmap_destroy.ensures
 
 pub returns-in-NotificationBind : goal.returns-in-NotificationBind
-returns-in-NotificationBind g c = answered-beside c.args.self.now _ _ _ _ _ c.bind.result c.in-NotificationBind.is refl c.bind.ensures
+returns-in-NotificationBind g c = answered-beside c.args.self.now _ _ _ _ _ c.notification_bind.result c.in-NotificationBind.is refl c.notification_bind.ensures
 
 pub returns-in-NotificationUnbind : goal.returns-in-NotificationUnbind
-returns-in-NotificationUnbind g c = answered-beside c.args.self.now _ _ _ _ _ c.unbind.result c.in-NotificationUnbind.is refl c.unbind.ensures
+returns-in-NotificationUnbind g c = answered-beside c.args.self.now _ _ _ _ _ c.notification_unbind.result c.in-NotificationUnbind.is refl c.notification_unbind.ensures
 
 pub returns-in-NotificationSet : goal.returns-in-NotificationSet
-returns-in-NotificationSet g c = answered-beside c.args.self.now _ _ _ _ _ c.set.result c.in-NotificationSet.is refl c.set.ensures
+returns-in-NotificationSet g c = answered-beside c.args.self.now _ _ _ _ _ c.notification_set.result c.in-NotificationSet.is refl c.notification_set.ensures
 
 pub returns-in-NotificationGet : goal.returns-in-NotificationGet
-returns-in-NotificationGet g c = answered-beside c.args.self.now _ _ _ _ _ c.get.result c.in-NotificationGet.is refl c.get.ensures
+returns-in-NotificationGet g c = answered-beside c.args.self.now _ _ _ _ _ c.notification_get.result c.in-NotificationGet.is refl c.notification_get.ensures
 
 pub returns-in-MemDonate : goal.returns-in-MemDonate
-returns-in-MemDonate g c = answered-as c.args.self.now _ _ _ _ _ _ _ c.offer.result c.in-MemDonate.is c.offer.ensures
+returns-in-MemDonate g c = answered-as c.args.self.now _ _ _ _ _ _ _ c.mem_send.result c.in-MemDonate.is c.mem_send.ensures
 
 pub returns-in-MemLend : goal.returns-in-MemLend
-returns-in-MemLend g c = answered-as c.args.self.now _ _ _ _ _ _ _ c.offer-in-MemLend.result c.in-MemLend.is c.offer-in-MemLend.ensures
+returns-in-MemLend g c = answered-as c.args.self.now _ _ _ _ _ _ _ c.mem_send-in-MemLend.result c.in-MemLend.is c.mem_send-in-MemLend.ensures
 
 pub returns-in-MemShare : goal.returns-in-MemShare
-returns-in-MemShare g c = answered-as c.args.self.now _ _ _ _ _ _ _ c.offer-in-MemShare.result c.in-MemShare.is c.offer-in-MemShare.ensures
+returns-in-MemShare g c = answered-as c.args.self.now _ _ _ _ _ _ _ c.mem_send-in-MemShare.result c.in-MemShare.is c.mem_send-in-MemShare.ensures
 
 pub returns-in-MemRetrieve : goal.returns-in-MemRetrieve
-returns-in-MemRetrieve g c = answered-as c.args.self.now _ _ _ _ _ _ _ c.retrieve.result c.in-MemRetrieve.is c.retrieve.ensures
+returns-in-MemRetrieve g c = answered-as c.args.self.now _ _ _ _ _ _ _ c.mem_retrieve.result c.in-MemRetrieve.is c.mem_retrieve.ensures
 
 pub returns-in-MemRelinquish : goal.returns-in-MemRelinquish
-returns-in-MemRelinquish g c = answered-as c.args.self.now _ _ _ _ _ _ _ c.relinquish.result c.in-MemRelinquish.is c.relinquish.ensures
+returns-in-MemRelinquish g c = answered-as c.args.self.now _ _ _ _ _ _ _ c.mem_relinquish.result c.in-MemRelinquish.is c.mem_relinquish.ensures
 
 pub returns-in-MemReclaim : goal.returns-in-MemReclaim
-returns-in-MemReclaim g c = answered-as c.args.self.now _ _ _ _ _ _ _ c.reclaim.result c.in-MemReclaim.is c.reclaim.ensures
+returns-in-MemReclaim g c = answered-as c.args.self.now _ _ _ _ _ _ _ c.mem_reclaim.result c.in-MemReclaim.is c.mem_reclaim.ensures
 
 pub returns-in-Version : goal.returns-in-Version
 returns-in-Version g c = answered-beside c.args.self.now _ _ _ _ _ c.version.result c.in-Version.is refl (replied-still c.args.self.now _ c.version.result (search rules))

@@ -20,14 +20,14 @@ use Rattle.ffa_spmc.proofs.manager.Manager.run_partition.Goals as goal
 pub invariant_of-self : goal.invariant_of-self
 invariant_of-self g c =
     let x = parts_of g.M.PhysMem.ram g.S.Records.Home.value c.self.inside in
-    machine-called x x.ram x.kept.buffers c.run.new.self c.self.invariant c.self.invariant.tables (Run c.args.target c.args.context)
-    (ap (λ (st : Stepped). st.state) (scheduled x (run_partition (state_of x) c.args.target.0 c.args.context) (given_cycles x.kept.chain c.args.target.0 (status_in x.kept.chain c.args.target.0)) c.run.new.self c.run.result refl (c.run.ensures.refusal ∙ ap (λ (n : ℕ). first_failure (run_guards n x.kept.chain c.args.target.0 c.args.context)) (counted x c.self.invariant ∙ sym (parties_are x))) c.run.ensures.kept c.run.ensures.changed c.run.ensures.reply))
+    machine-called x x.ram x.kept.buffers c.run_partition.new.self c.self.invariant c.self.invariant.tables (Run c.args.target c.args.context)
+    (ap (λ (st : Stepped). st.state) (scheduled x (run_partition (state_of x) c.args.target.0 c.args.context) (given_cycles x.kept.chain c.args.target.0 (status_in x.kept.chain c.args.target.0)) c.run_partition.new.self c.run_partition.result refl (c.run_partition.ensures.refusal ∙ ap (λ (n : ℕ). first_failure (run_guards n x.kept.chain c.args.target.0 c.args.context)) (counted x c.self.invariant ∙ sym (parties_are x))) c.run_partition.ensures.kept c.run_partition.ensures.changed c.run_partition.ensures.reply))
 
 pub returns : goal.returns
 returns g c =
     let x = parts_of g.M.PhysMem.ram g.S.Records.Home.value c.self.inside in
-    replied-beside x (record x { kept = record x.kept { chain = c.run.new.self } }) c.args.self.now c.self.view_is (λ (s : State). run_partition s c.args.target.0 c.args.context) c.reply_or_error.result
-    (ap (λ (reply : Reply). replied (with_chain x c.run.new.self) reply) c.reply_or_error.ensures
-    ∙ scheduled x (run_partition (state_of x) c.args.target.0 c.args.context) (given_cycles x.kept.chain c.args.target.0 (status_in x.kept.chain c.args.target.0)) c.run.new.self c.run.result refl (c.run.ensures.refusal ∙ ap (λ (n : ℕ). first_failure (run_guards n x.kept.chain c.args.target.0 c.args.context)) (counted x c.self.invariant ∙ sym (parties_are x))) c.run.ensures.kept c.run.ensures.changed c.run.ensures.reply)
-    (refused-replied c.run.result c.reply_or_error.result _ c.reply_or_error.ensures c.run.ensures.reply (run-plain c.args.target.0 (status_in x.kept.chain c.args.target.0)) (refused-so c.run.result (ap (λ (chain : Schedule). record x { kept = record x.kept { chain = chain } })) c.run.ensures.kept))
+    replied-beside x (record x { kept = record x.kept { chain = c.run_partition.new.self } }) c.args.self.now c.self.view_is (λ (s : State). run_partition s c.args.target.0 c.args.context) c.reply_or_error.result
+    (ap (λ (reply : Reply). replied (with_chain x c.run_partition.new.self) reply) c.reply_or_error.ensures
+    ∙ scheduled x (run_partition (state_of x) c.args.target.0 c.args.context) (given_cycles x.kept.chain c.args.target.0 (status_in x.kept.chain c.args.target.0)) c.run_partition.new.self c.run_partition.result refl (c.run_partition.ensures.refusal ∙ ap (λ (n : ℕ). first_failure (run_guards n x.kept.chain c.args.target.0 c.args.context)) (counted x c.self.invariant ∙ sym (parties_are x))) c.run_partition.ensures.kept c.run_partition.ensures.changed c.run_partition.ensures.reply)
+    (refused-replied c.run_partition.result c.reply_or_error.result _ c.reply_or_error.ensures c.run_partition.ensures.reply (run-plain c.args.target.0 (status_in x.kept.chain c.args.target.0)) (refused-so c.run_partition.result (ap (λ (chain : Schedule). record x { kept = record x.kept { chain = chain } })) c.run_partition.ensures.kept))
     refl

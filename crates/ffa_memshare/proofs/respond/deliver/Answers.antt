@@ -1,0 +1,46 @@
+-- SPDX-License-Identifier: MIT OR Apache-2.0
+use Rattle.std.proofs.Common.{◌∙◌, ◌++◌, ◌≤◌, ℕ, List, Option, drop, length, sym, ap, subst, arith}
+use Rattle.std.specs.Prelude.{IsSomeAnd}
+use Rattle.ffa_model.specs.declared.endpoint.Version.{Version}
+use Rattle.ffa_model.specs.declared.endpoint.Version.TheVariants.{Compact, V1_1}
+use Rattle.ffa_model.specs.DescriptorPlaces.{header_size}
+use Rattle.ffa_model.specs.Ram.{with_page}
+use Rattle.ffa_physmem.proofs.Moments.{Only-map}
+use Rattle.ffa_rxtx.proofs.Moments.{rx-loan, rx-written}
+use Rattle.ffa_model.specs.ResponseBytes.{response_bytes, response_record}
+use Rattle.ffa_model.specs.State.{Buffers}
+use Rattle.ffa_rxtx.specs.Parts.{IsInRam, with_rx_bytes}
+use Rattle.ffa_rxtx.specs.Stored.{buffers_of}
+use Rattle.ffa_rxtx.proofs.Runs.{short-run}
+use Rattle.ffa_model.proofs.ResponseSize.{length-response_bytes}
+use Rattle.ffa_memshare.proofs.respond.deliver.Goals as goal
+
+header-few : (version : Version) → header_size version ≤ 48
+header-few Compact = omega arith
+header-few V1_1 = omega arith
+
+pub returns-clause-ram : goal.returns-clause-ram
+returns-clause-ram g c =
+    let rx : ℕ = c.args.own.rx.0 in
+    let inside : IsInRam (length (g.M.PhysMem.ram c.args.ram.now).pages) (buffers_of c.args.own) =
+    subst (λ (o : Option Buffers). IsSomeAnd o (λ b. IsInRam (length (g.M.PhysMem.ram c.args.ram.now).pages) b)) (sym c.requires.own) c.requires.rx in
+    let bytes : List ℕ = response_bytes c.args.version (response_record c.args.response.now) in
+    let old : List ℕ = c.page_mut.result.now in
+    g.met.M.PhysMem.one_page c.args.ram.now rx c.write_response-size.new.out
+    ∙ ap (with_page (g.M.PhysMem.ram c.args.ram.now) rx)
+    (c.write_response-size.ensures.bytes
+    ∙ ap (λ n. bytes ++ drop n c.page_mut.result.now) (sym (length-response_bytes c.args.version (response_record c.args.response.now)))
+    ∙ ap (λ (page : List ℕ). bytes ++ drop (length bytes) page) c.page_mut.ensures.value)
+    ∙ sym (short-run c.args.own.pages (g.M.PhysMem.ram c.args.ram.now) rx bytes inside.some
+    (omega (arith, length-response_bytes c.args.version (response_record c.args.response.now), header-few c.args.version, c.as_slice.ensures.fits, ap length c.as_slice.ensures.value)))
+    ∙ ap (λ (o : Option Buffers). with_rx_bytes (g.M.PhysMem.ram c.args.ram.now) o bytes) c.requires.own
+
+pub returns-clause-beside : goal.returns-clause-beside
+returns-clause-beside g c =
+    rx-written (g.M.PhysMem.ram c.args.ram.now) _ (buffers_of c.args.own) c.requires.own c.requires.rx _ c.write_response-size.new.out
+    (g.met.M.PhysMem.one_page c.args.ram.now c.args.own.rx.0 c.write_response-size.new.out)
+
+pub returns-clause-steps : goal.returns-clause-steps
+returns-clause-steps g c =
+    Only-map (g.met.M.PhysMem.in_loan c.args.ram.now c.args.own.rx.0 c.write_response-size.new.out)
+    (λ _ s loan. rx-loan (g.M.PhysMem.ram c.args.ram.now) _ (buffers_of c.args.own) c.requires.own c.requires.rx s loan)

@@ -1,0 +1,13 @@
+-- SPDX-License-Identifier: MIT OR Apache-2.0
+use Rattle.std.proofs.Common.{◌∙◌}
+use Rattle.ffa_model.specs.State.{State}
+use Rattle.ffa_spmc.proofs.Inside.{parts_of}
+use Rattle.ffa_model.specs.RunStates.{direct_response}
+use Rattle.ffa_spmc.proofs.Reasons.{seen-refusal}
+use Rattle.ffa_spmc.proofs.manager.Manager.direct_response_refusal.Goals as goal
+
+pub returns : goal.returns
+returns g c =
+    let x = parts_of g.M.PhysMem.ram g.S.Records.Home.value c.self.inside in
+    seen-refusal x c.args.self.now c.self.view_is (λ (s : State). direct_response s c.args.message.now) c.err.result
+    (c.err.ensures.value ∙ c.check_direct_resp.ensures.refusal)
