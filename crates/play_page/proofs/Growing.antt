@@ -2,8 +2,8 @@
 -- Writers that grow by texts in which nothing is `<`.
 use denote.Ref.{Bor}
 use Rattle.std.proofs.Common.{◌≡◌, ℕ, zero, suc, ◌+◌, ◌-◌, ◌/◌, ◌%◌, ◌^◌, ◌<◌, Bool, true, false, List, [], ◌∷◌, ◌++◌, length, replicate, Option, Some, None, Result, inl, inr, sym, ap, ◌∙◌, subst, append_assoc, append-nil, true≢false, arith, refl}
-use Rattle.std.specs.Prelude.{◌==◌, ◌||◌, not, IfSome, OnOk, decimal, slice_index, unwrap_or}
-use Rattle.std.specs.Option.{option_map}
+use Rattle.std.specs.Prelude.{◌==◌, ◌||◌, not, IfSome, OnOk, decimal, find, slice_index, unwrap_or}
+use Rattle.std.specs.Option.{option_map, option_or}
 use Rattle.std.specs.Fmt.{digits, digits_onto, digit_glyph, format_spec, number_padding, padded_integral, option_append}
 use Rattle.std.specs.Io.KnownBytes.{Appends}
 use Rattle.std.specs.List.{flat_map, list_all}
@@ -11,8 +11,9 @@ use Rattle.std.proofs.KnownBytes.{Appends-nil, Appends-trans}
 use Rattle.std.proofs.lemmas.Bool.{cases_Bool, cases_lt, and_from, and_parts, lt-ltb, le-ltb, ne_eqb}
 use Rattle.std.proofs.lemmas.List.Folds.{list_all-append}
 use Rattle.std.proofs.lemmas.Result.{on_ok_weaker}
-use Rattle.ffa_abi.specs.Names.{Row, call_name_of, call_names, error_name_of, error_names, name_in}
+use Rattle.ffa_abi.specs.Names.{Row, answer_names, call_name_of, error_name_of, error_names, name_in}
 use Rattle.ffa_model.specs.Registers.{low}
+use Rattle.ffa_model.specs.Rows.{Row as CallRow, is_row_of, row_of, rows}
 use Rattle.ffa_model.specs.declared.function.TheConstants.{FFA_ERROR}
 use Rattle.play_page.specs.Escapes.{escaped, has_meaning, is_bare}
 use Rattle.play_page.specs.Written.{Grows, WritesData, WritesPage, before_data, behind_data, endpoints_key, is_inert}
@@ -105,10 +106,25 @@ name_inert (row ∷ rows) number other h o =
       | inr further ↦ rw further (name_inert rows number other parts.1 o)
     ]
 
+-- the name in a row of calls, or a later one, or another
+row_inert :
+    (is_it : CallRow → Bool) (list : List CallRow) (later : Option (List ℕ)) (other : List ℕ)
+    → list_all (λ (row : CallRow). is_inert row.name) list ≡ true → is_inert (unwrap_or later other) ≡ true
+    → is_inert (unwrap_or (option_or (option_map (λ (row : CallRow). row.name) (find is_it list)) later) other) ≡ true
+row_inert is_it [] later other h o = o
+row_inert is_it (row ∷ list) later other h o =
+    let parts = and_parts _ _ h in
+    elim (cases_Bool (is_it row)) [
+      | inl found ↦ rw found parts.0
+      | inr further ↦ rw further (row_inert is_it list later other parts.1 o)
+    ]
+
 -- the name of a call, or another
 pub call_inert : (x other : List ℕ) → is_inert other ≡ true → is_inert (unwrap_or (call_name_of x) other) ≡ true
-unfolding call_name_of
-call_inert x other o = name_inert call_names (low (slice_index x 0)) other refl o
+unfolding call_name_of row_of
+call_inert x other o =
+    let number = low (slice_index x 0) in
+    row_inert (is_row_of number) rows (name_in answer_names number) other refl (name_inert answer_names number other refl o)
 
 pub or_now : (name : Option (Bor (List ℕ))) (other : Bor (List ℕ)) → (unwrap_or name other).now ≡ unwrap_or (option_map (λ n. n.now) name) other.now
 or_now None other = refl
