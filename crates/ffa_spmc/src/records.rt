@@ -3,8 +3,7 @@
 ghost use Rattle.ffa_spmc.specs.FirstRecords.{AreFirstRecords};
 
 use arrayvec::ArrayVec;
-use bitflags::Flags;
-use ffa_model::{Address, Data, Endpoint, Manifest, Properties, Region, Rights, Version};
+use ffa_model::{Address, Endpoint, MOST_RAM, Manifest, Region};
 use ffa_notify::Bitmaps;
 use ffa_stage2::Layout;
 
@@ -31,27 +30,25 @@ impl Records {
         }
     }
 
-    /// Those of no machine yet: the boot of one puts its own there.
+    /// Those of the smallest machine, which stand in room for any until a boot writes its own.
     pub(crate) fn none() -> Records {
-        Records::of(&least())
+        Records::of(&smallest())
     }
 }
 
-// The manifest with the fewest parts: a block of RAM, and a normal world with one page.
-fn least() -> Manifest {
-    let level = Data::Ro;
+// The manifest with the fewest parts: one block of RAM at its lowest address, and a normal world with one page.
+fn smallest() -> Manifest {
+    let base = MOST_RAM as u32;
     let mut regions = ArrayVec::new();
     regions.push(Region {
-        base: 0x10_0000,
+        base: base + 0x10_0000,
         pages: 1,
-        rights: Rights { level, exec: false },
+        ..Region::default()
     });
     let mut endpoints = ArrayVec::new();
     endpoints.push(Endpoint {
-        version: Version::V1_1,
-        uuid: [0; 16],
-        properties: Properties::from_bits_retain(0),
         regions,
+        ..Endpoint::default()
     });
-    Manifest::of(Address(0), 1, endpoints)
+    Manifest::of(Address(base), 1, endpoints)
 }
