@@ -1,9 +1,7 @@
 // SPDX-License-Identifier: MIT OR Apache-2.0
 //! Worked command lines, and what they ask for.
 use crate::checks::same_at;
-use play_arguments::{
-    DescriptorWords, MachineOptions, PictureOptions, Request, TextOptions, request,
-};
+use play_arguments::{DescriptorWords, MachineOptions, Request, TextOptions, request};
 use std::alloc::{AllocError, Global};
 use std::process::Abort;
 use std::test::Fail;
@@ -55,90 +53,84 @@ fn push_record(words: &mut String, record: &DescriptorWords<'_>) -> Result<(), A
 
 // A request in words: its command, its paths and then its flags.
 fn push_request(words: &mut String, request: &Request<'_>) -> Result<(), AllocError> {
+    push_command(words, request)?;
+    push_options(words, request)
+}
+
+// The command, with its paths and numbers.
+fn push_command(words: &mut String, request: &Request<'_>) -> Result<(), AllocError> {
     match *request {
         Request::Run {
             manifest,
             trace,
-            machine,
-            text,
-            strict,
-            interactive,
             ..
-        } => {
-            write!(words, "run {manifest} {trace}")?;
-            push_machine(words, machine)?;
-            push_text(words, text)?;
-            push_flags(words, &[("strict", strict), ("interactive", interactive)])
-        }
-        Request::Demo {
-            trace,
-            machine,
-            text,
-            strict,
-            interactive,
-            ..
-        } => {
-            write!(words, "demo {trace}")?;
-            push_machine(words, machine)?;
-            push_text(words, text)?;
-            push_flags(words, &[("strict", strict), ("interactive", interactive)])
-        }
+        } => write!(words, "run {manifest} {trace}"),
+        Request::Demo { trace, .. } => write!(words, "demo {trace}"),
         Request::Record {
             manifest,
             trace,
-            machine,
             ..
-        } => {
-            write!(words, "record {manifest} {trace}")?;
-            push_machine(words, machine)
-        }
+        } => write!(words, "record {manifest} {trace}"),
         Request::Compare {
             manifest,
-            machine,
-            text,
+            trace,
+            expected,
             ..
-        } => {
-            let trace = request.trace().unwrap_or_default();
-            let expected = request.expected().unwrap_or_default();
-            write!(words, "compare {manifest} {trace} {expected}")?;
-            push_machine(words, machine)?;
-            push_text(words, text)
-        }
+        } => write!(words, "compare {manifest} {trace} {expected}"),
         Request::Check { manifest, .. } => write!(words, "check {manifest}"),
-        Request::Layout {
-            manifest,
-            regions,
-            ..
-        } => {
-            write!(words, "layout {manifest}")?;
-            push_flags(words, &[("regions", regions)])
-        }
+        Request::Layout { manifest, .. } => write!(words, "layout {manifest}"),
         Request::Descriptor { words: record } => push_record(words, &record),
         Request::Generate {
             manifest,
             seed,
             lines,
-            count,
             ..
-        } => {
-            write!(words, "generate {manifest} {seed} {lines}")?;
-            push_flags(words, &[("count", count)])
-        }
+        } => write!(words, "generate {manifest} {seed} {lines}"),
         Request::Picture {
             manifest,
             trace,
             drawing,
             ..
         } => {
-            let PictureOptions {
-                every,
-                width,
-                refused,
-                page,
-            } = drawing;
-            write!(words, "picture {manifest} {trace} {every} {width}")?;
+            let (every, width) = (drawing.every, drawing.width);
+            write!(words, "picture {manifest} {trace} {every} {width}")
+        }
+    }
+}
+
+// The flags that a command of the machine, of the text or of its own has.
+fn push_options(words: &mut String, request: &Request<'_>) -> Result<(), AllocError> {
+    match *request {
+        Request::Run {
+            machine,
+            text,
+            strict,
+            interactive,
+            ..
+        }
+        | Request::Demo {
+            machine,
+            text,
+            strict,
+            interactive,
+            ..
+        } => {
+            push_machine(words, machine)?;
+            push_text(words, text)?;
+            push_flags(words, &[("strict", strict), ("interactive", interactive)])
+        }
+        Request::Record { machine, .. } => push_machine(words, machine),
+        Request::Compare { machine, text, .. } => {
+            push_machine(words, machine)?;
+            push_text(words, text)
+        }
+        Request::Layout { regions, .. } => push_flags(words, &[("regions", regions)]),
+        Request::Generate { count, .. } => push_flags(words, &[("count", count)]),
+        Request::Picture { drawing, .. } => {
+            let (refused, page) = (drawing.refused, drawing.page);
             push_flags(words, &[("refused", refused), ("page", page)])
         }
+        Request::Check { .. } | Request::Descriptor { .. } => Ok(()),
     }
 }
 
