@@ -6,14 +6,10 @@ use crate::checks::{alike, same};
 use ffa_messages::{direct_req, direct_resp};
 use ffa_model::{DirectMessage, EndpointId, ErrorCode, Status, Work};
 use ffa_schedule::Chain;
-use fixtures::row_machine;
+use fixtures::{FIRST, SECOND, row_machine};
 use std::test::Fail;
 
 const NORMAL: EndpointId = EndpointId(0);
-
-const FIRST: EndpointId = EndpointId(0x8001);
-
-const SECOND: EndpointId = EndpointId(0x8002);
 
 const PAYLOAD: [u64; 5] = [1, 2, 3, 4, 0xFFFF_FFFF_FFFF_FFFF];
 

@@ -37,5 +37,3 @@ mod tlb;
 mod told;
 #[cfg(test)]
 mod walker;
-#[cfg(test)]
-mod words;

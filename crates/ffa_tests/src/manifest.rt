@@ -5,28 +5,9 @@ use crate::checks::same;
 use arrayvec::ArrayVec;
 use ffa_manifest::{ManifestError, of_parts, read};
 use ffa_model::{Endpoint, Manifest, Properties, Region, Rights, Version};
-use fixtures::row_machine;
+use fixtures::{ROW_TEXT, row_machine};
 use std::process::Abort;
 use std::test::Fail;
-
-// The text of `row_machine`.
-const ROW: &str = "ram_base = 0x40000000
-ram_blocks = 1
-[[endpoint]]
-version = \"1.1\"
-properties = 6
-regions = [{ base = 0x40010000, pages = 16, rights = \"rw\" }]
-[[endpoint]]
-version = \"1.1\"
-uuid = \"00112233-4455-6677-8899-aabbccddeeff\"
-properties = 15
-regions = [{ base = 0x40020000, pages = 16, rights = \"rwx\" }]
-[[endpoint]]
-version = \"1.1\"
-uuid = \"10112233-4455-6677-8899-aabbccddeeff\"
-properties = 15
-regions = [{ base = 0x40030000, pages = 16, rights = \"rw\" }]
-";
 
 fn assert_same_endpoint(rt: &impl Abort, read: &Endpoint, wanted: &Endpoint) {
     same(rt, read.uuid, wanted.uuid);
@@ -46,7 +27,7 @@ fn assert_row_machine(rt: &impl Abort, read: &Manifest) {
 
 #[test]
 fn the_row_machine(rt: HostRuntime) -> Result<(), Fail> {
-    assert_row_machine(&rt, &read(rt.alloc(), ROW)?);
+    assert_row_machine(&rt, &read(rt.alloc(), ROW_TEXT)?);
     Ok(())
 }
 
@@ -54,7 +35,7 @@ fn the_row_machine(rt: HostRuntime) -> Result<(), Fail> {
 // tests/refused-memory refuses the built program each of them.
 #[test]
 fn whole_or_no_memory(rt: HostRuntime) {
-    match read(rt.alloc(), ROW) {
+    match read(rt.alloc(), ROW_TEXT) {
         Ok(manifest) => assert_row_machine(&rt, &manifest),
         Err(error) => same(&rt, error, ManifestError::NoMemory),
     }
@@ -108,7 +89,7 @@ fn causes_by_name(rt: HostRuntime) -> Result<(), Fail> {
 // The version is the endpoint's own, and changes nothing else.
 #[test]
 fn a_compact_endpoint(rt: HostRuntime) -> Result<(), Fail> {
-    let text = ROW.replacen(rt.alloc(), "1.1", "compact", 1)?;
+    let text = ROW_TEXT.replacen(rt.alloc(), "1.1", "compact", 1)?;
     let manifest = read(rt.alloc(), text.as_str())?;
     assert_row_machine(&rt, &manifest);
     for (place, endpoint) in manifest.endpoints.iter().enumerate() {

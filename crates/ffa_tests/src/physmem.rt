@@ -1,10 +1,10 @@
 // SPDX-License-Identifier: MIT OR Apache-2.0
 //! RAM through its trait's bound, and frames over a small heap.
 use crate::checks::{holds, same};
-use crate::words::{clear, copy, set_word, word};
 use ffa_model::{Address, PageNo};
 use ffa_physmem::frames::zero_frames;
 use ffa_physmem::{FlatRam, FrameRam, NoMemory, PhysMem};
+use fixtures::{clear, copy, set_word, word};
 use linked_list_allocator::LocalHeap;
 use std::alloc::Global;
 use std::process::Abort;

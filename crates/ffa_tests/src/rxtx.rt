@@ -1,18 +1,13 @@
 // SPDX-License-Identifier: MIT OR Apache-2.0
 //! Buffers on the pages of the row machine.
-use crate::words::word;
-use ffa_model::{Address, Data, EndpointId, ErrorCode, PageNo, Rights};
+use ffa_model::{Address, Data, ErrorCode, PageNo, Rights};
 use ffa_pages::PageTable;
 use ffa_physmem::{FlatRam, PhysMem};
 use ffa_rxtx::{Buffers, Mapped};
-use fixtures::row_machine;
+use fixtures::{FIRST, SECOND, row_machine, word};
 use std::test::Fail;
 
 const BASE: Address = Address(0x4000_0000);
-
-const FIRST: EndpointId = EndpointId(0x8001);
-
-const SECOND: EndpointId = EndpointId(0x8002);
 
 #[test]
 fn map_and_unmap(rt: HostRuntime) -> Result<(), Fail> {
@@ -43,27 +38,17 @@ fn map_and_unmap(rt: HostRuntime) -> Result<(), Fail> {
 #[test]
 fn refused_mappings(rt: HostRuntime) -> Result<(), Fail> {
     let mut table = PageTable::of(&row_machine());
-    let mut buffers = Buffers::none(3);
-    assert_eq!(rt;
-        buffers.map(&table, BASE, SECOND, 0x4003_E000, 0x4003_E000, 1),
-        Err(ErrorCode::InvalidParameters)
-    );
-    assert_eq!(rt;
-        buffers.map(&table, BASE, SECOND, 0x4003_E000, 0x4003_F000, 2),
-        Err(ErrorCode::InvalidParameters)
-    );
-    assert_eq!(rt;
-        buffers.map(&table, BASE, SECOND, 0x1_4001_E000, 0x4003_F000, 1),
-        Err(ErrorCode::InvalidParameters)
-    );
-    assert_eq!(rt;
-        buffers.map(&table, BASE, SECOND, 0x4003_E000, 0x4002_F000, 1),
-        Err(ErrorCode::Denied)
-    );
-    assert_eq!(rt;
-        buffers.map(&table, BASE, SECOND, 0x4000_0000, 0x4003_F000, 1),
-        Err(ErrorCode::Denied)
-    );
+    for (tx, rx, pages, error) in [
+        (0x4003_E000, 0x4003_E000, 1, ErrorCode::InvalidParameters),
+        (0x4003_E000, 0x4003_F000, 2, ErrorCode::InvalidParameters),
+        (0x1_4001_E000, 0x4003_F000, 1, ErrorCode::InvalidParameters),
+        (0x4003_E000, 0x4002_F000, 1, ErrorCode::Denied),
+        (0x4000_0000, 0x4003_F000, 1, ErrorCode::Denied),
+    ] {
+        let mut buffers = Buffers::none(3);
+        let mapped = buffers.map(&table, BASE, SECOND, tx, rx, pages);
+        assert_eq!(rt; mapped, Err(error));
+    }
     assert_eq!(rt; table.pages(), 512);
     let base = Rights {
         level: Data::Rw,
@@ -71,6 +56,7 @@ fn refused_mappings(rt: HostRuntime) -> Result<(), Fail> {
     };
     table.give(PageNo(0x3F), SECOND, base);
     table.mark(PageNo(0x3F), Some(0));
+    let mut buffers = Buffers::none(3);
     assert_eq!(rt;
         buffers.map(&table, BASE, SECOND, 0x4003_E000, 0x4003_F000, 1),
         Err(ErrorCode::Denied)

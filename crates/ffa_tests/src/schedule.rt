@@ -3,13 +3,10 @@
 use crate::checks::{alike, same};
 use ffa_model::{EndpointId, ErrorCode, Reply, Status, Work};
 use ffa_schedule::Chain;
+use fixtures::{FIRST, SECOND};
 use std::test::Fail;
 
 const NORMAL: EndpointId = EndpointId(0);
-
-const FIRST: EndpointId = EndpointId(0x8001);
-
-const SECOND: EndpointId = EndpointId(0x8002);
 
 // What the endpoint that runs next sees of a partition.
 fn scheduled(function: u32, partition: EndpointId) -> Reply {

@@ -6,13 +6,12 @@ ghost use Rattle.ffa_model.specs.declared.rights.Rights.{Rights};
 ghost use Rattle.ffa_stage2.specs.Layout.{IsBuiltFor};
 
 use crate::checks::{holds, same, same_at};
-use crate::words::word;
 use arrayvec::ArrayVec;
 use byteorder::{ByteOrder, LittleEndian};
 use ffa_model::{Address, Data, PageNo, Region, Rights};
 use ffa_physmem::{FlatRam, NoMemory, PhysMem};
 use ffa_stage2::{Layout, Regions, build, is_uniform, leaf, set_page};
-use fixtures::row_machine;
+use fixtures::{row_machine, word};
 use play_demo::built_in;
 use std::alloc::Global;
 use std::process::Abort;

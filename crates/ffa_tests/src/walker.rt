@@ -1,10 +1,10 @@
 // SPDX-License-Identifier: MIT OR Apache-2.0
 //! The walk over tables that a test wrote.
 use crate::checks::{same, same_at};
-use crate::words::set_word;
 use ffa_model::{Address, Size};
 use ffa_physmem::{FlatRam, FrameRam, PhysMem};
 use ffa_walker::{fetch, is_in_ram, load, store, translate};
+use fixtures::set_word;
 use std::alloc::{AllocError, Global};
 use std::process::Abort;
 use std::test::Fail;

@@ -1,6 +1,7 @@
 // SPDX-License-Identifier: MIT OR Apache-2.0
 //! The commands on worked manifests and traces.
 
+use fixtures::ROW_TEXT;
 use play_arguments::{MachineOptions, Request, TextOptions};
 use play_commands::{Files, perform, show};
 use play_machines::Booted;
@@ -14,25 +15,6 @@ mod blocks;
 mod refused;
 // Comparisons and sessions with what can't be read or held.
 mod sides;
-
-// A machine with two partitions.
-const ROW: &str = "ram_base = 0x40000000
-ram_blocks = 1
-[[endpoint]]
-version = \"1.1\"
-properties = 6
-regions = [{ base = 0x40010000, pages = 16, rights = \"rw\" }]
-[[endpoint]]
-version = \"1.1\"
-uuid = \"00112233-4455-6677-8899-aabbccddeeff\"
-properties = 15
-regions = [{ base = 0x40020000, pages = 16, rights = \"rwx\" }]
-[[endpoint]]
-version = \"1.1\"
-uuid = \"10112233-4455-6677-8899-aabbccddeeff\"
-properties = 15
-regions = [{ base = 0x40030000, pages = 16, rights = \"rw\" }]
-";
 
 const MACHINE: MachineOptions = MachineOptions {
     frames: false,
@@ -227,7 +209,7 @@ fn tells_what_cannot_be_written(rt: HostRuntime) {
                 &rt,
                 rt.alloc(),
                 &request,
-                ROW.as_bytes(),
+                ROW_TEXT.as_bytes(),
                 trace,
                 out,
                 (3, CANNOT_WRITE),
@@ -256,7 +238,7 @@ fn tells_that_a_write_failed(rt: HostRuntime) {
                 &rt,
                 rt.alloc(),
                 &request,
-                ROW.as_bytes(),
+                ROW_TEXT.as_bytes(),
                 trace,
                 out,
                 wanted,
@@ -275,7 +257,7 @@ fn tells_that_the_flush_failed(rt: HostRuntime) {
             &rt,
             rt.alloc(),
             &RUN,
-            ROW.as_bytes(),
+            ROW_TEXT.as_bytes(),
             trace,
             out,
             (3, CANNOT_WRITE),
@@ -291,7 +273,7 @@ fn tells_an_earlier_fault_than_the_flush(rt: HostRuntime) {
         &rt,
         rt.alloc(),
         &RUN,
-        ROW.as_bytes(),
+        ROW_TEXT.as_bytes(),
         None,
         Stuck::new(1000),
         unread,
@@ -342,7 +324,7 @@ fn whole_or_no_memory(rt: HostRuntime) {
     let trace = Some("load 40010000 1\n");
     for kind in KINDS {
         let request = on_kind(&RUN, kind);
-        let got = performed_once(rt.alloc(), &request, Some(ROW.as_bytes()), trace);
+        let got = performed_once(rt.alloc(), &request, Some(ROW_TEXT.as_bytes()), trace);
         if got.status == 3 {
             assert!(rt; got.out.is_empty() || got.out.as_slice() == b"data 00\n".as_slice());
         } else {

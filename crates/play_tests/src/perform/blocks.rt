@@ -5,35 +5,14 @@
 ghost use Rattle.std.specs.Prelude.{◌≡◌, ◌*◌};
 ghost use Rattle.ffa_model.specs.Ram.{zero_ram};
 
-use ffa_model::{Manifest, PageNo};
+use ffa_model::Manifest;
 use ffa_physmem::{FlatRam, FrameRam, PhysMem};
 use ffa_spmc::Machine;
 use ffa_tlb::NoTlb;
+use fixtures::{row_machine_with, word_at, writable};
 use play_player::Player;
 use std::alloc::Global;
 use std::test::Fail;
-
-// The machine of the rows, with 4 MiB of RAM, and a block of the normal world's.
-const BLOCK: &str = "ram_base = 0x40000000
-ram_blocks = 2
-[[endpoint]]
-version = \"1.1\"
-properties = 6
-regions = [
-    { base = 0x40010000, pages = 16, rights = \"rw\" },
-    { base = 0x40200000, pages = 512, rights = \"rw\" },
-]
-[[endpoint]]
-version = \"1.1\"
-uuid = \"00112233-4455-6677-8899-aabbccddeeff\"
-properties = 15
-regions = [{ base = 0x40020000, pages = 16, rights = \"rwx\" }]
-[[endpoint]]
-version = \"1.1\"
-uuid = \"10112233-4455-6677-8899-aabbccddeeff\"
-properties = 15
-regions = [{ base = 0x40030000, pages = 16, rights = \"rw\" }]
-";
 
 // The normal world lends the page at 40201000 to 8001.
 const LEND: &str = "call 84000066 4001E000 4001F000 1
@@ -65,18 +44,6 @@ call 8400006B
 call 84000077 1
 ";
 
-// The word at an address of RAM.
-fn word<M: PhysMem + Drop>(player: &Player<Machine<M>>, address: u32) -> Option<u64> {
-    let ram = player.machine().ram();
-    let offset = address.checked_sub(ram.base().0)?;
-    if offset / 4096 < ram.pages() {
-        let index = offset % 4096 / 8;
-        Some(ram.read_word(PageNo(offset / 4096), index as usize))
-    } else {
-        None
-    }
-}
-
 // Words of the tables after boot, while the page is lent, while 8001 holds it, and when it is back.
 fn words_of_a_lend<M: PhysMem + Drop>(
     alloc: Global,
@@ -87,25 +54,25 @@ fn words_of_a_lend<M: PhysMem + Drop>(
 {
     let mut player = Player::new(Machine::boot_cleared(manifest, ram, NoTlb));
     let mut out = Vec::new(alloc);
-    let whole = word(&player, 0x4000_1008);
+    let whole = word_at(player.machine().ram(), 0x4000_1008);
     player.play(alloc, &mut LEND.as_bytes(), &mut out)?;
-    let split = word(&player, 0x4000_1008);
-    let first = word(&player, 0x4000_3000);
-    let second = word(&player, 0x4000_3008);
+    let split = word_at(player.machine().ram(), 0x4000_1008);
+    let first = word_at(player.machine().ram(), 0x4000_3000);
+    let second = word_at(player.machine().ram(), 0x4000_3008);
     player.play(alloc, &mut RETRIEVE.as_bytes(), &mut out)?;
-    let held = word(&player, 0x4000_7008);
-    let table = word(&player, 0x4000_5008);
+    let held = word_at(player.machine().ram(), 0x4000_7008);
+    let table = word_at(player.machine().ram(), 0x4000_5008);
     player.play(alloc, &mut GIVE_BACK.as_bytes(), &mut out)?;
-    let again = word(&player, 0x4000_1008);
+    let again = word_at(player.machine().ram(), 0x4000_1008);
     Ok([whole, split, first, second, held, table, again])
 }
 
-// The table at level 2 names a block, a table of level 3 while a page of the block is lent, and the block again; with RAM of
-// either kind.
+// The machine of the rows with 4 MiB of RAM, and a block of the normal world's: the table at level 2 names a block, a table
+// of level 3 while a page of the block is lent, and the block again; with RAM of either kind.
 #[test]
 fn a_lend_splits_a_block(rt: HostRuntime) -> Result<(), Fail> {
     let alloc = rt.alloc();
-    let manifest = ffa_manifest::read(alloc, BLOCK)?;
+    let manifest = row_machine_with(2, 0, writable(0x4020_0000, 512))?;
     let (base, pages) = (manifest.ram_base, 512 * manifest.ram_blocks);
     let flat = FlatRam::new(alloc, base, pages)?;
     let frames = FrameRam::new(alloc, base, pages)?;

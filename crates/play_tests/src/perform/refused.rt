@@ -4,14 +4,13 @@
 
 ghost use Rattle.std.specs.Prelude.{◌≤◌};
 
-use super::{DEMO, FIRST, FIRST_TEXT, KINDS, ROW, RUN, on_kind, performed_once};
+use super::{DEMO, FIRST, FIRST_TEXT, KINDS, RUN, on_kind, performed_once};
+use fixtures::{InPieces, ROW_TEXT};
 use linked_list_allocator::LocalHeap;
 use play_arguments::Request;
 use play_commands::{Files, perform};
 use play_machines::Booted;
 use std::alloc::Global;
-use std::io;
-use std::io::Read;
 use std::process::Abort;
 use std::test::Fail;
 
@@ -60,21 +59,6 @@ load 4003F000 8
 call 84000074 40 40
 ";
 
-// Gives up to five bytes a call, so that the player needs room for lines that have begun.
-#[derive(Drop)]
-struct InPieces<'a> {
-    bytes: &'a [u8],
-}
-
-impl Read for InPieces<'_> {
-    fn read(&mut self, buf: &mut [u8]) -> io::Result<usize> {
-        let count = self.bytes.len().min(buf.len()).min(5);
-        buf[..count].copy_from_slice(&self.bytes[..count]);
-        self.bytes = &self.bytes[count..];
-        Ok(count)
-    }
-}
-
 // Whether a command is done with a heap of this room. If not, there is no memory, and the text so far ends at a line.
 fn is_done(
     rt: &impl Abort,
@@ -88,10 +72,8 @@ fn is_done(
     let mut out = Vec::with_capacity(alloc, text.len())?;
     let mut err = Vec::with_capacity(alloc, 64)?;
     let files = Files {
-        manifest: Some(ROW.as_bytes()),
-        trace: Some(InPieces {
-            bytes: trace.as_bytes(),
-        }),
+        manifest: Some(ROW_TEXT.as_bytes()),
+        trace: Some(InPieces::of(trace.as_bytes(), 5, usize::MAX)),
         expected: None,
         reason: None,
     };
@@ -144,7 +126,7 @@ fn demonstrates_or_has_no_memory(rt: HostRuntime) -> Result<(), Fail> {
 
 #[test]
 fn runs_or_has_no_memory(rt: HostRuntime) -> Result<(), Fail> {
-    let whole = performed_once(rt.alloc(), &RUN, Some(ROW.as_bytes()), Some(LEND));
+    let whole = performed_once(rt.alloc(), &RUN, Some(ROW_TEXT.as_bytes()), Some(LEND));
     assert_eq!(rt; whole.status, 0);
     done_or_no_memory(&rt, rt.alloc(), &RUN, LEND, &whole.out, 3)
 }
@@ -190,7 +172,7 @@ fn assert_refused(
 #[test]
 fn refuses_a_manifest_without_memory_for_ram(rt: HostRuntime) -> Result<(), Fail> {
     let alloc = rt.alloc();
-    let overlapping = ROW.replacen(alloc, "0x40030000", "0x40028000", 1)?;
+    let overlapping = ROW_TEXT.replacen(alloc, "0x40030000", "0x40028000", 1)?;
     let message = "ffaplay: manifest: M13 RegionOverlap\n";
     assert_refused(&rt, alloc, overlapping.as_str(), message)?;
     let without_endpoints = "ram_base = 0x40000000\nram_blocks = 1\nendpoint = []\n";

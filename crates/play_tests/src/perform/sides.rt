@@ -1,13 +1,13 @@
 // SPDX-License-Identifier: MIT OR Apache-2.0
 //! Comparisons whose expected text can't be read, or for which there is no memory, and a session that can't be read on.
 
-use super::{Ended, FIRST, MACHINE, ROW, RUN, TEXT, performed_once};
+use super::{Ended, FIRST, MACHINE, RUN, TEXT, performed_once};
+use fixtures::{InPieces, ROW_TEXT};
 use linked_list_allocator::LocalHeap;
 use play_arguments::Request;
 use play_commands::{Files, perform};
 use play_machines::Booted;
 use std::alloc::Global;
-use std::io::{self, Read};
 use std::process::Abort;
 use std::test::Fail;
 
@@ -30,39 +30,13 @@ const SESSION: Request<'static> = Request::Run {
     verbose: false,
 };
 
-// Gives up to seven bytes a read, and fails behind so many reads.
-#[derive(Drop)]
-struct Halting<'a> {
-    bytes: &'a [u8],
-    reads: usize,
-}
-
-impl Read for Halting<'_> {
-    fn read(&mut self, buf: &mut [u8]) -> io::Result<usize> {
-        if self.reads == 0 {
-            return Err(io::Error::from(io::ErrorKind::Other));
-        }
-        self.reads -= 1;
-        let count = self.bytes.len().min(buf.len()).min(7);
-        buf[..count].copy_from_slice(&self.bytes[..count]);
-        self.bytes = &self.bytes[count..];
-        Ok(count)
-    }
-}
-
 // Compares what FIRST prints with a text that can be read so many times.
 fn compared(alloc: Global, request: &Request<'_>, expected: &[u8], reads: usize) -> Ended {
     let (mut out, mut err) = (Vec::new(alloc), Vec::new(alloc));
     let files = Files {
-        manifest: Some(ROW.as_bytes()),
-        trace: Some(Halting {
-            bytes: FIRST.as_bytes(),
-            reads: 1000,
-        }),
-        expected: Some(Halting {
-            bytes: expected,
-            reads,
-        }),
+        manifest: Some(ROW_TEXT.as_bytes()),
+        trace: Some(InPieces::of(FIRST.as_bytes(), 7, 1000)),
+        expected: Some(InPieces::of(expected, 7, reads)),
         reason: None,
     };
     let status = perform(&Booted, alloc, alloc, request, files, &mut out, &mut err);
@@ -80,7 +54,7 @@ fn ended(rt: &impl Abort, got: &Ended, (status, out, err): (u8, &[u8], &str)) {
 #[test]
 fn tells_that_the_expected_text_cannot_be_read(rt: HostRuntime) {
     let alloc = rt.alloc();
-    let whole = performed_once(alloc, &RUN, Some(ROW.as_bytes()), Some(FIRST));
+    let whole = performed_once(alloc, &RUN, Some(ROW_TEXT.as_bytes()), Some(FIRST));
     let needed = usize::saturating_add(whole.out.chunks(7).count(), 1);
     for reads in 0..needed {
         let got = compared(alloc, &COMPARE, &whole.out, reads);
@@ -96,7 +70,7 @@ fn is_compared(rt: &impl Abort, alloc: Global, text: &[u8], room: usize) -> Resu
     let mut out = Vec::new(alloc);
     let mut err = Vec::with_capacity(alloc, 64)?;
     let files = Files {
-        manifest: Some(ROW.as_bytes()),
+        manifest: Some(ROW_TEXT.as_bytes()),
         trace: Some(FIRST.as_bytes()),
         expected: Some(text),
         reason: None,
@@ -118,7 +92,7 @@ fn is_compared(rt: &impl Abort, alloc: Global, text: &[u8], room: usize) -> Resu
 #[test]
 fn compares_or_has_no_memory(rt: HostRuntime) -> Result<(), Fail> {
     let alloc = rt.alloc();
-    let whole = performed_once(alloc, &RUN, Some(ROW.as_bytes()), Some(FIRST));
+    let whole = performed_once(alloc, &RUN, Some(ROW_TEXT.as_bytes()), Some(FIRST));
     let booted = 512 * 4096 + 512 * 4 + 3 * 16 * 624 + 4160;
     for more in (0..16_384).step_by(1024) {
         assert!(rt;
@@ -138,11 +112,8 @@ fn compares_or_has_no_memory(rt: HostRuntime) -> Result<(), Fail> {
 fn ends_a_session_where_it_cannot_read(rt: HostRuntime) {
     let (mut out, mut err) = (Vec::new(rt.alloc()), Vec::new(rt.alloc()));
     let files = Files {
-        manifest: Some(ROW.as_bytes()),
-        trace: Some(Halting {
-            bytes: b"fetch\nload 40010000 1\nload 40010000 1\n",
-            reads: 4,
-        }),
+        manifest: Some(ROW_TEXT.as_bytes()),
+        trace: Some(InPieces::of(b"fetch\nload 40010000 1\nload 40010000 1\n", 7, 4)),
         expected: None,
         reason: None,
     };
