@@ -301,19 +301,15 @@ fn refusal(number: i32) -> [u64; 8] {
 
 #[test]
 fn error_codes(rt: HostRuntime) {
-    same(
-        &rt,
-        encode(&Reply::Error(ErrorCode::NotSupported)),
-        refusal(-1),
-    );
-    same(
-        &rt,
-        encode(&Reply::Error(ErrorCode::InvalidParameters)),
-        refusal(-2),
-    );
-    same(&rt, encode(&Reply::Error(ErrorCode::NoMemory)), refusal(-3));
-    same(&rt, encode(&Reply::Error(ErrorCode::Busy)), refusal(-4));
-    same(&rt, encode(&Reply::Error(ErrorCode::Denied)), refusal(-6));
+    for (code, number) in [
+        (ErrorCode::NotSupported, -1),
+        (ErrorCode::InvalidParameters, -2),
+        (ErrorCode::NoMemory, -3),
+        (ErrorCode::Busy, -4),
+        (ErrorCode::Denied, -6),
+    ] {
+        same(&rt, encode(&Reply::Error(code)), refusal(number));
+    }
 }
 
 #[test]

@@ -3,6 +3,7 @@
 use crate::checks::{same, same_at};
 use ffa_model::{Data, EndpointId, PageNo, Rights};
 use ffa_pages::PageTable;
+use fixtures::FIRST;
 use play_demo::built_in;
 use std::test::Fail;
 
@@ -45,43 +46,23 @@ fn mark(table: &mut PageTable, page: u32, slot: Option<u8>) {
 fn built_in_machine(rt: HostRuntime) -> Result<(), Fail> {
     let mut table = PageTable::of(&built_in());
     same(&rt, table.pages(), 512);
-    for page in [0, 15, 48, 511] {
-        same_at(
-            &rt,
-            entry(&table, page),
-            Some((EndpointId::MANAGER, None, None)),
-            &page,
-        );
-    }
-    for page in [16, 31] {
-        same_at(
-            &rt,
-            entry(&table, page),
-            Some((EndpointId(0), Some(WRITABLE), None)),
-            &page,
-        );
-    }
-    for page in [32, 47] {
-        same_at(
-            &rt,
-            entry(&table, page),
-            Some((EndpointId(0x8001), Some(ALL), None)),
-            &page,
-        );
+    for (page, owner, right) in [
+        (0, EndpointId::MANAGER, None),
+        (15, EndpointId::MANAGER, None),
+        (16, EndpointId::NORMAL_WORLD, Some(WRITABLE)),
+        (31, EndpointId::NORMAL_WORLD, Some(WRITABLE)),
+        (32, FIRST, Some(ALL)),
+        (47, FIRST, Some(ALL)),
+        (48, EndpointId::MANAGER, None),
+        (511, EndpointId::MANAGER, None),
+    ] {
+        same_at(&rt, entry(&table, page), Some((owner, right, None)), &page);
     }
     give(&mut table, 33, EndpointId(0), WRITABLE);
     mark(&mut table, 33, Some(127));
-    give(&mut table, 33, EndpointId(0x8001), ALL);
-    same(
-        &rt,
-        entry(&table, 33),
-        Some((EndpointId(0x8001), Some(ALL), Some(127))),
-    );
+    give(&mut table, 33, FIRST, ALL);
+    same(&rt, entry(&table, 33), Some((FIRST, Some(ALL), Some(127))));
     mark(&mut table, 33, None);
-    same(
-        &rt,
-        entry(&table, 33),
-        Some((EndpointId(0x8001), Some(ALL), None)),
-    );
+    same(&rt, entry(&table, 33), Some((FIRST, Some(ALL), None)));
     Ok(())
 }

@@ -1,6 +1,6 @@
 // SPDX-License-Identifier: MIT OR Apache-2.0
 //! Descriptors, tables and blocks of 2 MiB, in words of RAM.
-ghost use Rattle.std.specs.Prelude.{◌≡◌, ℕ, length, Option};
+ghost use Rattle.std.specs.Prelude.{◌≡◌, ◌<◌, ℕ, length, Option};
 ghost use Rattle.arrayvec.specs.ArrayVec.{array_vec_len};
 ghost use Rattle.ffa_model.specs.declared.rights.Rights.{Rights};
 ghost use Rattle.ffa_stage2.specs.Layout.{IsBuiltFor};
@@ -71,15 +71,17 @@ fn build_writes_blocks(rt: HostRuntime) -> Result<(), NoMemory> {
     Ok(())
 }
 
-// Moves the second page of the second block from the first endpoint to the second.
-fn lend<M: PhysMem>(memory: &mut M, layout: &Layout, right: Rights)
+// Moves the second page of the second block from one endpoint to the other.
+fn move_page<M: PhysMem>(memory: &mut M, layout: &Layout, right: Rights, from: usize, to: usize)
+    requires from { from < 2 }
+    requires to { to < 2 }
     requires built { (access : ℕ → ℕ → Option Rights) × IsBuiltFor layout.now (M.ram memory.old) access }
     requires blocks { layout.now.blocks ≡ 2 }
     requires endpoints { array_vec_len layout.now.regions ≡ 2 }
     ensures { (access : ℕ → ℕ → Option Rights) × IsBuiltFor layout.now (M.ram memory.new) access }
 {
-    set_page(memory, layout, 0, PageNo(513), None);
-    set_page(memory, layout, 1, PageNo(513), Some(right));
+    set_page(memory, layout, from, PageNo(513), None);
+    set_page(memory, layout, to, PageNo(513), Some(right));
 }
 
 // Gives the first endpoint another right to the last page.
@@ -92,17 +94,6 @@ fn set_last<M: PhysMem>(memory: &mut M, layout: &Layout, right: Option<Rights>)
     set_page(memory, layout, 0, PageNo(1023), right);
 }
 
-// And back.
-fn reclaim<M: PhysMem>(memory: &mut M, layout: &Layout, right: Rights)
-    requires built { (access : ℕ → ℕ → Option Rights) × IsBuiltFor layout.now (M.ram memory.old) access }
-    requires blocks { layout.now.blocks ≡ 2 }
-    requires endpoints { array_vec_len layout.now.regions ≡ 2 }
-    ensures { (access : ℕ → ℕ → Option Rights) × IsBuiltFor layout.now (M.ram memory.new) access }
-{
-    set_page(memory, layout, 1, PageNo(513), None);
-    set_page(memory, layout, 0, PageNo(513), Some(right));
-}
-
 fn splits_and_joins(
     rt: &impl Abort,
     alloc: Global,
@@ -112,14 +103,14 @@ fn splits_and_joins(
     let layout = two_blocks(right);
     let mut ram = FlatRam::new(alloc, layout.base, 1024)?;
     build(&mut ram, &layout);
-    lend(&mut ram, &layout, right);
+    move_page(&mut ram, &layout, right, 0, 1);
     same(rt, word(&ram, 1, 1), Some(0x0000_0000_4000_3003));
     same(rt, word(&ram, 3, 0), Some(block ^ 2));
     same(rt, word(&ram, 3, 1), Some(0));
     same(rt, word(&ram, 5, 1), Some(0x0000_0000_4000_7003));
     same(rt, word(&ram, 7, 1), Some(block ^ 0x1002));
     set_last(&mut ram, &layout, None);
-    reclaim(&mut ram, &layout, right);
+    move_page(&mut ram, &layout, right, 1, 0);
     same(rt, word(&ram, 1, 1), Some(0x0000_0000_4000_3003));
     set_last(&mut ram, &layout, Some(right));
     same(rt, word(&ram, 1, 1), Some(block));

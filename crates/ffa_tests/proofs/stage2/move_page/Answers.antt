@@ -1,5 +1,5 @@
 -- SPDX-License-Identifier: MIT OR Apache-2.0
-use Rattle.ffa_tests.proofs.stage2.lend.Goals as goal
+use Rattle.ffa_tests.proofs.stage2.move_page.Goals as goal
 
 pub set_page-requires-2-clause-built : goal.set_page-requires-2-clause-built
 set_page-requires-2-clause-built g c =
