@@ -12,9 +12,9 @@ use Rattle.ffa_model.specs.Ram.{page_of}
 use Rattle.ffa_model.proofs.Accesses.{length-map_at}
 use Rattle.ffa_model.proofs.Runs.{in-run}
 use Rattle.ffa_physmem.specs.FrameRam.{ram_of as frame_ram, with_frame}
-use Rattle.ffa_lent.specs.LentRam.{bytes_seen, is_observed, ram_of, with_bytes}
+use Rattle.ffa_lent.specs.CopiedRam.{bytes_seen, is_observed, ram_of, with_bytes}
 use Rattle.ffa_lent.proofs.Observed.{observed-same, seen_by}
-use Rattle.ffa_lent.specs.declared.frames.LentRam.{LentRam}
+use Rattle.ffa_lent.specs.declared.copied.CopiedRam.{CopiedRam}
 
 get_or-map_at : (f : ℕ → List ℕ → List ℕ) (xs : List (List ℕ)) (i : ℕ) → i < length xs → get_or (map_at f xs) i [] ≡ f i (get_or xs i [])
 get_or-map_at f [] i lt = absurd (omega arith)
@@ -22,10 +22,10 @@ get_or-map_at f (x ∷ xs) zero lt = refl
 get_or-map_at f (x ∷ xs) (suc i) lt = get_or-map_at (λ j. f (suc j)) xs i (omega arith)
 
 -- there are as many pages as frames
-pub pages-seen : (m : LentRam) → length (ram_of m).pages ≡ length (frame_ram m.frames).pages
+pub pages-seen : (m : CopiedRam) → length (ram_of m).pages ≡ length (frame_ram m.frames).pages
 pages-seen m = length-map_at (bytes_seen m) (frame_ram m.frames).pages
 
-module _ (m : LentRam) (i : ℕ) (inside : i < length (ram_of m).pages) where
+module _ (m : CopiedRam) (i : ℕ) (inside : i < length (ram_of m).pages) where
   pub frame-inside : i < length (frame_ram m.frames).pages
   frame-inside = let same = pages-seen m in omega (arith, inside, same)
 
@@ -42,7 +42,7 @@ module _ (m : LentRam) (i : ℕ) (inside : i < length (ram_of m).pages) where
       ∙ ap (λ c. cond c (get_or m.copies.items (i - m.first.0) []) (page_of (frame_ram m.frames) i)) off
 
 -- what is lent to be written is that of the RAM with these bytes, whatever proves that this is RAM
-module _ (m : LentRam) (i : ℕ) (w : List ℕ) (room : vec_len m.copies ≡ MOST_BUFFER_PAGES) (held : m.count ≤ vec_len m.copies) where
+module _ (m : CopiedRam) (i : ℕ) (w : List ℕ) (room : vec_len m.copies ≡ MOST_BUFFER_PAGES) (held : m.count ≤ vec_len m.copies) where
   pub with_copy-there : is_observed m i ≡ true → (place : ℕ) → place ≡ i - m.first.0
       → record { frames = m.frames; copies = with_item m.copies place w; first = m.first; count = m.count; room = room; held = held } ≡ with_bytes m i w
   with_copy-there at place same =
@@ -56,14 +56,14 @@ module _ (m : LentRam) (i : ℕ) (w : List ℕ) (room : vec_len m.copies ≡ MOS
       ∙ sym (ap (λ c. cond c (record m { copies = with_item m.copies (i - m.first.0) w }) (record m { frames = with_frame m.frames i w })) off)
 
 -- the place of a page's copy says whether it is observed
-pub observed-at : (m : LentRam) (p place : ℕ) → Some place ≡ (cond (is_observed m p) (Some (p - m.first.0)) None) → (is_observed m p ≡ true) × (place ≡ p - m.first.0)
+pub observed-at : (m : CopiedRam) (p place : ℕ) → Some place ≡ (cond (is_observed m p) (Some (p - m.first.0)) None) → (is_observed m p ≡ true) × (place ≡ p - m.first.0)
 observed-at m p place is = of (is_observed m p) is
   where
     of : (c : Bool) → Some place ≡ (cond c (Some (p - m.first.0)) None) → (c ≡ true) × (place ≡ p - m.first.0)
     of true same = (refl, cc)
     of false same = absurd cc
 
-pub observed-no : (m : LentRam) (p : ℕ) → None ≡ (cond (is_observed m p) (Some (p - m.first.0)) None) → is_observed m p ≡ false
+pub observed-no : (m : CopiedRam) (p : ℕ) → None ≡ (cond (is_observed m p) (Some (p - m.first.0)) None) → is_observed m p ≡ false
 observed-no m p is = of (is_observed m p) is
   where
     of : (c : Bool) → None ≡ (cond c (Some (p - m.first.0)) None) → c ≡ false
@@ -82,7 +82,7 @@ unseen pages copies first count none = of pages (seen_by copies first count) (λ
     of (x ∷ xs) f same = λ k. same 0 x k ∷ of xs (λ p. f (suc p)) (λ p. same (suc p)) k
 
 -- where nothing was observed, frames that are copied change no page
-pub unchanged : (m : LentRam) (first count : ℕ) (copies : List (List ℕ)) → length copies ≡ vec_len m.copies → first + count ≤ length (ram_of m).pages
+pub unchanged : (m : CopiedRam) (first count : ℕ) (copies : List (List ℕ)) → length copies ≡ vec_len m.copies → first + count ≤ length (ram_of m).pages
     → m.count ≡ 0 → ((k : ℕ) → k < count → get_or copies k [] ≡ page_of (frame_ram m.frames) (first + k))
     → map_at (seen_by (with_items m.copies copies).items first count) (frame_ram m.frames).pages ≡ (ram_of m).pages
 unchanged m first count copies room within none copied =

@@ -2,4 +2,6 @@
 pub mod Listed
 pub mod Strips
 pub mod Slots
+pub mod CopiedRam
+pub mod Effects
 pub mod LentRam

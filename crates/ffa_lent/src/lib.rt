@@ -2,13 +2,19 @@
 //! RAM that its caller lends, page by page or several side by side.
 #![tactic(auto)]
 
+pub mod copied;
+pub mod effects;
 pub mod frames;
 pub mod lent;
+pub mod ram;
 mod settling;
 pub mod slot;
 pub mod span;
 
-pub use frames::{Frames, LentRam};
+pub use copied::CopiedRam;
+pub use effects::{Effects, Unrecorded};
+pub use frames::Frames;
 pub use lent::Lent;
+pub use ram::LentRam;
 pub use slot::Slot;
 pub use span::{Span, Strip};
