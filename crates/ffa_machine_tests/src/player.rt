@@ -2,10 +2,10 @@
 //! The player's machine as it boots, and lines that it takes and refuses.
 use crate::checks::{holds, same, same_at};
 use crate::machines::{FlatPlayer, booted, play};
-use ffa_model::{Op, Outcome, PageNo, Size};
-use ffa_physmem::{FlatRam, PhysMem};
+use ffa_model::{Op, Outcome, Size};
+use ffa_physmem::FlatRam;
 use ffa_spmc::Machine;
-use fixtures::row_machine;
+use fixtures::{row_machine, word_at};
 use play_demo::built_in;
 use play_player::{Begun, Player};
 use play_syntax::PlayError;
@@ -21,18 +21,6 @@ fn rows(alloc: Global) -> Result<FlatPlayer, Fail> {
     Ok(Player::new(booted(alloc, &row_machine())?))
 }
 
-// The word at an address of RAM.
-fn word(player: &FlatPlayer, address: u32) -> Option<u64> {
-    let ram = player.machine().ram();
-    let offset = address.checked_sub(ram.base().0)?;
-    if offset / 4096 < ram.pages() {
-        let index = offset % 4096 / 8;
-        Some(ram.read_word(PageNo(offset / 4096), index as usize))
-    } else {
-        None
-    }
-}
-
 #[test]
 fn boots_with_tables(rt: HostRuntime) -> Result<(), Fail> {
     let player = rows(rt.alloc())?;
@@ -41,10 +29,14 @@ fn boots_with_tables(rt: HostRuntime) -> Result<(), Fail> {
         (0x4000_1000, 0x0000_0000_4000_2003),
         (0x4000_2080, 0x0040_0000_4001_07FF),
     ] {
-        same(&rt, word(&player, address), Some(want));
+        same(&rt, word_at(player.machine().ram(), address), Some(want));
     }
     let player = demonstration(rt.alloc())?;
-    same(&rt, word(&player, 0x4000_5100), Some(0x0000_0000_4002_07FF));
+    same(
+        &rt,
+        word_at(player.machine().ram(), 0x4000_5100),
+        Some(0x0000_0000_4002_07FF),
+    );
     Ok(())
 }
 

@@ -10,6 +10,7 @@ use ffa_model::{Address, EndpointId, Leaf, PageNo};
 use ffa_physmem::{FlatRam, PhysMem};
 use ffa_spmc::Machine;
 use ffa_tlb::{InTurn, Replacement, Tlb};
+use fixtures::{FIRST, SECOND};
 use std::cell::Cell;
 
 // Picks one slot each time.
@@ -25,10 +26,6 @@ impl Replacement for Always {
         self.0
     }
 }
-
-const FIRST: EndpointId = EndpointId(0x8001);
-
-const SECOND: EndpointId = EndpointId(0x8002);
 
 // The page that is lent.
 const LENT: PageNo = PageNo(0x21);

@@ -6,9 +6,8 @@ use crate::checks::{holds, holds_at};
 use ffa_model::{EndpointId, Outcome, PageNo};
 use ffa_physmem::{FlatRam, PhysMem};
 use ffa_spmc::Machine;
+use fixtures::SECOND;
 use play_syntax::{Line, text};
-
-const SECOND: EndpointId = EndpointId(0x8002);
 
 // The page that is lent.
 const LENT: PageNo = PageNo(0x21);

@@ -10,6 +10,7 @@ use ffa_manifest::read;
 use ffa_model::{EndpointId, Manifest, PageNo};
 use ffa_physmem::{FlatRam, FrameRam, PhysMem};
 use ffa_spmc::{Given, Machine, Storage};
+use fixtures::set_word;
 
 // The first partition has code that nobody may write, and data; the second has data that nobody may write.
 const MANIFEST: &str = r#"
@@ -59,16 +60,10 @@ fn mark(page: u32) -> u64 {
     0x0101_0101_0101_0101_u64.wrapping_mul(u64::from(byte))
 }
 
-fn mark_word<M: PhysMem>(ram: &mut M, page: u32, index: usize) {
-    if page < ram.pages() && index < 512 {
-        ram.write_word(PageNo(page), index, mark(page));
-    }
-}
-
 fn mark_pages<M: PhysMem>(ram: &mut M) {
     for page in 0..ram.pages() {
-        mark_word(ram, page, 0);
-        mark_word(ram, page, 511);
+        set_word(ram, page, 0, mark(page));
+        set_word(ram, page, 511, mark(page));
     }
 }
 

@@ -3,26 +3,7 @@
 use super::buffers::{FIRST_RUNS, INVALID, add_share};
 use super::memory::{LEND, MAPPED, RETRIEVE, TO_SECOND};
 use super::*;
-use ffa_manifest::read;
-
-// The machine of the rows, where a number of pages stands in the place of the question mark.
-const MACHINE: &str = "ram_base = 0x40000000
-ram_blocks = 1
-[[endpoint]]
-version = \"1.1\"
-properties = 6
-regions = [{ base = 0x40010000, pages = 16, rights = \"rw\" }]
-[[endpoint]]
-version = \"1.1\"
-uuid = \"00112233-4455-6677-8899-aabbccddeeff\"
-properties = 15
-regions = [{ base = 0x40020000, pages = 16, rights = \"rwx\" }, { base = 0x40040000, pages = ?, rights = \"rw\" }]
-[[endpoint]]
-version = \"1.1\"
-uuid = \"10112233-4455-6677-8899-aabbccddeeff\"
-properties = 15
-regions = [{ base = 0x40030000, pages = 16, rights = \"rw\" }]
-";
+use fixtures::{row_machine_with, writable};
 
 // Both partitions map buffers of two pages, and the first runs. TX is the last two pages of each.
 const TWO_PAGES: &str = "\
@@ -34,13 +15,9 @@ call 84000066 4002E000 4002C000 2 -> 8001: 84000061
 ";
 
 // Plays a row on the machine of the rows, where the first partition has so many pages more, from 40040000 on.
-fn check_with_more(rt: &impl Abort, alloc: Global, row: &Row, pages: &str) -> Result<(), Fail> {
-    row.check_on(rt, alloc, &manifest_with_more(alloc, pages)?)
-}
-
-fn manifest_with_more(alloc: Global, pages: &str) -> Result<Manifest, Fail> {
-    let text = String::from_str(alloc, MACHINE)?.replacen(alloc, "?", pages, 1)?;
-    Ok(read(alloc, text.as_str())?)
+fn check_with_more(rt: &impl Abort, alloc: Global, row: &Row, pages: u32) -> Result<(), Fail> {
+    let manifest = row_machine_with(1, 1, writable(0x4004_0000, pages))?;
+    row.check_on(rt, alloc, &manifest)
 }
 
 // Behind sixteen shares the last page isn't shared once more, and another one has no room, though the second partition has. Zeros
@@ -92,7 +69,7 @@ fn sixteen_open_transactions(rt: HostRuntime) -> Result<(), Fail> {
         add_one(&mut row, rt.alloc(), page, page + 1)?;
     }
     row.add(FULL)?;
-    check_with_more(&rt, rt.alloc(), &row, "16")
+    check_with_more(&rt, rt.alloc(), &row, 16)
 }
 
 // A lend of one range too many, of a byte too few, and of 64 ranges.
@@ -153,7 +130,7 @@ fn sixty_four_ranges(rt: HostRuntime) -> Result<(), Fail> {
     for index in 0..64u32 {
         add_told_range(&mut row, rt.alloc(), 5 + index, 0x40 + index * 27 % 65)?;
     }
-    check_with_more(&rt, rt.alloc(), &row, "65")
+    check_with_more(&rt, rt.alloc(), &row, 65)
 }
 
 // A composite and its range, byte by byte.

@@ -10,10 +10,10 @@ use crate::machines::{FlatPlayer, booted};
 use ffa_physmem::{FlatRam, FrameRam};
 use ffa_spmc::{Machine, Storage};
 use ffa_tlb::{InTurn, Tlb};
+use fixtures::InPieces;
 use linked_list_allocator::LocalHeap;
 use play_syntax::PlayError;
 use std::alloc::AllocError;
-use std::io;
 use std::io::Read;
 
 // What the RAM of the rows takes: its pages, and where it is in frames the list of their boxes, each of which names its
@@ -123,21 +123,6 @@ call 84000086 -> 8001: 84000061
     plays_after_boot(&rt, rt.alloc(), &[MAPPED, message, TO_SECOND, told])
 }
 
-// Gives up to five bytes a call, so that lines come in pieces.
-#[derive(Drop)]
-struct InPieces<'a> {
-    bytes: &'a [u8],
-}
-
-impl Read for InPieces<'_> {
-    fn read(&mut self, buf: &mut [u8]) -> io::Result<usize> {
-        let count = self.bytes.len().min(buf.len()).min(5);
-        buf[..count].copy_from_slice(&self.bytes[..count]);
-        self.bytes = &self.bytes[count..];
-        Ok(count)
-    }
-}
-
 // The lines of a row behind those that print this many bytes.
 fn lines_behind(alloc: Global, row: &Row, printed: usize) -> Result<&[u8], Fail> {
     let mut player = Player::new(booted(alloc, &row_machine())?);
@@ -184,9 +169,7 @@ fn play_with(
     printed: &mut Vec<u8>,
 ) -> Result<Result<(), PlayError>, Fail> {
     let heap = LocalHeap::new(alloc, room)?;
-    let mut reader = InPieces {
-        bytes: row.trace.as_bytes(),
-    };
+    let mut reader = InPieces::of(row.trace.as_bytes(), 5, usize::MAX);
     let played = play_over(&heap, player, &mut reader, printed);
     same(rt, heap.used(), 0);
     Ok(played)

@@ -10,34 +10,18 @@ ghost use Rattle.ffa_physmem.specs.Moments.{IsBeside};
 
 use super::*;
 use crate::checks::{alike, same};
-use ffa_manifest::read;
-use ffa_model::{Address, EndpointId, Op, Outcome, PageNo, Size};
+use ffa_manifest::{ManifestError, of_parts};
+use ffa_model::{Address, Op, Outcome, PageNo, Size};
 use ffa_physmem::{FlatRam, Observed, PhysMem};
 use ffa_spmc::Machine;
+use fixtures::{FIRST, partition, word, writable};
 
 // The machine of the rows with a third partition.
-const MACHINE: &str = "ram_base = 0x40000000
-ram_blocks = 1
-[[endpoint]]
-version = \"1.1\"
-properties = 6
-regions = [{ base = 0x40010000, pages = 16, rights = \"rw\" }]
-[[endpoint]]
-version = \"1.1\"
-uuid = \"00112233-4455-6677-8899-aabbccddeeff\"
-properties = 15
-regions = [{ base = 0x40020000, pages = 16, rights = \"rw\" }]
-[[endpoint]]
-version = \"1.1\"
-uuid = \"10112233-4455-6677-8899-aabbccddeeff\"
-properties = 15
-regions = [{ base = 0x40030000, pages = 16, rights = \"rw\" }]
-[[endpoint]]
-version = \"1.1\"
-uuid = \"20112233-4455-6677-8899-aabbccddeeff\"
-properties = 15
-regions = [{ base = 0x40040000, pages = 16, rights = \"rw\" }]
-";
+fn three_partitions() -> Result<Manifest, ManifestError> {
+    let mut endpoints = row_machine().endpoints;
+    endpoints.push(partition(0x20, writable(0x4004_0000, 16)));
+    of_parts(0x4000_0000, 1, endpoints)
+}
 
 // The first page of the first partition's TX, and the words of the page that its descriptor names and of its message's receiver.
 const TX: PageNo = PageNo(0x2E);
@@ -217,7 +201,7 @@ fn begin(machine: &mut Machine<Shifting>) {
 fn shifting_machine(alloc: Global, word: usize, next: [u64; 2]) -> Result<Machine<Shifting>, Fail>
     requires { word < 512 }
 {
-    let manifest = read(alloc, MACHINE)?;
+    let manifest = three_partitions()?;
     let ram = Shifting::new(alloc, &manifest, word, next)?;
     let mut machine = Machine::boot_cleared(&manifest, ram, NoTlb);
     begin(&mut machine);
@@ -229,16 +213,6 @@ fn registers(outcome: &Outcome) -> [u64; 8] {
     match outcome {
         Outcome::Regs { x, .. } => *x,
         _ => [0; 8],
-    }
-}
-
-// A word of a page, where RAM has it.
-fn word_at(machine: &Machine<Shifting>, page: PageNo, index: usize) -> Option<u64> {
-    let ram = machine.ram();
-    if page.0 < ram.pages() && index < 512 {
-        Some(ram.read_word(page, index))
-    } else {
-        None
     }
 }
 
@@ -264,17 +238,9 @@ fn a_descriptor_is_read_once(rt: HostRuntime) -> Result<(), Fail> {
     write_lend(&mut machine);
     let outcome = machine.op_among_others(&call(0x8400_0072, 0x60, 0x60));
     same(&rt, registers(&outcome)[0], 0x8400_0061);
-    same(&rt, word_at(&machine, TX, NAMED), Some(0x4002_2000));
-    alike(
-        &rt,
-        machine.access(EndpointId(0x8001), PageNo(0x21)).is_some(),
-        false,
-    );
-    alike(
-        &rt,
-        machine.access(EndpointId(0x8001), PageNo(0x22)).is_some(),
-        true,
-    );
+    same(&rt, word(machine.ram(), TX.0, NAMED), Some(0x4002_2000));
+    alike(&rt, machine.access(FIRST, PageNo(0x21)).is_some(), false);
+    alike(&rt, machine.access(FIRST, PageNo(0x22)).is_some(), true);
     Ok(())
 }
 
@@ -285,11 +251,7 @@ fn a_bad_descriptor_is_read_once(rt: HostRuntime) -> Result<(), Fail> {
     write_lend(&mut machine);
     let outcome = machine.op_among_others(&call(0x8400_0072, 0x60, 0x60));
     same(&rt, registers(&outcome)[0], 0x8400_0060);
-    alike(
-        &rt,
-        machine.access(EndpointId(0x8001), PageNo(0x21)).is_some(),
-        true,
-    );
+    alike(&rt, machine.access(FIRST, PageNo(0x21)).is_some(), true);
     Ok(())
 }
 
@@ -304,15 +266,15 @@ fn a_message_is_read_once(rt: HostRuntime) -> Result<(), Fail> {
     same(&rt, registers(&outcome)[0], 0x8400_0061);
     same(
         &rt,
-        word_at(&machine, TX, RECEIVER),
+        word(machine.ram(), TX.0, RECEIVER),
         Some(0x8001_8003_0000_0018),
     );
     same(
         &rt,
-        word_at(&machine, PageNo(0x3F), RECEIVER),
+        word(machine.ram(), 0x3F, RECEIVER),
         Some(0x8001_8002_0000_0018),
     );
-    same(&rt, word_at(&machine, PageNo(0x3F), 3), Some(0x0707));
-    same(&rt, word_at(&machine, PageNo(0x4F), RECEIVER), Some(0));
+    same(&rt, word(machine.ram(), 0x3F, 3), Some(0x0707));
+    same(&rt, word(machine.ram(), 0x4F, RECEIVER), Some(0));
     Ok(())
 }

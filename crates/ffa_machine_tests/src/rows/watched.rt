@@ -12,31 +12,12 @@ ghost use Rattle.ffa_model.specs.Ram.{zero_ram};
 use super::memory::{MAPPED, RETRIEVE, TO_FIRST, TO_SECOND};
 use super::*;
 use crate::checks::same_at;
-use ffa_manifest::read;
 use ffa_model::{Address, FaultKind, Leaf, PageNo};
 use ffa_physmem::{FlatRam, PhysMem};
 use ffa_spmc::Machine;
 use ffa_walker::{is_in_ram, translate};
+use fixtures::{row_machine_with, writable};
 use std::cell::Cell;
-
-// The machine of the rows with a block more: the first partition has it whole, and the two pages before it.
-const MACHINE: &str = "ram_base = 0x40000000
-ram_blocks = 2
-[[endpoint]]
-version = \"1.1\"
-properties = 6
-regions = [{ base = 0x40010000, pages = 16, rights = \"rw\" }]
-[[endpoint]]
-version = \"1.1\"
-uuid = \"00112233-4455-6677-8899-aabbccddeeff\"
-properties = 15
-regions = [{ base = 0x40020000, pages = 16, rights = \"rw\" }, { base = 0x401FE000, pages = 514, rights = \"rw\" }]
-[[endpoint]]
-version = \"1.1\"
-uuid = \"10112233-4455-6677-8899-aabbccddeeff\"
-properties = 15
-regions = [{ base = 0x40030000, pages = 16, rights = \"rw\" }]
-";
 
 // The walk of a page by one endpoint's tables: what it answered when the call began, what else it answered that leads
 // somewhere, and what it answers now; what a translation unit may hold of it, since it was seen and not settled; whether it
@@ -303,9 +284,10 @@ fn push_walks(walks: &mut Vec<Walk>, manifest: &Manifest, endpoint: usize) -> Re
     Ok(())
 }
 
-// A machine whose first partition runs, where all have buffers.
+// The machine of the rows with a block more, whose first partition has it whole, and the two pages before it. That partition
+// runs, and all have buffers.
 fn watched_machine(rt: &impl Abort, alloc: Global) -> Result<Player<Machine<Watched>>, Fail> {
-    let manifest = read(alloc, MACHINE)?;
+    let manifest = row_machine_with(2, 1, writable(0x401F_E000, 514))?;
     let ram = Watched::new(alloc, &manifest)?;
     let mut player = Player::new(Machine::boot_with(&manifest, ram, NoTlb));
     goes_on(rt, alloc, &mut player, MAPPED)?;
