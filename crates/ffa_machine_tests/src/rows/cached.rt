@@ -1,9 +1,7 @@
 // SPDX-License-Identifier: MIT OR Apache-2.0
 //! Rows on machines with a cache of translations, and what the cache holds then.
-ghost use Rattle.std.specs.Prelude.{◌≡◌, IfOk};
-ghost use Rattle.ffa_model.specs.Ram.{zero_ram};
-
 use super::memory::{LEND, MAPPED, RELINQUISH, RETRIEVE, RETRIEVED, TO_FIRST, TO_SECOND};
+use super::watched::Watched;
 use super::*;
 use crate::checks::{holds, holds_at};
 use ffa_model::{Address, EndpointId, Leaf, PageNo};
@@ -11,7 +9,6 @@ use ffa_physmem::{FlatRam, PhysMem};
 use ffa_spmc::Machine;
 use ffa_tlb::{InTurn, Replacement, Tlb};
 use fixtures::{FIRST, SECOND};
-use std::cell::Cell;
 
 // Picks one slot each time.
 #[derive(Drop)]
@@ -138,88 +135,18 @@ fn begins_with_nothing(rt: HostRuntime) -> Result<(), Fail> {
     goes_on(&rt, rt.alloc(), &mut player, LOAD)
 }
 
-// The pages of the machine's tables.
-const TABLES: u32 = 9;
-
-// RAM that counts the reads of tables.
-#[derive(Drop)]
-struct Counting {
-    ram: FlatRam,
-    reads: Cell<u32>,
-}
-
-impl Counting {
-    fn count(&self, page: PageNo) {
-        if page.0 < TABLES {
-            self.reads.set(self.reads.get().wrapping_add(1));
-        }
-    }
-}
-
-impl PhysMem for Counting {
-    ghost use Rattle.std.specs.Prelude.{refl, None};
-    ghost use Rattle.ffa_physmem.specs.Unrecorded.{unrecorded};
-
-    ghost ram = { λ m. ⟦<FlatRam as PhysMem>⟧.ram m.ram };
-
-    ghost with_bytes = { λ m page bytes. record m { ram = ⟦<FlatRam as PhysMem>⟧.with_bytes m.ram page bytes } };
-
-    // No record is kept.
-    ghost past = { λ _. None };
-
-    ghost one_page = { λ m page bytes. refl };
-
-    ghost in_loan = { λ _ _ _. unrecorded };
-
-    fn base(&self) -> Address {
-        self.ram.base()
-    }
-
-    fn pages(&self) -> u32 {
-        self.ram.pages()
-    }
-
-    fn page(&self, page: PageNo) -> &[u8; 4096] {
-        self.count(page);
-        self.ram.page(page)
-    }
-
-    fn page_mut(&mut self, page: PageNo) -> &mut [u8; 4096] {
-        self.ram.page_mut(page)
-    }
-
-    fn read_word(&self, page: PageNo, index: usize) -> u64 {
-        self.count(page);
-        self.ram.read_word(page, index)
-    }
-
-    fn settle(&mut self, _endpoint: usize, _first: PageNo, _count: u32) {}
-
-    fn write_word(&mut self, page: PageNo, index: usize, value: u64) {
-        self.ram.write_word(page, index, value);
-    }
-}
-
-fn counting_ram(alloc: Global) -> Result<Counting, Fail>
-    ensures { IfOk result (λ ram. ⟦<Counting as PhysMem>⟧.ram ram ≡ zero_ram 0x40000000 512) }
-{
-    Ok(Counting {
-        ram: FlatRam::new(alloc, Address(0x4000_0000), 512)?,
-        reads: Cell::new(0),
-    })
-}
-
 // A player whose reads of tables are counted, with a cache of two entries.
-fn counting_player(alloc: Global) -> Result<Player<Machine<Counting, Tlb<InTurn, 2>>>, Fail> {
+fn counting_player(alloc: Global) -> Result<Player<Machine<Watched, Tlb<InTurn, 2>>>, Fail> {
+    let manifest = row_machine();
+    let ram = Watched::new(alloc, &manifest)?;
     let cache = Tlb::new(InTurn::default());
-    let machine = Machine::boot_with(&row_machine(), counting_ram(alloc)?, cache);
-    Ok(Player::new(machine))
+    Ok(Player::new(Machine::boot_with(&manifest, ram, cache)))
 }
 
 // How often a trace reads tables.
 fn reads_of<T: Translations + Drop>(
     alloc: Global,
-    player: &mut Player<Machine<Counting, T>>,
+    player: &mut Player<Machine<Watched, T>>,
     trace: &str,
 ) -> Result<u32, Fail> {
     player.machine().ram().reads.set(0);

@@ -100,16 +100,28 @@ struct Writes {
     lent: u32,
 }
 
-// RAM that is looked at after each write of a call: the walk of some pages, by the tables of every endpoint.
+// The pages of the tables of the machine of the rows.
+const TABLES: u32 = 9;
+
+// RAM that is looked at after each write of a call: the walk of some pages, by the tables of every endpoint. Reads of tables
+// are counted at any time.
 #[derive(Drop)]
-struct Watched {
+pub(super) struct Watched {
     ram: FlatRam,
     walks: Vec<Walk>,
     writes: Cell<Writes>,
     is_call: Cell<bool>,
+    pub(super) reads: Cell<u32>,
 }
 
 impl Watched {
+    // Counts the read of a page, if it is one of the tables'.
+    fn count(&self, page: PageNo) {
+        if page.0 < TABLES {
+            self.reads.set(self.reads.get().wrapping_add(1));
+        }
+    }
+
     // Looks at each walk, during a call.
     fn look(&self) {
         if self.is_call.get() {
@@ -193,7 +205,13 @@ impl PhysMem for Watched {
     }
 
     fn page(&self, page: PageNo) -> &[u8; 4096] {
+        self.count(page);
         self.ram.page(page)
+    }
+
+    fn read_word(&self, page: PageNo, index: usize) -> u64 {
+        self.count(page);
+        self.ram.read_word(page, index)
     }
 
     fn page_mut(&mut self, page: PageNo) -> &mut [u8; 4096] {
@@ -236,7 +254,7 @@ impl PhysMem for Watched {
 
 impl Watched {
     // RAM of zeros for a machine.
-    fn new(alloc: Global, manifest: &Manifest) -> Result<Watched, Fail>
+    pub(super) fn new(alloc: Global, manifest: &Manifest) -> Result<Watched, Fail>
         ensures { IfOk result (λ ram. ⟦<Watched as PhysMem>⟧.ram ram
             ≡ zero_ram manifest.now.ram_base.0 (512 * manifest.now.ram_blocks)) }
     {
@@ -247,6 +265,7 @@ impl Watched {
             walks,
             writes: Cell::new(NOTHING),
             is_call: Cell::new(false),
+            reads: Cell::new(0),
         })
     }
 }
