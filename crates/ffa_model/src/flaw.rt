@@ -75,15 +75,15 @@ pub enum AccessFlaw {
 pub enum CompositeFlaw {
     /// It doesn't end, without its ranges, inside the descriptor.
     Outside,
-    /// It doesn't begin at a multiple of 16.
+    /// The composite does not begin at a multiple of 16.
     Unaligned,
-    /// It begins before the access descriptors end.
+    /// The composite begins before the access descriptors end.
     InArray,
     /// It has no range.
     NoRange,
-    /// It has more ranges than a transaction may have.
+    /// The composite has more ranges than a transaction may have.
     ManyRanges,
-    /// Its reserved bytes are not 0.
+    /// The composite's reserved bytes are not 0.
     Reserved,
     /// Its ranges don't end inside the descriptor.
     RangesOutside,
@@ -111,9 +111,9 @@ pub enum RangeFlaw {
 pub enum RetrieveFlaw {
     /// The memory attributes are neither 0 nor those of normal memory.
     Attributes,
-    /// A flag is set beside the kind.
+    /// A flag is set beside the transaction type.
     Flags,
-    /// There is not one access descriptor.
+    /// The count of access descriptors is not 1.
     AccessCount,
     /// The access descriptor doesn't name the caller.
     ReceiverIsAnother,
@@ -136,7 +136,7 @@ pub enum RetrieveFlaw {
 pub enum RelinquishFlaw {
     /// The descriptor is shorter than 18 bytes.
     Short,
-    /// A flag but bit 0 is set.
+    /// A flag other than bit 0 is set.
     Flags,
     /// There is not one endpoint.
     EndpointCount,
