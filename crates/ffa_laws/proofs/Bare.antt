@@ -43,7 +43,8 @@ use Rattle.ffa_laws.proofs.BufferLaws.{own-buffers}
 use Rattle.ffa_laws.proofs.Changes.{apply_all-append}
 use Rattle.ffa_laws.proofs.Laws.{other-call}
 use Rattle.ffa_laws.proofs.Maps.{at-map_at, map_at-alike, map_at-twice}
-use Rattle.ffa_laws.proofs.Meets.{FitsBitmap, decode-fits, zero-word}
+use Rattle.ffa_laws.proofs.Meets.{zero-word}
+use Rattle.ffa_model.proofs.Served.{FitsBitmap, decode-fits}
 use Rattle.ffa_laws.proofs.MemoryLaws.{fault-none}
 use Rattle.ffa_laws.proofs.Rows.{all-weaker, row-of, told_row}
 use Rattle.ffa_laws.proofs.SendLaws.{rewritten-sent}

@@ -1,7 +1,7 @@
 -- SPDX-License-Identifier: MIT OR Apache-2.0
 -- Each event that is told is about something that stands in the view which it meets.
 use Rattle.std.proofs.Common.{◌≡◌, ◌∙◌, ℕ, zero, suc, length, ◌+◌, ◌-◌, ◌/◌, ◌%◌, ◌^◌, ◌<◌, Bool, true, false, cond, List, [], ◌∷◌, ◌++◌, Option, Some, None, is_some, refl, sym, ap, arith, inl, inr}
-use Rattle.std.specs.Prelude.{◌==◌, ◌&&◌, filter, find, nat_le, nat_lt, not, slice_index, if◌then◌else◌}
+use Rattle.std.specs.Prelude.{◌==◌, ◌&&◌, filter, nat_le, nat_lt, not, slice_index}
 use Rattle.std.specs.List.{list_all}
 use Rattle.std.specs.Option.{option_and_then, option_map}
 use Rattle.byteorder.specs.Endian.{little_bytes}
@@ -17,17 +17,18 @@ use Rattle.ffa_model.specs.Transactions.{not_holding}
 use Rattle.ffa_model.specs.SoundState.{IsSoundState}
 use Rattle.ffa_model.specs.State.{State, Page, Transaction, buffers_of, is_known, page_at, transaction_of}
 use Rattle.ffa_model.specs.Access.{access, is_from, right_of, transaction_at}
-use Rattle.ffa_model.specs.Bits.{bits_of, is_set, word_of_halves, word_where}
+use Rattle.ffa_model.specs.Bits.{bits_of, is_set, word_where}
 use Rattle.ffa_model.specs.Calls.{first_failure}
 use Rattle.ffa_model.specs.Lists.{listed}
 use Rattle.ffa_model.specs.Memory.{access_at, size_of, store_fault}
 use Rattle.ffa_model.specs.MemoryReturn.{relinquish_read}
 use Rattle.ffa_model.specs.Messages.{header_in, message_in, msg_send2, send2_guards, tx_bytes}
 use Rattle.ffa_model.specs.Notifications.{binding, class_of, has_bitmaps_in, is_bound, manager_class, message_bits, notification_set, notifications_of, set_guards}
-use Rattle.ffa_model.specs.Registers.{Function, called, decode, functions, is_form_of, low}
+use Rattle.ffa_model.specs.Registers.{decode}
 use Rattle.ffa_model.specs.Step.{serve, service}
 use Rattle.ffa_model.proofs.Bitmaps.{word_where-same, word_where-set}
 use Rattle.ffa_model.proofs.Guards.{guard-passes}
+use Rattle.ffa_model.proofs.Served.{FitsBitmap, decode-fits}
 use Rattle.ffa_laws.specs.View.{involves, kept, seen_by, view}
 use Rattle.ffa_laws.specs.Events.{Event, Wrote, Filled, Pending, Held, Zeroed, apply, apply_all, call_events, delivers, events, public_change, releases, sets, told_by, where_passed, where_true, with_holder, writes}
 use Rattle.ffa_laws.specs.Silence.{AreMet, is_met, may_tell}
@@ -70,39 +71,6 @@ free-met e v event free = refl
 all-free : (e : ℕ) (es : List Event) (v : State) → list_all is_free es ≡ true → AreMet e v es
 all-free e [] v free = tt
 all-free e (x ∷ es) v free = let (here, rest) = and_parts (is_free x) (list_all is_free es) free in (free-met e v x here, all-free e es (apply e v x) rest)
-
--- ---- the bitmap of FFA_NOTIFICATION_SET has 64 bits
-abbrev pub FitsBitmap : calls.Call → Type 0
-FitsBitmap (NotificationSet its) = its.bitmap < 2 ^ 64
-FitsBitmap call = Unit {0}
-
-abbrev IsNarrow : Function → Type 0
-IsNarrow f = (w x : ℕ → ℕ) → ((i : ℕ) → w i < 2 ^ 32) → FitsBitmap (f.call w x)
-
-abbrev AreNarrow : List Function → Type 0
-AreNarrow [] = Unit {0}
-AreNarrow (f ∷ fs) = IsNarrow f × AreNarrow fs
-
-fits-bitmap : (low high : ℕ) → low < 2 ^ 32 → high < 2 ^ 32 → word_of_halves low high < 2 ^ 64
-fits-bitmap low high lt also = omega arith
-
-functions-narrow : AreNarrow functions
-functions-narrow =
-    (λ w x narrow. tt, (λ w x narrow. tt, (λ w x narrow. tt, (λ w x narrow. tt, (λ w x narrow. tt, (λ w x narrow. tt, (λ w x narrow. tt, (λ w x narrow. tt, (λ w x narrow. tt, (λ w x narrow. tt, (λ w x narrow. tt, (λ w x narrow. tt, (λ w x narrow. tt, (λ w x narrow. tt, (λ w x narrow. tt, (λ w x narrow. tt, (λ w x narrow. tt, (λ w x narrow. tt, (λ w x narrow. tt, (λ w x narrow. tt, (λ w x narrow. tt, (λ w x narrow. tt, (λ w x narrow. fits-bitmap (w 3) (w 4) (narrow 3) (narrow 4), (λ w x narrow. tt, (λ w x narrow. tt, (λ w x narrow. tt, tt))))))))))))))))))))))))))
-
-found-narrow : (x : List ℕ) (fs : List Function) → AreNarrow fs → FitsBitmap (called x (find (is_form_of (low (slice_index x 0))) fs))
-found-narrow x [] narrow = tt
-found-narrow x (f ∷ fs) narrow =
-    elim (is_form_of (low (slice_index x 0)) f) as (λ b. FitsBitmap (called x (cond b (Some f) (find (is_form_of (low (slice_index x 0))) fs)))) [
-      | true ↦
-          narrow.0 (λ i. low (slice_index x i)) (λ i. if low (slice_index x 0) == f.function then low (slice_index x i) else slice_index x i)
-          (λ i. omega arith)
-      | false ↦ found-narrow x fs narrow.1
-    ]
-
-pub decode-fits : (x : List ℕ) → FitsBitmap (decode x)
-unfolding decode
-decode-fits x = found-narrow x functions functions-narrow
 
 -- a word of which no bit is set is 0
 no-bits : (n : ℕ) → word_where n (λ k. false) ≡ 0

@@ -1,12 +1,14 @@
 -- SPDX-License-Identifier: MIT OR Apache-2.0
 -- What holds of each call that registers hold, by the rows of the definition's table and of the code's.
-use Rattle.std.proofs.Common.{◌≡◌, ℕ, Bool, true, false, cond, List, [], ◌∷◌, map, Option, Some, None, refl, sym, ap, arith}
+use Rattle.std.proofs.Common.{◌≡◌, ℕ, ◌<◌, ◌^◌, Bool, true, false, cond, List, [], ◌∷◌, map, Option, Some, None, refl, sym, ap, arith}
 use Rattle.std.specs.Prelude.{◌==◌, ◌&&◌, ◌||◌, find, slice_index, if◌then◌else◌}
 use Rattle.std.specs.List.{list_any}
 use Rattle.std.specs.Option.{option_map_or}
 use Rattle.std.proofs.lemmas.Bool.{not-true}
 use Rattle.std.proofs.lemmas.Bool.Decides.{nat_tests}
 use Rattle.std.proofs.lemmas.Option.{none-some}
+use Rattle.ffa_model.specs.declared.call.Call.{Call}
+use Rattle.ffa_model.specs.declared.call.Call.TheVariants.{NotificationSet}
 use Rattle.ffa_model.specs.declared.call.Reply.TheVariants as replies
 use Rattle.ffa_model.specs.declared.call.Reply.TheVariants.{Error}
 use Rattle.ffa_model.specs.declared.operation.ErrorCode.TheVariants.{NotSupported}
@@ -14,7 +16,7 @@ use Rattle.ffa_model.specs.declared.refusal.Refusal.TheVariants.{FunctionUnknown
 use Rattle.ffa_model.specs.declared.rights.Kind.TheVariants.{Share, Lend, Donate}
 use Rattle.ffa_model.specs.declared.schedule.Status.{Status}
 use Rattle.ffa_model.specs.declared.schedule.Status.TheVariants.{Waiting, Running, Blocked, Yielded}
-use Rattle.ffa_model.specs.Bits.{high_half}
+use Rattle.ffa_model.specs.Bits.{high_half, word_of_halves}
 use Rattle.ffa_model.specs.Calls.{Service, first_failure, success}
 use Rattle.ffa_model.specs.MemoryRetrieve.{retrieve_read}
 use Rattle.ffa_model.specs.MemoryReturn.{relinquish_read}
@@ -29,7 +31,6 @@ use Rattle.ffa_model.specs.Transactions.{open_of, scene_of}
 use Rattle.ffa_model.specs.Checks.{AreListed, checks_of}
 use Rattle.ffa_model.proofs.CheckLists.{relinquish_listed, retrieve_listed, send_listed}
 
--- what a call replies that no guard refuses isn't seen as FFA_ERROR
 run-no-error : (target : ℕ) (status : Status) → is_error (run_reply target status) ≡ false
 run-no-error target Waiting = refl
 run-no-error target Yielded = refl
@@ -44,17 +45,27 @@ feature-no-error : (served : Bool) → first_failure ((served, FunctionUnknown) 
 feature-no-error true none = refl
 feature-no-error false none = absurd (none-some NotSupported (sym none))
 
--- a function and its row: in either form it passes no error on, it reads whole no register that the row doesn't list, its
--- guards are the checks that the row lists, and what none of them refuses isn't seen as FFA_ERROR
+-- the bitmap of FFA_NOTIFICATION_SET has 64 bits
+abbrev pub FitsBitmap : Call → Type 0
+FitsBitmap (NotificationSet its) = its.bitmap < 2 ^ 64
+FitsBitmap call = Unit {0}
+
+fits-bitmap : (low high : ℕ) → low < 2 ^ 32 → high < 2 ^ 32 → word_of_halves low high < 2 ^ 64
+fits-bitmap low high lt also = omega arith
+
+-- what no guard refuses isn't seen as FFA_ERROR
 abbrev HasNoError : Service → Type 0
 HasNoError c = first_failure c.guards ≡ None → is_error c.reply ≡ false
 
+-- a function and its row: in either form it passes no error on, it reads whole no register that the row doesn't list, its
+-- guards are the checks that the row lists, what none of them refuses isn't seen as FFA_ERROR, and a bitmap has 64 bits
 abbrev IsServed : Function → Row → Type 0
 IsServed f row =
     ((w x : ℕ → ℕ) → is_form_of (w 0) f ≡ true → passes_no_error (f.call w x) ≡ true)
     × ((w x : ℕ → ℕ) → f.call w x ≡ f.call w (λ i. if list_any (λ whole. whole == i) row.whole then x i else w i))
     × ((s : State) (w x : ℕ → ℕ) → AreListed s (f.call w x) row.checks)
     × ((s : State) (w x : ℕ → ℕ) → passes_no_error (f.call w x) ≡ true → HasNoError (service s (f.call w x)))
+    × ((w x : ℕ → ℕ) → ((i : ℕ) → w i < 2 ^ 32) → FitsBitmap (f.call w x))
 
 abbrev AreServed : List Function → List Row → Type 0
 AreServed [] rs = Unit {0}
@@ -67,32 +78,32 @@ a ▸ b = (a, b)
 
 functions-served : AreServed functions rows
 functions-served =
-    (λ w x form. refl, λ w x. refl, λ s w x. (0, refl), λ s w x named none. version-no-error _)
-    ▸ (λ w x form. refl, λ w x. refl, λ s w x. (0, refl), λ s w x named none. feature-no-error (is_function (w 1)) none)
-    ▸ (λ w x form. refl, λ w x. refl, λ s w x. (0, refl), λ s w x named none. refl)
-    ▸ (λ w x form. refl, λ w x. refl, λ s w x. (0, refl), λ s w x named none. refl)
-    ▸ (λ w x form. refl, λ w x. refl, λ s w x. (0, refl), λ s w x named none. refl)
-    ▸ (λ w x form. refl, λ w x. refl, λ s w x. (0, refl), λ s w x named none. refl)
-    ▸ (λ w x form. refl, λ w x. refl, λ s w x. (0, refl), λ s w x named none. refl)
-    ▸ (λ w x form. refl, λ w x. refl, λ s w x. (0, refl), λ s w x named none. refl)
-    ▸ (λ w x form. refl, λ w x. refl, λ s w x. (0, refl), λ s w x named none. refl)
-    ▸ (λ w x form. refl, λ w x. refl, λ s w x. (0, refl), λ s w x named none. run-no-error (high_half (w 1)) (status_in (schedule_of s) (high_half (w 1))))
-    ▸ (λ w x form. grind (arith, nat_tests, form), λ w x. refl, λ s w x. (0, refl), λ s w x named none. not-true _ named)
-    ▸ (λ w x form. grind (arith, nat_tests, form), λ w x. refl, λ s w x. (0, refl), λ s w x named none. not-true _ named)
-    ▸ (λ w x form. refl, λ w x. refl, λ s w x. send_listed (scene_of s) s.runner (transfer w x) (send_read s Donate (w 1)), λ s w x named none. refl)
-    ▸ (λ w x form. refl, λ w x. refl, λ s w x. send_listed (scene_of s) s.runner (transfer w x) (send_read s Lend (w 1)), λ s w x named none. refl)
-    ▸ (λ w x form. refl, λ w x. refl, λ s w x. send_listed (scene_of s) s.runner (transfer w x) (send_read s Share (w 1)), λ s w x named none. refl)
-    ▸ (λ w x form. refl, λ w x. refl, λ s w x. retrieve_listed (scene_of s) s.runner (transfer w x) (retrieve_read s (w 1)), λ s w x named none. refl)
-    ▸ (λ w x form. refl, λ w x. refl, λ s w x. relinquish_listed (buffers_of s s.runner) (open_of s) s.runner (relinquish_read s), λ s w x named none. refl)
-    ▸ (λ w x form. refl, λ w x. refl, λ s w x. (0, refl), λ s w x named none. refl)
-    ▸ (λ w x form. refl, λ w x. refl, λ s w x. (0, refl), λ s w x named none. refl)
-    ▸ (λ w x form. refl, λ w x. refl, λ s w x. (0, refl), λ s w x named none. refl)
-    ▸ (λ w x form. refl, λ w x. refl, λ s w x. (0, refl), λ s w x named none. refl)
-    ▸ (λ w x form. refl, λ w x. refl, λ s w x. (0, refl), λ s w x named none. refl)
-    ▸ (λ w x form. refl, λ w x. refl, λ s w x. (0, refl), λ s w x named none. refl)
-    ▸ (λ w x form. refl, λ w x. refl, λ s w x. (0, refl), λ s w x named none. refl)
-    ▸ (λ w x form. refl, λ w x. refl, λ s w x. (0, refl), λ s w x named none. refl)
-    ▸ (λ w x form. refl, λ w x. refl, λ s w x. (0, refl), λ s w x named none. refl)
+    (λ w x form. refl, λ w x. refl, λ s w x. (0, refl), λ s w x named none. version-no-error _, λ w x narrow. tt)
+    ▸ (λ w x form. refl, λ w x. refl, λ s w x. (0, refl), λ s w x named none. feature-no-error (is_function (w 1)) none, λ w x narrow. tt)
+    ▸ (λ w x form. refl, λ w x. refl, λ s w x. (0, refl), λ s w x named none. refl, λ w x narrow. tt)
+    ▸ (λ w x form. refl, λ w x. refl, λ s w x. (0, refl), λ s w x named none. refl, λ w x narrow. tt)
+    ▸ (λ w x form. refl, λ w x. refl, λ s w x. (0, refl), λ s w x named none. refl, λ w x narrow. tt)
+    ▸ (λ w x form. refl, λ w x. refl, λ s w x. (0, refl), λ s w x named none. refl, λ w x narrow. tt)
+    ▸ (λ w x form. refl, λ w x. refl, λ s w x. (0, refl), λ s w x named none. refl, λ w x narrow. tt)
+    ▸ (λ w x form. refl, λ w x. refl, λ s w x. (0, refl), λ s w x named none. refl, λ w x narrow. tt)
+    ▸ (λ w x form. refl, λ w x. refl, λ s w x. (0, refl), λ s w x named none. refl, λ w x narrow. tt)
+    ▸ (λ w x form. refl, λ w x. refl, λ s w x. (0, refl), λ s w x named none. run-no-error (high_half (w 1)) (status_in (schedule_of s) (high_half (w 1))), λ w x narrow. tt)
+    ▸ (λ w x form. grind (arith, nat_tests, form), λ w x. refl, λ s w x. (0, refl), λ s w x named none. not-true _ named, λ w x narrow. tt)
+    ▸ (λ w x form. grind (arith, nat_tests, form), λ w x. refl, λ s w x. (0, refl), λ s w x named none. not-true _ named, λ w x narrow. tt)
+    ▸ (λ w x form. refl, λ w x. refl, λ s w x. send_listed (scene_of s) s.runner (transfer w x) (send_read s Donate (w 1)), λ s w x named none. refl, λ w x narrow. tt)
+    ▸ (λ w x form. refl, λ w x. refl, λ s w x. send_listed (scene_of s) s.runner (transfer w x) (send_read s Lend (w 1)), λ s w x named none. refl, λ w x narrow. tt)
+    ▸ (λ w x form. refl, λ w x. refl, λ s w x. send_listed (scene_of s) s.runner (transfer w x) (send_read s Share (w 1)), λ s w x named none. refl, λ w x narrow. tt)
+    ▸ (λ w x form. refl, λ w x. refl, λ s w x. retrieve_listed (scene_of s) s.runner (transfer w x) (retrieve_read s (w 1)), λ s w x named none. refl, λ w x narrow. tt)
+    ▸ (λ w x form. refl, λ w x. refl, λ s w x. relinquish_listed (buffers_of s s.runner) (open_of s) s.runner (relinquish_read s), λ s w x named none. refl, λ w x narrow. tt)
+    ▸ (λ w x form. refl, λ w x. refl, λ s w x. (0, refl), λ s w x named none. refl, λ w x narrow. tt)
+    ▸ (λ w x form. refl, λ w x. refl, λ s w x. (0, refl), λ s w x named none. refl, λ w x narrow. tt)
+    ▸ (λ w x form. refl, λ w x. refl, λ s w x. (0, refl), λ s w x named none. refl, λ w x narrow. tt)
+    ▸ (λ w x form. refl, λ w x. refl, λ s w x. (0, refl), λ s w x named none. refl, λ w x narrow. tt)
+    ▸ (λ w x form. refl, λ w x. refl, λ s w x. (0, refl), λ s w x named none. refl, λ w x narrow. tt)
+    ▸ (λ w x form. refl, λ w x. refl, λ s w x. (0, refl), λ s w x named none. refl, λ w x narrow. fits-bitmap (w 3) (w 4) (narrow 3) (narrow 4))
+    ▸ (λ w x form. refl, λ w x. refl, λ s w x. (0, refl), λ s w x named none. refl, λ w x narrow. tt)
+    ▸ (λ w x form. refl, λ w x. refl, λ s w x. (0, refl), λ s w x named none. refl, λ w x narrow. tt)
+    ▸ (λ w x form. refl, λ w x. refl, λ s w x. (0, refl), λ s w x named none. refl, λ w x narrow. tt)
     ▸ tt
 
 -- the identifier, and whether there is a 64-bit form
@@ -146,3 +157,7 @@ pub done-no-error : (s : State) (x : List ℕ) → HasNoError (service s (decode
 unfolding decode
 done-no-error s x =
     found (low (slice_index x 0)) (λ o row. HasNoError (service s (called x o))) (λ none. absurd (none-some NotSupported (sym none))) (λ f row is form. is.3 s _ _ (is.0 _ _ form))
+
+pub decode-fits : (x : List ℕ) → FitsBitmap (decode x)
+unfolding decode
+decode-fits x = found (low (slice_index x 0)) (λ o row. FitsBitmap (called x o)) tt (λ f row is form. is.4 (λ i. low (slice_index x i)) _ (λ i. omega arith))
