@@ -17,7 +17,7 @@ placed c =
     let found = position_from_yields_List (λ row. is_row_of w0 (told row)) _ _ c.position.result c.position.ensures.ran (YieldsList-from_slice all refl) (λ x b q k. search (rules, tests)) in
     let many = sym (ap length c.iter.ensures.rest) in
     c.unwrap_or.ensures
-    ∙ ap (λ o. unwrap_or o 26) found
+    ∙ ap (λ o. unwrap_or o (length rows)) found
     ∙ ap (unwrap_or (position (λ row. is_row_of w0 (told row)) all)) many
     ∙ place-or-behind (λ row. is_row_of w0 (told row)) all
     ∙ place-map told (is_row_of w0) all
