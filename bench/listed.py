@@ -7,7 +7,7 @@ import re
 
 TOP = os.path.dirname(os.path.dirname(os.path.realpath(__file__)))
 
-# A crate's folder from the top of the repository, its floor, which is the folder of crates/ that it stands in, and the names of what it uses.
+# A crate's folder from the top of the repository, its floor, with which the heading of its lines begins, and the names of what it uses.
 Crate = collections.namedtuple("Crate", "folder floor uses")
 
 
@@ -15,5 +15,11 @@ Crate = collections.namedtuple("Crate", "folder floor uses")
 def crates():
     """The crates by their names, in the order of crates.txt."""
     with open(f"{TOP}/crates.txt", encoding="utf-8") as file:
-        rows = re.findall(r"(?m)^([\w/]+)[^:#\n]*:([^#\n]*)", file.read())
-    return {os.path.basename(path): Crate(f"crates/{path}", os.path.dirname(path), [os.path.basename(it) for it in used.split()]) for path, used in rows}
+        rows = re.findall(r"(?m)^(# )?(\w+)[^:#\n]*:([^#\n]*)", file.read())
+    found, floor = {}, None
+    for is_heading, name, rest in rows:
+        if is_heading:
+            floor = name
+        else:
+            found[name] = Crate(f"crates/{name}", floor, rest.split())
+    return found
