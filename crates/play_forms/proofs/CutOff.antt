@@ -1,10 +1,10 @@
 -- SPDX-License-Identifier: MIT OR Apache-2.0
 -- In each form the plain text is what is left when numbers and names are cut off and reasons left out.
-use Rattle.std.proofs.Common.{◌≡◌, ℕ, ◌+◌, ◌*◌, ◌-◌, Bool, true, false, List, [], ◌∷◌, ◌++◌, length, take, Option, None, Some, sym, ap, ◌∙◌, subst, append-nil, refl}
+use Rattle.std.proofs.Common.{◌≡◌, ◌≢◌, ℕ, ◌+◌, ◌*◌, ◌-◌, Bool, true, false, List, [], ◌∷◌, ◌++◌, length, take, Option, None, Some, inl, inr, sym, ap, ◌∙◌, subst, arith, append-nil, length-append, refl}
 use Rattle.std.specs.Prelude.{◌==◌, codes, slice_index, if◌then◌else◌}
 use Rattle.std.specs.List.{flat_map, range_with_len}
 use Rattle.std.specs.Option.{option_map_or}
-use Rattle.std.proofs.lemmas.Bool.{and_from}
+use Rattle.std.proofs.lemmas.Bool.{and_from, cases_Bool}
 use Rattle.std.proofs.lemmas.List.Folds.{list_all-append}
 use Rattle.ffa_model.specs.declared.rights.Rights.{Rights}
 use Rattle.ffa_model.specs.declared.certificate.CertRun.{CertRun}
@@ -22,15 +22,17 @@ use Rattle.ffa_model.specs.Agreement.{root}
 use Rattle.ffa_model.specs.Certificate.{certificate}
 use Rattle.ffa_model.specs.Identifiers.{identifier}
 use Rattle.ffa_model.specs.Step.{step}
-use Rattle.play_syntax.specs.TraceLines.{Line, operate, show, audit, skip, space, has_no_feed, line_of}
+use Rattle.play_syntax.specs.TraceLines.{Line, operate, show, audit, skip, feed, space, has_no_feed, line_of}
 use Rattle.play_syntax.specs.TraceText.{hex, spaced, ended, fault_name, bytes_moved, outcome_words, outcome_text, rights_text, runs_of, run_text, runner_text, show_text, cert_text, root_text, handle_text, cert_run_text, audit_text, line_text, text_of, text, after}
+use Rattle.play_syntax.specs.Lines.{outcome_of}
 use Rattle.ffa_abi.specs.Names.{error_names, name_in, call_name_of, error_name_of}
 use Rattle.play_reasons.specs.Marks.{names_mark}
 use Rattle.play_forms.specs.Cut.{CutsTo, cut_names}
-use Rattle.play_forms.specs.Forms.{number_in, outcome_in, unnumbered_in, line_text_in, text_of_in, text_in}
+use Rattle.play_forms.specs.Forms.{number_in, named_in, line_text_in, text_of_in, text_in}
 use Rattle.play_reasons.specs.Reasons.{reason_if}
 use Rattle.play_forms.specs.declared.form.Form.{Form}
 use Rattle.play_forms.proofs.Cuts.{IsInner, is_headed, inner_append, inner_flat_map, inner_single, cut_names-inner, cut_names-mark, cuts_none, cuts_append, cuts_flat_map, cuts_line, cuts_words, cuts_first}
+use Rattle.play_forms.proofs.Dressing.{dressed_some, named_ended}
 use Rattle.play_forms.proofs.PrintedWords.{inner_hex, single_in, single_call}
 use Rattle.play_forms.proofs.ReasonLines.{reason_cuts}
 
@@ -118,15 +120,14 @@ module _ (form : Form) (n : ℕ) (op : Op) (outcome : Outcome) where
       cuts_line form n (words ++ names_mark x) words (list_all-append _ words (names_mark x) ∙ and_from _ _ (inner_single words inner) single) (headed_outcome op outcome (names_mark x))
       (names_cut words (call_name_of x) (error_name_of x) inner)
 
-  -- with names behind it where they are asked for
-  asked_cuts : (names : Bool) (x : List ℕ) → CutsTo (number_in form n ++ ended (outcome_words op outcome ++ (if names then names_mark x else []))) (ended (outcome_words op outcome))
-  asked_cuts true x = named_cuts x
-  asked_cuts false x =
-      let words = outcome_words op outcome in
-      subst (λ line. CutsTo (number_in form n ++ ended line) (ended words)) (sym (append-nil words)) unnamed_cuts
-
-outcome_cuts : (form : Form) (n : ℕ) (op : Op) (outcome : Outcome) → CutsTo (number_in form n ++ outcome_in form op outcome) (outcome_text op outcome)
-outcome_cuts form n op (Regs runner x) = asked_cuts form n op (Regs runner x) form.names x
+-- with the names of registers where they are asked for
+outcome_cuts : (form : Form) (n : ℕ) (op : Op) (outcome : Outcome) → CutsTo (number_in form n ++ named_in form (Some outcome) (outcome_text op outcome)) (outcome_text op outcome)
+outcome_cuts form n op (Regs runner x) =
+    let words = outcome_words op (Regs runner x) in
+    elim (cases_Bool form.names) [
+      | inl asked ↦ subst (λ t. CutsTo (number_in form n ++ t) (ended words)) (sym (named_ended form runner x words asked)) (named_cuts form n op (Regs runner x) x)
+      | inr unasked ↦ rw unasked (unnamed_cuts form n op (Regs runner x))
+    ]
 outcome_cuts form n op (Data value) = unnamed_cuts form n op (Data value)
 outcome_cuts form n op Done = unnamed_cuts form n op Done
 outcome_cuts form n op (Fault kind) = unnamed_cuts form n op (Fault kind)
@@ -185,19 +186,32 @@ audit_cuts form n s =
 
 -- TEXTS
 
+-- texts that are not empty
+outcome_some : (op : Op) (outcome : Outcome) → length (outcome_text op outcome) ≢ 0
+outcome_some op outcome none = absurd (omega (arith, none, length-append (outcome_words op outcome) (feed ∷ [])))
+
+show_some : (s : State) → length (show_text s) ≢ 0
+unfolding show_text runner_text
+show_some s none = absurd (omega (arith, none))
+
+audit_some : (s : State) → length (audit_text s) ≢ 0
+unfolding audit_text cert_text
+audit_some s none = absurd (omega (arith, none))
+
 -- with a line of a reason behind it, where one is asked for
-spoken_cuts : (form : Form) (n : ℕ) (s : State) (line : Line) → CutsTo (number_in form n ++ unnumbered_in form s line) (line_text s line)
-    → CutsTo (number_in form n ++ unnumbered_in form s line ++ reason_if form.explain s line) (line_text s line)
-spoken_cuts form n s line own =
-    let front = number_in form n ++ unnumbered_in form s line in
-    subst (CutsTo (front ++ reason_if form.explain s line)) (append-nil (line_text s line))
-    (cuts_append front (line_text s line) (reason_if form.explain s line) [] own (reason_cuts form.explain s line))
+spoken_cuts : (form : Form) (n : ℕ) (s : State) (line : Line) → length (line_text s line) ≢ 0 → CutsTo (number_in form n ++ named_in form (outcome_of s line) (line_text s line)) (line_text s line)
+    → CutsTo (line_text_in form n s line) (line_text s line)
+spoken_cuts form n s line some own =
+    let front = number_in form n ++ named_in form (outcome_of s line) (line_text s line) in
+    let reason = reason_if form.explain s line in
+    subst (λ t. CutsTo t (line_text s line)) (sym (dressed_some form n (outcome_of s line) reason (line_text s line) some))
+    (subst (CutsTo (front ++ reason)) (append-nil (line_text s line)) (cuts_append front (line_text s line) reason [] own (reason_cuts form.explain s line)))
 
 pub line_cuts : (form : Form) (n : ℕ) (s : State) (line : Option Line) → CutsTo (option_map_or (line_text_in form n s) line []) (option_map_or (line_text s) line [])
 line_cuts form n s None = cuts_none
-line_cuts form n s (Some (operate op)) = spoken_cuts form n s (operate op) (outcome_cuts form n op (step s op).outcome)
-line_cuts form n s (Some show) = spoken_cuts form n s show (show_cuts form n s)
-line_cuts form n s (Some audit) = spoken_cuts form n s audit (audit_cuts form n s)
+line_cuts form n s (Some (operate op)) = spoken_cuts form n s (operate op) (outcome_some op (step s op).outcome) (outcome_cuts form n op (step s op).outcome)
+line_cuts form n s (Some show) = spoken_cuts form n s show (show_some s) (show_cuts form n s)
+line_cuts form n s (Some audit) = spoken_cuts form n s audit (audit_some s) (audit_cuts form n s)
 line_cuts form n s (Some skip) = cuts_none
 
 cuts_of : (form : Form) (n : ℕ) (s : State) (bytes : List ℕ) → CutsTo (text_of_in form n s bytes) (text_of s bytes)

@@ -5,10 +5,10 @@ pub mod Compares
 pub mod Conversing
 pub mod CutOff
 pub mod Cuts
+pub mod Dressing
 pub mod Follows
 pub mod Guarding
 pub mod Meetings
-pub mod Names
 pub mod Plain
 pub mod PrintedWords
 pub mod ReadLines

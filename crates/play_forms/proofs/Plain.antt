@@ -1,32 +1,29 @@
 -- SPDX-License-Identifier: MIT OR Apache-2.0
 -- With neither numbers nor names nor reasons a play line by line prints what the player prints.
-use Rattle.std.proofs.Common.{◌≡◌, ℕ, ◌+◌, List, [], ◌∷◌, ◌++◌, Option, None, Some, ap, ◌∙◌, append-nil, sym, refl}
+use Rattle.std.proofs.Common.{◌≡◌, ℕ, ◌+◌, List, [], ◌∷◌, ◌++◌, Option, None, Some, ap, ◌∙◌, append-nil, refl}
 use Rattle.std.specs.Option.{option_map_or}
-use Rattle.ffa_model.specs.declared.operation.Op.{Op}
 use Rattle.ffa_model.specs.declared.operation.Outcome.{Outcome}
 use Rattle.ffa_model.specs.declared.operation.Outcome.TheVariants.{Regs, Data, Done, Fault}
 use Rattle.ffa_model.specs.State.{State}
-use Rattle.ffa_model.specs.Step.{step}
-use Rattle.play_syntax.specs.TraceLines.{Line, operate, show, audit, skip, line_of}
-use Rattle.play_syntax.specs.TraceText.{ended, outcome_words, outcome_text, line_text, text_of, text, after}
-use Rattle.play_forms.specs.Forms.{plain, outcome_in, line_text_in, text_of_in, text_in}
+use Rattle.play_syntax.specs.TraceLines.{Line, line_of}
+use Rattle.play_syntax.specs.TraceText.{line_text, text_of, text, after}
+use Rattle.play_syntax.specs.Lines.{outcome_of}
+use Rattle.play_forms.specs.Forms.{plain, dressed, named_in, line_text_in, text_of_in, text_in}
 
-plain_outcome : (op : Op) (outcome : Outcome) → outcome_in plain op outcome ≡ outcome_text op outcome
-plain_outcome op (Regs runner x) = ap ended (append-nil (outcome_words op (Regs runner x)))
-plain_outcome op (Data value) = refl
-plain_outcome op Done = refl
-plain_outcome op (Fault fault) = refl
+plain_named : (outcome : Option Outcome) (said : List ℕ) → named_in plain outcome said ≡ said
+plain_named None said = refl
+plain_named (Some (Regs runner x)) said = refl
+plain_named (Some (Data value)) said = refl
+plain_named (Some Done) said = refl
+plain_named (Some (Fault fault)) said = refl
+
+plain_dressed : (number : ℕ) (outcome : Option Outcome) (said : List ℕ) → dressed plain number outcome [] said ≡ said
+plain_dressed number outcome [] = refl
+plain_dressed number outcome (c ∷ said) = append-nil (named_in plain outcome (c ∷ said)) ∙ plain_named outcome (c ∷ said)
 
 plain_line : (number : ℕ) (s : State) (line : Option Line) → option_map_or (line_text_in plain number s) line [] ≡ option_map_or (line_text s) line []
 plain_line number s None = refl
-plain_line number s (Some (operate op)) = append-nil (outcome_in plain op (step s op).outcome) ∙ plain_outcome op (step s op).outcome
-plain_line number s (Some show) = append-nil (line_text s show)
-plain_line number s (Some audit) = append-nil (line_text s audit)
-plain_line number s (Some skip) = refl
-
--- a text of which nothing stood before is a line's plain text
-pub said_plainly : (number : ℕ) (s : State) (line : Line) (old text : List ℕ) → old ≡ [] → text ≡ old ++ line_text s line → text ≡ line_text_in plain number s line
-said_plainly number s line old text none is = is ∙ ap (λ t. t ++ line_text s line) none ∙ sym (plain_line number s (Some line))
+plain_line number s (Some line) = plain_dressed number (outcome_of s line) (line_text s line)
 
 plain_of : (number : ℕ) (s : State) (bytes : List ℕ) → text_of_in plain number s bytes ≡ text_of s bytes
 unfolding text_of_in text_of

@@ -1,14 +1,13 @@
 -- SPDX-License-Identifier: MIT OR Apache-2.0
 -- The forms in which a line's text is written.
-use Rattle.std.specs.Prelude.{◌≡◌, ℕ, ◌+◌, false, List, [], ◌∷◌, ◌++◌, Result, Ok, Err, if◌then◌else◌}
+use Rattle.std.specs.Prelude.{◌≡◌, ℕ, ◌+◌, ◌-◌, false, List, [], ◌∷◌, ◌++◌, length, take, Option, Some, Result, Ok, Err, if◌then◌else◌}
 use Rattle.std.specs.Option.{option_map_or}
-use Rattle.ffa_model.specs.declared.operation.Op.{Op}
 use Rattle.ffa_model.specs.declared.operation.Outcome.{Outcome}
-use Rattle.ffa_model.specs.declared.operation.Outcome.TheVariants.{Regs, Data, Done, Fault}
+use Rattle.ffa_model.specs.declared.operation.Outcome.TheVariants.{Regs}
 use Rattle.ffa_model.specs.State.{State}
-use Rattle.ffa_model.specs.Step.{step}
-use Rattle.play_syntax.specs.TraceLines.{Line, operate, show, audit, skip, line_of}
-use Rattle.play_syntax.specs.TraceText.{outcome_words, line_text, line_after, after, ended}
+use Rattle.play_syntax.specs.TraceLines.{Line, line_of}
+use Rattle.play_syntax.specs.TraceText.{line_text, line_after, after, ended}
+use Rattle.play_syntax.specs.Lines.{outcome_of}
 use Rattle.play_syntax.specs.declared.output.PlayError.{PlayError}
 use Rattle.play_syntax.specs.declared.output.PlayError.TheVariants.{NoMemory}
 use Rattle.play_forms.specs.declared.form.Form.{Form}
@@ -22,29 +21,23 @@ plain = record { number = false; names = false; explain = false }
 abbrev pub number_in : Form → ℕ → List ℕ
 number_in form number = if form.number then number_mark number else []
 
-abbrev pub outcome_in : Form → Op → Outcome → List ℕ
-outcome_in form op (Regs runner x) =
-    ended (outcome_words op (Regs runner x) ++ (if form.names then names_mark x else []))
-outcome_in form op (Data value) = ended (outcome_words op (Data value))
-outcome_in form op Done = ended (outcome_words op Done)
-outcome_in form op (Fault fault) = ended (outcome_words op (Fault fault))
+-- the text of an operation, with the names of its registers, where they are asked for, before the LF that ends it
+abbrev pub named_in : Form → Option Outcome → List ℕ → List ℕ
+named_in form (Some (Regs runner x)) said =
+    if form.names then ended (take (length said - 1) said ++ names_mark x) else said
+named_in form other said = said
 
-abbrev pub unnumbered_in : Form → State → Line → List ℕ
-unnumbered_in form s (operate op) = outcome_in form op (step s op).outcome
-unnumbered_in form s show = line_text s show
-unnumbered_in form s audit = line_text s audit
-unnumbered_in form s skip = []
+-- The text of a line in a form, by the line's number, what came of its operation, the line that says why that is refused,
+-- and what it said plainly. A line that says nothing has no number.
+abbrev pub dressed : Form → ℕ → Option Outcome → List ℕ → List ℕ → List ℕ
+dressed form number outcome reason [] = []
+dressed form number outcome reason (c ∷ said) =
+    number_in form number ++ named_in form outcome (c ∷ said) ++ reason
 
--- why an operation is refused is asked of the state in which it is done
-abbrev pub spoken_in : Form → ℕ → State → Line → List ℕ
-spoken_in form number s line = number_in form number ++ unnumbered_in form s line ++ reason_if form.explain s line
-
--- what a line of this number prints: what says nothing has no number
+-- what a line of this number prints: why its operation is refused is asked of the state in which it is done
 abbrev pub line_text_in : Form → ℕ → State → Line → List ℕ
-line_text_in form number s (operate op) = spoken_in form number s (operate op)
-line_text_in form number s show = spoken_in form number s show
-line_text_in form number s audit = spoken_in form number s audit
-line_text_in form number s skip = []
+line_text_in form number s line =
+    dressed form number (outcome_of s line) (reason_if form.explain s line) (line_text s line)
 
 -- the same of the bytes of a line
 unfoldable pub text_of_in : Form → ℕ → State → List ℕ → List ℕ
@@ -55,13 +48,8 @@ abbrev pub text_in : Form → ℕ → State → List (List ℕ) → List ℕ
 text_in form number s [] = []
 text_in form number s (line ∷ lines) = text_of_in form number s line ++ text_in form (number + 1) (after s line) lines
 
--- what a line prints was put behind what stood there, or there is no memory for it
-abbrev pub PutsIn : {X : Type 0} → Form → State → State → Line → List ℕ → List ℕ → Result X PlayError → Type 0
-PutsIn form start now line old new (Ok _) = (now ≡ line_after start line) × (new ≡ old ++ unnumbered_in form start line)
-PutsIn form start now line old new (Err e) = e ≡ NoMemory
-
--- a line was done, and this is its text, or there is no memory for it
-abbrev pub WritesIn : {X : Type 0} → Form → State → State → ℕ → Line → List ℕ → Result X PlayError → Type 0
-WritesIn form start now number line text (Ok _) =
-    (now ≡ line_after start line) × (text ≡ line_text_in form number start line)
-WritesIn form start now number line text (Err e) = e ≡ NoMemory
+-- a line was done, this is its plain text, and this came of it; or there is no memory for its text
+abbrev pub DoesLine : State → State → Line → List ℕ → Result (Option Outcome) PlayError → Type 0
+DoesLine start now line said (Ok outcome) =
+    (now ≡ line_after start line) × (said ≡ line_text start line) × (outcome ≡ outcome_of start line)
+DoesLine start now line said (Err e) = e ≡ NoMemory

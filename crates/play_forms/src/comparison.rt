@@ -2,16 +2,14 @@
 //! A play against a text that is expected.
 ghost use Rattle.std.specs.Prelude.{◌≡◌, ◌≢◌, ℕ, List, [], ◌∷◌, ◌++◌, IfOk, IfSome};
 ghost use Rattle.std.specs.Option.{MatchOption};
-ghost use Rattle.play_syntax.specs.Lines.{meant, outcome_of};
+ghost use Rattle.play_syntax.specs.Lines.{meant};
 ghost use Rattle.play_syntax.specs.TraceLines.{feed};
 ghost use Rattle.play_forms.specs.Compared.{Compared, NeverPrints, unexplained};
 ghost use Rattle.play_forms.specs.Comparing.{AreRows, ComparesEnd, ComparesLine, EndsRow, ReadsRow, TakesText};
-ghost use Rattle.play_forms.specs.Forms.{WritesIn};
 
-use crate::form::{Form, put_number_in, put_text};
+use crate::form::{Form, make_text};
 use crate::read::Lines;
 use crate::reason::reason_of;
-use ffa_model::Outcome;
 use ffa_playable::Playable;
 use play_player::Player;
 use play_reasons::Reason;
@@ -61,6 +59,8 @@ impl From<PlayError> for CompareError {
 pub struct Sides<A: Allocator> {
     /// The bytes of the trace's line, without the LF that ends it.
     pub line: Vec<u8, A>,
+    /// That line's plain text.
+    pub said: Vec<u8, A>,
     /// That line's text.
     pub text: Vec<u8, A>,
     /// The line of the expected text, with the LF that ends it, where one does. It is empty where that text ends.
@@ -72,6 +72,7 @@ impl<A: Allocator + Copy> Sides<A> {
     pub fn new(alloc: A) -> Sides<A> {
         Sides {
             line: Vec::new(alloc),
+            said: Vec::new(alloc),
             text: Vec::new(alloc),
             expected: Vec::new(alloc),
         }
@@ -109,9 +110,8 @@ pub fn compare<P: Playable, A: Allocator + Copy, R: BufRead, E: BufRead>(
     let mut lines = Lines::new();
     let mut rows = Rows { read: 0 };
     while let Some((number, line)) = lines.next(reader, &mut sides.line)? {
-        let (text, row) = (&mut sides.text, &mut sides.expected);
         if let Some(mismatch) = rows.compare_line(
-            player, alloc, form, number, &line, expected, text, row,
+            player, alloc, form, number, &line, expected, sides,
         )? {
             return Ok(Some(mismatch));
         }
@@ -137,17 +137,22 @@ impl Rows {
         number: u64,
         line: &Line,
         expected: &mut E,
-        text: &mut Vec<u8, A>,
-        row: &mut Vec<u8, A>,
+        sides: &mut Sides<A>,
     ) -> Result<Option<Mismatch>, CompareError>
-        ensures { let wants = E.remaining expected.old in
+        ensures compared { let wants = E.remaining expected.old in
             let has = E.remaining expected.new in
             let start = player.old.state in
             let now = player.new.state in
-            ComparesLine form start now number (meant line.now) wants has self.old.read self.new.read text.new.items row.new.items result }
+            ComparesLine form start now number (meant line.now) wants has self.old.read self.new.read sides.new.text.items sides.new.expected.items result }
+        ensures line { sides.new.line.items ≡ sides.old.line.items }
     {
-        let outcome = make_unexplained(player, alloc, form, number, line, text)?;
-        let Some(place) = self.take_text(expected, text, row)? else {
+        let unexplained = Form {
+            explain: false,
+            ..form
+        };
+        let (said, text) = (&mut sides.said, &mut sides.text);
+        let outcome = make_text(player, alloc, unexplained, number, line, said, text)?;
+        let Some(place) = self.take_text(expected, &sides.text, &mut sides.expected)? else {
             return Ok(None);
         };
         Ok(Some(Mismatch {
@@ -235,35 +240,6 @@ fn end_row(row: &[u8]) -> Result<(), CompareError>
     match row.strip_suffix(b"\n") {
         Some(_line) => Ok(()),
         None => Err(CompareError::Expected),
-    }
-}
-
-// Does the line of this number, and makes its text, without why its operation is refused. It answers what came of the
-// operation that the line is.
-fn make_unexplained<P: Playable, A: Allocator + Copy>(
-    player: &mut Player<P>,
-    alloc: A,
-    form: Form,
-    number: u64,
-    line: &Line,
-    text: &mut Vec<u8, A>,
-) -> Result<Option<Outcome>, PlayError>
-    ensures made { let start = player.old.state in
-        WritesIn (unexplained form) start player.new.state number (meant line.now) text.new.items result }
-    ensures outcome { IfOk result (λ o. o ≡ outcome_of player.old.state (meant line.now)) }
-{
-    let form = Form {
-        number: form.number,
-        names: form.names,
-        explain: false,
-    };
-    text.clear();
-    match line {
-        Line::Nothing => Ok(None),
-        Line::Operation(_) | Line::Show | Line::Audit => {
-            put_number_in(form, number, text)?;
-            put_text(player, alloc, form, line, text)
-        }
     }
 }
 

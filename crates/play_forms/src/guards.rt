@@ -8,7 +8,7 @@ ghost use Rattle.play_forms.specs.Guards.{GuardedIn, behind_spaces, guard_of, gu
 ghost use Rattle.play_forms.specs.Steps.{PrintsLine};
 
 use crate::asking::unmet;
-use crate::form::{Form, make_texts};
+use crate::form::{Form, make_text};
 use crate::patterns::Came;
 use crate::read::Lines;
 use ffa_playable::Playable;
@@ -201,7 +201,10 @@ fn print_asked<P: Playable, A: Allocator + Copy, W: Write>(
     ensures said { OnOk result (unasked.new.text.items ≡ unasked_by player.old.state (meant line.now) unasked.old.text.items) }
     ensures came { OnOk result (unasked.new.came ≡ came_by player.old.state (meant line.now) unasked.old.came) }
 {
-    let outcome = make_texts(player, alloc, form, number, line, &mut unasked.text, text)?;
+    if let Line::Nothing = line {
+        return Ok(());
+    }
+    let outcome = make_text(player, alloc, form, number, line, &mut unasked.text, text)?;
     unasked.came = unasked.came.behind(player, line, outcome);
     output::write_text(writer, text)
 }

@@ -33,15 +33,18 @@ pub fn play<P: Playable, A: Allocator + Copy, R: BufRead, W: Write>(
         let has = R.remaining reader.new in
         PlayedIn form player.old.state player.new.state held holds had has bytes.new.items result }
 {
+    let mut said = Vec::new(alloc);
     let mut text = Vec::new(alloc);
     let mut lines = Lines::new();
     while let Some((number, line)) = lines.next(reader, bytes)? {
-        print_line(player, alloc, form, number, &line, writer, &mut text)?;
+        print_line(
+            player, alloc, form, number, &line, writer, &mut said, &mut text,
+        )?;
     }
     Ok(())
 }
 
-/// Does a line and writes its text, which it makes in `text`.
+/// Does a line and writes its text, which it makes in `text`, and its plain text in `said`.
 pub(crate) fn print_line<P: Playable, A: Allocator + Copy, W: Write>(
     player: &mut Player<P>,
     alloc: A,
@@ -49,12 +52,13 @@ pub(crate) fn print_line<P: Playable, A: Allocator + Copy, W: Write>(
     number: u64,
     line: &Line,
     writer: &mut W,
+    said: &mut Vec<u8, A>,
     text: &mut Vec<u8, A>,
 ) -> Result<(), PlayError>
     ensures { let held = W.contents writer.old in
         let holds = W.contents writer.new in
         PrintsLine form player.old.state player.new.state number (meant line.now) held holds result }
 {
-    make_text(player, alloc, form, number, line, text)?;
+    make_text(player, alloc, form, number, line, said, text)?;
     output::write_text(writer, text)
 }

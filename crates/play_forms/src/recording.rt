@@ -6,7 +6,7 @@ ghost use Rattle.play_syntax.specs.Lines.{meant};
 ghost use Rattle.play_forms.specs.Recorded.{RecordedIn, RecordsLine, guard_for, line_recorded, lines_in};
 
 use crate::asking::first_feed;
-use crate::form::put_plain;
+use crate::form::do_line;
 use crate::guards::guard_text;
 use crate::read::Lines;
 use ffa_playable::Playable;
@@ -60,8 +60,7 @@ fn record_line<P: Playable, A: Allocator + Copy, W: Write>(
         let holds = W.contents writer.new in
         RecordsLine player.old.state player.new.state bytes.now (meant line.now) held holds result }
 {
-    said.clear();
-    put_plain(player, alloc, line, said)?;
+    do_line(player, alloc, line, said)?;
     text.clear();
     put_recorded(bytes, said, text)?;
     output::write_text(writer, text)

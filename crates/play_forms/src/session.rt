@@ -40,11 +40,12 @@ pub fn play_session<P: Playable, A: Allocator + Copy, R: BufRead, W: Write, E: W
         SessionIn form player.old.state player.new.state held holds had has result }
     ensures told { TellsBadLines (R.remaining reader.old) (E.contents told.old) (E.contents told.new) result }
 {
-    let (mut bytes, mut text) = (Vec::new(alloc), Vec::new(alloc));
+    let (mut bytes, mut said) = (Vec::new(alloc), Vec::new(alloc));
+    let mut text = Vec::new(alloc);
     let mut number = 1;
     while hear_line(reader, &mut bytes, number, told, &mut text)? {
         answer_line(
-            player, alloc, form, number, &mut bytes, writer, told, &mut text,
+            player, alloc, form, number, &mut bytes, writer, told, &mut said, &mut text,
         )?;
         number += 1;
     }
@@ -86,6 +87,7 @@ fn answer_line<P: Playable, A: Allocator + Copy, W: Write, E: Write>(
     bytes: &mut Vec<u8, A>,
     writer: &mut W,
     told: &mut E,
+    said: &mut Vec<u8, A>,
     text: &mut Vec<u8, A>,
 ) -> Result<(), PlayError>
     ensures done { let held = W.contents writer.old in
@@ -94,7 +96,7 @@ fn answer_line<P: Playable, A: Allocator + Copy, W: Write, E: Write>(
     ensures told { AnswersTelling bytes.old.items number (E.contents told.old) (E.contents told.new) result }
 {
     match Line::read(bytes) {
-        Some(line) => print_line(player, alloc, form, number, &line, writer, text),
+        Some(line) => print_line(player, alloc, form, number, &line, writer, said, text),
         None => refuse_line(bytes, number, told, text),
     }
 }

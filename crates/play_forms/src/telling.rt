@@ -3,7 +3,7 @@
 ghost use Rattle.play_syntax.specs.Lines.{meant};
 ghost use Rattle.play_forms.specs.Telling.{TellsLine};
 
-use crate::form::put_plain;
+use crate::form::do_line;
 use crate::reason::reason_of;
 use ffa_model::Outcome;
 use ffa_playable::Playable;
@@ -23,9 +23,8 @@ pub fn tell_line<P: Playable, A: Allocator + Copy>(
 ) -> Result<Option<Outcome>, PlayError>
     ensures { TellsLine player.old.state player.new.state (meant line.now) said.new.items reason.new.items result }
 {
-    said.clear();
+    let outcome = do_line(player, alloc, line, said)?;
     reason.clear();
-    let outcome = put_plain(player, alloc, line, said)?;
     put_reason(reason, reason_of(player, true, line, outcome))?;
     Ok(outcome)
 }

@@ -1,8 +1,9 @@
 -- SPDX-License-Identifier: MIT OR Apache-2.0
-use Rattle.std.proofs.Common.{◌++◌, ◌∷◌, [], Ok, ◌∙◌, subst, arith, length-append, refl}
+use Rattle.std.proofs.Common.{◌++◌, ◌∷◌, [], Ok, Err, sym, ◌∙◌, subst, arith, length-append, refl}
 use Rattle.std.proofs.KnownBytes.{Consumes-nil}
 use Rattle.std.proofs.lemmas.Result.{err_from_is_err_and}
 use Rattle.play_syntax.specs.Lines.{meant}
+use Rattle.play_forms.specs.Compared.{Compared}
 use Rattle.play_forms.specs.Comparing.{ComparesLine}
 use Rattle.play_forms.specs.Reading.{TakesNext}
 use Rattle.play_forms.proofs.Compares.{end_any, line_alike, line_differs, line_failed, untaken_compared}
@@ -28,11 +29,19 @@ returns-in_err-mismatch-clause-compared g c =
     let i = c.loop-number.invariant in
     let one = subst (λ o. TakesNext c.loop-number.lines.number c.next.new.self.number (g.R.Read.remaining c.loop-number.reader) (g.R.Read.remaining c.next.new.reader) c.next.new.bytes.items (Ok o)) c.in-Some.is c.in_ok-number.ensures in
     let p = err_from_is_err_and c.from_residual-in_err-mismatch.result c.from_residual-in_err-mismatch.ensures.1 in
+    let start = c.args.player.now.state in
+    let now = c.compare_line.new.player.state in
+    let had = g.R.Read.remaining c.args.reader.now in
+    let has = g.R.Read.remaining c.next.new.reader in
+    let wants = g.E.Read.remaining c.args.expected.now in
+    let unread = g.E.Read.remaining c.compare_line.new.expected in
+    let sides = c.compare_line.new.sides in
     rw (p.1, p.2)
+    (subst (λ line. Compared c.args.form start now had has wants unread line sides.text.items sides.expected.items (Err c.in_err-mismatch.field-0.0)) (sym c.in_err-mismatch.ensures.line)
     (line_failed c.args.form c.args.player.now.state c.loop-number.player.state (g.R.Read.remaining c.args.reader.now) (g.R.Read.remaining c.loop-number.reader) (g.E.Read.remaining c.args.expected.now)
     (g.E.Read.remaining c.loop-number.expected) i.0 i.1 i.2 i.3 i.4 i.5 i.6 c.in-Some.number (one.0 ∙ i.7) c.loop-number.rows.read i.8 c.compare_line.new.player.state (g.R.Read.remaining c.next.new.reader)
-    c.next.new.bytes.items (meant c.in-Some.line) one.2.0 one.2.1 one.2.2 c.in_err-mismatch.field-0.0 (g.E.Read.remaining c.compare_line.new.expected) c.compare_line.new.self.read c.compare_line.new.text.items
-    c.compare_line.new.row.items c.in_err-mismatch.ensures)
+    c.next.new.bytes.items (meant c.in-Some.line) one.2.0 one.2.1 one.2.2 c.in_err-mismatch.field-0.0 (g.E.Read.remaining c.compare_line.new.expected) c.compare_line.new.self.read c.compare_line.new.sides.text.items
+    c.compare_line.new.sides.expected.items c.in_err-mismatch.ensures.compared))
 
 pub returns-in-Some-2-clause-compared : goal.returns-in-Some-2-clause-compared
 returns-in-Some-2-clause-compared g c =
@@ -40,10 +49,11 @@ returns-in-Some-2-clause-compared g c =
     let one = subst (λ o. TakesNext c.loop-number.lines.number c.next.new.self.number (g.R.Read.remaining c.loop-number.reader) (g.R.Read.remaining c.next.new.reader) c.next.new.bytes.items (Ok o)) c.in-Some.is c.in_ok-number.ensures in
     let unread = g.E.Read.remaining c.loop-number.expected in
     let has = g.E.Read.remaining c.compare_line.new.expected in
-    let found = subst (λ o. ComparesLine c.args.form c.loop-number.player.state c.compare_line.new.player.state c.in-Some.number (meant c.in-Some.line) unread has c.loop-number.rows.read c.compare_line.new.self.read c.compare_line.new.text.items c.compare_line.new.row.items (Ok o)) c.in-Some-2.is c.in_ok-mismatch.ensures in
-    line_differs c.args.form c.args.player.now.state c.loop-number.player.state (g.R.Read.remaining c.args.reader.now) (g.R.Read.remaining c.loop-number.reader) (g.E.Read.remaining c.args.expected.now) unread i.0 i.1 i.2
+    let found = subst (λ o. ComparesLine c.args.form c.loop-number.player.state c.compare_line.new.player.state c.in-Some.number (meant c.in-Some.line) unread has c.loop-number.rows.read c.compare_line.new.self.read c.compare_line.new.sides.text.items c.compare_line.new.sides.expected.items (Ok o)) c.in-Some-2.is c.in_ok-mismatch.ensures.compared in
+    rw c.in_ok-mismatch.ensures.line
+    (line_differs c.args.form c.args.player.now.state c.loop-number.player.state (g.R.Read.remaining c.args.reader.now) (g.R.Read.remaining c.loop-number.reader) (g.E.Read.remaining c.args.expected.now) unread i.0 i.1 i.2
     i.3 i.4 i.5 i.6 c.in-Some.number (one.0 ∙ i.7) c.loop-number.rows.read i.8 c.compare_line.new.player.state (g.R.Read.remaining c.next.new.reader) c.next.new.bytes.items (meant c.in-Some.line) one.2.0 one.2.1
-    one.2.2 has c.compare_line.new.self.read c.compare_line.new.text.items c.compare_line.new.row.items c.in-Some-2.mismatch found
+    one.2.2 has c.compare_line.new.self.read c.compare_line.new.sides.text.items c.compare_line.new.sides.expected.items c.in-Some-2.mismatch found)
 
 pub returns-in-Some-2-clause-unequal : goal.returns-in-Some-2-clause-unequal
 returns-in-Some-2-clause-unequal g c = never_prints _ _ _ _ _ _ _ _ _ (returns-in-Some-2-clause-compared g c)
@@ -55,11 +65,11 @@ loop-number-preserved g c =
     let unread = g.E.Read.remaining c.loop-number.expected in
     let has = g.E.Read.remaining c.compare_line.new.expected in
     let line = c.next.new.bytes.items in
-    let text = c.compare_line.new.text.items in
-    let alike = subst (λ o. ComparesLine c.args.form c.loop-number.player.state c.compare_line.new.player.state c.in-Some.number (meant c.in-Some.line) unread has c.loop-number.rows.read c.compare_line.new.self.read text c.compare_line.new.row.items (Ok o)) c.in_default-2.is c.in_ok-mismatch.ensures in
+    let text = c.compare_line.new.sides.text.items in
+    let alike = subst (λ o. ComparesLine c.args.form c.loop-number.player.state c.compare_line.new.player.state c.in-Some.number (meant c.in-Some.line) unread has c.loop-number.rows.read c.compare_line.new.self.read text c.compare_line.new.sides.expected.items (Ok o)) c.in_default-2.is c.in_ok-mismatch.ensures.compared in
     let more = line_alike c.args.form c.args.player.now.state c.loop-number.player.state (g.R.Read.remaining c.args.reader.now) (g.R.Read.remaining c.loop-number.reader) (g.E.Read.remaining c.args.expected.now) unread i.0
     i.1 i.2 i.3 i.4 i.5 i.6 c.in-Some.number (one.0 ∙ i.7) c.loop-number.rows.read i.8 c.compare_line.new.player.state (g.R.Read.remaining c.next.new.reader) line (meant c.in-Some.line) one.2.0 one.2.1 one.2.2 has
-    c.compare_line.new.self.read text c.compare_line.new.row.items alike in
+    c.compare_line.new.self.read text c.compare_line.new.sides.expected.items alike in
     (i.0 ++ line ∷ [], i.1 ++ text, more.0, more.1, more.2, more.3, more.4, omega (arith, i.7, one.1, length-append i.0 (line ∷ [])), more.5)
 
 pub returns-clause-compared : goal.returns-clause-compared

@@ -9,4 +9,4 @@ use Rattle.play_forms.proofs.comparison.Rows.compare_line.Goals as goal
 pub take_text-requires : goal.take_text-requires
 take_text-requires g c =
     subst AreRows (sym c.deref.ensures.value)
-    (text_rows (unexplained c.args.form) c.args.number c.args.player.now.state (meant c.args.line.now) c.make_unexplained.new.text.items c.in_ok-outcome.ensures.made.1)
+    (text_rows (unexplained c.args.form) c.args.number c.args.player.now.state (meant c.args.line.now) c.make_text.new.text.items c.in_ok-outcome.ensures.made)
