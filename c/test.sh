@@ -57,7 +57,7 @@ says() {
 stores() {
     "$2" -d --no-show-raw-insn "$3" | awk '
         function change(register) { sub(/^w/, "x", register); delete own["[" register] }
-        /^[0-9a-f]+ <.*>:$/ { writes_tables = /<ffa_stage2::(tables|blocks)::/ }
+        /^[0-9a-f]+ <.*>:$/ { writes_tables = /<ffa_stage2::(tables|blocks)::|<ffa_lent::.*::(write_word|store)/ }
         !/\tst/ { change($3); change($4) }
         /\t(b|b\.[a-z]+|bl|blr|br|cbn?z|tbn?z|ret)(\t|$)/ { delete own }
         $2 == "add" && $4 == "sp," { own["[" $3] }
