@@ -1,9 +1,10 @@
 /* SPDX-License-Identifier: MIT OR Apache-2.0 */
 /* Walks of stage 2 tables in lent RAM by another thread, as a second processor makes them while the first one does operations: it
  * reads the three words of a walk at moments of its own, and goes by words that it read before as long as they aren't settled.
- * Invalid words it doesn't keep (DDI 0487, D8.13). Each walk has to give what it gives before the operation, what it gives behind it,
- * or a translation fault; where none goes on, just what the endpoint has. The lender, which stores wherever its walks let it, sees no
- * zeros of a page that is zeroed for a borrower, and the borrower nothing else. A unit that keeps what is settled has to be seen. */
+ * Invalid words it doesn't keep (DDI 0487, D8: what gives a translation fault isn't cached). Each walk has to give what it gives before
+ * the operation, what it gives behind it, or a translation fault; where none goes on, just what the endpoint has. The lender, which
+ * stores wherever its walks let it, sees no zeros of a page that is zeroed for a borrower, and the borrower nothing else. A unit that
+ * keeps what is settled has to be seen. */
 #include <pthread.h>
 #include <sched.h>
 #include <stdatomic.h>
