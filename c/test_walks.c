@@ -35,8 +35,9 @@ static const char manifest_text[] =
     "properties = 15\n"
     "regions = [{ base = 0x40030000, pages = 16, rights = \"rw\" }]\n";
 
-/* It ends after so many rounds, of which an endpoint may make 65535 transactions, or after some seconds. */
-enum { ROUNDS = 25000, SECONDS = 5, ENDPOINTS = 3, PAGES = 1024, REGION = 0x20, BLOCK = 0x200, LEVELS = 3 };
+/* It ends after so many rounds, of which an endpoint may make 65535 transactions, or after some seconds; one in which something has to be
+ * seen after more. */
+enum { ROUNDS = 25000, SECONDS = 5, SECONDS_TO_SEE = 60, ENDPOINTS = 3, PAGES = 1024, REGION = 0x20, BLOCK = 0x200, LEVELS = 3 };
 /* Rights as the library tells them; a walk that faults gives none. */
 enum { NOTHING = 0, READ_WRITE = 3 };
 
@@ -285,8 +286,8 @@ static void race(uint32_t rounds) {
     CHECK(pthread_create(&other, NULL, walker, NULL) == 0);
     atomic_store(&is_walking, true);
     unsigned long before = operations;
-    time_t start = time(NULL);
-    for (uint32_t i = 0; i < rounds && time(NULL) - start < SECONDS && atomic_load(&wrongs) == 0; i++) {
+    time_t end = time(NULL) + (keeps_settled ? SECONDS_TO_SEE : SECONDS);
+    for (uint32_t i = 0; i < rounds && time(NULL) < end && atomic_load(&wrongs) == 0; i++) {
         bool is_whole = i % 64 == 63;
         uint32_t first = is_whole ? BLOCK : (i % 2 == 0 ? BLOCK : REGION) + i % 7, count = is_whole ? 512 : 1 + i % 5;
         round_of(i % 3 == 2 ? FFA_MEM_SHARE : FFA_MEM_LEND, first, count, i % 3 == 1);
