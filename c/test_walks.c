@@ -3,8 +3,8 @@
  * reads the three words of a walk at moments of its own, and goes by words that it read before as long as they aren't settled.
  * Invalid words it doesn't keep (DDI 0487, D8: what gives a translation fault isn't cached). Each walk has to give what it gives before
  * the operation, what it gives behind it, or a translation fault; where none goes on, just what the endpoint has. The lender, which
- * stores wherever its walks let it, sees no zeros of a page that is zeroed for a borrower, and the borrower nothing else. A unit that
- * keeps what is settled has to be seen. */
+ * stores wherever its walks let it into pages that are lent, sees no zeros of the first page that is zeroed for a borrower, and the
+ * borrower nothing else. A unit that keeps what is settled has to be seen. */
 #include <pthread.h>
 #include <sched.h>
 #include <stdatomic.h>
@@ -35,7 +35,7 @@ static const char manifest_text[] =
     "properties = 15\n"
     "regions = [{ base = 0x40030000, pages = 16, rights = \"rw\" }]\n";
 
-/* It ends after so many rounds, of which an endpoint may make 65535 transactions, or after some seconds; one in which something has to be
+/* It ends after so many rounds, since an endpoint may make 65535 transactions, or after some seconds; one in which something has to be
  * seen after more. */
 enum { ROUNDS = 25000, SECONDS = 5, SECONDS_TO_SEE = 60, ENDPOINTS = 3, PAGES = 1024, REGION = 0x20, BLOCK = 0x200, LEVELS = 3 };
 /* Rights as the library tells them; a walk that faults gives none. */
@@ -53,8 +53,8 @@ struct state {
     bool is_written, is_zero;
 };
 
-/* States by how many operations led there, the last ones; and the moment: twice that number while none goes on, and one more while the
- * next one does, whose state behind it stands here before it begins. */
+/* States by how many changes led there, the last ones; and the moment: twice that number while no call on memory goes on, and one more
+ * while the next one does, whose state behind it stands here before it begins. */
 enum { KEPT_STATES = 64 };
 static struct state states[KEPT_STATES];
 static atomic_ulong moment;
@@ -150,7 +150,8 @@ static uint32_t chosen(void) {
     }
 }
 
-/* One walk, and whether what it gives may be given: a right of a state that there was meanwhile, or a fault where not just one was. */
+/* One walk, and whether what it gives may be given: a right of a state that there was meanwhile, or a fault where not just one was. One
+ * that more than 32 changes overtake isn't judged. */
 static void walks_once(void) {
     uint32_t endpoint = dice(ENDPOINTS), page = chosen();
     unsigned long from = atomic_load(&moment);
@@ -268,7 +269,7 @@ static void round_of(uint32_t kind, uint32_t first, uint32_t count, bool zeros) 
     changes(now, FFA_MEM_RECLAIM, told.x[2], told.x[3], 0);
 }
 
-/* All have buffers, and 8001 runs. */
+/* 8001 and 8002 have buffers, and 8001 runs. */
 static void begin(void) {
     CHECK(call(FFA_RUN, 0x80020000, 0, 0).runner == 0x8002);
     CHECK(call(FFA_RXTX_MAP, 0x4003E000, 0x4003F000, 1).x[0] == FFA_SUCCESS);
