@@ -1,7 +1,7 @@
 -- SPDX-License-Identifier: MIT OR Apache-2.0
 -- Writers that grow by texts in which nothing is `<`.
 use denote.Ref.{Bor}
-use Rattle.std.proofs.Common.{◌≡◌, ℕ, zero, suc, ◌+◌, ◌-◌, ◌/◌, ◌%◌, ◌^◌, ◌<◌, Bool, true, false, List, [], ◌∷◌, ◌++◌, length, replicate, Option, Some, None, Result, inl, inr, sym, ap, ◌∙◌, subst, append_assoc, append-nil, true≢false, arith, refl}
+use Rattle.std.proofs.Common.{◌≡◌, ℕ, zero, suc, ◌+◌, ◌-◌, ◌/◌, ◌%◌, ◌^◌, ◌<◌, Bool, true, false, List, [], ◌∷◌, ◌++◌, length, replicate, Option, Some, None, Result, inl, inr, sym, ap, ◌∙◌, subst, true≢false, arith, refl}
 use Rattle.std.specs.Prelude.{◌==◌, ◌||◌, not, IfSome, OnOk, decimal, find, slice_index, unwrap_or}
 use Rattle.std.specs.Option.{option_map, option_or}
 use Rattle.std.specs.Fmt.{digits, digits_onto, digit_glyph, format_spec, number_padding, padded_integral, option_append}

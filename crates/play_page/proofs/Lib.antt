@@ -1,5 +1,3 @@
 -- SPDX-License-Identifier: MIT OR Apache-2.0
 pub mod Escaping
 pub mod Growing
-pub mod Seen
-pub mod Watches

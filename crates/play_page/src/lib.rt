@@ -1,12 +1,10 @@
 // SPDX-License-Identifier: MIT OR Apache-2.0
-//! A trace as one HTML page, to look at it line by line: what each line says, answers and changes is gathered while a
-//! machine is watched, and written with all that a browser needs to show it.
+//! A trace as one HTML page, to look at it line by line: what each line says, answers and changes, with all that a
+//! browser needs to show it.
 #![tactic(auto)]
 
 mod html;
 mod page;
-mod watching;
 
 pub use html::write_page;
 pub use page::{Entry, Page};
-pub use watching::watch_page;

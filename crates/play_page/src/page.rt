@@ -1,11 +1,9 @@
 // SPDX-License-Identifier: MIT OR Apache-2.0
 //! What a page is written from.
-ghost use Rattle.std.specs.Prelude.{IfOk};
-ghost use Rattle.play_page.specs.Entries.{IsEntryOf};
 
 use ffa_model::{Address, EndpointId, Outcome};
 use play_drawing::Row;
-use std::alloc::{AllocError, Allocator, Global};
+use std::alloc::{Allocator, Global};
 
 /// A line of a trace that was done.
 #[derive(Drop)]
@@ -20,32 +18,6 @@ pub struct Entry<A: Allocator = Global> {
     pub text: Vec<u8, A>,
     /// The line that says why its operation is refused; empty where it isn't.
     pub reason: Vec<u8, A>,
-}
-
-impl<A: Allocator + Copy> Entry<A> {
-    /// The entry of a line with these bytes, of whose operation this came, which prints this text and is refused for
-    /// this reason, and behind which this endpoint runs.
-    pub fn of_line(
-        alloc: A,
-        bytes: &[u8],
-        runner: EndpointId,
-        outcome: Option<Outcome>,
-        text: &[u8],
-        reason: &[u8],
-    ) -> Result<Entry<A>, AllocError>
-        ensures { IfOk result (IsEntryOf bytes.now runner.0 outcome text.now reason.now) }
-    {
-        let line = bytes.iter().copied().collect(alloc)?;
-        let text = text.iter().copied().collect(alloc)?;
-        let reason = reason.iter().copied().collect(alloc)?;
-        Ok(Entry {
-            line,
-            runner,
-            outcome,
-            text,
-            reason,
-        })
-    }
 }
 
 /// A trace that was done on a machine, line by line.

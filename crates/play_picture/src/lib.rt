@@ -1,9 +1,10 @@
 // SPDX-License-Identifier: MIT OR Apache-2.0
-//! The picture of a trace: a machine is watched while the trace is played on it.
+//! The picture and the page of a trace: a machine is watched while the trace is played on it.
 #![tactic(auto)]
 
+mod page;
 mod picture;
-mod watching;
+mod seen;
 
+pub use page::watch_page;
 pub use picture::picture_of;
-pub use watching::watch;

@@ -23,7 +23,7 @@ use Rattle.play_forms.specs.Reading.{IsAll}
 use Rattle.play_forms.specs.Sessions.{Conversed, SessionIn}
 use Rattle.play_forms.specs.declared.comparison.CompareError.TheVariants as compare_error
 use Rattle.play_forms.proofs.Plain.{plain_text}
-use Rattle.play_page.specs.Paging.{Paging}
+use Rattle.play_picture.specs.Paging.{Paging}
 use Rattle.play_page.specs.declared.page.Page.{Page}
 use Rattle.play_picture.specs.Pictured.{Pictured}
 use Rattle.play_drawing.specs.declared.picture.Picture.{Picture}
@@ -176,7 +176,7 @@ always_ok (Ok x) p = p
 always_ok (Err e) p = tt
 
 pub drawn_whole : {A : Type 0} (picture : Picture A) (keep : Keep) (start now : State) (had has : Option (List ℕ)) (bytes : List ℕ) → Pictured keep start now had has bytes (Ok (Ok picture)) → IsDrawn had
-drawn_whole picture keep start now had has bytes (left, lines, said, f, ended, is, fits) = record { lines = lines; each = f.each; all = all_consumed had left (joined lines) f.read ended }
+drawn_whole picture keep start now had has bytes (left, lines, said, f, (ended, is, fits)) = record { lines = lines; each = f.each; all = all_consumed had left (joined lines) f.read ended }
 
 pub drawn_over : (A : Type 0) (large : TooLarge) (keep : Keep) (start now : State) (held had has : Option (List ℕ)) (bytes : List ℕ) → Pictured {A = A} keep start now had has bytes (Ok (Err large))
     → IsOverfull keep start (passed had held held) large.most
@@ -191,7 +191,7 @@ drawn_failed remaining A keep width start now held had has bytes path fault play
 drawn_failed remaining A keep width start now held had has bytes path fault (play_error.BadLine n) (said, e) = (e.lines, ends_badly plain start now had said bytes n e, kept held)
 
 pub paged_whole : {A : Type 0} (page : Page A) (start now : State) (had has : Option (List ℕ)) (bytes : List ℕ) → Paging start now had has bytes (Ok page) → IsDrawn had
-paged_whole page start now had has bytes (left, lines, said, f, ended, is) = record { lines = lines; each = f.each; all = all_consumed had left (joined lines) f.read ended }
+paged_whole page start now had has bytes (left, lines, said, f, is) = record { lines = lines; each = f.each; all = all_consumed had left (joined lines) f.read is.whole }
 
 pub paged_failed : {R : Type 0} (remaining : R → Option (List ℕ)) (A : Type 0) (start now : State) (held had has : Option (List ℕ)) (bytes : List ℕ) (path : Bor (List ℕ)) (fault : Option LineFault) (error : PlayError)
     → Paging {A = A} start now had has bytes (Err error) → PlayFails remaining Paged path start (passed had held held) (failure_of (Read path) fault error)
