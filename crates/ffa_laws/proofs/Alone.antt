@@ -31,7 +31,7 @@ use Rattle.ffa_model.specs.Registers.{decode}
 use Rattle.ffa_model.specs.Setup.{info_bytes, is_count_alone, uuid_bytes}
 use Rattle.ffa_model.specs.Step.{serve, service, state_after, step}
 use Rattle.ffa_model.specs.declared.call.Transfer.{Transfer}
-use Rattle.ffa_model.specs.Transactions.{handle_of, next_handle, open_of, scene_of}
+use Rattle.ffa_model.specs.Transactions.{next_handle, open_of, scene_of}
 use Rattle.ffa_model.proofs.Guards.{guard-passes}
 use Rattle.ffa_laws.specs.Steady.{IsSteady}
 use Rattle.ffa_laws.specs.Events.{Event, Filled, Item, Own, Pending, Told, call_events, events, items, public_change, where_passed, where_true}

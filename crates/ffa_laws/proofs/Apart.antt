@@ -33,7 +33,7 @@ use Rattle.ffa_model.specs.Registers.{decode}
 use Rattle.ffa_model.specs.Setup.{info_bytes, is_count_alone, uuid_bytes}
 use Rattle.ffa_model.specs.Step.{service, step}
 use Rattle.ffa_model.specs.declared.call.Transfer.{Transfer}
-use Rattle.ffa_model.specs.Transactions.{handle_of, holding, next_handle, not_holding, open_of}
+use Rattle.ffa_model.specs.Transactions.{holding, next_handle, not_holding, open_of}
 use Rattle.byteorder.specs.Endian.{little_bytes}
 use Rattle.ffa_laws.specs.OwnAccess.{AreApart}
 use Rattle.ffa_laws.proofs.Closed.{get-remove}

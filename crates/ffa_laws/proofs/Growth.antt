@@ -23,7 +23,6 @@ use Rattle.ffa_model.specs.State.{State, Page, Transaction, buffers_of, page_at,
 use Rattle.ffa_model.specs.Access.{access, held_by, right_by, right_of, transaction_at}
 use Rattle.ffa_model.specs.Step.{serve, service, state_after, step}
 use Rattle.ffa_model.specs.declared.call.Transfer.{Transfer}
-use Rattle.ffa_model.specs.Transactions.{handle_of}
 use Rattle.ffa_laws.specs.Steady.{IsSteady, is_joint}
 use Rattle.ffa_laws.specs.Isolation.{NeverGrow, is_joint_at}
 use Rattle.ffa_laws.proofs.Views.{found}

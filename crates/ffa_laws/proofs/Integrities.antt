@@ -28,7 +28,7 @@ use Rattle.ffa_model.specs.MemorySend.{memory_send, memory_sent, send_guards, se
 use Rattle.ffa_model.specs.Messages.{header_in, message_in, send2_guards, tx_bytes}
 use Rattle.ffa_model.specs.Step.{serve, service, step}
 use Rattle.ffa_model.specs.declared.call.Transfer.{Transfer}
-use Rattle.ffa_model.specs.Transactions.{handle_of, scene_of}
+use Rattle.ffa_model.specs.Transactions.{scene_of}
 use Rattle.ffa_laws.specs.Steady.{IsSteady}
 use Rattle.ffa_laws.specs.Isolation.{Integrity, LeavesBytes, fills_rx_page, is_indirect_message, is_send2}
 use Rattle.ffa_model.proofs.Guards.{guard-passes}

@@ -2,7 +2,7 @@
 -- What the calls do to pages, and that the endpoints stay.
 use Rattle.std.proofs.Common.{◌≡◌, ℕ, true, false, cond, List, Option, Some, None, refl, sym, ap, subst}
 use Rattle.byteorder.specs.Endian.{little_bytes}
-use Rattle.std.specs.Prelude.{◌-◌, ◌/◌, ◌%◌, Bool, length}
+use Rattle.std.specs.Prelude.{◌-◌, ◌/◌, ◌%◌, length}
 use Rattle.ffa_model.specs.declared.descriptor.RelinquishDesc.{RelinquishDesc}
 use Rattle.ffa_model.specs.declared.descriptor.RetrieveDesc.{RetrieveDesc}
 use Rattle.ffa_model.specs.declared.operation.Op.{Op}

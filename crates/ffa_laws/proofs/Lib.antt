@@ -26,7 +26,6 @@ pub mod ReclaimLaws
 pub mod ReturnLaws
 pub mod Taken
 pub mod RetrieveLaws
-pub mod Laws
 pub mod Replays
 pub mod OwnAccesses
 pub mod Blanks
@@ -37,7 +36,6 @@ pub mod Rows
 pub mod Meets
 pub mod Bare
 pub mod News
-pub mod Shows
 pub mod OwnBuffers
 pub mod Alone
 pub mod Opened
@@ -58,6 +56,10 @@ pub mod SoundNotifications
 pub mod SoundReturns
 pub mod SoundRetrieves
 pub mod SoundSends
+pub mod Showing
+pub mod Services
+pub mod Laws
+pub mod Shows
 pub mod SoundOperations
 pub mod Clean
 pub mod Readings

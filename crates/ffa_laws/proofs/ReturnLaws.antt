@@ -18,7 +18,7 @@ use Rattle.ffa_model.specs.Memory.{with_pages, zeroed_if, zeroed_page}
 use Rattle.ffa_model.specs.MemoryReturn.{holder_guards, memory_reclaim, memory_relinquish, named_ranges, relinquish_guards, relinquish_read, relinquished, relinquished_from, returned_guards}
 use Rattle.ffa_model.specs.RelinquishDescriptor.{relinquish_of}
 use Rattle.ffa_model.specs.RunStates.{schedule_of}
-use Rattle.ffa_model.specs.Transactions.{handle_of, not_holding, open_of}
+use Rattle.ffa_model.specs.Transactions.{not_holding, open_of}
 use Rattle.ffa_laws.specs.Steady.{IsSteady}
 use Rattle.ffa_laws.specs.View.{view, involves, is_near, kept, seen_by}
 use Rattle.ffa_laws.specs.Events.{Event, Held, Zeroed, apply_all, public_change, releases, where_true, with_holder}

@@ -1,6 +1,6 @@
 -- SPDX-License-Identifier: MIT OR Apache-2.0
 -- Run states: run, wait, yield and direct messages, in the runner's view, and to others.
-use Rattle.std.proofs.Common.{◌≡◌, ◌∙◌, ℕ, suc, zero, ◌<◌, true, false, List, [], ◌∷◌, length, get_or, set, Option, Some, None, refl, sym, ap, arith, length-set}
+use Rattle.std.proofs.Common.{◌≡◌, ◌∙◌, ℕ, suc, zero, true, false, List, [], ◌∷◌, length, get_or, set, Option, Some, None, refl, sym, ap, length-set}
 use Rattle.std.specs.Prelude.{◌==◌, ◌++◌}
 use Rattle.std.proofs.lemmas.Bool.{and_parts, eqb-true, false≢true}
 use Rattle.ffa_model.specs.declared.call.DirectMessage.{DirectMessage}
@@ -17,7 +17,7 @@ use Rattle.ffa_laws.specs.Steady.{IsSteady}
 use Rattle.ffa_laws.specs.View.{view}
 use Rattle.ffa_laws.specs.Events.{apply_all, public_change, switches}
 use Rattle.ffa_model.proofs.Guards.{guard-passes}
-use Rattle.ffa_model.proofs.Places.{known-place, partition-known}
+use Rattle.ffa_model.proofs.Places.{partition-known}
 use Rattle.ffa_laws.proofs.Form.{IsOwn}
 use Rattle.ffa_laws.proofs.Changes.{other-changed, own-same, unwritten}
 use Rattle.ffa_laws.proofs.Written.{rx-own, with_rx_full}

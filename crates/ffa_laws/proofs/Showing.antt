@@ -1,0 +1,100 @@
+-- SPDX-License-Identifier: MIT OR Apache-2.0
+-- What a call shows to an endpoint, where nothing refuses it: messages, and who runs on.
+use Rattle.std.proofs.Common.{◌≡◌, ◌≢◌, ◌∙◌, ℕ, Bool, true, false, cond, List, [], ◌∷◌, ◌++◌, map, Option, Some, None, refl, sym, ap}
+use Rattle.std.specs.Prelude.{◌==◌}
+use Rattle.std.proofs.lemmas.Bool.{eqb-true, ne_eqb}
+use Rattle.ffa_model.specs.declared.operation.Outcome.TheVariants.{Regs}
+use Rattle.ffa_model.specs.declared.rights.Kind.{Kind}
+use Rattle.ffa_model.specs.declared.rights.Kind.TheVariants.{Share, Lend, Donate}
+use Rattle.ffa_model.specs.declared.rights.Rights.{Rights}
+use Rattle.ffa_model.specs.declared.descriptor.RetrieveDesc.{RetrieveDesc}
+use Rattle.ffa_model.specs.declared.descriptor.RelinquishDesc.{RelinquishDesc}
+use Rattle.ffa_model.specs.State.{State, Transaction, transaction_of, version_of}
+use Rattle.ffa_model.specs.Access.{is_receiver}
+use Rattle.ffa_model.specs.Calls.{Service, encode}
+use Rattle.ffa_model.specs.Buffers.{filled}
+use Rattle.ffa_model.specs.Setup.{info_bytes}
+use Rattle.ffa_model.specs.Messages.{header_in, message_in}
+use Rattle.ffa_model.specs.Notifications.{manager_class, message_bits, has_bitmaps_in, notifications_of}
+use Rattle.ffa_model.specs.SendDescriptor.{SendRecord}
+use Rattle.ffa_model.specs.MemorySend.{memory_sent, transaction_from}
+use Rattle.ffa_model.specs.MemoryRetrieve.{retrieved, retrieved_from}
+use Rattle.ffa_model.specs.MemoryReturn.{relinquished, relinquished_from}
+use Rattle.ffa_laws.specs.Events.{Event, Message, Filled, Pending, Held, Zeroed, delivers, message, messages, opens, releases, switches, takes, takes_from, taking, where_true}
+
+-- events that are no messages
+pub no_message : (e : ℕ) (b : Bool) (event : Event) → message e event ≡ [] → messages e (where_true b (event ∷ [])) ≡ []
+no_message e true event none = ap (λ xs. xs ++ []) none
+no_message e false event none = refl
+
+pub no_messages : (e : ℕ) (b : Bool) (f : ℕ → Event) (ks : List ℕ) → ((k : ℕ) → message e (f k) ≡ []) → messages e (where_true b (map f ks)) ≡ []
+no_messages e false f ks none = refl
+no_messages e true f [] none = refl
+no_messages e true f (k ∷ ks) none = (λ i. none k i ++ messages e (map f ks)) ∙ no_messages e true f ks none
+
+pub no_delivery : (e : ℕ) (s : State) (tx : List ℕ) → messages e (delivers e s tx) ≡ []
+no_delivery e s tx = go ((header_in tx).receiver == e) (has_bitmaps_in (notifications_of s) e)
+  where
+    go : (b c : Bool) → messages e (where_true b (Filled (message_in tx) ∷ where_true c (Pending manager_class message_bits ∷ []))) ≡ []
+    go true true = refl
+    go true false = refl
+    go false c = refl
+
+pub no_opening : (e : ℕ) (s : State) (kind : Kind) (r : Option SendRecord) → messages e (opens e s kind r) ≡ []
+no_opening e s kind None = refl
+no_opening e s kind (Some r) = no_message e (is_receiver e (transaction_from kind r)) _ refl
+
+no_taking : (e : ℕ) (kind : Kind) (h f : ℕ) (right : Rights) → message e (taking kind h f right) ≡ []
+no_taking e Donate h f right = refl
+no_taking e Lend h f right = refl
+no_taking e Share h f right = refl
+
+pub no_takes : (e : ℕ) (s : State) (d : Option RetrieveDesc) → messages e (takes e s d) ≡ []
+no_takes e s None = refl
+no_takes e s (Some d) = go (transaction_of s d.handle)
+  where
+    go : (o : Option Transaction) → messages e (takes_from e s d o) ≡ []
+    go None = refl
+    go (Some t) = no_message e (t.sender == e) _ (no_taking e t.kind d.handle s.runner _)
+
+pub no_releases : (e : ℕ) (s : State) (d : Option RelinquishDesc) → messages e (releases e s d) ≡ []
+no_releases e s None = refl
+no_releases e s (Some d) = of _ _
+  where
+    of : (mine zeros : Bool) → messages e (where_true mine (Held d.handle s.runner None ∷ []) ++ where_true zeros (Zeroed d.handle ∷ [])) ≡ []
+    of true true = refl
+    of true false = refl
+    of false true = refl
+    of false false = refl
+
+-- who runs on
+pub runs-offered : (s : State) (kind : Kind) (r : Option SendRecord) → (memory_sent s kind r).runner ≡ s.runner
+runs-offered s kind None = refl
+runs-offered s kind (Some r) = refl
+
+pub runs-retrieved : (s : State) (d : Option RetrieveDesc) → (retrieved s d).runner ≡ s.runner
+runs-retrieved s None = refl
+runs-retrieved s (Some d) = elim (transaction_of s d.handle) as (λ o. (retrieved_from s d o).runner ≡ s.runner) [ None ↦ refl | Some t ↦ refl ]
+
+pub runs-relinquished : (s : State) (d : Option RelinquishDesc) → (relinquished s d).runner ≡ s.runner
+runs-relinquished s None = refl
+runs-relinquished s (Some d) = elim (transaction_of s d.handle) as (λ o. (relinquished_from s d o).runner ≡ s.runner) [ None ↦ refl | Some t ↦ refl ]
+
+pub runs-informed : (s : State) (uuid : List ℕ) (b : Bool) → (cond b s (filled s s.runner (info_bytes (version_of s s.runner) s.parties uuid))).runner ≡ s.runner
+runs-informed s uuid true = refl
+runs-informed s uuid false = refl
+
+module _ (e : ℕ) (s : State) (differ : s.runner ≢ e) where
+  -- what a call shows to e that nothing refuses
+  abbrev pub Shows : Service → List Event → Type 0
+  Shows c told = messages e told ≡ cond (c.state.runner == e) (Regs (record { 0 = c.state.runner }) (encode c.reply) ∷ []) []
+
+  pub quiet : (c : Service) (told : List Event) → messages e told ≡ [] → c.state.runner ≡ s.runner → Shows c told
+  quiet c told none same = none ∙ ap (λ b. cond b (Regs (record { 0 = c.state.runner }) (encode c.reply) ∷ []) []) (sym (ap (λ r. r == e) same ∙ ne_eqb s.runner e differ))
+
+  pub switching : (c : Service) → Shows c (switches e c)
+  switching c =
+      elim (c.state.runner == e) as (λ b. (c.state.runner == e) ≡ b → messages e (where_true b (Message (encode c.reply) ∷ [])) ≡ cond b (Regs (record { 0 = c.state.runner }) (encode c.reply) ∷ []) []) [
+        | true ↦ λ mine. (λ i. Regs (record { 0 = sym (eqb-true c.state.runner e mine) i }) (encode c.reply) ∷ [])
+        | false ↦ λ other. refl
+      ] refl
