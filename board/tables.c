@@ -16,6 +16,9 @@ SYSTEM_REGISTER(par_el1)
 #define VMID_OF(place) ((place) + UINT64_C(1))
 #define UNUSED_VMID 255
 
+/* What a boot has settled at its end, which isn't counted. */
+#define ALL_ADDRESSES (UINT64_C(1) << 32)
+
 /* Up to so many pages are forgotten one by one. */
 #define MOST_SINGLY 16
 
@@ -59,8 +62,10 @@ static struct settled settled;
 void settle_tables(uint16_t endpoint, uint64_t address, uint64_t size) {
     DO("dsb ishst");
     if (size == 0) return;
-    settled.times++;
-    settled.pages += size / GORSEPLUMB_PAGE_SIZE;
+    if (size < ALL_ADDRESSES) {
+        settled.times++;
+        settled.pages += size / GORSEPLUMB_PAGE_SIZE;
+    }
     if (SETTLE) forget(place_of(endpoint), address, size);
 }
 
@@ -92,7 +97,6 @@ void after_call(uint32_t function, uint32_t answer) {
 
 void after_boot(void) {
     DO("dsb ishst");
-    DO("tlbi alle1is");
     DO("ic ialluis");
     DO("dsb ish");
     DO("isb");

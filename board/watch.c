@@ -256,7 +256,7 @@ static unsigned watch_pages(uint64_t turn) {
 
 /* The core has something settled in an endpoint's tables. */
 static void note_settling(uint16_t endpoint) {
-    if (endpoint == watch.identifier) watch.settled[(version + 1) / 2 % KEPT] = true;
+    if (watch.on && endpoint == watch.identifier) watch.settled[(version + 1) / 2 % KEPT] = true;
 }
 
 /* Waits until the second processor has made some accesses, if it doesn't wait itself. */

@@ -95,7 +95,7 @@ struct gorseplumb_block rattle_realloc(void *block, size_t kept, size_t size, si
 /* Takes a block back that one of these two gave. */
 void rattle_dealloc(void *block);
 
-/* What has to be settled while an operation is on its way. The library writes it to a descriptor that no file has, by
+/* What has to be settled while an operation or a boot is on its way. The library writes it to a descriptor that no file has, by
  * POSIX's `write`, in one call with the size of this struct; settle.c has that function, and calls gorseplumb_settle. A
  * C library's own `write` answers an error and does nothing, which is enough where no processor walks the tables. Only
  * a machine in lent RAM writes it. */
@@ -111,8 +111,9 @@ struct gorseplumb_settling {
  * every walk of tables, and no processor holds a translation, for an address of these pages, that came of this
  * endpoint's tables as they were before. On AArch64 that is DSB ISHST; then with the endpoint's VMID in VTTBR_EL2 TLBI
  * IPAS2E1IS of each page, DSB ISH, TLBI VMALLE1IS; and last DSB ISH and ISB. With a size of 0 the first DSB is all of
- * it. It is called while an operation is on its way, under the lock of that, and may not call the library.
- * docs/EMBEDDING.md says when. */
+ * it. With the RAM's address and a size of 2^32, as at the end of each boot, it is of all that came of this endpoint's
+ * tables: TLBI VMALLS12E1IS. It is called while an operation or a boot is on its way, under the lock of that, and may
+ * not call the library. docs/EMBEDDING.md says when. */
 void gorseplumb_settle(uint16_t endpoint, uint64_t address, uint64_t size);
 
 /* Registers x0 to x7. */

@@ -374,6 +374,15 @@ static void numbers(void) {
 #undef REFUSED
 }
 
+/* A boot in lent RAM has all that it built settled, for each of three endpoints. */
+static void boots_settled(void) {
+    CHECK(settlings == 3);
+    for (unsigned i = 0; i < 3; i++) {
+        CHECK(settled[i].endpoint == (i == 0 ? 0 : 0x8000 + i) && settled[i].address == 0x40000000 && settled[i].size == UINT64_C(1) << 32);
+    }
+    settlings = 0;
+}
+
 /* In lent RAM the page of `lend` is settled where its lender and then its borrower have lost it, before another can have it. */
 static void settles(void) {
     CHECK(settlings == 2);
@@ -450,8 +459,10 @@ static void lent_machine(void) {
     /* A list has its own piece of memory, its pages' addresses, and all that the machine takes. A boot takes none. */
     CHECK(pieces == LIST_PIECES);
     asked = 0;
+    settlings = 0;
     CHECK(gorseplumb_boot_lent_manifest(&machine, &list, &manifest) == GORSEPLUMB_OK);
     CHECK(asked == 0 && pieces == LIST_PIECES && gorseplumb_lent_pages(&list) == 0);
+    boots_settled();
     CHECK(gorseplumb_boot_lent_manifest(&machine, &list, &manifest) == GORSEPLUMB_OCCUPIED);
     CHECK(gorseplumb_boot_lent(&machine, &list, text, text_size) == GORSEPLUMB_OCCUPIED);
     first_row();

@@ -9,6 +9,7 @@ use Rattle.ffa_model.specs.Buffers.{buffers_in}
 use Rattle.ffa_model.specs.Lists.{is_in_run}
 use Rattle.ffa_model.specs.Ram.{Ram}
 use Rattle.ffa_model.specs.State.{Buffers, State, Transaction, is_known}
+use Rattle.ffa_model.proofs.Accepted.{accepted}
 use Rattle.ffa_model.proofs.Runs.{to-run}
 use Rattle.ffa_memshare.specs.Callers.{IsRxApartOfOpen}
 use Rattle.ffa_memshare.specs.Ranges.{in_ranges}
@@ -18,7 +19,7 @@ use Rattle.ffa_physmem.specs.Moments.{IsWriting, Only, Step}
 use Rattle.ffa_physmem.proofs.Moments.{Only-map, Only-none}
 use Rattle.ffa_rxtx.specs.Parts.{IsRxWriting}
 use Rattle.ffa_stage2.specs.Moments.{EndsSettled, IsInOrder, IsMoment, WalksBetween, WritesUnreached}
-use Rattle.ffa_stage2.specs.Rest.{AreMixed}
+use Rattle.ffa_stage2.specs.Rest.{AreMixed, RestIn}
 use Rattle.ffa_stage2.specs.Tables.{table_page}
 use Rattle.ffa_stage2.proofs.Moments.{between-first, moment-unreached, moment-walks, no-right-ends, nothing-ends}
 use Rattle.ffa_stage2.proofs.Rest.{mixed-of, mixed-still}
@@ -65,6 +66,15 @@ module _ (x : Parts) (machine : IsManager x) where
     order = of-state (λ k j. IsInOrder old k j h step) order;
     unreached = of-state (λ k j. WritesUnreached old new k j h step) unreached;
   }
+
+  -- tables at rest, by the numbers of the layout
+  pub rest-of : (past : Option (List Step))
+      → (0 < array_vec_len x.kept.layout.regions → RestIn x.ram (array_vec_len x.kept.layout.regions) x.kept.layout.blocks past)
+      → RestIn x.ram (length (state_of x).parties) (blocks_of (state_of x)) past
+  rest-of past at_rest =
+      let some = (accepted x.manifest.ram_base.0 x.manifest.ram_blocks x.manifest.endpoints.items x.manifest.accepted).some_endpoints in
+      of-state (λ k j. RestIn x.ram k j past)
+      (of-manifest x machine (λ base endpoints blocks. RestIn x.ram endpoints blocks past) (at_rest (subst (λ (k : ℕ). 1 ≤ k) (sym machine.layout.endpoints) some)))
 
   -- rights that change
   pub moments-of : (new : Ram) (past later : Option (List Step))

@@ -13,6 +13,10 @@ use Rattle.ffa_stage2.specs.Mixtures.{TurnsIn, page_at}
 use Rattle.ffa_stage2.specs.Moments.{walk_at}
 use Rattle.ffa_stage2.specs.Rest.{RestIn, WalksMixed}
 
+-- the tables of all endpoints are at rest at the end of a history, where its steps follow one another
+abbrev pub TablesRest : State → Ram → Option (List Step) → Type 0
+TablesRest s ram past = TurnsIn ram past → RestIn ram (length s.parties) (blocks_of s) past
+
 -- each endpoint is answered what its walk gives in a RAM, or a translation fault
 abbrev pub AnswersAlike : (ℕ → Answer) → Ram → ℕ → ℕ → ℕ → Type 0
 AnswersAlike answer ram endpoints blocks address =

@@ -24,7 +24,7 @@ ghost use Rattle.ffa_spmc.specs.AccessChange.{IsTelling};
 ghost use Rattle.ffa_spmc.specs.Cached.{AreSameOrGone, AreForgotten, AreKept, AreWalks, is_accessed, is_miss};
 ghost use Rattle.ffa_spmc.specs.Operated.{AreOperated};
 ghost use Rattle.ffa_spmc.specs.Booted.{IsBooted, IsBootedHeld};
-ghost use Rattle.ffa_spmc.specs.Mixtures.{StayMixed};
+ghost use Rattle.ffa_spmc.specs.Mixtures.{TablesRest, StayMixed};
 ghost use Rattle.ffa_spmc.specs.Moments.{AreMoments};
 ghost use Rattle.ffa_spmc.specs.Readied.{IsReadyFor};
 ghost use Rattle.ffa_spmc.specs.Storages.{IsRoomFor};
@@ -94,7 +94,8 @@ impl<M: PhysMem + Drop> Machine<M> {
     pub fn boot(manifest: &Manifest, ram: M) -> Machine<M>
         requires base { (M.ram ram).base ≡ manifest.now.ram_base.0 }
         requires size { length (M.ram ram).pages ≡ 512 * manifest.now.ram_blocks }
-        ensures { IsBooted manifest.now result.state result.ram }
+        ensures booted { IsBooted manifest.now result.state result.ram }
+        ensures rest { TablesRest result.state result.ram result.past }
     {
         Machine::boot_with(manifest, ram, NoTlb)
     }
@@ -108,6 +109,7 @@ impl<M: PhysMem + Drop, T: Translations + Drop> Machine<M, T> {
         ensures booted { IsBooted manifest.now result.state result.ram }
         ensures held { result.held ≡ [] }
         ensures told { result.told ≡ None }
+        ensures rest { TablesRest result.state result.ram result.past }
     {
         let mut ram = ram;
         clear(&mut ram);
@@ -123,6 +125,7 @@ impl<M: PhysMem + Drop, T: Translations + Drop> Machine<M, T> {
         ensures booted { IsBooted manifest.now result.state result.ram }
         ensures held { result.held ≡ [] }
         ensures told { result.told ≡ None }
+        ensures rest { TablesRest result.state result.ram result.past }
     {
         Machine::first(manifest, ram, cache, Storage::inline(manifest))
     }
@@ -136,6 +139,7 @@ impl<M: PhysMem + Drop, T: Translations + Drop> Machine<M, T> {
         ensures booted { IsBootedHeld manifest.now (M.ram ram) result.state result.ram }
         ensures held { result.held ≡ [] }
         ensures told { result.told ≡ None }
+        ensures rest { TablesRest result.state result.ram result.past }
     {
         Machine::first_held(manifest, ram, cache, Storage::inline(manifest))
     }
@@ -152,6 +156,7 @@ impl<M: PhysMem + Drop, T: Translations + Drop, S: Store> Machine<M, T, S> {
         ensures booted { IsBooted manifest.now result.state result.ram }
         ensures held { result.held ≡ [] }
         ensures told { result.told ≡ None }
+        ensures rest { TablesRest result.state result.ram result.past }
     {
         let mut ram = ram;
         clear(&mut ram);
@@ -171,6 +176,7 @@ impl<M: PhysMem + Drop, T: Translations + Drop, S: Store> Machine<M, T, S> {
         ensures booted { IsBooted manifest.now result.state result.ram }
         ensures held { result.held ≡ [] }
         ensures told { result.told ≡ None }
+        ensures rest { TablesRest result.state result.ram result.past }
     {
         Machine::first(manifest, ram, cache, storage)
     }
@@ -189,6 +195,7 @@ impl<M: PhysMem + Drop, T: Translations + Drop, S: Store> Machine<M, T, S> {
         ensures booted { IsBootedHeld manifest.now (M.ram ram) result.state result.ram }
         ensures held { result.held ≡ [] }
         ensures told { result.told ≡ None }
+        ensures rest { TablesRest result.state result.ram result.past }
     {
         Machine::first_held(manifest, ram, cache, storage)
     }
@@ -202,6 +209,7 @@ impl<M: PhysMem + Drop, T: Translations + Drop, S: Store> Machine<M, T, S> {
         ensures booted { IsBootedHeld manifest.now (M.ram ram) result.state result.ram }
         ensures held { result.held ≡ [] }
         ensures told { result.told ≡ None }
+        ensures rest { TablesRest result.state result.ram result.past }
     {
         let mut ram = ram;
         clear_rest(&mut ram, manifest);
@@ -216,6 +224,7 @@ impl<M: PhysMem + Drop, T: Translations + Drop, S: Store> Machine<M, T, S> {
         ensures booted { IsBootedHeld manifest.now (M.ram ram) result.state result.ram }
         ensures held { result.held ≡ [] }
         ensures told { result.told ≡ None }
+        ensures rest { TablesRest result.state result.ram result.past }
     {
         let mut cache = cache;
         cache.clear();

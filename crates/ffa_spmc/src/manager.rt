@@ -17,6 +17,7 @@ ghost use Rattle.ffa_spmc.specs.Booted.{IsBootedHeld};
 ghost use Rattle.ffa_spmc.specs.Readied.{IsReadyFor};
 ghost use Rattle.ffa_spmc.specs.Served.{IsAnswered};
 ghost use Rattle.ffa_spmc.specs.Storages.{IsRoomFor};
+ghost use Rattle.ffa_spmc.specs.Mixtures.{TablesRest};
 ghost use Rattle.ffa_spmc.specs.Moments.{AreMoments};
 ghost use Rattle.ffa_spmc.specs.Unowned.{KeepsUnowned};
 
@@ -85,7 +86,8 @@ impl<M: PhysMem + Drop, S: Store> Manager<M, S> {
     pub(crate) fn first(manifest: &Manifest, ram: M, storage: Storage<S>) -> Manager<M, S>
         requires ram { IsReadyFor manifest.now (M.ram ram) }
         requires storage { IsRoomFor manifest.now storage }
-        ensures { IsBootedHeld manifest.now (M.ram ram) result.state result.ram }
+        ensures booted { IsBootedHeld manifest.now (M.ram ram) result.state result.ram }
+        ensures rest { TablesRest result.state result.ram result.past }
     {
         let mut ram = ram;
         let kept = Kept::first(manifest, storage);

@@ -7,7 +7,8 @@ ghost use Rattle.ffa_model.specs.Descriptor.{page_word};
 ghost use Rattle.ffa_model.specs.declared.rights.Rights.{Rights};
 ghost use Rattle.ffa_physmem.specs.Moments.{Only};
 ghost use Rattle.ffa_stage2.specs.Moments.{IsBetweenFor, WalksBetween};
-ghost use Rattle.ffa_stage2.specs.Rest.{WalksMixed};
+ghost use Rattle.ffa_stage2.specs.Mixtures.{TurnsIn};
+ghost use Rattle.ffa_stage2.specs.Rest.{AllSettled, RestIn, WalksMixed};
 ghost use Rattle.ffa_stage2.specs.Layout.{layout_right, IsBuiltFor, BlocksWhereOneFor, WalksToFor, TablesAreFor, KeepsRestFor};
 ghost use Rattle.ffa_stage2.specs.Tables.{with_pages, with_right, WalkChanges, WalksChange, KeepsOthers, TableLaws};
 ghost use Rattle.ffa_stage2.specs.Orders.{IsOrdered};
@@ -18,6 +19,9 @@ use crate::layout::Layout;
 use ffa_model::{Data, PageNo, Rights};
 use ffa_physmem::PhysMem;
 use ffa_physmem::descriptor::{ADDRESS, EXECUTE_NEVER, READABLE_PAGE, WRITABLE};
+
+// How many pages addresses of 32 bits have.
+const ALL_PAGES: u32 = 1 << 20;
 
 /// The level 3 descriptor that maps the page of an address to itself (DDI 0487, D8.3). Bits 47:12 of the address alone
 /// count. No right is 0.
@@ -189,8 +193,19 @@ fn link_all<M: PhysMem>(memory: &mut M, layout: &Layout)
     }
 }
 
+// Has all pages settled in the tables of each endpoint.
+fn settle_all<M: PhysMem>(memory: &mut M, layout: &Layout)
+    ensures ram { M.ram memory.new ≡ M.ram memory.old }
+    ensures settled { AllSettled (array_vec_len layout.now.regions) layout.now.blocks (M.past memory.new) }
+{
+    for index in 0..layout.regions.len() {
+        memory.settle(index, PageNo(0), ALL_PAGES);
+    }
+}
+
 /// Builds the tables of all endpoints, where each has the rights of its regions and no other, in a RAM that stands
-/// where the layout says. No page behind the table pages changes.
+/// where the layout says. No page behind the table pages changes. Whatever walks read while tables were built is settled, so
+/// behind it the tables are at rest.
 pub fn build<M: PhysMem>(memory: &mut M, layout: &Layout)
     requires base { (M.ram memory.old).base ≡ layout.now.base.0 }
     requires size { length (M.ram memory.old).pages ≡ 512 * layout.now.blocks }
@@ -198,11 +213,14 @@ pub fn build<M: PhysMem>(memory: &mut M, layout: &Layout)
     ensures rest { KeepsRestFor layout.now (M.ram memory.old) (M.ram memory.new) }
     ensures walks { WalksToFor layout.now (M.ram memory.new) (layout_right layout.now) }
     ensures blocks { BlocksWhereOneFor layout.now (M.ram memory.new) (layout_right layout.now) }
+    ensures at_rest { 0 < array_vec_len layout.now.regions → TurnsIn (M.ram memory.new) (M.past memory.new)
+        → RestIn (M.ram memory.new) (array_vec_len layout.now.regions) layout.now.blocks (M.past memory.new) }
 {
     link_all(memory, layout);
     for index in 0..layout.regions.len() {
         grant(memory, layout, index);
     }
+    settle_all(memory, layout);
 }
 
 /// What built tables give: the walk of each endpoint's table is its access at every address, they stay built where no

@@ -42,7 +42,10 @@ const MANIFEST: Manifest = Manifest::new(
 
 static mut PAGES: [Page; MANIFEST.pages()] = [Page::ZERO; MANIFEST.pages()];
 
-/// How often pages were settled whose rights ended, and the last of these pages.
+/// How often a boot has pages settled: once in the tables of each endpoint.
+const AT_BOOT: usize = 2;
+
+/// How often pages were settled, and the first page of the last time.
 static SETTLED: AtomicUsize = AtomicUsize::new(0);
 static LAST: AtomicUsize = AtomicUsize::new(0);
 
@@ -99,11 +102,11 @@ fn play(pages: &mut [Page]) -> Result<(), u8> {
     let asked = memory::asked();
     let mut machine = lent.boot(&MANIFEST).map_err(|_| 2)?;
     let handle = share(&mut machine).ok_or(3)?;
-    if SETTLED.load(Relaxed) != 0 || machine.access(PARTITION, 16) != Some(Rights::Rw) || !is_told(&mut machine) {
+    if SETTLED.load(Relaxed) != AT_BOOT || machine.access(PARTITION, 16) != Some(Rights::Rw) || !is_told(&mut machine) {
         return Err(4);
     }
     machine.send(&Relinquish::new(handle, PARTITION), PARTITIONS_TX, Version::V1_1).map_err(|_| 5)?;
-    if SETTLED.load(Relaxed) != 1 || LAST.load(Relaxed) as u64 != PAGE || machine.access(PARTITION, 16).is_some() {
+    if SETTLED.load(Relaxed) != AT_BOOT + 1 || LAST.load(Relaxed) as u64 != PAGE || machine.access(PARTITION, 16).is_some() {
         return Err(6);
     }
     drop(machine);
