@@ -146,7 +146,7 @@ impl CopiedRam {
 
 impl PhysMem for CopiedRam {
     ghost use Rattle.std.specs.Prelude.{None};
-    ghost use Rattle.ffa_physmem.specs.Unrecorded.{unrecorded};
+    ghost use Rattle.ffa_physmem.specs.Unrecorded.{unrecorded, unrecorded_turn};
     ghost use Rattle.ffa_lent.specs.CopiedRam.{ram_of, with_bytes, ram_of-with_bytes};
 
     ghost ram = { ram_of };
@@ -159,6 +159,8 @@ impl PhysMem for CopiedRam {
     ghost one_page = { ram_of-with_bytes };
 
     ghost in_loan = { λ _ _ _. unrecorded };
+
+    ghost in_turn = { λ _. unrecorded_turn _ };
 
     fn base(&self) -> Address {
         self.frames.base()

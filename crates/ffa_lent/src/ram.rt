@@ -51,7 +51,7 @@ impl<E: Effects> LentRam<E> {
         requires aligned { base.0 % 4096 ≡ 0 }
         requires fits { base.0 + 4096 * length frames.pages ≤ 2 ^ 32 }
         ensures ram { IfOk result (λ m. ram_of m ≡ record { base = base.0; pages = frames.pages }) }
-        ensures past { IfOk result (λ m. E.past m.effects ≡ E.past effects) }
+        ensures effects { IfOk result (λ m. m.effects ≡ effects) }
         ensures returned { IfErr result (λ f. f ≡ frames) }
         ensures unready { IfErr result (λ _. frames.is_ready ≡ false) }
     {
@@ -75,19 +75,20 @@ impl<E: Effects> LentRam<E> {
 impl<E: Effects> PhysMem for LentRam<E> {
     ghost use Rattle.ffa_lent.specs.CopiedRam.{ram_of-with_bytes};
     ghost use Rattle.ffa_lent.specs.Effects.{IsBarrier};
-    ghost use Rattle.ffa_lent.specs.LentRam.{ram_of, with_bytes};
-    ghost use Rattle.ffa_physmem.proofs.Moments.{Only-none};
+    ghost use Rattle.ffa_lent.specs.LentRam.{ram_of, seen-in_loan, with_bytes};
 
     ghost ram = { ram_of };
 
-    ghost with_bytes = { with_bytes };
+    ghost with_bytes = { λ m page bytes. with_bytes m (E.with_loan m.effects (ram_of m) page) page bytes };
 
-    ghost past = { λ m. E.past m.effects };
+    ghost past = { λ m. E.past m.effects (ram_of m) };
 
     ghost one_page = { λ m page bytes. ram_of-with_bytes m.ram page bytes };
 
-    // What is written to a page while it is lent is no step: it is seen in those that follow.
-    ghost in_loan = { λ _ _ _. Only-none };
+    ghost in_loan = { λ m page bytes.
+        seen-in_loan m (E.past (E.with_loan m.effects (ram_of m) page)) page bytes (E.in_loan m.effects (ram_of m) page bytes) };
+
+    ghost in_turn = { λ m. E.in_turn m.effects (ram_of m) };
 
     fn base(&self) -> Address {
         self.ram.base()
@@ -103,6 +104,7 @@ impl<E: Effects> PhysMem for LentRam<E> {
 
     // What is written to an observed page is written to its copy, and gone with that.
     fn page_mut(&mut self, page: PageNo) -> &mut [u8; 4096] {
+        self.effects.lend(&self.ram, page);
         self.ram.page_mut(page)
     }
 
@@ -114,9 +116,13 @@ impl<E: Effects> PhysMem for LentRam<E> {
     fn clear_page(&mut self, page: PageNo)
         requires { page.0 < length (ram_of self.old).pages }
         ensures ram { ram_of self.new ≡ with_page (ram_of self.old) page.0 (replicate 4096 0) }
-        ensures steps { Only (E.past self.old.effects) (E.past self.new.effects) (λ _ s. IsInLoan (ram_of self.old) page.0 s) }
-        ensures shown { One (E.past self.old.effects) (E.past self.new.effects) (λ s. IsBarrier (ram_of self.new) s) }
+        ensures steps { Only (E.past self.old.effects (ram_of self.old)) (E.past self.new.effects (ram_of self.new))
+            (λ _ s. IsInLoan (ram_of self.old) page.0 s) }
+        ensures shown { let lent = E.with_loan self.old.effects (ram_of self.old) page.0 in
+            One (E.past lent (ram_of self.new)) (E.past self.new.effects (ram_of self.new))
+            (λ s. IsBarrier (ram_of self.new) s) }
     {
+        self.effects.lend(&self.ram, page);
         self.ram.clear_page(page);
         let asked = request(0, self.ram.base(), page, 0);
         self.effects.show_zeros(&self.ram, page, &asked);

@@ -1,6 +1,6 @@
 -- SPDX-License-Identifier: MIT OR Apache-2.0
 -- What was written to RAM, step by step.
-use Rattle.std.specs.Prelude.{◌≡◌, ◌⊎◌, ◌<◌, ℕ, Bool, true, false, List, [], ◌∷◌, length, Option, Some, None}
+use Rattle.std.specs.Prelude.{◌≡◌, ⊤, ◌⊎◌, ◌<◌, ℕ, Bool, true, false, List, [], ◌∷◌, length, Option, Some, None}
 use Rattle.ffa_model.specs.Lists.{is_in_run}
 use Rattle.ffa_model.specs.Ram.{Ram, page_of, with_page, with_word}
 
@@ -94,3 +94,17 @@ pub record One (old new : Option (List Step)) (P : Step → Type 0) : Type 0 whe
   pub each :
       (h : List Step) → new ≡ Some h
       → (s : Step) × (earlier : List Step) × (h ≡ s ∷ earlier) × (old ≡ Some earlier) × P s
+
+-- a step leaves RAM where it stands, with as many pages
+pub record StaysPlaced (s : Step) : Type 0 where
+  pub base : s.after.base ≡ s.before.base
+  pub size : length s.after.pages ≡ length s.before.pages
+
+-- each step begins with the RAM with which the one before ended, the last ended with this one, and RAM stays where it stands
+abbrev pub AreInTurn : List Step → Ram → Type 0
+AreInTurn [] ram = ⊤
+AreInTurn (s ∷ earlier) ram = (s.after ≡ ram) × StaysPlaced s × AreInTurn earlier s.before
+
+-- so it is of a history, where there is one
+abbrev pub TurnsIn : Ram → Option (List Step) → Type 0
+TurnsIn ram past = (h : List Step) → past ≡ Some h → AreInTurn h ram

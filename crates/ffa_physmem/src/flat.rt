@@ -81,7 +81,7 @@ fn zero_pages<A: Allocator>(alloc: A, count: u32) -> Result<Vec<[u8; 4096], A>, 
 
 impl<A: Allocator> PhysMem for FlatRam<A> {
     ghost use Rattle.std.specs.Prelude.{None};
-    ghost use Rattle.ffa_physmem.specs.Unrecorded.{unrecorded};
+    ghost use Rattle.ffa_physmem.specs.Unrecorded.{unrecorded, unrecorded_turn};
     ghost use Rattle.std.specs.Prelude.{refl};
     ghost use Rattle.std.specs.Vec.{with_item};
 
@@ -95,6 +95,8 @@ impl<A: Allocator> PhysMem for FlatRam<A> {
     ghost one_page = { λ m page bytes. refl };
 
     ghost in_loan = { λ _ _ _. unrecorded };
+
+    ghost in_turn = { λ _. unrecorded_turn _ };
 
     fn base(&self) -> Address {
         self.base

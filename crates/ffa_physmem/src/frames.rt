@@ -85,7 +85,7 @@ pub fn zero_frames<A: Allocator + Copy>(
 
 impl<A: Allocator, L: Allocator> PhysMem for FrameRam<A, L> {
     ghost use Rattle.std.specs.Prelude.{None};
-    ghost use Rattle.ffa_physmem.specs.Unrecorded.{unrecorded};
+    ghost use Rattle.ffa_physmem.specs.Unrecorded.{unrecorded, unrecorded_turn};
     ghost use Rattle.ffa_physmem.specs.FrameRam.{ram_of, with_frame, ram_of-with_frame};
 
     ghost ram = { ram_of };
@@ -98,6 +98,8 @@ impl<A: Allocator, L: Allocator> PhysMem for FrameRam<A, L> {
     ghost one_page = { ram_of-with_frame };
 
     ghost in_loan = { λ _ _ _. unrecorded };
+
+    ghost in_turn = { λ _. unrecorded_turn _ };
 
     fn base(&self) -> Address {
         self.base

@@ -3,7 +3,7 @@
 ghost use Rattle.std.specs.Prelude.{◌≡◌, ℕ, ◌+◌, ◌*◌, ◌%◌, ◌^◌, ◌<◌, ◌≤◌, List, ◌++◌, length, take, drop, replicate, Option};
 ghost use Rattle.std.specs.Borrow.{sem, Lends, Array, u8 as byte};
 ghost use Rattle.ffa_model.specs.Ram.{Ram, page_of, with_page, word_of, with_word};
-ghost use Rattle.ffa_physmem.specs.Moments.{Step, IsStore, IsSettling, IsInLoan, One, Only};
+ghost use Rattle.ffa_physmem.specs.Moments.{Step, IsStore, IsSettling, IsInLoan, One, Only, TurnsIn};
 
 use byteorder::{ByteOrder, LittleEndian};
 use ffa_model::{Address, PageNo};
@@ -101,6 +101,10 @@ pub trait PhysMem {
     /// While a page is lent it may change in any number of steps, and nothing else does.
     ghost in_loan: { (m : Self) (page : ℕ) (bytes : List ℕ)
         → Only (past m) (past (with_bytes m page bytes)) (λ _ s. IsInLoan (ram m) page s) };
+
+    /// Each step begins with the RAM with which the one before ended, the last ended with this one, and RAM stays where it
+    /// stands.
+    ghost in_turn: { (m : Self) → TurnsIn (ram m) (past m) };
 }
 
 /// Writes the word at a place of a page's bytes.

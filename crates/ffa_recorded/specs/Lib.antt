@@ -2,3 +2,4 @@
 pub mod Loans
 pub mod Records
 pub mod Steps
+pub mod Turns

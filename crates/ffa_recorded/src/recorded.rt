@@ -126,6 +126,7 @@ fn room_for(alloc: Global, steps: usize) -> Result<Vec<Noted>, AllocError>
 impl PhysMem for Recorded {
     ghost use Rattle.std.specs.Prelude.{refl};
     ghost use Rattle.ffa_recorded.specs.Records.{history};
+    ghost use Rattle.ffa_recorded.specs.Turns.{turns};
     ghost use Rattle.ffa_recorded.specs.Loans.{in_loan, noted_in, ram_of, with_bytes};
 
     ghost ram = { ram_of };
@@ -137,6 +138,8 @@ impl PhysMem for Recorded {
     ghost one_page = { λ m page bytes. refl };
 
     ghost in_loan = { in_loan };
+
+    ghost in_turn = { λ m. turns m.is_kept (ram_of m) (noted_in m) };
 
     fn base(&self) -> Address {
         self.ram.base()

@@ -30,7 +30,7 @@ use Rattle.ffa_model.specs.SoundState.{IsSoundState}
 use Rattle.ffa_laws.proofs.ElsewhereLaws.{sound-elsewhere}
 use Rattle.ffa_walker.specs.Offset.{KeepsOffset}
 use Rattle.ffa_walker.proofs.Offsets.{KeepsOffset-walk}
-use Rattle.ffa_physmem.specs.Moments.{IsWriting, Only, Step}
+use Rattle.ffa_physmem.specs.Moments.{IsWriting, Only, Step, TurnsIn}
 use Rattle.ffa_stage2.specs.Tables.{table_page}
 use Rattle.ffa_spmc.specs.Moments.{AreMoments}
 use Rattle.ffa_spmc.specs.Meaning.{HasTables, IsManager, Parts, access_by_place, state_of}
@@ -274,11 +274,11 @@ module _ (x : Parts) (machine : IsManager x) (e : ℕ) (there : is_known (state_
 
       -- between its writes
       pub moments-stored : (new : Ram) (later : Option (List Step)) → new ≡ ram_after_store_by x.ram walked address (size_of size) value
-          → Only past later (λ _ st. (physical : ℕ) × (reach_by x.ram walked address (size_of size) may_store_to ≡ Ok physical) × IsWriting x.ram (λ p. p == page_index x.ram physical) st)
+          → TurnsIn new later → Only past later (λ _ st. (physical : ℕ) × (reach_by x.ram walked address (size_of size) may_store_to ≡ Ok physical) × IsWriting x.ram (λ p. p == page_index x.ram physical) st)
           → AreMoments now.state now.ram new now.past later
-      moments-stored new later wrote only =
+      moments-stored new later wrote turns only =
           subst (λ (seen : Managed). AreMoments seen.state seen.ram new seen.past later) view
-          (beside-moments x machine new (tables-stored new wrote) only (λ _ st (physical, is, writing). (
+          (beside-moments x machine new (tables-stored new wrote) turns only (λ _ st (physical, is, writing). (
             λ p. p == page_index x.ram physical,
             λ p same. subst (λ (q : ℕ). table_page x.manifest.ram_blocks (length x.manifest.endpoints.items) 0 ≤ q) (sym (eqb-true p (page_index x.ram physical) same))
                 (behind-reached address physical (fault_of (address % size_of size == 0) (access_at s e address) may_store) (size_of size) refl

@@ -1,6 +1,6 @@
 -- SPDX-License-Identifier: MIT OR Apache-2.0
 -- What a store leaves of what is held, and of the page that an address misses.
-use Rattle.std.proofs.Common.{◌≡◌, ◌∙◌, ℕ, ◌-◌, ◌/◌, ◌%◌, ◌^◌, true, false, cond, List, Option, Some, None, refl, sym, ap, subst, inl, inr}
+use Rattle.std.proofs.Common.{◌≡◌, ◌∙◌, ℕ, ◌-◌, ◌/◌, ◌%◌, ◌^◌, true, false, cond, List, length, Option, Some, None, refl, sym, ap, subst, inl, inr}
 use Rattle.std.specs.Prelude.{◌&&◌, is_some, nat_le, nat_lt}
 use Rattle.std.specs.Option.{option_and_then, option_map_or}
 use Rattle.byteorder.specs.Endian.{little_bytes}
@@ -46,6 +46,9 @@ module _ (s : State) (e : ℕ) (new : State) (address : ℕ) (size : Size) (valu
 
   pub store-base : new.ram_base ≡ s.ram_base
   store-base = after (λ t. t.ram_base ≡ s.ram_base) refl refl
+
+  pub store-parties : length new.parties ≡ length s.parties
+  store-parties = after (λ t. length t.parties ≡ length s.parties) refl refl
 
   pub store-known : (f : ℕ) → is_known s f ≡ true → is_known new f ≡ true
   store-known f known = after (λ t. is_known t f ≡ true) known known

@@ -21,14 +21,14 @@ use Rattle.ffa_laws.specs.Elsewhere.{OwnAccessAs}
 use Rattle.ffa_laws.specs.OwnAccess.{IsSameOrNone, OwnAccess}
 use Rattle.ffa_laws.proofs.ElsewhereLaws.{fixed-step_as}
 use Rattle.ffa_laws.proofs.Kept.{step-fixed}
-use Rattle.ffa_physmem.specs.Moments.{Step}
+use Rattle.ffa_physmem.specs.Moments.{AreInTurn, Only, Step, TurnsIn}
 use Rattle.ffa_physmem.proofs.Moments.{Only-map}
-use Rattle.ffa_stage2.specs.Mixtures.{AreInTurn, IsMixture, MixturesBetween, page_at}
+use Rattle.ffa_stage2.specs.Mixtures.{IsMixture, MixturesBetween, page_at}
 use Rattle.ffa_stage2.specs.Moments.{walk_at}
-use Rattle.ffa_stage2.specs.Rest.{WalksMixed, WalksSameOrNone}
+use Rattle.ffa_stage2.specs.Rest.{RestIn, WalksSameOrNone}
 use Rattle.ffa_stage2.proofs.Mixtures.{OneDiffers, mixtures-between}
 use Rattle.ffa_stage2.proofs.Rest.{Only-turn, held-mixed}
-use Rattle.ffa_spmc.specs.Mixtures.{HeldBetween, StayMixed}
+use Rattle.ffa_spmc.specs.Mixtures.{HeldBetween, StayMixed, TablesRest}
 use Rattle.ffa_spmc.specs.Moments.{AreMoments, IsMixed}
 use Rattle.ffa_spmc.proofs.Sizes.{pages-step}
 
@@ -56,7 +56,7 @@ seen x ram b e a agrees blocks he ha =
 
 -- what may be held is the answer of a walk in a mixture
 held-between : (old new ram : Ram) (n b : ℕ) (h : List Step) → AreInTurn h ram → MixturesBetween old new n b h ram → HeldBetween old new n b h ram
-held-between old new ram n b h turn between placed a answer ha held =
+held-between old new ram n b h turn between a answer ha held =
     elim (between a (λ e. (pick e).0) ha (λ e he. ((pick e).1 he).0)) [
       | inl each ↦ inl (λ e he. elim (each e he) [ inl is ↦ inl (((pick e).1 he).1 ∙ is) | inr none ↦ inr (((pick e).1 he).1 ∙ none) ])
       | inr each ↦ inr (λ e he. elim (each e he) [ inl is ↦ inl (((pick e).1 he).1 ∙ is) | inr none ↦ inr (((pick e).1 he).1 ∙ none) ])
@@ -64,7 +64,7 @@ held-between old new ram n b h turn between placed a answer ha held =
   where
     pick : (e : ℕ) → (m : Ram) × (e < n → IsMixture b e (page_at ram a) h ram m × (answer e ≡ walk_at m b e a))
     pick e = elim (cases_lt e n) [
-      | inl lt ↦ let (m, mix, is) = held-mixed b e (page_at ram a) a h ram (answer e) turn placed (held e lt) in (m, λ _. (mix, is))
+      | inl lt ↦ let (m, mix, is) = held-mixed b e (page_at ram a) a h ram (answer e) turn (held e lt) in (m, λ _. (mix, is))
       | inr out ↦ (ram, λ lt. absurd (omega (arith, out, lt)))
     ]
 
@@ -101,29 +101,57 @@ module _ (s t : State) (old new : Ram) (was : Agrees old s) (is : Agrees new t) 
     | inr (inr same) ↦ behind e a he ha ∙ ap (λ (o : Option Rights). mapped_answer o a) same ∙ sym (before e a he ha)
   ]
 
-  all-mixed : (past later : Option (List Step)) → AreMoments s old new past later → WalksMixed old new (length s.parties) (blocks_of s) past later
-  unfolding IsMixed
-  all-mixed past later moments rest turns =
-      Only-map (moments.mixtures.each rest turns) (λ h step its. mixtures-between old new step.after (length s.parties) (blocks_of s) (step ∷ h) one-differs its)
+  all-mixed : (past later : Option (List Step)) → AreMoments s old new past later → TablesRest s old past
+      → Only past later (λ h step. MixturesBetween old new (length s.parties) (blocks_of s) (step ∷ h) step.after)
+  unfolding IsMixed TablesRest
+  all-mixed past later moments rest =
+      Only-map (moments.mixtures.each rest) (λ h step its. mixtures-between old new step.after (length s.parties) (blocks_of s) (step ∷ h) one-differs its)
 
-  pub stay-mixed : (past later : Option (List Step)) → AreMoments s old new past later → StayMixed s old new past later
-  unfolding StayMixed IsMixed
-  stay-mixed past later moments = record {
-    walks = all-mixed past later moments;
-    held = λ rest turns. Only-map (Only-turn new turns (all-mixed past later moments rest turns)) (λ h step its.
+  pub stay-mixed : (past later : Option (List Step)) → TurnsIn new later → AreMoments s old new past later → TablesRest s old past → StayMixed s old new past later
+  unfolding StayMixed IsMixed TablesRest
+  stay-mixed past later turns moments rest = record {
+    walks = all-mixed past later moments rest;
+    held = Only-map (Only-turn new turns (all-mixed past later moments rest)) (λ h step its.
         let (turn, between) = its in
-        held-between old new step.after (length s.parties) (blocks_of s) (step ∷ h) (refl, turn) between);
-    rest = λ rest turns. moments.mixtures.rest rest turns is-steady;
+        held-between old new step.after (length s.parties) (blocks_of s) (step ∷ h) turn between);
+    rest = moments.mixtures.rest rest is-steady;
   }
+
+  -- and by the state behind it
+  pub rest-behind : (past later : Option (List Step)) → AreMoments s old new past later → TablesRest s old past → TablesRest t new later
+  unfolding IsMixed TablesRest
+  rest-behind past later moments rest =
+      subst (λ (n : ℕ). RestIn new n (blocks_of t) later) (sym parties)
+      (subst (λ (k : ℕ). RestIn new (length s.parties) (k / 512) later) (sym size) (moments.mixtures.rest rest is-steady))
+
+-- where access is the same
+pub rest-alike : (s t : State) (old new : Ram) (past later : Option (List Step)) → Agrees old s → Agrees new t → length t.parties ≡ length s.parties → t.ram_base ≡ s.ram_base
+    → length t.pages ≡ length s.pages → ((e p : ℕ) → access t e p ≡ access s e p) → AreMoments s old new past later → TablesRest s old past → TablesRest t new later
+rest-alike s t old new past later was is parties base size same moments rest =
+    rest-behind s t old new was is parties base size 0 (λ e p _. same e p) (λ p. inr (inr (same 0 p))) past later moments rest
+
+pub mixed-alike : (s t : State) (old new : Ram) (past later : Option (List Step)) → Agrees old s → Agrees new t → length t.parties ≡ length s.parties → t.ram_base ≡ s.ram_base
+    → length t.pages ≡ length s.pages → ((e p : ℕ) → access t e p ≡ access s e p) → TurnsIn new later → AreMoments s old new past later → TablesRest s old past
+    → StayMixed s old new past later
+mixed-alike s t old new past later was is parties base size same turns moments rest =
+    stay-mixed s t old new was is parties base size 0 (λ e p _. same e p) (λ p. inr (inr (same 0 p))) past later turns moments rest
 
 -- of an operation
 pub op-mixed : (s t : State) (op : Op) (old new : Ram) (past later : Option (List Step)) → t ≡ (step s op).state → Agrees old s → Agrees new t → OwnAccess s op
-    → AreMoments s old new past later → StayMixed s old new past later
-op-mixed s t op old new past later state was is own moments =
+    → TurnsIn new later → AreMoments s old new past later → TablesRest s old past → StayMixed s old new past later
+op-mixed s t op old new past later state was is own turns moments =
     stay-mixed s (step s op).state old new was (subst (Agrees new) state is) (ap (λ (f : List Party × ℕ). length f.0) (step-fixed s op)) (ap (λ (f : List Party × ℕ). f.1) (step-fixed s op))
-    (pages-step s op) s.runner own.others own.keeps past later moments
+    (pages-step s op) s.runner own.others own.keeps past later turns moments
 
-pages-elsewhere : (s : State) (e : ℕ) (op : Op) → length (step_elsewhere s e op).state.pages ≡ length s.pages
+-- and the tables are at rest behind a call
+pub call-rest : (s t : State) (op : Op) (old new : Ram) (past later : Option (List Step)) → t ≡ (step s op).state → Agrees old s → Agrees new t → OwnAccess s op
+    → AreMoments s old new past later → TablesRest s old past → TablesRest t new later
+call-rest s t op old new past later state was is own moments rest =
+    subst (λ (u : State). TablesRest u new later) (sym state)
+    (rest-behind s (step s op).state old new was (subst (Agrees new) state is) (ap (λ (f : List Party × ℕ). length f.0) (step-fixed s op)) (ap (λ (f : List Party × ℕ). f.1) (step-fixed s op))
+    (pages-step s op) s.runner own.others own.keeps past later moments rest)
+
+pub pages-elsewhere : (s : State) (e : ℕ) (op : Op) → length (step_elsewhere s e op).state.pages ≡ length s.pages
 pages-elsewhere s e (Call x) = refl
 pages-elsewhere s e (Load address size) = pages-step (as_run_by e s) (Load address size)
 pages-elsewhere s e (Store address size value) = pages-step (as_run_by e s) (Store address size value)
@@ -134,7 +162,7 @@ pages-as s e op = elim (s.runner == e) as (λ b. length (if b then step s op els
 
 -- of an operation of any endpoint
 pub op_as-mixed : (s t : State) (e : ℕ) (op : Op) (old new : Ram) (past later : Option (List Step)) → t ≡ (step_as s e op).state → Agrees old s → Agrees new t → OwnAccessAs s e op
-    → AreMoments s old new past later → StayMixed s old new past later
-op_as-mixed s t e op old new past later state was is own moments =
+    → TurnsIn new later → AreMoments s old new past later → TablesRest s old past → StayMixed s old new past later
+op_as-mixed s t e op old new past later state was is own turns moments =
     stay-mixed s (step_as s e op).state old new was (subst (Agrees new) state is) (ap (λ (f : List Party × ℕ). length f.0) (fixed-step_as s e op)) (ap (λ (f : List Party × ℕ). f.1) (fixed-step_as s e op))
-    (pages-as s e op) e (λ f p far. own.others f p far) own.keeps past later moments
+    (pages-as s e op) e (λ f p far. own.others f p far) own.keeps past later turns moments

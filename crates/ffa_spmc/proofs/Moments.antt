@@ -8,22 +8,24 @@ use Rattle.ffa_model.specs.Agreement.{blocks_of}
 use Rattle.ffa_model.specs.Buffers.{buffers_in}
 use Rattle.ffa_model.specs.Lists.{is_in_run}
 use Rattle.ffa_model.specs.Ram.{Ram}
-use Rattle.ffa_model.specs.State.{Buffers, State, Transaction, is_known}
+use Rattle.ffa_model.specs.State.{Buffers, State, is_known}
 use Rattle.ffa_model.proofs.Accepted.{accepted}
 use Rattle.ffa_model.proofs.Runs.{to-run}
 use Rattle.ffa_memshare.specs.Callers.{IsRxApartOfOpen}
 use Rattle.ffa_memshare.specs.Ranges.{in_ranges}
 use Rattle.ffa_memshare.specs.Stored.{pool_slot}
 use Rattle.ffa_memshare.proofs.Moments.{stays-same, written-moment}
-use Rattle.ffa_physmem.specs.Moments.{IsWriting, Only, Step}
-use Rattle.ffa_physmem.proofs.Moments.{Only-map, Only-none}
+use Rattle.ffa_physmem.specs.Moments.{IsBeside, IsReading, IsWriting, One, Only, Step, TurnsIn}
+use Rattle.ffa_physmem.proofs.Moments.{Only-map, Only-none, Only-one, beside-same}
 use Rattle.ffa_rxtx.specs.Parts.{IsRxWriting}
 use Rattle.ffa_stage2.specs.Moments.{EndsSettled, IsInOrder, IsMoment, WalksBetween, WritesUnreached}
 use Rattle.ffa_stage2.specs.Rest.{AreMixed, RestIn}
 use Rattle.ffa_stage2.specs.Tables.{table_page}
+use Rattle.ffa_stage2.proofs.Kept.{built-kept}
 use Rattle.ffa_stage2.proofs.Moments.{between-first, moment-unreached, moment-walks, no-right-ends, nothing-ends}
 use Rattle.ffa_stage2.proofs.Rest.{mixed-of, mixed-still}
 use Rattle.ffa_spmc.specs.Meaning.{HasTables, IsManager, Parts, access_by_place, slot_names, state_of}
+use Rattle.ffa_spmc.specs.Mixtures.{TablesRest}
 use Rattle.ffa_spmc.specs.Moments.{AreMoments, IsMixed, IsSafeStep}
 use Rattle.ffa_spmc.proofs.Fills.{buffers-there, rx-unnamed, there-inside}
 use Rattle.ffa_spmc.proofs.Held.{owned-behind, parties_are, size_is}
@@ -70,33 +72,34 @@ module _ (x : Parts) (machine : IsManager x) where
   -- tables at rest, by the numbers of the layout
   pub rest-of : (past : Option (List Step))
       → (0 < array_vec_len x.kept.layout.regions → RestIn x.ram (array_vec_len x.kept.layout.regions) x.kept.layout.blocks past)
-      → RestIn x.ram (length (state_of x).parties) (blocks_of (state_of x)) past
+      → TablesRest (state_of x) x.ram past
+  unfolding TablesRest
   rest-of past at_rest =
       let some = (accepted x.manifest.ram_base.0 x.manifest.ram_blocks x.manifest.endpoints.items x.manifest.accepted).some_endpoints in
       of-state (λ k j. RestIn x.ram k j past)
       (of-manifest x machine (λ base endpoints blocks. RestIn x.ram endpoints blocks past) (at_rest (subst (λ (k : ℕ). 1 ≤ k) (sym machine.layout.endpoints) some)))
 
   -- rights that change
-  pub moments-of : (new : Ram) (past later : Option (List Step))
+  pub moments-of : (new : Ram) (past later : Option (List Step)) → TurnsIn new later
       → Only past later (λ h s. IsMoment x.ram new (array_vec_len x.kept.layout.regions) x.kept.layout.blocks h s)
       → EndsSettled x.ram new (array_vec_len x.kept.layout.regions) x.kept.layout.blocks later → AreMoments (state_of x) x.ram new past later
   unfolding IsMixed
-  moments-of new past later only ended = record {
+  moments-of new past later turns only ended = record {
     steps =
         Only-map (of-manifest x machine (λ base endpoints blocks. Only past later (λ h s. IsMoment x.ram new endpoints blocks h s)) only)
         (λ h s m. by-state x.ram new h s (moment-walks x.ram new n b h s m) m.order (moment-unreached x.ram new n b h s m));
     ended = of-state (λ k j. EndsSettled x.ram new k j later) (of-manifest x machine (λ base endpoints blocks. EndsSettled x.ram new endpoints blocks later) ended);
-    mixtures = of-state (λ k j. AreMixed x.ram new k j past later) (mixed-of x.ram new n b past later
+    mixtures = of-state (λ k j. AreMixed x.ram new k j past later) (mixed-of x.ram new n b past later turns
         (of-manifest x machine (λ base endpoints blocks. Only past later (λ h s. IsMoment x.ram new endpoints blocks h s)) only)
         (of-manifest x machine (λ base endpoints blocks. EndsSettled x.ram new endpoints blocks later) ended));
   }
 
   -- pages behind the tables that are written while these stay
-  pub beside-moments : (new : Ram) → HasTables new x.manifest (access_by_place (state_of x)) → {past later : Option (List Step)} {P : List Step → Step → Type 0} → Only past later P
+  pub beside-moments : (new : Ram) → HasTables new x.manifest (access_by_place (state_of x)) → {past later : Option (List Step)} {P : List Step → Step → Type 0} → TurnsIn new later → Only past later P
       → ((h : List Step) (s : Step) → P h s → (named : ℕ → Bool) × ((p : ℕ) → named p ≡ true → table_page b n 0 ≤ p) × IsWriting x.ram named s)
       → AreMoments (state_of x) x.ram new past later
   unfolding IsMixed
-  beside-moments new still {past = past} {later = later} only its =
+  beside-moments new still {past = past} {later = later} turns only its =
       let old = machine.tables.built in
       let rights = access_by_place (state_of x) in
       let moments : Only past later (λ h s. IsMoment x.ram new n b h s) =
@@ -110,8 +113,28 @@ module _ (x : Parts) (machine : IsManager x) where
       record {
         steps = Only-map moments (λ h s m. by-state x.ram new h s (moment-walks x.ram new n b h s m) m.order (moment-unreached x.ram new n b h s m));
         ended = of-state (λ k j. EndsSettled x.ram new k j later) ends;
-        mixtures = of-state (λ k j. AreMixed x.ram new k j past later) (mixed-of x.ram new n b past later moments ends);
+        mixtures = of-state (λ k j. AreMixed x.ram new k j past later) (mixed-of x.ram new n b past later turns moments ends);
       }
+
+  -- pages behind the tables that are read at once
+  pub reading-moments : (new : Ram) (named : ℕ → Bool) → IsBeside x.ram new named → ((p : ℕ) → named p ≡ true → table_page b n 0 ≤ p) → (past later : Option (List Step)) (first count : ℕ) (begins : Bool)
+      → TurnsIn new later → One past later (λ s. IsReading x.ram new first count begins s) → AreMoments (state_of x) x.ram new past later
+  reading-moments new named beside behind past later first count begins turns steps =
+      let still : HasTables new x.manifest (access_by_place (state_of x)) = record {
+        base = beside.base ∙ machine.tables.base;
+        size = beside.size ∙ machine.tables.size;
+        built =
+            built-kept x.ram new n b (access_by_place (state_of x)) machine.tables.built beside.base beside.size
+            (λ p low. beside.pages p (false_from_ne_true (named p) (λ at. absurd (omega (arith, low, behind p at)))));
+      } in
+      beside-moments new still turns (Only-one steps) (λ _ s its. (
+        named,
+        behind,
+        record {
+          before = subst (λ (r : Ram). IsBeside x.ram r named) (sym its.before) (beside-same x.ram named);
+          after = subst (λ (r : Ram). IsBeside x.ram r named) (sym its.after) beside;
+        },
+      ))
 
   -- RX of an endpoint is behind the tables
   rx-pages : (f : ℕ) → is_known (state_of x) f ≡ true → (buffers : Buffers) → buffers_in x.kept.buffers f ≡ Some buffers
@@ -140,6 +163,6 @@ module _ (x : Parts) (machine : IsManager x) where
           false≢true (sym (rx-unnamed x machine f known buffers are p its) ∙ named-kept x machine p inside ∙ ap is_some slot)
 
   pub rx-moments : (f : ℕ) → is_known (state_of x) f ≡ true → (new : Ram) → HasTables new x.manifest (access_by_place (state_of x)) → (past later : Option (List Step))
-      → Only past later (λ _ s. IsRxWriting x.ram (buffers_in x.kept.buffers f) s) → AreMoments (state_of x) x.ram new past later
-  rx-moments f known new still past later only =
-      beside-moments new still only (λ _ s its. (is_in_run its.buffers.rx its.buffers.pages, rx-pages f known its.buffers its.are, its.writing))
+      → TurnsIn new later → Only past later (λ _ s. IsRxWriting x.ram (buffers_in x.kept.buffers f) s) → AreMoments (state_of x) x.ram new past later
+  rx-moments f known new still past later turns only =
+      beside-moments new still turns only (λ _ s its. (is_in_run its.buffers.rx its.buffers.pages, rx-pages f known its.buffers its.are, its.writing))

@@ -24,6 +24,7 @@ use Rattle.ffa_laws.specs.Writers.{OnlyWriters}
 use Rattle.ffa_physmem.specs.Moments.{IsBeside, IsReading, One}
 use Rattle.ffa_spmc.specs.declared.run.Run.{Run}
 use Rattle.ffa_spmc.specs.Cached.{AreWalks}
+use Rattle.ffa_spmc.specs.Mixtures.{StayMixed}
 use Rattle.ffa_spmc.specs.Operated.{IsOperated}
 use Rattle.ffa_spmc.specs.Snapshot.{Snapshot}
 
@@ -61,11 +62,12 @@ pub record AreBeside (s t : State) (named : ℕ → Bool) : Type 0 where
   pub whole : (p : ℕ) → length (page_bytes t p) ≡ length (page_bytes s p)
 
 -- Pages are read at once, or are no longer as they were read. They alone may have other bytes then, in RAM and in the state
--- alike, and the cache holds what it held, which no walk contradicts.
+-- alike, and the cache holds what it held, which no walk contradicts. Walks in mixtures stay what they are.
 pub record IsRead (run : Run) (begins : Bool) (old new : Snapshot) : Type 0 where
   pub state : AreBeside old.state new.state (is_in run)
   pub ram : IsBeside old.ram new.ram (is_in run)
   pub step : One old.past new.past (λ s. IsReading old.ram new.ram run.first.0 run.count begins s)
+  pub mixtures : StayMixed old.state old.ram new.ram old.past new.past
   pub held : new.held ≡ old.held
   pub told : new.told ≡ old.told
   pub agrees : Agrees new.ram new.state

@@ -61,6 +61,7 @@ impl<M: PhysMem + Drop, T: Translations + Drop, S: Store> Model for Machine<M, T
     ghost coded = { coded_snapshot };
 
     ghost use Rattle.ffa_spmc.specs.Cached.{AreWalks};
+    ghost use Rattle.ffa_spmc.specs.Mixtures.{TablesRest};
 
     ghost view = { λ m. record {
       state = m.manager.state;
@@ -70,13 +71,14 @@ impl<M: PhysMem + Drop, T: Translations + Drop, S: Store> Model for Machine<M, T
       told = m.news;
     } };
 
+    // No answer that is held is stale, and the tables are at rest.
     ghost invariant = { λ m. AreWalks (record {
       state = m.manager.state;
       ram = m.manager.ram;
       held = T.entries m.cache;
       past = m.manager.past;
       told = m.news;
-    }) };
+    }) × TablesRest m.manager.state m.manager.ram m.manager.past };
 }
 
 // Fills all pages with zeros.
@@ -337,8 +339,8 @@ impl<M: PhysMem + Drop, T: Translations + Drop, S: Store> Machine<M, T, S> {
         // only while nobody reaches it but who does both before and behind.
         ensures moments { AreMoments self.old.state self.old.ram self.new.ram self.old.past self.new.past }
 
-        // Where the tables were at rest, so it is of walks in mixtures, whose words are of different moments, are kept until
-        // the page is settled, or are seen out of order; and behind it the tables are at rest again.
+        // So it is of walks in mixtures, whose words are of different moments, are kept until the page is settled, or are seen
+        // out of order; and behind it the tables are at rest.
         ensures mixtures { StayMixed self.old.state self.old.ram self.new.ram self.old.past self.new.past }
 
         // What the cache answers is the walk's answer over the bytes of the new RAM. It holds nothing for a page to which

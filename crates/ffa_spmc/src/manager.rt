@@ -12,6 +12,7 @@ ghost use Rattle.ffa_model.specs.Registers.{decode};
 ghost use Rattle.ffa_model.specs.State.{owner_of, version_of};
 ghost use Rattle.ffa_model.specs.Step.{serve, service};
 ghost use Rattle.ffa_memshare.specs.declared.changed.Changed.{Changed};
+ghost use Rattle.ffa_physmem.specs.Moments.{TurnsIn};
 ghost use Rattle.ffa_spmc.specs.Caching.{IsForgotten, most_pages};
 ghost use Rattle.ffa_spmc.specs.Booted.{IsBootedHeld};
 ghost use Rattle.ffa_spmc.specs.Readied.{IsReadyFor};
@@ -136,12 +137,13 @@ impl<M: PhysMem + Drop, S: Store> Manager<M, S> {
     }
 
     // What holds of every manager: the tables give the access of the state, which is sound, and in which nobody is offered
-    // what it has sent itself.
+    // what it has sent itself. And the steps of RAM's history follow one another.
     #[inline(always)]
     pub(crate) fn holds(&self)
         ensures agrees { Agrees self.now.ram self.now.state }
         ensures sound { IsSoundState self.now.state }
         ensures apart { AreApart self.now.state }
+        ensures turn { TurnsIn self.now.ram self.now.past }
     {
         // Proof step: the invariant of all parts is at hand where one is read.
         let _ = &self.kept;

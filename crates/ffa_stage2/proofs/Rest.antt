@@ -8,10 +8,10 @@ use Rattle.ffa_model.specs.declared.limits.TheConstants.{MOST_BLOCKS}
 use Rattle.ffa_model.specs.Ram.{Ram, page_of, word_of}
 use Rattle.ffa_model.specs.Walk.{Answer, is_in_ram, mapped_answer}
 use Rattle.ffa_model.specs.declared.rights.Rights.{Rights}
-use Rattle.ffa_physmem.specs.Moments.{Adds, IsSettledBy, Only, Settles, Step}
+use Rattle.ffa_physmem.specs.Moments.{Adds, AreInTurn, IsSettledBy, Only, Settles, Step, TurnsIn}
 use Rattle.ffa_physmem.proofs.Moments.{Only-along, Only-behind-all, Only-map, Only-none}
-use Rattle.ffa_stage2.specs.Held.{MayHold, StayPlaced}
-use Rattle.ffa_stage2.specs.Mixtures.{AreInTurn, IsMixture, MayRead, MixedBetween, TurnsIn}
+use Rattle.ffa_stage2.specs.Held.{MayHold}
+use Rattle.ffa_stage2.specs.Mixtures.{IsMixture, MayRead, MixedBetween}
 use Rattle.ffa_stage2.specs.Moments.{EndsSettled, IsBetween, IsMoment, walk_at}
 use Rattle.ffa_stage2.specs.Orders.{IsOrdered}
 use Rattle.ffa_stage2.specs.Rest.{AllSettled, AreAtRest, AreMixed, IsAsIn, IsWalked, Reads, ReadsBlock, ReadsTable, RestIn, WalksSameOrNone}
@@ -50,8 +50,8 @@ moment-either old new n b h s m e p he hp = elim (m.between.each p) [
 -- the RAM is told by the steps
 same-turn : (s : Step) (earlier h : List Step) (ram other : Ram) → h ≡ s ∷ earlier → AreInTurn h ram → AreInTurn h other → ram ≡ other
 same-turn s earlier h ram other is first second =
-    let (at, _) = subst (λ (g : List Step). AreInTurn g ram) is first in
-    let (there, _) = subst (λ (g : List Step). AreInTurn g other) is second in
+    let (at, _, _) = subst (λ (g : List Step). AreInTurn g ram) is first in
+    let (there, _, _) = subst (λ (g : List Step). AreInTurn g other) is second in
     sym at ∙ there
 
 reads-more : (base n b : ℕ) (h : List Step) (ram : Ram) (Is More : ℕ → ℕ → Option Rights → Type 0)
@@ -72,12 +72,12 @@ reads-more base n b h ram Is More more reads = record {
 }
 
 -- the steps behind a history follow one another, where all do
-Adds-turn : (past : Option (List Step)) (P : List Step → Step → Type 0) (h : List Step) (ram : Ram) → AreInTurn h ram → Adds past P h → Adds past (λ h s. AreInTurn h s.before × P h s) h
+Adds-turn : (past : Option (List Step)) (P : List Step → Step → Type 0) (h : List Step) (ram : Ram) → AreInTurn h ram → Adds past P h → Adds past (λ h s. AreInTurn (s ∷ h) s.after × P h s) h
 Adds-turn past P [] ram turn there = there
 Adds-turn past P (s ∷ h) ram turn (inl there) = inl there
-Adds-turn past P (s ∷ h) ram (at, turn) (inr (its, rest)) = inr ((turn, its), Adds-turn past P h s.before turn rest)
+Adds-turn past P (s ∷ h) ram (at, placed, turn) (inr (its, rest)) = inr (((refl, placed, turn), its), Adds-turn past P h s.before turn rest)
 
-pub Only-turn : {past later : Option (List Step)} {P : List Step → Step → Type 0} (new : Ram) → TurnsIn new later → Only past later P → Only past later (λ h s. AreInTurn h s.before × P h s)
+pub Only-turn : {past later : Option (List Step)} {P : List Step → Step → Type 0} (new : Ram) → TurnsIn new later → Only past later P → Only past later (λ h s. AreInTurn (s ∷ h) s.after × P h s)
 Only-turn {past} {later} {P} new turns only = record { each = λ h there. Adds-turn past P h new (turns h there) (only.each h there) }
 
 module _ (old new : Ram) (n b : ℕ) (past later : Option (List Step)) (rest : RestIn old n b past) (turns : TurnsIn new later) (only : Only past later (λ h s. IsMoment old new n b h s)) where
@@ -91,15 +91,15 @@ module _ (old new : Ram) (n b : ℕ) (past later : Option (List Step)) (rest : R
       subst (λ (r : Ram). Reads old.base n b h r (IsAsInEither old new b)) (same-turn s earlier h old ram is its.turn turn)
       (reads-more old.base n b h old (IsAsIn old b) (IsAsInEither old new b) (λ e k j he hk hj r its. inl its) its.reads)
 
-  next-read : (h : List Step) (s : Step) → AreInTurn h s.before × IsMoment old new n b h s → AllRead h → AllRead (s ∷ h)
-  next-read h s (turn, m) reads ram (at, _) =
+  next-read : (h : List Step) (s : Step) → AreInTurn (s ∷ h) s.after × IsMoment old new n b h s → AllRead h → AllRead (s ∷ h)
+  next-read h s ((_, _, turn), m) reads ram (at, _, _) =
       subst (λ (r : Ram). Reads old.base n b (s ∷ h) r (IsAsInEither old new b)) at
       (reads-behind old n b h s (IsAsInEither old new b) m.between.rights m.between.stands m.place (moment-either old new n b h s m) m.order (reads s.before turn))
 
   pub reads-at : Only past later (λ h s. Reads old.base n b (s ∷ h) s.after (IsAsInEither old new b) × IsMoment old new n b h s)
   reads-at = Only-map (Only-along AllRead first-read next-read (Only-turn new turns only)) (λ h s its.
       let (reads, (turn, m)) = its in
-      (next-read h s (turn, m) reads s.after (refl, turn), m))
+      (next-read h s (turn, m) reads s.after turn, m))
 
   pub mixed-along : Only past later (λ h s. MixedBetween old new n b (s ∷ h) s.after)
   mixed-along = Only-map reads-at (λ h s its.
@@ -116,8 +116,8 @@ module _ (old new : Ram) (n b : ℕ) (past later : Option (List Step)) (rest : R
 may-unchanged : (end e p : ℕ) (h : List Step) (ram : Ram) → AreInTurn h ram → IsSettledBy end e p h → (page i v : ℕ) → page < end → MayRead e p h ram page i v
     → v ≡ word_of (page_of ram page) i
 may-unchanged end e p [] ram turn settled page i v below read = absurd settled
-may-unchanged end e p (s ∷ h) ram (at, turn) (inl settles) page i v below read = elim read [ inl now ↦ now | inr (off, was) ↦ absurd (off settles) ]
-may-unchanged end e p (s ∷ h) ram (at, turn) (inr (kept, settled)) page i v below read = elim read [
+may-unchanged end e p (s ∷ h) ram (at, placed, turn) (inl settles) page i v below read = elim read [ inl now ↦ now | inr (off, was) ↦ absurd (off settles) ]
+may-unchanged end e p (s ∷ h) ram (at, placed, turn) (inr (kept, settled)) page i v below read = elim read [
   | inl now ↦ now
   | inr (off, was) ↦
       may-unchanged end e p h s.before turn settled page i v below was ∙ sym (ap (λ (bytes : List ℕ). word_of bytes i) (kept page below))
@@ -219,17 +219,18 @@ module _ (old new : Ram) (n b : ℕ) (access after : ℕ → ℕ → Option Righ
       })
 
 -- all of it, of steps that are moments on the way from one RAM to another, where what ended is settled
-module _ (old new : Ram) (n b : ℕ) (past later : Option (List Step)) (only : Only past later (λ h s. IsMoment old new n b h s)) (ended : EndsSettled old new n b later) where
-  still-at-rest : RestIn old n b past → TurnsIn new later → (h : List Step) → later ≡ Some h → past ≡ Some h → AreAtRest new n b h
-  still-at-rest rest turns h there was =
+module _ (old new : Ram) (n b : ℕ) (past later : Option (List Step)) (turns : TurnsIn new later) (only : Only past later (λ h s. IsMoment old new n b h s))
+    (ended : EndsSettled old new n b later) where
+  still-at-rest : RestIn old n b past → (h : List Step) → later ≡ Some h → past ≡ Some h → AreAtRest new n b h
+  still-at-rest rest h there was =
       let its = rest h was in
       let (s, earlier, is) = its.begun in
       subst (λ (r : Ram). AreAtRest r n b h) (same-turn s earlier h old new is its.turn (turns h there)) its
 
-  at-rest : RestIn old n b past → TurnsIn new later → WalksSameOrNone old new n b → (h : List Step) → later ≡ Some h → Adds past (λ h s. IsMoment old new n b h s) h → AreAtRest new n b h
-  at-rest rest turns steady [] there was = still-at-rest rest turns [] there was
-  at-rest rest turns steady (s ∷ h) there (inl was) = still-at-rest rest turns (s ∷ h) there was
-  at-rest rest turns steady (s ∷ h) there (inr (m, more)) = record {
+  at-rest : RestIn old n b past → WalksSameOrNone old new n b → (h : List Step) → later ≡ Some h → Adds past (λ h s. IsMoment old new n b h s) h → AreAtRest new n b h
+  at-rest rest steady [] there was = still-at-rest rest [] there was
+  at-rest rest steady (s ∷ h) there (inl was) = still-at-rest rest (s ∷ h) there was
+  at-rest rest steady (s ∷ h) there (inr (m, more)) = record {
     begun = (s, h, refl);
     turn = turns (s ∷ h) there;
     reads = rest-reads old new n b m.access m.after m.was m.is m.stays (s ∷ h) (turns (s ∷ h) there) (ended (s ∷ h) there) steady
@@ -238,15 +239,15 @@ module _ (old new : Ram) (n b : ℕ) (past later : Option (List Step)) (only : O
 
   pub mixed-of : AreMixed old new n b past later
   mixed-of = record {
-    each = λ rest turns. mixed-along old new n b past later rest turns only;
-    rest = λ rest turns steady h there. at-rest rest turns steady h there (only.each h there);
+    each = λ rest. mixed-along old new n b past later rest turns only;
+    rest = λ rest steady h there. at-rest rest steady h there (only.each h there);
   }
 
 -- where nothing was written
 pub mixed-still : (old new : Ram) (n b : ℕ) (past later : Option (List Step)) → new ≡ old → later ≡ past → AreMixed old new n b past later
 mixed-still old new n b past later same same_past = record {
-  each = λ _ _. subst (λ (l : Option (List Step)). Only past l (λ h s. MixedBetween old new n b (s ∷ h) s.after)) (sym same_past) Only-none;
-  rest = λ rest _ _ h there. subst (λ (r : Ram). AreAtRest r n b h) (sym same) (rest h (sym same_past ∙ there));
+  each = λ _. subst (λ (l : Option (List Step)). Only past l (λ h s. MixedBetween old new n b (s ∷ h) s.after)) (sym same_past) Only-none;
+  rest = λ rest _ h there. subst (λ (r : Ram). AreAtRest r n b h) (sym same) (rest h (sym same_past ∙ there));
 }
 
 -- ---- translation units
@@ -260,13 +261,13 @@ mixture-still b e p s h mixed base size off mix = record {
 }
 
 -- whatever a translation unit may hold is the answer of a walk in a mixture now
-pub held-mixed : (b e p a : ℕ) (h : List Step) (ram : Ram) (answer : Answer) → AreInTurn h ram → StayPlaced h → MayHold b e p a h ram answer
+pub held-mixed : (b e p a : ℕ) (h : List Step) (ram : Ram) (answer : Answer) → AreInTurn h ram → MayHold b e p a h ram answer
     → (mixed : Ram) × IsMixture b e p h ram mixed × (answer ≡ walk_at mixed b e a)
-held-mixed b e p a [] ram answer turn placed held = held
-held-mixed b e p a (s ∷ h) ram answer turn placed (inl held) = held
-held-mixed b e p a (s ∷ h) ram answer (at, turn) (base, size, placed) (inr (off, held)) =
-    let (mixed, mix, is) = held-mixed b e p a h s.before answer turn placed held in
-    (mixed, subst (λ (r : Ram). IsMixture b e p (s ∷ h) r mixed) at (mixture-still b e p s h mixed base size off mix), is)
+held-mixed b e p a [] ram answer turn held = held
+held-mixed b e p a (s ∷ h) ram answer turn (inl held) = held
+held-mixed b e p a (s ∷ h) ram answer (at, placed, turn) (inr (off, held)) =
+    let (mixed, mix, is) = held-mixed b e p a h s.before answer turn held in
+    (mixed, subst (λ (r : Ram). IsMixture b e p (s ∷ h) r mixed) at (mixture-still b e p s h mixed placed.base placed.size off mix), is)
 
 -- ---- of pages that follow one another
 

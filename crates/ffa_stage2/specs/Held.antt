@@ -1,7 +1,7 @@
 -- SPDX-License-Identifier: MIT OR Apache-2.0
 -- What a translation unit may hold for a page: the answer of any walk since the page was last settled, each in a mixture of its
 -- own time (DDI 0487, C5.5, TLBI IPAS2E1IS and TLBI VMALLE1IS).
-use Rattle.std.specs.Prelude.{◌≡◌, ⊤, ℕ, ◌⊎◌, List, [], ◌∷◌, length}
+use Rattle.std.specs.Prelude.{◌≡◌, ℕ, ◌⊎◌, List, [], ◌∷◌}
 use Rattle.ffa_model.specs.Ram.{Ram}
 use Rattle.ffa_model.specs.Walk.{Answer}
 use Rattle.ffa_physmem.specs.Moments.{Settles, Step}
@@ -20,9 +20,3 @@ MayHold blocks e p address [] ram answer = IsMixedAnswer blocks e p address [] r
 MayHold blocks e p address (s ∷ earlier) ram answer =
     IsMixedAnswer blocks e p address (s ∷ earlier) ram answer
     ⊎ ((Settles e p s → ⊥) × MayHold blocks e p address earlier s.before answer)
-
--- the RAM stands where it did at each of these steps
-abbrev pub StayPlaced : List Step → Type 0
-StayPlaced [] = ⊤
-StayPlaced (s ∷ earlier) =
-    (s.after.base ≡ s.before.base) × (length s.after.pages ≡ length s.before.pages) × StayPlaced earlier

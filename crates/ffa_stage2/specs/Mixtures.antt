@@ -1,7 +1,7 @@
 -- SPDX-License-Identifier: MIT OR Apache-2.0
 -- What walks may give while tables are written: a walk to a page may have of each word any value since the page was last settled,
 -- by a read of its own, a copy that a processor keeps or stores seen out of order (DDI 0487, C5.5, TLBI IPAS2E1IS).
-use Rattle.std.specs.Prelude.{◌≡◌, ⊤, ℕ, ◌-◌, ◌/◌, ◌^◌, ◌<◌, ◌⊎◌, List, [], ◌∷◌, length, Option, Some, Err}
+use Rattle.std.specs.Prelude.{◌≡◌, ℕ, ◌-◌, ◌/◌, ◌^◌, ◌<◌, ◌⊎◌, List, [], ◌∷◌, length, Err}
 use Rattle.ffa_model.specs.Manifest.{table_pages}
 use Rattle.ffa_model.specs.Ram.{Ram, page_of, word_of}
 use Rattle.ffa_model.specs.declared.operation.FaultKind.TheVariants.{Translation}
@@ -53,12 +53,3 @@ MixturesBetween old new endpoints blocks h ram =
     (address : ℕ) (mixed : ℕ → Ram) → address < 2 ^ 32
     → ((e : ℕ) → e < endpoints → IsMixture blocks e (page_at ram address) h ram (mixed e))
     → MixedAlike mixed old endpoints blocks address ⊎ MixedAlike mixed new endpoints blocks address
-
--- each step begins with the RAM with which the one before ended, and the last ended with this one
-abbrev pub AreInTurn : List Step → Ram → Type 0
-AreInTurn [] ram = ⊤
-AreInTurn (s ∷ earlier) ram = (s.after ≡ ram) × AreInTurn earlier s.before
-
--- so it is of a history, where there is one
-abbrev pub TurnsIn : Ram → Option (List Step) → Type 0
-TurnsIn ram past = (h : List Step) → past ≡ Some h → AreInTurn h ram

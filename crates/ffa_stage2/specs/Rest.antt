@@ -6,9 +6,9 @@ use Rattle.ffa_model.specs.Descriptor.{page_word}
 use Rattle.ffa_model.specs.Ram.{Ram}
 use Rattle.ffa_model.specs.Walk.{mapped_answer}
 use Rattle.ffa_model.specs.declared.rights.Rights.{Rights}
-use Rattle.ffa_physmem.specs.Moments.{IsSettledBy, Only, Step}
+use Rattle.ffa_physmem.specs.Moments.{AreInTurn, IsSettledBy, Only, Step}
 use Rattle.ffa_stage2.specs.Blocks.{block_word}
-use Rattle.ffa_stage2.specs.Mixtures.{AreInTurn, MayRead, MixedBetween, MixturesBetween, TurnsIn}
+use Rattle.ffa_stage2.specs.Mixtures.{MayRead, MixedBetween, MixturesBetween}
 use Rattle.ffa_stage2.specs.Moments.{walk_at}
 use Rattle.ffa_stage2.specs.Tables.{level1_place, level2_place, table_link, table_page}
 
@@ -68,12 +68,11 @@ AllSettled endpoints blocks past =
     (h : List Step) → past ≡ Some h
     → (e p : ℕ) → e < endpoints → p < 2 ^ 20 → IsSettledBy (table_page blocks endpoints 0) e p h
 
--- where the tables were at rest, and the steps follow one another: at each step, the walks of all endpoints in mixtures give
--- what they gave before all of them, or what they give behind all, or a translation fault
+-- where the tables were at rest: at each step, the walks of all endpoints in mixtures give what they gave before all steps, or
+-- what they give behind all, or a translation fault
 abbrev pub WalksMixed : Ram → Ram → ℕ → ℕ → Option (List Step) → Option (List Step) → Type 0
 WalksMixed old new endpoints blocks past later =
-    RestIn old endpoints blocks past → TurnsIn new later
-    → Only past later (λ h s. MixturesBetween old new endpoints blocks (s ∷ h) s.after)
+    RestIn old endpoints blocks past → Only past later (λ h s. MixturesBetween old new endpoints blocks (s ∷ h) s.after)
 
 -- where an endpoint's walk leads somewhere in both of two RAMs, it gives the same in both
 abbrev pub WalksSameOrNone : Ram → Ram → ℕ → ℕ → Type 0
@@ -85,8 +84,6 @@ WalksSameOrNone old new endpoints blocks =
 -- The same of each endpoint for itself; and the tables are at rest again, where nobody got another right in the place of one.
 pub record AreMixed (old new : Ram) (endpoints blocks : ℕ) (past later : Option (List Step)) : Type 0 where
   pub each :
-      RestIn old endpoints blocks past → TurnsIn new later
-      → Only past later (λ h s. MixedBetween old new endpoints blocks (s ∷ h) s.after)
+      RestIn old endpoints blocks past → Only past later (λ h s. MixedBetween old new endpoints blocks (s ∷ h) s.after)
   pub rest :
-      RestIn old endpoints blocks past → TurnsIn new later → WalksSameOrNone old new endpoints blocks
-      → RestIn new endpoints blocks later
+      RestIn old endpoints blocks past → WalksSameOrNone old new endpoints blocks → RestIn new endpoints blocks later

@@ -7,7 +7,6 @@ ghost use Rattle.ffa_model.specs.Descriptor.{page_word};
 ghost use Rattle.ffa_model.specs.declared.rights.Rights.{Rights};
 ghost use Rattle.ffa_physmem.specs.Moments.{Only};
 ghost use Rattle.ffa_stage2.specs.Moments.{IsBetweenFor, WalksBetween};
-ghost use Rattle.ffa_stage2.specs.Mixtures.{TurnsIn};
 ghost use Rattle.ffa_stage2.specs.Rest.{AllSettled, RestIn, WalksMixed};
 ghost use Rattle.ffa_stage2.specs.Layout.{layout_right, IsBuiltFor, BlocksWhereOneFor, WalksToFor, TablesAreFor, KeepsRestFor};
 ghost use Rattle.ffa_stage2.specs.Tables.{with_pages, with_right, WalkChanges, WalksChange, KeepsOthers, TableLaws};
@@ -213,7 +212,7 @@ pub fn build<M: PhysMem>(memory: &mut M, layout: &Layout)
     ensures rest { KeepsRestFor layout.now (M.ram memory.old) (M.ram memory.new) }
     ensures walks { WalksToFor layout.now (M.ram memory.new) (layout_right layout.now) }
     ensures blocks { BlocksWhereOneFor layout.now (M.ram memory.new) (layout_right layout.now) }
-    ensures at_rest { 0 < array_vec_len layout.now.regions → TurnsIn (M.ram memory.new) (M.past memory.new)
+    ensures at_rest { 0 < array_vec_len layout.now.regions
         → RestIn (M.ram memory.new) (array_vec_len layout.now.regions) layout.now.blocks (M.past memory.new) }
 {
     link_all(memory, layout);

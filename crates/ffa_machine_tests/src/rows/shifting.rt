@@ -90,7 +90,7 @@ impl Shifting {
 
 impl PhysMem for Shifting {
     ghost use Rattle.std.specs.Prelude.{refl, None};
-    ghost use Rattle.ffa_physmem.specs.Unrecorded.{unrecorded};
+    ghost use Rattle.ffa_physmem.specs.Unrecorded.{unrecorded, unrecorded_turn};
 
     ghost ram = { λ m. ⟦<FlatRam as PhysMem>⟧.ram m.ram };
 
@@ -102,6 +102,8 @@ impl PhysMem for Shifting {
     ghost one_page = { λ m page bytes. refl };
 
     ghost in_loan = { λ _ _ _. unrecorded };
+
+    ghost in_turn = { λ _. unrecorded_turn _ };
 
     fn base(&self) -> Address {
         self.ram.base()

@@ -183,7 +183,7 @@ const NOTHING: Writes = Writes {
 
 impl PhysMem for Watched {
     ghost use Rattle.std.specs.Prelude.{refl, None};
-    ghost use Rattle.ffa_physmem.specs.Unrecorded.{unrecorded};
+    ghost use Rattle.ffa_physmem.specs.Unrecorded.{unrecorded, unrecorded_turn};
 
     ghost ram = { λ m. ⟦<FlatRam as PhysMem>⟧.ram m.ram };
 
@@ -195,6 +195,8 @@ impl PhysMem for Watched {
     ghost one_page = { λ m page bytes. refl };
 
     ghost in_loan = { λ _ _ _. unrecorded };
+
+    ghost in_turn = { λ _. unrecorded_turn _ };
 
     fn base(&self) -> Address {
         self.ram.base()

@@ -44,8 +44,8 @@ impl<M: PhysMem + Drop, T: Translations + Drop, S: Store> Machine<M, T, S> {
         // only while nobody reaches it but who does both before and behind.
         ensures moments { AreMoments self.old.state self.old.ram self.new.ram self.old.past self.new.past }
 
-        // Where the tables were at rest, so it is of walks in mixtures, whose words are of different moments, are kept until
-        // the page is settled, or are seen out of order; and behind it the tables are at rest again.
+        // So it is of walks in mixtures, whose words are of different moments, are kept until the page is settled, or are seen
+        // out of order; and behind it the tables are at rest.
         ensures mixtures { StayMixed self.old.state self.old.ram self.new.ram self.old.past self.new.past }
 
         // What the cache answers is the walk's answer over the bytes of the new RAM. It holds nothing for a page to which

@@ -7,6 +7,7 @@ ghost use Rattle.ffa_model.specs.SoundState.{are_bytes};
 ghost use Rattle.ffa_model.specs.State.{page_at};
 ghost use Rattle.ffa_physmem.specs.Moments.{IsBeside, IsReading, One};
 ghost use Rattle.ffa_spmc.specs.Among.{AreBeside, bytes_read, is_in, pages_holding, pages_read};
+ghost use Rattle.ffa_spmc.specs.Moments.{AreMoments};
 ghost use Rattle.ffa_spmc.specs.Unowned.{pages_of_tables};
 
 use super::Manager;
@@ -131,6 +132,7 @@ impl<M: Observed + Drop, S: Store> Manager<M, S> {
         ensures ram { IsBeside self.old.ram self.new.ram (is_in run) }
         ensures step { One self.old.past self.new.past (λ s.
             IsReading self.old.ram self.new.ram run.first.0 run.count true s) }
+        ensures moments { AreMoments self.old.state self.old.ram self.new.ram self.old.past self.new.past }
         ensures kept { M.is_alone ≡ true → self.new.state ≡ self.old.state }
     {
         observe_in(&mut self.ram, run);
@@ -144,6 +146,7 @@ impl<M: Observed + Drop, S: Store> Manager<M, S> {
         ensures ram { IsBeside self.old.ram self.new.ram (is_in run) }
         ensures step { One self.old.past self.new.past (λ s.
             IsReading self.old.ram self.new.ram run.first.0 run.count false s) }
+        ensures moments { AreMoments self.old.state self.old.ram self.new.ram self.old.past self.new.past }
     {
         release_in(&mut self.ram, run);
     }

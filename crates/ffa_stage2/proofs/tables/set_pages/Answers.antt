@@ -129,7 +129,7 @@ pub returns-clause-orders : goal.returns-clause-orders
 returns-clause-orders g c = c.loop-next.invariant.orders
 
 pub returns-clause-mixtures : goal.returns-clause-mixtures
-returns-clause-mixtures g c rest turns =
+returns-clause-mixtures g c rest =
     let (access, h) = c.requires.built in
     let i = c.loop-next.invariant in
     let l = c.args.layout.now in
@@ -137,6 +137,6 @@ returns-clause-mixtures g c rest turns =
     let new = g.M.PhysMem.ram c.loop-next.memory in
     let is = returns-clause-built g c access h in
     Only-map
-    (mixed-along old new _ _ _ _ rest turns (Only-map (Only-both (Only-both (i.steps access h) i.others_stay) i.orders)
+    (mixed-along old new _ _ _ _ rest (g.met.M.PhysMem.in_turn c.loop-next.memory) (Only-map (Only-both (Only-both (i.steps access h) i.others_stay) i.orders)
     (λ hist s ((between, others), ordered). pages-moment old new _ _ access _ h is i.others.base c.args.index c.requires.index hist s between others.base ordered)))
     (λ hist s its. mixtures-between old new s.after _ _ (s ∷ hist) (one-changes old new _ _ c.args.index _ _ c.args.right (returns-clause-walks g c)) its)

@@ -1,9 +1,9 @@
 -- SPDX-License-Identifier: MIT OR Apache-2.0
-use Rattle.std.proofs.Common.{◌≡◌, ◌∙◌, ◌∷◌, ℕ, ◌^◌, ◌<◌, List, arith, inl, inr, refl, subst, sym}
+use Rattle.std.proofs.Common.{◌∙◌, ◌∷◌, ℕ, ◌^◌, arith, inl, inr, subst, sym}
 use Rattle.std.proofs.lemmas.Bool.{cases_eq}
 use Rattle.arrayvec.specs.ArrayVec.{array_vec_len}
 use Rattle.ffa_model.proofs.Runs.{to-run}
-use Rattle.ffa_physmem.specs.Moments.{IsSettledBy, Step}
+use Rattle.ffa_physmem.specs.Moments.{IsSettledBy}
 use Rattle.ffa_physmem.proofs.Moments.{settled-here, settled-still}
 use Rattle.ffa_stage2.specs.Tables.{table_page}
 use Rattle.ffa_stage2.proofs.tables.settle_all.Goals as goal

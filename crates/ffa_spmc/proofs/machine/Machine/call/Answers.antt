@@ -8,6 +8,8 @@ use Rattle.ffa_spmc.specs.Cached.{AreSameOrGone, AreForgotten, AreKept}
 use Rattle.ffa_spmc.specs.Snapshot.{Snapshot}
 use Rattle.ffa_spmc.proofs.Forgotten.{gone, gone-or-held, same-held, still-held}
 use Rattle.ffa_spmc.proofs.HeldWalks.{walks-after}
+use Rattle.ffa_spmc.proofs.Laws.{access-now}
+use Rattle.ffa_spmc.proofs.Mixtures.{call-rest}
 use Rattle.ffa_spmc.proofs.machine.Machine.call.Goals as goal
 
 pub invariant_of-self : goal.invariant_of-self
@@ -17,11 +19,14 @@ invariant_of-self g c =
     let old = g.T.Translations.entries c.self.inside.cache in
     let new = g.T.Translations.entries c.call-outcome.new.cache in
     let (changed, f, told, silent) = c.call-outcome.ensures.changed in
-    let base : t.ram_base ≡ s.ram_base = ap (λ (state : State). state.ram_base) c.call-outcome.ensures.state ∙ base-step s (Call c.args.x) in
-    walks-after c.self.inside.manager.ram c.call-outcome.new.self.ram s t
-    c.holds.ensures.agrees c.holds-2.ensures.agrees c.holds.ensures.sound c.holds-2.ensures.sound base
-    (λ e known. subst (λ (state : State). is_known state e ≡ true) (sym c.call-outcome.ensures.state) (known-step s (Call c.args.x) e known)) old new
-    (still-held s t changed f.access old new f.rest) c.self.invariant
+    let base : t.ram_base ≡ s.ram_base = ap (λ (state : State). state.ram_base) c.call-outcome.ensures.state ∙ base-step s (Call c.args.x) in (
+      walks-after c.self.inside.manager.ram c.call-outcome.new.self.ram s t
+          c.holds.ensures.agrees c.holds-2.ensures.agrees c.holds.ensures.sound c.holds-2.ensures.sound base
+          (λ e known. subst (λ (state : State). is_known state e ≡ true) (sym c.call-outcome.ensures.state) (known-step s (Call c.args.x) e known)) old new
+          (still-held s t changed f.access old new f.rest) c.self.invariant.0,
+      call-rest s t (Call c.args.x) c.self.inside.manager.ram c.call-outcome.new.self.ram c.self.inside.manager.past c.call-outcome.new.self.past c.call-outcome.ensures.state
+          c.holds.ensures.agrees c.holds-2.ensures.agrees (access-now s c.holds.ensures.sound c.holds.ensures.apart (Call c.args.x)) c.call-outcome.ensures.moments c.self.invariant.1,
+    )
 
 pub returns-clause-forgotten : goal.returns-clause-forgotten
 returns-clause-forgotten g c =
@@ -44,7 +49,7 @@ returns-clause-kept g c =
     let now : Snapshot = record { state = t; ram = c.call-outcome.new.self.ram; held = new; past = c.call-outcome.new.self.past; told = c.call-outcome.new.news } in
     subst (λ (seen : Snapshot). AreKept seen now) c.self.view_is
     (same-held s t changed f.access old new f.rest
-    c.self.inside.manager.ram c.holds.ensures.agrees c.holds.ensures.sound c.self.invariant)
+    c.self.inside.manager.ram c.holds.ensures.agrees c.holds.ensures.sound c.self.invariant.0)
 
 pub returns-clause-others : goal.returns-clause-others
 returns-clause-others g c =

@@ -1,10 +1,12 @@
 -- SPDX-License-Identifier: MIT OR Apache-2.0
-use Rattle.std.proofs.Common.{◌+◌, ◌≤◌, length, false, refl, sym, subst}
+use Rattle.std.proofs.Common.{◌+◌, ◌≤◌, length, false, refl, sym, ap, subst}
+use Rattle.ffa_model.specs.State.{State}
 use Rattle.ffa_spmc.specs.Among.{IsRead, is_in}
 use Rattle.ffa_spmc.specs.Snapshot.{Snapshot}
 use Rattle.ffa_spmc.specs.Unowned.{pages_of_tables}
-use Rattle.ffa_spmc.proofs.Besides.{beside-access, beside-base, beside-known}
+use Rattle.ffa_spmc.proofs.Besides.{beside-access, beside-base, beside-known, beside-size}
 use Rattle.ffa_spmc.proofs.HeldWalks.{walks-after}
+use Rattle.ffa_spmc.proofs.Mixtures.{mixed-alike, rest-alike}
 use Rattle.ffa_spmc.proofs.machine.Machine.end_reading.Goals as goal
 
 pub end_reading-requires-clause-within : goal.end_reading-requires-clause-within
@@ -20,24 +22,34 @@ invariant_of-self g c =
     let s = c.self.inside.manager.state in
     let t = c.end_reading.new.self.state in
     let beside = c.end_reading.ensures.state in
-    let held = g.T.Translations.entries c.self.inside.cache in
-    walks-after c.self.inside.manager.ram c.end_reading.new.self.ram s t
-    c.holds.ensures.agrees c.holds-2.ensures.agrees c.holds.ensures.sound c.holds-2.ensures.sound
-    (beside-base s t (is_in c.args.run) beside) (beside-known s t (is_in c.args.run) beside) held held
-    (λ e p leaf there. (there, beside-access s t (is_in c.args.run) beside e p)) c.self.invariant
+    let held = g.T.Translations.entries c.self.inside.cache in (
+      walks-after c.self.inside.manager.ram c.end_reading.new.self.ram s t
+          c.holds.ensures.agrees c.holds-2.ensures.agrees c.holds.ensures.sound c.holds-2.ensures.sound
+          (beside-base s t (is_in c.args.run) beside) (beside-known s t (is_in c.args.run) beside) held held
+          (λ e p leaf there. (there, beside-access s t (is_in c.args.run) beside e p)) c.self.invariant.0,
+      rest-alike s t c.self.inside.manager.ram c.end_reading.new.self.ram c.self.inside.manager.past c.end_reading.new.self.past c.holds.ensures.agrees c.holds-2.ensures.agrees
+          (ap (λ (u : State). length u.parties) (sym beside.same)) (beside-base s t (is_in c.args.run) beside) (beside-size s t (is_in c.args.run) beside)
+          (beside-access s t (is_in c.args.run) beside) c.end_reading.ensures.moments c.self.invariant.1,
+    )
 
 pub returns : goal.returns
 returns g c =
     let held = g.T.Translations.entries c.self.inside.cache in
+    let s = c.self.inside.manager.state in
+    let beside = c.end_reading.ensures.state in
     let new = c.end_reading.new.self in
     subst (λ (seen : Snapshot). IsRead c.args.run false seen (record { state = new.state; ram = new.ram; held = held; past = new.past; told = c.self.inside.news })) c.self.view_is
     (record {
       state = c.end_reading.ensures.state;
       ram = c.end_reading.ensures.ram;
       step = c.end_reading.ensures.step;
+      mixtures =
+          mixed-alike s new.state c.self.inside.manager.ram new.ram c.self.inside.manager.past new.past c.holds.ensures.agrees c.holds-2.ensures.agrees
+          (ap (λ (u : State). length u.parties) (sym beside.same)) (beside-base s new.state (is_in c.args.run) beside) (beside-size s new.state (is_in c.args.run) beside)
+          (beside-access s new.state (is_in c.args.run) beside) c.holds-2.ensures.turn c.end_reading.ensures.moments c.self.invariant.1;
       held = refl;
       told = refl;
       agrees = c.holds-2.ensures.agrees;
       sound = c.holds-2.ensures.sound;
-      walks = invariant_of-self g c;
+      walks = (invariant_of-self g c).0;
     })

@@ -3,7 +3,9 @@ use Rattle.std.proofs.Common.{subst}
 use Rattle.ffa_model.specs.Agreement.{Agrees}
 use Rattle.ffa_model.specs.SoundState.{IsSoundState}
 use Rattle.ffa_laws.specs.OwnAccess.{AreApart}
+use Rattle.ffa_physmem.specs.Moments.{TurnsIn}
 use Rattle.ffa_spmc.specs.Cached.{AreWalks}
+use Rattle.ffa_spmc.specs.Mixtures.{TablesRest}
 use Rattle.ffa_spmc.specs.Snapshot.{Snapshot}
 use Rattle.ffa_spmc.proofs.Laws.{access-now, confidential-now, integrity-now, no_growth-now, open-now, silence-now, step-now, writers-now}
 use Rattle.ffa_spmc.proofs.Mixtures.{op-mixed}
@@ -20,7 +22,7 @@ returns-clause-integrity g c =
     (subst (λ (seen : Snapshot). IsSoundState seen.state) c.self.view_is c.holds.ensures.sound) c.args.op.now
 
 pub returns-clause-walks : goal.returns-clause-walks
-returns-clause-walks g c = subst AreWalks c.self-2.view_is c.self-2.invariant
+returns-clause-walks g c = subst AreWalks c.self-2.view_is c.self-2.invariant.0
 
 pub returns-clause-silence : goal.returns-clause-silence
 returns-clause-silence g c =
@@ -60,4 +62,5 @@ returns-clause-mixtures g c =
     op-mixed c.args.self.now.state _ c.args.op.now c.args.self.now.ram _ _ _ c.operate-outcome.ensures.state
     (subst (λ (seen : Snapshot). Agrees seen.ram seen.state) c.self.view_is c.holds.ensures.agrees)
     (subst (λ (seen : Snapshot). Agrees seen.ram seen.state) c.self-2.view_is c.holds-2.ensures.agrees)
-    (returns-clause-own_access g c) c.operate-outcome.ensures.moments
+    (returns-clause-own_access g c) (subst (λ (seen : Snapshot). TurnsIn seen.ram seen.past) c.self-2.view_is c.holds-2.ensures.turn) c.operate-outcome.ensures.moments
+    (subst (λ (seen : Snapshot). TablesRest seen.state seen.ram seen.past) c.self.view_is c.self.invariant.1)

@@ -21,7 +21,7 @@ returns-clause-never_grow g c =
     (subst (λ (seen : Snapshot). IsSoundState seen.state) c.self.view_is c.holds.ensures.sound) c.args.ops.now _ c.operate_all.ensures.state
 
 pub returns-clause-walks : goal.returns-clause-walks
-returns-clause-walks g c = subst AreWalks c.self-2.view_is c.self-2.invariant
+returns-clause-walks g c = subst AreWalks c.self-2.view_is c.self-2.invariant.0
 
 pub returns-clause-replays : goal.returns-clause-replays
 returns-clause-replays g c =

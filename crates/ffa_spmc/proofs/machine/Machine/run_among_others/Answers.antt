@@ -4,4 +4,4 @@ use Rattle.ffa_spmc.specs.Cached.{AreWalks}
 use Rattle.ffa_spmc.proofs.machine.Machine.run_among_others.Goals as goal
 
 pub returns-clause-walks : goal.returns-clause-walks
-returns-clause-walks g c = subst AreWalks c.self.view_is c.self.invariant
+returns-clause-walks g c = subst AreWalks c.self.view_is c.self.invariant.0

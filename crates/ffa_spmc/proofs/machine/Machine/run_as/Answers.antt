@@ -10,7 +10,7 @@ use Rattle.ffa_spmc.specs.Snapshot.{Snapshot}
 use Rattle.ffa_spmc.proofs.machine.Machine.run_as.Goals as goal
 
 pub returns-clause-walks : goal.returns-clause-walks
-returns-clause-walks g c = subst AreWalks c.self-2.view_is c.self-2.invariant
+returns-clause-walks g c = subst AreWalks c.self-2.view_is c.self-2.invariant.0
 
 pub returns-clause-isolated : goal.returns-clause-isolated
 returns-clause-isolated g c =

@@ -1,17 +1,18 @@
 -- SPDX-License-Identifier: MIT OR Apache-2.0
-use Rattle.std.proofs.Common.{◌∙◌, refl, sym, ap, subst}
+use Rattle.std.proofs.Common.{◌∙◌, length, refl, sym, ap, subst}
 use Rattle.ffa_model.specs.declared.operation.Op.TheVariants.{Store}
 use Rattle.ffa_model.specs.Elsewhere.{as_run_by, step_elsewhere}
 use Rattle.ffa_model.specs.Ram.{Ram}
-use Rattle.ffa_model.specs.State.{is_known}
+use Rattle.ffa_model.specs.State.{State, is_known}
 use Rattle.ffa_spmc.specs.Cached.{missed_page, run_by}
 use Rattle.ffa_spmc.specs.Caching.{IsCached}
 use Rattle.ffa_spmc.specs.Managed.{Managed}
 use Rattle.ffa_spmc.specs.Snapshot.{Snapshot}
 use Rattle.ffa_spmc.specs.Unowned.{KeepsUnowned}
 use Rattle.ffa_spmc.specs.Walks.{walk_of}
-use Rattle.ffa_spmc.proofs.CachedAccesses.{cached-from, missed-same, store-access, store-base, store-known}
+use Rattle.ffa_spmc.proofs.CachedAccesses.{cached-from, missed-same, store-access, store-base, store-known, store-parties}
 use Rattle.ffa_spmc.proofs.HeldWalks.{answer-after, walks-after}
+use Rattle.ffa_spmc.proofs.Mixtures.{pages-elsewhere, rest-alike}
 use Rattle.ffa_spmc.proofs.machine.Machine.store.Goals as goal
 
 pub invariant_of-self : goal.invariant_of-self
@@ -20,11 +21,16 @@ invariant_of-self g c =
     let t = c.store-outcome.new.self.state in
     let is = c.store-outcome.ensures.state in
     let e = c.args.endpoint.0 in
-    let held = g.T.Translations.entries c.self.inside.cache in
-    walks-after c.self.inside.manager.ram c.store-outcome.new.self.ram s t
-    c.holds.ensures.agrees c.holds-2.ensures.agrees c.holds.ensures.sound c.holds-2.ensures.sound
-    (store-base s e t c.args.addr c.args.size c.args.value is) (store-known s e t c.args.addr c.args.size c.args.value is) held held
-    (λ f p leaf there. (there, store-access s e t c.args.addr c.args.size c.args.value is f p)) c.self.invariant
+    let held = g.T.Translations.entries c.self.inside.cache in (
+      walks-after c.self.inside.manager.ram c.store-outcome.new.self.ram s t
+          c.holds.ensures.agrees c.holds-2.ensures.agrees c.holds.ensures.sound c.holds-2.ensures.sound
+          (store-base s e t c.args.addr c.args.size c.args.value is) (store-known s e t c.args.addr c.args.size c.args.value is) held held
+          (λ f p leaf there. (there, store-access s e t c.args.addr c.args.size c.args.value is f p)) c.self.invariant.0,
+      rest-alike s t c.self.inside.manager.ram c.store-outcome.new.self.ram c.self.inside.manager.past c.store-outcome.new.self.past c.holds.ensures.agrees c.holds-2.ensures.agrees
+          (store-parties s e t c.args.addr c.args.size c.args.value is) (store-base s e t c.args.addr c.args.size c.args.value is)
+          (ap (λ (u : State). length u.pages) is ∙ pages-elsewhere s e (Store c.args.addr c.args.size c.args.value))
+          (store-access s e t c.args.addr c.args.size c.args.value is) c.store-outcome.ensures.moments c.self.invariant.1,
+    )
 
 pub fill-requires-clause-answer : goal.fill-requires-clause-answer
 fill-requires-clause-answer g c =

@@ -11,7 +11,7 @@ pub moved_to-requires : goal.moved_to-requires
 moved_to-requires g c =
     let m = c.self.inside.manager in
     held-room m.ram m.state c.holds.ensures.agrees c.holds.ensures.sound c.args.endpoint.0 c.in-Some.page.0 c.in-Some-lookup.leaf
-    (c.self.invariant c.args.endpoint.0 c.in-Some.page.0 c.in-Some-lookup.leaf
+    (c.self.invariant.0 c.args.endpoint.0 c.in-Some.page.0 c.in-Some-lookup.leaf
     (sym c.in-Some-lookup.ensures))
     c.args.addr
 
@@ -20,7 +20,7 @@ returns-clause-answer g c =
     let m = c.self.inside.manager in
     ap (λ (leaf : Leaf). let answer : Answer = Ok leaf in answer) c.moved_to.ensures
     ∙ sym (held-walk m.ram m.state c.holds.ensures.agrees c.holds.ensures.sound c.args.endpoint.0 c.in-Some.page.0 c.in-Some-lookup.leaf
-    (c.self.invariant c.args.endpoint.0 c.in-Some.page.0 c.in-Some-lookup.leaf
+    (c.self.invariant.0 c.args.endpoint.0 c.in-Some.page.0 c.in-Some-lookup.leaf
     (sym c.in-Some-lookup.ensures))
     c.args.addr (sym c.in-Some.ensures))
     ∙ ap (λ (seen : Snapshot). walk_of seen.ram seen.state c.args.endpoint.0 c.args.addr) c.self.view_is

@@ -5,8 +5,10 @@ use Rattle.ffa_physmem.specs.Moments.{IsBeside, IsReading, One}
 use Rattle.ffa_spmc.specs.Among.{AreBeside, is_in}
 use Rattle.ffa_spmc.specs.Managed.{Managed}
 use Rattle.ffa_spmc.specs.Meaning.{state_of}
+use Rattle.ffa_spmc.specs.Moments.{AreMoments}
 use Rattle.ffa_spmc.specs.Unowned.{pages_of_tables}
 use Rattle.ffa_spmc.proofs.Inside.{parts_of}
+use Rattle.ffa_spmc.proofs.Moments.{reading-moments}
 use Rattle.ffa_spmc.proofs.Readings.{behind-tables, machine-read, read, states-beside}
 use Rattle.ffa_spmc.proofs.manager.Manager.begin_reading.Goals as goal
 
@@ -47,3 +49,14 @@ returns-clause-kept g c = λ alone.
     let new = g.M.PhysMem.ram c.observe_in.new.ram in
     subst (λ (seen : Managed). state_of (read x new (is_in c.args.run) c.observe_in.ensures.beside) ≡ seen.state) c.self.view_is
     (ap (λ (r : Ram). state_of (record x { ram = r })) (c.observe_in.ensures.kept alone))
+
+pub returns-clause-moments : goal.returns-clause-moments
+returns-clause-moments g c =
+    let x = parts_of g.M.PhysMem.ram g.S.Records.Home.value c.self.inside in
+    let new = g.M.PhysMem.ram c.observe_in.new.ram in
+    let later = g.M.PhysMem.past c.observe_in.new.ram in
+    subst (λ (seen : Managed). AreMoments seen.state seen.ram new seen.past later) c.self.view_is
+    (reading-moments x c.self.invariant new (is_in c.args.run) c.observe_in.ensures.beside
+    (behind-tables x c.self.invariant c.args.run
+    (subst (λ (seen : Managed). pages_of_tables seen.state ≤ c.args.run.first.0) (sym c.self.view_is) c.requires.behind))
+    _ later c.args.run.first.0 c.args.run.count true (g.met.M.PhysMem.in_turn c.observe_in.new.ram) c.observe_in.ensures.steps)

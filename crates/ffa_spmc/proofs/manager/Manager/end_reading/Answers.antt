@@ -4,8 +4,10 @@ use Rattle.ffa_physmem.specs.Moments.{IsBeside, IsReading, One}
 use Rattle.ffa_spmc.specs.Among.{AreBeside, is_in}
 use Rattle.ffa_spmc.specs.Managed.{Managed}
 use Rattle.ffa_spmc.specs.Meaning.{state_of}
+use Rattle.ffa_spmc.specs.Moments.{AreMoments}
 use Rattle.ffa_spmc.specs.Unowned.{pages_of_tables}
 use Rattle.ffa_spmc.proofs.Inside.{parts_of}
+use Rattle.ffa_spmc.proofs.Moments.{reading-moments}
 use Rattle.ffa_spmc.proofs.Readings.{behind-tables, machine-read, read, states-beside}
 use Rattle.ffa_spmc.proofs.manager.Manager.end_reading.Goals as goal
 
@@ -38,3 +40,14 @@ returns-clause-step g c =
     subst
     (λ (seen : Managed). One seen.past (g.M.PhysMem.past new) (λ s. IsReading seen.ram (g.M.PhysMem.ram new) c.args.run.first.0 c.args.run.count false s))
     c.self.view_is c.release_in.ensures.steps
+
+pub returns-clause-moments : goal.returns-clause-moments
+returns-clause-moments g c =
+    let x = parts_of g.M.PhysMem.ram g.S.Records.Home.value c.self.inside in
+    let new = g.M.PhysMem.ram c.release_in.new.ram in
+    let later = g.M.PhysMem.past c.release_in.new.ram in
+    subst (λ (seen : Managed). AreMoments seen.state seen.ram new seen.past later) c.self.view_is
+    (reading-moments x c.self.invariant new (is_in c.args.run) c.release_in.ensures.beside
+    (behind-tables x c.self.invariant c.args.run
+    (subst (λ (seen : Managed). pages_of_tables seen.state ≤ c.args.run.first.0) (sym c.self.view_is) c.requires.behind))
+    _ later c.args.run.first.0 c.args.run.count false (g.met.M.PhysMem.in_turn c.release_in.new.ram) c.release_in.ensures.steps)

@@ -3,6 +3,7 @@ use Rattle.std.proofs.Common.{subst}
 use Rattle.ffa_model.specs.Agreement.{Agrees}
 use Rattle.ffa_model.specs.SoundState.{IsSoundState}
 use Rattle.ffa_laws.specs.OwnAccess.{AreApart}
+use Rattle.ffa_physmem.specs.Moments.{TurnsIn}
 use Rattle.ffa_spmc.specs.Managed.{Managed}
 use Rattle.ffa_spmc.proofs.Agreements.{agrees}
 use Rattle.ffa_spmc.proofs.Inside.{parts_of}
@@ -22,3 +23,6 @@ pub returns-clause-apart : goal.returns-clause-apart
 returns-clause-apart g c =
     let x = parts_of g.M.PhysMem.ram g.S.Records.Home.value c.self.inside in
     subst (λ (seen : Managed). AreApart seen.state) c.self.view_is (senders-apart x c.self.invariant)
+
+pub returns-clause-turn : goal.returns-clause-turn
+returns-clause-turn g c = subst (λ (seen : Managed). TurnsIn seen.ram seen.past) c.self.view_is (g.met.M.PhysMem.in_turn c.self.inside.ram)

@@ -97,7 +97,7 @@ returns-clause-moments g c =
     (rx-moments x machine c.runner-runner.result.0 (runner-there x machine c.runner-runner.result.0 c.runner-runner.ensures.runner) (g.M.PhysMem.ram c.fill.new.ram)
     (subst (λ (ram : Ram). HasTables ram x.manifest (access_by_place (state_of x))) (sym c.fill.ensures.ram)
     (tables-still x machine c.runner-runner.result.0 (runner-there x machine c.runner-runner.result.0 c.runner-runner.ensures.runner) c.as_slice.result.now))
-    _ later c.fill.ensures.steps)
+    _ later (g.met.M.PhysMem.in_turn c.fill.new.ram) c.fill.ensures.steps)
 
 pub returns-then-is_count_alone-clause-moments : goal.returns-then-is_count_alone-clause-moments
 returns-then-is_count_alone-clause-moments g c = no-moments c.args.self.now.state c.args.self.now.ram c.args.self.now.past

@@ -101,7 +101,7 @@ returns g c =
             | in-Ok w ↦ subst (λ inside. AreMoments c.args.self.now.state c.args.self.now.ram (g.M.PhysMem.ram inside.ram) c.args.self.now.past (g.M.PhysMem.past inside.ram)) (sym w.self-inside-is)
                 (subst (λ (seen : Managed). AreMoments seen.state seen.ram new seen.past later) view
                 (rx-moments x machine _ (receiver-there x machine c.runner-runner.result.0 c.runner-runner.ensures.runner c.send2.result (g.M.PhysMem.ram c.send2.new.ram) c.send2.new.buffers c.send2.ensures.refusal c.send2.ensures.kept_ram c.send2.ensures.kept c.send2.ensures.ram c.send2.ensures.full c.send2.ensures.receiver w.in-Ok.receiver w.in-Ok.is) new
-                (tables-kept x machine c.runner-runner.result.0 c.runner-runner.ensures.runner c.send2.result (g.M.PhysMem.ram c.send2.new.ram) c.send2.new.buffers c.send2.ensures.refusal c.send2.ensures.kept_ram c.send2.ensures.kept c.send2.ensures.ram c.send2.ensures.full c.send2.ensures.receiver w.in-Ok.receiver w.in-Ok.is) _ later c.send2.ensures.steps))
+                (tables-kept x machine c.runner-runner.result.0 c.runner-runner.ensures.runner c.send2.result (g.M.PhysMem.ram c.send2.new.ram) c.send2.new.buffers c.send2.ensures.refusal c.send2.ensures.kept_ram c.send2.ensures.kept c.send2.ensures.ram c.send2.ensures.full c.send2.ensures.receiver w.in-Ok.receiver w.in-Ok.is) _ later (g.met.M.PhysMem.in_turn c.send2.new.ram) c.send2.ensures.steps))
             | in-Err w ↦ subst (λ inside. AreMoments c.args.self.now.state c.args.self.now.ram (g.M.PhysMem.ram inside.ram) c.args.self.now.past (g.M.PhysMem.past inside.ram)) (sym w.self-inside-is)
                 (subst (λ (seen : Managed). AreMoments seen.state seen.ram new seen.past later) view
                 (still-moments (state_of x) x.ram new _ later (unsent-past w.in-Err.code w.in-Err.is c.send2.ensures.kept_ram) (unsent-past w.in-Err.code w.in-Err.is c.send2.ensures.kept_past)))

@@ -57,7 +57,7 @@ returns-clause-done g c =
     (g.M.PhysMem.ram c.reclaim.new.ram) c.reclaim.new.pages c.reclaim.new.self c.reclaim.result c.reclaim.ensures.refusal
     c.reclaim.ensures.kept c.reclaim.ensures.kept_pages c.reclaim.ensures.kept_ram c.reclaim.ensures.nothing
     c.reclaim.ensures.slot c.reclaim.ensures.open_transactions c.reclaim.ensures.ram c.reclaim.ensures.pages c.reclaim.ensures.changed)
-    (moments-of x machine (g.M.PhysMem.ram c.reclaim.new.ram) _ _ c.reclaim.ensures.steps c.reclaim.ensures.ended)
+    (moments-of x machine (g.M.PhysMem.ram c.reclaim.new.ram) _ _ (g.met.M.PhysMem.in_turn c.reclaim.new.ram) c.reclaim.ensures.steps c.reclaim.ensures.ended)
     c.of.ensures.changed
     (reclaim-changes x machine c.runner-runner.result.0 c.runner-runner.ensures.runner c.args.handle.0 c.args.flags
     (g.M.PhysMem.ram c.reclaim.new.ram) c.reclaim.new.pages c.reclaim.new.self c.reclaim.result c.reclaim.ensures.refusal

@@ -59,7 +59,7 @@ returns-clause-done g c =
     (refused-value c.relinquish.result c.of.result.reply c.of.ensures.reply c.relinquish.ensures.kept_past)
     (relinquish-unowned x machine c.runner-runner.result.0 c.runner-runner.ensures.runner (g.M.PhysMem.ram c.relinquish.new.ram) c.relinquish.new.self
     c.relinquish.result c.relinquish.ensures.refusal c.relinquish.ensures.kept c.relinquish.ensures.kept_ram c.relinquish.ensures.nothing c.relinquish.ensures.done)
-    (moments-of x machine (g.M.PhysMem.ram c.relinquish.new.ram) _ _ c.relinquish.ensures.steps c.relinquish.ensures.ended)
+    (moments-of x machine (g.M.PhysMem.ram c.relinquish.new.ram) _ _ (g.met.M.PhysMem.in_turn c.relinquish.new.ram) c.relinquish.ensures.steps c.relinquish.ensures.ended)
     c.of.ensures.changed
     (relinquish-changes x machine c.runner-runner.result.0 c.runner-runner.ensures.runner (g.M.PhysMem.ram c.relinquish.new.ram) c.relinquish.new.self
     c.relinquish.result c.relinquish.ensures.refusal c.relinquish.ensures.kept c.relinquish.ensures.kept_ram c.relinquish.ensures.nothing c.relinquish.ensures.done)

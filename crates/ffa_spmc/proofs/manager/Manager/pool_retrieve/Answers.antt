@@ -1,5 +1,5 @@
 -- SPDX-License-Identifier: MIT OR Apache-2.0
-use Rattle.std.proofs.Common.{◌∙◌, Option, refl, sym, ap}
+use Rattle.std.proofs.Common.{◌∙◌, Option, sym, ap}
 use Rattle.std.specs.Option.{option_map, option_or}
 use Rattle.std.specs.Result.{result_ok}
 use Rattle.ffa_model.specs.State.{version_of}
@@ -73,7 +73,7 @@ returns-clause-done g c =
     (g.M.PhysMem.ram c.retrieve.new.ram) c.retrieve.new.pages c.retrieve.new.self c.retrieve.new.buffers
     c.retrieve.result c.retrieve.ensures.refusal c.retrieve.ensures.kept c.retrieve.ensures.kept_pages c.retrieve.ensures.kept_buffers c.retrieve.ensures.kept_ram
     c.retrieve.ensures.full c.retrieve.ensures.done)
-    (moments-of x machine (g.M.PhysMem.ram c.retrieve.new.ram) _ _
+    (moments-of x machine (g.M.PhysMem.ram c.retrieve.new.ram) _ _ (g.met.M.PhysMem.in_turn c.retrieve.new.ram)
     (c.retrieve.ensures.steps apart) (c.retrieve.ensures.ended apart))
     c.of.ensures.changed
     (retrieve-changes x machine c.runner-runner.result c.runner-runner.ensures.runner its (c.version-version.ensures ∙ sym (ap (λ (seen : Managed). version_of seen.state seen.state.runner) view))

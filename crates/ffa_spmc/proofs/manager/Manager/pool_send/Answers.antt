@@ -1,5 +1,5 @@
 -- SPDX-License-Identifier: MIT OR Apache-2.0
-use Rattle.std.proofs.Common.{◌∙◌, refl, sym, ap}
+use Rattle.std.proofs.Common.{◌∙◌, sym, ap}
 use Rattle.std.specs.Option.{option_map}
 use Rattle.std.specs.Result.{result_ok}
 use Rattle.ffa_model.specs.State.{version_of}
@@ -64,7 +64,7 @@ returns-clause-done g c =
     (offer-unowned x machine c.runner-runner.result.0 c.runner-runner.ensures.runner c.args.kind (record { transfer = c.args.transfer; version = c.version-version.result }) (c.version-version.ensures ∙ sym (ap (λ (seen : Managed). version_of seen.state seen.state.runner) view))
     (g.M.PhysMem.ram c.send.new.ram) c.send.new.pages c.send.new.self
     c.send.result c.send.ensures.refusal c.send.ensures.kept c.send.ensures.kept_pages c.send.ensures.kept_ram c.send.ensures.handle c.send.ensures.sent)
-    (moments-of x machine (g.M.PhysMem.ram c.send.new.ram) _ _ c.send.ensures.steps c.send.ensures.ended)
+    (moments-of x machine (g.M.PhysMem.ram c.send.new.ram) _ _ (g.met.M.PhysMem.in_turn c.send.new.ram) c.send.ensures.steps c.send.ensures.ended)
     c.of.ensures.changed
     (offer-changes x machine c.runner-runner.result.0 c.runner-runner.ensures.runner c.args.kind (record { transfer = c.args.transfer; version = c.version-version.result }) (c.version-version.ensures ∙ sym (ap (λ (seen : Managed). version_of seen.state seen.state.runner) view))
     (g.M.PhysMem.ram c.send.new.ram) c.send.new.pages c.send.new.self

@@ -53,4 +53,4 @@ returns-clause-moments g c =
     let x = parts_of g.M.PhysMem.ram g.S.Records.Home.value c.self.inside in
     moments-stored x c.self.invariant c.args.endpoint.0 (known-inside x c.args.self.now c.self.view_is c.args.endpoint.0 c.requires.known)
     c.args.self.now c.self.view_is c.args.addr c.args.walked c.requires.walked
-    c.args.size c.args.value (g.M.PhysMem.ram c.store_at.new.memory) (g.M.PhysMem.past c.store_at.new.memory) c.store_at.ensures.stored c.store_at.ensures.steps
+    c.args.size c.args.value (g.M.PhysMem.ram c.store_at.new.memory) (g.M.PhysMem.past c.store_at.new.memory) c.store_at.ensures.stored (g.met.M.PhysMem.in_turn c.store_at.new.memory) c.store_at.ensures.steps
