@@ -248,8 +248,16 @@ impl Board {
         ensures { result ≡ granted self.now.machine.state endpoint page }
     {
         match &self.kind {
-            BoardMachine::Heap(machine) => machine.grant_of(EndpointId(endpoint), PageNo(page)),
-            BoardMachine::Lent(machine) => machine.grant_of(EndpointId(endpoint), PageNo(page)),
+            BoardMachine::Heap(machine) => ffa_reasons::grant_of(
+                machine,
+                EndpointId(endpoint),
+                PageNo(page),
+            ),
+            BoardMachine::Lent(machine) => ffa_reasons::grant_of(
+                machine,
+                EndpointId(endpoint),
+                PageNo(page),
+            ),
         }
     }
 
@@ -269,8 +277,8 @@ impl Board {
         ensures refused { is_some result ≡ is_refusal (step self.now.machine.state op.now).outcome }
     {
         match &self.kind {
-            BoardMachine::Heap(machine) => machine.why(op),
-            BoardMachine::Lent(machine) => machine.why(op),
+            BoardMachine::Heap(machine) => ffa_reasons::why(machine, op),
+            BoardMachine::Lent(machine) => ffa_reasons::why(machine, op),
         }
     }
 

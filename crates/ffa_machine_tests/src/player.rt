@@ -4,6 +4,7 @@ use crate::checks::{holds, same, same_at};
 use crate::machines::{FlatPlayer, booted, play};
 use ffa_model::{Op, Outcome, Size};
 use ffa_physmem::FlatRam;
+use ffa_reasons::Explained;
 use ffa_spmc::Machine;
 use fixtures::{row_machine, word_at};
 use play_demo::built_in;
@@ -14,11 +15,11 @@ use std::process::Abort;
 use std::test::Fail;
 
 fn demonstration(alloc: Global) -> Result<FlatPlayer, Fail> {
-    Ok(Player::new(booted(alloc, &built_in())?))
+    Ok(Player::new(Explained(booted(alloc, &built_in())?)))
 }
 
 fn rows(alloc: Global) -> Result<FlatPlayer, Fail> {
-    Ok(Player::new(booted(alloc, &row_machine())?))
+    Ok(Player::new(Explained(booted(alloc, &row_machine())?)))
 }
 
 #[test]
@@ -29,12 +30,12 @@ fn boots_with_tables(rt: HostRuntime) -> Result<(), Fail> {
         (0x4000_1000, 0x0000_0000_4000_2003),
         (0x4000_2080, 0x0040_0000_4001_07FF),
     ] {
-        same(&rt, word_at(player.machine().ram(), address), Some(want));
+        same(&rt, word_at(player.machine().0.ram(), address), Some(want));
     }
     let player = demonstration(rt.alloc())?;
     same(
         &rt,
-        word_at(player.machine().ram(), 0x4000_5100),
+        word_at(player.machine().0.ram(), 0x4000_5100),
         Some(0x0000_0000_4002_07FF),
     );
     Ok(())

@@ -9,6 +9,7 @@ use crate::checks::same;
 use crate::machines::{booted_in_frames, booted_in_room, booted_with, four_in_turn, play};
 use ffa_model::Manifest;
 use ffa_playable::Playable;
+use ffa_reasons::Explained;
 use ffa_tlb::{NoTlb, Translations};
 use fixtures::row_machine;
 use play_player::Player;
@@ -100,9 +101,9 @@ impl Row {
 
     // Plays the trace on fresh machines of a manifest: in flat RAM and in room of the heap's, and in frames with a cache.
     fn check_on(&self, rt: &impl Abort, alloc: Global, manifest: &Manifest) -> Result<(), Fail> {
-        let mut player = Player::new(booted_in_room(alloc, manifest)?);
+        let mut player = Player::new(Explained(booted_in_room(alloc, manifest)?));
         self.prints(rt, alloc, &mut player)?;
-        let mut player = Player::new(booted_in_frames(alloc, manifest, four_in_turn())?);
+        let mut player = Player::new(Explained(booted_in_frames(alloc, manifest, four_in_turn())?));
         self.prints(rt, alloc, &mut player)
     }
 

@@ -4,6 +4,7 @@ ghost use Rattle.std.specs.Prelude.{◌≡◌, IfOk};
 
 use crate::checks::{same, same_at};
 use crate::machines::{FlatPlayer, booted};
+use ffa_reasons::Explained;
 use play_demo::built_in;
 use play_player::Player;
 use play_syntax::PlayError;
@@ -191,7 +192,7 @@ struct Seen {
 }
 
 fn demonstration(alloc: Global) -> Result<FlatPlayer, Fail> {
-    Ok(Player::new(booted(alloc, &built_in())?))
+    Ok(Player::new(Explained(booted(alloc, &built_in())?)))
 }
 
 // Plays FIRST. The same player then loads what the second line stores, and goes on behind the first `done` lines.

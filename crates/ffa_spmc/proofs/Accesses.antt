@@ -16,14 +16,13 @@ use Rattle.ffa_model.specs.Agreement.{root}
 use Rattle.ffa_model.specs.Identifiers.{identifier, place}
 use Rattle.ffa_model.specs.Elsewhere.{as_run_by, step_elsewhere}
 use Rattle.ffa_model.specs.Memory as memory
-use Rattle.ffa_model.specs.Memory.{access_at, accessed, fault_of, size_of, page_bytes, written}
+use Rattle.ffa_model.specs.Memory.{access_at, accessed, fault_of, size_of, written}
 use Rattle.ffa_model.specs.Ram.{Ram}
 use Rattle.ffa_model.specs.Reach.{at_end, loaded, loaded_by, may_store_to, number_in_ram, page_index, reach, reach_by, store_answer, store_answer_by, ram_after_store, ram_after_store_by, with_bytes_reached}
 use Rattle.ffa_model.specs.Rights.{may_write, may_store}
 use Rattle.ffa_model.specs.State.{State, is_known, page_at}
 use Rattle.ffa_model.specs.Walk.{Answer, walk}
 use Rattle.ffa_model.proofs.Accepted.{accepted}
-use Rattle.ffa_model.proofs.CallAccesses.{runner-known}
 use Rattle.ffa_model.proofs.Places.{known-named, known-place}
 use Rattle.ffa_model.specs.declared.operation.Op.TheVariants.{Store}
 use Rattle.ffa_model.specs.SoundState.{IsSoundState}
@@ -74,12 +73,6 @@ ok-same {a} same = ap (ok-or a) same
 -- an endpoint that a contract sees is one of the parts, and the runner is one that a contract sees
 pub known-inside : (x : Parts) {past : Option (List Step)} (now : Managed) → record { state = state_of x; ram = x.ram; past = past } ≡ now → (e : ℕ) → is_known now.state e ≡ true → is_known (state_of x) e ≡ true
 known-inside x now view e known = ap (λ (seen : Managed). is_known seen.state e) view ∙ known
-
-pub runner-seen : (x : Parts) → IsManager x → {past : Option (List Step)} (now : Managed) → record { state = state_of x; ram = x.ram; past = past } ≡ now → (e : ℕ) → e ≡ now.state.runner → is_known now.state e ≡ true
-runner-seen x machine now view e at =
-    ap (is_known now.state) at
-    ∙ sym (ap (λ (seen : Managed). is_known seen.state seen.state.runner) view)
-    ∙ runner-known (state_of x) machine.sound
 
 -- of an endpoint, whoever runs
 module _ (x : Parts) (machine : IsManager x) (e : ℕ) (there : is_known (state_of x) e ≡ true) where

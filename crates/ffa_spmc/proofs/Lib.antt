@@ -38,8 +38,5 @@ pub mod Forgotten
 pub mod Unowned
 pub mod Sizes
 pub mod Chains
-pub mod Reasons
-pub mod Abouts
-pub mod Mends
 pub mod Moments
 pub mod Mixtures

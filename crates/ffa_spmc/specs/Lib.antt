@@ -9,6 +9,7 @@ pub mod Storages
 pub mod FirstRecords
 pub mod KeptParts
 pub mod Meaning
+pub mod Lent
 pub mod Replies
 pub mod AccessChange
 pub mod Served

@@ -1,14 +1,11 @@
 -- SPDX-License-Identifier: MIT OR Apache-2.0
 -- FOR PROOFS ALONE
 -- What the runner sees of a call that a part of the machine has done or refused.
-use Rattle.std.specs.Prelude.{Option, Some, None, Result, Ok, Err}
+use Rattle.std.specs.Prelude.{Result, Ok, Err}
 use Rattle.ffa_model.specs.declared.call.DirectMessage.{DirectMessage}
 use Rattle.ffa_model.specs.declared.call.Reply.{Reply}
 use Rattle.ffa_model.specs.declared.call.Reply.TheVariants.{Error, Passed, Retrieved}
 use Rattle.ffa_model.specs.declared.operation.ErrorCode.{ErrorCode}
-use Rattle.ffa_model.specs.declared.operation.FaultKind.{FaultKind}
-use Rattle.ffa_model.specs.declared.operation.Outcome.{Outcome}
-use Rattle.ffa_model.specs.declared.operation.Outcome.TheVariants.{Fault}
 use Rattle.ffa_memshare.specs.declared.changed.Done.{Done}
 use Rattle.ffa_memshare.specs.declared.changed.Value.{Value}
 use Rattle.ffa_memshare.specs.declared.changed.Value.TheVariants.{Nothing, Handle, Size}
@@ -38,8 +35,3 @@ value_reply (Size size) = Retrieved size
 
 abbrev pub value_or_error : Result Done ErrorCode → Reply
 value_or_error r = reply_of (λ (done : Done). value_reply done.value) r
-
--- the fault that an access ended in, if it did
-abbrev pub fault_in : Outcome → Option FaultKind
-fault_in (Fault fault) = Some fault
-fault_in outcome = None

@@ -6,12 +6,13 @@ mod answer;
 mod kept;
 pub mod machine;
 mod manager;
-mod playable;
+pub mod parts;
 mod records;
 mod replies;
 mod run;
 pub mod storage;
 
 pub use machine::Machine;
+pub use parts::Parts;
 pub use records::Records;
 pub use storage::{Given, Inline, Ready, Storage, Store};

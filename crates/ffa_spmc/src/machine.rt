@@ -34,7 +34,7 @@ mod accesses;
 mod among;
 mod certificates;
 mod elsewhere;
-mod reasons;
+mod parts;
 
 use crate::manager::{Manager, clear_rest};
 use crate::storage::{Inline, Storage, Store};

@@ -30,8 +30,8 @@ mod forgetting;
 mod memory;
 mod messages;
 mod notifications;
+mod parts;
 mod readings;
-mod reasons;
 
 use crate::kept::Kept;
 use crate::storage::{Inline, Storage, Store};

@@ -6,6 +6,7 @@ mod playing;
 
 use ffa_model::Manifest;
 use ffa_physmem::FlatRam;
+use ffa_reasons::Explained;
 use ffa_spmc::{Machine, Storage};
 use ffa_tlb::NoTlb;
 use play_generator::{Counts, GenerateError, generate};
@@ -46,6 +47,6 @@ impl Machines for Booted {
             return Err(GenerateError::NoMemory);
         };
         let machine = Machine::boot_cleared_in(storage, manifest, ram, NoTlb);
-        generate(alloc, manifest, machine, seed, lines, out)
+        generate(alloc, manifest, Explained(machine), seed, lines, out)
     }
 }

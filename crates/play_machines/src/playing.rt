@@ -7,6 +7,7 @@ ghost use Rattle.play_tasks.specs.Starts.{start_of};
 
 use ffa_model::Manifest;
 use ffa_physmem::{FlatRam, FrameRam, PhysMem};
+use ffa_reasons::Explained;
 use ffa_spmc::{Machine, Storage};
 use ffa_tlb::{InTurn, NoTlb, Tlb, Translations};
 use play_player::Player;
@@ -99,7 +100,7 @@ fn play_with<
         Ok(storage) => {
             let machine = Machine::boot_cleared_in(storage, manifest, ram, cache);
             do_task(
-                &mut Player::new(machine),
+                &mut Player::new(Explained(machine)),
                 alloc,
                 task,
                 trace,

@@ -8,6 +8,7 @@ use ffa_model::{
     EndpointId, ErrorCode, FaultKind, Manifest, Op, Outcome, Properties, Refusal, Why,
 };
 use ffa_physmem::FlatRam;
+use ffa_reasons::Explained;
 use ffa_spmc::Machine;
 use fixtures::row_machine;
 use play_demo::built_in;
@@ -337,7 +338,7 @@ fn plays(rt: &impl Abort, alloc: Global, manifest: &Manifest) -> Result<(), Fail
     let mut trace = Vec::new(alloc);
     generated(alloc, manifest, 3, 1000, &mut trace)?;
     assert_eq!(rt; count_lines(&trace), 1000);
-    let mut player = Player::new(booted(alloc, manifest)?);
+    let mut player = Player::new(Explained(booted(alloc, manifest)?));
     let mut printed = Vec::new(alloc);
     play(alloc, &mut player, &trace, &mut printed)?;
     Ok(())
@@ -354,7 +355,7 @@ fn operate(machine: &mut Machine<FlatRam>, op: &Op) -> Outcome {
 }
 
 fn reason(machine: &Machine<FlatRam>, op: &Op) -> Option<Why> {
-    machine.why(op)
+    ffa_reasons::why(machine, op)
 }
 
 // Does the operations of a trace on a machine in its first state, and counts what comes of them.

@@ -3,6 +3,7 @@
 use crate::checks::{holds, same};
 use crate::machines::{FlatPlayer, booted};
 use ffa_model::FaultKind;
+use ffa_reasons::Explained;
 use play_demo::built_in;
 use play_forms::{CompareError, Form, Mismatch, Sides, compare, next_line, play, play_session};
 use play_player::Player;
@@ -22,7 +23,7 @@ fault translation
 ";
 
 fn player(alloc: Global) -> Result<FlatPlayer, Fail> {
-    Ok(Player::new(booted(alloc, &built_in())?))
+    Ok(Player::new(Explained(booted(alloc, &built_in())?)))
 }
 
 // What a play leaves: what it has printed, the bytes of its last line, and how it ends.

@@ -3,6 +3,7 @@
 use ffa_model::Manifest;
 use ffa_physmem::FlatRam;
 use ffa_playable::Playable;
+use ffa_reasons::Explained;
 use ffa_spmc::Machine;
 use play_player::Player;
 use play_syntax::PlayError;
@@ -10,7 +11,7 @@ use std::alloc::Global;
 use std::test::Fail;
 
 // A player on a machine in flat RAM, without a cache.
-pub(crate) type FlatPlayer = Player<Machine<FlatRam>>;
+pub(crate) type FlatPlayer = Player<Explained<FlatRam>>;
 
 // A manifest's machine without a cache.
 pub(crate) fn booted(alloc: Global, manifest: &Manifest) -> Result<Machine<FlatRam>, Fail> {

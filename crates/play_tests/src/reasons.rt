@@ -4,6 +4,7 @@ use crate::checks::same_at;
 use crate::machines::{FlatPlayer, booted, play};
 use crate::printed;
 use ffa_model::{EndpointId, MOST_SENDS, Op, PageNo, Size};
+use ffa_reasons::{Explained, grant_of};
 use fixtures::row_machine;
 use play_player::Player;
 use std::alloc::Global;
@@ -79,7 +80,7 @@ const GRANTS: &str = "\
 
 #[test]
 fn checks_that_refuse(rt: HostRuntime) -> Result<(), Fail> {
-    let mut player = Player::new(booted(rt.alloc(), &row_machine())?);
+    let mut player = Player::new(Explained(booted(rt.alloc(), &row_machine())?));
     play(rt.alloc(), &mut player, SHARED, &mut Vec::new(rt.alloc()))?;
     for row in CALLS.lines() {
         let (function, wanted) = row.split_once(' ').ok_or("no reason")?;
@@ -102,7 +103,7 @@ fn lend_and_reclaim(alloc: Global, player: &mut FlatPlayer, number: u32) -> Resu
 // The last check of a send, behind as many sends as there are handles for.
 #[test]
 fn handles_that_are_used_up(rt: HostRuntime) -> Result<(), Fail> {
-    let mut player = Player::new(booted(rt.alloc(), &row_machine())?);
+    let mut player = Player::new(Explained(booted(rt.alloc(), &row_machine())?));
     let described = DESCRIBED.as_bytes();
     play(
         rt.alloc(),
@@ -123,7 +124,7 @@ fn handles_that_are_used_up(rt: HostRuntime) -> Result<(), Fail> {
 
 #[test]
 fn obstacles_of_loads(rt: HostRuntime) -> Result<(), Fail> {
-    let mut player = Player::new(booted(rt.alloc(), &row_machine())?);
+    let mut player = Player::new(Explained(booted(rt.alloc(), &row_machine())?));
     let mut out = Vec::new(rt.alloc());
     play(rt.alloc(), &mut player, SHARED, &mut out)?;
     play(
@@ -145,14 +146,14 @@ fn obstacles_of_loads(rt: HostRuntime) -> Result<(), Fail> {
 
 #[test]
 fn by_what_a_share_is_accessed(rt: HostRuntime) -> Result<(), Fail> {
-    let mut player = Player::new(booted(rt.alloc(), &row_machine())?);
+    let mut player = Player::new(Explained(booted(rt.alloc(), &row_machine())?));
     let mut out = Vec::new(rt.alloc());
     play(rt.alloc(), &mut player, SHARED, &mut out)?;
     play(rt.alloc(), &mut player, RETRIEVED, &mut out)?;
     for row in GRANTS.lines() {
         let (endpoint, wanted) = row.split_once(' ').ok_or("no grant")?;
         let endpoint = EndpointId(u16::from_str_radix(endpoint, 16)?);
-        let grant = player.machine().grant_of(endpoint, PageNo(0x28));
+        let grant = grant_of(&player.machine().0, endpoint, PageNo(0x28));
         let printed = printed::grant(rt.alloc(), grant)?;
         same_at(&rt, printed.as_str(), wanted, &row);
     }

@@ -2,6 +2,7 @@
 //! Traces that are written with the guards of their own play.
 use crate::checks::{holds, same_at};
 use crate::machines::{FlatPlayer, booted};
+use ffa_reasons::Explained;
 use play_demo::built_in;
 use play_forms::{Form, Tally, play_guarded, record};
 use play_machines::Booted;
@@ -13,7 +14,7 @@ use std::process::Abort;
 use std::test::Fail;
 
 fn player(alloc: Global) -> Result<FlatPlayer, Fail> {
-    Ok(Player::new(booted(alloc, &built_in())?))
+    Ok(Player::new(Explained(booted(alloc, &built_in())?)))
 }
 
 // What is written of a trace, and how that ends.

@@ -6,6 +6,7 @@ use super::*;
 use crate::checks::{holds, holds_at};
 use ffa_model::{Address, EndpointId, Leaf, PageNo};
 use ffa_physmem::{FlatRam, PhysMem};
+use ffa_reasons::Explained;
 use ffa_spmc::Machine;
 use ffa_tlb::{InTurn, Replacement, Tlb};
 use fixtures::{FIRST, SECOND};
@@ -48,16 +49,16 @@ fn page_of(place: &str) -> Option<PageNo> {
 }
 
 fn is_held<M: PhysMem + Drop, T: Translations + Drop>(
-    player: &Player<Machine<M, T>>,
+    player: &Player<Explained<M, T>>,
     endpoint: EndpointId,
     page: PageNo,
 ) -> bool {
-    player.machine().cache().lookup(endpoint, page).is_some()
+    player.machine().0.cache().lookup(endpoint, page).is_some()
 }
 
 // Whether what a step has read has a leaf in the cache.
 fn holds_what_was_read<M: PhysMem + Drop, T: Translations + Drop>(
-    player: &Player<Machine<M, T>>,
+    player: &Player<Explained<M, T>>,
     step: &str,
 ) -> bool {
     match page_read(step) {
@@ -70,7 +71,7 @@ fn holds_what_was_read<M: PhysMem + Drop, T: Translations + Drop>(
 fn holds_what_is_read<T: Translations + Drop>(
     rt: &impl Abort,
     alloc: Global,
-    player: &mut Player<Machine<FlatRam, T>>,
+    player: &mut Player<Explained<FlatRam, T>>,
     parts: &[&str],
 ) -> Result<(), Fail> {
     for part in parts {
@@ -88,7 +89,7 @@ fn reads_around_a_lend<T: Translations + Drop>(
     alloc: Global,
     cache: T,
 ) -> Result<(), Fail> {
-    let mut player = Player::new(booted_with(alloc, &row_machine(), cache)?);
+    let mut player = Player::new(Explained(booted_with(alloc, &row_machine(), cache)?));
     holds_what_is_read(rt, alloc, &mut player, &[MAPPED, LOAD, LEND])?;
     holds(rt, !is_held(&player, FIRST, LENT));
     let taken = [TO_SECOND, RETRIEVE, RETRIEVED, LOAD, RELINQUISH];
@@ -129,29 +130,29 @@ fn begins_with_nothing(rt: HostRuntime) -> Result<(), Fail> {
     );
     let mut ram = FlatRam::new(rt.alloc(), Address(0x4000_0000), 512)?;
     ram.write_word(LENT, 0, 0x5A);
-    let mut player = Player::new(Machine::boot_with(&row_machine(), ram, cache));
+    let mut player = Player::new(Explained(Machine::boot_with(&row_machine(), ram, cache)));
     goes_on(&rt, rt.alloc(), &mut player, MAPPED)?;
     holds(&rt, !is_held(&player, FIRST, LENT));
     goes_on(&rt, rt.alloc(), &mut player, LOAD)
 }
 
 // A player whose reads of tables are counted, with a cache of two entries.
-fn counting_player(alloc: Global) -> Result<Player<Machine<Watched, Tlb<InTurn, 2>>>, Fail> {
+fn counting_player(alloc: Global) -> Result<Player<Explained<Watched, Tlb<InTurn, 2>>>, Fail> {
     let manifest = row_machine();
     let ram = Watched::new(alloc, &manifest)?;
     let cache = Tlb::new(InTurn::default());
-    Ok(Player::new(Machine::boot_with(&manifest, ram, cache)))
+    Ok(Player::new(Explained(Machine::boot_with(&manifest, ram, cache))))
 }
 
 // How often a trace reads tables.
 fn reads_of<T: Translations + Drop>(
     alloc: Global,
-    player: &mut Player<Machine<Watched, T>>,
+    player: &mut Player<Explained<Watched, T>>,
     trace: &str,
 ) -> Result<u32, Fail> {
-    player.machine().ram().reads.set(0);
+    player.machine().0.ram().reads.set(0);
     played(alloc, player, trace)?;
-    Ok(player.machine().ram().reads.get())
+    Ok(player.machine().0.ram().reads.get())
 }
 
 #[test]

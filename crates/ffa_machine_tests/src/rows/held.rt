@@ -9,6 +9,7 @@ use crate::machines::booted_with;
 use ffa_manifest::read;
 use ffa_model::{EndpointId, Manifest, PageNo};
 use ffa_physmem::{FlatRam, FrameRam, PhysMem};
+use ffa_reasons::Explained;
 use ffa_spmc::{Given, Machine, Storage};
 use fixtures::set_word;
 
@@ -133,12 +134,12 @@ fn keeps_the_pages_of_regions(rt: HostRuntime) -> Result<(), Fail> {
 fn loads_what_came_with_ram(rt: HostRuntime) -> Result<(), Fail> {
     let manifest = read(rt.alloc(), MANIFEST)?;
     let held = Machine::boot_held(&manifest, marked_flat(rt.alloc(), &manifest)?, NoTlb);
-    goes_on(&rt, rt.alloc(), &mut Player::new(held), ROW)?;
+    goes_on(&rt, rt.alloc(), &mut Player::new(Explained(held)), ROW)?;
     let frames = FrameRam::new(rt.alloc(), manifest.ram_base, 512 * manifest.ram_blocks)?;
     let framed = Machine::boot_held(&manifest, marked(frames, &manifest)?, four_in_turn());
-    goes_on(&rt, rt.alloc(), &mut Player::new(framed), ROW)?;
+    goes_on(&rt, rt.alloc(), &mut Player::new(Explained(framed)), ROW)?;
     let storage: Storage<Given<Global>> = Storage::allocate_for(rt.alloc(), &manifest)?;
     let ram = marked_flat(rt.alloc(), &manifest)?;
     let roomed = Machine::boot_held_in(storage, &manifest, ram, NoTlb);
-    goes_on(&rt, rt.alloc(), &mut Player::new(roomed), ROW)
+    goes_on(&rt, rt.alloc(), &mut Player::new(Explained(roomed)), ROW)
 }

@@ -4,12 +4,12 @@ use super::*;
 use crate::checks::holds_at;
 use ffa_model::EndpointId;
 use ffa_physmem::PhysMem;
-use ffa_spmc::Machine;
+use ffa_reasons::Explained;
 
 // For these partitions notifications are pending, and for nobody else.
 fn are_pending<P: PhysMem + Drop>(
     rt: &impl Abort,
-    player: &Player<Machine<P>>,
+    player: &Player<Explained<P>>,
     first: bool,
     second: bool,
 ) {
@@ -19,7 +19,7 @@ fn are_pending<P: PhysMem + Drop>(
             0x8002 => second,
             _ => false,
         };
-        let found = player.machine().has_pending(EndpointId(endpoint));
+        let found = player.machine().0.has_pending(EndpointId(endpoint));
         holds_at(rt, found == wanted, &endpoint);
     }
 }
@@ -27,7 +27,7 @@ fn are_pending<P: PhysMem + Drop>(
 // A bit of the normal world and one of a partition are pending until they are got, and so is that of a message.
 #[test]
 fn bits_are_pending_until_they_are_got(rt: HostRuntime) -> Result<(), Fail> {
-    let mut player = Player::new(booted_with(rt.alloc(), &row_machine(), NoTlb)?);
+    let mut player = Player::new(Explained(booted_with(rt.alloc(), &row_machine(), NoTlb)?));
     are_pending(&rt, &player, false, false);
     let bind = "\
 call 8400006D 80020000 -> 8002: 8400006D 80020000

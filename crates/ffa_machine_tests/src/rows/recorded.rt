@@ -5,6 +5,7 @@ use super::memory::{MAPPED, RETRIEVE, RETRIEVED, TO_FIRST, TO_SECOND};
 use super::*;
 use crate::checks::holds_at;
 use ffa_physmem::FlatRam;
+use ffa_reasons::Explained;
 use ffa_recorded::Recorded;
 use ffa_spmc::Machine;
 
@@ -36,25 +37,25 @@ call 84000086 -> 8001: 84000061
 ";
 
 // The machine of the rows, whose first partition runs.
-fn recorded_machine(rt: &impl Abort, alloc: Global) -> Result<Player<Machine<Recorded>>, Fail> {
+fn recorded_machine(rt: &impl Abort, alloc: Global) -> Result<Player<Explained<Recorded>>, Fail> {
     let manifest = row_machine();
     let ram = FlatRam::new(alloc, manifest.ram_base, 512 * manifest.ram_blocks)?;
     let ram = Recorded::new(alloc, ram, ROOM)?;
-    let mut player = Player::new(Machine::boot_cleared(&manifest, ram, NoTlb));
+    let mut player = Player::new(Explained(Machine::boot_cleared(&manifest, ram, NoTlb)));
     goes_on(rt, alloc, &mut player, MAPPED)?;
     Ok(player)
 }
 
 // How many steps were recorded; none where the record has ended.
-fn recorded(player: &Player<Machine<Recorded>>) -> usize {
-    player.machine().ram().steps().unwrap_or(0)
+fn recorded(player: &Player<Explained<Recorded>>) -> usize {
+    player.machine().0.ram().steps().unwrap_or(0)
 }
 
 // A step that writes to RAM is recorded, whatever it does there.
 fn is_recorded(
     rt: &impl Abort,
     alloc: Global,
-    player: &mut Player<Machine<Recorded>>,
+    player: &mut Player<Explained<Recorded>>,
     step: &str,
 ) -> Result<(), Fail> {
     let before = recorded(player);

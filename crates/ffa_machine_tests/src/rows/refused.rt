@@ -8,6 +8,7 @@ use super::*;
 use crate::checks::{holds, holds_at};
 use crate::machines::{FlatPlayer, booted};
 use ffa_physmem::{FlatRam, FrameRam};
+use ffa_reasons::Explained;
 use ffa_spmc::{Machine, Storage};
 use ffa_tlb::{InTurn, Tlb};
 use fixtures::InPieces;
@@ -38,21 +39,21 @@ fn plays_after_boot(rt: &impl Abort, alloc: Global, parts: &[&str]) -> Result<()
 fn flat_player<'a>(
     rt: &impl Abort,
     heap: &'a LocalHeap,
-) -> Result<Player<Machine<FlatRam<&'a LocalHeap>>>, Fail> {
+) -> Result<Player<Explained<FlatRam<&'a LocalHeap>>>, Fail> {
     let manifest = row_machine();
     let ram = FlatRam::new_in(heap, manifest.ram_base, 512 * manifest.ram_blocks)?;
     holds(rt, is_full(heap));
-    Ok(Player::new(Machine::boot_cleared(&manifest, ram, NoTlb)))
+    Ok(Player::new(Explained(Machine::boot_cleared(&manifest, ram, NoTlb))))
 }
 
 fn player_in_frames<'a>(
     rt: &impl Abort,
     heap: &'a LocalHeap,
-) -> Result<Player<Machine<FrameRam<&'a LocalHeap>, Tlb<InTurn, 4>>>, Fail> {
+) -> Result<Player<Explained<FrameRam<&'a LocalHeap>, Tlb<InTurn, 4>>>, Fail> {
     let manifest = row_machine();
     let ram = FrameRam::new_in(heap, manifest.ram_base, 512 * manifest.ram_blocks)?;
     holds(rt, is_full(heap));
-    Ok(Player::new(Machine::boot_cleared(&manifest, ram, four_in_turn())))
+    Ok(Player::new(Explained(Machine::boot_cleared(&manifest, ram, four_in_turn()))))
 }
 
 // Whether not one byte is left.
@@ -125,7 +126,7 @@ call 84000086 -> 8001: 84000061
 
 // The lines of a row behind those that print this many bytes.
 fn lines_behind(alloc: Global, row: &Row, printed: usize) -> Result<&[u8], Fail> {
-    let mut player = Player::new(booted(alloc, &row_machine())?);
+    let mut player = Player::new(Explained(booted(alloc, &row_machine())?));
     let mut written = 0;
     let mut done = 0;
     for line in row.trace.split_inclusive('\n') {
@@ -146,7 +147,7 @@ fn refused_at(
     row: &Row,
     room: usize,
 ) -> Result<Option<usize>, Fail> {
-    let mut player = Player::new(booted(alloc, &row_machine())?);
+    let mut player = Player::new(Explained(booted(alloc, &row_machine())?));
     let mut printed = Vec::with_capacity(alloc, row.text.len())?;
     let played = play_with(rt, alloc, room, &mut player, row, &mut printed)?;
     let mut stopped = None;

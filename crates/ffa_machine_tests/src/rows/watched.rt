@@ -14,6 +14,7 @@ use super::*;
 use crate::checks::same_at;
 use ffa_model::{Address, FaultKind, Leaf, PageNo};
 use ffa_physmem::{FlatRam, PhysMem};
+use ffa_reasons::Explained;
 use ffa_spmc::Machine;
 use ffa_walker::{is_in_ram, translate};
 use fixtures::{row_machine_with, writable};
@@ -307,10 +308,10 @@ fn push_walks(walks: &mut Vec<Walk>, manifest: &Manifest, endpoint: usize) -> Re
 
 // The machine of the rows with a block more, whose first partition has it whole, and the two pages before it. That partition
 // runs, and all have buffers.
-fn watched_machine(rt: &impl Abort, alloc: Global) -> Result<Player<Machine<Watched>>, Fail> {
+fn watched_machine(rt: &impl Abort, alloc: Global) -> Result<Player<Explained<Watched>>, Fail> {
     let manifest = row_machine_with(2, 1, writable(0x401F_E000, 514))?;
     let ram = Watched::new(alloc, &manifest)?;
-    let mut player = Player::new(Machine::boot_with(&manifest, ram, NoTlb));
+    let mut player = Player::new(Explained(Machine::boot_with(&manifest, ram, NoTlb)));
     goes_on(rt, alloc, &mut player, MAPPED)?;
     Ok(player)
 }
@@ -319,12 +320,12 @@ fn watched_machine(rt: &impl Abort, alloc: Global) -> Result<Player<Machine<Watc
 fn writes_of(
     rt: &impl Abort,
     alloc: Global,
-    player: &mut Player<Machine<Watched>>,
+    player: &mut Player<Explained<Watched>>,
     call: &str,
 ) -> Result<Writes, Fail> {
-    player.machine().ram().begin();
+    player.machine().0.ram().begin();
     goes_on(rt, alloc, player, call)?;
-    Ok(player.machine().ram().counted())
+    Ok(player.machine().0.ram().counted())
 }
 
 // Pages that are sent: how many they are, and how many of them are looked at; and of how many others, that are looked at, the
@@ -440,7 +441,7 @@ fn counts(rt: &impl Abort, alloc: Global, sending: &Sending, parts: &[&str]) -> 
 fn counts_step(
     rt: &impl Abort,
     alloc: Global,
-    player: &mut Player<Machine<Watched>>,
+    player: &mut Player<Explained<Watched>>,
     sending: &Sending,
     step: &str,
 ) -> Result<(), Fail> {

@@ -83,8 +83,8 @@ impl<M: PhysMem + Drop, T: Translations + Drop, S: Store> Machine<M, T, S> {
         true
     }
 
-    // The handle of the open transaction in which a page stands.
-    fn handle_at(&self, page: PageNo) -> Option<u64>
+    /// The handle of the open transaction in which a page of the RAM stands.
+    pub fn handle_at(&self, page: PageNo) -> Option<u64>
         requires { page.0 < length self.now.state.pages }
         ensures { result ≡ handle_at self.now.state page.0 }
     {

@@ -7,6 +7,7 @@ ghost use Rattle.ffa_model.specs.Ram.{zero_ram};
 
 use ffa_model::Manifest;
 use ffa_physmem::{FlatRam, FrameRam, PhysMem};
+use ffa_reasons::Explained;
 use ffa_spmc::Machine;
 use ffa_tlb::NoTlb;
 use fixtures::{row_machine_with, word_at, writable};
@@ -52,18 +53,18 @@ fn words_of_a_lend<M: PhysMem + Drop>(
 ) -> Result<[Option<u64>; 7], Fail>
     requires { M.ram ram ≡ zero_ram manifest.now.ram_base.0 (512 * manifest.now.ram_blocks) }
 {
-    let mut player = Player::new(Machine::boot_cleared(manifest, ram, NoTlb));
+    let mut player = Player::new(Explained(Machine::boot_cleared(manifest, ram, NoTlb)));
     let mut out = Vec::new(alloc);
-    let whole = word_at(player.machine().ram(), 0x4000_1008);
+    let whole = word_at(player.machine().0.ram(), 0x4000_1008);
     player.play(alloc, &mut LEND.as_bytes(), &mut out)?;
-    let split = word_at(player.machine().ram(), 0x4000_1008);
-    let first = word_at(player.machine().ram(), 0x4000_3000);
-    let second = word_at(player.machine().ram(), 0x4000_3008);
+    let split = word_at(player.machine().0.ram(), 0x4000_1008);
+    let first = word_at(player.machine().0.ram(), 0x4000_3000);
+    let second = word_at(player.machine().0.ram(), 0x4000_3008);
     player.play(alloc, &mut RETRIEVE.as_bytes(), &mut out)?;
-    let held = word_at(player.machine().ram(), 0x4000_7008);
-    let table = word_at(player.machine().ram(), 0x4000_5008);
+    let held = word_at(player.machine().0.ram(), 0x4000_7008);
+    let table = word_at(player.machine().0.ram(), 0x4000_5008);
     player.play(alloc, &mut GIVE_BACK.as_bytes(), &mut out)?;
-    let again = word_at(player.machine().ram(), 0x4000_1008);
+    let again = word_at(player.machine().0.ram(), 0x4000_1008);
     Ok([whole, split, first, second, held, table, again])
 }
 

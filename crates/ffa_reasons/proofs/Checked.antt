@@ -1,0 +1,117 @@
+-- SPDX-License-Identifier: MIT OR Apache-2.0
+-- Why an operation is refused: the checks see of the machine's parts what the guards of each call see of its state.
+use Rattle.std.proofs.Common.{◌≡◌, ◌∙◌, ℕ, List, length, map, take, Option, ap}
+use Rattle.std.specs.Prelude.{◌||◌, is_some}
+use Rattle.std.specs.FinMap as finite
+use Rattle.ffa_memshare.specs.declared.descriptor_call.DescriptorCall.{DescriptorCall}
+use Rattle.ffa_memshare.specs.Scenes.{descriptor_in, scene_in}
+use Rattle.ffa_memshare.specs.Stored.{map_in, open_in}
+use Rattle.ffa_messages.specs.Parts.{sent_in}
+use Rattle.ffa_model.specs.declared.refusal.Refusal.{Refusal}
+use Rattle.ffa_model.specs.declared.rights.Kind.{Kind}
+use Rattle.ffa_model.specs.declared.call.NotificationBits.{NotificationBits}
+use Rattle.ffa_model.specs.Buffers.{buffers_in, is_full, map_guards, release_guards, rx_release, rxtx_map, rxtx_unmap, unmap_guards}
+use Rattle.ffa_model.specs.Calls.{Service, first_refusal}
+use Rattle.ffa_model.specs.DescriptorPlaces.{in_version}
+use Rattle.ffa_model.specs.First.{first, party_of}
+use Rattle.ffa_model.specs.Manifest.{is_nil}
+use Rattle.ffa_model.specs.MemoryRetrieve.{memory_retrieve, retrieve_guards}
+use Rattle.ffa_model.specs.MemoryReturn.{memory_reclaim, memory_relinquish, reclaim_guards, relinquish_guards}
+use Rattle.ffa_model.specs.MemorySend.{memory_send, send_guards}
+use Rattle.ffa_model.specs.Messages.{header_in, msg_send2, send2_guards}
+use Rattle.ffa_model.specs.Notifications.{bind_guards, bitmap_create, bitmap_destroy, create_guards, destroy_guards, get_guards, notification_bind, notification_get, notification_set, notification_unbind, set_guards, unbind_guards}
+use Rattle.ffa_model.specs.RelinquishDescriptor.{relinquish_of}
+use Rattle.ffa_model.specs.RetrieveDescriptor.{retrieve_of}
+use Rattle.ffa_model.specs.SendDescriptor.{send_of}
+use Rattle.ffa_model.specs.Setup.{info_guards, is_any, is_count_alone, selected}
+use Rattle.ffa_model.specs.State.{State, transaction_of, version_of}
+use Rattle.ffa_model.specs.Transactions.{open_of}
+use Rattle.ffa_rxtx.specs.Parts.{tx_in, ownership_in}
+use Rattle.ffa_spmc.specs.Meaning.{IsManager, Parts, state_of}
+use Rattle.ffa_spmc.proofs.Information.{decided}
+use Rattle.ffa_spmc.proofs.Notified.{each-bitmap}
+use Rattle.ffa_spmc.proofs.Pools.{ownership-is}
+use Rattle.ffa_spmc.proofs.Retrieves.{scene-is}
+use Rattle.ffa_spmc.proofs.Sends.{sent-is}
+use Rattle.ffa_spmc.proofs.MemoryParts.{memory_parts_in}
+
+-- what is so of the parts is so of what contracts see
+pub seen-refusal : (x : Parts) (now : State) → state_of x ≡ now → (c : State → Service) (o : Option Refusal)
+    → o ≡ first_refusal (c (state_of x)).guards → o ≡ first_refusal (c now).guards
+seen-refusal x now view c o is = is ∙ ap (λ (s : State). first_refusal (c s).guards) view
+
+-- the code's runner is that of the run states
+module _ (x : Parts) (machine : IsManager x) (e : ℕ) (at : e ≡ x.kept.chain.runner) where
+  abbrev s : State
+  s = state_of x
+
+  pub release-checked : first_refusal (release_guards (buffers_in x.kept.buffers e)) ≡ first_refusal (rx_release s).guards
+  unfolding first
+  release-checked = ap (λ (f : ℕ). first_refusal (release_guards (buffers_in x.kept.buffers f))) at
+
+  pub unmap-checked : (word : ℕ) → first_refusal (unmap_guards (buffers_in x.kept.buffers e) word) ≡ first_refusal (rxtx_unmap s word).guards
+  unfolding first
+  unmap-checked word = ap (λ (f : ℕ). first_refusal (unmap_guards (buffers_in x.kept.buffers f) word)) at
+
+  pub map-checked : (tx rx pages : ℕ) → first_refusal (map_guards e (buffers_in x.kept.buffers e) (ownership_in x.kept.pages x.manifest.ram_base.0) tx rx pages)
+      ≡ first_refusal (rxtx_map s tx rx pages).guards
+  unfolding first
+  map-checked tx rx pages =
+      ap (λ (f : ℕ). first_refusal (map_guards f (buffers_in x.kept.buffers f) (ownership_in x.kept.pages x.manifest.ram_base.0) tx rx pages)) at
+      ∙ ap (λ ram. first_refusal (map_guards x.kept.chain.runner (buffers_in x.kept.buffers x.kept.chain.runner) ram tx rx pages)) (ownership-is x machine)
+
+  pub info-checked : (uuid : List ℕ) (flags : ℕ)
+      → decided (is_nil uuid || is_any (selected (map party_of x.manifest.endpoints.items) uuid)) (is_count_alone flags) (is_some (buffers_in x.kept.buffers e)) (is_full (buffers_in x.kept.buffers e))
+      ≡ first_refusal (info_guards s uuid flags)
+  unfolding first
+  info-checked uuid flags =
+      λ i. decided (is_nil uuid || is_any (selected (map party_of x.manifest.endpoints.items) uuid)) (is_count_alone flags)
+      (is_some (buffers_in x.kept.buffers (at i))) (is_full (buffers_in x.kept.buffers (at i)))
+
+  pub send-checked : first_refusal (send2_guards (map party_of x.manifest.endpoints.items) x.kept.buffers e (header_in (sent_in x.ram x.kept.buffers e))) ≡ first_refusal (msg_send2 s).guards
+  unfolding first
+  send-checked = λ i. first_refusal (send2_guards (map party_of x.manifest.endpoints.items) x.kept.buffers (at i) (header_in (sent-is x machine e at i)))
+
+  pub relinquish-checked : first_refusal (relinquish_guards (buffers_in x.kept.buffers e) (open_in x.kept.pool) e (relinquish_of (tx_in x.ram (buffers_in x.kept.buffers e))))
+      ≡ first_refusal (memory_relinquish s).guards
+  relinquish-checked =
+      λ i. first_refusal (relinquish_guards (buffers_in x.kept.buffers (at i)) (open_of s) (at i) (relinquish_of (sent-is x machine e at i)))
+
+  pub reclaim-checked : (h flags : ℕ)
+      → first_refusal (reclaim_guards (ownership_in x.kept.pages x.kept.layout.base.0) e flags (finite.get (map_in x.kept.pool.slots) h)) ≡ first_refusal (memory_reclaim s h flags).guards
+  reclaim-checked h flags =
+      λ i. first_refusal (reclaim_guards ((ap (ownership_in x.kept.pages) machine.layout.base ∙ ownership-is x machine) i) (at i) flags (transaction_of s h))
+
+  -- a call whose descriptor stands in TX
+  module _ (call : DescriptorCall) (spoken : call.version ≡ version_of (state_of x) (state_of x).runner) where
+    pub offer-checked : (kind : Kind)
+        → first_refusal (send_guards (scene_in (memory_parts_in x)) e call.transfer (send_of kind (descriptor_in x.ram x.kept.buffers e call)))
+        ≡ first_refusal (memory_send s kind call.transfer).guards
+    offer-checked kind =
+        λ i. first_refusal (send_guards (scene-is x machine i) (at i) call.transfer (send_of kind (in_version (spoken i) (take call.transfer.total (sent-is x machine e at i)))))
+
+    pub retrieve-checked :
+        first_refusal (retrieve_guards (scene_in (memory_parts_in x)) e call.transfer (retrieve_of e (descriptor_in x.ram x.kept.buffers e call)))
+        ≡ first_refusal (memory_retrieve s call.transfer).guards
+    retrieve-checked =
+        λ i. first_refusal (retrieve_guards (scene-is x machine i) (at i) call.transfer (retrieve_of (at i) (in_version (spoken i) (take call.transfer.total (sent-is x machine e at i)))))
+
+  pub create-checked : (endpoint contexts : ℕ) → first_refusal (create_guards x.kept.bitmaps e endpoint contexts) ≡ first_refusal (bitmap_create s endpoint contexts).guards
+  create-checked endpoint contexts = ap (λ (f : ℕ). first_refusal (create_guards x.kept.bitmaps f endpoint contexts)) at
+
+  pub destroy-checked : (endpoint : ℕ) → first_refusal (destroy_guards x.kept.bitmaps e endpoint) ≡ first_refusal (bitmap_destroy s endpoint).guards
+  destroy-checked endpoint = ap (λ (f : ℕ). first_refusal (destroy_guards x.kept.bitmaps f endpoint)) at
+
+  pub get-checked : (receiver context flags : ℕ) → first_refusal (get_guards x.kept.bitmaps e receiver context flags) ≡ first_refusal (notification_get s receiver context flags).guards
+  get-checked receiver context flags = ap (λ (f : ℕ). first_refusal (get_guards x.kept.bitmaps f receiver context flags)) at
+
+  -- a call with a bitmap
+  module _ (its : NotificationBits) where
+    pub bind-checked : first_refusal (bind_guards (length x.kept.bitmaps.bitmaps) x.kept.bitmaps e its) ≡ first_refusal (notification_bind s its).guards
+    bind-checked = λ i. first_refusal (bind_guards (each-bitmap x machine i) x.kept.bitmaps (at i) its)
+
+    pub unbind-checked : first_refusal (unbind_guards (length x.kept.bitmaps.bitmaps) x.kept.bitmaps e its) ≡ first_refusal (notification_unbind s its).guards
+    unbind-checked = λ i. first_refusal (unbind_guards (each-bitmap x machine i) x.kept.bitmaps (at i) its)
+
+    pub set-checked : first_refusal (set_guards (length x.kept.bitmaps.bitmaps) x.kept.bitmaps e its) ≡ first_refusal (notification_set s its).guards
+    set-checked = λ i. first_refusal (set_guards (each-bitmap x machine i) x.kept.bitmaps (at i) its)

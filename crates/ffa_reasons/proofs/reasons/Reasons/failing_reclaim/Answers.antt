@@ -1,0 +1,15 @@
+-- SPDX-License-Identifier: MIT OR Apache-2.0
+use Rattle.std.proofs.Common.{◌∙◌}
+use Rattle.ffa_model.specs.Access.{ownership_of}
+use Rattle.ffa_model.specs.About.{failing_reclaim}
+use Rattle.ffa_model.specs.State.{State, transaction_of}
+use Rattle.ffa_spmc.specs.Lent.{lent_parts}
+use Rattle.ffa_reasons.proofs.Told.{reclaim-failing, seen-in}
+use Rattle.ffa_reasons.proofs.reasons.Reasons.failing_reclaim.Goals as goal
+
+pub returns : goal.returns
+returns g c =
+    let x = lent_parts g.M.PhysMem.ram c.self.inside.parts in
+    let view = c.self.invariant.state ∙ c.self.view_is in
+    seen-in x c.args.self.now view (λ (s : State). failing_reclaim (ownership_of s) (transaction_of s c.args.handle.0) c.args.refusal) c.failing_reclaim.result
+    (c.failing_reclaim.ensures ∙ reclaim-failing x c.self.invariant.managed c.args.refusal c.args.handle.0)

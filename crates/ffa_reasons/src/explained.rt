@@ -1,0 +1,69 @@
+// SPDX-License-Identifier: MIT OR Apache-2.0
+//! The machine as a player sees it.
+use ffa_mend::Mend;
+use ffa_model::{Address, CertRun, EndpointId, Op, Outcome, PageNo, Rights, Why};
+use ffa_physmem::PhysMem;
+use ffa_playable::{Playable, Readable};
+use ffa_spmc::{Inline, Machine, Store};
+use ffa_tlb::{NoTlb, Translations};
+
+/// A machine that tells why it refuses.
+#[derive(Drop)]
+pub struct Explained<M: PhysMem + Drop, T: Translations + Drop = NoTlb, S: Store = Inline>(
+    pub Machine<M, T, S>,
+);
+
+impl<M: PhysMem + Drop, T: Translations + Drop, S: Store> Playable for Explained<M, T, S> {
+    ghost state = { λ machine. machine.0.state };
+
+    #[inline(always)]
+    fn op(&mut self, op: &Op) -> Outcome {
+        self.0.op(op)
+    }
+
+    fn why(&self, op: &Op) -> Option<Why> {
+        crate::why(&self.0, op)
+    }
+
+    fn mend(&self, op: &Op, why: Why) -> Option<Mend> {
+        crate::mend(&self.0, op, why)
+    }
+
+    fn runner(&self) -> EndpointId {
+        self.0.runner()
+    }
+
+    fn endpoints(&self) -> usize {
+        self.0.endpoints()
+    }
+
+    fn ram_base(&self) -> Address {
+        self.0.ram().base()
+    }
+
+    fn ram_pages(&self) -> u32 {
+        self.0.ram().pages()
+    }
+
+    fn owner_of(&self, page: PageNo) -> EndpointId {
+        self.0.owner_of(page)
+    }
+
+    fn access(&self, endpoint: EndpointId, page: PageNo) -> Option<Rights> {
+        self.0.access(endpoint, page)
+    }
+
+    fn cert_run(&self, from: PageNo) -> CertRun {
+        self.0.cert_run(from)
+    }
+
+    fn audit(&self, runs: &[CertRun]) -> bool {
+        self.0.audit(runs)
+    }
+}
+
+impl<M: PhysMem + Drop, T: Translations + Drop, S: Store> Readable for Explained<M, T, S> {
+    fn word_at(&self, page: PageNo, index: usize) -> u64 {
+        self.0.ram().read_word(page, index)
+    }
+}

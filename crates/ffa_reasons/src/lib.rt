@@ -1,0 +1,16 @@
+// SPDX-License-Identifier: MIT OR Apache-2.0
+//! Why an operation is refused, what is to be mended, and by what an endpoint has its access to a page. No operation asks
+//! this and nothing is changed, so who audits what operations do can skip this crate.
+#![tactic(auto)]
+
+mod abouts;
+mod contents;
+mod explained;
+mod faults;
+mod mends;
+mod reasons;
+mod refusals;
+mod telling;
+
+pub use explained::Explained;
+pub use telling::{grant_of, mend, why};

@@ -1,0 +1,126 @@
+// SPDX-License-Identifier: MIT OR Apache-2.0
+//! Why an operation of the runner would be refused now, and by what an endpoint has its access to a page.
+ghost use Rattle.std.specs.Prelude.{◌≡◌, IfSome, is_some};
+ghost use Rattle.ffa_model.specs.Access.{access};
+ghost use Rattle.ffa_model.specs.Refusals.{is_refusal};
+ghost use Rattle.ffa_model.specs.Step.{step};
+ghost use Rattle.ffa_model.specs.Why.{granted, outcome_of, why, why_fault};
+ghost use Rattle.ffa_mend.specs.Mend.{address_of, call_of, mend_why};
+
+use crate::reasons::Reasons;
+use ffa_mend::Mend;
+use ffa_model::{Call, EndpointId, FaultKind, Grant, Op, PageNo, Why};
+use ffa_physmem::PhysMem;
+use ffa_spmc::{Machine, Store};
+use ffa_tlb::Translations;
+
+/// Why an operation of the runner is refused: of a call the first check that fails, with what it is about, where that is a
+/// register, an endpoint or a handle that registers, a message's header or a descriptor name, the first condition that a
+/// descriptor breaks, a bit or a page, and nothing for other checks; and of an access its fault, with what stands in the way.
+/// `Machine::op` does the operation where this answers nothing. It changes nothing and takes no memory.
+pub fn why<M: PhysMem + Drop, T: Translations + Drop, S: Store>(
+    machine: &Machine<M, T, S>,
+    op: &Op,
+) -> Option<Why>
+    ensures why { result ≡ why machine.now.state op.now }
+    // There is a reason just where the operation is refused, and it says what the runner sees: FFA_ERROR with the code of
+    // the check, or the fault.
+    ensures refused { is_some result ≡ is_refusal (step machine.now.state op.now).outcome }
+    ensures outcome { IfSome result (λ reason. (step machine.now.state op.now).outcome
+        ≡ outcome_of machine.now.state reason) }
+{
+    Reasons::of(machine).why(op)
+}
+
+/// What is to be mended where an operation of the runner is refused for this reason, beside what the reason names: a buffer, a
+/// right, a value that is wanted, or which of two causes it has. Nothing where nothing more is known. It changes nothing and
+/// takes no memory.
+pub fn mend<M: PhysMem + Drop, T: Translations + Drop, S: Store>(
+    machine: &Machine<M, T, S>,
+    op: &Op,
+    why: Why,
+) -> Option<Mend>
+    ensures mend { result ≡ mend_why machine.now.state op.now why }
+{
+    let reasons = Reasons::of(machine);
+    match why {
+        Why::Refused { refusal, about } => reasons.mend_check(call_of(op), refusal, about),
+        Why::Fault { kind, obstacle: _ } => reasons.mend_fault(address_of(op), kind),
+    }
+}
+
+/// By what an endpoint has its access to a page: its own page, or the open transaction by which it has it. Nothing outside
+/// the RAM, or for an endpoint that isn't there.
+pub fn grant_of<M: PhysMem + Drop, T: Translations + Drop, S: Store>(
+    machine: &Machine<M, T, S>,
+    endpoint: EndpointId,
+    page: PageNo,
+) -> Option<Grant>
+    ensures granted { result ≡ granted machine.now.state endpoint.0 page.0 }
+    ensures access { is_some result ≡ is_some (access machine.now.state endpoint.0 page.0) }
+{
+    Reasons::of(machine).grant_of(endpoint, page)
+}
+
+impl<M: PhysMem + Drop, T: Translations + Drop, S: Store> Reasons<'_, M, T, S> {
+    // The reason itself.
+    fn why(&self, op: &Op) -> Option<Why>
+        ensures { result ≡ why self.now op.now }
+    {
+        match *op {
+            Op::Call(x) => self.why_call(x),
+            Op::Load { addr, size } => self.why_fault(addr, self.load_fault(addr, size)),
+            Op::Store {
+                addr,
+                size,
+                value: _,
+            } => self.why_fault(addr, self.store_fault(addr, size)),
+            Op::Fetch { addr } => self.why_fault(addr, self.fetch_fault(addr)),
+        }
+    }
+
+    // Of a call, in its registers.
+    fn why_call(&self, x: [u64; 8]) -> Option<Why>
+        ensures { result ≡ why self.now (Op.Call x) }
+    {
+        let call = ffa_abi::decode(x);
+        match self.refusal(call) {
+            Some(refusal) => Some(Why::Refused {
+                refusal,
+                about: self.about(ffa_abi::low(x[0]), call, refusal),
+            }),
+            None => None,
+        }
+    }
+
+    // A fault of an access to an address, with what stands in the way.
+    fn why_fault(&self, addr: u64, fault: Option<FaultKind>) -> Option<Why>
+        ensures { result ≡ why_fault self.now addr fault }
+    {
+        let kind = fault?;
+        Some(Why::Fault {
+            kind,
+            obstacle: self.obstacle(addr, kind),
+        })
+    }
+}
+
+// The call that an operation is, if it is one.
+fn call_of(op: &Op) -> Call
+    ensures { result ≡ call_of op.now }
+{
+    match *op {
+        Op::Call(x) => ffa_abi::decode(x),
+        Op::Load { .. } | Op::Store { .. } | Op::Fetch { .. } => Call::Unknown,
+    }
+}
+
+// The address of an access.
+fn address_of(op: &Op) -> u64
+    ensures { result ≡ address_of op.now }
+{
+    match *op {
+        Op::Call(_) => 0,
+        Op::Load { addr, .. } | Op::Store { addr, .. } | Op::Fetch { addr } => addr,
+    }
+}

@@ -1,0 +1,19 @@
+// SPDX-License-Identifier: MIT OR Apache-2.0
+//! The machine's parts, lent to be read.
+ghost use Rattle.ffa_spmc.specs.Lent.{AreParts, lent_parts};
+
+use super::Machine;
+use crate::parts::Parts;
+use crate::storage::Store;
+use ffa_physmem::PhysMem;
+use ffa_tlb::Translations;
+
+impl<M: PhysMem + Drop, T: Translations + Drop, S: Store> Machine<M, T, S> {
+    /// All parts, to be read: for `ffa_reasons`, which tells why operations are refused. What holds of them holds of every machine,
+    /// and the state is what they mean.
+    pub fn parts(&self) -> Parts<'_, M, S>
+        ensures { AreParts (lent_parts M.ram result) self.now.state }
+    {
+        self.manager.parts()
+    }
+}

@@ -1,0 +1,25 @@
+// SPDX-License-Identifier: MIT OR Apache-2.0
+//! The manager's parts, lent to be read.
+ghost use Rattle.ffa_spmc.specs.Lent.{AreParts, lent_parts};
+
+use super::Manager;
+use crate::parts::Parts;
+use crate::storage::Store;
+use ffa_model::Home;
+use ffa_physmem::PhysMem;
+
+impl<M: PhysMem + Drop, S: Store> Manager<M, S> {
+    // What the manager keeps, and what holds of it.
+    pub(crate) fn parts(&self) -> Parts<'_, M, S>
+        ensures { AreParts (lent_parts M.ram result) self.now.state }
+    {
+        Parts {
+            ram: &self.ram,
+            records: self.kept.records.get(),
+            pages: &self.kept.pages,
+            pool: &self.kept.pool,
+            buffers: &self.kept.buffers,
+            chain: &self.kept.chain,
+        }
+    }
+}
