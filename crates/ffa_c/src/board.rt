@@ -20,8 +20,7 @@ ghost use Rattle.ffa_c.specs.Runs.{run_at};
 
 use crate::codes::KIND_NO_ENDPOINT;
 use crate::kind::{
-    BoardMachine, access_by, acted_by, audited_by, base_of, blocks_of, done_among, done_by,
-    endpoints_of, owner_by, page_in, pages_of, root_by, run_by, runner_of,
+    BoardMachine, acted_by, audited_by, code_of, done_among, done_by, owner_by, root_by, run_by,
 };
 use crate::outcome::COutcome;
 use ffa_lent::{Frames, LentRam};
@@ -32,6 +31,16 @@ use ffa_spmc::{Given, Machine, Ready, Storage};
 use ffa_tlb::NoTlb;
 use std::alloc::Global;
 use std::marker::Model;
+
+// The same of a machine of either kind.
+macro_rules! either {
+    ($kind:expr, $machine:ident => $done:expr) => {
+        match $kind {
+            BoardMachine::Heap($machine) => $done,
+            BoardMachine::Lent($machine) => $done,
+        }
+    };
+}
 
 /// What a boot does with the bytes of pages that are lent.
 #[derive(Clone, Copy)]
@@ -146,10 +155,7 @@ impl Board {
         if u32::from(endpoint.0) == self.runner() {
             return self.op(op);
         }
-        match &mut self.kind {
-            BoardMachine::Heap(machine) => acted_by(machine, endpoint, op),
-            BoardMachine::Lent(machine) => acted_by(machine, endpoint, op),
-        }
+        either!(&mut self.kind, machine => acted_by(machine, endpoint, op))
     }
 
     /// Whose access to which pages the last call on memory that was done has changed: told once.
@@ -157,118 +163,77 @@ impl Board {
         ensures told { result ≡ self.old.machine.told }
         ensures rest { self.new ≡ with_all_told self.old }
     {
-        match &mut self.kind {
-            BoardMachine::Heap(machine) => machine.take_change(),
-            BoardMachine::Lent(machine) => machine.take_change(),
-        }
+        either!(&mut self.kind, machine => machine.take_change())
     }
 
     /// The endpoint that runs.
     pub fn runner(&self) -> u32
         ensures { result ≡ self.now.machine.state.runner }
     {
-        match &self.kind {
-            BoardMachine::Heap(machine) => runner_of(machine),
-            BoardMachine::Lent(machine) => runner_of(machine),
-        }
+        either!(&self.kind, machine => u32::from(machine.runner().0))
     }
 
     /// The number of endpoints.
     pub fn endpoints(&self) -> u32
         ensures { result ≡ length self.now.machine.state.parties }
     {
-        match &self.kind {
-            BoardMachine::Heap(machine) => endpoints_of(machine),
-            BoardMachine::Lent(machine) => endpoints_of(machine),
-        }
+        either!(&self.kind, machine => machine.endpoints() as u32)
     }
 
     /// RAM's first address.
     pub fn ram_base(&self) -> u32
         ensures { result ≡ self.now.machine.state.ram_base }
     {
-        match &self.kind {
-            BoardMachine::Heap(machine) => base_of(machine),
-            BoardMachine::Lent(machine) => base_of(machine),
-        }
+        either!(&self.kind, machine => machine.ram().base().0)
     }
 
     /// The number of blocks of 2 MiB.
     pub fn ram_blocks(&self) -> u32
         ensures { result ≡ blocks_of self.now.machine.state }
     {
-        match &self.kind {
-            BoardMachine::Heap(machine) => blocks_of(machine),
-            BoardMachine::Lent(machine) => blocks_of(machine),
-        }
+        either!(&self.kind, machine => machine.ram().pages() / 512)
     }
 
     /// The address of an endpoint's level 1 table, or `NOTHING` where there is no such endpoint.
     pub fn root_of(&self, endpoint: u16) -> u32
         ensures { result ≡ root_number self.now.machine.state endpoint }
     {
-        match &self.kind {
-            BoardMachine::Heap(machine) => root_by(machine, EndpointId(endpoint)),
-            BoardMachine::Lent(machine) => root_by(machine, EndpointId(endpoint)),
-        }
+        either!(&self.kind, machine => root_by(machine, EndpointId(endpoint)))
     }
 
     /// The number of pages.
     pub fn pages(&self) -> u32
         ensures { result ≡ length self.now.machine.ram.pages }
     {
-        match &self.kind {
-            BoardMachine::Heap(machine) => pages_of(machine),
-            BoardMachine::Lent(machine) => pages_of(machine),
-        }
+        either!(&self.kind, machine => machine.ram().pages())
     }
 
     /// The owner of a page, or `NOTHING` where there is no such page; 0x8000 is the manager.
     pub fn owner_of(&self, page: u32) -> u32
         ensures { result ≡ owner_number self.now.machine page }
     {
-        match &self.kind {
-            BoardMachine::Heap(machine) => owner_by(machine, PageNo(page)),
-            BoardMachine::Lent(machine) => owner_by(machine, PageNo(page)),
-        }
+        either!(&self.kind, machine => owner_by(machine, PageNo(page)))
     }
 
     /// The right of an endpoint to a page, as a code.
     pub fn access(&self, endpoint: u16, page: u32) -> u32
         ensures { result ≡ access_code (access self.now.machine.state endpoint page) }
     {
-        match &self.kind {
-            BoardMachine::Heap(machine) => access_by(machine, EndpointId(endpoint), PageNo(page)),
-            BoardMachine::Lent(machine) => access_by(machine, EndpointId(endpoint), PageNo(page)),
-        }
+        either!(&self.kind, machine => code_of(machine.access(EndpointId(endpoint), PageNo(page))))
     }
 
     /// By what an endpoint has its access to a page.
     pub fn grant_of(&self, endpoint: u16, page: u32) -> Option<Grant>
         ensures { result ≡ granted self.now.machine.state endpoint page }
     {
-        match &self.kind {
-            BoardMachine::Heap(machine) => ffa_reasons::grant_of(
-                machine,
-                EndpointId(endpoint),
-                PageNo(page),
-            ),
-            BoardMachine::Lent(machine) => ffa_reasons::grant_of(
-                machine,
-                EndpointId(endpoint),
-                PageNo(page),
-            ),
-        }
+        either!(&self.kind, machine => ffa_reasons::grant_of(machine, EndpointId(endpoint), PageNo(page)))
     }
 
     /// The longest run of the certificate from a page on, where there is such a page.
     pub fn cert_run(&self, page: u32) -> Option<CertRun>
         ensures { result ≡ run_at self.now.machine page }
     {
-        match &self.kind {
-            BoardMachine::Heap(machine) => run_by(machine, PageNo(page)),
-            BoardMachine::Lent(machine) => run_by(machine, PageNo(page)),
-        }
+        either!(&self.kind, machine => run_by(machine, PageNo(page)))
     }
 
     /// Why an operation of the runner would be refused now, or was refused just before.
@@ -276,20 +241,14 @@ impl Board {
         ensures why { result ≡ why self.now.machine.state op.now }
         ensures refused { is_some result ≡ is_refusal (step self.now.machine.state op.now).outcome }
     {
-        match &self.kind {
-            BoardMachine::Heap(machine) => ffa_reasons::why(machine, op),
-            BoardMachine::Lent(machine) => ffa_reasons::why(machine, op),
-        }
+        either!(&self.kind, machine => ffa_reasons::why(machine, op))
     }
 
     /// Whether an endpoint has a notification pending.
     pub fn has_pending(&self, endpoint: u16) -> bool
         ensures { result ≡ has_pending (notifications_of self.now.machine.state) endpoint }
     {
-        match &self.kind {
-            BoardMachine::Heap(machine) => machine.has_pending(EndpointId(endpoint)),
-            BoardMachine::Lent(machine) => machine.has_pending(EndpointId(endpoint)),
-        }
+        either!(&self.kind, machine => machine.has_pending(EndpointId(endpoint)))
     }
 
     /// Whether runs of pages are a certificate that the machine's tables give.
@@ -298,10 +257,7 @@ impl Board {
         ensures agrees { Agrees self.now.machine.ram self.now.machine.state }
         ensures few { length self.now.machine.state.parties ≤ MOST_ENDPOINTS }
     {
-        match &self.kind {
-            BoardMachine::Heap(machine) => audited_by(machine, runs),
-            BoardMachine::Lent(machine) => audited_by(machine, runs),
-        }
+        either!(&self.kind, machine => audited_by(machine, runs))
     }
 
     /// The bytes of a page.
@@ -309,9 +265,6 @@ impl Board {
         requires { page < length self.now.machine.ram.pages }
         ensures { result.now ≡ page_of self.now.machine.ram page }
     {
-        match &self.kind {
-            BoardMachine::Heap(machine) => page_in(machine, PageNo(page)),
-            BoardMachine::Lent(machine) => page_in(machine, PageNo(page)),
-        }
+        either!(&self.kind, machine => machine.ram().page(PageNo(page)))
     }
 }

@@ -1,10 +1,8 @@
 // SPDX-License-Identifier: MIT OR Apache-2.0
 //! A machine by where its RAM comes from, and what C asks of any machine.
-ghost use Rattle.std.specs.Prelude.{◌≡◌, ◌<◌, ◌≤◌, ◌↔◌, IsTrue, true, length};
-ghost use Rattle.ffa_model.specs.Access.{access};
-ghost use Rattle.ffa_model.specs.Agreement.{Agrees, blocks_of, roots_of};
+ghost use Rattle.std.specs.Prelude.{◌≡◌, ◌≤◌, ◌↔◌, IsTrue, true, length};
+ghost use Rattle.ffa_model.specs.Agreement.{Agrees, roots_of};
 ghost use Rattle.ffa_model.specs.Certified.{IsCertified};
-ghost use Rattle.ffa_model.specs.Ram.{page_of};
 ghost use Rattle.ffa_model.specs.State.{is_known};
 ghost use Rattle.ffa_c.specs.Border.{HasDone, HasDoneAmong, access_code, exec_code, level_code, owner_number, root_number};
 ghost use Rattle.ffa_c.specs.Elsewhere.{HasActed};
@@ -60,34 +58,6 @@ pub(crate) fn acted_by<M: PhysMem + Drop, S: Store>(
     COutcome::of(&machine.op_as(endpoint, op))
 }
 
-/// The endpoint that runs.
-pub(crate) fn runner_of<M: PhysMem + Drop, S: Store>(machine: &Machine<M, NoTlb, S>) -> u32
-    ensures { result ≡ machine.now.state.runner }
-{
-    u32::from(machine.runner().0)
-}
-
-/// The number of endpoints.
-pub(crate) fn endpoints_of<M: PhysMem + Drop, S: Store>(machine: &Machine<M, NoTlb, S>) -> u32
-    ensures { result ≡ length machine.now.state.parties }
-{
-    machine.endpoints() as u32
-}
-
-/// RAM's first address.
-pub(crate) fn base_of<M: PhysMem + Drop, S: Store>(machine: &Machine<M, NoTlb, S>) -> u32
-    ensures { result ≡ machine.now.state.ram_base }
-{
-    machine.ram().base().0
-}
-
-/// The number of blocks.
-pub(crate) fn blocks_of<M: PhysMem + Drop, S: Store>(machine: &Machine<M, NoTlb, S>) -> u32
-    ensures { result ≡ blocks_of machine.now.state }
-{
-    machine.ram().pages() / 512
-}
-
 /// The address of an endpoint's level 1 table, or `NOTHING` where there is no such endpoint.
 pub(crate) fn root_by<M: PhysMem + Drop, S: Store>(
     machine: &Machine<M, NoTlb, S>,
@@ -99,24 +69,6 @@ pub(crate) fn root_by<M: PhysMem + Drop, S: Store>(
         Some(root) => root,
         None => NOTHING,
     }
-}
-
-/// The number of pages.
-pub(crate) fn pages_of<M: PhysMem + Drop, S: Store>(machine: &Machine<M, NoTlb, S>) -> u32
-    ensures { result ≡ length machine.now.ram.pages }
-{
-    machine.ram().pages()
-}
-
-/// The bytes of a page.
-pub(crate) fn page_in<M: PhysMem + Drop, S: Store>(
-    machine: &Machine<M, NoTlb, S>,
-    page: PageNo,
-) -> &[u8; 4096]
-    requires { page.0 < length machine.now.ram.pages }
-    ensures { result.now ≡ page_of machine.now.ram page.0 }
-{
-    machine.ram().page(page)
 }
 
 /// Whether runs of pages are a certificate that the machine's tables give.
@@ -146,17 +98,6 @@ pub(crate) fn owner_by<M: PhysMem + Drop, S: Store>(
     } else {
         NOTHING
     }
-}
-
-/// The right of an endpoint to a page, as a code.
-pub(crate) fn access_by<M: PhysMem + Drop, S: Store>(
-    machine: &Machine<M, NoTlb, S>,
-    endpoint: EndpointId,
-    page: PageNo,
-) -> u32
-    ensures { result ≡ access_code (access machine.now.state endpoint.0 page.0) }
-{
-    code_of(machine.access(endpoint, page))
 }
 
 /// The longest run from a page on, where there is such a page.

@@ -6,7 +6,11 @@ use Rattle.ffa_c.specs.Border.{access_code}
 use Rattle.ffa_c.proofs.board.Board.access.Goals as goal
 
 pub returns-in-Heap : goal.returns-in-Heap
-returns-in-Heap c = c.access_by.ensures ∙ ap (λ (b : Boarded). access_code (access b.machine.state c.args.endpoint c.args.page)) (ap boarded (sym c.in-Heap.is) ∙ c.self.view_is)
+returns-in-Heap c =
+    c.code_of.ensures ∙ (ap access_code c.access.ensures
+    ∙ ap (λ (b : Boarded). access_code (access b.machine.state c.args.endpoint c.args.page)) (ap boarded (sym c.in-Heap.is) ∙ c.self.view_is))
 
 pub returns-in-Lent : goal.returns-in-Lent
-returns-in-Lent c = c.access_by-in-Lent.ensures ∙ ap (λ (b : Boarded). access_code (access b.machine.state c.args.endpoint c.args.page)) (ap boarded (sym c.in-Lent.is) ∙ c.self.view_is)
+returns-in-Lent c =
+    c.code_of-in-Lent.ensures ∙ (ap access_code c.access-in-Lent.ensures
+    ∙ ap (λ (b : Boarded). access_code (access b.machine.state c.args.endpoint c.args.page)) (ap boarded (sym c.in-Lent.is) ∙ c.self.view_is))
