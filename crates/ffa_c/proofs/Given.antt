@@ -1,7 +1,7 @@
 -- SPDX-License-Identifier: MIT OR Apache-2.0
 -- Numbers are never refused for want of memory.
 use Rattle.std.proofs.Common.{◌≡◌, ◌≢◌, ℕ, Bool, true, false, List, [], ◌∷◌, ◌++◌, Option, None, Some, Result, Ok, Err, take, refl, arith, length}
-use Rattle.std.specs.Prelude.{nat_le, if◌then◌else◌}
+use Rattle.std.specs.Prelude.{IfErr, nat_le, if◌then◌else◌}
 use Rattle.std.specs.Option.{option_map}
 use Rattle.ffa_model.specs.declared.endpoint.Endpoint.{Endpoint}
 use Rattle.ffa_model.specs.declared.endpoint.Region.{Region}
@@ -15,7 +15,6 @@ use Rattle.ffa_manifest.specs.declared.error.ManifestError.TheVariants.{NoMemory
 use Rattle.ffa_c.specs.declared.manifest.CEndpoint.{CEndpoint}
 use Rattle.ffa_c.specs.declared.manifest.CManifest.{CManifest}
 use Rattle.ffa_c.specs.declared.manifest.CRegion.{CRegion}
-use Rattle.ffa_c.specs.Booting.{cause_number}
 use Rattle.ffa_c.specs.Given.{counted, each_given, endpoint_given, parts_given, refusal_of, region_given, rights_given, version_given}
 
 -- ---- what tells parts
@@ -112,29 +111,15 @@ cause-in-room : (parts : Parts) (cause : ManifestError) → first_cause parts �
 unfolding first_cause
 cause-in-room parts cause is = failure-in-room (tests_of parts) cause (machine-tests parts) is
 
-pub refusal-in-room : (p : CManifest) (cause : ManifestError) → refusal_of (parts_given p) ≡ Some cause → cause ≢ NoMemory
+refusal-in-room : (p : CManifest) (cause : ManifestError) → refusal_of (parts_given p) ≡ Some cause → cause ≢ NoMemory
 refusal-in-room p cause is = of (parts_given p) (parts-in-room p) is
   where
     of : (r : Result Parts ManifestError) → InRoom r → refusal_of r ≡ Some cause → cause ≢ NoMemory
     of (Err other) room is same = room cc
     of (Ok parts) room is same = cause-in-room parts cause is same
 
--- and so isn't the number that C is told
-pub number-in-room : (p : CManifest) (cause : ManifestError) → refusal_of (parts_given p) ≡ Some cause → cause_number cause ≢ 1
-number-in-room p cause is = of cause (refusal-in-room p cause is)
-  where
-    of : (cause : ManifestError) → cause ≢ NoMemory → cause_number cause ≢ 1
-    of NoMemory other = absurd (other refl)
-    of Toml other = λ same. absurd (omega (arith, same))
-    of UnknownKey other = λ same. absurd (omega (arith, same))
-    of MissingKey other = λ same. absurd (omega (arith, same))
-    of WrongKind other = λ same. absurd (omega (arith, same))
-    of RamBase other = λ same. absurd (omega (arith, same))
-    of RamBlocks other = λ same. absurd (omega (arith, same))
-    of EndpointCount other = λ same. absurd (omega (arith, same))
-    of Uuid other = λ same. absurd (omega (arith, same))
-    of Property other = λ same. absurd (omega (arith, same))
-    of RegionCount other = λ same. absurd (omega (arith, same))
-    of RegionOutside other = λ same. absurd (omega (arith, same))
-    of RegionOverlap other = λ same. absurd (omega (arith, same))
-    of Version other = λ same. absurd (omega (arith, same))
+-- of whatever was to be made of them
+pub refused-in-room : {M : Type 0} (p : CManifest) (r : Result M ManifestError)
+    → IfErr r (λ cause. refusal_of (parts_given p) ≡ Some cause) → IfErr r (λ cause. cause ≢ NoMemory)
+refused-in-room p (Ok made) refused = tt
+refused-in-room p (Err cause) refused = refusal-in-room p cause refused

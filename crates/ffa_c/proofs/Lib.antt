@@ -1,6 +1,5 @@
 -- SPDX-License-Identifier: MIT OR Apache-2.0
 pub mod Ready
-pub mod Reasons
 pub mod Heap
 pub mod HeldSteps
 pub mod HeldListSteps

@@ -78,9 +78,6 @@ HasBegun describes begins is_lent (Some b) = IsBooted describes begins is_lent b
 abbrev pub HasBooted : (Parts → Type 0) → Bool → Option Boarded → Type 0
 HasBooted describes is_lent held = HasBegun describes IsFirst is_lent held
 
-abbrev pub HasBootedHeld : (Parts → Type 0) → List (List ℕ) → Option Boarded → Type 0
-HasBootedHeld describes pages held = HasBegun describes (IsFirstHeld pages) true held
-
 -- the number of a cause for which a manifest may be refused
 abbrev pub TellsCause : (ManifestError → Type 0) → ℕ → Type 0
 TellsCause is_cause number = (cause : ManifestError) × (number ≡ cause_number cause) × is_cause cause

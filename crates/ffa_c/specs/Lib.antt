@@ -4,6 +4,7 @@ pub mod Border
 pub mod Elsewhere
 pub mod Boarded
 pub mod Booting
+pub mod Boots
 pub mod CertRuns
 pub mod Changes
 pub mod Ending

@@ -13,7 +13,7 @@ ghost use Rattle.ffa_c.specs.Lending.{pages_of, ready_for};
 use crate::board::Board;
 use crate::cert_run::CCertRun;
 use crate::codes::{BAD_BASE, BAD_ROOTS, NO_LIST, NO_MACHINE, NO_MEMORY, NOT_CERTIFIED, OK};
-use crate::lending::{CLent, put_list, take_list};
+use crate::lending::CLent;
 use crate::lent_list::LentList;
 use crate::machine::CMachine;
 use crate::manifest::rights_of;
@@ -65,12 +65,11 @@ pub extern "C" fn gorseplumb_audit_tables(
     ensures ready { ready_for lent.old.held.value ≤ ready_for lent.new.held.value }
     ensures unjudged { result ≢ 0 → result ≢ 21 → lent.new.held.value ≡ lent.old.held.value }
 {
-    let Some(mut list) = take_list(lent, alloc) else {
-        return NO_LIST;
-    };
-    let answer = audit_list(alloc, &mut list, base, roots, runs);
-    put_list(lent, list);
-    answer
+    if lent.live {
+        audit_list(alloc, lent.held.list_mut(), base, roots, runs)
+    } else {
+        NO_LIST
+    }
 }
 
 fn audit_list(

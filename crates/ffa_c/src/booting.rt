@@ -1,10 +1,14 @@
 // SPDX-License-Identifier: MIT OR Apache-2.0
 //! Boots machines for C: over RAM of the heap, and over RAM that is lent.
-ghost use Rattle.std.specs.Prelude.{◌≡◌, ◌≢◌, ◌*◌, ◌<◌, ◌⊎◌, [], length, true, false, Ok, Some, None, IfOk, IfErr, IfSome, IsUtf8};
-ghost use Rattle.ffa_manifest.specs.Document.{parts_of};
-ghost use Rattle.ffa_c.specs.Booting.{Describes, HasBegun, HasBooted, HasBootedHeld, IsFirstBy, IsRefusedFor, TellsCause, TellsWhy, cause_number};
+ghost use Rattle.std.specs.Prelude.{◌≡◌, ◌≢◌, ◌*◌, ◌<◌, ◌⊎◌, [], length, true, false, Bool, Ok, Some, None, IfOk, IfErr, IfSome, IsUtf8};
+ghost use Rattle.ffa_manifest.specs.Document.{Parts, parts_of};
+ghost use Rattle.ffa_manifest.specs.declared.error.ManifestError.{ManifestError};
+ghost use Rattle.ffa_manifest.specs.declared.error.ManifestError.TheVariants as causes;
+ghost use Rattle.ffa_c.specs.Booting.{Describes, HasBegun, HasBooted, IsFirstBy, IsRefusedFor, cause_number};
+ghost use Rattle.ffa_c.specs.Boots.{Boots, BootsLent};
+ghost use Rattle.ffa_c.specs.declared.board.FirstBytes.TheVariants.{Cleared, Kept};
 ghost use Rattle.ffa_c.specs.Given.{Gives, IsGivenFor};
-ghost use Rattle.ffa_c.specs.Lending.{bytes_of, page_count, pages_of, ready_for};
+ghost use Rattle.ffa_c.specs.Lending.{page_count, pages_of, ready_for};
 
 use crate::board::{Board, FirstBytes};
 use crate::codes::{
@@ -13,7 +17,7 @@ use crate::codes::{
     MANIFEST_TOML, MANIFEST_UNKNOWN_KEY, MANIFEST_UUID, MANIFEST_VERSION, MANIFEST_WRONG_KIND,
     NO_LIST, NO_MEMORY, OCCUPIED, OK, WRONG_COUNT,
 };
-use crate::lending::{CLent, put_list, take_list};
+use crate::lending::CLent;
 use crate::lent_list::LentList;
 use crate::machine::{CMachine, put};
 use crate::manifest::{CManifest, manifest_of_numbers};
@@ -24,24 +28,63 @@ use ffa_physmem::{FlatRam, NoMemory};
 use ffa_spmc::Storage;
 use std::alloc::{AllocError, Global};
 
+/// A form in which C gives a manifest.
+pub(crate) trait ManifestForm {
+    /// Whether it describes these parts of a machine.
+    ghost describes: { Self → Parts → Type 0 };
+
+    /// Whether this is a cause for which it is refused.
+    ghost is_cause: { Self → ManifestError → Type 0 };
+
+    /// Whether memory is taken while it is read.
+    ghost takes_memory: { Bool };
+
+    /// The manifest, or why it is refused: for want of memory any may be.
+    fn manifest(&self, alloc: Global) -> Result<Manifest, ManifestError>
+        ensures described { IfOk result (λ m. describes self.now (parts_of m)) }
+        ensures wanting { IfOk result (λ _. is_cause self.now causes.NoMemory) }
+        ensures refused { IfErr result (λ e. is_cause self.now e) }
+        ensures whole { takes_memory ≡ false → IfErr result (λ e. e ≢ causes.NoMemory) };
+}
+
+impl ManifestForm for &[u8] {
+    ghost use Rattle.std.specs.Prelude.{true};
+    ghost use Rattle.ffa_c.specs.Booting.{Describes, IsRefusedFor};
+
+    ghost describes = { λ text parts. Describes text.now parts };
+
+    ghost is_cause = { λ text cause. IsRefusedFor text.now cause };
+
+    ghost takes_memory = { true };
+
+    fn manifest(&self, alloc: Global) -> Result<Manifest, ManifestError> {
+        manifest_of(alloc, self)
+    }
+}
+
+impl ManifestForm for CManifest {
+    ghost use Rattle.std.specs.Prelude.{false};
+    ghost use Rattle.ffa_c.specs.Given.{Gives, IsGivenFor};
+
+    ghost describes = { λ given parts. Gives given parts };
+
+    ghost is_cause = { λ given cause. IsGivenFor given cause };
+
+    ghost takes_memory = { false };
+
+    fn manifest(&self, _alloc: Global) -> Result<Manifest, ManifestError> {
+        manifest_of_numbers(self)
+    }
+}
+
 /// Boots the machine of a manifest's text, in RAM of the heap. 0 is that it was booted. Else nothing has changed:
 /// `OCCUPIED`, where a machine stands already, `NO_MEMORY`, or the cause for which the manifest is refused, from
 /// `MANIFEST_TOML` to `MANIFEST_VERSION`.
 #[unsafe(no_mangle)]
 pub extern "C" fn gorseplumb_boot(alloc: Global, machine: &mut CMachine, text: &[u8]) -> u32
-    ensures occupied { machine.old.live ≡ true → result ≡ OCCUPIED }
-    ensures vacant { result ≡ 0 → machine.old.held.value ≡ None }
-    ensures booted { result ≡ 0 → HasBooted (Describes text.now) false machine.new.held.value }
-    ensures refused { result ≢ 0 → machine.new ≡ machine.old }
-    ensures cause { result ≢ 0 → machine.old.live ≡ false → TellsCause (IsRefusedFor text.now) result }
+    ensures { Boots (Describes text.now) (IsRefusedFor text.now) machine.old machine.new result }
 {
-    if machine.live {
-        return OCCUPIED;
-    }
-    match manifest_of(alloc, text) {
-        Ok(manifest) => boot_heap(alloc, machine, &manifest),
-        Err(cause) => number_of(cause),
-    }
+    boot(alloc, machine, &text)
 }
 
 /// The same for a manifest that is given as numbers.
@@ -51,20 +94,9 @@ pub extern "C" fn gorseplumb_boot_manifest(
     machine: &mut CMachine,
     given: &CManifest,
 ) -> u32
-    ensures occupied { machine.old.live ≡ true → result ≡ OCCUPIED }
-    ensures vacant { result ≡ 0 → machine.old.held.value ≡ None }
-    ensures booted { result ≡ 0 → HasBooted (Gives given.now) false machine.new.held.value }
-    ensures refused { result ≢ 0 → machine.new ≡ machine.old }
-    ensures cause { result ≢ 0 → machine.old.live ≡ false → TellsCause (IsGivenFor given.now) result }
+    ensures { Boots (Gives given.now) (IsGivenFor given.now) machine.old machine.new result }
 {
-    if machine.live {
-        OCCUPIED
-    } else {
-        match manifest_of_numbers(given) {
-            Ok(manifest) => boot_heap(alloc, machine, &manifest),
-            Err(cause) => number_of(cause),
-        }
-    }
+    boot(alloc, machine, given)
 }
 
 /// Boots the machine of a manifest's text in the pages of a list, which it clears, and leaves the list empty. 0 is that
@@ -78,26 +110,9 @@ pub extern "C" fn gorseplumb_boot_lent(
     lent: &mut CLent,
     text: &[u8],
 ) -> u32
-    ensures occupied { machine.old.live ≡ true → result ≡ OCCUPIED }
-    ensures no_list { machine.old.live ≡ false → lent.old.live ≡ false → result ≡ NO_LIST }
-    ensures vacant { result ≡ 0 → machine.old.held.value ≡ None }
-    ensures booted { result ≡ 0 → HasBooted (Describes text.now) true machine.new.held.value }
-    ensures emptied { result ≡ 0 → pages_of lent.new.held.value ≡ Some [] }
-    ensures machine { result ≢ 0 → machine.new ≡ machine.old }
-    ensures list { result ≢ 0 → lent.new.held.value ≡ lent.old.held.value }
-    ensures cause { let pages = pages_of lent.old.held.value in
-        result ≢ 0 → machine.old.live ≡ false → TellsWhy (Describes text.now) (IsRefusedFor text.now) pages result }
+    ensures { BootsLent (Describes text.now) (IsRefusedFor text.now) Cleared machine.old machine.new lent.old lent.new result }
 {
-    if machine.live {
-        OCCUPIED
-    } else if !lent.live {
-        NO_LIST
-    } else {
-        match manifest_of(alloc, text) {
-            Ok(manifest) => boot_lent(alloc, machine, lent, &manifest, FirstBytes::Cleared),
-            Err(cause) => number_of(cause),
-        }
-    }
+    boot_lent(alloc, machine, lent, &text, FirstBytes::Cleared)
 }
 
 /// The same for a manifest that is given as numbers, for which no memory is taken: none at all where the list has no
@@ -109,27 +124,10 @@ pub extern "C" fn gorseplumb_boot_lent_manifest(
     lent: &mut CLent,
     given: &CManifest,
 ) -> u32
-    ensures occupied { machine.old.live ≡ true → result ≡ OCCUPIED }
-    ensures no_list { machine.old.live ≡ false → lent.old.live ≡ false → result ≡ NO_LIST }
-    ensures vacant { result ≡ 0 → machine.old.held.value ≡ None }
-    ensures booted { result ≡ 0 → HasBooted (Gives given.now) true machine.new.held.value }
-    ensures emptied { result ≡ 0 → pages_of lent.new.held.value ≡ Some [] }
-    ensures machine { result ≢ 0 → machine.new ≡ machine.old }
-    ensures list { result ≢ 0 → lent.new.held.value ≡ lent.old.held.value }
-    ensures cause { let pages = pages_of lent.old.held.value in
-        result ≢ 0 → machine.old.live ≡ false → TellsWhy (Gives given.now) (IsGivenFor given.now) pages result }
+    ensures boots { BootsLent (Gives given.now) (IsGivenFor given.now) Cleared machine.old machine.new lent.old lent.new result }
     ensures unready { result ≡ NO_MEMORY → ready_for lent.old.held.value < page_count (pages_of lent.old.held.value) }
 {
-    if machine.live {
-        OCCUPIED
-    } else if !lent.live {
-        NO_LIST
-    } else {
-        match manifest_of_numbers(given) {
-            Ok(manifest) => boot_lent(alloc, machine, lent, &manifest, FirstBytes::Cleared),
-            Err(cause) => number_of(cause),
-        }
-    }
+    boot_lent(alloc, machine, lent, given, FirstBytes::Cleared)
 }
 
 /// The same as `gorseplumb_boot_lent`, but pages of the manifest's regions keep their bytes, so that what was put
@@ -142,27 +140,9 @@ pub extern "C" fn gorseplumb_boot_held(
     lent: &mut CLent,
     text: &[u8],
 ) -> u32
-    ensures occupied { machine.old.live ≡ true → result ≡ OCCUPIED }
-    ensures no_list { machine.old.live ≡ false → lent.old.live ≡ false → result ≡ NO_LIST }
-    ensures vacant { result ≡ 0 → machine.old.held.value ≡ None }
-    ensures booted { let bytes = bytes_of lent.old.held.value in
-        result ≡ 0 → HasBootedHeld (Describes text.now) bytes machine.new.held.value }
-    ensures emptied { result ≡ 0 → pages_of lent.new.held.value ≡ Some [] }
-    ensures machine { result ≢ 0 → machine.new ≡ machine.old }
-    ensures list { result ≢ 0 → lent.new.held.value ≡ lent.old.held.value }
-    ensures cause { let pages = pages_of lent.old.held.value in
-        result ≢ 0 → machine.old.live ≡ false → TellsWhy (Describes text.now) (IsRefusedFor text.now) pages result }
+    ensures { BootsLent (Describes text.now) (IsRefusedFor text.now) Kept machine.old machine.new lent.old lent.new result }
 {
-    if machine.live {
-        OCCUPIED
-    } else if !lent.live {
-        NO_LIST
-    } else {
-        match manifest_of(alloc, text) {
-            Ok(manifest) => boot_lent(alloc, machine, lent, &manifest, FirstBytes::Kept),
-            Err(cause) => number_of(cause),
-        }
-    }
+    boot_lent(alloc, machine, lent, &text, FirstBytes::Kept)
 }
 
 /// The same for a manifest that is given as numbers, for which memory is taken as `gorseplumb_boot_lent_manifest` takes
@@ -174,25 +154,44 @@ pub extern "C" fn gorseplumb_boot_held_manifest(
     lent: &mut CLent,
     given: &CManifest,
 ) -> u32
-    ensures occupied { machine.old.live ≡ true → result ≡ OCCUPIED }
-    ensures no_list { machine.old.live ≡ false → lent.old.live ≡ false → result ≡ NO_LIST }
-    ensures vacant { result ≡ 0 → machine.old.held.value ≡ None }
-    ensures booted { let bytes = bytes_of lent.old.held.value in
-        result ≡ 0 → HasBootedHeld (Gives given.now) bytes machine.new.held.value }
-    ensures emptied { result ≡ 0 → pages_of lent.new.held.value ≡ Some [] }
-    ensures machine { result ≢ 0 → machine.new ≡ machine.old }
-    ensures list { result ≢ 0 → lent.new.held.value ≡ lent.old.held.value }
-    ensures cause { let pages = pages_of lent.old.held.value in
-        result ≢ 0 → machine.old.live ≡ false → TellsWhy (Gives given.now) (IsGivenFor given.now) pages result }
+    ensures boots { BootsLent (Gives given.now) (IsGivenFor given.now) Kept machine.old machine.new lent.old lent.new result }
     ensures unready { result ≡ NO_MEMORY → ready_for lent.old.held.value < page_count (pages_of lent.old.held.value) }
+{
+    boot_lent(alloc, machine, lent, given, FirstBytes::Kept)
+}
+
+// Boots a machine in RAM of the heap.
+fn boot<F: ManifestForm>(alloc: Global, machine: &mut CMachine, form: &F) -> u32
+    ensures { Boots (F.describes form.now) (F.is_cause form.now) machine.old machine.new result }
+{
+    if machine.live {
+        return OCCUPIED;
+    }
+    match form.manifest(alloc) {
+        Ok(manifest) => boot_heap(alloc, machine, &manifest),
+        Err(cause) => number_of(cause),
+    }
+}
+
+// Boots a machine in the pages of a list.
+fn boot_lent<F: ManifestForm>(
+    alloc: Global,
+    machine: &mut CMachine,
+    lent: &mut CLent,
+    form: &F,
+    bytes: FirstBytes,
+) -> u32
+    ensures boots { BootsLent (F.describes form.now) (F.is_cause form.now) bytes machine.old machine.new lent.old lent.new result }
+    ensures unready { F.takes_memory ≡ false → result ≡ NO_MEMORY
+        → ready_for lent.old.held.value < page_count (pages_of lent.old.held.value) }
 {
     if machine.live {
         OCCUPIED
     } else if !lent.live {
         NO_LIST
     } else {
-        match manifest_of_numbers(given) {
-            Ok(manifest) => boot_lent(alloc, machine, lent, &manifest, FirstBytes::Kept),
+        match form.manifest(alloc) {
+            Ok(manifest) => boot_over(alloc, machine, lent.held.list_mut(), &manifest, bytes),
             Err(cause) => number_of(cause),
         }
     }
@@ -259,33 +258,6 @@ pub(crate) fn box_seat(alloc: Global, manifest: &Manifest) -> Result<Box<Seat>, 
     };
     seat.fill(Board::boot(manifest, ram, storage));
     Ok(seat)
-}
-
-// Boots a machine, where there is none, in the pages of a list.
-fn boot_lent(
-    alloc: Global,
-    machine: &mut CMachine,
-    lent: &mut CLent,
-    manifest: &Manifest,
-    bytes: FirstBytes,
-) -> u32
-    requires { machine.old.held.value ≡ None }
-    ensures booted { let is_first = IsFirstBy bytes (bytes_of lent.old.held.value) in
-        result ≡ 0 → HasBegun (λ p. p ≡ parts_of manifest.now) is_first true machine.new.held.value }
-    ensures emptied { result ≡ 0 → pages_of lent.new.held.value ≡ Some [] }
-    ensures machine { result ≢ 0 → machine.new ≡ machine.old }
-    ensures list { result ≢ 0 → lent.new.held.value ≡ lent.old.held.value }
-    ensures why { result ≢ 0 → IfSome lent.old.held.value (λ _. (result ≡ NO_MEMORY) ⊎ (result ≡ WRONG_COUNT)) }
-    ensures wrong_count { let pages = page_count (pages_of lent.old.held.value) in
-        result ≡ WRONG_COUNT → pages ≢ 512 * manifest.now.ram_blocks }
-    ensures unready { result ≡ NO_MEMORY → ready_for lent.old.held.value < page_count (pages_of lent.old.held.value) }
-{
-    let Some(mut list) = take_list(lent, alloc) else {
-        return NO_LIST;
-    };
-    let answer = boot_over(alloc, machine, &mut list, manifest, bytes);
-    put_list(lent, list);
-    answer
 }
 
 // Boots a machine, where there is none, in the pages of this list.

@@ -4,10 +4,9 @@ ghost use Rattle.std.specs.Prelude.{◌≡◌, true, false, is_some, IfSome};
 ghost use Rattle.std.specs.Option.{option_map};
 ghost use Rattle.ffa_c.specs.Changes.{Says, StandIn, no_range, range_told, somebodys, told_by, with_all_told};
 
-use crate::machine::{CMachine, put, take};
+use crate::machine::CMachine;
 use ffa_memshare::{Changed, PageRanges};
 use ffa_model::{MOST_RANGES, Range};
-use std::alloc::Global;
 
 /// Pages in a row.
 #[repr(C)]
@@ -53,23 +52,17 @@ pub struct CChange {
 /// Whose access to which pages the last call on memory that was done has changed, told once: true, and `change` says
 /// it; or false, and it stays, where there is nothing to tell, or nobody's access has changed.
 #[unsafe(no_mangle)]
-pub extern "C" fn gorseplumb_changed(
-    alloc: Global,
-    machine: &mut CMachine,
-    change: &mut CChange,
-) -> bool
+pub extern "C" fn gorseplumb_changed(machine: &mut CMachine, change: &mut CChange) -> bool
     ensures rest { machine.new.held.value ≡ option_map with_all_told machine.old.held.value }
     ensures there { result ≡ is_some (somebodys (told_by machine.old.held.value)) }
     ensures told { IfSome (somebodys (told_by machine.old.held.value)) (λ its. Says change.new its.0 its.1) }
     ensures kept { result ≡ false → change.new ≡ change.old }
 {
-    match take(machine, alloc) {
-        None => false,
-        Some(mut seat) => {
-            let changed = seat.take_change();
-            put(machine, seat);
-            tell(&changed, change)
-        }
+    if machine.live {
+        let changed = machine.held.seat_mut().take_change();
+        tell(&changed, change)
+    } else {
+        false
     }
 }
 

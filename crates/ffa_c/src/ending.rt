@@ -4,7 +4,7 @@ ghost use Rattle.std.specs.Prelude.{◌≡◌, ◌≢◌, None};
 ghost use Rattle.ffa_c.specs.Ending.{ended_answer};
 
 use crate::codes::{LENT, NO_MACHINE, OK};
-use crate::machine::{CMachine, put, take};
+use crate::machine::{CMachine, take};
 use std::alloc::Global;
 
 /// Ends a machine in RAM of the heap, to which that and the machine's memory go back. 0 is that the machine has ended.
@@ -15,14 +15,12 @@ pub extern "C" fn gorseplumb_end(alloc: Global, machine: &mut CMachine) -> u32
     ensures ended { result ≡ 0 → machine.new.held.value ≡ None }
     ensures refused { result ≢ 0 → machine.new.held.value ≡ machine.old.held.value }
 {
-    let Some(seat) = take(machine, alloc) else {
+    if !machine.live {
         return NO_MACHINE;
-    };
-    if seat.board().is_lent() {
-        put(machine, seat);
-        LENT
-    } else {
-        drop(seat);
-        OK
     }
+    if machine.held.board().is_lent() {
+        return LENT;
+    }
+    drop(take(machine, alloc));
+    OK
 }

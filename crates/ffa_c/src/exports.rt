@@ -4,10 +4,9 @@ ghost use Rattle.std.specs.Prelude.{◌≡◌, Some, None};
 ghost use Rattle.ffa_c.specs.Border.{Operated, OperatedSized, size_at};
 
 use crate::codes::{KIND_BAD_SIZE, KIND_NO_MACHINE};
-use crate::machine::{CMachine, put, take};
+use crate::machine::CMachine;
 use crate::outcome::COutcome;
 use ffa_model::{Op, Size};
-use std::alloc::Global;
 
 /// Eight registers.
 #[repr(C)]
@@ -18,28 +17,19 @@ pub struct CRegisters {
 
 /// A call of the runner, with eight registers.
 #[unsafe(no_mangle)]
-pub extern "C" fn gorseplumb_call(
-    alloc: Global,
-    machine: &mut CMachine,
-    registers: &CRegisters,
-) -> COutcome
+pub extern "C" fn gorseplumb_call(machine: &mut CMachine, registers: &CRegisters) -> COutcome
     ensures { Operated machine.old.held.value machine.new.held.value (Op.Call registers.now.x) result }
 {
-    operate(alloc, machine, &Op::Call(registers.x))
+    operate(machine, &Op::Call(registers.x))
 }
 
 /// A load of 1, 2, 4 or 8 bytes.
 #[unsafe(no_mangle)]
-pub extern "C" fn gorseplumb_load(
-    alloc: Global,
-    machine: &mut CMachine,
-    addr: u64,
-    size: u32,
-) -> COutcome
+pub extern "C" fn gorseplumb_load(machine: &mut CMachine, addr: u64, size: u32) -> COutcome
     ensures { OperatedSized machine.old.held.value machine.new.held.value size (λ s. Op.Load addr s) result }
 {
     match size_of(size) {
-        Some(size) => operate(alloc, machine, &Op::Load { addr, size }),
+        Some(size) => operate(machine, &Op::Load { addr, size }),
         None => COutcome::nothing(KIND_BAD_SIZE),
     }
 }
@@ -47,7 +37,6 @@ pub extern "C" fn gorseplumb_load(
 /// A store of the value's lowest 1, 2, 4 or 8 bytes.
 #[unsafe(no_mangle)]
 pub extern "C" fn gorseplumb_store(
-    alloc: Global,
     machine: &mut CMachine,
     addr: u64,
     size: u32,
@@ -56,30 +45,27 @@ pub extern "C" fn gorseplumb_store(
     ensures { OperatedSized machine.old.held.value machine.new.held.value size (λ s. Op.Store addr s value) result }
 {
     match size_of(size) {
-        Some(size) => operate(alloc, machine, &Op::Store { addr, size, value }),
+        Some(size) => operate(machine, &Op::Store { addr, size, value }),
         None => COutcome::nothing(KIND_BAD_SIZE),
     }
 }
 
 /// A fetch of one instruction.
 #[unsafe(no_mangle)]
-pub extern "C" fn gorseplumb_fetch(alloc: Global, machine: &mut CMachine, addr: u64) -> COutcome
+pub extern "C" fn gorseplumb_fetch(machine: &mut CMachine, addr: u64) -> COutcome
     ensures { Operated machine.old.held.value machine.new.held.value (Op.Fetch addr) result }
 {
-    operate(alloc, machine, &Op::Fetch { addr })
+    operate(machine, &Op::Fetch { addr })
 }
 
 #[inline]
-pub(crate) fn operate(alloc: Global, machine: &mut CMachine, op: &Op) -> COutcome
+pub(crate) fn operate(machine: &mut CMachine, op: &Op) -> COutcome
     ensures { Operated machine.old.held.value machine.new.held.value op.now result }
 {
-    match take(machine, alloc) {
-        None => COutcome::nothing(KIND_NO_MACHINE),
-        Some(mut seat) => {
-            let outcome = seat.op(op);
-            put(machine, seat);
-            outcome
-        }
+    if machine.live {
+        machine.held.seat_mut().op(op)
+    } else {
+        COutcome::nothing(KIND_NO_MACHINE)
     }
 }
 

@@ -62,8 +62,8 @@ impl Held {
         unsafe { Box::from_raw(alloc, at as *mut Seat) }
     }
 
-    // The seat, where it is.
-    fn seat_mut(&mut self) -> &mut Seat
+    /// The seat of the board that is held, where it is.
+    pub fn seat_mut(&mut self) -> &mut Seat
         requires { IsSome self.old.value }
         ensures* writes_back { sem 𝓛 (seat_follows self.entry result) }
         ensures value { result.now ≡ self.old.value }

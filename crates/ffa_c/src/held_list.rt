@@ -59,8 +59,8 @@ impl HeldList {
         unsafe { Box::from_raw(alloc, at as *mut LentList) }
     }
 
-    // The list, where it is.
-    fn list_mut(&mut self) -> &mut LentList
+    /// The list, where it is.
+    pub fn list_mut(&mut self) -> &mut LentList
         requires { IsSome self.old.value }
         ensures* writes_back { sem 𝓛 (list_follows self.entry result) }
         ensures value { self.old.value ≡ Some result.now }

@@ -9,8 +9,7 @@ ghost use Rattle.ffa_c.specs.Lending.{IsFull, IsLent, begun_answer, freed_answer
 use crate::codes::{HAS_PAGES, NO_LIST, NO_MACHINE, NO_MEMORY, NO_PAGE, OCCUPIED, OK};
 use crate::held_list::HeldList;
 use crate::lent_list::LentList;
-use crate::machine::{CMachine, put, take};
-use crate::seat::Seat;
+use crate::machine::{CMachine, take};
 use ffa_lent::{Lent, Slot};
 use std::alloc::Global;
 use std::mem;
@@ -36,8 +35,7 @@ pub struct CSlot {
 }
 
 // Takes the list out.
-#[inline]
-pub(crate) fn take_list(lent: &mut CLent, alloc: Global) -> Option<Box<LentList>>
+fn take_list(lent: &mut CLent, alloc: Global) -> Option<Box<LentList>>
     ensures taken { lent.old.held.value ≡ option_map (λ b. b.value) result }
     ensures none_left { lent.new.held.value ≡ None }
 {
@@ -51,8 +49,7 @@ pub(crate) fn take_list(lent: &mut CLent, alloc: Global) -> Option<Box<LentList>
 }
 
 // Puts a list where there is none.
-#[inline]
-pub(crate) fn put_list(lent: &mut CLent, list: Box<LentList>)
+fn put_list(lent: &mut CLent, list: Box<LentList>)
     requires { lent.old.held.value ≡ None }
     ensures { lent.new.held.value ≡ Some list.value }
 {
@@ -126,7 +123,7 @@ fn boxed_list(alloc: Global, list: LentList) -> Option<Box<LentList>>
 /// Moves a page from its slot to the end of the list. 0 is that it was moved. Else no page was: `NO_LIST`, `NO_PAGE`,
 /// where there is none in the slot, or `NO_MEMORY`, where the list has no room for it.
 #[unsafe(no_mangle)]
-pub extern "C" fn gorseplumb_lend(alloc: Global, lent: &mut CLent, slot: &mut CSlot) -> u32
+pub extern "C" fn gorseplumb_lend(lent: &mut CLent, slot: &mut CSlot) -> u32
     ensures answer { result ≢ NO_MEMORY → result ≡ lent_answer (pages_of lent.old.held.value) slot.old.page.bytes }
     ensures wanting { result ≡ NO_MEMORY → lent_answer (pages_of lent.old.held.value) slot.old.page.bytes ≡ 0 }
     ensures full { result ≡ NO_MEMORY → IsFull lent.old.held.value }
@@ -137,12 +134,11 @@ pub extern "C" fn gorseplumb_lend(alloc: Global, lent: &mut CLent, slot: &mut CS
     ensures room { room_of lent.old.held.value ≤ room_of lent.new.held.value }
     ensures ready { ready_for lent.new.held.value ≡ ready_for lent.old.held.value }
 {
-    let Some(mut list) = take_list(lent, alloc) else {
-        return NO_LIST;
-    };
-    let answer = lend_to(&mut list, slot);
-    put_list(lent, list);
-    answer
+    if lent.live {
+        lend_to(lent.held.list_mut(), slot)
+    } else {
+        NO_LIST
+    }
 }
 
 // Moves a page to the end of a list.
@@ -173,7 +169,7 @@ fn lend_to(list: &mut LentList, slot: &mut CSlot) -> u32
 /// `NO_LIST`, `OCCUPIED`, where there is a page in the slot, or `NO_PAGE`, where the list has none. The list's room
 /// stays.
 #[unsafe(no_mangle)]
-pub extern "C" fn gorseplumb_take_back(alloc: Global, lent: &mut CLent, slot: &mut CSlot) -> u32
+pub extern "C" fn gorseplumb_take_back(lent: &mut CLent, slot: &mut CSlot) -> u32
     ensures answer { result ≡ taken_answer (pages_of lent.old.held.value) slot.old.page.bytes }
     ensures taken { let old = pages_of lent.old.held.value in let new = pages_of lent.new.held.value in
         result ≡ 0 → IsLent new old slot.new.page.bytes slot.old.page.bytes }
@@ -182,12 +178,11 @@ pub extern "C" fn gorseplumb_take_back(alloc: Global, lent: &mut CLent, slot: &m
     ensures room { room_of lent.new.held.value ≡ room_of lent.old.held.value }
     ensures ready { ready_for lent.new.held.value ≡ ready_for lent.old.held.value }
 {
-    let Some(mut list) = take_list(lent, alloc) else {
-        return NO_LIST;
-    };
-    let answer = take_from(&mut list, slot);
-    put_list(lent, list);
-    answer
+    if lent.live {
+        take_from(lent.held.list_mut(), slot)
+    } else {
+        NO_LIST
+    }
 }
 
 // Moves the last page of a list to a slot.
@@ -232,13 +227,23 @@ pub extern "C" fn gorseplumb_end_lending(alloc: Global, lent: &mut CLent) -> u32
     ensures ended { result ≡ 0 → lent.new.held.value ≡ None }
     ensures refused { result ≢ 0 → lent.new.held.value ≡ lent.old.held.value }
 {
-    let Some(list) = take_list(lent, alloc) else {
-        return NO_LIST;
-    };
-    if list.pages() == 0 {
+    let answer = answer_for(lent);
+    if answer == OK {
+        drop(take_list(lent, alloc));
+    }
+    answer
+}
+
+// Whether there is a list without pages.
+fn answer_for(lent: &mut CLent) -> u32
+    ensures same { lent.new.held.value ≡ lent.old.held.value }
+    ensures answer { result ≡ list_answer (pages_of lent.old.held.value) }
+{
+    if !lent.live {
+        NO_LIST
+    } else if lent.held.list().pages() == 0 {
         OK
     } else {
-        put_list(lent, list);
         HAS_PAGES
     }
 }
@@ -259,38 +264,31 @@ pub extern "C" fn gorseplumb_free(alloc: Global, machine: &mut CMachine, lent: &
     ensures ready { result ≡ 0 → lends machine.old.held.value ≡ Some true
         → ready_for lent.new.held.value ≡ page_count (pages_of lent.new.held.value) }
 {
-    let Some(seat) = take(machine, alloc) else {
+    if !machine.live {
         return NO_MACHINE;
-    };
-    if seat.board().is_lent() {
-        free_lent(alloc, machine, lent, seat)
-    } else {
-        drop(seat);
-        OK
     }
+    if machine.held.board().is_lent() {
+        return free_lent(alloc, machine, lent);
+    }
+    drop(take(machine, alloc));
+    OK
 }
 
-// Ends a machine over lent RAM, which was taken out, or puts it back.
-fn free_lent(alloc: Global, machine: &mut CMachine, lent: &mut CLent, seat: Box<Seat>) -> u32
-    requires taken { machine.old.held.value ≡ None }
-    requires lent { lends seat.value ≡ Some true }
+// Ends a machine over lent RAM.
+fn free_lent(alloc: Global, machine: &mut CMachine, lent: &mut CLent) -> u32
+    requires { lends machine.old.held.value ≡ Some true }
     ensures answer { result ≡ list_answer (pages_of lent.old.held.value) }
     ensures ended { result ≡ 0 → machine.new.held.value ≡ None }
-    ensures given_back { result ≡ 0 → pages_of lent.new.held.value ≡ ram_pages seat.value }
-    ensures machine { result ≢ 0 → machine.new.held.value ≡ seat.value }
+    ensures given_back { result ≡ 0 → pages_of lent.new.held.value ≡ ram_pages machine.old.held.value }
+    ensures machine { result ≢ 0 → machine.new.held.value ≡ machine.old.held.value }
     ensures list { result ≢ 0 → lent.new.held.value ≡ lent.old.held.value }
     ensures ready { result ≡ 0 → ready_for lent.new.held.value ≡ page_count (pages_of lent.new.held.value) }
 {
-    let Some(mut list) = take_list(lent, alloc) else {
-        put(machine, seat);
-        return NO_LIST;
-    };
-    if list.pages() != 0 {
-        put(machine, seat);
-        put_list(lent, list);
-        return HAS_PAGES;
+    let answer = answer_for(lent);
+    if answer == OK
+        && let Some(seat) = take(machine, alloc)
+    {
+        lent.held.list_mut().take_in(seat);
     }
-    list.take_in(seat);
-    put_list(lent, list);
-    OK
+    answer
 }

@@ -19,7 +19,6 @@ pub struct CMachine {
 }
 
 /// Takes the machine out, in its seat.
-#[inline]
 pub fn take(machine: &mut CMachine, alloc: Global) -> Option<Box<Seat>>
     ensures taken { machine.old.held.value ≡ option_and_then (λ b. b.value) result }
     ensures there { IfSome result (λ b. IsSome b.value) }
@@ -35,7 +34,6 @@ pub fn take(machine: &mut CMachine, alloc: Global) -> Option<Box<Seat>>
 }
 
 /// Puts a machine, in its seat, where there is none.
-#[inline]
 pub fn put(machine: &mut CMachine, seat: Box<Seat>)
     requires none { machine.old.held.value ≡ None }
     requires there { IsSome seat.value }

@@ -10,7 +10,6 @@ use crate::exports::{operate, size_of};
 use crate::machine::CMachine;
 use crate::outcome::COutcome;
 use ffa_model::Op;
-use std::alloc::Global;
 
 /// An operation of the endpoint that runs. What its kind doesn't name is not read.
 #[repr(C)]
@@ -33,7 +32,6 @@ pub struct COperation {
 /// is done, and the rest goes on.
 #[unsafe(no_mangle)]
 pub extern "C" fn gorseplumb_run(
-    alloc: Global,
     machine: &mut CMachine,
     operations: &[COperation],
     outcomes: &mut [COutcome],
@@ -45,16 +43,16 @@ pub extern "C" fn gorseplumb_run(
 {
     let count = operations.len().min(outcomes.len());
     for place in 0..count {
-        outcomes[place] = do_given(alloc, machine, &operations[place]);
+        outcomes[place] = do_given(machine, &operations[place]);
     }
     count
 }
 
-fn do_given(alloc: Global, machine: &mut CMachine, operation: &COperation) -> COutcome
+fn do_given(machine: &mut CMachine, operation: &COperation) -> COutcome
     ensures { OperatedGiven (op_given operation.now) machine.old.held.value machine.new.held.value result }
 {
     match op_of(operation) {
-        Some(op) => operate(alloc, machine, &op),
+        Some(op) => operate(machine, &op),
         None => COutcome::nothing(KIND_BAD_SIZE),
     }
 }

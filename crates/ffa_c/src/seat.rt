@@ -1,6 +1,6 @@
 // SPDX-License-Identifier: MIT OR Apache-2.0
 //! A board's place in memory.
-ghost use Rattle.std.specs.Prelude.{◌≡◌, true, Option, Some, None, IsSome, IfOk, is_some, length};
+ghost use Rattle.std.specs.Prelude.{◌≡◌, true, Option, Some, None, IsSome, IfOk, length};
 ghost use Rattle.std.specs.Option.{option_map};
 ghost use Rattle.std.specs.Coded.{coded_option};
 ghost use Rattle.ffa_c.specs.Boarded.{Boarded, coded_boarded, lends, ram_pages};
@@ -9,7 +9,6 @@ ghost use Rattle.ffa_c.specs.Changes.{told_by, with_all_told};
 ghost use Rattle.ffa_c.specs.Elsewhere.{OperatedAs};
 
 use crate::board::Board;
-use crate::codes::KIND_NO_MACHINE;
 use crate::outcome::COutcome;
 use ffa_lent::Frames;
 use ffa_memshare::Changed;
@@ -73,34 +72,38 @@ impl Seat {
 
     /// Does one operation of the runner.
     pub fn op(&mut self, op: &Op) -> COutcome
+        requires { IsSome self.old }
         ensures done { Operated self.old self.new op.now result }
-        ensures there { is_some self.new ≡ is_some self.old }
+        ensures there { IsSome self.new }
     {
         let Some(board) = &mut self.board else {
-            return COutcome::nothing(KIND_NO_MACHINE);
+            unreachable!()
         };
         board.op(op)
     }
 
     /// Does one operation of an endpoint, whoever runs.
     pub fn op_as(&mut self, endpoint: EndpointId, op: &Op) -> COutcome
+        requires { IsSome self.old }
         ensures done { OperatedAs self.old self.new endpoint.0 op.now result }
-        ensures there { is_some self.new ≡ is_some self.old }
+        ensures there { IsSome self.new }
     {
         let Some(board) = &mut self.board else {
-            return COutcome::nothing(KIND_NO_MACHINE);
+            unreachable!()
         };
         board.op_as(endpoint, op)
     }
 
     /// Whose access to which pages the last call on memory that was done has changed: told once.
     pub fn take_change(&mut self) -> Option<Changed>
+        requires { IsSome self.old }
         ensures told { result ≡ told_by self.old }
         ensures rest { self.new ≡ option_map with_all_told self.old }
+        ensures there { IsSome self.new }
     {
-        match &mut self.board {
-            Some(board) => board.take_change(),
-            None => None,
-        }
+        let Some(board) = &mut self.board else {
+            unreachable!()
+        };
+        board.take_change()
     }
 }

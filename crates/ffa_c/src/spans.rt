@@ -5,16 +5,15 @@ ghost use Rattle.ffa_c.specs.Lending.{pages_of, ready_for, room_of};
 ghost use Rattle.ffa_c.specs.Spans.{AreLent, LacksRoom, span_answer};
 
 use crate::codes::{NO_LIST, NO_MEMORY, NO_PAGE, OK};
-use crate::lending::{CLent, put_list, take_list};
+use crate::lending::CLent;
 use crate::lent_list::LentList;
 use ffa_lent::Span;
-use std::alloc::Global;
 use std::mem;
 
 /// Moves the pages of a span to the end of the list, in order. 0 is that all were moved. Else nothing has changed:
 /// `NO_LIST`, `NO_PAGE`, where the span has none, or `NO_MEMORY`, where the list has no room for all of them.
 #[unsafe(no_mangle)]
-pub extern "C" fn gorseplumb_lend_span(alloc: Global, lent: &mut CLent, span: &mut Span) -> u32
+pub extern "C" fn gorseplumb_lend_span(lent: &mut CLent, span: &mut Span) -> u32
     ensures answer { result ≢ NO_MEMORY → result ≡ span_answer (pages_of lent.old.held.value) span.old.strip.pages }
     ensures wanting { result ≡ NO_MEMORY → span_answer (pages_of lent.old.held.value) span.old.strip.pages ≡ 0 }
     ensures full { result ≡ NO_MEMORY → LacksRoom (length span.old.strip.pages) lent.old.held.value }
@@ -25,12 +24,11 @@ pub extern "C" fn gorseplumb_lend_span(alloc: Global, lent: &mut CLent, span: &m
     ensures room { room_of lent.old.held.value ≤ room_of lent.new.held.value }
     ensures ready { ready_for lent.new.held.value ≡ ready_for lent.old.held.value }
 {
-    let Some(mut list) = take_list(lent, alloc) else {
-        return NO_LIST;
-    };
-    let answer = lend_all(&mut list, span);
-    put_list(lent, list);
-    answer
+    if lent.live {
+        lend_all(lent.held.list_mut(), span)
+    } else {
+        NO_LIST
+    }
 }
 
 // Moves the pages of a span to the end of a list.
