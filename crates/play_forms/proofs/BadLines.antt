@@ -1,16 +1,16 @@
 -- SPDX-License-Identifier: MIT OR Apache-2.0
 -- What a session tells of bad lines.
-use Rattle.std.proofs.Common.{◌≡◌, ◌≢◌, ◌⊎◌, ◌≤◌, ℕ, ◌+◌, Bool, true, false, List, [], ◌∷◌, ◌++◌, length, Option, None, Some, Result, Ok, Err, inl, inr, sym, ap, ◌∙◌, subst, arith, append_assoc, append-nil, refl}
+use Rattle.std.proofs.Common.{◌≡◌, ℕ, ◌+◌, Bool, true, false, List, [], ◌∷◌, ◌++◌, length, Option, None, Some, Result, Ok, Err, inl, inr, sym, ap, ◌∙◌, subst, arith, append_assoc, append-nil, refl}
 use Rattle.std.specs.Prelude.{is_some}
 use Rattle.std.specs.Io.KnownBytes.{Appends, Consumes, IsAtEnd, Keeps}
 use Rattle.std.specs.List.{list_all}
 use Rattle.std.proofs.KnownBytes.{Appends-kept, Appends-nil, Appends-trans, Keeps-refl}
-use Rattle.play_syntax.specs.Output.{TookFront, Writes}
-use Rattle.play_syntax.specs.TraceLines.{Line, feed, has_no_feed, is_good, joined, line_of}
+use Rattle.play_syntax.specs.Output.{Writes}
+use Rattle.play_syntax.specs.TraceLines.{Line, feed, has_no_feed, joined, line_of}
 use Rattle.play_syntax.specs.declared.output.PlayError.{PlayError}
 use Rattle.play_syntax.specs.declared.output.PlayError.TheVariants.{Read, Write, NoMemory, BadLine}
 use Rattle.play_forms.specs.Reading.{IsAll, ReadsLine}
-use Rattle.play_forms.specs.Sessions.{TellsBadLines, TellsOf, ToldOf, ToldOfAll, ToldOfLine, ToldOfRest}
+use Rattle.play_forms.specs.Sessions.{TellsBadLines, TellsOf, ToldOfAll, ToldOfLine, ToldOfRest}
 use Rattle.play_forms.specs.SessionSteps.{AnswersTelling, HearsTelling, TellsBadLine, TellsOrLoses}
 
 -- ONE LINE
@@ -24,22 +24,10 @@ written_told number bytes text held holds (Err Read) tells never = absurd never
 written_told number bytes text held holds (Err NoMemory) tells never = absurd never
 written_told number bytes text held holds (Err (BadLine n)) tells never = absurd never
 
--- what couldn't be told is lost
-pub front_told : (number : ℕ) (bytes : List ℕ) (held holds : Option (List ℕ)) → TellsBadLine {X = Unit {0}} number bytes held holds (Err Write)
-    → TellsOrLoses {X = Unit {0}} number bytes held holds (Ok tt)
-front_told number bytes held holds (text, tells, began) = (began.front, (began.rest, subst (TellsOf number bytes) began.whole tells), began.written)
-
+-- what is told whole isn't lost
 pub whole_told : (number : ℕ) (bytes : List ℕ) (held holds : Option (List ℕ)) → TellsBadLine {X = Unit {0}} number bytes held holds (Ok tt)
     → TellsOrLoses {X = Unit {0}} number bytes held holds (Ok tt)
 whole_told number bytes held holds (text, tells, written) = (text, ([], subst (TellsOf number bytes) (sym (append-nil text)) tells), written)
-
-pub told_or_lost : (number : ℕ) (bytes : List ℕ) (held holds : Option (List ℕ)) (r : Result (Unit {0}) PlayError) → r ≢ Err Write → TellsBadLine number bytes held holds r
-    → TellsOrLoses number bytes held holds r
-told_or_lost number bytes held holds (Ok x) other r = whole_told number bytes held holds r
-told_or_lost number bytes held holds (Err Write) other r = absurd (other refl)
-told_or_lost number bytes held holds (Err Read) other r = r
-told_or_lost number bytes held holds (Err NoMemory) other r = r
-told_or_lost number bytes held holds (Err (BadLine n)) other r = r
 
 -- a good line was done, and nothing told
 pub good_told : (bytes : List ℕ) (number : ℕ) (held : Option (List ℕ)) (line : Line) → Some line ≡ line_of bytes → (r : Result (Unit {0}) PlayError)

@@ -15,7 +15,7 @@ use Rattle.play_syntax.specs.declared.output.PlayError.{PlayError}
 use Rattle.play_syntax.specs.declared.output.PlayError.TheVariants.{Read, Write, NoMemory, BadLine}
 use Rattle.play_player.proofs.Runs.{joined-append}
 use Rattle.play_reasons.specs.Reasons.{reason_if, told_line}
-use Rattle.play_forms.specs.Compared.{Compared, DiffersAt, FailsToMatch, IsNext, StopsInLast, unexplained}
+use Rattle.play_forms.specs.Compared.{Compared, DiffersAt, IsNext, unexplained}
 use Rattle.play_forms.specs.Comparing.{ComparesEnd, ComparesLine}
 use Rattle.play_forms.specs.Followed.{EndsBadly, Followed}
 use Rattle.play_forms.specs.Forms.{line_text_in, text_of_in}

@@ -1,6 +1,6 @@
 -- SPDX-License-Identifier: MIT OR Apache-2.0
 -- What stands in a reason behind what the check is about has no LF.
-use Rattle.std.proofs.Common.{◌≡◌, ℕ, ◌+◌, ◌%◌, ◌^◌, Bool, true, false, List, ◌++◌, Option, None, Some, inl, inr, refl}
+use Rattle.std.proofs.Common.{ℕ, ◌+◌, ◌%◌, ◌^◌, Bool, true, false, List, ◌++◌, Option, None, Some, inl, inr, refl}
 use Rattle.std.specs.Prelude.{◌==◌, codes, nat_lt}
 use Rattle.std.proofs.lemmas.Bool.{cases_Bool}
 use Rattle.ffa_model.specs.declared.endpoint.Version.{Version}
@@ -23,7 +23,7 @@ use Rattle.ffa_model.specs.DescriptorPlaces.{told_access_size}
 use Rattle.play_syntax.specs.TraceText.{hex, rights_text}
 use Rattle.play_reasons.specs.declared.allowed.Allowed.{Allowed}
 use Rattle.play_reasons.specs.declared.allowed.Allowed.TheVariants.{One, Span, Either, Place}
-use Rattle.play_reasons.specs.Mends.{access_text, address_digits, address_text, allowed_by, allowed_register, allowed_text, asked_text, beyond_text, buffer_text, bytes_text, cause_text, ends_text, form_text, kind_text, kinds_text, mend_text, mended_text, message_text, misplaced_text, one_text, outside_text, room_text, short_digits, short_text, side_text, span_text, tag_text, version_text, wanted_text, word_text}
+use Rattle.play_reasons.specs.Mends.{access_text, address_digits, address_text, allowed_by, allowed_register, allowed_text, asked_text, beyond_text, buffer_text, bytes_text, cause_text, ends_text, form_text, kind_text, kinds_text, mend_text, mended_text, message_text, misplaced_text, one_text, outside_text, room_text, short_digits, short_text, span_text, tag_text, version_text, wanted_text, word_text}
 use Rattle.play_forms.proofs.Singles.{IsSingle, single_append, single_hex}
 
 pub single_address : (address : ℕ) → IsSingle (address_text address)

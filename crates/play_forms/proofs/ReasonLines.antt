@@ -1,10 +1,9 @@
 -- SPDX-License-Identifier: MIT OR Apache-2.0
 -- A line that says why an operation is refused has no LF, and nothing is left of it.
-use Rattle.std.proofs.Common.{◌≡◌, ℕ, ◌+◌, ◌-◌, Bool, true, false, List, [], ◌++◌, Option, None, Some, inl, inr, ◌∙◌, refl}
+use Rattle.std.proofs.Common.{◌≡◌, ℕ, Bool, true, false, List, [], ◌++◌, Option, None, Some, inl, inr, refl}
 use Rattle.std.specs.Prelude.{codes, decimal, nat_le, slice_index}
 use Rattle.std.specs.Option.{option_map_or}
-use Rattle.std.proofs.lemmas.Bool.{cases_Bool, and_from}
-use Rattle.std.proofs.lemmas.List.Folds.{list_all-append}
+use Rattle.std.proofs.lemmas.Bool.{cases_Bool}
 use Rattle.ffa_model.specs.declared.operation.FaultKind.{FaultKind}
 use Rattle.ffa_model.specs.declared.operation.FaultKind.TheVariants.{Translation, Permission, Alignment, AccessFlag, OutsideRam}
 use Rattle.ffa_model.specs.declared.operation.Op.{Op}
@@ -38,8 +37,8 @@ use Rattle.ffa_mend.specs.declared.Mend.{Mend}
 use Rattle.ffa_mend.specs.Mend.{address_of, call_of, mend}
 use Rattle.play_reasons.specs.declared.allowed.Allowed.{Allowed}
 use Rattle.play_reasons.specs.Mends.{address_text, allowed_field, allowed_text, kind_of, mended_text, short_text, wanted_text}
-use Rattle.play_forms.proofs.Cuts.{cuts_none, cuts_reason, decimal_digits, digits_single, inner_single}
-use Rattle.play_forms.proofs.PrintedWords.{inner_hex, single_call}
+use Rattle.play_forms.proofs.Cuts.{cuts_none, cuts_reason, decimal_digits, digits_single}
+use Rattle.play_forms.proofs.PrintedWords.{single_call}
 
 -- CALLS
 

@@ -62,14 +62,11 @@ lines_in-end text is =
     let all : take_while (λ c. not (c == feed)) text ≡ text = ap (λ n. take n text) (position_none (λ c. c == feed) text is) ∙ take-length text in
     lines_in-none text (ap has_no_feed (sym all) ∙ all_taken (λ c. not (c == feed)) text)
 
--- one guard more was put behind a text
-pub put_more : (text said : List ℕ) (end : ℕ) → position (λ c. c == feed) said ≡ Some end
-    → (text ++ joined (guard_for (take end said) ∷ [])) ++ joined (map guard_for (lines_in (drop (end + 1) said))) ≡ text ++ joined (map guard_for (lines_in said))
-put_more text said end is =
-    let guard = guard_for (take end said) in
-    let more = map guard_for (lines_in (drop (end + 1) said)) in
-    append_assoc text (joined (guard ∷ [])) (joined more)
-    ∙ ap (λ t. text ++ t) (sym (joined-append (guard ∷ []) more) ∙ ap (λ ls. joined (map guard_for ls)) (sym (lines_in-some said end is)))
+-- the guards of a text are that of its first line, and those of the rest
+pub first_guard : (said : List ℕ) (end : ℕ) → position (λ c. c == feed) said ≡ Some end
+    → joined (guard_for (take end said) ∷ []) ++ joined (map guard_for (lines_in (drop (end + 1) said))) ≡ joined (map guard_for (lines_in said))
+first_guard said end is =
+    sym (joined-append (guard_for (take end said) ∷ []) (map guard_for (lines_in (drop (end + 1) said)))) ∙ ap (λ ls. joined (map guard_for ls)) (sym (lines_in-some said end is))
 
 -- GUARDS
 

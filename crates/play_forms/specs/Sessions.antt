@@ -84,15 +84,14 @@ joint_of CarriageReturn = codes ": "
 joint_of (Words column cause) = codes ", "
 joint_of Whole = codes ": "
 
--- that there is this wrong with the line of this number
-abbrev pub fault_text : ℕ → LineFault → List ℕ
-fault_text number fault =
-    codes "ffaplay: line " ++ decimal number ++ joint_of fault ++ fault_words fault ++ codes "\n"
+-- what is wrong with a line, where something is
+abbrev pub cause_text : Option LineFault → List ℕ
+cause_text None = codes ": bad line\n"
+cause_text (Some fault) = joint_of fault ++ fault_words fault ++ codes "\n"
 
--- the same where something is, or nothing
+-- that this is wrong with the line of this number
 abbrev pub bad_line_text : ℕ → Option LineFault → List ℕ
-bad_line_text number None = codes "ffaplay: line " ++ decimal number ++ codes ": bad line\n"
-bad_line_text number (Some fault) = fault_text number fault
+bad_line_text number fault = codes "ffaplay: line " ++ decimal number ++ cause_text fault
 
 -- this is told of the line of this number, whose bytes are these, with its LF where it has one: there is nothing wrong
 -- just with a whole line

@@ -6,7 +6,7 @@ use Rattle.std.specs.Io.KnownBytes.{Appends}
 use Rattle.ffa_model.specs.State.{State}
 use Rattle.ffa_model.specs.declared.operation.Outcome.{Outcome}
 use Rattle.play_syntax.specs.TraceLines.{Line, feed}
-use Rattle.play_syntax.specs.TraceText.{ended, line_after}
+use Rattle.play_syntax.specs.TraceText.{line_after}
 use Rattle.play_syntax.specs.Lines.{outcome_of}
 use Rattle.play_syntax.specs.Output.{TookFront}
 use Rattle.play_syntax.specs.declared.output.PlayError.{PlayError}
@@ -20,10 +20,6 @@ use Rattle.play_forms.specs.Forms.{line_text_in}
 -- and of the bytes of a line before and now (`old`, `new`).
 
 -- OF A LINE'S TEXT
-
--- what an operation says is one line, which LF ends
-abbrev pub IsEnded : List ℕ → Type 0
-IsEnded said = (words : List ℕ) × (said ≡ ended words)
 
 -- whichever state a line was done in, where this came of its operation: the reason is that of the operation in that
 -- state

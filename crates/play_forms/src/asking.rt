@@ -15,7 +15,7 @@ use std::alloc::Allocator;
 
 /// Asks the guard that a line is, if it is one, and answers what it asks about if it isn't met. What it wants of a
 /// printed text, which came to this, is taken off what is unasked.
-pub(crate) fn unmet<P: Playable, A: Allocator>(
+pub(crate) fn unmet<P: Playable, A: Allocator + Copy>(
     player: &Player<P>,
     line: &[u8],
     came: Came,
@@ -34,7 +34,7 @@ pub(crate) fn unmet<P: Playable, A: Allocator>(
     Ok(if is_met { None } else { Some(asks) })
 }
 
-fn ask_printed<A: Allocator>(
+fn ask_printed<A: Allocator + Copy>(
     wants: &[u8],
     came: Came,
     unasked: &mut Vec<u8, A>,

@@ -12,7 +12,7 @@ use crate::read::Lines;
 use crate::reason::reason_of;
 use ffa_playable::Playable;
 use play_player::Player;
-use play_reasons::Reason;
+use play_reasons::{Draft, Reason};
 use play_syntax::{Line, PlayError};
 use std::alloc::Allocator;
 use std::io::{BufRead, ErrorKind};
@@ -150,8 +150,10 @@ impl Rows {
             explain: false,
             ..form
         };
-        let (said, text) = (&mut sides.said, &mut sides.text);
-        let outcome = make_text(player, alloc, unexplained, number, line, said, text)?;
+        let mut text = Draft::over(&mut sides.text);
+        let said = &mut sides.said;
+        let outcome = make_text(player, alloc, unexplained, number, line, said, &mut text)?;
+        sides.text = text.end()?;
         let Some(place) = self.take_text(expected, &sides.text, &mut sides.expected)? else {
             return Ok(None);
         };

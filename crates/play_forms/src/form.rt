@@ -1,17 +1,17 @@
 // SPDX-License-Identifier: MIT OR Apache-2.0
 //! A line is done, and its text is dressed in the form that is asked for.
-ghost use Rattle.std.specs.Prelude.{◌≡◌, ◌++◌, IfErr, IfSome, OnOk};
+ghost use Rattle.std.specs.Prelude.{◌≡◌, IfSome, OnOk};
 ghost use Rattle.play_syntax.specs.Lines.{meant};
+ghost use Rattle.play_reasons.specs.Drafts.{Puts};
 ghost use Rattle.play_reasons.specs.Reasons.{told_line};
 ghost use Rattle.play_forms.specs.Forms.{DoesLine, dressed, line_text_in, named_in, number_in};
-ghost use Rattle.play_forms.specs.Steps.{IsEnded};
 
 use crate::reason::reason_of;
 use ffa_model::Outcome;
 use ffa_playable::Playable;
 use play_player::Player;
-use play_reasons::mark::{put_bytes, put_names, put_number};
-use play_reasons::{Reason, put_reason};
+use play_reasons::mark::{put_names, put_number};
+use play_reasons::{Draft, Reason, put_reason};
 use play_syntax::{Line, PlayError};
 use std::alloc::Allocator;
 
@@ -26,23 +26,41 @@ pub struct Form {
     pub explain: bool,
 }
 
+/// What a line says: its plain text, and its text in a form.
+#[derive(Drop)]
+pub(crate) struct Texts<A: Allocator> {
+    pub(crate) said: Vec<u8, A>,
+    pub(crate) text: Draft<A>,
+}
+
+impl<A: Allocator + Copy> Texts<A> {
+    /// Of no line yet.
+    pub(crate) fn new(alloc: A) -> Texts<A> {
+        Texts {
+            said: Vec::new(alloc),
+            text: Draft::new(alloc),
+        }
+    }
+}
+
 /// Does the line of this number, and makes its plain text in `said`, and in `text` its text in this form. It answers what
 /// came of the operation that the line is.
-pub fn make_text<P: Playable, A: Allocator + Copy>(
+pub(crate) fn make_text<P: Playable, A: Allocator + Copy>(
     player: &mut Player<P>,
     alloc: A,
     form: Form,
     number: u64,
     line: &Line,
     said: &mut Vec<u8, A>,
-    text: &mut Vec<u8, A>,
+    text: &mut Draft<A>,
 ) -> Result<Option<Outcome>, PlayError>
     ensures done { DoesLine player.old.state player.new.state (meant line.now) said.new.items result }
-    ensures made { OnOk result (text.new.items ≡ line_text_in form number player.old.state (meant line.now)) }
+    ensures made { OnOk result (IfSome text.new (λ t. t ≡ line_text_in form number player.old.state (meant line.now))) }
 {
     let outcome = do_line(player, alloc, line, said)?;
     let reason = reason_of(player, form.explain, line, outcome);
-    dress(form, number, outcome, reason, said, text)?;
+    text.clear();
+    dress(form, number, outcome, reason, said, text);
     Ok(outcome)
 }
 
@@ -62,7 +80,7 @@ pub(crate) fn do_line<P: Playable, A: Allocator + Copy>(
         .map_err(|_| PlayError::NoMemory)
 }
 
-// Makes the text of a line in this form, by what it said plainly, what came of its operation, and why that is refused. A
+// Puts the text of a line in this form, by what it said plainly, what came of its operation, and why that is refused. A
 // line that says nothing has no number.
 fn dress<A: Allocator>(
     form: Form,
@@ -70,51 +88,37 @@ fn dress<A: Allocator>(
     outcome: Option<Outcome>,
     reason: Option<Reason>,
     said: &[u8],
-    text: &mut Vec<u8, A>,
-) -> Result<(), PlayError>
-    requires { IfSome outcome (λ _. IsEnded said.now) }
-    ensures written { OnOk result (text.new.items ≡ dressed form number outcome (told_line reason) said.now) }
-    ensures failed { IfErr result (λ e. e ≡ PlayError.NoMemory) }
+    text: &mut Draft<A>,
+)
+    ensures { Puts text.old text.new (dressed form number outcome (told_line reason) said.now) }
 {
-    text.clear();
     if said.is_empty() {
-        return Ok(());
+        return;
     }
-    put_number_in(form, number, text)?;
-    put_named(form, outcome, said, text)?;
-    put_reason(text, reason)
+    put_number_in(form, number, text);
+    put_named(form, outcome, said, text);
+    put_reason(text, reason);
 }
 
-// Puts the number of a line behind what stands there, where it is asked for.
-fn put_number_in<A: Allocator>(
-    form: Form,
-    number: u64,
-    text: &mut Vec<u8, A>,
-) -> Result<(), PlayError>
-    ensures written { OnOk result (text.new.items ≡ text.old.items ++ number_in form number) }
-    ensures failed { IfErr result (λ e. e ≡ PlayError.NoMemory) }
+// Puts the number of a line, where it is asked for.
+fn put_number_in<A: Allocator>(form: Form, number: u64, text: &mut Draft<A>)
+    ensures { Puts text.old text.new (number_in form number) }
 {
     if form.number {
-        put_number(text, number)
-    } else {
-        Ok(())
+        put_number(text, number);
     }
 }
 
-// Puts a plain text behind what stands there, with the names of registers, where they are asked for.
-fn put_named<A: Allocator>(
-    form: Form,
-    outcome: Option<Outcome>,
-    said: &[u8],
-    text: &mut Vec<u8, A>,
-) -> Result<(), PlayError>
-    requires { IfSome outcome (λ _. IsEnded said.now) }
-    ensures written { OnOk result (text.new.items ≡ text.old.items ++ named_in form outcome said.now) }
-    ensures failed { IfErr result (λ e. e ≡ PlayError.NoMemory) }
+// Puts a plain text, with the names of registers before the LF that ends it, where they are asked for.
+fn put_named<A: Allocator>(form: Form, outcome: Option<Outcome>, said: &[u8], text: &mut Draft<A>)
+    ensures { Puts text.old text.new (named_in form outcome said.now) }
 {
-    put_bytes(text, said)?;
     match outcome {
-        Some(Outcome::Regs { x, .. }) if form.names => put_names(text, &x),
-        _ => Ok(()),
+        Some(Outcome::Regs { x, .. }) if form.names => {
+            text.put_bytes(&said[..said.len().saturating_sub(1)]);
+            put_names(text, &x);
+            text.put("\n");
+        }
+        _ => text.put_bytes(said),
     }
 }

@@ -13,6 +13,7 @@ use crate::patterns::Came;
 use crate::read::Lines;
 use ffa_playable::Playable;
 use play_player::Player;
+use play_reasons::Draft;
 use play_syntax::{Line, PlayError, output};
 use std::alloc::Allocator;
 use std::io::{BufRead, Write};
@@ -144,7 +145,7 @@ pub fn play_guarded<P: Playable, A: Allocator + Copy, R: BufRead, W: Write>(
         GuardedIn form player.old.state player.new.state held holds had has bytes.new.items found.new.items tally.new.met near result }
 {
     let mut unasked = Unasked::new(alloc);
-    let mut text = Vec::new(alloc);
+    let mut text = Draft::new(alloc);
     let mut lines = Lines::new();
     while let Some((number, line)) = lines.next(reader, bytes)? {
         if let Some(asks) = unmet(player, bytes, unasked.came, &mut unasked.text, found)? {
@@ -193,7 +194,7 @@ fn print_asked<P: Playable, A: Allocator + Copy, W: Write>(
     line: &Line,
     writer: &mut W,
     unasked: &mut Unasked<A>,
-    text: &mut Vec<u8, A>,
+    text: &mut Draft<A>,
 ) -> Result<(), PlayError>
     ensures printed { let held = W.contents writer.old in
         let holds = W.contents writer.new in
@@ -206,5 +207,5 @@ fn print_asked<P: Playable, A: Allocator + Copy, W: Write>(
     }
     let outcome = make_text(player, alloc, form, number, line, &mut unasked.text, text)?;
     unasked.came = unasked.came.behind(player, line, outcome);
-    output::write_text(writer, text)
+    output::write_text(writer, text.bytes()?)
 }

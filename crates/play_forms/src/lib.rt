@@ -16,7 +16,7 @@ mod session;
 mod telling;
 
 pub use comparison::{CompareError, Mismatch, Sides, compare};
-pub use form::{Form, make_text};
+pub use form::Form;
 pub use guards::{Asks, Breach, Tally, guard_text, play_guarded};
 pub use patterns::{Came, Pattern};
 pub use playing::play;

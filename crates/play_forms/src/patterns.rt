@@ -1,23 +1,22 @@
 // SPDX-License-Identifier: MIT OR Apache-2.0
 //! What a guard wants of a printed line: to be its text, or to fit a pattern.
 ghost use Rattle.std.specs.Prelude.{◌≡◌, ◌++◌, ◌==◌, ◌<◌, IfErr, IfSome, OnOk, codes, decimal, length, not, option_map, position};
-ghost use Rattle.ffa_abi.specs.Names.{call_name_of, error_name_of};
+ghost use Rattle.ffa_abi.specs.Names.{call_name_of};
 ghost use Rattle.play_syntax.specs.Lines.{meant};
 ghost use Rattle.play_syntax.specs.TraceLines.{space, words_of};
-ghost use Rattle.play_syntax.specs.TraceText.{spaced};
+ghost use Rattle.play_reasons.specs.Drafts.{Puts};
 ghost use Rattle.play_forms.specs.Asking.{AreWords, SaysCame, SaysCheck};
-ghost use Rattle.play_forms.specs.Patterns.{error_behind, fit, fits, is_alike, meets, named, pattern_of, told, told_by_name, without_zeros};
+ghost use Rattle.play_forms.specs.Patterns.{fit, fits, is_alike, meets, named, pattern_of, told, told_by_name, without_zeros};
 
 use crate::reason::is_refused;
-use ffa_abi::{call_name, error_name, low};
+use ffa_abi::{call_name, low};
 use ffa_model::{Op, Outcome, Why};
 use ffa_playable::Playable;
 use play_player::Player;
-use play_reasons::check_number;
-use play_reasons::mark::put_bytes;
+use play_reasons::mark::put_error;
+use play_reasons::{Draft, check_number};
 use play_syntax::{Line, PlayError};
 use std::alloc::Allocator;
-use std::io::Write;
 
 /// What the words of a guard's text are compared with.
 #[derive(Clone, Copy, PartialEq, Eq)]
@@ -99,7 +98,7 @@ fn check_of<P: Playable>(player: &Player<P>, op: &Op, outcome: Option<Outcome>) 
 }
 
 /// Puts into `found` what a pattern is compared with at a line that came to this.
-pub(crate) fn put_told<A: Allocator>(
+pub(crate) fn put_told<A: Allocator + Copy>(
     pattern: Pattern,
     came: Came,
     line: &[u8],
@@ -108,60 +107,43 @@ pub(crate) fn put_told<A: Allocator>(
     ensures written { OnOk result (found.new.items ≡ told pattern came line.now) }
     ensures failed { IfErr result (λ e. e ≡ PlayError.NoMemory) }
 {
-    found.clear();
+    let mut text = Draft::over(found);
     match (pattern, came.check) {
-        (Pattern::Words, _) => put_bytes(found, line),
-        (Pattern::Check, Some(number)) => put_check(found, number),
-        (Pattern::Name, _) | (Pattern::Check, None) => put_named(came.outcome, line, found),
+        (Pattern::Words, _) => text.put_bytes(line),
+        (Pattern::Check, Some(number)) => put_check(&mut text, number),
+        (Pattern::Name, _) | (Pattern::Check, None) => put_named(came.outcome, line, &mut text),
     }
+    *found = text.end()?;
+    Ok(())
 }
 
-fn put_check<A: Allocator>(found: &mut Vec<u8, A>, number: usize) -> Result<(), PlayError>
-    ensures written { OnOk result (found.new.items ≡ found.old.items ++ (codes "check " ++ decimal number)) }
-    ensures failed { IfErr result (λ e. e ≡ PlayError.NoMemory) }
+fn put_check<A: Allocator>(text: &mut Draft<A>, number: usize)
+    ensures { Puts text.old text.new (codes "check " ++ decimal number) }
 {
-    write!(found, "check {number}").map_err(|_| PlayError::NoMemory)
+    text.put("check ");
+    text.put_shown(&number);
 }
 
 // Puts the names of registers, or the line, where there are none.
-fn put_named<A: Allocator>(
-    outcome: Option<Outcome>,
-    line: &[u8],
-    found: &mut Vec<u8, A>,
-) -> Result<(), PlayError>
-    ensures written { OnOk result (found.new.items ≡ found.old.items ++ told_by_name outcome line.now) }
-    ensures failed { IfErr result (λ e. e ≡ PlayError.NoMemory) }
+fn put_named<A: Allocator>(outcome: Option<Outcome>, line: &[u8], text: &mut Draft<A>)
+    ensures { Puts text.old text.new (told_by_name outcome line.now) }
 {
     match outcome {
-        Some(Outcome::Regs { x, .. }) => put_names_of(&x, line, found),
-        _ => put_bytes(found, line),
+        Some(Outcome::Regs { x, .. }) => put_names_of(&x, line, text),
+        _ => text.put_bytes(line),
     }
 }
 
-fn put_names_of<A: Allocator>(
-    x: &[u64; 8],
-    line: &[u8],
-    found: &mut Vec<u8, A>,
-) -> Result<(), PlayError>
-    ensures written { OnOk result (found.new.items ≡ found.old.items ++ named x.now line.now) }
-    ensures failed { IfErr result (λ e. e ≡ PlayError.NoMemory) }
+fn put_names_of<A: Allocator>(x: &[u64; 8], line: &[u8], text: &mut Draft<A>)
+    ensures { Puts text.old text.new (named x.now line.now) }
 {
-    let Some(name) = call_name(x) else {
-        return put_bytes(found, line);
-    };
-    put_bytes(found, name.as_bytes())?;
-    put_error(x, found)
-}
-
-fn put_error<A: Allocator>(x: &[u64; 8], found: &mut Vec<u8, A>) -> Result<(), PlayError>
-    ensures written { OnOk result (found.new.items ≡ found.old.items ++ error_behind x.now) }
-    ensures failed { IfErr result (λ e. e ≡ PlayError.NoMemory) }
-{
-    let Some(error) = error_name(x) else {
-        return Ok(());
-    };
-    put_bytes(found, b" ")?;
-    put_bytes(found, error.as_bytes())
+    match call_name(x) {
+        Some(name) => {
+            text.put(name);
+            put_error(text, x);
+        }
+        None => text.put_bytes(line),
+    }
 }
 
 /// Whether a line meets a text, where this is what its pattern is compared with.

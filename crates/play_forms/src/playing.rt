@@ -4,7 +4,7 @@ ghost use Rattle.play_syntax.specs.Lines.{meant};
 ghost use Rattle.play_forms.specs.Followed.{PlayedIn};
 ghost use Rattle.play_forms.specs.Steps.{PrintsLine};
 
-use crate::form::{Form, make_text};
+use crate::form::{Form, Texts, make_text};
 use crate::read::Lines;
 use ffa_playable::Playable;
 use play_player::Player;
@@ -33,18 +33,15 @@ pub fn play<P: Playable, A: Allocator + Copy, R: BufRead, W: Write>(
         let has = R.remaining reader.new in
         PlayedIn form player.old.state player.new.state held holds had has bytes.new.items result }
 {
-    let mut said = Vec::new(alloc);
-    let mut text = Vec::new(alloc);
+    let mut texts = Texts::new(alloc);
     let mut lines = Lines::new();
     while let Some((number, line)) = lines.next(reader, bytes)? {
-        print_line(
-            player, alloc, form, number, &line, writer, &mut said, &mut text,
-        )?;
+        print_line(player, alloc, form, number, &line, writer, &mut texts)?;
     }
     Ok(())
 }
 
-/// Does a line and writes its text, which it makes in `text`, and its plain text in `said`.
+/// Does a line and writes its text.
 pub(crate) fn print_line<P: Playable, A: Allocator + Copy, W: Write>(
     player: &mut Player<P>,
     alloc: A,
@@ -52,13 +49,13 @@ pub(crate) fn print_line<P: Playable, A: Allocator + Copy, W: Write>(
     number: u64,
     line: &Line,
     writer: &mut W,
-    said: &mut Vec<u8, A>,
-    text: &mut Vec<u8, A>,
+    texts: &mut Texts<A>,
 ) -> Result<(), PlayError>
     ensures { let held = W.contents writer.old in
         let holds = W.contents writer.new in
         PrintsLine form player.old.state player.new.state number (meant line.now) held holds result }
 {
+    let Texts { said, text } = texts;
     make_text(player, alloc, form, number, line, said, text)?;
-    output::write_text(writer, text)
+    output::write_text(writer, text.bytes()?)
 }

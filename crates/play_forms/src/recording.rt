@@ -1,17 +1,18 @@
 // SPDX-License-Identifier: MIT OR Apache-2.0
 //! A trace, written with the guards of its own play.
-ghost use Rattle.std.specs.Prelude.{◌≡◌, ◌∷◌, [], ◌++◌, IfErr, OnOk, map};
+ghost use Rattle.std.specs.Prelude.{◌≡◌, ◌∷◌, [], ◌++◌, map};
 ghost use Rattle.play_syntax.specs.TraceLines.{feed, joined};
 ghost use Rattle.play_syntax.specs.Lines.{meant};
+ghost use Rattle.play_reasons.specs.Drafts.{Puts};
 ghost use Rattle.play_forms.specs.Recorded.{RecordedIn, RecordsLine, guard_for, line_recorded, lines_in};
 
 use crate::asking::first_feed;
-use crate::form::do_line;
+use crate::form::{Texts, do_line};
 use crate::guards::guard_text;
 use crate::read::Lines;
 use ffa_playable::Playable;
 use play_player::Player;
-use play_reasons::mark::put_bytes;
+use play_reasons::Draft;
 use play_syntax::{Line, PlayError, output};
 use std::alloc::Allocator;
 use std::io::{BufRead, Write};
@@ -36,70 +37,60 @@ pub fn record<P: Playable, A: Allocator + Copy, R: BufRead, W: Write>(
         let has = R.remaining reader.new in
         RecordedIn player.old.state player.new.state held holds had has bytes.new.items result }
 {
-    let mut text = Vec::new(alloc);
-    let mut said = Vec::new(alloc);
+    let mut texts = Texts::new(alloc);
     let mut lines = Lines::new();
     while let Some((_, line)) = lines.next(reader, bytes)? {
-        record_line(player, alloc, bytes, &line, writer, &mut said, &mut text)?;
+        record_line(player, alloc, bytes, &line, writer, &mut texts)?;
     }
     Ok(())
 }
 
-// Does the line that these bytes are, and writes it with its guards. It makes its plain text in `said`, and what is
-// written in `text`.
+// Does the line that these bytes are, and writes it with its guards.
 fn record_line<P: Playable, A: Allocator + Copy, W: Write>(
     player: &mut Player<P>,
     alloc: A,
     bytes: &[u8],
     line: &Line,
     writer: &mut W,
-    said: &mut Vec<u8, A>,
-    text: &mut Vec<u8, A>,
+    texts: &mut Texts<A>,
 ) -> Result<(), PlayError>
     ensures { let held = W.contents writer.old in
         let holds = W.contents writer.new in
         RecordsLine player.old.state player.new.state bytes.now (meant line.now) held holds result }
 {
+    let Texts { said, text } = texts;
     do_line(player, alloc, line, said)?;
     text.clear();
-    put_recorded(bytes, said, text)?;
-    output::write_text(writer, text)
+    put_recorded(bytes, said, text);
+    output::write_text(writer, text.bytes()?)
 }
 
-// Puts a line behind a text, with a guard for each line of what it printed, or nothing, where it is a guard.
-fn put_recorded<A: Allocator>(
-    line: &[u8],
-    printed: &[u8],
-    text: &mut Vec<u8, A>,
-) -> Result<(), PlayError>
-    ensures written { OnOk result (text.new.items ≡ text.old.items ++ joined (line_recorded line.now printed.now)) }
-    ensures failed { IfErr result (λ e. e ≡ PlayError.NoMemory) }
+// Puts a line, with a guard for each line of what it printed, or nothing, where it is a guard.
+fn put_recorded<A: Allocator>(line: &[u8], printed: &[u8], text: &mut Draft<A>)
+    ensures { Puts text.old text.new (joined (line_recorded line.now printed.now)) }
 {
     if guard_text(line).is_some() {
-        return Ok(());
+        return;
     }
-    put_bytes(text, line)?;
-    put_bytes(text, b"\n")?;
-    put_guards(printed, text)
+    text.put_bytes(line);
+    text.put("\n");
+    put_guards(printed, text);
 }
 
-fn put_guards<A: Allocator>(printed: &[u8], text: &mut Vec<u8, A>) -> Result<(), PlayError>
-    ensures written { OnOk result (text.new.items ≡ text.old.items ++ joined (map guard_for (lines_in printed.now))) }
-    ensures failed { IfErr result (λ e. e ≡ PlayError.NoMemory) }
+fn put_guards<A: Allocator>(printed: &[u8], text: &mut Draft<A>)
+    ensures { Puts text.old text.new (joined (map guard_for (lines_in printed.now))) }
 {
     let mut rest = printed;
     while let Some(end) = first_feed(rest) {
-        put_guard(&rest[..end], text)?;
+        put_guard(&rest[..end], text);
         rest = &rest[end + 1..];
     }
-    Ok(())
 }
 
-fn put_guard<A: Allocator>(printed: &[u8], text: &mut Vec<u8, A>) -> Result<(), PlayError>
-    ensures written { OnOk result (text.new.items ≡ text.old.items ++ joined (guard_for printed.now ∷ [])) }
-    ensures failed { IfErr result (λ e. e ≡ PlayError.NoMemory) }
+fn put_guard<A: Allocator>(printed: &[u8], text: &mut Draft<A>)
+    ensures { Puts text.old text.new (joined (guard_for printed.now ∷ [])) }
 {
-    put_bytes(text, b"#= ")?;
-    put_bytes(text, printed)?;
-    put_bytes(text, b"\n")
+    text.put("#= ");
+    text.put_bytes(printed);
+    text.put("\n");
 }

@@ -1,16 +1,17 @@
 // SPDX-License-Identifier: MIT OR Apache-2.0
 //! A session: a play that tells of a bad line and goes on.
-ghost use Rattle.std.specs.Prelude.{◌≡◌, ◌++◌, ◌∷◌, [], codes, decimal, IfErr, OnOk};
+ghost use Rattle.std.specs.Prelude.{◌≡◌, ◌++◌, ◌∷◌, []};
 ghost use Rattle.play_syntax.specs.TraceLines.{feed};
-ghost use Rattle.play_forms.specs.Sessions.{SessionIn, TellsBadLines, bad_line_text, fault_text, joint_of};
+ghost use Rattle.play_reasons.specs.Drafts.{Puts};
+ghost use Rattle.play_forms.specs.Sessions.{SessionIn, TellsBadLines, bad_line_text, cause_text, joint_of};
 ghost use Rattle.play_forms.specs.SessionSteps.{AnswersLine, AnswersTelling, HearsLine, HearsTelling, TellsBadLine, TellsOrLoses};
 
-use crate::form::Form;
+use crate::form::{Form, Texts};
 use crate::playing::print_line;
 use crate::read::next_line;
 use ffa_playable::Playable;
 use play_player::Player;
-use play_reasons::{LineFault, line_fault};
+use play_reasons::{Draft, LineFault, line_fault};
 use play_syntax::{Line, PlayError, output};
 use std::alloc::Allocator;
 use std::io::{BufRead, Write};
@@ -40,12 +41,11 @@ pub fn play_session<P: Playable, A: Allocator + Copy, R: BufRead, W: Write, E: W
         SessionIn form player.old.state player.new.state held holds had has result }
     ensures told { TellsBadLines (R.remaining reader.old) (E.contents told.old) (E.contents told.new) result }
 {
-    let (mut bytes, mut said) = (Vec::new(alloc), Vec::new(alloc));
-    let mut text = Vec::new(alloc);
+    let (mut bytes, mut texts) = (Vec::new(alloc), Texts::new(alloc));
     let mut number = 1;
-    while hear_line(reader, &mut bytes, number, told, &mut text)? {
+    while hear_line(reader, &mut bytes, number, told, &mut texts.text)? {
         answer_line(
-            player, alloc, form, number, &mut bytes, writer, told, &mut said, &mut text,
+            player, alloc, form, number, &mut bytes, writer, told, &mut texts,
         )?;
         number += 1;
     }
@@ -59,7 +59,7 @@ fn hear_line<A: Allocator, R: BufRead, E: Write>(
     bytes: &mut Vec<u8, A>,
     number: u64,
     told: &mut E,
-    text: &mut Vec<u8, A>,
+    text: &mut Draft<A>,
 ) -> Result<bool, PlayError>
     ensures heard { let had = R.remaining reader.old in
         let has = R.remaining reader.new in
@@ -87,8 +87,7 @@ fn answer_line<P: Playable, A: Allocator + Copy, W: Write, E: Write>(
     bytes: &mut Vec<u8, A>,
     writer: &mut W,
     told: &mut E,
-    said: &mut Vec<u8, A>,
-    text: &mut Vec<u8, A>,
+    texts: &mut Texts<A>,
 ) -> Result<(), PlayError>
     ensures done { let held = W.contents writer.old in
         let holds = W.contents writer.new in
@@ -96,8 +95,8 @@ fn answer_line<P: Playable, A: Allocator + Copy, W: Write, E: Write>(
     ensures told { AnswersTelling bytes.old.items number (E.contents told.old) (E.contents told.new) result }
 {
     match Line::read(bytes) {
-        Some(line) => print_line(player, alloc, form, number, &line, writer, said, text),
-        None => refuse_line(bytes, number, told, text),
+        Some(line) => print_line(player, alloc, form, number, &line, writer, texts),
+        None => refuse_line(bytes, number, told, &mut texts.text),
     }
 }
 
@@ -106,7 +105,7 @@ fn refuse_line<A: Allocator, E: Write>(
     bytes: &mut Vec<u8, A>,
     number: u64,
     told: &mut E,
-    text: &mut Vec<u8, A>,
+    text: &mut Draft<A>,
 ) -> Result<(), PlayError>
     ensures { TellsOrLoses number (bytes.old.items ++ feed ∷ []) (E.contents told.old) (E.contents told.new) result }
 {
@@ -121,12 +120,13 @@ fn tell_or_lose<A: Allocator, E: Write>(
     told: &mut E,
     number: u64,
     line: &[u8],
-    text: &mut Vec<u8, A>,
+    text: &mut Draft<A>,
 ) -> Result<(), PlayError>
     ensures { TellsOrLoses number line.now (E.contents told.old) (E.contents told.new) result }
 {
     match tell_bad_line(told, number, line, text) {
-        Ok(()) | Err(PlayError::Write) => Ok(()),
+        Ok(()) => Ok(()),
+        Err(PlayError::Write) => Ok(()),
         Err(error) => Err(error),
     }
 }
@@ -136,51 +136,34 @@ fn tell_bad_line<A: Allocator, E: Write>(
     told: &mut E,
     number: u64,
     line: &[u8],
-    text: &mut Vec<u8, A>,
+    text: &mut Draft<A>,
 ) -> Result<(), PlayError>
     ensures { TellsBadLine number line.now (E.contents told.old) (E.contents told.new) result }
 {
     text.clear();
-    put_bad_line(text, number, line_fault(line))?;
-    output::write_text(told, text)
+    put_bad_line(text, number, line_fault(line));
+    output::write_text(told, text.bytes()?)
 }
 
-fn put_bad_line<A: Allocator>(
-    text: &mut Vec<u8, A>,
-    number: u64,
-    fault: Option<LineFault>,
-) -> Result<(), PlayError>
-    ensures written { OnOk result (text.new.items ≡ text.old.items ++ bad_line_text number fault) }
-    ensures failed { IfErr result (λ e. e ≡ PlayError.NoMemory) }
+#[tactic(auto, using(play_reasons::proofs::Together::together))]
+fn put_bad_line<A: Allocator>(text: &mut Draft<A>, number: u64, fault: Option<LineFault>)
+    ensures { Puts text.old text.new (bad_line_text number fault) }
+{
+    text.put("ffaplay: line ");
+    text.put_shown(&number);
+    put_cause(text, fault);
+}
+
+fn put_cause<A: Allocator>(text: &mut Draft<A>, fault: Option<LineFault>)
+    ensures { Puts text.old text.new (cause_text fault) }
 {
     match fault {
-        Some(fault) => put_fault(text, number, fault),
-        None => put_faultless(text, number),
-    }
-}
-
-fn put_faultless<A: Allocator>(text: &mut Vec<u8, A>, number: u64) -> Result<(), PlayError>
-    ensures written { OnOk result (text.new.items ≡ text.old.items ++ (codes "ffaplay: line " ++ decimal number ++ codes ": bad line\n")) }
-    ensures failed { IfErr result (λ e. e ≡ PlayError.NoMemory) }
-{
-    match write!(text, "ffaplay: line {number}: bad line\n") {
-        Ok(()) => Ok(()),
-        Err(_) => Err(PlayError::NoMemory),
-    }
-}
-
-fn put_fault<A: Allocator>(
-    text: &mut Vec<u8, A>,
-    number: u64,
-    fault: LineFault,
-) -> Result<(), PlayError>
-    ensures written { OnOk result (text.new.items ≡ text.old.items ++ fault_text number fault) }
-    ensures failed { IfErr result (λ e. e ≡ PlayError.NoMemory) }
-{
-    let joint = joint(fault);
-    match write!(text, "ffaplay: line {number}{joint}{fault}\n") {
-        Ok(()) => Ok(()),
-        Err(_) => Err(PlayError::NoMemory),
+        Some(fault) => {
+            text.put(joint(fault));
+            text.put_shown(&fault);
+            text.put("\n");
+        }
+        None => text.put(": bad line\n"),
     }
 }
 

@@ -8,7 +8,7 @@ use crate::reason::reason_of;
 use ffa_model::Outcome;
 use ffa_playable::Playable;
 use play_player::Player;
-use play_reasons::put_reason;
+use play_reasons::{Draft, put_reason};
 use play_syntax::{Line, PlayError};
 use std::alloc::Allocator;
 
@@ -24,7 +24,8 @@ pub fn tell_line<P: Playable, A: Allocator + Copy>(
     ensures { TellsLine player.old.state player.new.state (meant line.now) said.new.items reason.new.items result }
 {
     let outcome = do_line(player, alloc, line, said)?;
-    reason.clear();
-    put_reason(reason, reason_of(player, true, line, outcome))?;
+    let mut told = Draft::over(reason);
+    put_reason(&mut told, reason_of(player, true, line, outcome));
+    *reason = told.end()?;
     Ok(outcome)
 }

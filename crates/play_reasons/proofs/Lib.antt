@@ -1,5 +1,5 @@
 -- SPDX-License-Identifier: MIT OR Apache-2.0
 pub mod Numbered
-pub mod PutWords
+pub mod Together
 pub mod FlawRows
 pub mod SingleWords

@@ -6,6 +6,7 @@
 
 mod allowed;
 mod digits;
+mod draft;
 mod fault;
 mod flaws;
 pub mod mark;
@@ -15,6 +16,7 @@ mod reason;
 mod sentences;
 
 pub use allowed::Allowed;
+pub use draft::Draft;
 pub use fault::{LineFault, WordFault, line_fault};
 pub use flaws::flaw_words;
 pub use numbers::{check_number, checks};

@@ -1,16 +1,16 @@
 // SPDX-License-Identifier: MIT OR Apache-2.0
 //! Why an operation is refused, as a line under its text.
-ghost use Rattle.std.specs.Prelude.{◌≡◌, ◌++◌, ◌≤◌, IfErr, OnOk, None, Some, codes, option_map};
+ghost use Rattle.std.specs.Prelude.{◌≡◌, ◌++◌, ◌≤◌, None, Some, codes, option_map};
 ghost use Rattle.ffa_model.specs.Memory.{size_of};
 ghost use Rattle.play_syntax.specs.TraceText.{bytes_moved};
 ghost use Rattle.ffa_model.specs.Words.{words_of};
 ghost use Rattle.ffa_mend.specs.Mend.{address_of};
+ghost use Rattle.play_reasons.specs.Drafts.{Puts};
 ghost use Rattle.play_reasons.specs.Mends.{address_text, mended_text, short_text, wanted_text};
 ghost use Rattle.play_reasons.specs.Reasons.{about_text, bit_text, call_text, check_text, fault_text, field_digits, field_text, handle_text, index_text, letter_text, number_in_field, name_text, named_text, number_text, obstacle_text, page_address, page_text, place_text, reason_line, register_text, right_text, subject_text, told_line, transaction_text, value_text, verb_text, why_text};
 
 use crate::allowed::{Allowed, allowed_field, call_of, kind_of};
-use crate::digits::{put_address, put_digits, put_short};
-use crate::mark::put;
+use crate::draft::Draft;
 use crate::mend::{put_allowed, put_mended, put_wanted};
 use crate::{check_number, flaw_words, words};
 use ffa_abi::{call_name, is_read_whole, low};
@@ -19,9 +19,7 @@ use ffa_model::{
     About, Address, EndpointId, FaultKind, FieldPlace, Flaw, Obstacle, Op, PageNo, Refusal, Size,
     Why,
 };
-use play_syntax::PlayError;
 use std::alloc::Allocator;
-use std::io::Write;
 
 /// An operation that is refused, and why.
 #[derive(Clone, Copy)]
@@ -35,51 +33,25 @@ pub struct Reason {
 }
 
 /// Puts the line that says so behind a text, where there is a reason.
-pub fn put_reason<A: Allocator>(
-    text: &mut Vec<u8, A>,
-    reason: Option<Reason>,
-) -> Result<(), PlayError>
-    ensures written { OnOk result (text.new.items ≡ text.old.items ++ told_line reason) }
-    ensures failed { IfErr result (λ e. e ≡ PlayError.NoMemory) }
+pub fn put_reason<A: Allocator>(text: &mut Draft<A>, reason: Option<Reason>)
+    ensures { Puts text.old text.new (told_line reason) }
 {
-    match reason {
-        Some(
-            Reason {
-                base,
-                op,
-                why,
-                mend,
-            },
-        ) => put_line(text, base, op, why, mend),
-        None => Ok(()),
+    if let Some(reason) = reason {
+        put_line(text, reason.base, reason.op, reason.why, reason.mend);
     }
 }
 
-#[tactic(auto, unfolding(crate::specs::Reasons::reason_line))]
-fn put_line<A: Allocator>(
-    text: &mut Vec<u8, A>,
-    base: Address,
-    op: Op,
-    why: Why,
-    mend: Option<Mend>,
-) -> Result<(), PlayError>
-    ensures written { OnOk result (text.new.items ≡ text.old.items ++ reason_line base.0 op why mend) }
-    ensures failed { IfErr result (λ e. e ≡ PlayError.NoMemory) }
+fn put_line<A: Allocator>(text: &mut Draft<A>, base: Address, op: Op, why: Why, mend: Option<Mend>)
+    ensures { Puts text.old text.new (reason_line base.0 op why mend) }
 {
-    put(text, "# refused: ")?;
-    put_why(text, base, op, why)?;
-    put_mended(text, mend)?;
-    put(text, "\n")
+    text.put("# refused: ");
+    put_why(text, base, op, why);
+    put_mended(text, mend);
+    text.put("\n");
 }
 
-fn put_why<A: Allocator>(
-    text: &mut Vec<u8, A>,
-    base: Address,
-    op: Op,
-    why: Why,
-) -> Result<(), PlayError>
-    ensures written { OnOk result (text.new.items ≡ text.old.items ++ why_text base.0 op why) }
-    ensures failed { IfErr result (λ e. e ≡ PlayError.NoMemory) }
+fn put_why<A: Allocator>(text: &mut Draft<A>, base: Address, op: Op, why: Why)
+    ensures { Puts text.old text.new (why_text base.0 op why) }
 {
     match why {
         Why::Refused { refusal, about } => put_refused(text, base, op, refusal, about),
@@ -88,115 +60,98 @@ fn put_why<A: Allocator>(
 }
 
 fn put_refused<A: Allocator>(
-    text: &mut Vec<u8, A>,
+    text: &mut Draft<A>,
     base: Address,
     op: Op,
     refusal: Refusal,
     about: Option<About>,
-) -> Result<(), PlayError>
-    ensures written { let reason = call_text op refusal ++ words_of refusal ++ about_text base.0 op refusal about in
-        OnOk result (text.new.items ≡ text.old.items ++ reason) }
-    ensures failed { IfErr result (λ e. e ≡ PlayError.NoMemory) }
+)
+    ensures { let reason = call_text op refusal ++ words_of refusal ++ about_text base.0 op refusal about in Puts text.old text.new reason }
 {
-    put_call(text, op, refusal)?;
-    put(text, words(refusal))?;
-    put_about(text, base, op, refusal, about)
+    put_call(text, op, refusal);
+    text.put(words(refusal));
+    put_about(text, base, op, refusal, about);
 }
 
 fn put_faulted<A: Allocator>(
-    text: &mut Vec<u8, A>,
+    text: &mut Draft<A>,
     op: Op,
     kind: FaultKind,
     obstacle: Option<Obstacle>,
-) -> Result<(), PlayError>
-    ensures written { let fault = address_text (address_of op) ++ fault_text op kind obstacle in
-        OnOk result (text.new.items ≡ text.old.items ++ fault) }
-    ensures failed { IfErr result (λ e. e ≡ PlayError.NoMemory) }
+)
+    ensures { let fault = address_text (address_of op) ++ fault_text op kind obstacle in Puts text.old text.new fault }
 {
-    put_address(text, address_of(op))?;
-    put_fault(text, op, kind, obstacle)
+    text.put_address(address_of(op));
+    put_fault(text, op, kind, obstacle);
 }
 
 // Which check of which call fails.
-fn put_call<A: Allocator>(text: &mut Vec<u8, A>, op: Op, refusal: Refusal) -> Result<(), PlayError>
-    ensures written { OnOk result (text.new.items ≡ text.old.items ++ call_text op refusal) }
-    ensures failed { IfErr result (λ e. e ≡ PlayError.NoMemory) }
+fn put_call<A: Allocator>(text: &mut Draft<A>, op: Op, refusal: Refusal)
+    ensures { Puts text.old text.new (call_text op refusal) }
 {
     match op {
         Op::Call(x) => put_check(text, x, refusal),
-        Op::Load { .. } | Op::Store { .. } | Op::Fetch { .. } => Ok(()),
+        Op::Load { .. } | Op::Store { .. } | Op::Fetch { .. } => {}
     }
 }
 
 #[tactic(auto, unfolding(crate::specs::Reasons::check_text))]
-fn put_check<A: Allocator>(
-    text: &mut Vec<u8, A>,
-    x: [u64; 8],
-    refusal: Refusal,
-) -> Result<(), PlayError>
-    ensures written { OnOk result (text.new.items ≡ text.old.items ++ check_text x refusal) }
-    ensures failed { IfErr result (λ e. e ≡ PlayError.NoMemory) }
+fn put_check<A: Allocator>(text: &mut Draft<A>, x: [u64; 8], refusal: Refusal)
+    ensures { Puts text.old text.new (check_text x refusal) }
 {
-    put_name(text, call_name(&x))?;
-    put_number(text, check_number(low(x[0]), refusal))
+    put_name(text, call_name(&x));
+    put_number(text, check_number(low(x[0]), refusal));
 }
 
-fn put_name<A: Allocator>(
-    text: &mut Vec<u8, A>,
-    name: Option<&'static str>,
-) -> Result<(), PlayError>
-    ensures written { OnOk result (text.new.items ≡ text.old.items ++ name_text (option_map (λ n. n.now) name.entry)) }
-    ensures failed { IfErr result (λ e. e ≡ PlayError.NoMemory) }
+fn put_name<A: Allocator>(text: &mut Draft<A>, name: Option<&'static str>)
+    ensures { Puts text.old text.new (name_text (option_map (λ n. n.now) name.entry)) }
 {
-    let Some(name) = name else {
-        return Ok(());
-    };
-    put(text, name)?;
-    put(text, " ")
+    if let Some(name) = name {
+        text.put(name);
+        text.put(" ");
+    }
 }
 
-fn put_number<A: Allocator>(text: &mut Vec<u8, A>, number: Option<usize>) -> Result<(), PlayError>
-    ensures written { OnOk result (text.new.items ≡ text.old.items ++ number_text number) }
-    ensures failed { IfErr result (λ e. e ≡ PlayError.NoMemory) }
+fn put_number<A: Allocator>(text: &mut Draft<A>, number: Option<usize>)
+    ensures { Puts text.old text.new (number_text number) }
 {
-    match number {
-        Some(number) => write!(text, "check {number}: ").map_err(|_| PlayError::NoMemory),
-        None => Ok(()),
+    if let Some(number) = number {
+        text.put("check ");
+        text.put_shown(&number);
+        text.put(": ");
     }
 }
 
 // What the check is about, where that is told.
 fn put_about<A: Allocator>(
-    text: &mut Vec<u8, A>,
+    text: &mut Draft<A>,
     base: Address,
     op: Op,
     refusal: Refusal,
     about: Option<About>,
-) -> Result<(), PlayError>
-    ensures written { OnOk result (text.new.items ≡ text.old.items ++ about_text base.0 op refusal about) }
-    ensures failed { IfErr result (λ e. e ≡ PlayError.NoMemory) }
+)
+    ensures { Puts text.old text.new (about_text base.0 op refusal about) }
 {
-    let Some(about) = about else {
-        return Ok(());
-    };
-    put(text, ": ")?;
-    put_subject(text, base, op, refusal, about)
+    if let Some(about) = about {
+        text.put(": ");
+        put_subject(text, base, op, refusal, about);
+    }
 }
 
+#[tactic(auto, unfolding(crate::specs::Reasons::named_text, crate::specs::Reasons::handle_text))]
 fn put_subject<A: Allocator>(
-    text: &mut Vec<u8, A>,
+    text: &mut Draft<A>,
     base: Address,
     op: Op,
     refusal: Refusal,
     about: About,
-) -> Result<(), PlayError>
-    ensures written { OnOk result (text.new.items ≡ text.old.items ++ subject_text base.0 op refusal about) }
-    ensures failed { IfErr result (λ e. e ≡ PlayError.NoMemory) }
+)
+    ensures { Puts text.old text.new (subject_text base.0 op refusal about) }
 {
     match about {
         About::Page { page, obstacle } => put_page(text, base, page, obstacle),
-        About::Endpoint(endpoint) => put_named(text, u64::from(endpoint.0)),
-        About::Handle(handle) => put_handle(text, handle),
+        About::Endpoint(endpoint) => text.put_behind("endpoint ", 4, u64::from(endpoint.0)),
+        About::Handle(handle) => text.put_behind("handle ", 16, handle),
         About::Register { register, value } => put_named_by(text, op, refusal, register, value),
         About::Bit(number) => put_bit(text, number),
         About::Field { flaw, place, value } => put_field(text, op, flaw, place, value),
@@ -204,68 +159,41 @@ fn put_subject<A: Allocator>(
 }
 
 fn put_page<A: Allocator>(
-    text: &mut Vec<u8, A>,
+    text: &mut Draft<A>,
     base: Address,
     page: PageNo,
     obstacle: Option<Obstacle>,
-) -> Result<(), PlayError>
-    ensures written { OnOk result (text.new.items ≡ text.old.items ++ page_text base.0 page.0 obstacle) }
-    ensures failed { IfErr result (λ e. e ≡ PlayError.NoMemory) }
+)
+    ensures { Puts text.old text.new (page_text base.0 page.0 obstacle) }
 {
-    put_address(text, u64::from(base.0) + 4096 * u64::from(page.0))?;
-    match obstacle {
-        Some(_) => put_obstacle(text, obstacle),
-        None => Ok(()),
+    text.put_address(u64::from(base.0) + 4096 * u64::from(page.0));
+    if let Some(_) = obstacle {
+        put_obstacle(text, obstacle);
     }
-}
-
-// Puts an endpoint by its identifier.
-fn put_named<A: Allocator>(text: &mut Vec<u8, A>, endpoint: u64) -> Result<(), PlayError>
-    ensures written { OnOk result (text.new.items ≡ text.old.items ++ named_text endpoint) }
-    ensures failed { IfErr result (λ e. e ≡ PlayError.NoMemory) }
-{
-    put(text, "endpoint ")?;
-    put_digits(text, 4, endpoint)
-}
-
-#[tactic(auto, unfolding(crate::specs::Reasons::handle_text))]
-fn put_handle<A: Allocator>(text: &mut Vec<u8, A>, handle: u64) -> Result<(), PlayError>
-    ensures written { OnOk result (text.new.items ≡ text.old.items ++ handle_text handle) }
-    ensures failed { IfErr result (λ e. e ≡ PlayError.NoMemory) }
-{
-    put(text, "handle ")?;
-    put_digits(text, 16, handle)
 }
 
 // Puts a register with its value, and what that may be.
 fn put_named_by<A: Allocator>(
-    text: &mut Vec<u8, A>,
+    text: &mut Draft<A>,
     op: Op,
     refusal: Refusal,
     register: u32,
     value: u64,
-) -> Result<(), PlayError>
-    ensures written { let told = register_text op register value ++ wanted_text op refusal value in
-        OnOk result (text.new.items ≡ text.old.items ++ told) }
-    ensures failed { IfErr result (λ e. e ≡ PlayError.NoMemory) }
+)
+    ensures { let told = register_text op register value ++ wanted_text op refusal value in Puts text.old text.new told }
 {
-    put_register(text, op, register, value)?;
-    put_wanted(text, op, refusal, value)
+    put_register(text, op, register, value);
+    put_wanted(text, op, refusal, value);
 }
 
 #[tactic(auto, unfolding(crate::specs::Reasons::register_text))]
-fn put_register<A: Allocator>(
-    text: &mut Vec<u8, A>,
-    op: Op,
-    register: u32,
-    value: u64,
-) -> Result<(), PlayError>
-    ensures written { OnOk result (text.new.items ≡ text.old.items ++ register_text op register value) }
-    ensures failed { IfErr result (λ e. e ≡ PlayError.NoMemory) }
+fn put_register<A: Allocator>(text: &mut Draft<A>, op: Op, register: u32, value: u64)
+    ensures { Puts text.old text.new (register_text op register value) }
 {
-    put(text, letter(op, register))?;
-    write!(text, "{register} is ").map_err(|_| PlayError::NoMemory)?;
-    put_address(text, value)
+    text.put(letter(op, register));
+    text.put_shown(&register);
+    text.put(" is ");
+    text.put_address(value);
 }
 
 // What stands before the number of a register: x where the call reads it whole, and else w.
@@ -278,38 +206,35 @@ fn letter(op: Op, register: u32) -> &'static str
     }
 }
 
-fn put_bit<A: Allocator>(text: &mut Vec<u8, A>, number: u32) -> Result<(), PlayError>
-    ensures written { OnOk result (text.new.items ≡ text.old.items ++ bit_text number) }
-    ensures failed { IfErr result (λ e. e ≡ PlayError.NoMemory) }
+fn put_bit<A: Allocator>(text: &mut Draft<A>, number: u32)
+    ensures { Puts text.old text.new (bit_text number) }
 {
-    put(text, "bit ")?;
-    put_short(text, u64::from(number))
+    text.put("bit ");
+    text.put_short(u64::from(number));
 }
 
 // Puts the condition that a descriptor breaks, the field of which it speaks, and the number in that.
 #[tactic(auto, unfolding(crate::specs::Reasons::field_text))]
 fn put_field<A: Allocator>(
-    text: &mut Vec<u8, A>,
+    text: &mut Draft<A>,
     op: Op,
     flaw: Flaw,
     place: FieldPlace,
     value: Option<u64>,
-) -> Result<(), PlayError>
-    ensures written { OnOk result (text.new.items ≡ text.old.items ++ field_text op flaw place value) }
-    ensures failed { IfErr result (λ e. e ≡ PlayError.NoMemory) }
+)
+    ensures { Puts text.old text.new (field_text op flaw place value) }
 {
-    put_index(text, flaw)?;
-    put(text, flaw_words(flaw))?;
-    put(text, ": ")?;
-    put_place(text, place)?;
+    put_index(text, flaw);
+    text.put(flaw_words(flaw));
+    text.put(": ");
+    put_place(text, place);
     let allowed = allowed_field(kind_of(call_of(op)), flaw);
-    put_value(text, place.size, value, allowed)
+    put_value(text, place.size, value, allowed);
 }
 
 // Which access descriptor it is, or which range.
-fn put_index<A: Allocator>(text: &mut Vec<u8, A>, flaw: Flaw) -> Result<(), PlayError>
-    ensures written { OnOk result (text.new.items ≡ text.old.items ++ index_text flaw) }
-    ensures failed { IfErr result (λ e. e ≡ PlayError.NoMemory) }
+fn put_index<A: Allocator>(text: &mut Draft<A>, flaw: Flaw)
+    ensures { Puts text.old text.new (index_text flaw) }
 {
     match flaw {
         Flaw::Access(index, _) => put_indexed(text, "access descriptor ", index),
@@ -318,62 +243,58 @@ fn put_index<A: Allocator>(text: &mut Vec<u8, A>, flaw: Flaw) -> Result<(), Play
         | Flaw::Send(_)
         | Flaw::Composite(_)
         | Flaw::Retrieve(_)
-        | Flaw::Relinquish(_) => Ok(()),
+        | Flaw::Relinquish(_) => {}
     }
 }
 
-fn put_indexed<A: Allocator>(text: &mut Vec<u8, A>, word: &str, index: u32) -> Result<(), PlayError>
-    ensures written { OnOk result (text.new.items ≡ text.old.items ++ (word.now ++ short_text index ++ codes ": ")) }
-    ensures failed { IfErr result (λ e. e ≡ PlayError.NoMemory) }
+fn put_indexed<A: Allocator>(text: &mut Draft<A>, word: &str, index: u32)
+    ensures { Puts text.old text.new (word.now ++ short_text index ++ codes ": ") }
 {
-    put(text, word)?;
-    put_short(text, u64::from(index))?;
-    put(text, ": ")
+    text.put(word);
+    text.put_short(u64::from(index));
+    text.put(": ");
 }
 
-fn put_place<A: Allocator>(text: &mut Vec<u8, A>, place: FieldPlace) -> Result<(), PlayError>
-    ensures written { OnOk result (text.new.items ≡ text.old.items ++ place_text place.first place.size) }
-    ensures failed { IfErr result (λ e. e ≡ PlayError.NoMemory) }
+fn put_place<A: Allocator>(text: &mut Draft<A>, place: FieldPlace)
+    ensures { Puts text.old text.new (place_text place.first place.size) }
 {
     let FieldPlace { first, size } = place;
     if size <= 1 {
-        put(text, "byte ")?;
-        return put_short(text, first);
+        text.put("byte ");
+        text.put_short(first);
+    } else {
+        text.put("bytes ");
+        text.put_short(first);
+        text.put(" to ");
+        text.put_short(first.saturating_add(size - 1));
     }
-    put(text, "bytes ")?;
-    put_short(text, first)?;
-    put(text, " to ")?;
-    put_short(text, first.saturating_add(size - 1))
 }
 
 fn put_value<A: Allocator>(
-    text: &mut Vec<u8, A>,
+    text: &mut Draft<A>,
     size: u64,
     value: Option<u64>,
     allowed: Option<Allowed>,
-) -> Result<(), PlayError>
-    ensures written { OnOk result (text.new.items ≡ text.old.items ++ value_text size value allowed) }
-    ensures failed { IfErr result (λ e. e ≡ PlayError.NoMemory) }
+)
+    ensures { Puts text.old text.new (value_text size value allowed) }
 {
-    match value {
-        Some(value) => put_number_in_field(text, size, value, allowed),
-        None => Ok(()),
+    if let Some(value) = value {
+        put_number_in_field(text, size, value, allowed);
     }
 }
 
 #[tactic(auto, unfolding(crate::specs::Reasons::number_in_field))]
 fn put_number_in_field<A: Allocator>(
-    text: &mut Vec<u8, A>,
+    text: &mut Draft<A>,
     size: u64,
     value: u64,
     allowed: Option<Allowed>,
-) -> Result<(), PlayError>
-    ensures written { OnOk result (text.new.items ≡ text.old.items ++ number_in_field size value allowed) }
-    ensures failed { IfErr result (λ e. e ≡ PlayError.NoMemory) }
+)
+    ensures { Puts text.old text.new (number_in_field size value allowed) }
 {
-    put(text, verb(size))?;
-    put_digits(text, field_digits(size), value)?;
-    put_allowed(text, field_digits(size), allowed)
+    text.put(verb(size));
+    text.put_digits(field_digits(size), value);
+    put_allowed(text, field_digits(size), allowed);
 }
 
 fn verb(size: u64) -> &'static str
@@ -391,56 +312,34 @@ fn field_digits(size: u64) -> u32
 }
 
 // What is so of the address of an access that faults.
-fn put_fault<A: Allocator>(
-    text: &mut Vec<u8, A>,
-    op: Op,
-    kind: FaultKind,
-    obstacle: Option<Obstacle>,
-) -> Result<(), PlayError>
-    ensures written { OnOk result (text.new.items ≡ text.old.items ++ fault_text op kind obstacle) }
-    ensures failed { IfErr result (λ e. e ≡ PlayError.NoMemory) }
+fn put_fault<A: Allocator>(text: &mut Draft<A>, op: Op, kind: FaultKind, obstacle: Option<Obstacle>)
+    ensures { Puts text.old text.new (fault_text op kind obstacle) }
 {
     match kind {
         FaultKind::Translation => put_obstacle(text, obstacle),
-        FaultKind::Permission => put(text, right_words(op)),
-        FaultKind::Alignment => put_multiple(text, op),
-        FaultKind::AccessFlag => put(text, " has no access flag"),
-        FaultKind::OutsideRam => put(text, " leads out of RAM"),
+        FaultKind::Permission => text.put(right_words(op)),
+        FaultKind::Alignment => text.put_behind(" is no multiple of ", 1, bytes_moved(op)),
+        FaultKind::AccessFlag => text.put(" has no access flag"),
+        FaultKind::OutsideRam => text.put(" leads out of RAM"),
     }
 }
 
 // What stands in the way of the address.
-fn put_obstacle<A: Allocator>(
-    text: &mut Vec<u8, A>,
-    obstacle: Option<Obstacle>,
-) -> Result<(), PlayError>
-    ensures written { OnOk result (text.new.items ≡ text.old.items ++ obstacle_text obstacle) }
-    ensures failed { IfErr result (λ e. e ≡ PlayError.NoMemory) }
+#[tactic(auto, unfolding(crate::specs::Reasons::transaction_text))]
+fn put_obstacle<A: Allocator>(text: &mut Draft<A>, obstacle: Option<Obstacle>)
+    ensures { Puts text.old text.new (obstacle_text obstacle) }
 {
     match obstacle {
-        None => put(text, " is above FFFFFFFF"),
-        Some(Obstacle::OutsideRam) => put(text, " is outside RAM"),
-        Some(Obstacle::ManagersPage) => put(text, " belongs to the manager"),
-        Some(Obstacle::OwnedBy(endpoint)) => put_owner(text, endpoint),
-        Some(Obstacle::InTransaction(handle)) => put_transaction(text, handle),
+        None => text.put(" is above FFFFFFFF"),
+        Some(Obstacle::OutsideRam) => text.put(" is outside RAM"),
+        Some(Obstacle::ManagersPage) => text.put(" belongs to the manager"),
+        Some(Obstacle::OwnedBy(endpoint)) => {
+            text.put_behind(" belongs to ", 4, u64::from(endpoint.0))
+        }
+        Some(Obstacle::InTransaction(handle)) => {
+            text.put_behind(" is in the open transaction ", 16, handle)
+        }
     }
-}
-
-fn put_owner<A: Allocator>(text: &mut Vec<u8, A>, endpoint: EndpointId) -> Result<(), PlayError>
-    ensures written { let owned = obstacle_text (Some (Obstacle.OwnedBy endpoint)) in
-        OnOk result (text.new.items ≡ text.old.items ++ owned) }
-    ensures failed { IfErr result (λ e. e ≡ PlayError.NoMemory) }
-{
-    put(text, " belongs to ")?;
-    put_digits(text, 4, u64::from(endpoint.0))
-}
-
-fn put_transaction<A: Allocator>(text: &mut Vec<u8, A>, handle: u64) -> Result<(), PlayError>
-    ensures written { OnOk result (text.new.items ≡ text.old.items ++ transaction_text handle) }
-    ensures failed { IfErr result (λ e. e ≡ PlayError.NoMemory) }
-{
-    put(text, " is in the open transaction ")?;
-    put_digits(text, 16, handle)
 }
 
 // What the runner has no right to do there.
@@ -453,14 +352,6 @@ fn right_words(op: Op) -> &'static str
         Op::Store { .. } => " may not be written",
         Op::Fetch { .. } => " may not be executed",
     }
-}
-
-fn put_multiple<A: Allocator>(text: &mut Vec<u8, A>, op: Op) -> Result<(), PlayError>
-    ensures written { OnOk result (text.new.items ≡ text.old.items ++ fault_text op FaultKind.Alignment None) }
-    ensures failed { IfErr result (λ e. e ≡ PlayError.NoMemory) }
-{
-    put(text, " is no multiple of ")?;
-    put_digits(text, 1, bytes_moved(op))
 }
 
 // How many bytes an operation moves.

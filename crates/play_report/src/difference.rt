@@ -5,7 +5,7 @@ ghost use Rattle.play_report.specs.Failures.{IsDifference, IsShort};
 
 use crate::failure::Failure;
 use crate::output::write;
-use play_reasons::{Reason, put_reason};
+use play_reasons::{Draft, Reason, put_reason};
 use std::alloc::Allocator;
 use std::io::Write;
 use std::{fmt, io};
@@ -72,8 +72,9 @@ impl<'a> Difference<'a> {
         let mut text = Vec::new(alloc);
         // A text in memory takes all that there is memory for.
         self.put(&mut text).map_err(|_| Failure::NoMemory)?;
-        put_reason(&mut text, self.reason).map_err(|_| Failure::NoMemory)?;
-        Ok(text)
+        let mut draft = Draft::of(text);
+        put_reason(&mut draft, self.reason);
+        draft.end().map_err(|_| Failure::NoMemory)
     }
 
     fn put<A: Allocator>(&self, text: &mut Vec<u8, A>) -> io::Result<()> {

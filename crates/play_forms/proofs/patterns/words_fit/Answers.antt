@@ -1,5 +1,5 @@
 -- SPDX-License-Identifier: MIT OR Apache-2.0
-use Rattle.std.proofs.Common.{◌≡◌, ◌∙◌, false, true, ap, sym, refl}
+use Rattle.std.proofs.Common.{◌≡◌, ◌∙◌, false, ap, sym, refl}
 use Rattle.std.specs.Prelude.{◌&&◌, codes, not, option_map}
 use Rattle.play_syntax.specs.TraceLines.{words_of}
 use Rattle.play_forms.specs.Patterns.{fit}

@@ -4,10 +4,10 @@ use Rattle.std.specs.Io.KnownBytes.{Appends}
 use Rattle.play_forms.specs.Followed.{Followed}
 use Rattle.play_forms.proofs.playing.play.Given as goal
 
-abbrev pub invariant-loop-text : goal.invariant-loop-text
-invariant-loop-text g l =
+abbrev pub invariant-loop-texts : goal.invariant-loop-texts
+invariant-loop-texts g l =
     (lines : List (List ℕ)) × (text : List ℕ) × Followed l.fn.form l.fn.player.state l.player.state (g.R.Read.remaining l.fn.reader) (g.R.Read.remaining l.reader) lines text
     × Appends (g.W.Write.contents l.fn.writer) (g.W.Write.contents l.writer) text × (l.lines.number ≡ 1 + length lines)
 
-abbrev pub decreases-loop-text : goal.decreases-loop-text
-decreases-loop-text g l = 2 ^ 64 - l.lines.number
+abbrev pub decreases-loop-texts : goal.decreases-loop-texts
+decreases-loop-texts g l = 2 ^ 64 - l.lines.number

@@ -7,10 +7,10 @@ use Rattle.play_forms.specs.Forms.{plain}
 use Rattle.play_forms.specs.Recorded.{recorded}
 use Rattle.play_forms.proofs.recording.record.Given as goal
 
-abbrev pub invariant-loop-said : goal.invariant-loop-said
-invariant-loop-said g l =
+abbrev pub invariant-loop-texts : goal.invariant-loop-texts
+invariant-loop-texts g l =
     (lines : List (List ℕ)) × (said : List ℕ) × Followed plain l.fn.player.state l.player.state (g.R.Read.remaining l.fn.reader) (g.R.Read.remaining l.reader) lines said
     × Appends (g.W.Write.contents l.fn.writer) (g.W.Write.contents l.writer) (joined (recorded l.fn.player.state lines)) × (l.lines.number ≡ 1 + length lines)
 
-abbrev pub decreases-loop-said : goal.decreases-loop-said
-decreases-loop-said g l = 2 ^ 64 - l.lines.number
+abbrev pub decreases-loop-texts : goal.decreases-loop-texts
+decreases-loop-texts g l = 2 ^ 64 - l.lines.number

@@ -1,6 +1,5 @@
 -- SPDX-License-Identifier: MIT OR Apache-2.0
-use Rattle.std.proofs.Common.{◌≡◌, ◌∙◌, Ok, Err, subst}
-use Rattle.play_syntax.specs.declared.output.PlayError.TheVariants.{BadLine}
+use Rattle.std.proofs.Common.{Ok, subst}
 use Rattle.play_forms.specs.SessionSteps.{TellsOrLoses}
 use Rattle.play_forms.proofs.BadLines.{rest_told}
 use Rattle.play_forms.proofs.session.hear_line.Goals as goal

@@ -7,70 +7,70 @@ use Rattle.play_forms.proofs.BadLines.{cut_told, heard_told, over_told, told_mor
 use Rattle.play_forms.proofs.Conversing.{conversed, heard, more, over, unanswered, unheard}
 use Rattle.play_forms.proofs.session.play_session.Goals as goal
 
-pub loop-text-init : goal.loop-text-init
-loop-text-init g c = ([], [], refl, Consumes-nil _, refl, refl, Appends-nil _, omega arith, [], refl, Appends-nil _)
+pub loop-texts-init : goal.loop-texts-init
+loop-texts-init g c = ([], [], refl, Consumes-nil _, refl, refl, Appends-nil _, omega arith, [], refl, Appends-nil _)
 
 pub returns-in_err-hear_line-clause-done : goal.returns-in_err-hear_line-clause-done
 returns-in_err-hear_line-clause-done g c =
-    let i = c.loop-text.invariant in
+    let i = c.loop-texts.invariant in
     let p = err_from_is_err_and c.from_residual.result c.from_residual.ensures.1 in
     rw (p.1, p.2)
-    (unheard c.args.form c.args.player.now.state c.loop-text.player.state (g.R.Read.remaining c.args.reader.now) (g.R.Read.remaining c.loop-text.reader) i.0 i.1 i.2 i.3 i.4 i.5 c.in_err-hear_line.field-0.0
-    (g.R.Read.remaining c.hear_line.new.reader) c.hear_line.new.bytes.items c.loop-text.number (g.W.Write.contents c.args.writer.now) (g.W.Write.contents c.loop-text.writer) i.6 c.in_err-hear_line.ensures.heard)
+    (unheard c.args.form c.args.player.now.state c.loop-texts.player.state (g.R.Read.remaining c.args.reader.now) (g.R.Read.remaining c.loop-texts.reader) i.0 i.1 i.2 i.3 i.4 i.5 c.in_err-hear_line.field-0.0
+    (g.R.Read.remaining c.hear_line.new.reader) c.hear_line.new.bytes.items c.loop-texts.number (g.W.Write.contents c.args.writer.now) (g.W.Write.contents c.loop-texts.writer) i.6 c.in_err-hear_line.ensures.heard)
 
 pub returns-in_err-answer_line-clause-done : goal.returns-in_err-answer_line-clause-done
 returns-in_err-answer_line-clause-done g c =
-    let i = c.loop-text.invariant in
-    let has = g.R.Read.remaining c.loop-text.reader in
+    let i = c.loop-texts.invariant in
+    let has = g.R.Read.remaining c.loop-texts.reader in
     let then = g.R.Read.remaining c.hear_line.new.reader in
     let line = c.hear_line.new.bytes.items in
-    let one = heard has then line c.loop-text.number c.in_ok-hear_line.field-0 c.if-branch.true c.in_ok-hear_line.ensures.heard in
+    let one = heard has then line c.loop-texts.number c.in_ok-hear_line.field-0 c.if-branch.true c.in_ok-hear_line.ensures.heard in
     let p = err_from_is_err_and c.from_residual-in_err-answer_line.result c.from_residual-in_err-answer_line.ensures.1 in
     rw (p.1, p.2)
-    (unanswered c.args.form c.args.player.now.state c.loop-text.player.state (g.R.Read.remaining c.args.reader.now) has i.0 i.1 i.2 i.3 i.4 i.5 c.answer_line.new.player.state then line c.loop-text.number i.7 one.0 one.1
-    c.in_err-answer_line.field-0.0 (g.W.Write.contents c.args.writer.now) (g.W.Write.contents c.loop-text.writer) (g.W.Write.contents c.answer_line.new.writer) i.6 c.in_err-answer_line.ensures.done)
+    (unanswered c.args.form c.args.player.now.state c.loop-texts.player.state (g.R.Read.remaining c.args.reader.now) has i.0 i.1 i.2 i.3 i.4 i.5 c.answer_line.new.player.state then line c.loop-texts.number i.7 one.0 one.1
+    c.in_err-answer_line.field-0.0 (g.W.Write.contents c.args.writer.now) (g.W.Write.contents c.loop-texts.writer) (g.W.Write.contents c.answer_line.new.writer) i.6 c.in_err-answer_line.ensures.done)
 
 pub returns-in_err-hear_line-clause-told : goal.returns-in_err-hear_line-clause-told
 returns-in_err-hear_line-clause-told g c =
-    let i = c.loop-text.invariant in
+    let i = c.loop-texts.invariant in
     let p = err_from_is_err_and c.from_residual.result c.from_residual.ensures.1 in
     rw (p.1, p.2)
-    (cut_told (g.R.Read.remaining c.args.reader.now) (g.R.Read.remaining c.loop-text.reader) i.0 i.2 i.3 c.loop-text.number i.7 (g.E.Write.contents c.args.told.now) (g.E.Write.contents c.loop-text.told) i.8 i.9 i.10
+    (cut_told (g.R.Read.remaining c.args.reader.now) (g.R.Read.remaining c.loop-texts.reader) i.0 i.2 i.3 c.loop-texts.number i.7 (g.E.Write.contents c.args.told.now) (g.E.Write.contents c.loop-texts.told) i.8 i.9 i.10
     c.in_err-hear_line.field-0.0 (g.E.Write.contents c.hear_line.new.told) c.in_err-hear_line.ensures.told)
 
 pub returns-in_err-answer_line-clause-told : goal.returns-in_err-answer_line-clause-told
 returns-in_err-answer_line-clause-told g c =
-    let i = c.loop-text.invariant in
-    let has = g.R.Read.remaining c.loop-text.reader in
-    let mid = g.E.Write.contents c.loop-text.told in
+    let i = c.loop-texts.invariant in
+    let has = g.R.Read.remaining c.loop-texts.reader in
+    let mid = g.E.Write.contents c.loop-texts.told in
     let heard = g.E.Write.contents c.hear_line.new.told in
     let holds = g.E.Write.contents c.answer_line.new.told in
-    let silent = heard_told has c.loop-text.number mid heard c.in_ok-hear_line.field-0 c.if-branch.true c.in_ok-hear_line.ensures.told in
+    let silent = heard_told has c.loop-texts.number mid heard c.in_ok-hear_line.field-0 c.if-branch.true c.in_ok-hear_line.ensures.told in
     let p = err_from_is_err_and c.from_residual-in_err-answer_line.result c.from_residual-in_err-answer_line.ensures.1 in
     rw (p.1, p.2)
-    (cut_told (g.R.Read.remaining c.args.reader.now) has i.0 i.2 i.3 c.loop-text.number i.7 (g.E.Write.contents c.args.told.now) mid i.8 i.9 i.10 c.in_err-answer_line.field-0.0 holds
+    (cut_told (g.R.Read.remaining c.args.reader.now) has i.0 i.2 i.3 c.loop-texts.number i.7 (g.E.Write.contents c.args.told.now) mid i.8 i.9 i.10 c.in_err-answer_line.field-0.0 holds
     (Keeps-trans mid heard holds silent c.in_err-answer_line.ensures.told))
 
 pub returns-clause-told : goal.returns-clause-told
 returns-clause-told g c =
-    let i = c.loop-text.invariant in
-    over_told (g.R.Read.remaining c.args.reader.now) (g.R.Read.remaining c.loop-text.reader) i.0 i.2 i.3 c.loop-text.number i.7 (g.E.Write.contents c.args.told.now) (g.E.Write.contents c.loop-text.told) i.8 i.9 i.10
+    let i = c.loop-texts.invariant in
+    over_told (g.R.Read.remaining c.args.reader.now) (g.R.Read.remaining c.loop-texts.reader) i.0 i.2 i.3 c.loop-texts.number i.7 (g.E.Write.contents c.args.told.now) (g.E.Write.contents c.loop-texts.told) i.8 i.9 i.10
     (g.E.Write.contents c.hear_line.new.told) c.in_ok-hear_line.field-0 c.if-branch.false c.in_ok-hear_line.ensures.told
 
-pub loop-text-preserved : goal.loop-text-preserved
-loop-text-preserved g c =
-    let i = c.loop-text.invariant in
-    let has = g.R.Read.remaining c.loop-text.reader in
+pub loop-texts-preserved : goal.loop-texts-preserved
+loop-texts-preserved g c =
+    let i = c.loop-texts.invariant in
+    let has = g.R.Read.remaining c.loop-texts.reader in
     let then = g.R.Read.remaining c.hear_line.new.reader in
     let line = c.hear_line.new.bytes.items in
-    let one = heard has then line c.loop-text.number c.in_ok-hear_line.field-0 c.if-branch.true c.in_ok-hear_line.ensures.heard in
+    let one = heard has then line c.loop-texts.number c.in_ok-hear_line.field-0 c.if-branch.true c.in_ok-hear_line.ensures.heard in
     let made = c.in_ok-answer_line.ensures.done in
-    let silent = heard_told has c.loop-text.number (g.E.Write.contents c.loop-text.told) (g.E.Write.contents c.hear_line.new.told) c.in_ok-hear_line.field-0 c.if-branch.true c.in_ok-hear_line.ensures.told in
-    let told = told_more (g.R.Read.remaining c.args.reader.now) has i.0 i.2 i.3 c.loop-text.number i.7 (g.E.Write.contents c.args.told.now) (g.E.Write.contents c.loop-text.told) i.8 i.9 i.10 line
+    let silent = heard_told has c.loop-texts.number (g.E.Write.contents c.loop-texts.told) (g.E.Write.contents c.hear_line.new.told) c.in_ok-hear_line.field-0 c.if-branch.true c.in_ok-hear_line.ensures.told in
+    let told = told_more (g.R.Read.remaining c.args.reader.now) has i.0 i.2 i.3 c.loop-texts.number i.7 (g.E.Write.contents c.args.told.now) (g.E.Write.contents c.loop-texts.told) i.8 i.9 i.10 line
     (g.E.Write.contents c.hear_line.new.told) (g.E.Write.contents c.answer_line.new.told) silent c.in_ok-answer_line.ensures.told in
-    let next = more c.args.form c.args.player.now.state c.loop-text.player.state (g.R.Read.remaining c.args.reader.now) has i.0 i.1 i.2 i.3 i.4 i.5 c.answer_line.new.player.state then line c.loop-text.number i.7 one.0 one.1 made.0 in (
+    let next = more c.args.form c.args.player.now.state c.loop-texts.player.state (g.R.Read.remaining c.args.reader.now) has i.0 i.1 i.2 i.3 i.4 i.5 c.answer_line.new.player.state then line c.loop-texts.number i.7 one.0 one.1 made.0 in (
       i.0 ++ line ∷ [],
-      i.1 ++ text_of_in c.args.form c.loop-text.number c.loop-text.player.state line,
+      i.1 ++ text_of_in c.args.form c.loop-texts.number c.loop-texts.player.state line,
       next.0,
       next.1,
       next.2,
@@ -84,12 +84,12 @@ loop-text-preserved g c =
 
 pub returns-clause-done : goal.returns-clause-done
 returns-clause-done g c =
-    let i = c.loop-text.invariant in
-    let has = g.R.Read.remaining c.loop-text.reader in (
+    let i = c.loop-texts.invariant in
+    let has = g.R.Read.remaining c.loop-texts.reader in (
       has,
       i.0,
       i.1,
-      conversed c.args.form c.args.player.now.state c.loop-text.player.state (g.R.Read.remaining c.args.reader.now) has i.0 i.1 i.2 i.3 i.4 i.5,
-      over has (g.R.Read.remaining c.hear_line.new.reader) c.hear_line.new.bytes.items c.loop-text.number c.in_ok-hear_line.field-0 c.if-branch.false c.in_ok-hear_line.ensures.heard,
+      conversed c.args.form c.args.player.now.state c.loop-texts.player.state (g.R.Read.remaining c.args.reader.now) has i.0 i.1 i.2 i.3 i.4 i.5,
+      over has (g.R.Read.remaining c.hear_line.new.reader) c.hear_line.new.bytes.items c.loop-texts.number c.in_ok-hear_line.field-0 c.if-branch.false c.in_ok-hear_line.ensures.heard,
       i.6,
     )

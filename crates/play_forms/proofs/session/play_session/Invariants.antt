@@ -8,13 +8,13 @@ use Rattle.play_forms.specs.Forms.{text_in}
 use Rattle.play_forms.specs.Sessions.{ToldOfAll}
 use Rattle.play_forms.proofs.session.play_session.Given as goal
 
-abbrev pub invariant-loop-text : goal.invariant-loop-text
-invariant-loop-text g l =
+abbrev pub invariant-loop-texts : goal.invariant-loop-texts
+invariant-loop-texts g l =
     (lines : List (List ℕ)) × (printed : List ℕ) × (list_all has_no_feed lines ≡ true)
     × Consumes (g.R.Read.remaining l.fn.reader) (g.R.Read.remaining l.reader) (joined lines)
     × (l.player.state ≡ after_all l.fn.player.state lines) × (printed ≡ text_in l.fn.form 1 l.fn.player.state lines)
     × Appends (g.W.Write.contents l.fn.writer) (g.W.Write.contents l.writer) printed × (l.number ≡ 1 + length lines)
     × (said : List ℕ) × ToldOfAll 1 lines said × Appends (g.E.Write.contents l.fn.told) (g.E.Write.contents l.told) said
 
-abbrev pub decreases-loop-text : goal.decreases-loop-text
-decreases-loop-text g l = 2 ^ 64 - l.number
+abbrev pub decreases-loop-texts : goal.decreases-loop-texts
+decreases-loop-texts g l = 2 ^ 64 - l.number

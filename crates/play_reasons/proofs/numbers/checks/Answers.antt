@@ -1,5 +1,5 @@
 -- SPDX-License-Identifier: MIT OR Apache-2.0
-use Rattle.std.proofs.Common.{◌≡◌, List, ap, subst, sym, ◌∙◌}
+use Rattle.std.proofs.Common.{ap, subst, sym, ◌∙◌}
 use Rattle.ffa_model.specs.Registers.{decode}
 use Rattle.ffa_model.specs.Checks.{AreListed, checks_of}
 use Rattle.ffa_model.proofs.Served.{listed}
