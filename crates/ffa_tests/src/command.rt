@@ -1,7 +1,9 @@
 // SPDX-License-Identifier: MIT OR Apache-2.0
 //! Worked command lines, and what they ask for.
 use crate::checks::same_at;
-use play_arguments::{DescriptorWords, MachineOptions, Request, TextOptions, request};
+use play_arguments::{
+    DescriptorWords, MachineOptions, PlayOptions, Purpose, Request, Source, TextOptions, request,
+};
 use std::alloc::{AllocError, Global};
 use std::process::Abort;
 use std::test::Fail;
@@ -60,40 +62,36 @@ fn push_request(words: &mut String, request: &Request<'_>) -> Result<(), AllocEr
 // The command, with its paths and numbers.
 fn push_command(words: &mut String, request: &Request<'_>) -> Result<(), AllocError> {
     match *request {
-        Request::Run {
-            manifest,
-            trace,
-            ..
-        } => write!(words, "run {manifest} {trace}"),
-        Request::Demo { trace, .. } => write!(words, "demo {trace}"),
-        Request::Record {
-            manifest,
-            trace,
-            ..
-        } => write!(words, "record {manifest} {trace}"),
-        Request::Compare {
-            manifest,
-            trace,
-            expected,
-            ..
-        } => write!(words, "compare {manifest} {trace} {expected}"),
+        Request::Play(options) => push_play(words, options),
         Request::Check { manifest, .. } => write!(words, "check {manifest}"),
         Request::Layout { manifest, .. } => write!(words, "layout {manifest}"),
         Request::Descriptor { words: record } => push_record(words, &record),
-        Request::Generate {
-            manifest,
-            seed,
-            lines,
-            ..
-        } => write!(words, "generate {manifest} {seed} {lines}"),
-        Request::Picture {
-            manifest,
-            trace,
-            drawing,
-            ..
-        } => {
+        Request::Generate(options) => {
+            let (manifest, seed, lines) = (options.manifest, options.seed, options.lines);
+            write!(words, "generate {manifest} {seed} {lines}")
+        }
+    }
+}
+
+// The command by which a trace is played, with its paths and numbers.
+fn push_play(words: &mut String, options: PlayOptions<'_>) -> Result<(), AllocError> {
+    words.push_str(match (options.purpose, options.source) {
+        (Purpose::Print { .. }, Source::File(_)) => "run",
+        (Purpose::Print { .. }, Source::BuiltIn) => "demo",
+        (Purpose::Record, _) => "record",
+        (Purpose::Compare { .. }, _) => "compare",
+        (Purpose::Draw(_), _) => "picture",
+    })?;
+    if let Source::File(manifest) = options.source {
+        write!(words, " {manifest}")?;
+    }
+    write!(words, " {}", options.trace)?;
+    match options.purpose {
+        Purpose::Print { .. } | Purpose::Record => Ok(()),
+        Purpose::Compare { expected, .. } => write!(words, " {expected}"),
+        Purpose::Draw(drawing) => {
             let (every, width) = (drawing.every, drawing.width);
-            write!(words, "picture {manifest} {trace} {every} {width}")
+            write!(words, " {every} {width}")
         }
     }
 }
@@ -101,36 +99,33 @@ fn push_command(words: &mut String, request: &Request<'_>) -> Result<(), AllocEr
 // The flags that a command of the machine, of the text or of its own has.
 fn push_options(words: &mut String, request: &Request<'_>) -> Result<(), AllocError> {
     match *request {
-        Request::Run {
-            machine,
-            text,
-            strict,
-            interactive,
-            ..
+        Request::Play(options) => {
+            push_machine(words, options.machine)?;
+            push_purpose(words, options.purpose)
         }
-        | Request::Demo {
-            machine,
+        Request::Layout { regions, .. } => push_flags(words, &[("regions", regions)]),
+        Request::Generate(options) => push_flags(words, &[("count", options.count)]),
+        Request::Check { .. } | Request::Descriptor { .. } => Ok(()),
+    }
+}
+
+// The flags of what a trace is played for.
+fn push_purpose(words: &mut String, purpose: Purpose<'_>) -> Result<(), AllocError> {
+    match purpose {
+        Purpose::Print {
             text,
             strict,
             interactive,
-            ..
         } => {
-            push_machine(words, machine)?;
             push_text(words, text)?;
             push_flags(words, &[("strict", strict), ("interactive", interactive)])
         }
-        Request::Record { machine, .. } => push_machine(words, machine),
-        Request::Compare { machine, text, .. } => {
-            push_machine(words, machine)?;
-            push_text(words, text)
-        }
-        Request::Layout { regions, .. } => push_flags(words, &[("regions", regions)]),
-        Request::Generate { count, .. } => push_flags(words, &[("count", count)]),
-        Request::Picture { drawing, .. } => {
+        Purpose::Record => Ok(()),
+        Purpose::Compare { text, .. } => push_text(words, text),
+        Purpose::Draw(drawing) => {
             let (refused, page) = (drawing.refused, drawing.page);
             push_flags(words, &[("refused", refused), ("page", page)])
         }
-        Request::Check { .. } | Request::Descriptor { .. } => Ok(()),
     }
 }
 

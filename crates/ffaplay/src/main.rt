@@ -8,6 +8,11 @@ use play_machines::Booted;
 use std::process::ExitCode;
 
 fn main(rt: HostRuntime) -> ExitCode {
-    let program = Program(Booted);
+    let alloc = rt.alloc();
+    let program = Program {
+        machines: Booted,
+        manifests: alloc,
+        alloc,
+    };
     ExitCode::from(run(&rt, rt.stdin(), rt.stdout(), &mut rt.stderr(), &program))
 }

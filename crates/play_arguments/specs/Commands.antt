@@ -12,9 +12,13 @@ use Rattle.clap.specs.declared.error.Error.{Error}
 use Rattle.play_arguments.specs.declared.command_line.DescriptorWords.{DescriptorWords}
 use Rattle.play_arguments.specs.declared.command_line.MachineOptions.{MachineOptions}
 use Rattle.play_arguments.specs.declared.command_line.PictureOptions.{PictureOptions}
+use Rattle.play_arguments.specs.declared.command_line.Purpose.{Purpose}
+use Rattle.play_arguments.specs.declared.command_line.Purpose.TheVariants.{Print, Record, Compare, Draw}
+use Rattle.play_arguments.specs.declared.command_line.Source.{Source}
+use Rattle.play_arguments.specs.declared.command_line.Source.TheVariants.{BuiltIn, File}
 use Rattle.play_arguments.specs.declared.command_line.TextOptions.{TextOptions}
 use Rattle.play_arguments.specs.declared.command_line.Request.{Request}
-use Rattle.play_arguments.specs.declared.command_line.Request.TheVariants.{Run, Demo, Record, Compare, Check, Layout, Descriptor, Generate, Picture}
+use Rattle.play_arguments.specs.declared.command_line.Request.TheVariants.{Play, Check, Layout, Descriptor, Generate}
 
 -- a path that has to be given
 abbrev pub path_rule : Text → Rule
@@ -171,65 +175,62 @@ words_of w = record {
   compact = w.compact;
 }
 
+-- what a trace is played for
+pub data Aim : Type 0 where
+  print : TextOptions → (strict interactive : Bool) → Aim
+  record_trace : Aim
+  compare : (expected : Text) → TextOptions → Aim
+  draw : PictureOptions → Aim
+
+abbrev pub aim_of : Purpose → Aim
+aim_of (Print text strict interactive) = print text strict interactive
+aim_of Record = record_trace
+aim_of (Compare expected text) = compare expected.now text
+aim_of (Draw drawing) = draw drawing
+
+-- the path of the manifest of the machine on which a trace is played, which the built-in one hasn't
+abbrev pub path_of : Source → Option Text
+path_of BuiltIn = None
+path_of (File path) = Some path.now
+
 -- a command with its paths and what its flags say
 pub data Ask : Type 0 where
-  run : Text → Text → MachineOptions → TextOptions → (strict interactive verbose : Bool) → Ask
-  demo : Text → MachineOptions → TextOptions → (strict interactive verbose : Bool) → Ask
-  record_trace : Text → Text → MachineOptions → Bool → Ask
-  compare : Text → Text → Text → MachineOptions → TextOptions → Bool → Ask
+  play : (manifest : Option Text) → (trace : Text) → MachineOptions → Aim → (verbose : Bool) → Ask
   check : Text → Bool → Ask
   layout : Text → (regions verbose : Bool) → Ask
   descriptor : Described → Ask
   generate : Text → (seed lines : ℕ) → (count verbose : Bool) → Ask
-  picture : Text → Text → PictureOptions → Bool → Ask
 
 abbrev pub ask_of : Request → Ask
-ask_of (Run manifest trace machine text strict interactive verbose) =
-    run manifest.now trace.now machine text strict interactive verbose
-ask_of (Demo trace machine text strict interactive verbose) = demo trace.now machine text strict interactive verbose
-ask_of (Record manifest trace machine verbose) = record_trace manifest.now trace.now machine verbose
-ask_of (Compare manifest trace expected machine text verbose) =
-    compare manifest.now trace.now expected.now machine text verbose
+ask_of (Play o) = play (path_of o.source) o.trace.now o.machine (aim_of o.purpose) o.verbose
 ask_of (Check manifest verbose) = check manifest.now verbose
 ask_of (Layout manifest regions verbose) = layout manifest.now regions verbose
 ask_of (Descriptor words) = descriptor (words_of words)
-ask_of (Generate manifest seed lines count verbose) = generate manifest.now seed lines count verbose
-ask_of (Picture manifest trace drawing verbose) = picture manifest.now trace.now drawing verbose
+ask_of (Generate o) = generate o.manifest.now o.seed o.lines o.count o.verbose
 
 -- the path of the manifest that is asked for, that of the trace, and that of the expected text
 abbrev pub manifest_of : Ask → Option Text
-manifest_of (run manifest trace machine text strict interactive verbose) = Some manifest
-manifest_of (record_trace manifest trace machine verbose) = Some manifest
-manifest_of (compare manifest trace expected machine text verbose) = Some manifest
+manifest_of (play manifest trace machine aim verbose) = manifest
 manifest_of (check manifest verbose) = Some manifest
 manifest_of (layout manifest regions verbose) = Some manifest
+manifest_of (descriptor words) = None
 manifest_of (generate manifest seed lines count verbose) = Some manifest
-manifest_of (picture manifest trace drawing verbose) = Some manifest
-manifest_of _ = None
 
 abbrev pub trace_of : Ask → Option Text
-trace_of (run manifest trace machine text strict interactive verbose) = Some trace
-trace_of (demo trace machine text strict interactive verbose) = Some trace
-trace_of (record_trace manifest trace machine verbose) = Some trace
-trace_of (compare manifest trace expected machine text verbose) = Some trace
-trace_of (picture manifest trace drawing verbose) = Some trace
+trace_of (play manifest trace machine aim verbose) = Some trace
 trace_of _ = None
 
 abbrev pub expected_of : Ask → Option Text
-expected_of (compare manifest trace expected machine text verbose) = Some expected
+expected_of (play manifest trace machine (compare expected text) verbose) = Some expected
 expected_of _ = None
 
 -- whether more is to be said of what is refused
 abbrev pub verbose_of : Ask → Bool
-verbose_of (run manifest trace machine text strict interactive verbose) = verbose
-verbose_of (demo trace machine text strict interactive verbose) = verbose
-verbose_of (record_trace manifest trace machine verbose) = verbose
-verbose_of (compare manifest trace expected machine text verbose) = verbose
+verbose_of (play manifest trace machine aim verbose) = verbose
 verbose_of (check manifest verbose) = verbose
 verbose_of (layout manifest regions verbose) = verbose
 verbose_of (descriptor words) = false
 verbose_of (generate manifest seed lines count verbose) = verbose
-verbose_of (picture manifest trace drawing verbose) = verbose
 
 -- whether a path is given and is `-`, which stands for standard input
 unfoldable pub is_input : Option Text → Bool
@@ -237,9 +238,7 @@ is_input path = option_map_or (λ p. bytes_eq p (codes "-")) path false
 
 -- whether each text is to be written before more of the trace is read
 abbrev pub answers_at_once : Ask → Bool
-answers_at_once (run manifest trace machine text strict interactive verbose) =
-    text.line_buffered || (interactive || is_input (Some trace))
-answers_at_once (demo trace machine text strict interactive verbose) =
+answers_at_once (play manifest trace machine (print text strict interactive) verbose) =
     text.line_buffered || (interactive || is_input (Some trace))
 answers_at_once _ = false
 
@@ -249,8 +248,7 @@ reads_once ask = nat_le (count_by is_input (manifest_of ask ∷ trace_of ask ∷
 
 -- flags that exclude one another: a play that ends at a guard that isn't met, and one that lives on
 abbrev pub excludes_none : Ask → Bool
-excludes_none (run manifest trace machine text strict interactive verbose) = not (strict && interactive)
-excludes_none (demo trace machine text strict interactive verbose) = not (strict && interactive)
+excludes_none (play manifest trace machine (print text strict interactive) verbose) = not (strict && interactive)
 excludes_none _ = true
 
 -- whether a flag was given
@@ -295,32 +293,36 @@ value >>= next = option_and_then next value
 abbrev pub number_in : Text → List Row → Option ℕ
 number_in id rows = option_and_then number_of (first_of id rows)
 
--- what the matches of a command ask for
-unfoldable pub run_in : List Row → Option Ask
-run_in rows = do
-  manifest ← first_of (codes "manifest") rows
-  trace ← first_of (codes "trace") rows
-  Some (run manifest trace (machine_in rows) (text_in rows)
-      (is_given (codes "strict") rows) (is_given (codes "interactive") rows) (is_given (codes "verbose") rows))
+-- what a trace is to be played for
+unfoldable pub print_in : List Row → Aim
+print_in rows = print (text_in rows) (is_given (codes "strict") rows) (is_given (codes "interactive") rows)
 
-unfoldable pub demo_in : List Row → Option Ask
-demo_in rows = do
-  trace ← first_of (codes "trace") rows
-  Some (demo trace (machine_in rows) (text_in rows)
-      (is_given (codes "strict") rows) (is_given (codes "interactive") rows) (is_given (codes "verbose") rows))
-
-unfoldable pub record_in : List Row → Option Ask
-record_in rows = do
-  manifest ← first_of (codes "manifest") rows
-  trace ← first_of (codes "trace") rows
-  Some (record_trace manifest trace (machine_in rows) (is_given (codes "verbose") rows))
-
-unfoldable pub compare_in : List Row → Option Ask
+unfoldable pub compare_in : List Row → Option Aim
 compare_in rows = do
-  manifest ← first_of (codes "manifest") rows
-  trace ← first_of (codes "trace") rows
   expected ← first_of (codes "expected") rows
-  Some (compare manifest trace expected (machine_in rows) (text_in rows) (is_given (codes "verbose") rows))
+  Some (compare expected (text_in rows))
+
+unfoldable pub draw_in : List Row → Option Aim
+draw_in rows = do
+  every ← number_in (codes "every") rows
+  width ← number_in (codes "width") rows
+  Some (draw (record {
+    every = every;
+    width = width;
+    refused = is_given (codes "refused") rows;
+    page = is_given (codes "page") rows;
+  }))
+
+-- what the matches of a command ask for
+unfoldable pub play_in : List Row → (manifest : Option Text) → Aim → Option Ask
+play_in rows manifest aim = do
+  trace ← first_of (codes "trace") rows
+  Some (play manifest trace (machine_in rows) aim (is_given (codes "verbose") rows))
+
+unfoldable pub play_file_in : List Row → Aim → Option Ask
+play_file_in rows aim = do
+  manifest ← first_of (codes "manifest") rows
+  play_in rows (Some manifest) aim
 
 unfoldable pub check_in : List Row → Option Ask
 check_in rows = do
@@ -358,35 +360,17 @@ generate_in rows = do
   lines ← number_in (codes "lines") rows
   Some (generate manifest seed lines (is_given (codes "count") rows) (is_given (codes "verbose") rows))
 
-unfoldable pub drawing_in : List Row → Option PictureOptions
-drawing_in rows = do
-  every ← number_in (codes "every") rows
-  width ← number_in (codes "width") rows
-  Some (record {
-    every = every;
-    width = width;
-    refused = is_given (codes "refused") rows;
-    page = is_given (codes "page") rows;
-  })
-
-unfoldable pub picture_in : List Row → Option Ask
-picture_in rows = do
-  manifest ← first_of (codes "manifest") rows
-  trace ← first_of (codes "trace") rows
-  drawing ← drawing_in rows
-  Some (picture manifest trace drawing (is_given (codes "verbose") rows))
-
 unfoldable pub ask_in : Text → List Row → Option Ask
 ask_in name rows =
-    if bytes_eq name (codes "run") then run_in rows
-    else if bytes_eq name (codes "demo") then demo_in rows
-    else if bytes_eq name (codes "record") then record_in rows
-    else if bytes_eq name (codes "compare") then compare_in rows
+    if bytes_eq name (codes "run") then play_file_in rows (print_in rows)
+    else if bytes_eq name (codes "demo") then play_in rows None (print_in rows)
+    else if bytes_eq name (codes "record") then play_file_in rows record_trace
+    else if bytes_eq name (codes "compare") then compare_in rows >>= play_file_in rows
+    else if bytes_eq name (codes "picture") then draw_in rows >>= play_file_in rows
     else if bytes_eq name (codes "check") then check_in rows
     else if bytes_eq name (codes "layout") then layout_in rows
     else if bytes_eq name (codes "descriptor") then descriptor_in rows
     else if bytes_eq name (codes "generate") then generate_in rows
-    else if bytes_eq name (codes "picture") then picture_in rows
     else None
 
 -- what the command that was met asks for, by its name and its matches

@@ -3,7 +3,7 @@
 ghost use Rattle.std.specs.Prelude.{◌≡◌, option_map, codes, drop, nat_eq, true};
 ghost use Rattle.std.specs.List.{starts_with};
 ghost use Rattle.clap.specs.Words.{found_of, first_of, rows_of, subcommand_rows_of};
-ghost use Rattle.play_arguments.specs.Commands.{ask_of, words_of, manifest_of, trace_of, expected_of, verbose_of, answers_at_once, is_input, reads_once, asked_in, is_given, number_of, numeral_of, machine_in, text_in, words_in, ask_in, ask_met, number_in, run_in, demo_in, record_in, compare_in, check_in, layout_in, descriptor_in, generate_in, picture_in, drawing_in, excludes_none};
+ghost use Rattle.play_arguments.specs.Commands.{aim_of, ask_of, path_of, words_of, manifest_of, trace_of, expected_of, verbose_of, answers_at_once, is_input, reads_once, asked_in, is_given, number_of, numeral_of, machine_in, text_in, words_in, ask_in, ask_met, number_in, print_in, compare_in, draw_in, play_in, play_file_in, check_in, layout_in, descriptor_in, generate_in, excludes_none};
 
 use clap::ArgMatches;
 
@@ -88,49 +88,79 @@ pub struct PictureOptions {
     pub page: bool,
 }
 
+/// Where the machine comes from on which a trace is played.
+#[derive(Clone, Copy)]
+pub enum Source<'a> {
+    /// It is the built-in one.
+    BuiltIn,
+    /// It is that of the manifest at this path.
+    File(&'a str),
+}
+
+impl<'a> Source<'a> {
+    /// The manifest's path.
+    pub fn path(&self) -> Option<&'a str>
+        ensures { option_map (λ path. path.now) result ≡ path_of self.now }
+    {
+        match *self {
+            Source::BuiltIn => None,
+            Source::File(path) => Some(path),
+        }
+    }
+}
+
+/// What a trace is played for.
+#[derive(Clone, Copy)]
+pub enum Purpose<'a> {
+    /// To print its text. Where `strict` is set, the trace's guards are checked; where `interactive` is set, a bad line is
+    /// told and the play goes on; at most one of them is.
+    Print {
+        text: TextOptions,
+        strict: bool,
+        interactive: bool,
+    },
+    /// To print it with the guards of its own play.
+    Record,
+    /// To compare its text with the one at this path. A difference is told with why the operation is refused at which it
+    /// is, where reasons are asked for.
+    Compare {
+        expected: &'a str,
+        text: TextOptions,
+    },
+    /// To print a picture of who reaches which page along it.
+    Draw(PictureOptions),
+}
+
+/// A trace to play: its path, on which machine, and what for.
+#[derive(Clone, Copy)]
+pub struct PlayOptions<'a> {
+    pub source: Source<'a>,
+    pub trace: &'a str,
+    pub machine: MachineOptions,
+    pub purpose: Purpose<'a>,
+    /// More is said of what is refused.
+    pub verbose: bool,
+}
+
+/// A trace to make up: for the machine of which manifest, from which seed, and of how many lines.
+#[derive(Clone, Copy)]
+pub struct GenerateOptions<'a> {
+    pub manifest: &'a str,
+    pub seed: u64,
+    pub lines: u64,
+    /// Its calls and accesses are counted, and it isn't printed.
+    pub count: bool,
+    /// More is said of what is refused.
+    pub verbose: bool,
+}
+
 /// A command with its paths, which are words of the command line, and what its flags say.
 ///
-/// At most one of its paths is `STANDARD_INPUT`. Where `strict` is set, the trace's guards are checked; where `interactive` is
-/// set, a bad line is told and the play goes on; at most one of them is. Where `verbose` is set, more is said on standard error of
-/// what is refused.
+/// At most one of its paths is `STANDARD_INPUT`. Where `verbose` is set, more is said on standard error of what is refused.
 #[derive(Clone, Copy)]
 pub enum Request<'a> {
-    /// To play a trace on the machine of a manifest.
-    Run {
-        manifest: &'a str,
-        trace: &'a str,
-        machine: MachineOptions,
-        text: TextOptions,
-        strict: bool,
-        interactive: bool,
-        verbose: bool,
-    },
-    /// To play a trace on the built-in machine.
-    Demo {
-        trace: &'a str,
-        machine: MachineOptions,
-        text: TextOptions,
-        strict: bool,
-        interactive: bool,
-        verbose: bool,
-    },
-    /// To print a trace with the guards of its own play on the machine of a manifest.
-    Record {
-        manifest: &'a str,
-        trace: &'a str,
-        machine: MachineOptions,
-        verbose: bool,
-    },
-    /// To compare what a trace prints on the machine of a manifest with what is expected. A difference is told with why the
-    /// operation is refused at which it is, where reasons are asked for.
-    Compare {
-        manifest: &'a str,
-        trace: &'a str,
-        expected: &'a str,
-        machine: MachineOptions,
-        text: TextOptions,
-        verbose: bool,
-    },
+    /// To play a trace.
+    Play(PlayOptions<'a>),
     /// To say whether a manifest is accepted.
     Check {
         manifest: &'a str,
@@ -147,20 +177,7 @@ pub enum Request<'a> {
         words: DescriptorWords<'a>,
     },
     /// To print a trace of so many lines for the machine of a manifest, or how often its calls and accesses ended in which way.
-    Generate {
-        manifest: &'a str,
-        seed: u64,
-        lines: u64,
-        count: bool,
-        verbose: bool,
-    },
-    /// To print a picture of who reaches which page along a trace on the machine of a manifest.
-    Picture {
-        manifest: &'a str,
-        trace: &'a str,
-        drawing: PictureOptions,
-        verbose: bool,
-    },
+    Generate(GenerateOptions<'a>),
 }
 
 impl<'a> Request<'a> {
@@ -169,14 +186,10 @@ impl<'a> Request<'a> {
         ensures { option_map (λ path. path.now) result ≡ manifest_of (ask_of self.now) }
     {
         match *self {
-            Request::Run { manifest, .. }
-            | Request::Record { manifest, .. }
-            | Request::Compare { manifest, .. }
-            | Request::Check { manifest, .. }
-            | Request::Layout { manifest, .. }
-            | Request::Generate { manifest, .. }
-            | Request::Picture { manifest, .. } => Some(manifest),
-            Request::Demo { .. } | Request::Descriptor { .. } => None,
+            Request::Play(options) => options.source.path(),
+            Request::Check { manifest, .. } | Request::Layout { manifest, .. } => Some(manifest),
+            Request::Generate(options) => Some(options.manifest),
+            Request::Descriptor { .. } => None,
         }
     }
 
@@ -185,15 +198,8 @@ impl<'a> Request<'a> {
         ensures { option_map (λ path. path.now) result ≡ trace_of (ask_of self.now) }
     {
         match *self {
-            Request::Run { trace, .. }
-            | Request::Demo { trace, .. }
-            | Request::Record { trace, .. }
-            | Request::Compare { trace, .. }
-            | Request::Picture { trace, .. } => Some(trace),
-            Request::Check { .. }
-            | Request::Layout { .. }
-            | Request::Descriptor { .. }
-            | Request::Generate { .. } => None,
+            Request::Play(options) => Some(options.trace),
+            _ => None,
         }
     }
 
@@ -202,7 +208,12 @@ impl<'a> Request<'a> {
         ensures { option_map (λ path. path.now) result ≡ expected_of (ask_of self.now) }
     {
         match *self {
-            Request::Compare { expected, .. } => Some(expected),
+            Request::Play(
+                PlayOptions {
+                    purpose: Purpose::Compare { expected, .. },
+                    ..
+                },
+            ) => Some(expected),
             _ => None,
         }
     }
@@ -212,14 +223,9 @@ impl<'a> Request<'a> {
         ensures { result ≡ verbose_of (ask_of self.now) }
     {
         match *self {
-            Request::Run { verbose, .. }
-            | Request::Demo { verbose, .. }
-            | Request::Record { verbose, .. }
-            | Request::Compare { verbose, .. }
-            | Request::Check { verbose, .. }
-            | Request::Layout { verbose, .. }
-            | Request::Generate { verbose, .. }
-            | Request::Picture { verbose, .. } => verbose,
+            Request::Play(options) => options.verbose,
+            Request::Check { verbose, .. } | Request::Layout { verbose, .. } => verbose,
+            Request::Generate(options) => options.verbose,
             Request::Descriptor { .. } => false,
         }
     }
@@ -231,25 +237,18 @@ impl<'a> Request<'a> {
         ensures { result ≡ answers_at_once (ask_of self.now) }
     {
         match *self {
-            Request::Run {
-                trace,
-                text,
-                interactive,
-                ..
-            }
-            | Request::Demo {
-                trace,
-                text,
-                interactive,
-                ..
-            } => text.line_buffered || interactive || is_input(Some(trace)),
-            Request::Record { .. }
-            | Request::Compare { .. }
-            | Request::Check { .. }
-            | Request::Layout { .. }
-            | Request::Descriptor { .. }
-            | Request::Generate { .. }
-            | Request::Picture { .. } => false,
+            Request::Play(
+                PlayOptions {
+                    trace,
+                    purpose: Purpose::Print {
+                        text,
+                        interactive,
+                        ..
+                    },
+                    ..
+                },
+            ) => text.line_buffered || interactive || is_input(Some(trace)),
+            _ => false,
         }
     }
 
@@ -269,16 +268,16 @@ impl<'a> Request<'a> {
         ensures { result ≡ excludes_none (ask_of self.now) }
     {
         match *self {
-            Request::Run {
-                strict,
-                interactive,
-                ..
-            }
-            | Request::Demo {
-                strict,
-                interactive,
-                ..
-            } => !(strict && interactive),
+            Request::Play(
+                PlayOptions {
+                    purpose: Purpose::Print {
+                        strict,
+                        interactive,
+                        ..
+                    },
+                    ..
+                },
+            ) => !(strict && interactive),
             _ => true,
         }
     }
@@ -374,67 +373,65 @@ fn text_in(matches: &ArgMatches<'_>) -> TextOptions
     }
 }
 
-#[tactic(auto, unfolding(crate::specs::Commands::run_in))]
-fn run_in<'a>(matches: &ArgMatches<'a>) -> Option<Request<'a>>
-    ensures { option_map ask_of result ≡ run_in (rows_of (found_of matches.now)) }
+#[tactic(auto, unfolding(crate::specs::Commands::print_in))]
+fn print_in<'a>(matches: &ArgMatches<'a>) -> Purpose<'a>
+    ensures { aim_of result ≡ print_in (rows_of (found_of matches.now)) }
 {
-    let manifest = text_of(matches, "manifest")?;
-    let trace = text_of(matches, "trace")?;
-    Some(Request::Run {
-        manifest,
-        trace,
-        machine: machine_in(matches),
+    Purpose::Print {
         text: text_in(matches),
         strict: is_given(matches, "strict"),
         interactive: is_given(matches, "interactive"),
-        verbose: is_given(matches, "verbose"),
-    })
-}
-
-#[tactic(auto, unfolding(crate::specs::Commands::demo_in))]
-fn demo_in<'a>(matches: &ArgMatches<'a>) -> Option<Request<'a>>
-    ensures { option_map ask_of result ≡ demo_in (rows_of (found_of matches.now)) }
-{
-    let trace = text_of(matches, "trace")?;
-    Some(Request::Demo {
-        trace,
-        machine: machine_in(matches),
-        text: text_in(matches),
-        strict: is_given(matches, "strict"),
-        interactive: is_given(matches, "interactive"),
-        verbose: is_given(matches, "verbose"),
-    })
-}
-
-#[tactic(auto, unfolding(crate::specs::Commands::record_in))]
-fn record_in<'a>(matches: &ArgMatches<'a>) -> Option<Request<'a>>
-    ensures { option_map ask_of result ≡ record_in (rows_of (found_of matches.now)) }
-{
-    let manifest = text_of(matches, "manifest")?;
-    let trace = text_of(matches, "trace")?;
-    Some(Request::Record {
-        manifest,
-        trace,
-        machine: machine_in(matches),
-        verbose: is_given(matches, "verbose"),
-    })
+    }
 }
 
 #[tactic(auto, unfolding(crate::specs::Commands::compare_in))]
-fn compare_in<'a>(matches: &ArgMatches<'a>) -> Option<Request<'a>>
-    ensures { option_map ask_of result ≡ compare_in (rows_of (found_of matches.now)) }
+fn compare_in<'a>(matches: &ArgMatches<'a>) -> Option<Purpose<'a>>
+    ensures { option_map aim_of result ≡ compare_in (rows_of (found_of matches.now)) }
+{
+    Some(Purpose::Compare {
+        expected: text_of(matches, "expected")?,
+        text: text_in(matches),
+    })
+}
+
+#[tactic(auto, unfolding(crate::specs::Commands::draw_in))]
+fn draw_in<'a>(matches: &ArgMatches<'a>) -> Option<Purpose<'a>>
+    ensures { option_map aim_of result ≡ draw_in (rows_of (found_of matches.now)) }
+{
+    Some(Purpose::Draw(PictureOptions {
+        every: number_in(matches, "every")?,
+        width: number_in(matches, "width")?,
+        refused: is_given(matches, "refused"),
+        page: is_given(matches, "page"),
+    }))
+}
+
+// To play a trace on this machine.
+#[tactic(auto, unfolding(crate::specs::Commands::play_in))]
+fn play_in<'a>(
+    matches: &ArgMatches<'a>,
+    source: Source<'a>,
+    purpose: Purpose<'a>,
+) -> Option<Request<'a>>
+    ensures { option_map ask_of result
+        ≡ play_in (rows_of (found_of matches.now)) (path_of source.entry) (aim_of purpose.entry) }
+{
+    Some(Request::Play(PlayOptions {
+        source,
+        trace: text_of(matches, "trace")?,
+        machine: machine_in(matches),
+        purpose,
+        verbose: is_given(matches, "verbose"),
+    }))
+}
+
+// To play a trace on the machine of the manifest that is named.
+#[tactic(auto, unfolding(crate::specs::Commands::play_file_in))]
+fn play_file_in<'a>(matches: &ArgMatches<'a>, purpose: Purpose<'a>) -> Option<Request<'a>>
+    ensures { option_map ask_of result ≡ play_file_in (rows_of (found_of matches.now)) (aim_of purpose.entry) }
 {
     let manifest = text_of(matches, "manifest")?;
-    let trace = text_of(matches, "trace")?;
-    let expected = text_of(matches, "expected")?;
-    Some(Request::Compare {
-        manifest,
-        trace,
-        expected,
-        machine: machine_in(matches),
-        text: text_in(matches),
-        verbose: is_given(matches, "verbose"),
-    })
+    play_in(matches, Source::File(manifest), purpose)
 }
 
 #[tactic(auto, unfolding(crate::specs::Commands::check_in))]
@@ -489,45 +486,13 @@ fn descriptor_in<'a>(matches: &ArgMatches<'a>) -> Option<Request<'a>>
 fn generate_in<'a>(matches: &ArgMatches<'a>) -> Option<Request<'a>>
     ensures { option_map ask_of result ≡ generate_in (rows_of (found_of matches.now)) }
 {
-    let manifest = text_of(matches, "manifest")?;
-    let seed = number_in(matches, "seed")?;
-    let lines = number_in(matches, "lines")?;
-    Some(Request::Generate {
-        manifest,
-        seed,
-        lines,
+    Some(Request::Generate(GenerateOptions {
+        manifest: text_of(matches, "manifest")?,
+        seed: number_in(matches, "seed")?,
+        lines: number_in(matches, "lines")?,
         count: is_given(matches, "count"),
         verbose: is_given(matches, "verbose"),
-    })
-}
-
-#[tactic(auto, unfolding(crate::specs::Commands::drawing_in))]
-fn drawing_in(matches: &ArgMatches<'_>) -> Option<PictureOptions>
-    ensures { result ≡ drawing_in (rows_of (found_of matches.now)) }
-{
-    let every = number_in(matches, "every")?;
-    let width = number_in(matches, "width")?;
-    Some(PictureOptions {
-        every,
-        width,
-        refused: is_given(matches, "refused"),
-        page: is_given(matches, "page"),
-    })
-}
-
-#[tactic(auto, unfolding(crate::specs::Commands::picture_in))]
-fn picture_in<'a>(matches: &ArgMatches<'a>) -> Option<Request<'a>>
-    ensures { option_map ask_of result ≡ picture_in (rows_of (found_of matches.now)) }
-{
-    let manifest = text_of(matches, "manifest")?;
-    let trace = text_of(matches, "trace")?;
-    let drawing = drawing_in(matches)?;
-    Some(Request::Picture {
-        manifest,
-        trace,
-        drawing,
-        verbose: is_given(matches, "verbose"),
-    })
+    }))
 }
 
 #[tactic(auto, unfolding(crate::specs::Commands::ask_in))]
@@ -535,13 +500,15 @@ fn request_in<'a>(name: &str, matches: &ArgMatches<'a>) -> Option<Request<'a>>
     ensures { option_map ask_of result ≡ ask_in name.now (rows_of (found_of matches.now)) }
 {
     if name == "run" {
-        run_in(matches)
+        play_file_in(matches, print_in(matches))
     } else if name == "demo" {
-        demo_in(matches)
+        play_in(matches, Source::BuiltIn, print_in(matches))
     } else if name == "record" {
-        record_in(matches)
+        play_file_in(matches, Purpose::Record)
     } else if name == "compare" {
-        compare_in(matches)
+        play_file_in(matches, compare_in(matches)?)
+    } else if name == "picture" {
+        play_file_in(matches, draw_in(matches)?)
     } else if name == "check" {
         check_in(matches)
     } else if name == "layout" {
@@ -550,8 +517,6 @@ fn request_in<'a>(name: &str, matches: &ArgMatches<'a>) -> Option<Request<'a>>
         descriptor_in(matches)
     } else if name == "generate" {
         generate_in(matches)
-    } else if name == "picture" {
-        picture_in(matches)
     } else {
         None
     }

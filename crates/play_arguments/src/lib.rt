@@ -12,7 +12,8 @@ mod program;
 pub use clap::error::ErrorKind;
 use clap::{ArgMatches, Command, Error};
 pub use command_line::{
-    DescriptorWords, MachineOptions, PictureOptions, Request, STANDARD_INPUT, TextOptions,
+    DescriptorWords, GenerateOptions, MachineOptions, PictureOptions, PlayOptions, Purpose,
+    Request, STANDARD_INPUT, Source, TextOptions,
 };
 pub use program::{TOOLCHAIN, VERSION};
 use std::alloc::{AllocError, Global};

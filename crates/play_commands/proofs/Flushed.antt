@@ -1,16 +1,18 @@
 -- SPDX-License-Identifier: MIT OR Apache-2.0
 -- What a command left, behind a flush: known bytes stay as they were.
-use Rattle.std.proofs.Common.{◌∙◌, Bool, true, false, List, ℕ, Option, None, Some}
+use Rattle.std.proofs.Common.{◌∙◌, Bool, List, ℕ, Option, None, Some}
 use Rattle.std.specs.Io.KnownBytes.{Appends, Keeps}
 use Rattle.ffa_model.specs.State.{State}
+use Rattle.play_arguments.specs.declared.command_line.PlayOptions.{PlayOptions}
 use Rattle.play_arguments.specs.declared.command_line.Request.{Request}
 use Rattle.play_arguments.specs.declared.command_line.Request.TheVariants as request
 use Rattle.play_forms.specs.declared.form.Form.{Form}
 use Rattle.play_report.specs.declared.failure.Failure.{Failure}
 use Rattle.play_report.specs.declared.failure.Failure.TheVariants as failure
-use Rattle.play_tasks.specs.Plays.{IsHeld, IsPlayed, IsPrinted, IsRecorded, IsStoppedIn, IsUnmet}
+use Rattle.play_tasks.specs.Plays.{IsDoneBy, IsPlayed, KnownTask, OverfullBy, StopsBy, UnmetBy}
+use Rattle.play_tasks.specs.declared.task.Task.TheVariants as task
 use Rattle.play_transcript.specs.Traces.{Wrote}
-use Rattle.play_commands.specs.Performed.{Differs, FailsFor, IsDone, IsQuiet, IsUnsaid, Ran, StopsAt, UnmetAt}
+use Rattle.play_commands.specs.Performed.{Differs, FailsFor, IsDone, IsQuiet, IsUnsaid, Played, Ran, StopsAt, UnmetAt}
 
 appended : (held mid holds : Option (List ℕ)) (text : List ℕ) → Keeps mid holds → Appends held mid text → Appends held holds text
 appended None mid holds text kept added = tt
@@ -38,48 +40,31 @@ module _ (ran : Ran) (holds : Option (List ℕ)) (kept : Keeps ran.streams.holds
   played : {strict : Bool} {form : Form} {start : State} → IsPlayed strict form start ran.streams → IsPlayed strict form start (with_holds ran holds).streams
   played p = record { lines = p.lines; each = p.each; all = p.all; written = written _ p.written; guards = p.guards }
 
-  heard : {form : Form} {start : State} → IsHeld form start ran.streams → IsHeld form start (with_holds ran holds).streams
-  heard p = record { lines = p.lines; rest = p.rest; each = p.each; single = p.single; all = p.all; written = written _ p.written }
-
-  recorded : {start : State} → IsRecorded start ran.streams → IsRecorded start (with_holds ran holds).streams
-  recorded p = record { lines = p.lines; each = p.each; all = p.all; written = written _ p.written; replays = p.replays }
-
-  printed : (strict interactive : Bool) (form : Form) (start : State) → IsPrinted strict interactive form start ran.streams
-      → IsPrinted strict interactive form start (with_holds ran holds).streams
-  printed true interactive form start p = played p
-  printed false true form start p = heard p
-  printed false false form start p = played p
-
   wrote : {count : ℕ} → Wrote count ran.streams.held ran.streams.holds → Wrote count ran.streams.held holds
   wrote p = record { lines = p.lines; good = p.good; number = p.number; written = written _ p.written }
 
-  pub done : (request : Request) → IsDone request ran → IsDone request (with_holds ran holds)
-  done (request.Run manifest trace machine text strict interactive verbose) (parts, is, p) = (parts, is, printed strict interactive _ _ p)
-  done (request.Demo trace machine text strict interactive verbose) p = printed strict interactive _ _ p
-  done (request.Record manifest trace machine verbose) (parts, is, p) = (parts, is, recorded p)
-  done (request.Compare manifest trace expected machine text verbose) (parts, is, opened, p, still) = (parts, is, opened, p, quiet still)
-  done (request.Check manifest verbose) (parts, is, p) = (parts, is, written _ p)
-  done (request.Layout manifest regions verbose) (parts, is, p) = (parts, is, written _ p)
-  done (request.Descriptor words) (said, is, (text, grows, p)) = (said, is, (text, grows, written _ p))
-  done (request.Generate manifest seed lines count verbose) (parts, is, p) = (parts, is, λ prints. wrote (p prints))
-  done (request.Picture manifest trace drawing verbose) p = p
+  done_by : (t : KnownTask) (start : State) → IsDoneBy t start ran.streams → IsDoneBy t start (with_holds ran holds).streams
+  done_by task.Plain start p = played p
+  done_by (task.Formed form) start p = played p
+  done_by (task.Guarded form) start p = played p
+  done_by task.Recorded start p = record { lines = p.lines; each = p.each; all = p.all; written = written _ p.written; replays = p.replays }
+  done_by (task.Session form) start p = record { lines = p.lines; rest = p.rest; each = p.each; single = p.single; all = p.all; written = written _ p.written }
+  done_by (task.Compare expected form) start (p, still) = (p, quiet still)
+  done_by (task.Drawn keep width) start (p, picture) = (p, record { front = picture.front; written = written _ picture.written })
+  done_by task.Paged start (p, page) = (p, record { rest = page.rest; inert = page.inert; written = written _ page.written })
 
-  stopped : (strict interactive : Bool) (form : Form) (start : State) (n : ℕ) → IsStoppedIn strict interactive form start ran.streams n
-      → IsStoppedIn strict interactive form start (with_holds ran holds).streams n
-  stopped true interactive form start n (lines, ends, p, met) = (lines, ends, written _ p, met)
-  stopped false true form start n p = p
-  stopped false false form start n (lines, ends, p, met) = (lines, ends, written _ p, met)
+  stops_by : (t : KnownTask) (start : State) (n : ℕ) → StopsBy t start ran.streams n → StopsBy t start (with_holds ran holds).streams n
+  stops_by task.Plain start n (lines, ends, p, met) = (lines, ends, written _ p, met)
+  stops_by (task.Formed form) start n (lines, ends, p, met) = (lines, ends, written _ p, met)
+  stops_by (task.Guarded form) start n (lines, ends, p, met) = (lines, ends, written _ p, met)
+  stops_by task.Recorded start n (lines, ends, p) = (lines, ends, written _ p)
+  stops_by (task.Session form) start n never = absurd never
+  stops_by (task.Compare expected form) start n (p, still) = (p, quiet still)
+  stops_by (task.Drawn keep width) start n (lines, ends, still) = (lines, ends, quiet still)
+  stops_by task.Paged start n (lines, ends, still) = (lines, ends, quiet still)
 
-  stops : (request : Request) (n : ℕ) → StopsAt request ran n → StopsAt request (with_holds ran holds) n
-  stops (request.Run manifest trace machine text strict interactive verbose) n (parts, is, p) = (parts, is, stopped strict interactive _ _ n p)
-  stops (request.Demo trace machine text strict interactive verbose) n p = stopped strict interactive _ _ n p
-  stops (request.Record manifest trace machine verbose) n (parts, is, (lines, ends, p)) = (parts, is, (lines, ends, written _ p))
-  stops (request.Compare manifest trace expected machine text verbose) n (parts, is, opened, p, still) = (parts, is, opened, p, quiet still)
-  stops (request.Picture manifest trace drawing verbose) n (parts, is, (lines, ends, still)) = (parts, is, (lines, ends, quiet still))
-  stops other n p = p
-
-  unmet : {form : Form} {start : State} {n : ℕ} → IsUnmet form start ran.streams n → IsUnmet form start (with_holds ran holds).streams n
-  unmet p = record {
+  unmet_by : (t : KnownTask) (start : State) (n : ℕ) → UnmetBy t start ran.streams n → UnmetBy t start (with_holds ran holds).streams n
+  unmet_by (task.Guarded form) start n p = record {
     lines = p.lines;
     line = p.line;
     rest = p.rest;
@@ -93,20 +78,39 @@ module _ (ran : Ran) (holds : Option (List ℕ)) (kept : Keeps ran.streams.holds
     unmet = p.unmet;
     written = written _ p.written;
   }
+  unmet_by other start n p = p
+
+  overfull_by : (t : KnownTask) (start : State) (most : ℕ) → OverfullBy t start ran.streams most → OverfullBy t start (with_holds ran holds).streams most
+  overfull_by (task.Drawn keep width) start most (lines, began, few, still) = (lines, began, few, quiet still)
+  overfull_by other start most p = p
+
+  -- a play that left one thing left another
+  leaves : (o : PlayOptions) {L M : KnownTask → State → Type 0} → ((t : KnownTask) (start : State) → L t start → M t start) → Played o ran L
+      → Played o (with_holds ran holds) M
+  leaves o f p = record { parts = p.parts; source = p.source; task = p.task; serves = p.serves; left = f _ _ p.left }
+
+  pub done : (request : Request) → IsDone request ran → IsDone request (with_holds ran holds)
+  done (request.Play o) p = leaves o done_by p
+  done (request.Check manifest verbose) (parts, is, p) = (parts, is, written _ p)
+  done (request.Layout manifest regions verbose) (parts, is, p) = (parts, is, written _ p)
+  done (request.Descriptor words) (said, is, (text, grows, p)) = (said, is, (text, grows, written _ p))
+  done (request.Generate o) (parts, is, p) = (parts, is, λ prints. wrote (p prints))
+
+  stops : (request : Request) (n : ℕ) → StopsAt request ran n → StopsAt request (with_holds ran holds) n
+  stops (request.Play o) n p = leaves o (λ t start. stops_by t start n) p
+  stops other n p = p
+
+  differs : (request : Request) → Differs request ran → Differs request (with_holds ran holds)
+  differs (request.Play o) p = leaves o (λ t start same. same) p
+  differs other p = p
 
   breached : (request : Request) (n : ℕ) → UnmetAt request ran n → UnmetAt request (with_holds ran holds) n
-  breached (request.Run manifest trace machine text strict interactive verbose) n (is_strict, (parts, is, p)) = (is_strict, (parts, is, unmet p))
-  breached (request.Demo trace machine text strict interactive verbose) n (is_strict, p) = (is_strict, unmet p)
+  breached (request.Play o) n p = leaves o (λ t start. unmet_by t start n) p
   breached other n p = p
 
   unsaid : (request : Request) → IsUnsaid request ran → IsUnsaid request (with_holds ran holds)
-  unsaid (request.Picture manifest trace drawing verbose) (parts, is, (most, (lines, began, few, still))) =
-      (parts, is, (most, (lines, began, few, quiet still)))
+  unsaid (request.Play o) (most, p) = (most, leaves o (λ t start. overfull_by t start most) p)
   unsaid other p = p
-
-  differs : (request : Request) → Differs request ran → Differs request (with_holds ran holds)
-  differs (request.Compare manifest trace expected machine text verbose) p = p
-  differs other p = p
 
   pub fails : (request : Request) (it : Failure) → FailsFor request ran it → FailsFor request (with_holds ran holds) it
   fails request (failure.Manifest cause) (needs, is, still) = (needs, is, quiet still)

@@ -1,6 +1,6 @@
 -- SPDX-License-Identifier: MIT OR Apache-2.0
 -- What a command of the program leaves.
-use Rattle.std.specs.Prelude.{◌≡◌, ◌⊎◌, ◌&&◌, not, ℕ, Bool, true, false, List, Option, Result, IfErr, OnOk, is_some, ⊤}
+use Rattle.std.specs.Prelude.{◌≡◌, ◌⊎◌, ℕ, Bool, true, false, List, None, Option, Result, IfErr, OnOk, is_some, option_map, ⊤}
 use Rattle.std.specs.Option.{option_and_then}
 use Rattle.std.specs.Io.KnownBytes.{Keeps}
 use Rattle.ffa_model.specs.State.{State}
@@ -10,13 +10,16 @@ use Rattle.ffa_manifest.specs.Document.{Parts}
 use Rattle.play_writer.specs.declared.unfit.Unfit.{Unfit}
 use Rattle.play_transcript.specs.Traces.{Wrote}
 use Rattle.play_descriptor.specs.declared.fault.WordsFault.{WordsFault}
-use Rattle.play_forms.specs.Compared.{NeverPrints, unexplained}
 use Rattle.play_report.specs.Descriptors.{IsMisread, IsSaid, IsUnfit}
-use Rattle.play_report.specs.Manifests.{Describes, IsAccepted, IsChecked, IsLaidOut, IsRefused, SomeCause, bytes_of}
+use Rattle.play_report.specs.Manifests.{Describes, FailsUnplayed, IsAccepted, IsChecked, IsLaidOut, IsRefused, SomeCause, bytes_of}
 use Rattle.play_report.specs.declared.failure.Failure.{Failure}
 use Rattle.play_report.specs.declared.failure.Failure.TheVariants as failure
-use Rattle.play_tasks.specs.Plays.{IsCutShort, IsDrawn, IsOverfull, IsPrinted, IsRecordStopped, IsRecorded, IsStoppedIn, IsUndrawn, IsUnmet, PrintsExpected, Streams, form_of, keep_of, streams_of}
+use Rattle.play_tasks.specs.Plays.{DiffersBy, IsDoneBy, KnownTask, OverfullBy, StopsBy, Streams, UnmetBy, streams_of}
+use Rattle.play_tasks.specs.Purposes.{IsTaskFor, is_session_for, is_strict_for}
 use Rattle.play_arguments.specs.Commands.{ask_of, manifest_of, trace_of}
+use Rattle.play_arguments.specs.declared.command_line.PlayOptions.{PlayOptions}
+use Rattle.play_arguments.specs.declared.command_line.Source.{Source}
+use Rattle.play_arguments.specs.declared.command_line.Source.TheVariants as source
 use Rattle.play_arguments.specs.declared.command_line.Request.{Request}
 use Rattle.play_arguments.specs.declared.command_line.Request.TheVariants as request
 use Rattle.play_files.specs.declared.commands.Files.{Files}
@@ -38,24 +41,20 @@ needs_manifest request = is_some (manifest_of (ask_of request))
 abbrev pub needs_trace : Request → Bool
 needs_trace request = is_some (trace_of (ask_of request))
 
--- whether a command is a session, which tells of bad lines and goes on: guards are checked of none
+-- whether a command is a session, and whether it checks the guards of its trace
 abbrev pub is_session : Request → Bool
-is_session (request.Run manifest trace machine text strict interactive verbose) = interactive && not strict
-is_session (request.Demo trace machine text strict interactive verbose) = interactive && not strict
+is_session (request.Play o) = is_session_for o.purpose
 is_session other = false
 
--- whether a command checks the guards of its trace
 abbrev pub is_strict : Request → Bool
-is_strict (request.Run manifest trace machine text strict interactive verbose) = strict
-is_strict (request.Demo trace machine text strict interactive verbose) = strict
+is_strict (request.Play o) = is_strict_for o.purpose
 is_strict other = false
 
 -- what a command was given, and what it left
 pub record Ran : Type 0 where
   pub manifest : Option (List ℕ)  -- the bytes of the manifest's file, if it could be read
   pub is_open : Bool  -- the trace's file could be opened
-  pub is_expected_open : Bool  -- the file of the expected text could be opened
-  pub expected : Option (List ℕ)  -- what its reader had
+  pub expected : Option (Option (List ℕ))  -- what the reader of the expected text had, if its file could be opened
   pub streams : Streams  -- what the trace's reader had, and what the writer of the output held before, and holds
 
 -- of these files, with a writer as it was and is, by what is known of a reader and of a writer
@@ -63,8 +62,7 @@ abbrev pub ran : {R W : Type 0} → (R → Option (List ℕ)) → Files R → (W
 ran remaining files contents before after = record {
   manifest = bytes_of files.manifest;
   is_open = is_some files.trace;
-  is_expected_open = is_some files.expected;
-  expected = option_and_then remaining files.expected;
+  expected = option_map remaining files.expected;
   streams = streams_of (option_and_then remaining) files.trace contents before after;
 }
 
@@ -77,40 +75,30 @@ abbrev pub IsMade : ℕ → Bool → (manifest held holds : Option (List ℕ)) �
 IsMade lines count manifest held holds =
     (parts : Parts) × Describes manifest parts × (count ≡ false → Wrote lines held holds)
 
+-- the machine of a source has these parts
+abbrev pub HasParts : Source → (manifest : Option (List ℕ)) → Parts → Type 0
+HasParts source.BuiltIn manifest parts = parts ≡ built_in_parts
+HasParts (source.File path) manifest parts = Describes manifest parts
+
+-- a trace was played on the machine of its source, by a task that serves its purpose, and left this
+pub record Played (o : PlayOptions) (ran : Ran) (Left : KnownTask → State → Type 0) : Type 0 where
+  pub parts : Parts
+  pub source : HasParts o.source ran.manifest parts
+  pub task : KnownTask
+  pub serves : IsTaskFor o.purpose ran.expected task
+  pub left : Left task (first_of parts)
+
 -- a command was done, on whichever machine
 abbrev pub IsDone : Request → Ran → Type 0
-IsDone (request.Run manifest trace machine text strict interactive verbose) ran =
-    (parts : Parts) × Describes ran.manifest parts
-    × IsPrinted strict interactive (form_of text) (first_of parts) ran.streams
-IsDone (request.Demo trace machine text strict interactive verbose) ran =
-    IsPrinted strict interactive (form_of text) (first_of built_in_parts) ran.streams
-IsDone (request.Record manifest trace machine verbose) ran =
-    (parts : Parts) × Describes ran.manifest parts × IsRecorded (first_of parts) ran.streams
-IsDone (request.Compare manifest trace expected machine text verbose) ran =
-    (parts : Parts) × Describes ran.manifest parts × (ran.is_expected_open ≡ true)
-    × PrintsExpected (unexplained (form_of text)) (first_of parts) ran.streams.trace ran.expected × IsQuiet ran
+IsDone (request.Play o) ran = Played o ran (λ task start. IsDoneBy task start ran.streams)
 IsDone (request.Check manifest verbose) ran = IsChecked ran.manifest ran.streams.held ran.streams.holds
 IsDone (request.Layout manifest regions verbose) ran = IsLaidOut regions ran.manifest ran.streams.held ran.streams.holds
 IsDone (request.Descriptor words) ran = IsSaid words ran.streams.held ran.streams.holds
-IsDone (request.Generate manifest seed lines count verbose) ran =
-    IsMade lines count ran.manifest ran.streams.held ran.streams.holds
-IsDone (request.Picture manifest trace drawing verbose) ran =
-    (parts : Parts) × Describes ran.manifest parts × IsDrawn ran.streams.trace
+IsDone (request.Generate o) ran = IsMade o.lines o.count ran.manifest ran.streams.held ran.streams.holds
 
 -- a command's play stopped at line n
 abbrev pub StopsAt : Request → Ran → ℕ → Type 0
-StopsAt (request.Run manifest trace machine text strict interactive verbose) ran n =
-    (parts : Parts) × Describes ran.manifest parts
-    × IsStoppedIn strict interactive (form_of text) (first_of parts) ran.streams n
-StopsAt (request.Demo trace machine text strict interactive verbose) ran n =
-    IsStoppedIn strict interactive (form_of text) (first_of built_in_parts) ran.streams n
-StopsAt (request.Record manifest trace machine verbose) ran n =
-    (parts : Parts) × Describes ran.manifest parts × IsRecordStopped (first_of parts) ran.streams n
-StopsAt (request.Compare manifest trace expected machine text verbose) ran n =
-    (parts : Parts) × Describes ran.manifest parts × (ran.is_expected_open ≡ true)
-    × IsCutShort (unexplained (form_of text)) (first_of parts) ran.streams.trace ran.expected n × IsQuiet ran
-StopsAt (request.Picture manifest trace drawing verbose) ran n =
-    (parts : Parts) × Describes ran.manifest parts × IsUndrawn ran.streams n
+StopsAt (request.Play o) ran n = Played o ran (λ task start. StopsBy task start ran.streams n)
 StopsAt other ran n = ⊥
 
 -- a line of a trace that could be opened is bad
@@ -119,18 +107,12 @@ SomeBadLine request ran = (ran.is_open ≡ true) × ((n : ℕ) × StopsAt reques
 
 -- a comparison found another text
 abbrev pub Differs : Request → Ran → Type 0
-Differs (request.Compare manifest trace expected machine text verbose) ran =
-    (parts : Parts) × Describes ran.manifest parts × (ran.is_expected_open ≡ true)
-    × NeverPrints (unexplained (form_of text)) (first_of parts) ran.streams.trace ran.expected
+Differs (request.Play o) ran = Played o ran (λ task start. DiffersBy task start ran.streams.trace)
 Differs other ran = ⊥
 
 -- a play stopped at a guard that isn't met, in line n
 abbrev pub UnmetAt : Request → Ran → ℕ → Type 0
-UnmetAt (request.Run manifest trace machine text strict interactive verbose) ran n =
-    (strict ≡ true)
-    × ((parts : Parts) × Describes ran.manifest parts × IsUnmet (form_of text) (first_of parts) ran.streams n)
-UnmetAt (request.Demo trace machine text strict interactive verbose) ran n =
-    (strict ≡ true) × IsUnmet (form_of text) (first_of built_in_parts) ran.streams n
+UnmetAt (request.Play o) ran n = Played o ran (λ task start. UnmetBy task start ran.streams n)
 UnmetAt other ran n = ⊥
 
 -- a guard of a trace that could be opened isn't met
@@ -142,9 +124,7 @@ SomeUnmetGuard request ran = (ran.is_open ≡ true) × ((n : ℕ) × UnmetAt req
 abbrev pub IsUnsaid : Request → Ran → Type 0
 IsUnsaid (request.Descriptor words) ran =
     ((fault : WordsFault) × IsMisread words fault) ⊎ ((cause : Unfit) × IsUnfit words cause)
-IsUnsaid (request.Picture manifest trace drawing verbose) ran =
-    (parts : Parts) × Describes ran.manifest parts
-    × ((most : ℕ) × IsOverfull (keep_of drawing) (first_of parts) ran.streams most)
+IsUnsaid (request.Play o) ran = (most : ℕ) × Played o ran (λ task start. OverfullBy task start ran.streams most)
 IsUnsaid other ran = ⊥
 
 -- the manifest is refused, and nothing was written
@@ -152,6 +132,11 @@ abbrev pub SomeRefusal : Ran → Type 0
 SomeRefusal ran = SomeCause ran.manifest × IsQuiet ran
 
 -- WHAT PRIVATE FUNCTIONS PROMISE ONE ANOTHER: a reader, a writer and memory may always fail
+
+-- the machine of a source isn't known: where a manifest is named, that can't be read, or is refused
+abbrev pub FailsToName : Source → (manifest : Option (List ℕ)) → Failure → Type 0
+FailsToName source.BuiltIn manifest failure = ⊥
+FailsToName (source.File path) manifest failure = FailsUnplayed manifest None None failure
 
 -- a command fails: a manifest is refused for its own cause, and then nothing was written, or a play stops, or a text
 -- differs, or the output can't be written, and then the manifest, where one is named, isn't refused

@@ -3,10 +3,10 @@
 //! writes traces, and says what went wrong. It opens nothing: readers and writers are given.
 #![tactic(auto)]
 
-mod commands;
+mod generating;
+mod playing;
 mod program;
 
-pub use commands::perform;
-pub use play_files::Files;
+pub use play_files::{Commands, Files};
 pub use play_report::show;
 pub use program::Program;

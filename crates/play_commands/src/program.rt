@@ -1,31 +1,153 @@
 // SPDX-License-Identifier: MIT OR Apache-2.0
-//! The commands as the program has them done.
-use crate::commands::perform;
-use play_arguments::Request;
+//! The commands of the program.
+ghost use Rattle.std.specs.Prelude.{◌≡◌, ◌≤◌, ◌⊎◌, true, false, IfErr, OnOk, is_some};
+ghost use Rattle.std.specs.Io.KnownBytes.{Keeps};
+ghost use Rattle.play_commands.specs.Performed.{Differs, Does, FailsFor, IsDone, IsRead, IsUnsaid, is_session, is_strict, SomeBadLine, SomeRefusal, SomeUnmetGuard, needs_manifest, needs_trace, ran};
+
+use play_arguments::{PlayOptions, Purpose, Request};
 use play_files::{Commands, Files};
-use play_report::show;
+use play_report::{Failure, Notes, accept, describe, lay_out, show, tell, tell_more};
 use play_tasks::Machines;
-use std::alloc::Global;
+use std::alloc::{Allocator, Global};
 use std::fmt::Display;
 use std::io::{Read, Write};
 
-/// The commands, on the machines that this boots.
+/// The commands, on the machines that this boots. A manifest is read with the memory of `manifests`; RAM, a machine's room
+/// and what plays a trace take that of `alloc`.
 #[derive(Drop)]
-pub struct Program<M>(pub M);
+pub struct Program<M, A> {
+    pub machines: M,
+    pub manifests: Global,
+    pub alloc: A,
+}
 
-impl<M: Machines> Commands for Program<M> {
+impl<M: Machines, A: Allocator + Copy> Commands for Program<M, A> {
+    /// Does what was asked for, and answers the status with which the program ends.
+    ///
+    /// All output goes to `out`, which is flushed, and to `err` a line that says why a command isn't done, with a second
+    /// line that says more where that is asked for; where there is no memory to find that, it is told alone. The status is 0
+    /// for a command that was done, 1 for a manifest that is refused, 2 for a line that is none of a trace, 3 where a file
+    /// can't be read, `out` can't be written or memory is short, 4 where a trace prints another text than is expected, 5
+    /// where a guard of the trace isn't met, and 64 where the words of a descriptor make no sense, or a picture would have more
+    /// rows than fit. Faults are found in this order: the words of a descriptor, the manifest's file, the manifest, the trace's
+    /// file, the file of the expected text, RAM, the trace and the expected text, which are read together. A session tells `err`
+    /// of bad lines too, and is done where its trace ends. Where guards are checked, `err` is told before its other lines which
+    /// comments are nearly guards, and of a command that was done how many guards were met. An `out` that can't be flushed can't
+    /// be written. This is told in place of a bad line, a difference and a guard, since what was printed is lost, and of no other
+    /// fault, which was found before.
     fn perform<R: Read + Drop, W: Write, E: Write>(
         &self,
-        alloc: Global,
         request: &Request<'_>,
         files: Files<'_, R>,
         out: &mut W,
         err: &mut E,
-    ) -> u8 {
-        perform(&self.0, alloc, alloc, request, files, out, err)
+    ) -> u8
+        ensures done { result ≡ 0 → IsDone request.now (ran R.remaining files.entry W.contents out.old out.new) }
+        ensures read { result ≡ 0 → needs_trace request.now ≡ true → is_some files.entry.trace ≡ true }
+        ensures refused { result ≡ 1 → SomeRefusal (ran R.remaining files.entry W.contents out.old out.new) }
+        ensures named { result ≡ 1 → needs_manifest request.now ≡ true }
+        ensures bad { result ≡ 2 → SomeBadLine request.now (ran R.remaining files.entry W.contents out.old out.new) }
+        ensures differs { result ≡ 4 → Differs request.now (ran R.remaining files.entry W.contents out.old out.new) }
+        ensures unmet { result ≡ 5 → SomeUnmetGuard request.now (ran R.remaining files.entry W.contents out.old out.new) }
+        ensures unsaid { result ≡ 64
+            → IsUnsaid request.now (ran R.remaining files.entry W.contents out.old out.new)
+            × Keeps (W.contents out.old) (W.contents out.new) }
+        ensures quiet { result ≡ 0 → is_session request.now ≡ false → is_strict request.now ≡ false
+            → Keeps (E.contents err.old) (E.contents err.new) }
+        ensures status { (result ≤ 5) ⊎ (result ≡ 64) }
+    {
+        let reason = files.reason;
+        let mut notes = Notes::new(self.alloc, request.is_verbose());
+        match self.do_request(request, files, out, err, &mut notes) {
+            Ok(()) => {
+                tell_guards(request, &notes.guard, err);
+                0
+            }
+            Err(failure) => {
+                let status = tell(err, &failure, &notes.guard);
+                tell_more(err, &notes.more_of(&failure, reason));
+                status
+            }
+        }
     }
 
     fn show<T: Display, W: Write, E: Write>(&self, help: &T, out: &mut W, err: &mut E) -> u8 {
         show(help, out, err)
+    }
+}
+
+// Tells what is said of guards, where a command checks them.
+fn tell_guards<E: Write>(request: &Request<'_>, told: &[u8], err: &mut E)
+    ensures { is_strict request.now ≡ false → Keeps (E.contents err.old) (E.contents err.new) }
+{
+    if is_strict(request) {
+        let _ = err.write_all(told);
+    }
+}
+
+// Whether a command checks the guards of its trace.
+fn is_strict(request: &Request<'_>) -> bool
+    ensures { result ≡ is_strict request.now }
+{
+    match *request {
+        Request::Play(
+            PlayOptions {
+                purpose: Purpose::Print { strict, .. },
+                ..
+            },
+        ) => strict,
+        _ => false,
+    }
+}
+
+impl<M: Machines, A: Allocator + Copy> Program<M, A> {
+    // Does what was asked for, and flushes what it wrote. Where that fails, a command isn't done, and no bad line,
+    // difference or guard is told of, since the text is lost. Another failure was found before, and stays.
+    fn do_request<'a, R: Read + Drop, W: Write, E: Write>(
+        &self,
+        request: &Request<'a>,
+        files: Files<'_, R>,
+        out: &mut W,
+        err: &mut E,
+        notes: &mut Notes<A>,
+    ) -> Result<(), Failure<'a>>
+        ensures done { OnOk result (IsDone request.now (ran R.remaining files.entry W.contents out.old out.new)) }
+        ensures opened { OnOk result (needs_trace request.now ≡ true → is_some files.entry.trace ≡ true) }
+        ensures failed { IfErr result (FailsFor request.now (ran R.remaining files.entry W.contents out.old out.new)) }
+        ensures read { IfErr result (IsRead (is_some files.entry.trace)) }
+        ensures quiet { is_session request.now ≡ false → err.new ≡ err.old }
+    {
+        let done = self.do_command(request, files, out, err, notes);
+        let flushed = out.flush();
+        match done {
+            Ok(()) | Err(Failure::BadLine(..) | Failure::Differs | Failure::Unmet(_))
+                if flushed.is_err() => { Err(Failure::Write) }
+            _ => done,
+        }
+    }
+
+    fn do_command<'a, R: Read + Drop, W: Write, E: Write>(
+        &self,
+        request: &Request<'a>,
+        files: Files<'_, R>,
+        out: &mut W,
+        err: &mut E,
+        notes: &mut Notes<A>,
+    ) -> Result<(), Failure<'a>>
+        ensures does { Does request.now (ran R.remaining files.entry W.contents out.old out.new) result }
+        ensures quiet { is_session request.now ≡ false → err.new ≡ err.old }
+    {
+        let (alloc, manifest) = (self.manifests, files.manifest);
+        match *request {
+            Request::Play(options) => self.play(options, files, out, err, notes),
+            Request::Check { manifest: path, .. } => accept(alloc, path, manifest, out, notes),
+            Request::Layout {
+                manifest: path,
+                regions,
+                ..
+            } => lay_out(alloc, path, manifest, regions, out, notes),
+            Request::Descriptor { words } => describe(self.alloc, &words, out),
+            Request::Generate(options) => self.generate(options, manifest, out, notes),
+        }
     }
 }

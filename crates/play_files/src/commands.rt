@@ -1,7 +1,6 @@
 // SPDX-License-Identifier: MIT OR Apache-2.0
 //! What does what the words ask for.
 use play_arguments::Request;
-use std::alloc::Global;
 use std::fmt::Display;
 use std::io::{ErrorKind, Read, Write};
 
@@ -23,7 +22,6 @@ pub trait Commands {
     /// Does what was asked for.
     fn perform<R: Read + Drop, W: Write, E: Write>(
         &self,
-        alloc: Global,
         request: &Request<'_>,
         files: Files<'_, R>,
         out: &mut W,

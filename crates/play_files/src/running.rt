@@ -95,7 +95,7 @@ fn carry_out<
     // With no room nothing is gathered: each write goes to standard output at once.
     let room = if request.answers_at_once() { 0 } else { OUTPUT };
     let mut out = BufWriter::with_capacity(alloc, room, out).map_err(|_| AllocError)?;
-    Ok(commands.perform(alloc, request, files, &mut out, err))
+    Ok(commands.perform(request, files, &mut out, err))
 }
 
 // What reads the file at a path, where one is named.

@@ -5,13 +5,14 @@
 mod playing;
 
 use ffa_model::Manifest;
-use ffa_physmem::FlatRam;
+use ffa_physmem::{FlatRam, FrameRam};
 use ffa_reasons::Explained;
 use ffa_spmc::{Machine, Storage};
 use ffa_tlb::NoTlb;
 use play_generator::{Counts, GenerateError, generate};
 use play_report::Failure;
 use play_tasks::{Machines, Play};
+use playing::play_in;
 use std::alloc::Allocator;
 use std::io::{Read, Write};
 
@@ -28,7 +29,18 @@ impl Machines for Booted {
         err: &mut E,
         told: &mut Vec<u8, A>,
     ) -> Result<(), Failure<'a>> {
-        playing::play(play, manifest, out, err, told)
+        let (base, pages) = (manifest.ram_base, 512 * manifest.ram_blocks);
+        if play.machine.frames {
+            match FrameRam::new_in(play.alloc, base, pages) {
+                Ok(ram) => play_in(play, manifest, ram, out, err, told),
+                Err(_) => Err(Failure::NoMemory),
+            }
+        } else {
+            match FlatRam::new_in(play.alloc, base, pages) {
+                Ok(ram) => play_in(play, manifest, ram, out, err, told),
+                Err(_) => Err(Failure::NoMemory),
+            }
+        }
     }
 
     fn generate<A: Allocator + Copy, W: Write>(

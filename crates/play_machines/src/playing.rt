@@ -1,12 +1,13 @@
 // SPDX-License-Identifier: MIT OR Apache-2.0
-//! Plays of a trace on the machine of a manifest, with the RAM and the cache that are asked for.
+//! Plays of a trace in RAM that is all zeros, with the cache that is asked for.
 ghost use Rattle.std.specs.Prelude.{◌≡◌, ◌*◌, false};
 ghost use Rattle.ffa_model.specs.Ram.{zero_ram};
 ghost use Rattle.play_tasks.specs.Plays.{Plays, streams_of, talks};
+ghost use Rattle.play_tasks.specs.Purposes.{known};
 ghost use Rattle.play_tasks.specs.Starts.{start_of};
 
 use ffa_model::Manifest;
-use ffa_physmem::{FlatRam, FrameRam, PhysMem};
+use ffa_physmem::PhysMem;
 use ffa_reasons::Explained;
 use ffa_spmc::{Machine, Storage};
 use ffa_tlb::{InTurn, NoTlb, Tlb, Translations};
@@ -19,34 +20,15 @@ use std::io::{Read, Write};
 /// How many translations `--tlb` holds.
 const ENTRIES: usize = 4;
 
-/// Plays on a machine of this manifest, which is built as the options say.
-pub(crate) fn play<'a, A: Allocator + Copy, R: Read + Drop, W: Write, E: Write>(
-    play: Play<'a, A, R>,
-    manifest: &Manifest,
-    out: &mut W,
-    err: &mut E,
-    told: &mut Vec<u8, A>,
-) -> Result<(), Failure<'a>>
-    ensures played { let streams = streams_of R.remaining play.entry.trace.reader W.contents out.old out.new in
-        Plays R.remaining play.entry.task play.entry.trace.path (start_of manifest.now) streams result }
-    ensures quiet { talks play.entry.task ≡ false → err.new ≡ err.old }
-{
-    let (base, pages) = (manifest.ram_base, 512 * manifest.ram_blocks);
-    if play.machine.frames {
-        match FrameRam::new_in(play.alloc, base, pages) {
-            Ok(ram) => play_in(play, manifest, ram, out, err, told),
-            Err(_) => Err(Failure::NoMemory),
-        }
-    } else {
-        match FlatRam::new_in(play.alloc, base, pages) {
-            Ok(ram) => play_in(play, manifest, ram, out, err, told),
-            Err(_) => Err(Failure::NoMemory),
-        }
-    }
-}
-
-// Plays on a machine that boots in this RAM, which is all zeros, with a cache of translations or none.
-fn play_in<'a, M: PhysMem + Drop, A: Allocator + Copy, R: Read + Drop, W: Write, E: Write>(
+/// Plays on a machine that boots in this RAM, which is all zeros, with a cache of translations or none.
+pub(crate) fn play_in<
+    'a,
+    M: PhysMem + Drop,
+    A: Allocator + Copy,
+    R: Read + Drop,
+    W: Write,
+    E: Write,
+>(
     play: Play<'a, A, R>,
     manifest: &Manifest,
     ram: M,
@@ -56,7 +38,7 @@ fn play_in<'a, M: PhysMem + Drop, A: Allocator + Copy, R: Read + Drop, W: Write,
 ) -> Result<(), Failure<'a>>
     requires { M.ram ram ≡ zero_ram manifest.now.ram_base.0 (512 * manifest.now.ram_blocks) }
     ensures played { let streams = streams_of R.remaining play.entry.trace.reader W.contents out.old out.new in
-        Plays R.remaining play.entry.task play.entry.trace.path (start_of manifest.now) streams result }
+        Plays (known R.remaining play.entry.task) play.entry.trace.path (start_of manifest.now) streams result }
     ensures quiet { talks play.entry.task ≡ false → err.new ≡ err.old }
 {
     if play.machine.tlb {
@@ -87,27 +69,13 @@ fn play_with<
 ) -> Result<(), Failure<'a>>
     requires { M.ram ram ≡ zero_ram manifest.now.ram_base.0 (512 * manifest.now.ram_blocks) }
     ensures played { let streams = streams_of R.remaining play.entry.trace.reader W.contents out.old out.new in
-        Plays R.remaining play.entry.task play.entry.trace.path (start_of manifest.now) streams result }
+        Plays (known R.remaining play.entry.task) play.entry.trace.path (start_of manifest.now) streams result }
     ensures quiet { talks play.entry.task ≡ false → err.new ≡ err.old }
 {
-    let Play {
-        alloc,
-        task,
-        trace,
-        ..
-    } = play;
-    match Storage::allocate_for(alloc, manifest) {
+    match Storage::allocate_for(play.alloc, manifest) {
         Ok(storage) => {
             let machine = Machine::boot_cleared_in(storage, manifest, ram, cache);
-            do_task(
-                &mut Player::new(Explained(machine)),
-                alloc,
-                task,
-                trace,
-                out,
-                err,
-                told,
-            )
+            do_task(&mut Player::new(Explained(machine)), play, out, err, told)
         }
         Err(_) => Err(Failure::NoMemory),
     }

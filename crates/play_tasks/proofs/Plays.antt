@@ -34,9 +34,8 @@ use Rattle.play_picture.proofs.Bare.{bare_large}
 use Rattle.play_report.specs.Failures.{IsDifference, failure_of}
 use Rattle.play_report.specs.declared.failure.Failure.{Failure}
 use Rattle.play_report.specs.declared.failure.Failure.TheVariants.{Manifest, BadLine, Read, Write, NoMemory, Differs, Unmet, Words, Unfit, TooManyRows}
-use Rattle.play_tasks.specs.Plays.{DiffersBy, EndsBadly, IsDoneBy, IsDrawn, IsHeld, IsPlayed, IsPrinted, IsRecorded, IsStopped, IsStoppedIn, IsCutShort, IsUnmet, IsOverfull, OverfullBy, PrintsExpected, PrintsIn, StopsBy, Streams, TellsGuards, UnmetBy, PlayFails}
+use Rattle.play_tasks.specs.Plays.{EndsBadly, IsDrawn, IsHeld, IsPlayed, IsRecorded, IsStopped, IsCutShort, IsUnmet, IsOverfull, PrintsExpected, Streams, TellsGuards, PlayFails}
 use Rattle.play_tasks.specs.declared.task.Expected.{Expected}
-use Rattle.play_tasks.specs.declared.task.Task.{Task}
 use Rattle.play_tasks.specs.declared.task.Task.TheVariants.{Plain, Formed, Guarded, Recorded, Session, Compare, Drawn, Paged}
 
 -- BYTES THAT A READER HAD, AND THAT A WRITER HOLDS
@@ -130,13 +129,13 @@ played_to start now held holds had has n (lines, bad, more, did, consumed, numbe
       never_strict,
     )
 
-pub play_failed : {R : Type 0} (remaining : R → Option (List ℕ)) (start now : State) (held holds had has : Option (List ℕ)) (path : Bor (List ℕ)) (fault : Option LineFault) (error : PlayError)
-    → Played {X = Unit {0}} start now held holds had has (Err error) → PlayFails remaining Plain path start (passed had held holds) (failure_of (Read path) fault error)
-play_failed remaining start now held holds had has path fault play_error.Read (lines, more, did, consumed, counted, ended) =
+pub play_failed : (start now : State) (held holds had has : Option (List ℕ)) (path : Bor (List ℕ)) (fault : Option LineFault) (error : PlayError)
+    → Played {X = Unit {0}} start now held holds had has (Err error) → PlayFails Plain path start (passed had held holds) (failure_of (Read path) fault error)
+play_failed start now held holds had has path fault play_error.Read (lines, more, did, consumed, counted, ended) =
     inl ((lines, (did.each, (prepend_known more has, before_read had has (joined lines) more consumed)), written_plainly start held holds lines did.written, never_strict), refl)
-play_failed remaining start now held holds had has path fault play_error.Write p = tt
-play_failed remaining start now held holds had has path fault play_error.NoMemory p = tt
-play_failed remaining start now held holds had has path fault (play_error.BadLine n) p = played_to start now held holds had has n p
+play_failed start now held holds had has path fault play_error.Write p = tt
+play_failed start now held holds had has path fault play_error.NoMemory p = tt
+play_failed start now held holds had has path fault (play_error.BadLine n) p = played_to start now held holds had has n p
 
 -- PLAYS IN A FORM, AND COMPARISONS
 
@@ -159,14 +158,14 @@ formed_whole x form start now held holds had has bytes (left, lines, said, f, en
   guards = never_strict;
 }
 
-pub formed_failed : {R : Type 0} (remaining : R → Option (List ℕ)) (form : Form) (start now : State) (held holds had has : Option (List ℕ)) (bytes : List ℕ) (path : Bor (List ℕ)) (fault : Option LineFault) (error : PlayError)
+pub formed_failed : (form : Form) (start now : State) (held holds had has : Option (List ℕ)) (bytes : List ℕ) (path : Bor (List ℕ)) (fault : Option LineFault) (error : PlayError)
     → followed.PlayedIn {X = Unit {0}} form start now held holds had has bytes (Err error)
-    → PlayFails remaining (Formed form) path start (passed had held holds) (failure_of (Read path) fault error)
-formed_failed remaining form start now held holds had has bytes path fault play_error.Read (left, lines, said, f, unended, written) =
+    → PlayFails (Formed form) path start (passed had held holds) (failure_of (Read path) fault error)
+formed_failed form start now held holds had has bytes path fault play_error.Read (left, lines, said, f, unended, written) =
     inl ((lines, (f.each, (left, f.read)), subst (Appends held holds) f.said written, never_strict), refl)
-formed_failed remaining form start now held holds had has bytes path fault play_error.Write p = tt
-formed_failed remaining form start now held holds had has bytes path fault play_error.NoMemory p = tt
-formed_failed remaining form start now held holds had has bytes path fault (play_error.BadLine n) (said, e, written) =
+formed_failed form start now held holds had has bytes path fault play_error.Write p = tt
+formed_failed form start now held holds had has bytes path fault play_error.NoMemory p = tt
+formed_failed form start now held holds had has bytes path fault (play_error.BadLine n) (said, e, written) =
     (e.lines, ends_badly form start now had said bytes n e, subst (Appends held holds) e.followed.said written, never_strict)
 
 -- PICTURES
@@ -183,22 +182,22 @@ pub drawn_over : (A : Type 0) (large : TooLarge) (keep : Keep) (start now : Stat
 drawn_over A large keep start now held had has bytes (left, lines, said, f, is) =
     (lines, (f.each, (left, f.read)), subst (λ s. IsTooLarge (Unit {0}) keep start s lines (record { most = large.most })) f.state (bare_large keep start now lines large is), kept held)
 
-pub drawn_failed : {R : Type 0} (remaining : R → Option (List ℕ)) (A : Type 0) (keep : Keep) (width : ℕ) (start now : State) (held had has : Option (List ℕ)) (bytes : List ℕ) (path : Bor (List ℕ)) (fault : Option LineFault) (error : PlayError)
-    → Pictured {A = A} keep start now had has bytes (Err error) → PlayFails remaining (Drawn keep width) path start (passed had held held) (failure_of (Read path) fault error)
-drawn_failed remaining A keep width start now held had has bytes path fault play_error.Read p = inl (kept held, refl)
-drawn_failed remaining A keep width start now held had has bytes path fault play_error.Write p = absurd p
-drawn_failed remaining A keep width start now held had has bytes path fault play_error.NoMemory p = tt
-drawn_failed remaining A keep width start now held had has bytes path fault (play_error.BadLine n) (said, e) = (e.lines, ends_badly plain start now had said bytes n e, kept held)
+pub drawn_failed : (A : Type 0) (keep : Keep) (width : ℕ) (start now : State) (held had has : Option (List ℕ)) (bytes : List ℕ) (path : Bor (List ℕ)) (fault : Option LineFault) (error : PlayError)
+    → Pictured {A = A} keep start now had has bytes (Err error) → PlayFails (Drawn keep width) path start (passed had held held) (failure_of (Read path) fault error)
+drawn_failed A keep width start now held had has bytes path fault play_error.Read p = inl (kept held, refl)
+drawn_failed A keep width start now held had has bytes path fault play_error.Write p = absurd p
+drawn_failed A keep width start now held had has bytes path fault play_error.NoMemory p = tt
+drawn_failed A keep width start now held had has bytes path fault (play_error.BadLine n) (said, e) = (e.lines, ends_badly plain start now had said bytes n e, kept held)
 
 pub paged_whole : {A : Type 0} (page : Page A) (start now : State) (had has : Option (List ℕ)) (bytes : List ℕ) → Paging start now had has bytes (Ok page) → IsDrawn had
 paged_whole page start now had has bytes (left, lines, said, f, is) = record { lines = lines; each = f.each; all = all_consumed had left (joined lines) f.read is.whole }
 
-pub paged_failed : {R : Type 0} (remaining : R → Option (List ℕ)) (A : Type 0) (start now : State) (held had has : Option (List ℕ)) (bytes : List ℕ) (path : Bor (List ℕ)) (fault : Option LineFault) (error : PlayError)
-    → Paging {A = A} start now had has bytes (Err error) → PlayFails remaining Paged path start (passed had held held) (failure_of (Read path) fault error)
-paged_failed remaining A start now held had has bytes path fault play_error.Read p = inl (kept held, refl)
-paged_failed remaining A start now held had has bytes path fault play_error.Write p = absurd p
-paged_failed remaining A start now held had has bytes path fault play_error.NoMemory p = tt
-paged_failed remaining A start now held had has bytes path fault (play_error.BadLine n) (said, e) = (e.lines, ends_badly plain start now had said bytes n e, kept held)
+pub paged_failed : (A : Type 0) (start now : State) (held had has : Option (List ℕ)) (bytes : List ℕ) (path : Bor (List ℕ)) (fault : Option LineFault) (error : PlayError)
+    → Paging {A = A} start now had has bytes (Err error) → PlayFails Paged path start (passed had held held) (failure_of (Read path) fault error)
+paged_failed A start now held had has bytes path fault play_error.Read p = inl (kept held, refl)
+paged_failed A start now held had has bytes path fault play_error.Write p = absurd p
+paged_failed A start now held had has bytes path fault play_error.NoMemory p = tt
+paged_failed A start now held had has bytes path fault (play_error.BadLine n) (said, e) = (e.lines, ends_badly plain start now had said bytes n e, kept held)
 
 pub guarded_whole : (form : Form) (start now : State) (held holds had has : Option (List ℕ)) (line found : List ℕ) (met : ℕ) (near : List ℕ) → GuardedIn form start now held holds had has line found met near (Ok None)
     → IsPlayed true form start (passed had held holds)
@@ -239,19 +238,19 @@ guarded_unmet form start now held holds had has line found met near breach (said
   written = subst (Appends held holds) b.followed.said written;
 }
 
-pub breach_told : {R : Type 0} (remaining : R → Option (List ℕ)) (form : Form) (path : Bor (List ℕ)) (start : State) (streams : Streams) (n : ℕ) → IsUnmet form start streams n → (failure : Failure)
-    → (failure ≡ Unmet n) ⊎ (failure ≡ NoMemory) → PlayFails remaining (Guarded form) path start streams failure
-breach_told remaining form path start streams n unmet failure (inl is) = subst (PlayFails remaining (Guarded form) path start streams) (sym is) unmet
-breach_told remaining form path start streams n unmet failure (inr is) = subst (PlayFails remaining (Guarded form) path start streams) (sym is) tt
+pub breach_told : (form : Form) (path : Bor (List ℕ)) (start : State) (streams : Streams) (n : ℕ) → IsUnmet form start streams n → (failure : Failure)
+    → (failure ≡ Unmet n) ⊎ (failure ≡ NoMemory) → PlayFails (Guarded form) path start streams failure
+breach_told form path start streams n unmet failure (inl is) = subst (PlayFails (Guarded form) path start streams) (sym is) unmet
+breach_told form path start streams n unmet failure (inr is) = subst (PlayFails (Guarded form) path start streams) (sym is) tt
 
-pub guarded_failed : {R : Type 0} (remaining : R → Option (List ℕ)) (form : Form) (start now : State) (held holds had has : Option (List ℕ)) (line found : List ℕ) (met : ℕ) (near : List ℕ) (path : Bor (List ℕ)) (fault : Option LineFault) (error : PlayError)
+pub guarded_failed : (form : Form) (start now : State) (held holds had has : Option (List ℕ)) (line found : List ℕ) (met : ℕ) (near : List ℕ) (path : Bor (List ℕ)) (fault : Option LineFault) (error : PlayError)
     → GuardedIn form start now held holds had has line found met near (Err error)
-    → PlayFails remaining (Guarded form) path start (passed had held holds) (failure_of (Read path) fault error)
-guarded_failed remaining form start now held holds had has line found met near path fault play_error.Read (left, lines, said, f, unended, written, are_met, counts) =
+    → PlayFails (Guarded form) path start (passed had held holds) (failure_of (Read path) fault error)
+guarded_failed form start now held holds had has line found met near path fault play_error.Read (left, lines, said, f, unended, written, are_met, counts) =
     inl ((lines, (f.each, (left, f.read)), subst (Appends held holds) f.said written, λ strict. are_met), refl)
-guarded_failed remaining form start now held holds had has line found met near path fault play_error.Write p = tt
-guarded_failed remaining form start now held holds had has line found met near path fault play_error.NoMemory p = tt
-guarded_failed remaining form start now held holds had has line found met near path fault (play_error.BadLine n) (said, e, written, are_met, counts) =
+guarded_failed form start now held holds had has line found met near path fault play_error.Write p = tt
+guarded_failed form start now held holds had has line found met near path fault play_error.NoMemory p = tt
+guarded_failed form start now held holds had has line found met near path fault (play_error.BadLine n) (said, e, written, are_met, counts) =
     (e.lines, ends_badly form start now had said line n e, subst (Appends held holds) e.followed.said written, λ strict. are_met)
 
 -- RECORDS
@@ -265,14 +264,14 @@ recorded_whole x start now held holds had has bytes (left, lines, said, f, ended
   replays = replays;
 }
 
-pub recorded_failed : {R : Type 0} (remaining : R → Option (List ℕ)) (start now : State) (held holds had has : Option (List ℕ)) (bytes : List ℕ) (path : Bor (List ℕ)) (fault : Option LineFault) (error : PlayError)
+pub recorded_failed : (start now : State) (held holds had has : Option (List ℕ)) (bytes : List ℕ) (path : Bor (List ℕ)) (fault : Option LineFault) (error : PlayError)
     → RecordedIn {X = Unit {0}} start now held holds had has bytes (Err error)
-    → PlayFails remaining Recorded path start (passed had held holds) (failure_of (Read path) fault error)
-recorded_failed remaining start now held holds had has bytes path fault play_error.Read (left, lines, said, f, unended, written, replays) =
+    → PlayFails Recorded path start (passed had held holds) (failure_of (Read path) fault error)
+recorded_failed start now held holds had has bytes path fault play_error.Read (left, lines, said, f, unended, written, replays) =
     inl ((lines, (f.each, (left, f.read)), written), refl)
-recorded_failed remaining start now held holds had has bytes path fault play_error.Write p = tt
-recorded_failed remaining start now held holds had has bytes path fault play_error.NoMemory p = tt
-recorded_failed remaining start now held holds had has bytes path fault (play_error.BadLine n) (said, e, written, replays) =
+recorded_failed start now held holds had has bytes path fault play_error.Write p = tt
+recorded_failed start now held holds had has bytes path fault play_error.NoMemory p = tt
+recorded_failed start now held holds had has bytes path fault (play_error.BadLine n) (said, e, written, replays) =
     (e.lines, ends_badly plain start now had said bytes n e, written)
 
 -- COMPARISONS
@@ -290,18 +289,18 @@ cut_short : (form : Form) (start now : State) (had has wants unread : Option (Li
 cut_short form start now had has wants unread bytes said wanted n (printed, more, alike, e) =
     (e.lines, ends_badly (unexplained form) start now had printed bytes n e, (more, subst (Consumes wants more) e.followed.said alike))
 
-module _ {R : Type 0} (remaining : R → Option (List ℕ)) (form : Form) (start now : State) (had has unread held : Option (List ℕ)) (expected : Expected R) (bytes said wanted : List ℕ) where
-  pub compared_failed : (path : Bor (List ℕ)) (fault : Option LineFault) (error : PlayError) → Compared form start now had has (remaining expected.reader) unread bytes said wanted (Err (compare_error.Play error))
-      → PlayFails remaining (Compare expected form) path start (passed had held held) (failure_of (Read path) fault error)
+module _ (form : Form) (start now : State) (had has unread held : Option (List ℕ)) (expected : Expected (Option (List ℕ))) (bytes said wanted : List ℕ) where
+  pub compared_failed : (path : Bor (List ℕ)) (fault : Option LineFault) (error : PlayError) → Compared form start now had has expected.reader unread bytes said wanted (Err (compare_error.Play error))
+      → PlayFails (Compare expected form) path start (passed had held held) (failure_of (Read path) fault error)
   compared_failed path fault play_error.Read (left, lines, printed, more, alike, f, unended) =
-      inl (((lines, (f.each, (left, f.read)), (more, subst (Consumes (remaining expected.reader) more) f.said alike)), kept held), refl)
+      inl (((lines, (f.each, (left, f.read)), (more, subst (Consumes expected.reader more) f.said alike)), kept held), refl)
   compared_failed path fault play_error.Write p = absurd p
   compared_failed path fault play_error.NoMemory p = tt
-  compared_failed path fault (play_error.BadLine n) p = (cut_short form start now had has (remaining expected.reader) unread bytes said wanted n p, kept held)
+  compared_failed path fault (play_error.BadLine n) p = (cut_short form start now had has expected.reader unread bytes said wanted n p, kept held)
 
   -- the expected text couldn't be read
-  pub compared_unmatched : (path : Bor (List ℕ)) → Compared form start now had has (remaining expected.reader) unread bytes said wanted (Err compare_error.Expected)
-      → PlayFails remaining (Compare expected form) path start (passed had held held) (Read expected.path)
+  pub compared_unmatched : (path : Bor (List ℕ)) → Compared form start now had has expected.reader unread bytes said wanted (Err compare_error.Expected)
+      → PlayFails (Compare expected form) path start (passed had held held) (Read expected.path)
   compared_unmatched path p = inr ((p.lines, (p.followed.each, (p.left, p.followed.read)), (p.found, p.more, p.alike, stopped_at p.stops)), kept held, refl)
     where
       stopped_at : (IsAtEnd p.left × (p.found ≡ p.printed)) ⊎ StopsInLast (unexplained form) start p.lines p.found
@@ -310,18 +309,18 @@ module _ {R : Type 0} (remaining : R → Option (List ℕ)) (form : Form) (start
       stopped_at (inr stops) = inr stops
 
 -- where a difference was found
-pub differing : {R : Type 0} (remaining : R → Option (List ℕ)) (form : Form) (start : State) (streams : Streams) (expected : Expected R) (path : Bor (List ℕ)) → NeverPrints (unexplained form) start streams.trace (remaining expected.reader)
-    → (failure : Failure) → IsDifference failure → PlayFails remaining (Compare expected form) path start streams failure
-differing remaining form start streams expected path never_prints Differs any = never_prints
-differing remaining form start streams expected path never_prints Write any = tt
-differing remaining form start streams expected path never_prints NoMemory any = tt
-differing remaining form start streams expected path never_prints (Manifest cause) never = absurd never
-differing remaining form start streams expected path never_prints (BadLine n fault) never = absurd never
-differing remaining form start streams expected path never_prints (Read told) never = absurd never
-differing remaining form start streams expected path never_prints (Unmet n) never = absurd never
-differing remaining form start streams expected path never_prints (Words fault) never = absurd never
-differing remaining form start streams expected path never_prints (Unfit cause) never = absurd never
-differing remaining form start streams expected path never_prints (TooManyRows most) never = absurd never
+pub differing : (form : Form) (start : State) (streams : Streams) (expected : Expected (Option (List ℕ))) (path : Bor (List ℕ)) → NeverPrints (unexplained form) start streams.trace expected.reader
+    → (failure : Failure) → IsDifference failure → PlayFails (Compare expected form) path start streams failure
+differing form start streams expected path never_prints Differs any = never_prints
+differing form start streams expected path never_prints Write any = tt
+differing form start streams expected path never_prints NoMemory any = tt
+differing form start streams expected path never_prints (Manifest cause) never = absurd never
+differing form start streams expected path never_prints (BadLine n fault) never = absurd never
+differing form start streams expected path never_prints (Read told) never = absurd never
+differing form start streams expected path never_prints (Unmet n) never = absurd never
+differing form start streams expected path never_prints (Words fault) never = absurd never
+differing form start streams expected path never_prints (Unfit cause) never = absurd never
+differing form start streams expected path never_prints (TooManyRows most) never = absurd never
 
 -- SESSIONS
 
@@ -351,66 +350,10 @@ held_whole x form start now held holds had has (left, lines, said, heard, inl en
 held_whole x form start now held holds had has (left, lines, said, heard, inr (rest, single, some, all), written) =
     held_of form start now held holds had left lines said rest heard written single all
 
-pub held_failed : {R : Type 0} (remaining : R → Option (List ℕ)) (form : Form) (start now : State) (held holds had has : Option (List ℕ)) (path : Bor (List ℕ)) (fault : Option LineFault) (error : PlayError)
-    → SessionIn {X = Unit {0}} form start now held holds had has (Err error) → PlayFails remaining (Session form) path start (passed had held holds) (failure_of (Read path) fault error)
-held_failed remaining form start now held holds had has path fault play_error.Read (left, lines, said, heard, unended, written) =
+pub held_failed : (form : Form) (start now : State) (held holds had has : Option (List ℕ)) (path : Bor (List ℕ)) (fault : Option LineFault) (error : PlayError)
+    → SessionIn {X = Unit {0}} form start now held holds had has (Err error) → PlayFails (Session form) path start (passed had held holds) (failure_of (Read path) fault error)
+held_failed form start now held holds had has path fault play_error.Read (left, lines, said, heard, unended, written) =
     inl ((lines, heard.each, (left, heard.read), subst (Appends held holds) heard.said written), refl)
-held_failed remaining form start now held holds had has path fault play_error.Write p = tt
-held_failed remaining form start now held holds had has path fault play_error.NoMemory p = tt
-held_failed remaining form start now held holds had has path fault (play_error.BadLine n) p = absurd p
-
--- TASKS THAT PRINT
-
--- what was printed by a task that prints in this form
-module _ {R : Type 0} (remaining : R → Option (List ℕ)) (strict interactive : Bool) (form : Form) where
-  pub printed : (task : Task R) → PrintsIn strict interactive form task → (start : State) (streams : Streams) → IsDoneBy remaining task start streams → IsPrinted strict interactive form start streams
-  printed Plain (loose, silent, same) start streams done = rw (loose, silent, same) done
-  printed (Formed own) (loose, silent, same) start streams done = rw (loose, silent, same) done
-  printed (Guarded own) (is_strict, same) start streams done = rw (is_strict, same) done
-  printed Recorded never start streams done = absurd never
-  printed (Session own) (loose, talks, same) start streams done = rw (loose, talks, same) done
-  printed (Compare expected own) never start streams done = absurd never
-  printed (Drawn keep width) never start streams done = absurd never
-  printed Paged never start streams done = absurd never
-
-  pub stopped : (task : Task R) → PrintsIn strict interactive form task → (start : State) (streams : Streams) (n : ℕ) → StopsBy remaining task start streams n
-      → IsStoppedIn strict interactive form start streams n
-  stopped Plain (loose, silent, same) start streams n stops = rw (loose, silent, same) stops
-  stopped (Formed own) (loose, silent, same) start streams n stops = rw (loose, silent, same) stops
-  stopped (Guarded own) (is_strict, same) start streams n stops = rw (is_strict, same) stops
-  stopped Recorded never start streams n stops = absurd never
-  stopped (Session own) prints start streams n never = absurd never
-  stopped (Compare expected own) never start streams n stops = absurd never
-  stopped (Drawn keep width) never start streams n stops = absurd never
-  stopped Paged never start streams n stops = absurd never
-
-  pub breached : (task : Task R) → PrintsIn strict interactive form task → (start : State) (streams : Streams) (n : ℕ) → UnmetBy task start streams n
-      → (strict ≡ true) × IsUnmet form start streams n
-  breached Plain prints start streams n never = absurd never
-  breached (Formed own) prints start streams n never = absurd never
-  breached (Guarded own) (is_strict, same) start streams n unmet = (is_strict, rw same unmet)
-  breached Recorded prints start streams n never = absurd never
-  breached (Session own) prints start streams n never = absurd never
-  breached (Compare expected own) prints start streams n never = absurd never
-  breached (Drawn keep width) prints start streams n never = absurd never
-  breached Paged prints start streams n never = absurd never
-
-  pub never_differs : {P : Type 0} (task : Task R) → PrintsIn strict interactive form task → (start : State) (trace : Option (List ℕ)) → DiffersBy remaining task start trace → P
-  never_differs Plain prints start trace never = absurd never
-  never_differs (Formed own) prints start trace never = absurd never
-  never_differs (Guarded own) prints start trace never = absurd never
-  never_differs Recorded never start trace differs = absurd never
-  never_differs (Session own) prints start trace never = absurd never
-  never_differs (Compare expected own) never start trace differs = absurd never
-  never_differs (Drawn keep width) never start trace differs = absurd never
-  never_differs Paged never start trace differs = absurd never
-
-  pub never_overfull : {P : Type 0} (task : Task R) → PrintsIn strict interactive form task → (start : State) (streams : Streams) (most : ℕ) → OverfullBy task start streams most → P
-  never_overfull Plain prints start streams most never = absurd never
-  never_overfull (Formed own) prints start streams most never = absurd never
-  never_overfull (Guarded own) prints start streams most never = absurd never
-  never_overfull Recorded never start streams most over = absurd never
-  never_overfull (Session own) prints start streams most never = absurd never
-  never_overfull (Compare expected own) never start streams most over = absurd never
-  never_overfull (Drawn keep width) never start streams most over = absurd never
-  never_overfull Paged never start streams most over = absurd never
+held_failed form start now held holds had has path fault play_error.Write p = tt
+held_failed form start now held holds had has path fault play_error.NoMemory p = tt
+held_failed form start now held holds had has path fault (play_error.BadLine n) p = absurd p

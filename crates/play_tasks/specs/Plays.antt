@@ -25,7 +25,6 @@ use Rattle.play_picture.specs.Watching.{IsTooLarge}
 use Rattle.play_report.specs.Guarded.{met_text, near_text}
 use Rattle.play_report.specs.declared.failure.Failure.{Failure}
 use Rattle.play_report.specs.declared.failure.Failure.TheVariants as failure
-use Rattle.play_tasks.specs.declared.task.Expected.{Expected}
 use Rattle.play_tasks.specs.declared.task.Task.{Task}
 use Rattle.play_tasks.specs.declared.task.Task.TheVariants as task
 
@@ -200,114 +199,92 @@ IsUnmatched form start trace expected =
     × ((found : List ℕ) × (more : Option (List ℕ)) × Consumes expected more found
     × ((IsAll trace (joined lines) × (found ≡ text_in form 1 start lines)) ⊎ StopsInLast form start lines found))
 
--- what is printed, in this form: by a play, or by a session, of which guards aren't checked
-abbrev pub IsPrinted : (strict interactive : Bool) → Form → State → Streams → Type 0
-IsPrinted true interactive form start streams = IsPlayed true form start streams
-IsPrinted false true form start streams = IsHeld form start streams
-IsPrinted false false form start streams = IsPlayed false form start streams
-
--- what prints stopped at line n: a session stops at none
-abbrev pub IsStoppedIn : (strict interactive : Bool) → Form → State → Streams → ℕ → Type 0
-IsStoppedIn true interactive form start streams n = IsStopped true form start streams n
-IsStoppedIn false true form start streams n = ⊥
-IsStoppedIn false false form start streams n = IsStopped false form start streams n
-
 -- TASKS: a reader, a writer and memory may always fail
-
--- a task that prints in this form
-abbrev pub PrintsIn : {R : Type 0} → (strict interactive : Bool) → Form → Task R → Type 0
-PrintsIn strict interactive form task.Plain = (strict ≡ false) × (interactive ≡ false) × (form ≡ plain)
-PrintsIn strict interactive form (task.Formed own) = (strict ≡ false) × (interactive ≡ false) × (form ≡ own)
-PrintsIn strict interactive form (task.Guarded own) = (strict ≡ true) × (form ≡ own)
-PrintsIn strict interactive form (task.Session own) = (strict ≡ false) × (interactive ≡ true) × (form ≡ own)
-PrintsIn strict interactive form other = ⊥
 
 -- whether a task tells of bad lines while it goes on
 abbrev pub talks : {R : Type 0} → Task R → Bool
 talks (task.Session form) = true
 talks other = false
 
-abbrev pub comparison_of : {R : Type 0} → Expected R → Form → Task R
-comparison_of expected form = task.Compare expected form
-
--- What follows has what is known of a reader first.
+-- a task by what is known of its reader: the bytes that it had, if any are known
+abbrev pub KnownTask : Type 0
+KnownTask = Task (Option (List ℕ))
 
 -- a task was done
-abbrev pub IsDoneBy : {R : Type 0} → (R → Option (List ℕ)) → Task R → State → Streams → Type 0
-IsDoneBy remaining task.Plain start streams = IsPlayed false plain start streams
-IsDoneBy remaining (task.Formed form) start streams = IsPlayed false form start streams
-IsDoneBy remaining (task.Guarded form) start streams = IsPlayed true form start streams
-IsDoneBy remaining task.Recorded start streams = IsRecorded start streams
-IsDoneBy remaining (task.Session form) start streams = IsHeld form start streams
-IsDoneBy remaining (task.Compare expected form) start streams =
-    PrintsExpected (unexplained form) start streams.trace (remaining expected.reader) × Keeps streams.held streams.holds
-IsDoneBy remaining (task.Drawn keep width) start streams =
+abbrev pub IsDoneBy : KnownTask → State → Streams → Type 0
+IsDoneBy task.Plain start streams = IsPlayed false plain start streams
+IsDoneBy (task.Formed form) start streams = IsPlayed false form start streams
+IsDoneBy (task.Guarded form) start streams = IsPlayed true form start streams
+IsDoneBy task.Recorded start streams = IsRecorded start streams
+IsDoneBy (task.Session form) start streams = IsHeld form start streams
+IsDoneBy (task.Compare expected form) start streams =
+    PrintsExpected (unexplained form) start streams.trace expected.reader × Keeps streams.held streams.holds
+IsDoneBy (task.Drawn keep width) start streams =
     IsDrawn streams.trace × WritesPicture streams.held streams.holds
-IsDoneBy remaining task.Paged start streams = IsDrawn streams.trace × WritesPage streams.held streams.holds
+IsDoneBy task.Paged start streams = IsDrawn streams.trace × WritesPage streams.held streams.holds
 
 -- a task stopped at line n
-abbrev pub StopsBy : {R : Type 0} → (R → Option (List ℕ)) → Task R → State → Streams → ℕ → Type 0
-StopsBy remaining task.Plain start streams n = IsStopped false plain start streams n
-StopsBy remaining (task.Formed form) start streams n = IsStopped false form start streams n
-StopsBy remaining (task.Guarded form) start streams n = IsStopped true form start streams n
-StopsBy remaining task.Recorded start streams n = IsRecordStopped start streams n
-StopsBy remaining (task.Session form) start streams n = ⊥
-StopsBy remaining (task.Compare expected form) start streams n =
-    IsCutShort (unexplained form) start streams.trace (remaining expected.reader) n × Keeps streams.held streams.holds
-StopsBy remaining (task.Drawn keep width) start streams n = IsUndrawn streams n
-StopsBy remaining task.Paged start streams n = IsUndrawn streams n
+abbrev pub StopsBy : KnownTask → State → Streams → ℕ → Type 0
+StopsBy task.Plain start streams n = IsStopped false plain start streams n
+StopsBy (task.Formed form) start streams n = IsStopped false form start streams n
+StopsBy (task.Guarded form) start streams n = IsStopped true form start streams n
+StopsBy task.Recorded start streams n = IsRecordStopped start streams n
+StopsBy (task.Session form) start streams n = ⊥
+StopsBy (task.Compare expected form) start streams n =
+    IsCutShort (unexplained form) start streams.trace expected.reader n × Keeps streams.held streams.holds
+StopsBy (task.Drawn keep width) start streams n = IsUndrawn streams n
+StopsBy task.Paged start streams n = IsUndrawn streams n
 
 -- a task could read no further of its trace
-abbrev pub UnreadBy : {R : Type 0} → (R → Option (List ℕ)) → Task R → State → Streams → Type 0
-UnreadBy remaining task.Plain start streams = IsUnread false plain start streams
-UnreadBy remaining (task.Formed form) start streams = IsUnread false form start streams
-UnreadBy remaining (task.Guarded form) start streams = IsUnread true form start streams
-UnreadBy remaining task.Recorded start streams = IsRecordUnread start streams
-UnreadBy remaining (task.Session form) start streams = IsUnheard form start streams
-UnreadBy remaining (task.Compare expected form) start streams =
-    IsCutOff (unexplained form) start streams.trace (remaining expected.reader) × Keeps streams.held streams.holds
-UnreadBy remaining (task.Drawn keep width) start streams = Keeps streams.held streams.holds
-UnreadBy remaining task.Paged start streams = Keeps streams.held streams.holds
+abbrev pub UnreadBy : KnownTask → State → Streams → Type 0
+UnreadBy task.Plain start streams = IsUnread false plain start streams
+UnreadBy (task.Formed form) start streams = IsUnread false form start streams
+UnreadBy (task.Guarded form) start streams = IsUnread true form start streams
+UnreadBy task.Recorded start streams = IsRecordUnread start streams
+UnreadBy (task.Session form) start streams = IsUnheard form start streams
+UnreadBy (task.Compare expected form) start streams =
+    IsCutOff (unexplained form) start streams.trace expected.reader × Keeps streams.held streams.holds
+UnreadBy (task.Drawn keep width) start streams = Keeps streams.held streams.holds
+UnreadBy task.Paged start streams = Keeps streams.held streams.holds
 
 -- a task could read no further of what is expected, whose path this is
-abbrev pub UnmatchedBy : {R : Type 0} → (R → Option (List ℕ)) → Task R → State → Streams → Bor (List ℕ) → Type 0
-UnmatchedBy remaining (task.Compare expected form) start streams path =
-    IsUnmatched (unexplained form) start streams.trace (remaining expected.reader) × Keeps streams.held streams.holds
+abbrev pub UnmatchedBy : KnownTask → State → Streams → Bor (List ℕ) → Type 0
+UnmatchedBy (task.Compare expected form) start streams path =
+    IsUnmatched (unexplained form) start streams.trace expected.reader × Keeps streams.held streams.holds
     × (path ≡ expected.path)
-UnmatchedBy remaining other start streams path = ⊥
+UnmatchedBy other start streams path = ⊥
 
 -- a task found another text
-abbrev pub DiffersBy : {R : Type 0} → (R → Option (List ℕ)) → Task R → State → (trace : Option (List ℕ)) → Type 0
-DiffersBy remaining (task.Compare expected form) start trace =
-    NeverPrints (unexplained form) start trace (remaining expected.reader)
-DiffersBy remaining other start trace = ⊥
+abbrev pub DiffersBy : KnownTask → State → (trace : Option (List ℕ)) → Type 0
+DiffersBy (task.Compare expected form) start trace =
+    NeverPrints (unexplained form) start trace expected.reader
+DiffersBy other start trace = ⊥
 
 -- a task met a guard that isn't met, in line n
-abbrev pub UnmetBy : {R : Type 0} → Task R → State → Streams → ℕ → Type 0
+abbrev pub UnmetBy : KnownTask → State → Streams → ℕ → Type 0
 UnmetBy (task.Guarded form) start streams n = IsUnmet form start streams n
 UnmetBy other start streams n = ⊥
 
 -- a task would draw more rows than this many
-abbrev pub OverfullBy : {R : Type 0} → Task R → State → Streams → ℕ → Type 0
+abbrev pub OverfullBy : KnownTask → State → Streams → ℕ → Type 0
 OverfullBy (task.Drawn keep width) start streams most = IsOverfull keep start streams most
 OverfullBy other start streams most = ⊥
 
 -- a task with the trace at this path fails; a play refuses no manifest, and reads no descriptor. What can't be read is
 -- named: the trace, or what is expected.
-abbrev pub PlayFails : {R : Type 0} → (R → Option (List ℕ)) → Task R → (trace : Bor (List ℕ)) → State → Streams
-    → Failure → Type 0
-PlayFails remaining task trace start streams (failure.BadLine n fault) = StopsBy remaining task start streams n
-PlayFails remaining task trace start streams (failure.Read path) =
-    (UnreadBy remaining task start streams × (path ≡ trace)) ⊎ UnmatchedBy remaining task start streams path
-PlayFails remaining task trace start streams failure.Write = ⊤
-PlayFails remaining task trace start streams failure.NoMemory = ⊤
-PlayFails remaining task trace start streams failure.Differs = DiffersBy remaining task start streams.trace
-PlayFails remaining task trace start streams (failure.Unmet n) = UnmetBy task start streams n
-PlayFails remaining task trace start streams (failure.TooManyRows most) = OverfullBy task start streams most
-PlayFails remaining task trace start streams other = ⊥
+abbrev pub PlayFails : KnownTask → (trace : Bor (List ℕ)) → State → Streams → Failure → Type 0
+PlayFails task trace start streams (failure.BadLine n fault) = StopsBy task start streams n
+PlayFails task trace start streams (failure.Read path) =
+    (UnreadBy task start streams × (path ≡ trace)) ⊎ UnmatchedBy task start streams path
+PlayFails task trace start streams failure.Write = ⊤
+PlayFails task trace start streams failure.NoMemory = ⊤
+PlayFails task trace start streams failure.Differs = DiffersBy task start streams.trace
+PlayFails task trace start streams (failure.Unmet n) = UnmetBy task start streams n
+PlayFails task trace start streams (failure.TooManyRows most) = OverfullBy task start streams most
+PlayFails task trace start streams other = ⊥
 
 -- a task with the trace at this path is done, or fails
-pub record Plays {R : Type 0} (remaining : R → Option (List ℕ)) (task : Task R) (trace : Bor (List ℕ)) (start : State)
-    (streams : Streams) (result : Result (Unit {0}) Failure) : Type 0 where
-  pub played : OnOk result (IsDoneBy remaining task start streams)
-  pub failed : IfErr result (PlayFails remaining task trace start streams)
+pub record Plays (task : KnownTask) (trace : Bor (List ℕ)) (start : State) (streams : Streams)
+    (result : Result (Unit {0}) Failure) : Type 0 where
+  pub played : OnOk result (IsDoneBy task start streams)
+  pub failed : IfErr result (PlayFails task trace start streams)

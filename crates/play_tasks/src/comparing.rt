@@ -1,7 +1,8 @@
 // SPDX-License-Identifier: MIT OR Apache-2.0
 //! Plays of a trace whose text is compared with a text that is expected.
 ghost use Rattle.play_report.specs.Failures.{IsDifference};
-ghost use Rattle.play_tasks.specs.Plays.{Plays, comparison_of, streams_of};
+ghost use Rattle.play_tasks.specs.Plays.{Plays, streams_of};
+ghost use Rattle.play_tasks.specs.Purposes.{comparison_of};
 
 use crate::playing::buffer;
 use crate::task::{Expected, Trace};
@@ -22,7 +23,7 @@ pub(crate) fn compare<'a, A: Allocator + Copy, P: Playable, R: Read + Drop, W: W
     out: &mut W,
 ) -> Result<(), Failure<'a>>
     ensures { let streams = streams_of R.remaining trace.entry.reader W.contents out.old out.new in
-        Plays R.remaining (comparison_of expected.entry form) trace.entry.path player.old.state streams result }
+        Plays (comparison_of R.remaining expected.entry form) trace.entry.path player.old.state streams result }
 {
     let Trace { path, reader } = trace;
     let mut reader = buffer(alloc, reader)?;

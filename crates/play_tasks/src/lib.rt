@@ -1,6 +1,5 @@
 // SPDX-License-Identifier: MIT OR Apache-2.0
-//! What is done with a trace on a machine: it is played, and its text printed or compared, or its picture printed. Which
-//! machine that is, and what boots it, is left open.
+//! What is done with a trace on a machine, by what it is played for. Which machine that is, and what boots it, is left open.
 #![tactic(auto)]
 
 mod comparing;
@@ -10,4 +9,4 @@ mod playing;
 mod task;
 
 pub use machines::{Machines, Play};
-pub use task::{Expected, Task, Trace, do_task, form_of};
+pub use task::{Expected, Task, Trace, do_task};

@@ -3,6 +3,7 @@
 ghost use Rattle.std.specs.Prelude.{◌≡◌, false, OnOk};
 ghost use Rattle.play_transcript.specs.Traces.{Wrote};
 ghost use Rattle.play_tasks.specs.Plays.{Plays, streams_of, talks};
+ghost use Rattle.play_tasks.specs.Purposes.{known};
 ghost use Rattle.play_tasks.specs.Starts.{start_of};
 
 use crate::task::{Task, Trace};
@@ -36,7 +37,7 @@ pub trait Machines {
         told: &mut Vec<u8, A>,
     ) -> Result<(), Failure<'a>>
         ensures played { let streams = streams_of R.remaining play.entry.trace.reader W.contents out.old out.new in
-            Plays R.remaining play.entry.task play.entry.trace.path (start_of manifest.now) streams result }
+            Plays (known R.remaining play.entry.task) play.entry.trace.path (start_of manifest.now) streams result }
         ensures quiet { talks play.entry.task ≡ false → err.new ≡ err.old };
 
     /// Writes so many lines of a trace for the machine of this manifest, and answers how often what came. The same seed

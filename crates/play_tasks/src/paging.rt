@@ -22,7 +22,7 @@ pub(crate) fn print_page<'a, A: Allocator + Copy, P: Playable, R: Read + Drop, W
     out: &mut W,
 ) -> Result<(), Failure<'a>>
     ensures { let streams = streams_of R.remaining trace.entry.reader W.contents out.old out.new in
-        Plays R.remaining Task.Paged trace.entry.path player.old.state streams result }
+        Plays Task.Paged trace.entry.path player.old.state streams result }
 {
     let Trace { path, reader } = trace;
     let mut reader = buffer(alloc, reader)?;

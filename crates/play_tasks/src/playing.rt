@@ -22,7 +22,7 @@ pub(crate) fn play_plainly<'a, A: Allocator + Copy, P: Playable, R: Read + Drop,
     out: &mut W,
 ) -> Result<(), Failure<'a>>
     ensures { let streams = streams_of R.remaining trace.entry.reader W.contents out.old out.new in
-        Plays R.remaining Task.Plain trace.entry.path player.old.state streams result }
+        Plays Task.Plain trace.entry.path player.old.state streams result }
 {
     let Trace { path, mut reader } = trace;
     match player.play_in(alloc, &mut reader, out) {
@@ -54,7 +54,7 @@ pub(crate) fn play_in_form<'a, A: Allocator + Copy, P: Playable, R: Read + Drop,
     out: &mut W,
 ) -> Result<(), Failure<'a>>
     ensures { let streams = streams_of R.remaining trace.entry.reader W.contents out.old out.new in
-        Plays R.remaining (Task.Formed form) trace.entry.path player.old.state streams result }
+        Plays (Task.Formed form) trace.entry.path player.old.state streams result }
 {
     let Trace { path, reader } = trace;
     let mut reader = buffer(alloc, reader)?;
@@ -76,7 +76,7 @@ pub(crate) fn play_guarded<'a, A: Allocator + Copy, P: Playable, R: Read + Drop,
     told: &mut Vec<u8, A>,
 ) -> Result<(), Failure<'a>>
     ensures played { let streams = streams_of R.remaining trace.entry.reader W.contents out.old out.new in
-        Plays R.remaining (Task.Guarded form) trace.entry.path player.old.state streams result }
+        Plays (Task.Guarded form) trace.entry.path player.old.state streams result }
     ensures told { OnOk result (TellsGuards (R.remaining trace.entry.reader) told.old.items told.new.items) }
 {
     let Trace { path, reader } = trace;
@@ -125,7 +125,7 @@ pub(crate) fn record<'a, A: Allocator + Copy, P: Playable, R: Read + Drop, W: Wr
     out: &mut W,
 ) -> Result<(), Failure<'a>>
     ensures { let streams = streams_of R.remaining trace.entry.reader W.contents out.old out.new in
-        Plays R.remaining Task.Recorded trace.entry.path player.old.state streams result }
+        Plays Task.Recorded trace.entry.path player.old.state streams result }
 {
     let Trace { path, reader } = trace;
     let mut reader = buffer(alloc, reader)?;
@@ -153,7 +153,7 @@ pub(crate) fn play_session<
     err: &mut E,
 ) -> Result<(), Failure<'a>>
     ensures { let streams = streams_of R.remaining trace.entry.reader W.contents out.old out.new in
-        Plays R.remaining (Task.Session form) trace.entry.path player.old.state streams result }
+        Plays (Task.Session form) trace.entry.path player.old.state streams result }
 {
     let Trace { path, reader } = trace;
     let mut reader = buffer(alloc, reader)?;
@@ -173,7 +173,7 @@ pub(crate) fn draw<'a, A: Allocator + Copy, P: Playable, R: Read + Drop, W: Writ
     out: &mut W,
 ) -> Result<(), Failure<'a>>
     ensures { let streams = streams_of R.remaining trace.entry.reader W.contents out.old out.new in
-        Plays R.remaining (Task.Drawn keep width) trace.entry.path player.old.state streams result }
+        Plays (Task.Drawn keep width) trace.entry.path player.old.state streams result }
 {
     let Trace { path, reader } = trace;
     let mut reader = buffer(alloc, reader)?;

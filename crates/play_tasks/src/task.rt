@@ -1,13 +1,15 @@
 // SPDX-License-Identifier: MIT OR Apache-2.0
-//! What becomes of the text of a trace.
-ghost use Rattle.std.specs.Prelude.{◌≡◌, ◌&&◌, not, false};
-ghost use Rattle.play_tasks.specs.Plays.{Plays, PrintsIn, form_of, streams_of, talks};
+//! What is done with a trace.
+ghost use Rattle.std.specs.Prelude.{◌≡◌, false, IfErr, IfOk, option_map};
+ghost use Rattle.play_tasks.specs.Plays.{Plays, form_of, keep_of, streams_of, talks};
+ghost use Rattle.play_tasks.specs.Purposes.{IsTaskFor, LacksItsText, is_session_for, known};
 
 use crate::comparing::compare;
+use crate::machines::Play;
 use crate::paging::print_page;
 use crate::playing::{draw, play_guarded, play_in_form, play_plainly, play_session, record};
 use ffa_playable::Playable;
-use play_arguments::TextOptions;
+use play_arguments::{PictureOptions, Purpose, TextOptions};
 use play_drawing::Keep;
 use play_forms::Form;
 use play_player::Player;
@@ -15,20 +17,20 @@ use play_report::Failure;
 use std::alloc::Allocator;
 use std::io::{Read, Write};
 
-/// What becomes of the text of a trace.
+/// What is done with a trace.
 #[derive(Drop)]
 pub enum Task<'a, R> {
-    /// It is printed as the player prints it, which is quickest.
+    /// Its text is printed as the player prints it, which is quickest.
     Plain,
-    /// It is printed in a form. What is wrong with a bad line is looked for.
+    /// Its text is printed in a form. What is wrong with a bad line is looked for.
     Formed(Form),
-    /// It is printed in a form, and the trace's guards are checked. What is wrong with a bad line is looked for.
+    /// Its text is printed in a form, and the trace's guards are checked. What is wrong with a bad line is looked for.
     Guarded(Form),
-    /// The trace is printed with the guards of its play. What is wrong with a bad line is looked for.
+    /// It is printed with the guards of its play. What is wrong with a bad line is looked for.
     Recorded,
-    /// It is printed in a form. Bad lines are told at once, and the play goes on.
+    /// Its text is printed in a form. Bad lines are told at once, and the play goes on.
     Session(Form),
-    /// It is compared with an expected text, which has numbers and names where the form says so. Where it differs, why the
+    /// Its text is compared with an expected text, which has numbers and names where the form says so. Where it differs, why the
     /// operation is refused is told if the form asks for that. What is wrong with a bad line is looked for.
     Compare {
         expected: Expected<'a, R>,
@@ -44,8 +46,8 @@ pub enum Task<'a, R> {
     Paged,
 }
 
-/// A form by what is asked for.
-pub fn form_of(text: TextOptions) -> Form
+// A form by what is asked for.
+fn form_of(text: TextOptions) -> Form
     ensures { result ≡ form_of text }
 {
     Form {
@@ -55,27 +57,59 @@ pub fn form_of(text: TextOptions) -> Form
     }
 }
 
-impl<R> Task<'_, R> {
-    /// To print in the form that is asked for, with guards, past bad lines, or neither. Where more is to be said of a bad line,
-    /// it is played line by line. Guards are checked of no session.
-    pub fn to_print(
-        text: TextOptions,
-        strict: bool,
-        interactive: bool,
+// The lines that are asked for of a picture.
+fn keep_of(drawing: PictureOptions) -> Keep
+    ensures { result ≡ keep_of drawing }
+{
+    Keep::new(drawing.every, drawing.refused)
+}
+
+impl<'a, R: Read + Drop> Task<'a, R> {
+    /// What is done for a purpose, with what reads the expected text, if that could be opened. Where more is to be said of
+    /// a bad line, a text is printed in a form, though it may be the player's. Guards are checked of no session.
+    pub fn for_purpose(
+        purpose: Purpose<'a>,
         verbose: bool,
-    ) -> Task<'static, R>
-        ensures prints { PrintsIn strict interactive (form_of text) result }
-        ensures talks { talks result ≡ (interactive && not strict) }
+        expected: Option<R>,
+    ) -> Result<Task<'a, R>, Failure<'a>>
+        ensures serves { IfOk result (λ task.
+            IsTaskFor purpose.entry (option_map R.remaining expected) (known R.remaining task)) }
+        ensures talks { IfOk result (λ task. talks task ≡ is_session_for purpose.entry) }
+        ensures unread { IfErr result (LacksItsText purpose.entry) }
     {
-        let form = form_of(text);
-        if strict {
-            Task::Guarded(form)
-        } else if interactive {
-            Task::Session(form)
-        } else if form.number || form.names || form.explain || verbose {
-            Task::Formed(form)
-        } else {
-            Task::Plain
+        match purpose {
+            Purpose::Print {
+                text,
+                strict,
+                interactive,
+            } => {
+                let form = form_of(text);
+                if strict {
+                    Ok(Task::Guarded(form))
+                } else if interactive {
+                    Ok(Task::Session(form))
+                } else if form.number || form.names || form.explain || verbose {
+                    Ok(Task::Formed(form))
+                } else {
+                    Ok(Task::Plain)
+                }
+            }
+            Purpose::Record => Ok(Task::Recorded),
+            Purpose::Compare {
+                expected: path,
+                text,
+            } => match expected {
+                Some(reader) => Ok(Task::Compare {
+                    expected: Expected { path, reader },
+                    form: form_of(text),
+                }),
+                None => Err(Failure::Read(path)),
+            },
+            Purpose::Draw(drawing) if drawing.page => Ok(Task::Paged),
+            Purpose::Draw(drawing) => Ok(Task::Drawn {
+                keep: keep_of(drawing),
+                width: drawing.width,
+            }),
         }
     }
 }
@@ -94,20 +128,24 @@ pub struct Expected<'a, R> {
     pub reader: R,
 }
 
-/// Plays a trace on a machine, as this task says. `out` takes what is printed, and `err` what a session tells of bad lines.
+/// Plays a trace on a machine, as its task says. `out` takes what is printed, and `err` what a session tells of bad lines.
 pub fn do_task<'a, A: Allocator + Copy, P: Playable, R: Read + Drop, W: Write, E: Write>(
     player: &mut Player<P>,
-    alloc: A,
-    task: Task<'a, R>,
-    trace: Trace<'a, R>,
+    play: Play<'a, A, R>,
     out: &mut W,
     err: &mut E,
     told: &mut Vec<u8, A>,
 ) -> Result<(), Failure<'a>>
-    ensures played { let streams = streams_of R.remaining trace.entry.reader W.contents out.old out.new in
-        Plays R.remaining task.entry trace.entry.path player.old.state streams result }
-    ensures quiet { talks task.entry ≡ false → err.new ≡ err.old }
+    ensures played { let streams = streams_of R.remaining play.entry.trace.reader W.contents out.old out.new in
+        Plays (known R.remaining play.entry.task) play.entry.trace.path player.old.state streams result }
+    ensures quiet { talks play.entry.task ≡ false → err.new ≡ err.old }
 {
+    let Play {
+        alloc,
+        task,
+        trace,
+        ..
+    } = play;
     match task {
         Task::Plain => play_plainly(player, alloc, trace, out),
         Task::Formed(form) => play_in_form(player, alloc, form, trace, out),

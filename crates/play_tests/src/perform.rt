@@ -2,8 +2,8 @@
 //! The commands on worked manifests and traces.
 
 use fixtures::ROW_TEXT;
-use play_arguments::{MachineOptions, Request, TextOptions};
-use play_commands::{Files, perform, show};
+use play_arguments::{MachineOptions, PlayOptions, Purpose, Request, Source, TextOptions};
+use play_commands::{Commands, Files, Program, show};
 use play_machines::Booted;
 use std::alloc::Global;
 use std::io::{self, Write};
@@ -28,24 +28,29 @@ const TEXT: TextOptions = TextOptions {
     explain: false,
 };
 
-const RUN: Request<'static> = Request::Run {
-    manifest: "row.toml",
-    trace: "row.trace",
-    machine: MACHINE,
+const PRINT: Purpose<'static> = Purpose::Print {
     text: TEXT,
     strict: false,
     interactive: false,
+};
+
+const ROW: PlayOptions<'static> = PlayOptions {
+    source: Source::File("row.toml"),
+    trace: "row.trace",
+    machine: MACHINE,
+    purpose: PRINT,
     verbose: false,
 };
 
-const DEMO: Request<'static> = Request::Demo {
+const RUN: Request<'static> = Request::Play(ROW);
+
+const DEMO: Request<'static> = Request::Play(PlayOptions {
+    source: Source::BuiltIn,
     trace: "no.trace",
     machine: MACHINE,
-    text: TEXT,
-    strict: false,
-    interactive: false,
+    purpose: PRINT,
     verbose: false,
-};
+});
 
 const CHECK: Request<'static> = Request::Check {
     manifest: "row.toml",
@@ -64,6 +69,15 @@ const FIRST: &str = "call 84000069\nstore 40010000 2A\nload 40010000 1\nload 400
 const FIRST_TEXT: &str =
     "regs 0000 0000000084000061 0000000000000000 0000000000000000 0000000000000000 0000000000000000 0000000000000000 0000000000000000 0000000000000000\ndone\ndata 2A\nfault translation\nrunner 0000\npages 40000000 4000FFFF 8000 --- ---\npages 40010000 4001FFFF 0000 rw- ---\npages 40020000 4002FFFF 8001 --- rwx\npages 40030000 401FFFFF 8000 --- ---\n";
 
+// The commands, with this memory for RAM and for what plays on it.
+fn program<A>(manifests: Global, alloc: A) -> Program<Booted, A> {
+    Program {
+        machines: Booted,
+        manifests,
+        alloc,
+    }
+}
+
 // How a command ended, with what it wrote.
 #[derive(Drop)]
 struct Ended {
@@ -75,7 +89,7 @@ struct Ended {
 fn performed(alloc: Global, request: &Request<'_>, files: Files<'_, &[u8]>) -> Ended {
     let mut out = Vec::new(alloc);
     let mut err = Vec::new(alloc);
-    let status = perform(&Booted, alloc, alloc, request, files, &mut out, &mut err);
+    let status = program(alloc, alloc).perform(request, files, &mut out, &mut err);
     Ended { status, out, err }
 }
 
@@ -101,38 +115,7 @@ const KINDS: [(bool, bool); 4] = [(false, false), (true, false), (false, true), 
 fn on_kind<'a>(request: &Request<'a>, (frames, tlb): (bool, bool)) -> Request<'a> {
     let machine = MachineOptions { frames, tlb };
     match *request {
-        Request::Run {
-            manifest,
-            trace,
-            text,
-            strict,
-            interactive,
-            verbose,
-            ..
-        } => Request::Run {
-            manifest,
-            trace,
-            machine,
-            text,
-            strict,
-            interactive,
-            verbose,
-        },
-        Request::Demo {
-            trace,
-            text,
-            strict,
-            interactive,
-            verbose,
-            ..
-        } => Request::Demo {
-            trace,
-            machine,
-            text,
-            strict,
-            interactive,
-            verbose,
-        },
+        Request::Play(options) => Request::Play(PlayOptions { machine, ..options }),
         other => other,
     }
 }
@@ -194,7 +177,7 @@ fn tells(
         expected: None,
         reason: None,
     };
-    let ended = perform(&Booted, alloc, alloc, request, files, &mut out, &mut err);
+    let ended = program(alloc, alloc).perform(request, files, &mut out, &mut err);
     assert_eq!(rt; ended, status);
     assert_eq!(rt; err.as_slice(), told.as_bytes());
 }

@@ -4,12 +4,11 @@
 
 ghost use Rattle.std.specs.Prelude.{◌≤◌};
 
-use super::{DEMO, FIRST, FIRST_TEXT, KINDS, RUN, on_kind, performed_once};
+use super::{DEMO, FIRST, FIRST_TEXT, KINDS, RUN, on_kind, performed_once, program};
 use fixtures::{InPieces, ROW_TEXT};
 use linked_list_allocator::LocalHeap;
 use play_arguments::Request;
-use play_commands::{Files, perform};
-use play_machines::Booted;
+use play_commands::{Commands, Files};
 use std::alloc::Global;
 use std::process::Abort;
 use std::test::Fail;
@@ -77,7 +76,7 @@ fn is_done(
         expected: None,
         reason: None,
     };
-    let status = perform(&Booted, alloc, &heap, request, files, &mut out, &mut err);
+    let status = program(alloc, &heap).perform(request, files, &mut out, &mut err);
     assert_eq!(rt; heap.used(), 0);
     if status == 0 {
         assert_eq!(rt; out.as_slice(), text);
@@ -161,7 +160,7 @@ fn assert_refused(
         expected: None,
         reason: None,
     };
-    let status = perform(&Booted, alloc, &heap, &RUN, files, &mut out, &mut err);
+    let status = program(alloc, &heap).perform(&RUN, files, &mut out, &mut err);
     assert_eq!(rt; status, 1);
     assert_eq!(rt; err.as_slice(), message.as_bytes());
     assert!(rt; out.is_empty());

@@ -1,34 +1,37 @@
 // SPDX-License-Identifier: MIT OR Apache-2.0
 //! Comparisons whose expected text can't be read, or for which there is no memory, and a session that can't be read on.
 
-use super::{Ended, FIRST, MACHINE, RUN, TEXT, performed_once};
+use super::{Ended, FIRST, MACHINE, RUN, TEXT, performed_once, program};
 use fixtures::{InPieces, ROW_TEXT};
 use linked_list_allocator::LocalHeap;
-use play_arguments::Request;
-use play_commands::{Files, perform};
-use play_machines::Booted;
+use play_arguments::{PlayOptions, Purpose, Request, Source};
+use play_commands::{Commands, Files};
 use std::alloc::Global;
 use std::process::Abort;
 use std::test::Fail;
 
-const COMPARE: Request<'static> = Request::Compare {
-    manifest: "row.toml",
+const COMPARE: Request<'static> = Request::Play(PlayOptions {
+    source: Source::File("row.toml"),
     trace: "row.trace",
-    expected: "row.text",
     machine: MACHINE,
-    text: TEXT,
+    purpose: Purpose::Compare {
+        expected: "row.text",
+        text: TEXT,
+    },
     verbose: false,
-};
+});
 
-const SESSION: Request<'static> = Request::Run {
-    manifest: "row.toml",
+const SESSION: Request<'static> = Request::Play(PlayOptions {
+    source: Source::File("row.toml"),
     trace: "row.trace",
     machine: MACHINE,
-    text: TEXT,
-    strict: false,
-    interactive: true,
+    purpose: Purpose::Print {
+        text: TEXT,
+        strict: false,
+        interactive: true,
+    },
     verbose: false,
-};
+});
 
 // Compares what FIRST prints with a text that can be read so many times.
 fn compared(alloc: Global, request: &Request<'_>, expected: &[u8], reads: usize) -> Ended {
@@ -39,7 +42,7 @@ fn compared(alloc: Global, request: &Request<'_>, expected: &[u8], reads: usize)
         expected: Some(InPieces::of(expected, 7, reads)),
         reason: None,
     };
-    let status = perform(&Booted, alloc, alloc, request, files, &mut out, &mut err);
+    let status = program(alloc, alloc).perform(request, files, &mut out, &mut err);
     Ended { status, out, err }
 }
 
@@ -75,7 +78,7 @@ fn is_compared(rt: &impl Abort, alloc: Global, text: &[u8], room: usize) -> Resu
         expected: Some(text),
         reason: None,
     };
-    let status = perform(&Booted, alloc, &heap, &COMPARE, files, &mut out, &mut err);
+    let status = program(alloc, &heap).perform(&COMPARE, files, &mut out, &mut err);
     assert_eq!(rt; heap.used(), 0);
     assert!(rt; out.is_empty());
     if status == 0 {
@@ -117,15 +120,8 @@ fn ends_a_session_where_it_cannot_read(rt: HostRuntime) {
         expected: None,
         reason: None,
     };
-    let status = perform(
-        &Booted,
-        rt.alloc(),
-        rt.alloc(),
-        &SESSION,
-        files,
-        &mut out,
-        &mut err,
-    );
+    let program = program(rt.alloc(), rt.alloc());
+    let status = program.perform(&SESSION, files, &mut out, &mut err);
     let told = "ffaplay: line 1, column 6: a word is missing\nffaplay: cannot read row.trace\n";
     ended(&rt, &Ended { status, out, err }, (3, b"data 00\n", told));
 }

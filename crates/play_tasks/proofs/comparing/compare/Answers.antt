@@ -6,7 +6,7 @@ use Rattle.play_forms.specs.declared.comparison.CompareError.TheVariants as comp
 use Rattle.play_tasks.specs.Plays.{PrintsExpected, PlayFails}
 use Rattle.play_report.specs.Failures.{failure_of}
 use Rattle.play_report.specs.declared.failure.Failure.TheVariants.{Read}
-use Rattle.play_tasks.specs.declared.task.Task.TheVariants.{Compare}
+use Rattle.play_tasks.specs.Purposes.{comparison_of, heard}
 use Rattle.play_tasks.proofs.Plays.{compared_whole, compared_failed, compared_unmatched, differing, kept, passed}
 use Rattle.play_tasks.proofs.comparing.compare.Goals as goal
 
@@ -36,7 +36,7 @@ returns-in-Ok-Some g c =
     let unequal = subst (λ had. NeverPrints (unexplained form) start had (g.R.Read.remaining c.args.expected.reader)) c.in_ok-reader.ensures.unread at_wanted in
     record {
       played = tt;
-      failed = differing g.R.Read.remaining form start (passed (g.R.Read.remaining c.args.trace.reader) held holds) c.args.expected c.args.trace.path unequal c.tell_difference.result c.tell_difference.ensures;
+      failed = differing form start (passed (g.R.Read.remaining c.args.trace.reader) held holds) (heard g.R.Read.remaining c.args.expected) c.args.trace.path unequal c.tell_difference.result c.tell_difference.ensures;
     }
 
 pub returns-in-Err-Play : goal.returns-in-Err-Play
@@ -52,11 +52,11 @@ returns-in-Err-Play g c =
     let fault = c.of_line.ensures.0 in
     let error = c.in-Err-Play.error in
     let at_wanted = subst (λ wants. Compared form start now had has wants unread sides.line.items sides.text.items sides.expected.items (Err (compare_error.Play error))) c.in_ok-wanted.ensures.unread (rw c.in-Err-Play.field-0-is at c.in-Err-Play.ensures.compared) in
-    let failed = compared_failed g.R.Read.remaining form start now had has unread held c.args.expected sides.line.items sides.text.items sides.expected.items c.args.trace.path fault error at_wanted in
-    let task = Compare c.args.expected form in
-    let from_reader = subst (λ had. PlayFails g.R.Read.remaining task c.args.trace.path start (passed had held held) (failure_of (Read c.args.trace.path) fault error)) c.in_ok-reader.ensures.unread failed in
+    let failed = compared_failed form start now had has unread held (heard g.R.Read.remaining c.args.expected) sides.line.items sides.text.items sides.expected.items c.args.trace.path fault error at_wanted in
+    let task = comparison_of g.R.Read.remaining c.args.expected form in
+    let from_reader = subst (λ had. PlayFails task c.args.trace.path start (passed had held held) (failure_of (Read c.args.trace.path) fault error)) c.in_ok-reader.ensures.unread failed in
     let told : failure_of (Read c.args.trace.path) fault error ≡ c.of_line.result = cc (c.of_line.ensures.1, c.in-Err-Play.error-is) in
-    record { played = tt; failed = subst (PlayFails g.R.Read.remaining task c.args.trace.path start (passed (g.R.Read.remaining c.args.trace.reader) held held)) told from_reader }
+    record { played = tt; failed = subst (PlayFails task c.args.trace.path start (passed (g.R.Read.remaining c.args.trace.reader) held held)) told from_reader }
 
 pub returns : goal.returns
 returns g c =
@@ -69,6 +69,6 @@ returns g c =
     let has = reader_remaining g.R.Read.remaining c.compare.new.reader in
     let unread = reader_remaining g.R.Read.remaining c.compare.new.expected in
     let at_wanted = subst (λ wants. Compared form start now had has wants unread sides.line.items sides.text.items sides.expected.items (Err compare_error.Expected)) c.in_ok-wanted.ensures.unread (rw c.in-Err-Expected.field-0-is at c.in-Err-Expected.ensures.compared) in
-    let failed = compared_unmatched g.R.Read.remaining form start now had has unread held c.args.expected sides.line.items sides.text.items sides.expected.items c.args.trace.path at_wanted in
-    let task = Compare c.args.expected form in
-    record { played = tt; failed = subst (λ had. PlayFails g.R.Read.remaining task c.args.trace.path start (passed had held held) (Read c.args.expected.path)) c.in_ok-reader.ensures.unread failed }
+    let failed = compared_unmatched form start now had has unread held (heard g.R.Read.remaining c.args.expected) sides.line.items sides.text.items sides.expected.items c.args.trace.path at_wanted in
+    let task = comparison_of g.R.Read.remaining c.args.expected form in
+    record { played = tt; failed = subst (λ had. PlayFails task c.args.trace.path start (passed had held held) (Read c.args.expected.path)) c.in_ok-reader.ensures.unread failed }

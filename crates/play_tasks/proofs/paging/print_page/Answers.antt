@@ -15,7 +15,7 @@ returns-in-Ok g c =
     let streams = passed (g.R.Read.remaining c.args.trace.reader) (g.W.Write.contents c.args.out.now) (g.W.Write.contents c.write.new.out) in
     record {
       played = on_ok c.write.result (λ written. (drawn, written)) c.write.ensures.printed;
-      failed = on_err c.write.result (λ failure is. subst (PlayFails g.R.Read.remaining Paged c.args.trace.path c.args.player.now.state streams) (sym is) tt) c.write.ensures.failed;
+      failed = on_err c.write.result (λ failure is. subst (PlayFails Paged c.args.trace.path c.args.player.now.state streams) (sym is) tt) c.write.ensures.failed;
     }
 
 pub returns : goal.returns
@@ -23,6 +23,6 @@ returns g c =
     let start = c.args.player.now.state in
     let held = g.W.Write.contents c.args.out.now in
     let fault = c.of_line.ensures.0 in
-    let failed = paged_failed g.R.Read.remaining ℕ start c.watch_page.new.player.state held _ (reader_remaining g.R.Read.remaining c.watch_page.new.reader) c.watch_page.new.bytes.items c.args.trace.path fault c.in-Err.error c.in-Err.ensures in
-    let from_reader = subst (λ had. PlayFails g.R.Read.remaining Paged c.args.trace.path start (passed had held held) (failure_of (Read c.args.trace.path) fault c.in-Err.error)) c.in_ok-reader.ensures.unread failed in
-    record { played = tt; failed = subst (PlayFails g.R.Read.remaining Paged c.args.trace.path start (passed (g.R.Read.remaining c.args.trace.reader) held held)) (sym c.of_line.ensures.1) from_reader }
+    let failed = paged_failed ℕ start c.watch_page.new.player.state held _ (reader_remaining g.R.Read.remaining c.watch_page.new.reader) c.watch_page.new.bytes.items c.args.trace.path fault c.in-Err.error c.in-Err.ensures in
+    let from_reader = subst (λ had. PlayFails Paged c.args.trace.path start (passed had held held) (failure_of (Read c.args.trace.path) fault c.in-Err.error)) c.in_ok-reader.ensures.unread failed in
+    record { played = tt; failed = subst (PlayFails Paged c.args.trace.path start (passed (g.R.Read.remaining c.args.trace.reader) held held)) (sym c.of_line.ensures.1) from_reader }

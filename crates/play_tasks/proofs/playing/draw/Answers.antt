@@ -23,7 +23,7 @@ returns-in-Ok-Ok g c =
     let streams = passed (g.R.Read.remaining c.args.trace.reader) (g.W.Write.contents c.args.out.now) (g.W.Write.contents c.print_picture.new.out) in
     record {
       played = on_ok c.print_picture.result (λ written. (drawn, written)) c.print_picture.ensures.printed;
-      failed = on_err c.print_picture.result (λ failure is. subst (PlayFails g.R.Read.remaining (Drawn c.args.keep c.args.width) c.args.trace.path c.args.player.now.state streams) (sym is) tt) c.print_picture.ensures.failed;
+      failed = on_err c.print_picture.result (λ failure is. subst (PlayFails (Drawn c.args.keep c.args.width) c.args.trace.path c.args.player.now.state streams) (sym is) tt) c.print_picture.ensures.failed;
     }
 
 pub returns-in-Ok-Err : goal.returns-in-Ok-Err
@@ -46,6 +46,6 @@ returns g c =
     let held = g.W.Write.contents c.args.out.now in
     let task = Drawn c.args.keep c.args.width in
     let fault = c.of_line.ensures.0 in
-    let failed = drawn_failed g.R.Read.remaining ℕ c.args.keep c.args.width start c.picture_of.new.player.state held _ (reader_remaining g.R.Read.remaining c.picture_of.new.reader) c.picture_of.new.bytes.items c.args.trace.path fault c.in-Err.error c.in-Err.ensures in
-    let from_reader = subst (λ had. PlayFails g.R.Read.remaining task c.args.trace.path start (passed had held held) (failure_of (Read c.args.trace.path) fault c.in-Err.error)) c.in_ok-reader.ensures.unread failed in
-    record { played = tt; failed = subst (PlayFails g.R.Read.remaining task c.args.trace.path start (passed (g.R.Read.remaining c.args.trace.reader) held held)) (sym c.of_line.ensures.1) from_reader }
+    let failed = drawn_failed ℕ c.args.keep c.args.width start c.picture_of.new.player.state held _ (reader_remaining g.R.Read.remaining c.picture_of.new.reader) c.picture_of.new.bytes.items c.args.trace.path fault c.in-Err.error c.in-Err.ensures in
+    let from_reader = subst (λ had. PlayFails task c.args.trace.path start (passed had held held) (failure_of (Read c.args.trace.path) fault c.in-Err.error)) c.in_ok-reader.ensures.unread failed in
+    record { played = tt; failed = subst (PlayFails task c.args.trace.path start (passed (g.R.Read.remaining c.args.trace.reader) held held)) (sym c.of_line.ensures.1) from_reader }

@@ -46,4 +46,4 @@ returns-in-Ok-Some-clause-played g c =
     let unmet = guarded_unmet c.args.form start now held holds had has line found met near breach stopped in
     let from_reader = subst (λ had. IsUnmet c.args.form start (passed had held holds) breach.number) c.in_ok-reader.ensures.unread unmet in
     let streams = passed (g.R.Read.remaining c.args.trace.reader) held holds in
-    record { played = tt; failed = breach_told g.R.Read.remaining c.args.form c.args.trace.path start streams breach.number from_reader c.tell_breach.result c.tell_breach.ensures }
+    record { played = tt; failed = breach_told c.args.form c.args.trace.path start streams breach.number from_reader c.tell_breach.result c.tell_breach.ensures }

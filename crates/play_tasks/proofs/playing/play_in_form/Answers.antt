@@ -25,6 +25,6 @@ returns g c =
     let holds = g.W.Write.contents c.play.new.writer in
     let task = Formed c.args.form in
     let fault = c.of_line.ensures.0 in
-    let failed = formed_failed g.R.Read.remaining c.args.form start c.play.new.player.state held holds _ (reader_remaining g.R.Read.remaining c.play.new.reader) c.play.new.bytes.items c.args.trace.path fault c.in-Err.error c.in-Err.ensures in
-    let from_reader = subst (λ had. PlayFails g.R.Read.remaining task c.args.trace.path start (passed had held holds) (failure_of (Read c.args.trace.path) fault c.in-Err.error)) c.in_ok-reader.ensures.unread failed in
-    record { played = tt; failed = subst (PlayFails g.R.Read.remaining task c.args.trace.path start (passed (g.R.Read.remaining c.args.trace.reader) held holds)) (sym c.of_line.ensures.1) from_reader }
+    let failed = formed_failed c.args.form start c.play.new.player.state held holds _ (reader_remaining g.R.Read.remaining c.play.new.reader) c.play.new.bytes.items c.args.trace.path fault c.in-Err.error c.in-Err.ensures in
+    let from_reader = subst (λ had. PlayFails task c.args.trace.path start (passed had held holds) (failure_of (Read c.args.trace.path) fault c.in-Err.error)) c.in_ok-reader.ensures.unread failed in
+    record { played = tt; failed = subst (PlayFails task c.args.trace.path start (passed (g.R.Read.remaining c.args.trace.reader) held holds)) (sym c.of_line.ensures.1) from_reader }

@@ -11,5 +11,5 @@ returns-in-Ok g c = record { played = played_whole c.in-Ok.field-0 _ _ _ _ _ _ c
 pub returns : goal.returns
 returns g c = record {
   played = tt;
-  failed = subst (PlayFails g.R.Read.remaining Plain c.args.trace.path _ _) (sym c.of_play.ensures) (play_failed g.R.Read.remaining _ _ _ _ _ _ c.args.trace.path None c.in-Err.error c.in-Err.ensures);
+  failed = subst (PlayFails Plain c.args.trace.path _ _) (sym c.of_play.ensures) (play_failed _ _ _ _ _ _ c.args.trace.path None c.in-Err.error c.in-Err.ensures);
 }

@@ -24,6 +24,6 @@ returns g c =
     let held = g.W.Write.contents c.args.out.now in
     let holds = g.W.Write.contents c.record.new.writer in
     let fault = c.of_line.ensures.0 in
-    let failed = recorded_failed g.R.Read.remaining start c.record.new.player.state held holds _ (reader_remaining g.R.Read.remaining c.record.new.reader) c.record.new.bytes.items c.args.trace.path fault c.in-Err.error c.in-Err.ensures in
-    let from_reader = subst (λ had. PlayFails g.R.Read.remaining Recorded c.args.trace.path start (passed had held holds) (failure_of (Read c.args.trace.path) fault c.in-Err.error)) c.in_ok-reader.ensures.unread failed in
-    record { played = tt; failed = subst (PlayFails g.R.Read.remaining Recorded c.args.trace.path start (passed (g.R.Read.remaining c.args.trace.reader) held holds)) (sym c.of_line.ensures.1) from_reader }
+    let failed = recorded_failed start c.record.new.player.state held holds _ (reader_remaining g.R.Read.remaining c.record.new.reader) c.record.new.bytes.items c.args.trace.path fault c.in-Err.error c.in-Err.ensures in
+    let from_reader = subst (λ had. PlayFails Recorded c.args.trace.path start (passed had held holds) (failure_of (Read c.args.trace.path) fault c.in-Err.error)) c.in_ok-reader.ensures.unread failed in
+    record { played = tt; failed = subst (PlayFails Recorded c.args.trace.path start (passed (g.R.Read.remaining c.args.trace.reader) held holds)) (sym c.of_line.ensures.1) from_reader }

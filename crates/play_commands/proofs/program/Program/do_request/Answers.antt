@@ -2,7 +2,7 @@
 use Rattle.play_report.proofs.Results.{on_err, on_ok}
 use Rattle.play_commands.specs.Performed.{ran}
 use Rattle.play_commands.proofs.Flushed.{done, fails}
-use Rattle.play_commands.proofs.commands.do_request.Goals as goal
+use Rattle.play_commands.proofs.program.Program.do_request.Goals as goal
 
 pub returns-in_default : goal.returns-in_default
 returns-in_default g c =

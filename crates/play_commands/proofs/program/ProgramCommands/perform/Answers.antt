@@ -2,7 +2,7 @@
 use Rattle.std.proofs.Common.{subst}
 use Rattle.std.specs.Io.KnownBytes.{Keeps}
 use Rattle.play_commands.proofs.Performs.{told_bad, told_unmet}
-use Rattle.play_commands.proofs.commands.perform.Goals as goal
+use Rattle.play_commands.proofs.program.ProgramCommands.perform.Goals as goal
 
 pub returns-in-Ok-clause-quiet : goal.returns-in-Ok-clause-quiet
 returns-in-Ok-clause-quiet g c =

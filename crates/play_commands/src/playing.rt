@@ -1,0 +1,76 @@
+// SPDX-License-Identifier: MIT OR Apache-2.0
+//! Traces that are played: what a command names is read and opened, and then the trace is played for its purpose.
+ghost use Rattle.std.specs.Prelude.{◌≡◌, false, Some, IfErr, IfOk};
+ghost use Rattle.ffa_manifest.specs.Document.{parts_of};
+ghost use Rattle.play_report.specs.Manifests.{bytes_of};
+ghost use Rattle.play_commands.specs.Performed.{Does, FailsToName, HasParts, is_session, ran};
+
+use crate::program::Program;
+use ffa_model::Manifest;
+use play_arguments::{PlayOptions, Request, Source};
+use play_demo::built_in;
+use play_files::Files;
+use play_report::{Failure, Notes, read_manifest};
+use play_tasks::{Machines, Play, Task, Trace};
+use std::alloc::{Allocator, Global};
+use std::io::{Read, Write};
+
+impl<M: Machines, A: Allocator + Copy> Program<M, A> {
+    /// Plays a trace on the machine of its source, for its purpose.
+    pub(crate) fn play<'a, R: Read + Drop, W: Write, E: Write>(
+        &self,
+        options: PlayOptions<'a>,
+        files: Files<'_, R>,
+        out: &mut W,
+        err: &mut E,
+        notes: &mut Notes<A>,
+    ) -> Result<(), Failure<'a>>
+        ensures does { Does (Request.Play options.entry) (ran R.remaining files.entry W.contents out.old out.new) result }
+        ensures quiet { is_session (Request.Play options.entry) ≡ false → err.new ≡ err.old }
+    {
+        let Files {
+            manifest,
+            trace,
+            expected,
+            ..
+        } = files;
+        let manifest = machine_of(self.manifests, options.source, manifest, notes)?;
+        let trace = open(options.trace, trace)?;
+        let task = Task::for_purpose(options.purpose, options.verbose, expected)?;
+        let play = Play {
+            alloc: self.alloc,
+            machine: options.machine,
+            task,
+            trace,
+        };
+        self.machines
+            .play(play, &manifest, out, err, &mut notes.guard)
+    }
+}
+
+// The manifest of the machine of a source, of whose file these are the bytes, if it could be read.
+fn machine_of<'a, A: Allocator>(
+    alloc: Global,
+    source: Source<'a>,
+    bytes: Option<&[u8]>,
+    notes: &mut Notes<A>,
+) -> Result<Manifest, Failure<'a>>
+    ensures described { IfOk result (λ m. HasParts source.entry (bytes_of bytes.entry) (parts_of m)) }
+    ensures failed { IfErr result (FailsToName source.entry (bytes_of bytes.entry)) }
+{
+    match source {
+        Source::BuiltIn => Ok(built_in()),
+        Source::File(path) => read_manifest(alloc, path, bytes, notes),
+    }
+}
+
+// The trace at this path, with what reads it, if it could be opened.
+fn open<'a, R: Read + Drop>(path: &'a str, reader: Option<R>) -> Result<Trace<'a, R>, Failure<'a>>
+    ensures opened { IfOk result (λ trace. reader ≡ Some trace.reader) }
+    ensures unread { IfErr result (λ failure. failure ≡ Failure.Read path.entry) }
+{
+    match reader {
+        Some(reader) => Ok(Trace { path, reader }),
+        None => Err(Failure::Read(path)),
+    }
+}
