@@ -1,19 +1,36 @@
 // SPDX-License-Identifier: MIT OR Apache-2.0
-//! Loads, stores and fetches at the edges of what an endpoint reaches.
+//! Loads, stores and fetches: at the edges of what an endpoint reaches, and of what was stored, by the endpoint itself, by whoever
+//! sent the pages, or by the manager.
 use crate::dice::Dice;
 use crate::generator::Generator;
-use crate::layout::PAGE;
-use crate::offers::Wish;
+use crate::offers::{MOST_PARTS, Offer, Wish};
+use crate::pages::{PAGE, has_address};
 use crate::stage::Stage;
-use ffa_model::{Op, Size};
+use ffa_model::{Data, Op, Range, Size};
 use play_transcript::{Change, Deed};
 
 /// The first address that has more than 32 bits.
 const TOO_HIGH: u64 = 1 << 32;
 
+/// The most words that are read at once.
+const MOST_WORDS: u64 = 12;
+
+/// So many are read where as much was read as stored.
+const FEW_WORDS: u64 = 3;
+
 impl<'m, S: Stage + Drop> Generator<'m, S> {
+    pub(crate) fn store(&mut self, addr: u64, size: Size, value: u64) {
+        self.stage.play(&Op::Store { addr, size, value });
+        self.unread = self.unread.saturating_add(1);
+    }
+
+    fn load(&mut self, addr: u64, size: Size) {
+        self.stage.play(&Op::Load { addr, size });
+        self.unread = self.unread.saturating_sub(1);
+    }
+
     /// One to three accesses.
-    pub fn play_accesses(&mut self) {
+    pub(crate) fn play_accesses(&mut self) {
         self.announce(Deed::Access, None, Change::Nothing);
         let count = 1 + self.dice.below(3);
         for _ in 0..count {
@@ -21,17 +38,17 @@ impl<'m, S: Stage + Drop> Generator<'m, S> {
         }
     }
 
+    // A load, a fetch, or a store and a load of what was stored. TX is mostly left to descriptors.
     fn play_access(&mut self) {
         let page = self.edge_page();
-        let size = self.dice.size();
+        let size = self.dice.pick(&[Size::B1, Size::B2, Size::B4, Size::B8]);
         let addr = page.wrapping_add(self.dice.offset(size));
-        if !self.is_tx(addr) || self.dice.one_in(4) {
-            self.access(addr, size);
+        let is_tx = self
+            .buffers()
+            .is_some_and(|buffers| has_address(buffers.tx, addr));
+        if is_tx && !self.dice.one_in(4) {
+            return;
         }
-    }
-
-    // A load, a fetch, or a store and a load of what was stored.
-    fn access(&mut self, addr: u64, size: Size) {
         match self.dice.below(3) {
             0 => self.load(addr, size),
             1 => {
@@ -45,46 +62,91 @@ impl<'m, S: Stage + Drop> Generator<'m, S> {
         }
     }
 
-    // Whether it is in the runner's TX, which is mostly left to descriptors.
-    fn is_tx(&self, address: u64) -> bool {
-        match self.buffers() {
-            Some(buffers) => address.wrapping_sub(buffers.tx) < PAGE * u64::from(buffers.pages),
-            None => false,
-        }
-    }
-
-    // A page at an edge of what the runner reaches.
+    // A page at an edge of what the runner reaches: of its regions or another's, of RAM, or one that is offered.
     fn edge_page(&mut self) -> u64 {
         let runner = self.runner();
         let other = self.any_endpoint();
         let owner = if self.dice.one_in(2) { runner } else { other };
-        let region = self.any_region(owner);
+        let regions = match self.endpoint(owner) {
+            Some(endpoint) => endpoint.regions.as_slice(),
+            None => &[],
+        };
+        let place = self.dice.place(regions.len());
+        let region = regions.get(place).copied().unwrap_or_default();
         let first = u64::from(region.base);
         let end = first + PAGE * u64::from(region.pages);
-        let base = self.stage.ram_base();
-        let ram_end = self.stage.ram_end();
         match self.dice.below(12) {
             0 | 1 => first,
             2 | 3 => end.wrapping_sub(PAGE),
             4 => first.wrapping_sub(PAGE),
             5 => end,
-            6 => base,
-            7 => self
-                .dice
-                .pick(&[ram_end, TOO_HIGH, 0, u64::MAX - (PAGE - 1)]),
-            8 | 9 => self.offered_page(),
+            6 => self.stage.ram_base(),
+            7 => {
+                let ram_end = self.stage.ram_end();
+                self.dice
+                    .pick(&[ram_end, TOO_HIGH, 0, u64::MAX - (PAGE - 1)])
+            }
+            8 | 9 => {
+                let wishes = [Wish::Held, Wish::Held, Wish::OwnFree, Wish::OwnHeld];
+                let wish = self.dice.pick(&wishes);
+                match self.any_offer(wish) {
+                    Some(offer) => offer.parts[0].address,
+                    None => self.any_page(),
+                }
+            }
             _ => self.any_page(),
         }
     }
 
-    // A page that is lent out, or that the runner holds of another.
-    fn offered_page(&mut self) -> u64 {
-        let wish = self
-            .dice
-            .pick(&[Wish::Held, Wish::Held, Wish::OwnFree, Wish::OwnHeld]);
-        match self.any_offer(wish) {
-            Some(offer) => offer.parts[0].address,
-            None => self.any_page(),
+    // Loads the words of so many bytes, the first ones, and no more than were stored, but for a few.
+    fn read_words(&mut self, address: u64, bytes: u32) {
+        for index in 0..MOST_WORDS {
+            let is_wanted = index < FEW_WORDS || self.unread > 0;
+            if is_wanted && 8 * index < u64::from(bytes) {
+                self.load(address.wrapping_add(8 * index), Size::B8);
+            }
+        }
+    }
+
+    /// The runner reads back so many bytes that it stored in TX, where more was stored than read.
+    pub(crate) fn read_tx(&mut self, bytes: u32) {
+        if let Some(buffers) = self.buffers()
+            && self.unread > MOST_WORDS
+        {
+            self.announce(Deed::ReadTx, None, Change::Nothing);
+            self.read_words(buffers.tx.address, bytes);
+        }
+    }
+
+    /// The runner reads what it was given in RX, if anything.
+    pub(crate) fn read_rx(&mut self) {
+        if let Some(buffers) = self.buffers()
+            && buffers.filled > 0
+        {
+            self.announce(Deed::ReadRx, None, Change::Nothing);
+            self.read_words(buffers.rx.address, buffers.filled);
+        }
+    }
+
+    /// The runner stores a word in each range that it is to send.
+    pub(crate) fn mark_parts(&mut self, parts: &[Range; MOST_PARTS]) {
+        for part in parts {
+            if part.pages > 0 && self.free_level(part.address) == Some(Data::Rw) {
+                let value = self.dice.word();
+                self.store(part.address, Size::B8, value);
+            }
+        }
+    }
+
+    /// The runner reads the first and the last word of each range of a transaction.
+    pub(crate) fn read_parts(&mut self, offer: &Offer) {
+        self.announce(Deed::ReadPages, Some(offer.sender), Change::Nothing);
+        for part in &offer.parts {
+            if part.pages > 0 {
+                let end = part.address.wrapping_add(PAGE * u64::from(part.pages));
+                self.load(part.address, Size::B8);
+                self.load(end.wrapping_sub(8), Size::B8);
+            }
         }
     }
 }
@@ -93,8 +155,8 @@ impl Dice {
     // A place in a page: at its beginning, at its end or between, mostly a multiple of the size.
     fn offset(&mut self, size: Size) -> u64 {
         let count = size.bytes();
-        let word = self.word();
-        let aligned = word % PAGE / 8 * 8;
-        self.pick(&[0, PAGE - count, PAGE - 4, aligned, aligned, word % PAGE])
+        let any = self.word() % PAGE;
+        let aligned = any / 8 * 8;
+        self.pick(&[0, PAGE - count, PAGE - 4, aligned, aligned, any])
     }
 }

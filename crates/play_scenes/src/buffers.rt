@@ -1,56 +1,15 @@
 // SPDX-License-Identifier: MIT OR Apache-2.0
-//! MappedBuffers that are mapped, unmapped and released.
-use crate::dice::Dice;
+//! Buffers that are mapped, unmapped and released.
 use crate::generator::Generator;
-use crate::layout::PAGE;
-use crate::learning::MappedBuffers;
-use crate::rounds::Round;
+use crate::pages::meet;
 use crate::stage::Stage;
-use ffa_model::MOST_BUFFER_PAGES;
-use ffa_model::function::{FFA_RX_RELEASE, FFA_RXTX_MAP, FFA_RXTX_UNMAP};
+use ffa_model::function::FFA_RXTX_MAP;
+use ffa_model::{Data, MOST_BUFFER_PAGES, Range};
 use play_transcript::{Change, Deed};
 
-/// What is turned in a mapping.
-#[derive(Clone, Copy)]
-enum MapFlaw {
-    /// There are buffers.
-    There,
-    Count,
-    TxMisplaced,
-    RxMisplaced,
-    Overlap,
-    TxUnfit,
-    RxUnfit,
-}
-
-const MAP_FLAWS: [MapFlaw; 7] = [
-    MapFlaw::There,
-    MapFlaw::Count,
-    MapFlaw::TxMisplaced,
-    MapFlaw::RxMisplaced,
-    MapFlaw::Overlap,
-    MapFlaw::TxUnfit,
-    MapFlaw::RxUnfit,
-];
-
-impl MapFlaw {
-    // How it is told.
-    fn change(self) -> Change {
-        match self {
-            MapFlaw::There => Change::BuffersThere,
-            MapFlaw::Count => Change::PageCount,
-            MapFlaw::TxMisplaced => Change::TxMisplaced,
-            MapFlaw::RxMisplaced => Change::RxMisplaced,
-            MapFlaw::Overlap => Change::Overlap,
-            MapFlaw::TxUnfit => Change::TxUnfit,
-            MapFlaw::RxUnfit => Change::RxUnfit,
-        }
-    }
-}
-
 impl<'m, S: Stage + Drop> Generator<'m, S> {
-    /// The runner's buffers, which it maps where it has none. None where it can't.
-    pub fn need_buffers(&mut self) -> Option<MappedBuffers> {
+    /// The runner maps buffers where it has none. It answers whether it has some then.
+    pub(crate) fn need_buffers(&mut self) -> bool {
         if self.buffers().is_none() {
             let pages = if self.dice.one_in(4) { 2 } else { 1 };
             self.map(pages);
@@ -58,36 +17,30 @@ impl<'m, S: Stage + Drop> Generator<'m, S> {
         if self.buffers().is_none() {
             self.map(1);
         }
-        self.buffers()
+        self.buffers().is_some()
     }
 
     /// The runner maps buffers of so many pages, where it finds them.
-    pub fn map(&mut self, pages: u32) {
-        if let Some((tx, rx)) = self.free_pair(pages) {
-            self.announce(Deed::Map, None, Change::Nothing);
-            self.call_map([tx, rx, u64::from(pages)]);
+    pub(crate) fn map(&mut self, pages: u32) {
+        if let Some(tx) = self.free_run(pages, Data::Rw)
+            && let Some(rx) = self.free_run_beside(tx)
+        {
+            self.call_map([tx.address, rx.address, u64::from(pages)], Change::Nothing);
         }
     }
 
-    // Two runs of so many pages that could be the runner's buffers.
-    fn free_pair(&mut self, pages: u32) -> Option<(u64, u64)> {
-        let tx = self.free_run(self.runner(), pages)?;
-        let rx = self.free_run_beside(tx, pages)?;
-        Some((tx, rx))
-    }
-
     // FFA_RXTX_MAP in either form.
-    fn call_map(&mut self, arguments: [u64; 3]) {
+    fn call_map(&mut self, arguments: [u64; 3], change: Change) {
+        self.announce(Deed::Map, None, change);
         let function = self.dice.either(FFA_RXTX_MAP);
         self.call(function, &arguments);
     }
 
-    // So many pages that aren't those of TX.
-    fn free_run_beside(&mut self, tx: u64, pages: u32) -> Option<u64> {
-        let size = PAGE * u64::from(pages);
+    // As many pages as TX has, that aren't those.
+    fn free_run_beside(&mut self, tx: Range) -> Option<Range> {
         for _ in 0..16 {
-            let rx = self.free_run(self.runner(), pages)?;
-            if rx.wrapping_sub(tx) >= size && tx.wrapping_sub(rx) >= size {
+            let rx = self.free_run(tx.pages, Data::Rw)?;
+            if !meet(tx, rx) {
                 return Some(rx);
             }
         }
@@ -95,7 +48,7 @@ impl<'m, S: Stage + Drop> Generator<'m, S> {
     }
 
     /// FFA_RXTX_MAP, mostly as it should be.
-    pub fn play_map(&mut self) {
+    pub(crate) fn play_map(&mut self) {
         if self.dice.one_in(2) {
             self.play_turned_map();
         } else {
@@ -105,91 +58,80 @@ impl<'m, S: Stage + Drop> Generator<'m, S> {
         }
     }
 
-    // FFA_RXTX_MAP with a register turned.
+    // FFA_RXTX_MAP with one thing after another changed.
     fn play_turned_map(&mut self) {
-        let flaw = self.rounds.next_of(Round::Maps, &MAP_FLAWS);
-        match flaw {
-            MapFlaw::There => {
-                self.need_buffers();
-            }
-            _ => self.unmap_any(),
+        let number = self.rounds.maps.below(7);
+        if number == 0 {
+            self.need_buffers();
+        } else {
+            self.unmap_any();
         }
-        let tx = self.free_run(self.runner(), 1).unwrap_or(0);
-        let rx = self.free_run_beside(tx, 1).unwrap_or(tx);
-        self.map_with(flaw, tx, rx);
+        let nowhere = Range {
+            address: 0,
+            pages: 1,
+        };
+        let tx = self.free_run(1, Data::Rw).unwrap_or(nowhere);
+        let rx = self.free_run_beside(tx).unwrap_or(tx).address;
+        let tx = tx.address;
+        let unfit = self.unfit_page();
+        let bit = self.dice.pick(&[8, 8, 2048, 1 << 32]);
+        let (change, arguments) = match number {
+            0 => (Change::BuffersThere, [tx, rx, 1]),
+            1 => (
+                Change::PageCount,
+                [tx, rx, self.dice.pick(&[0, 5, 0xFFFF_FFFF])],
+            ),
+            2 => (Change::TxMisplaced, [tx | bit, rx, 1]),
+            3 => (Change::RxMisplaced, [tx, rx | bit, 1]),
+            4 => (Change::Overlap, [tx, tx, 1]),
+            5 => (Change::TxUnfit, [unfit, rx, 1]),
+            _ => (Change::RxUnfit, [tx, unfit, 1]),
+        };
+        self.call_map(arguments, change);
     }
 
-    fn map_with(&mut self, flaw: MapFlaw, tx: u64, rx: u64) {
-        let unfit = self.unfit_page(self.runner());
-        let arguments = self.dice.turned_map(flaw, tx, rx, unfit);
-        self.announce(Deed::Map, None, flaw.change());
-        self.call_map(arguments);
-    }
-
-    pub fn unmap(&mut self) {
-        self.announce(Deed::Unmap, None, Change::Nothing);
-        self.call(FFA_RXTX_UNMAP, &[]);
+    fn unmap(&mut self) {
+        self.attempt(Deed::Unmap, None, Change::Nothing, &[]);
     }
 
     /// The runner has no buffers any more.
-    pub fn unmap_any(&mut self) {
+    pub(crate) fn unmap_any(&mut self) {
         if self.buffers().is_some() {
             self.unmap();
         }
     }
 
     /// A call that the runner makes without buffers.
-    pub fn call_without_buffers(&mut self, deed: Deed, function: u32, arguments: &[u64]) {
+    pub(crate) fn attempt_without_buffers(&mut self, deed: Deed, arguments: &[u64]) {
         self.unmap_any();
         let other = self.another();
-        self.announce(deed, Some(other), Change::NoBuffers);
-        self.call(function, arguments);
+        self.attempt(deed, Some(other), Change::NoBuffers, arguments);
     }
 
-    /// FFA_RXTX_UNMAP, sometimes with its register turned or where there are no buffers.
-    pub fn play_unmap(&mut self) {
+    /// sometimes with its register changed or where there are no buffers.
+    pub(crate) fn play_unmap(&mut self) {
         let endpoint = self.dice.pick(&[0, 0, 1, 0x8001_0000]);
         let change = match endpoint {
             0 => Change::Nothing,
             _ => Change::NotZero,
         };
-        self.announce(Deed::Unmap, None, change);
-        self.call(FFA_RXTX_UNMAP, &[endpoint]);
+        self.attempt(Deed::Unmap, None, change, &[endpoint]);
         if self.dice.one_in(4) {
             self.unmap();
         }
     }
 
-    /// FFA_RX_RELEASE.
-    pub fn release(&mut self) {
+    /// The runner reads its RX, and empties it.
+    pub(crate) fn release(&mut self) {
         self.read_rx();
-        self.announce(Deed::Release, None, Change::Nothing);
-        self.call(FFA_RX_RELEASE, &[]);
+        self.attempt(Deed::Release, None, Change::Nothing, &[]);
     }
 
-    /// The runner reads its RX where it is full and empties it, but for once in some times.
-    pub fn release_mostly(&mut self) {
-        if let Some(buffers) = self.buffers()
-            && buffers.filled > 0
-            && !self.dice.one_in(3)
-        {
+    /// So where RX is full, but for once in some times.
+    pub(crate) fn release_mostly(&mut self) {
+        let is_full = self.buffers().is_some_and(|buffers| buffers.filled > 0);
+        if is_full && !self.dice.one_in(3) {
             self.release();
-        }
-    }
-}
-
-impl Dice {
-    // The arguments of FFA_RXTX_MAP for these pages, with one turned.
-    fn turned_map(&mut self, flaw: MapFlaw, tx: u64, rx: u64, unfit: u64) -> [u64; 3] {
-        let bit = self.pick(&[8, 8, 2048, 1 << 32]);
-        match flaw {
-            MapFlaw::There => [tx, rx, 1],
-            MapFlaw::Count => [tx, rx, self.pick(&[0, 5, 0xFFFF_FFFF])],
-            MapFlaw::TxMisplaced => [tx | bit, rx, 1],
-            MapFlaw::RxMisplaced => [tx, rx | bit, 1],
-            MapFlaw::Overlap => [tx, tx, 1],
-            MapFlaw::TxUnfit => [unfit, rx, 1],
-            MapFlaw::RxUnfit => [tx, unfit, 1],
         }
     }
 }

@@ -1,119 +1,238 @@
 // SPDX-License-Identifier: MIT OR Apache-2.0
-//! Descriptors that an endpoint stores into its TX, and the calls that read them there.
-ghost use Rattle.std.specs.Prelude.{◌<◌};
-ghost use Rattle.play_scenes.specs.declared.descriptors.TheConstants.{WORDS};
-
+//! Descriptors: what an endpoint stores into its TX for a call, as it should be or with something changed.
 use crate::dice::Dice;
-use crate::flaws::PAGE_SIZE;
-use crate::generator::{Generator, registers};
-use crate::learning::MappedBuffers;
+use crate::generator::{Generator, function_of};
+use crate::offers::Offer;
 use crate::stage::Stage;
 use byteorder::{ByteOrder, LittleEndian};
-use ffa_model::Size;
-use ffa_model::function::WIDE;
-use play_transcript::Change;
+use ffa_model::{EndpointId, Kind, RelinquishDesc, RetrieveDesc, Size, Version};
+use play_transcript::{Change, Deed};
+use play_writer::{write_relinquish, write_retrieve, write_send};
 
-/// How many words a page has.
+/// How many bytes a page has.
+pub(crate) const PAGE_SIZE: usize = 4096;
+
+/// How many words.
 const WORDS: usize = 512;
 
-/// What is wrong with the registers that tell of a descriptor in TX.
-#[derive(Clone, Copy, PartialEq, Eq)]
-pub enum TransferFlaw {
-    /// The length is another.
-    Length,
-    /// The fragment has another length than the whole.
-    Fragment,
-    /// The length is above what TX has.
-    TooLong,
-    /// A buffer beside TX is named.
-    Address,
-    /// A buffer beside TX has pages.
-    Pages,
+/// How many bytes an access descriptor has.
+const ACCESS_SIZE: usize = 16;
+
+// The sizes of fields that stand side by side. A header, in both forms: sender, attributes, flags, handle, tag, the word of the
+// size, count.
+const HEADER: [usize; 7] = [2, 2, 4, 8, 8, 4, 4];
+// The rest of a header of 1.1: the offset of the access descriptors, and reserved words.
+const HEADER_REST: [usize; 3] = [4, 4, 8];
+// An access descriptor: endpoint, permissions, flags, composite offset, reserved.
+const ACCESS: [usize; 5] = [2, 1, 1, 4, 8];
+// A composite and its first range: total, count, reserved, address, pages, reserved.
+const COMPOSITE: [usize; 6] = [4, 4, 8, 8, 4, 4];
+// Handle, flags, count, endpoint.
+const RELINQUISH: [usize; 4] = [8, 4, 4, 2];
+// Flags, reserved, offset, receiver, sender, size.
+const MESSAGE: [usize; 6] = [4, 4, 4, 2, 2, 4];
+
+/// An indirect message: its header, and its first word.
+#[derive(Clone, Copy, Default)]
+pub(crate) struct Message {
+    pub flags: u32,
+    pub reserved: u32,
+    pub start: u32,
+    pub receiver: EndpointId,
+    pub sender: EndpointId,
+    pub size: u32,
+    pub word: u64,
 }
 
-impl TransferFlaw {
-    /// How it is told.
-    pub fn change(self) -> Change {
+impl Message {
+    /// How many bytes its header has, up to a multiple of 8.
+    pub(crate) const START: u32 = 24;
+
+    /// How many bytes are written of it.
+    pub(crate) const WRITTEN: u32 = 32;
+
+    fn write(&self, page: &mut [u8; PAGE_SIZE]) {
+        LittleEndian::write_u32(page, self.flags);
+        LittleEndian::write_u32(&mut page[4..], self.reserved);
+        LittleEndian::write_u32(&mut page[8..], self.start);
+        LittleEndian::write_u16(&mut page[12..], self.receiver.0);
+        LittleEndian::write_u16(&mut page[14..], self.sender.0);
+        LittleEndian::write_u32(&mut page[16..], self.size);
+        LittleEndian::write_u64(&mut page[24..], self.word);
+    }
+}
+
+/// What stands in TX for a call.
+#[derive(Clone, Copy)]
+pub(crate) enum Descriptor {
+    Send(Offer),
+    Retrieve(RetrieveDesc),
+    Relinquish(RelinquishDesc),
+    Message(Message),
+}
+
+impl Descriptor {
+    // How its call is told.
+    fn deed(&self) -> Deed {
         match self {
-            TransferFlaw::Length => Change::Length,
-            TransferFlaw::Fragment => Change::Fragment,
-            TransferFlaw::TooLong => Change::TooLong,
-            TransferFlaw::Address => Change::BufferAddress,
-            TransferFlaw::Pages => Change::BufferPages,
+            Descriptor::Send(offer) => deed_of(offer.kind),
+            Descriptor::Retrieve(_) => Deed::Retrieve,
+            Descriptor::Relinquish(_) => Deed::Relinquish,
+            Descriptor::Message(_) => Deed::Message,
         }
+    }
+
+    // Writes that of an endpoint into a page, and answers how many bytes it has.
+    fn write(
+        &self,
+        version: Version,
+        writer: EndpointId,
+        page: &mut [u8; PAGE_SIZE],
+    ) -> Option<u32> {
+        match self {
+            Descriptor::Send(offer) => {
+                write_send(version, offer.kind, &offer.describe(), page).ok()
+            }
+            Descriptor::Retrieve(desc) => Some(write_retrieve(version, desc, writer, page)),
+            Descriptor::Relinquish(desc) => Some(write_relinquish(desc, page)),
+            Descriptor::Message(message) => {
+                message.write(page);
+                Some(Message::WRITTEN)
+            }
+        }
+    }
+}
+
+/// How the send of a kind is told.
+pub(crate) fn deed_of(kind: Kind) -> Deed {
+    match kind {
+        Kind::Share => Deed::Share,
+        Kind::Lend => Deed::Lend,
+        Kind::Donate => Deed::Donate,
     }
 }
 
 impl<'m, S: Stage + Drop> Generator<'m, S> {
-    /// Stores the first bytes of a page into TX, but for the words that stand there.
-    pub fn write_tx(&mut self, buffers: MappedBuffers, page: &[u8; PAGE_SIZE], count: u32) {
+    /// Says what the runner tries, stores the descriptor into its TX, and makes the call. Where the descriptor can be written, it
+    /// answers how many bytes it has, and what the next runner sees where the call is done.
+    pub(crate) fn attempt_by_tx(
+        &mut self,
+        descriptor: &Descriptor,
+        other: Option<EndpointId>,
+        change: Change,
+    ) -> Option<(u32, Option<[u64; 8]>)> {
+        let runner = self.runner();
+        let version = self
+            .endpoint(runner)
+            .map_or(Version::V1_1, |endpoint| endpoint.version);
+        let mut page = [0; PAGE_SIZE];
+        let length = descriptor.write(version, runner, &mut page)?;
+        if change == Change::Field {
+            self.dice.change_field(&mut page, version, descriptor);
+        }
+        let deed = descriptor.deed();
+        self.announce(deed, other, change);
+        if let Descriptor::Send(offer) = descriptor {
+            self.mark_parts(&offer.parts);
+        }
+        self.write_tx(&page, length);
+        let answer = match descriptor {
+            Descriptor::Send(_) | Descriptor::Retrieve(_) => {
+                let function = self.dice.either(function_of(deed));
+                let arguments = self.dice.lengths(u64::from(length), change);
+                self.call(function, &arguments)
+            }
+            Descriptor::Relinquish(_) | Descriptor::Message(_) => {
+                self.call(function_of(deed), &[])
+            }
+        };
+        Some((length, answer))
+    }
+
+    // Stores the first bytes of a page into TX, but for the words that stand there.
+    fn write_tx(&mut self, page: &[u8; PAGE_SIZE], length: u32) {
+        let Some(buffers) = self.buffers() else {
+            return;
+        };
         for index in 0..WORDS {
-            if 8 * index < count as usize {
-                let word = LittleEndian::read_u64(&page[8 * index..]);
-                self.write_word(buffers.tx, index, word);
+            let word = LittleEndian::read_u64(&page[8 * index..]);
+            let address = buffers.tx.address.wrapping_add(8 * index as u64);
+            if 8 * index < length as usize && self.stage.word_at(address) != Some(word) {
+                self.store(address, Size::B8, word);
             }
         }
-    }
-
-    // Stores a word into TX, where another stands there.
-    fn write_word(&mut self, tx: u64, index: usize, value: u64)
-        requires { index < WORDS }
-    {
-        let address = tx.wrapping_add(8 * index as u64);
-        if self.stage.word_at(address) != Some(value) {
-            self.store(address, Size::B8, value);
-        }
-    }
-
-    /// Makes a call whose descriptor of so many bytes stands in TX, with the right registers or with one turned. It answers
-    /// what the next runner sees where the call is done.
-    pub fn transfer(
-        &mut self,
-        function: u32,
-        length: u32,
-        flaw: Option<TransferFlaw>,
-    ) -> Option<[u64; 8]> {
-        let function = self.dice.either(function);
-        let length = u64::from(length);
-        let arguments = match flaw {
-            Some(flaw) => self.dice.turned_transfer(length, flaw),
-            None => [length, length, 0, 0],
-        };
-        self.play_call(registers(function, &arguments))
     }
 }
 
 impl Dice {
-    /// The identifier of a call that has both forms, in one of them.
-    pub fn either(&mut self, function: u32) -> u32 {
-        if self.one_in(4) && function < u32::MAX - WIDE {
-            function + WIDE
-        } else {
-            function
+    // The arguments of a call whose descriptor of so many bytes stands in TX: its length, that of the fragment, and the address and
+    // the pages of a buffer beside TX, which there isn't.
+    fn lengths(&mut self, length: u64, change: Change) -> [u64; 4] {
+        let whole = match change {
+            Change::Length => self.pick(&[0, 17, length.wrapping_sub(1), length.wrapping_sub(16)]),
+            Change::TooLong => self.pick(&[4097, 8193, 16385, 0xFFFF_FFFF]),
+            _ => length,
+        };
+        let mut arguments = [whole, whole, 0, 0];
+        match change {
+            Change::Fragment => arguments[1] = self.spoil(length),
+            Change::BufferAddress => arguments[2] = self.pick(&[1, 4096, u64::MAX, 1 << 32]),
+            Change::BufferPages => arguments[3] = 1,
+            _ => {}
+        }
+        arguments
+    }
+
+    // Changes a field of a descriptor that stands in a page.
+    fn change_field(&mut self, page: &mut [u8; PAGE_SIZE], version: Version, written: &Descriptor) {
+        let (start, sizes) = self.fields(version, written);
+        let place = self.place(sizes.len());
+        let before = sizes.iter().take(place);
+        let at = before.fold(start, |at, size| usize::wrapping_add(at, *size));
+        if let Some(size) = sizes.get(place)
+            && let Some(field) = page.get_mut(at..at.wrapping_add(*size))
+        {
+            let mut value = 0;
+            for byte in field.iter().rev() {
+                value = (value << 8) | u64::from(*byte);
+            }
+            let other = self.spoil(value).to_le_bytes();
+            for (byte, other) in field.iter_mut().zip(other) {
+                *byte = other;
+            }
         }
     }
 
-    // The arguments of a call whose descriptor of so many bytes stands in TX, with one turned.
-    fn turned_transfer(&mut self, length: u64, flaw: TransferFlaw) -> [u64; 4] {
-        match flaw {
-            TransferFlaw::Length => {
-                let other = self.pick(&[0, 17, length.wrapping_sub(1), length.wrapping_sub(16)]);
-                [other, other, 0, 0]
-            }
-            TransferFlaw::Fragment => [length, self.spoil(length), 0, 0],
-            TransferFlaw::TooLong => {
-                let other = self.pick(&[4097, 8193, 16385, 0xFFFF_FFFF]);
-                [other, other, 0, 0]
-            }
-            TransferFlaw::Address => {
-                [
-                    length,
-                    length,
-                    self.pick(&[1, PAGE_SIZE as u64, u64::MAX, 1 << 32]),
-                    0,
-                ]
-            }
-            TransferFlaw::Pages => [length, length, 0, 1],
+    // Where fields of a descriptor begin, and their sizes.
+    fn fields(&mut self, version: Version, written: &Descriptor) -> (usize, &'static [usize]) {
+        let array = match version {
+            Version::Compact => 32,
+            Version::V1_1 => 48,
+        };
+        match written {
+            Descriptor::Send(offer) => match self.below(3) {
+                0 => self.header_fields(version),
+                1 => (array, &ACCESS),
+                _ => {
+                    let takers = offer.takers.iter().flatten();
+                    let end = takers.fold(array, |end, _| usize::saturating_add(end, ACCESS_SIZE));
+                    (end, &COMPOSITE)
+                }
+            },
+            Descriptor::Retrieve(_) => match self.one_in(3) {
+                true => (array, &ACCESS),
+                false => self.header_fields(version),
+            },
+            Descriptor::Relinquish(_) => (0, &RELINQUISH),
+            Descriptor::Message(_) => (0, &MESSAGE),
+        }
+    }
+
+    fn header_fields(&mut self, version: Version) -> (usize, &'static [usize]) {
+        if version == Version::V1_1 && self.one_in(3) {
+            (32, &HEADER_REST)
+        } else {
+            (0, &HEADER)
         }
     }
 }

@@ -1,31 +1,31 @@
 // SPDX-License-Identifier: MIT OR Apache-2.0
-//! Choices at random.
+//! Choices at random, and in turn.
 ghost use Rattle.std.specs.Prelude.{◌<◌, ◌≤◌, length};
 
-use ffa_model::{EndpointId, Kind, Size};
+use ffa_model::function::WIDE;
 use rand_core::{Rng, SeedableRng};
 use rand_pcg::Pcg32;
 
 /// What chooses. Two dice of one seed choose the same.
 #[derive(Drop)]
-pub struct Dice {
+pub(crate) struct Dice {
     words: Pcg32,
 }
 
 impl Dice {
-    pub fn of_seed(seed: u64) -> Dice {
+    pub(crate) fn of_seed(seed: u64) -> Dice {
         Dice {
             words: Pcg32::seed_from_u64(seed),
         }
     }
 
     /// Any number.
-    pub fn word(&mut self) -> u64 {
+    pub(crate) fn word(&mut self) -> u64 {
         self.words.next_u64()
     }
 
     /// A number below a limit.
-    pub fn below(&mut self, limit: u32) -> u32
+    pub(crate) fn below(&mut self, limit: u32) -> u32
         requires { 0 < limit }
         ensures { result < limit }
     {
@@ -33,43 +33,79 @@ impl Dice {
     }
 
     /// True once in so many times.
-    pub fn one_in(&mut self, times: u32) -> bool
+    pub(crate) fn one_in(&mut self, times: u32) -> bool
         requires { 0 < times }
     {
         self.below(times) == 0
     }
 
     /// One of these.
-    pub fn pick<X: Copy>(&mut self, items: &[X]) -> X
+    pub(crate) fn pick<X: Copy>(&mut self, items: &[X]) -> X
         requires { 1 ≤ length items.now }
     {
         items[self.words.next_u32() as usize % items.len()]
     }
 
-    /// One of the first endpoints of a manifest, by its place.
-    pub fn place(&mut self, endpoints: usize) -> usize {
-        match endpoints {
+    /// A place among so many, from 0 on; 0 where there is none.
+    pub(crate) fn place(&mut self, count: usize) -> usize
+        ensures { result ≤ count }
+    {
+        match count {
             0 => 0,
-            _ => self.words.next_u32() as usize % endpoints,
+            _ => self.words.next_u32() as usize % count,
         }
     }
 
-    /// One of 16 bits and more, as a word of one bit.
-    pub fn bit(&mut self) -> u64 {
-        1 << self.below(64)
+    /// The identifier of a call that has both forms, in one of them.
+    pub(crate) fn either(&mut self, function: u32) -> u32 {
+        if self.one_in(4) {
+            function | WIDE
+        } else {
+            function
+        }
     }
 
-    pub fn size(&mut self) -> Size {
-        self.pick(&[Size::B1, Size::B2, Size::B4, Size::B8])
+    /// Another number in the place of one.
+    pub(crate) fn spoil(&mut self, value: u64) -> u64 {
+        let bit = 1 << self.below(16);
+        let word = self.word();
+        let endpoint = self.pick(&[0, 1, 0x7FFF, 0x8000, 0x8001, 0x8002, 0x8003, 0x8007, 0x8008]);
+        let other = self.pick(&[
+            0,
+            value.wrapping_add(1),
+            value.wrapping_sub(1),
+            value ^ bit,
+            value ^ bit,
+            value.wrapping_add(16),
+            value ^ 0xFF,
+            endpoint,
+            u64::MAX,
+            word,
+        ]);
+        if other == value { value ^ bit } else { other }
+    }
+}
+
+/// How often a list was asked for its next, so that each of its items comes as often as the others.
+#[derive(Clone, Copy, Default)]
+pub(crate) struct Round {
+    count: u32,
+}
+
+impl Round {
+    /// The next number below a limit.
+    pub(crate) fn below(&mut self, limit: usize) -> usize
+        requires { 0 < limit }
+        ensures { result < limit }
+    {
+        self.count = self.count.wrapping_add(1);
+        self.count as usize % limit
     }
 
-    pub fn kind(&mut self) -> Kind {
-        self.pick(&[Kind::Share, Kind::Lend, Kind::Donate])
-    }
-
-    /// An identifier that need be nobody's.
-    pub fn any_identifier(&mut self) -> EndpointId {
-        let number = self.pick(&[0, 1, 0x7FFF, 0x8000, 0x8001, 0x8002, 0x8003, 0x8007, 0x8008]);
-        EndpointId(number)
+    /// The next of these.
+    pub(crate) fn next_of<X: Copy>(&mut self, items: &[X]) -> X
+        requires { 1 ≤ length items.now }
+    {
+        items[self.below(items.len())]
     }
 }

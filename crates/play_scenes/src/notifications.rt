@@ -1,110 +1,28 @@
 // SPDX-License-Identifier: MIT OR Apache-2.0
 //! Notifications.
-use crate::dice::Dice;
-use crate::generator::Generator;
-use crate::messages::pair;
-use crate::rounds::Round;
+use crate::changes::BITS;
+use crate::dice::{Dice, Round};
+use crate::generator::{Generator, halves, pair};
 use crate::stage::Stage;
 use ffa_model::EndpointId;
-use ffa_model::function::*;
 use play_transcript::{Change, Deed};
 
 /// The flags of FFA_NOTIFICATION_GET that ask for all classes.
 const ALL_CLASSES: u64 = 15;
 
-/// What is wrong with a call on bits.
-#[derive(Clone, Copy)]
-enum BitsFlaw {
-    Nothing,
-    /// The two endpoints are in each other's place.
-    Swapped,
-    /// The other endpoint isn't there.
-    Stranger,
-    /// The other endpoint is the caller.
-    Oneself,
-    Flags,
-    NoBit,
-    /// Another endpoint has the bits.
-    Taken,
-    /// There are no bitmaps.
-    NoBitmaps,
-}
-
-const BITS_FLAWS: [BitsFlaw; 5] = [
-    BitsFlaw::Swapped,
-    BitsFlaw::Stranger,
-    BitsFlaw::Oneself,
-    BitsFlaw::Flags,
-    BitsFlaw::NoBit,
-];
-
-/// What is turned where bitmaps are made.
-const CREATE_FLAWS: [Change; 5] = [
-    Change::Nothing,
-    Change::OfAnother,
-    Change::Nothing,
-    Change::Contexts,
-    Change::Nothing,
-];
-
-/// What is turned where pending bits are asked for.
-const GET_FLAWS: [Change; 7] = [
-    Change::Nothing,
-    Change::OfAnother,
-    Change::Nothing,
-    Change::Context,
-    Change::Nothing,
-    Change::Classes,
-    Change::Nothing,
-];
-
-impl BitsFlaw {
-    // The other endpoint and the caller, as the call names them.
-    fn ends(self, other: EndpointId, runner: EndpointId) -> (EndpointId, EndpointId) {
-        match self {
-            BitsFlaw::Swapped => (runner, other),
-            BitsFlaw::Stranger => (EndpointId::MANAGER, runner),
-            BitsFlaw::Oneself => (runner, runner),
-            _ => (other, runner),
-        }
-    }
-
-    // How it is told.
-    fn change(self) -> Change {
-        match self {
-            BitsFlaw::Nothing => Change::Nothing,
-            BitsFlaw::Swapped => Change::Swapped,
-            BitsFlaw::Stranger => Change::Stranger,
-            BitsFlaw::Oneself => Change::Oneself,
-            BitsFlaw::Flags => Change::Flags,
-            BitsFlaw::NoBit => Change::NoBit,
-            BitsFlaw::Taken => Change::Taken,
-            BitsFlaw::NoBitmaps => Change::NoBitmaps,
-        }
-    }
-
-    fn flags(self) -> u64 {
-        match self {
-            BitsFlaw::Flags => 1,
-            _ => 0,
-        }
-    }
-
-    // The bits, as the call names them.
-    fn bits(self, bits: u64) -> u64 {
-        match self {
-            BitsFlaw::NoBit => 0,
-            _ => bits,
-        }
-    }
-}
-
 impl<'m, S: Stage + Drop> Generator<'m, S> {
-    /// A call on notifications, as it should be or turned.
-    pub fn play_notification(&mut self) {
-        let is_normal_world = self.runner() == EndpointId::NORMAL_WORLD;
-        match self.dice.notification(is_normal_world) {
-            0 | 1 => self.play_bitmaps(),
+    /// A call on notifications, as it should be or changed. Bitmaps are mostly the normal world's.
+    pub(crate) fn play_notification(&mut self) {
+        let number = if self.runner() == EndpointId::NORMAL_WORLD && self.dice.one_in(3) {
+            0
+        } else {
+            self.dice.below(9)
+        };
+        match number {
+            0 | 1 => match self.dice.one_in(3) {
+                true => self.play_destroy(),
+                false => self.play_create(),
+            },
             2 | 3 => self.play_bind(),
             4 | 5 => self.play_unbind(),
             6 | 7 => self.play_set(),
@@ -112,58 +30,46 @@ impl<'m, S: Stage + Drop> Generator<'m, S> {
         }
     }
 
-    fn play_bitmaps(&mut self) {
-        if !self.dice.one_in(3) {
-            self.play_create();
-        } else {
-            self.play_destroy();
-        }
-    }
-
     fn play_create(&mut self) {
-        let change = self.rounds.next_of(Round::Creates, &CREATE_FLAWS);
-        let endpoint = match change {
-            Change::OfAnother => 0x8001,
-            _ => 0,
+        let (change, arguments) = match self.rounds.creates.below(5) {
+            1 => (Change::OfAnother, [0x8001, 1]),
+            3 => (Change::Contexts, [0, self.dice.pick(&[0, 2])]),
+            _ => (Change::Nothing, [0, 1]),
         };
-        let contexts = match change {
-            Change::Contexts => self.dice.pick(&[0, 2]),
-            _ => 1,
-        };
-        self.announce(Deed::CreateBitmaps, None, change);
-        self.call(FFA_NOTIFICATION_BITMAP_CREATE, &[endpoint, contexts]);
+        self.attempt(Deed::CreateBitmaps, None, change, &arguments);
     }
 
-    // What is pending is got between two tries, so that the bitmaps can go.
+    // What is pending is got between two tries, so that the bitmaps can go. Then what needs them is tried.
     fn play_destroy(&mut self) {
         if self.known_of(self.runner()).pending {
             self.destroy(0, Change::Pending);
-            self.get_all();
+            self.get(ALL_CLASSES, Change::Nothing);
         }
         if self.dice.one_in(3) {
             self.destroy(0x8001, Change::OfAnother);
         }
         if self.destroy(0, Change::Nothing) {
-            self.play_without_bitmaps();
+            let other = self.another();
+            self.destroy(0, Change::NoBitmaps);
+            self.call_on_bits(Deed::Bind, other, 1, Change::NoBitmaps);
+            self.call_on_bits(Deed::Unbind, other, 1, Change::NoBitmaps);
+            self.get(ALL_CLASSES, Change::NoBitmaps);
         }
     }
 
     fn destroy(&mut self, endpoint: u64, change: Change) -> bool {
-        self.announce(Deed::DestroyBitmaps, None, change);
-        self.call(FFA_NOTIFICATION_BITMAP_DESTROY, &[endpoint])
+        self.attempt(Deed::DestroyBitmaps, None, change, &[endpoint])
     }
 
-    // What needs bitmaps, where there are none.
-    fn play_without_bitmaps(&mut self) {
-        let other = self.another();
-        self.destroy(0, Change::NoBitmaps);
-        self.bind(FFA_NOTIFICATION_BIND, other, 1, BitsFlaw::NoBitmaps);
-        self.bind(FFA_NOTIFICATION_UNBIND, other, 1, BitsFlaw::NoBitmaps);
-        self.get(ALL_CLASSES, Change::NoBitmaps);
-    }
-
-    fn get_all(&mut self) {
-        self.get(ALL_CLASSES, Change::Nothing);
+    fn play_get(&mut self) {
+        let some = u64::from(self.dice.below(16));
+        let (change, classes) = match self.rounds.gets.below(7) {
+            1 => (Change::OfAnother, ALL_CLASSES),
+            3 => (Change::Context, ALL_CLASSES),
+            5 => (Change::Classes, ALL_CLASSES + 1),
+            _ => (Change::Nothing, self.dice.pick(&[some, ALL_CLASSES])),
+        };
+        self.get(classes, change);
     }
 
     fn get(&mut self, classes: u64, change: Change) {
@@ -173,39 +79,37 @@ impl<'m, S: Stage + Drop> Generator<'m, S> {
             Change::Context => runner | 1 << 16,
             _ => runner,
         };
-        self.announce(Deed::GetBits, None, change);
-        self.call(FFA_NOTIFICATION_GET, &[word, classes]);
+        self.attempt(Deed::GetBits, None, change, &[word, classes]);
     }
 
-    // FFA_NOTIFICATION_BIND or UNBIND of these bits and this sender. It answers whether it is done.
-    fn bind(&mut self, function: u32, sender: EndpointId, bits: u64, flaw: BitsFlaw) -> bool {
-        let (sender, receiver) = flaw.ends(sender, self.runner());
-        let deed = match function {
-            FFA_NOTIFICATION_BIND => Deed::Bind,
-            _ => Deed::Unbind,
+    // Binds or unbinds bits that another endpoint may set, or sets bits of another, and answers whether that is done.
+    fn call_on_bits(&mut self, deed: Deed, other: EndpointId, bits: u64, change: Change) -> bool {
+        let runner = self.runner();
+        let (other, caller) = match change {
+            Change::Swapped => (runner, other),
+            Change::Stranger => (EndpointId::MANAGER, runner),
+            Change::Oneself => (runner, runner),
+            _ => (other, runner),
         };
-        self.announce(deed, Some(sender), flaw.change());
-        self.call_on_bits(function, pair(sender, receiver), flaw, bits)
-    }
-
-    fn call_on_bits(&mut self, function: u32, word: u64, flaw: BitsFlaw, bits: u64) -> bool {
-        let bits = flaw.bits(bits);
-        let (low, high) = (bits % (1 << 32), bits >> 32);
-        self.call(function, &[word, flaw.flags(), low, high])
+        let word = match deed {
+            Deed::SetBits => pair(caller, other.0),
+            _ => pair(other, caller.0),
+        };
+        let flags = u64::from(change == Change::Flags);
+        let [low, high] = halves(if change == Change::NoBit { 0 } else { bits });
+        self.attempt(deed, Some(other), change, &[word, flags, low, high])
     }
 
     fn play_bind(&mut self) {
-        match self.known_of(self.runner()).bound {
-            Some((bits, sender)) if self.dice.one_in(2) => self.bind_taken(bits, sender),
-            _ => self.bind_some(),
+        if let Some((bits, sender)) = self.known_of(self.runner()).bound
+            && self.dice.one_in(2)
+        {
+            return self.bind_taken(bits, sender);
         }
-    }
-
-    fn bind_some(&mut self) {
         let sender = self.another();
         let bits = self.dice.bits();
-        let flaw = self.bits_flaw(Round::Binds);
-        if self.bind(FFA_NOTIFICATION_BIND, sender, bits, flaw) && self.dice.one_in(3) {
+        let change = half_of(&mut self.dice, &mut self.rounds.binds);
+        if self.call_on_bits(Deed::Bind, sender, bits, change) && self.dice.one_in(3) {
             self.bind_taken(bits, sender);
         }
     }
@@ -218,16 +122,7 @@ impl<'m, S: Stage + Drop> Generator<'m, S> {
                 other = self.another();
             }
         }
-        self.bind(FFA_NOTIFICATION_BIND, other, bits, BitsFlaw::Taken);
-    }
-
-    // Of the bits, half of the time nothing is wrong, and else one thing after another.
-    fn bits_flaw(&mut self, round: Round) -> BitsFlaw {
-        if self.dice.one_in(2) {
-            self.rounds.next_of(round, &BITS_FLAWS)
-        } else {
-            BitsFlaw::Nothing
-        }
+        self.call_on_bits(Deed::Bind, other, bits, Change::Taken);
     }
 
     // Mostly of the bits that were bound last, got before so that none is pending.
@@ -236,11 +131,11 @@ impl<'m, S: Stage + Drop> Generator<'m, S> {
         let some = self.dice.bits();
         let (bits, sender) = self.known_of(self.runner()).bound.unwrap_or((some, other));
         if !self.dice.one_in(3) {
-            self.get_all();
+            self.get(ALL_CLASSES, Change::Nothing);
         }
         let bits = if self.dice.one_in(4) { some } else { bits };
-        let flaw = self.bits_flaw(Round::Unbinds);
-        self.bind(FFA_NOTIFICATION_UNBIND, sender, bits, flaw);
+        let change = half_of(&mut self.dice, &mut self.rounds.unbinds);
+        self.call_on_bits(Deed::Unbind, sender, bits, change);
     }
 
     // Mostly of bits that somebody bound to the runner.
@@ -252,37 +147,24 @@ impl<'m, S: Stage + Drop> Generator<'m, S> {
             Some((bits, sender)) if sender == runner => bits,
             _ => some,
         };
-        let flaw = self.bits_flaw(Round::Sets);
-        let (receiver, sender) = flaw.ends(receiver, runner);
-        self.announce(Deed::SetBits, Some(receiver), flaw.change());
-        self.call_on_bits(FFA_NOTIFICATION_SET, pair(sender, receiver), flaw, bits);
+        let change = half_of(&mut self.dice, &mut self.rounds.sets);
+        self.call_on_bits(Deed::SetBits, receiver, bits, change);
     }
+}
 
-    fn play_get(&mut self) {
-        let some = u64::from(self.dice.below(16));
-        let change = self.rounds.next_of(Round::Gets, &GET_FLAWS);
-        let classes = match change {
-            Change::Nothing => self.dice.pick(&[some, ALL_CLASSES]),
-            Change::Classes => ALL_CLASSES + 1,
-            _ => ALL_CLASSES,
-        };
-        self.get(classes, change);
+// Half of the time nothing is changed, and else one thing after another.
+fn half_of(dice: &mut Dice, round: &mut Round) -> Change {
+    if dice.one_in(2) {
+        round.next_of(&BITS)
+    } else {
+        Change::Nothing
     }
 }
 
 impl Dice {
-    // Which call on notifications, as a number below 9. Bitmaps are mostly the normal world's.
-    fn notification(&mut self, is_normal_world: bool) -> u32 {
-        if is_normal_world && self.one_in(3) {
-            0
-        } else {
-            self.below(9)
-        }
-    }
-
     // Some bits, mostly the lowest ones, so that endpoints meet.
     fn bits(&mut self) -> u64 {
-        let bit = self.bit();
+        let bit = 1 << self.below(64);
         self.pick(&[1, 2, 3, 4, 1 << 32, bit])
     }
 }

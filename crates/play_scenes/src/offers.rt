@@ -1,36 +1,44 @@
 // SPDX-License-Identifier: MIT OR Apache-2.0
-//! The transactions that are open.
-use ffa_model::{Data, EndpointId, Kind, MOST_RECEIVERS, Range};
+//! Memory transactions, as they are sent and as long as they are open.
+use crate::pages::has_address;
+use arrayvec::ArrayVec;
+use ffa_model::{Data, EndpointId, Kind, Range, Receiver, SendDesc};
 
 /// The most open transactions that are kept in mind: 16 of each of eight endpoints.
 const MOST_OFFERS: usize = 128;
 
-/// The most ranges of a transaction that is made.
-pub const MOST_PARTS: usize = 3;
+/// The most receivers of a transaction that is made.
+pub(crate) const MOST_TAKERS: usize = 2;
 
-/// A receiver of a transaction, what it was granted, and whether it holds it.
+/// The most ranges of one.
+pub(crate) const MOST_PARTS: usize = 3;
+
+/// A receiver of a transaction, what it is granted, and whether it holds it.
 #[derive(Clone, Copy)]
-pub struct Taker {
+pub(crate) struct Taker {
     pub endpoint: EndpointId,
     pub grant: Option<Data>,
     pub holds: bool,
 }
 
-/// An open transaction.
+/// A transaction.
 #[derive(Clone, Copy)]
-pub struct Offer {
+pub(crate) struct Offer {
+    /// 0 until it is sent.
     pub handle: u64,
     pub sender: EndpointId,
     pub kind: Kind,
+    /// Whether its pages are to be zeroed before they are offered.
+    pub zero: bool,
     pub tag: u64,
-    pub takers: [Option<Taker>; MOST_RECEIVERS],
-    /// Its ranges, the last of which may have no page.
+    pub takers: [Option<Taker>; MOST_TAKERS],
+    /// Its ranges, some of which may have no page.
     pub parts: [Range; MOST_PARTS],
 }
 
 /// Which transactions are looked for, from an endpoint's side.
 #[derive(Clone, Copy)]
-pub enum Wish {
+pub(crate) enum Wish {
     /// It is offered to the endpoint, which doesn't hold it.
     ToTake,
     /// The endpoint holds it.
@@ -44,73 +52,71 @@ pub enum Wish {
 }
 
 impl Offer {
-    fn taker(&self, endpoint: EndpointId) -> Option<Taker> {
-        for taker in &self.takers {
-            if let Some(taker) = taker
-                && taker.endpoint == endpoint
-            {
+    /// An endpoint as one of its receivers.
+    pub(crate) fn taker(&self, endpoint: EndpointId) -> Option<Taker> {
+        for taker in self.takers.iter().flatten() {
+            if taker.endpoint == endpoint {
                 return Some(*taker);
             }
         }
         None
     }
 
-    /// What the endpoint was granted, where the transaction is offered to it.
-    pub fn grant_of(&self, endpoint: EndpointId) -> Option<Data> {
-        self.taker(endpoint).and_then(|taker| taker.grant)
-    }
-
-    fn is_held(&self) -> bool {
-        for taker in &self.takers {
-            if let Some(taker) = taker
-                && taker.holds
-            {
-                return true;
-            }
-        }
-        false
-    }
-
-    /// Whether it is what an endpoint looks for.
-    pub fn fits(&self, wish: Wish, endpoint: EndpointId) -> bool {
+    // Whether it is what an endpoint looks for.
+    fn fits(&self, wish: Wish, endpoint: EndpointId) -> bool {
         let taker = self.taker(endpoint);
-        let own = self.sender == endpoint;
+        let is_own = self.sender == endpoint;
+        let is_held = self.takers.iter().flatten().any(|taker| taker.holds);
         match wish {
             Wish::ToTake => taker.is_some_and(|taker| !taker.holds),
             Wish::Held => taker.is_some_and(|taker| taker.holds),
-            Wish::OwnFree => own && !self.is_held(),
-            Wish::OwnHeld => own && self.is_held(),
-            Wish::OfOthers => !own && taker.is_none(),
+            Wish::OwnFree => is_own && !is_held,
+            Wish::OwnHeld => is_own && is_held,
+            Wish::OfOthers => !is_own && taker.is_none(),
         }
     }
 
-    /// Whether the page at an address is one of its pages.
-    pub fn has_page(&self, address: u64) -> bool {
+    /// What its descriptor says.
+    pub(crate) fn describe(&self) -> SendDesc {
+        let mut desc = SendDesc {
+            sender: self.sender,
+            zero: self.zero,
+            tag: self.tag,
+            receivers: ArrayVec::new(),
+            ranges: ArrayVec::new(),
+        };
+        for taker in self.takers.iter().flatten() {
+            let Taker {
+                endpoint,
+                grant,
+                ..
+            } = *taker;
+            let _ = desc.receivers.try_push(Receiver { endpoint, grant });
+        }
         for part in &self.parts {
-            let behind = address.wrapping_sub(part.address) / 4096;
-            if address >= part.address && behind < u64::from(part.pages) {
-                return true;
+            if part.pages > 0 {
+                let _ = desc.ranges.try_push(*part);
             }
         }
-        false
+        desc
     }
 }
 
 /// The open transactions.
 #[derive(Drop)]
-pub struct Offers {
+pub(crate) struct Offers {
     open: [Option<Offer>; MOST_OFFERS],
 }
 
 impl Offers {
-    pub fn new() -> Offers {
+    pub(crate) fn new() -> Offers {
         Offers {
             open: [None; MOST_OFFERS],
         }
     }
 
     /// Keeps a transaction in mind, where there is room.
-    pub fn add(&mut self, offer: Offer) {
+    pub(crate) fn add(&mut self, offer: Offer) {
         for slot in &mut self.open {
             if slot.is_none() {
                 *slot = Some(offer);
@@ -120,7 +126,7 @@ impl Offers {
     }
 
     /// Forgets the transaction with this handle.
-    pub fn remove(&mut self, handle: u64) {
+    pub(crate) fn remove(&mut self, handle: u64) {
         for slot in &mut self.open {
             if slot.is_some_and(|offer| offer.handle == handle) {
                 *slot = None;
@@ -129,64 +135,38 @@ impl Offers {
     }
 
     /// An endpoint holds the transaction with this handle, or no longer.
-    pub fn set_held(&mut self, handle: u64, endpoint: EndpointId, holds: bool) {
-        for slot in &mut self.open {
-            if let Some(offer) = slot
-                && offer.handle == handle
-            {
-                set_held(offer, endpoint, holds);
+    pub(crate) fn set_held(&mut self, handle: u64, endpoint: EndpointId, holds: bool) {
+        for offer in self.open.iter_mut().flatten() {
+            if offer.handle == handle {
+                for taker in offer.takers.iter_mut().flatten() {
+                    if taker.endpoint == endpoint {
+                        taker.holds = holds;
+                    }
+                }
             }
         }
     }
 
     /// How many are what an endpoint looks for.
-    pub fn count(&self, wish: Wish, endpoint: EndpointId) -> usize {
-        let mut count = 0;
-        for slot in &self.open {
-            if let Some(offer) = slot
-                && offer.fits(wish, endpoint)
-            {
-                count = usize::saturating_add(count, 1);
-            }
-        }
-        count
+    pub(crate) fn count(&self, wish: Wish, endpoint: EndpointId) -> usize {
+        let open = self.open.iter().flatten();
+        open.filter(|offer| offer.fits(wish, endpoint)).count()
     }
 
     /// That of those at a place, counted from 0.
-    pub fn nth(&self, wish: Wish, endpoint: EndpointId, place: usize) -> Option<Offer> {
-        let mut left = place;
-        for slot in &self.open {
-            if let Some(offer) = slot
-                && offer.fits(wish, endpoint)
-            {
-                if left == 0 {
-                    return Some(*offer);
-                }
-                left -= 1;
-            }
-        }
-        None
+    pub(crate) fn nth(&self, wish: Wish, endpoint: EndpointId, place: usize) -> Option<Offer> {
+        let open = self.open.iter().flatten();
+        let mut fitting = open.filter(|offer| offer.fits(wish, endpoint));
+        fitting.nth(place).copied()
     }
 
-    /// Whether the page at an address stands in an open transaction.
-    pub fn have_page(&self, address: u64) -> bool {
-        for slot in &self.open {
-            if let Some(offer) = slot
-                && offer.has_page(address)
-            {
+    /// Whether an address is in an open transaction.
+    pub(crate) fn have_address(&self, address: u64) -> bool {
+        for offer in self.open.iter().flatten() {
+            if offer.parts.iter().any(|part| has_address(*part, address)) {
                 return true;
             }
         }
         false
-    }
-}
-
-fn set_held(offer: &mut Offer, endpoint: EndpointId, holds: bool) {
-    for taker in &mut offer.takers {
-        if let Some(taker) = taker
-            && taker.endpoint == endpoint
-        {
-            taker.holds = holds;
-        }
     }
 }

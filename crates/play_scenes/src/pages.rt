@@ -1,100 +1,102 @@
 // SPDX-License-Identifier: MIT OR Apache-2.0
 //! Which pages there are, and whose they are.
-use crate::generator::Generator;
-use crate::layout::{PAGE, count_regions, first_place, region_of, region_page, region_pages};
+use crate::generator::{Generator, MappedBuffers};
 use crate::stage::Stage;
-use ffa_model::{Data, EndpointId, Range, Region};
+use ffa_model::{Data, Endpoint, Range};
+
+/// How many bytes a page has.
+pub const PAGE: u64 = 4096;
 
 /// How many pages are looked at, at most, where one is sought.
 const MOST_LOOKS: u64 = 512;
 
+/// Whether an address is in a range.
+pub(crate) fn has_address(range: Range, address: u64) -> bool {
+    address.wrapping_sub(range.address) < PAGE * u64::from(range.pages)
+}
+
+/// Whether two ranges have a page in common.
+pub(crate) fn meet(one: Range, other: Range) -> bool {
+    has_address(one, other.address) || has_address(other, one.address)
+}
+
+// How many pages the regions of these endpoints have.
+fn count_pages(endpoints: &[Endpoint]) -> u64 {
+    let mut total = 0;
+    for endpoint in endpoints {
+        for region in endpoint.regions.as_slice() {
+            total = u64::saturating_add(total, u64::from(region.pages));
+        }
+    }
+    total
+}
+
+// The address of a page of the regions of these endpoints, by its place among them.
+fn address_of(endpoints: &[Endpoint], place: u64) -> u64 {
+    let mut left = place;
+    for endpoint in endpoints {
+        for region in endpoint.regions.as_slice() {
+            if left < u64::from(region.pages) {
+                return u64::from(region.base) + PAGE * left;
+            }
+            left -= u64::from(region.pages);
+        }
+    }
+    0
+}
+
 impl<'m, S: Stage + Drop> Generator<'m, S> {
-    /// Whether the page at an address is an endpoint's own, and could be sent or be a buffer.
-    pub fn is_free(&self, endpoint: EndpointId, address: u64) -> bool {
-        let buffers = self.known_of(endpoint).buffers;
-        self.stage.owner_of(address) == endpoint
-            && self.stage.access(endpoint, address).is_some()
-            && !buffers.is_some_and(|buffers| buffers.have_page(address))
-            && !self.offers.have_page(address)
-    }
-
-    /// Whether it may also be written.
-    pub fn is_free_to_write(&self, endpoint: EndpointId, address: u64) -> bool {
-        match self.stage.access(endpoint, address) {
-            Some(rights) => rights.level == Data::Rw && self.is_free(endpoint, address),
+    /// The runner's data right to a page of its own that it could send, or make a buffer; none where it couldn't.
+    pub(crate) fn free_level(&self, address: u64) -> Option<Data> {
+        let runner = self.runner();
+        let rights = self.stage.access(runner, address)?;
+        let is_used = match self.buffers() {
+            Some(MappedBuffers { tx, rx, .. }) => has_address(tx, address)
+                || has_address(rx, address),
             None => false,
+        };
+        if is_used || self.offers.have_address(address) || self.stage.owner_of(address) != runner {
+            return None;
         }
+        Some(rights.level)
     }
 
-    // Whether it may only be read.
-    fn is_free_to_read_only(&self, endpoint: EndpointId, address: u64) -> bool {
-        match self.stage.access(endpoint, address) {
-            Some(rights) => rights.level == Data::Ro && self.is_free(endpoint, address),
-            None => false,
+    /// So many pages side by side that the runner could send, with this right to each: mostly of its own regions.
+    pub(crate) fn free_run(&mut self, pages: u32, level: Data) -> Option<Range> {
+        let endpoints = self.manifest.endpoints.as_slice();
+        let total = count_pages(endpoints).max(1);
+        let before = self.runner().place().min(endpoints.len());
+        let word = self.dice.word();
+        let first = if self.dice.one_in(4) {
+            word % total
+        } else {
+            count_pages(&endpoints[..before]).wrapping_add(word % 16)
+        };
+        for step in 0..total.min(MOST_LOOKS) {
+            let address = address_of(endpoints, first.wrapping_add(step) % total);
+            if self.is_free_run(address, pages, level) {
+                return Some(Range { address, pages });
+            }
         }
+        None
     }
 
-    // Whether so many pages from an address on are free.
-    fn is_free_run(&self, endpoint: EndpointId, address: u64, pages: u32) -> bool {
+    fn is_free_run(&self, address: u64, pages: u32, level: Data) -> bool {
         for page in 0..pages {
             let next = address.wrapping_add(PAGE * u64::from(page));
-            if !self.is_free_to_write(endpoint, next) {
+            if self.free_level(next) != Some(level) {
                 return false;
             }
         }
         true
     }
 
-    /// The place of a page of the regions: mostly of one of the runner's own.
-    fn any_place(&mut self) -> u64 {
-        let total = region_pages(self.manifest);
-        let mine = first_place(self.manifest, self.runner());
-        let word = self.dice.word();
-        if self.dice.one_in(4) {
-            word % total.max(1)
-        } else {
-            mine.wrapping_add(word % 16)
-        }
-    }
-
-    /// So many pages side by side that an endpoint could send, and may write: the address of the first.
-    pub fn free_run(&mut self, endpoint: EndpointId, pages: u32) -> Option<u64> {
-        let total = region_pages(self.manifest).max(1);
-        let first = self.any_place();
-        for step in 0..total.min(MOST_LOOKS) {
-            let address = region_page(self.manifest, first.wrapping_add(step) % total);
-            if self.is_free_run(endpoint, address, pages) {
-                return Some(address);
-            }
-        }
-        None
-    }
-
-    /// A page that an endpoint could send.
-    pub fn free_page(&mut self, endpoint: EndpointId) -> Option<Range> {
-        let address = self.free_run(endpoint, 1)?;
-        Some(Range { address, pages: 1 })
-    }
-
-    /// A page that the runner could send, and may only read.
-    pub fn read_only_page(&mut self) -> Option<Range> {
-        let runner = self.runner();
-        let total = region_pages(self.manifest).max(1);
-        let first = self.any_place();
-        for step in 0..total.min(MOST_LOOKS) {
-            let address = region_page(self.manifest, first.wrapping_add(step) % total);
-            if self.is_free_to_read_only(runner, address) {
-                return Some(Range { address, pages: 1 });
-            }
-        }
-        None
-    }
-
-    /// How many pages an endpoint could send.
-    pub fn count_free(&self, endpoint: EndpointId) -> u32 {
+    /// How many pages the runner could send, and may write.
+    pub(crate) fn count_free(&self) -> u32 {
+        let endpoints = self.manifest.endpoints.as_slice();
         let mut count = 0;
-        for place in 0..region_pages(self.manifest).min(MOST_LOOKS) {
-            if self.is_free_to_write(endpoint, region_page(self.manifest, place)) {
+        for place in 0..count_pages(endpoints).min(MOST_LOOKS) {
+            if self.free_level(address_of(endpoints, place)) == Some(Data::Rw) {
                 count = u32::saturating_add(count, 1);
             }
         }
@@ -102,39 +104,31 @@ impl<'m, S: Stage + Drop> Generator<'m, S> {
     }
 
     /// A page of the regions, whosever it is.
-    pub fn any_page(&mut self) -> u64 {
-        let total = region_pages(self.manifest).max(1);
-        let word = self.dice.word();
-        region_page(self.manifest, word % total)
+    pub(crate) fn any_page(&mut self) -> u64 {
+        let endpoints = self.manifest.endpoints.as_slice();
+        let total = count_pages(endpoints).max(1);
+        address_of(endpoints, self.dice.word() % total)
     }
 
-    /// A region of an endpoint.
-    pub fn any_region(&mut self, endpoint: EndpointId) -> Region {
-        let place = self.dice.place(count_regions(self.manifest, endpoint));
-        region_of(self.manifest, endpoint, place)
-    }
-
-    /// A page of RAM that an endpoint couldn't send: of another, of a buffer, in a transaction or of the tables.
-    pub fn unfit_page(&mut self, endpoint: EndpointId) -> u64 {
+    /// A page of RAM that the runner couldn't send: of another, of a buffer, in a transaction or of the tables.
+    pub(crate) fn unfit_page(&mut self) -> u64 {
         let base = self.stage.ram_base();
         match self.dice.below(4) {
-            0 => base,
-            1 => match self.known_of(endpoint).buffers {
-                Some(buffers) => buffers.rx,
-                None => base,
-            },
-            _ => self.taken_page(endpoint),
+            0 => return base,
+            1 => {
+                return match self.buffers() {
+                    Some(buffers) => buffers.rx.address,
+                    None => base,
+                };
+            }
+            _ => {}
         }
-    }
-
-    // A page of a region that an endpoint couldn't send.
-    fn taken_page(&mut self, endpoint: EndpointId) -> u64 {
         for _ in 0..MOST_LOOKS {
             let address = self.any_page();
-            if !self.is_free(endpoint, address) {
+            if self.free_level(address).is_none() {
                 return address;
             }
         }
-        self.stage.ram_base()
+        base
     }
 }

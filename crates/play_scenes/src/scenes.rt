@@ -1,91 +1,57 @@
 // SPDX-License-Identifier: MIT OR Apache-2.0
-//! What an endpoint does in its turn.
-use crate::generator::Generator;
+//! The scenes: what an endpoint does in its turn.
+use crate::generator::{Generator, pair};
 use crate::stage::Stage;
+use ffa_model::function::*;
+use ffa_model::{EndpointId, Properties, Work};
 use play_transcript::{Change, Deed, GenerateError, TraceEntry, Turns};
 
-/// A few operations that belong together.
-#[derive(Clone, Copy)]
-enum Scene {
-    Setup,
-    Information,
-    NoCall,
-    Map,
-    Unmap,
-    Release,
-    State,
-    Request,
-    Response,
-    Message,
-    Send,
-    TurnedSend,
-    ReadOnly,
-    Retrieve,
-    TurnedRetrieve,
-    Relinquish,
-    Reclaim,
-    Notification,
-    Accesses,
-    Show,
+// Plays one of these scenes, each as often as its weight says.
+macro_rules! play_one {
+    ($generator:expr; $($weight:literal $scene:ident)*) => {
+        let mut left = $generator.dice.below(0 $(+ $weight)*);
+        $(
+            if left < $weight {
+                return $generator.$scene();
+            }
+            left -= $weight;
+        )*
+    };
 }
-
-/// The scenes, each as often as it is played.
-const SCENES: [Scene; 49] = [
-    Scene::Setup,
-    Scene::Setup,
-    Scene::Information,
-    Scene::Information,
-    Scene::NoCall,
-    Scene::Map,
-    Scene::Unmap,
-    Scene::Release,
-    Scene::State,
-    Scene::State,
-    Scene::Request,
-    Scene::Request,
-    Scene::Request,
-    Scene::Response,
-    Scene::Response,
-    Scene::Message,
-    Scene::Message,
-    Scene::Message,
-    Scene::Send,
-    Scene::Send,
-    Scene::Send,
-    Scene::Send,
-    Scene::TurnedSend,
-    Scene::TurnedSend,
-    Scene::TurnedSend,
-    Scene::TurnedSend,
-    Scene::ReadOnly,
-    Scene::ReadOnly,
-    Scene::Retrieve,
-    Scene::Retrieve,
-    Scene::Retrieve,
-    Scene::Retrieve,
-    Scene::TurnedRetrieve,
-    Scene::TurnedRetrieve,
-    Scene::Relinquish,
-    Scene::Relinquish,
-    Scene::Reclaim,
-    Scene::Reclaim,
-    Scene::Notification,
-    Scene::Notification,
-    Scene::Notification,
-    Scene::Notification,
-    Scene::Notification,
-    Scene::Accesses,
-    Scene::Accesses,
-    Scene::Accesses,
-    Scene::Accesses,
-    Scene::Accesses,
-    Scene::Show,
-];
 
 /// The most scenes of a turn.
 const MOST_SCENES: u32 = 4;
 
+/// The most calls until an endpoint runs: each blocked one is answered once, and the normal world gives cycles then.
+const MOST_CALLS: usize = 12;
+
 impl<'m, S: Stage + Drop> Generator<'m, S> {
+    // A scene is a few operations that belong together.
+    fn play_scene(&mut self) {
+        play_one! { self;
+            2 play_setup
+            2 play_information
+            1 play_no_call
+            1 play_map
+            1 play_unmap
+            1 release
+            2 play_state
+            3 play_request
+            2 play_response
+            3 play_message
+            4 play_send
+            4 play_turned_send
+            2 play_read_only
+            4 play_retrieve
+            2 play_turned_retrieve
+            2 play_relinquish
+            2 play_reclaim
+            5 play_notification
+            5 play_accesses
+            1 play_show
+        }
+    }
+
     // The endpoint whose turn it is comes to run, and plays some scenes.
     fn play_scenes(&mut self) {
         let actor = self.stage.actor_of(self.turns);
@@ -98,36 +64,11 @@ impl<'m, S: Stage + Drop> Generator<'m, S> {
         if self.dice.one_in(2) {
             self.read_rx();
         }
-        let scenes = 1 + self.dice.below(MOST_SCENES);
-        for _ in 0..scenes {
+        let count = 1 + self.dice.below(MOST_SCENES);
+        for _ in 0..count {
             if self.runner() == actor {
                 self.play_scene();
             }
-        }
-    }
-
-    fn play_scene(&mut self) {
-        match self.dice.pick(&SCENES) {
-            Scene::Setup => self.play_setup(),
-            Scene::Information => self.play_information(),
-            Scene::NoCall => self.play_no_call(),
-            Scene::Map => self.play_map(),
-            Scene::Unmap => self.play_unmap(),
-            Scene::Release => self.release(),
-            Scene::State => self.play_state(),
-            Scene::Request => self.play_request(),
-            Scene::Response => self.play_response(),
-            Scene::Message => self.play_message(),
-            Scene::Send => self.play_send(),
-            Scene::TurnedSend => self.play_turned_send(),
-            Scene::ReadOnly => self.play_read_only(),
-            Scene::Retrieve => self.play_retrieve(),
-            Scene::TurnedRetrieve => self.play_turned_retrieve(),
-            Scene::Relinquish => self.play_relinquish(),
-            Scene::Reclaim => self.play_reclaim(),
-            Scene::Notification => self.play_notification(),
-            Scene::Accesses => self.play_accesses(),
-            Scene::Show => self.play_show(),
         }
     }
 
@@ -140,6 +81,53 @@ impl<'m, S: Stage + Drop> Generator<'m, S> {
         } else {
             TraceEntry::Show
         });
+    }
+
+    // Makes calls until this endpoint runs.
+    fn hand_over(&mut self, wanted: EndpointId) {
+        if self.runner() != wanted {
+            self.announce(Deed::HandOver, Some(wanted), Change::Nothing);
+        }
+        for _ in 0..MOST_CALLS {
+            let runner = self.runner();
+            if runner == EndpointId::NORMAL_WORLD && runner != wanted {
+                self.set_going(wanted);
+            } else if runner != wanted {
+                self.stop_running(runner);
+            }
+        }
+    }
+
+    // The normal world gives a partition cycles, or sends it a request where it may.
+    fn set_going(&mut self, partition: EndpointId) {
+        let normal_world = EndpointId::NORMAL_WORLD;
+        let may_ask = self.has_properties(normal_world, Properties::SENDS_DIRECT_REQUESTS)
+            && self.has_properties(partition, Properties::RECEIVES_DIRECT_REQUESTS)
+            && self.known_of(partition).work.is_none();
+        if may_ask && self.dice.one_in(3) {
+            self.direct(FFA_MSG_SEND_DIRECT_REQ, pair(normal_world, partition.0), 0);
+        } else {
+            self.call(FFA_RUN, &[pair(partition, 0)]);
+        }
+    }
+
+    // The runner answers what it was asked or waits, or gives back its cycles.
+    fn stop_running(&mut self, runner: EndpointId) {
+        match self.known_of(runner).work {
+            Some(Work::Request(sender)) => {
+                if sender == EndpointId::NORMAL_WORLD && self.dice.one_in(3) {
+                    self.call(FFA_YIELD, &[]);
+                } else {
+                    self.direct(FFA_MSG_SEND_DIRECT_RESP, pair(runner, sender.0), 0);
+                }
+            }
+            Some(Work::Run) | None => {
+                let function = self
+                    .dice
+                    .pick(&[FFA_YIELD, FFA_MSG_WAIT, FFA_MSG_WAIT, FFA_MSG_WAIT]);
+                self.call(function, &[]);
+            }
+        }
     }
 }
 
