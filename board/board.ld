@@ -1,9 +1,9 @@
 /* SPDX-License-Identifier: MIT OR Apache-2.0 */
-/* Where the firmware stands: see layout.h. */
+/* Where the firmware stands: see layout.h. One that stands elsewhere says where, and where it has to end. */
 ENTRY(_start)
 SECTIONS
 {
-    . = 0x44000000;
+    . = DEFINED(FIRMWARE_BASE) ? FIRMWARE_BASE : 0x44000000;
     .text : { *(.text.start) *(.text .text.*) }
     .rodata : ALIGN(4096) { *(.rodata .rodata.*) }
     .eh_frame : { *(.eh_frame .eh_frame.*) }
@@ -15,4 +15,5 @@ SECTIONS
         zeros_end = .;
     }
     .stack (NOLOAD) : ALIGN(4096) { *(.stack) }
+    ASSERT(DEFINED(FIRMWARE_END) ? . <= FIRMWARE_END : 1, "the firmware is too large for its place")
 }

@@ -38,4 +38,10 @@
 /* The bit of an identifier that asks for registers of 64 bits (DEN0028, 2). */
 #define WITH_64_BITS GORSEPLUMB_FFA_WIDE
 
+/* FF-A has the functions 60 to EF of the standard secure service calls (DEN0077A, 11.1), which aren't interrupted, in 32 and in 64 bits. */
+static inline bool is_ffa(uint32_t function) {
+    uint32_t plain = function & ~WITH_64_BITS;
+    return plain >= UINT32_C(0x84000060) && plain <= UINT32_C(0x840000EF);
+}
+
 #endif

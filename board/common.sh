@@ -1,5 +1,5 @@
 # SPDX-License-Identifier: MIT OR Apache-2.0
-# What run.sh and linux/run.sh have in common. Who reads this in has a name, `me`, by which it speaks, and its own `usage`.
+# What the board's scripts have in common. Who reads this in has a name, `me`, by which it speaks, and its own `usage`.
 board=$(cd "$(dirname "${BASH_SOURCE[0]}")" && pwd)
 top=$(dirname "$board")
 player=${FFAPLAY:-$top/ffaplay} # the program, which judges
@@ -9,6 +9,11 @@ emulator=qemu-system-aarch64
 flags=(-std=c11 -Wall -Wextra -Wpedantic -Wshadow -Werror -ffreestanding -fno-stack-protector -fno-tree-loop-distribute-patterns
     -mno-outline-atomics "-I$top/c" "-I$board" -DGORSEPLUMB_ARRAY_TELLS -DGORSEPLUMB_ARRAY_BYTES=0x1000000
     -nostdlib -static "-Wl,--gc-sections" "-Wl,--build-id=none")
+
+# What of the board's files each firmware has.
+shared=(boot call endpoint exception memory operation tables text)
+shared=("${shared[@]/#/$board/}")
+shared=("${shared[@]/%/.c}" "$board/start.S" "$top"/c/{array,bytes,settle}.c)
 
 # A program for EL1 that stands in pages of its own: no translation, no vector registers, no variables, and no access that isn't aligned.
 program_flags=(-Os -fpie -mgeneral-regs-only -mstrict-align -ffunction-sections)
@@ -55,17 +60,19 @@ make_archive() {
 # A file that QEMU puts somewhere, as two of its words: loader FILE ADDRESS
 loader() { printf -- '-device\nloader,file=%s,addr=0x%s,force-raw=on\n' "$1" "$2"; }
 
-# Runs a firmware, and parts what it prints: emulate FIRMWARE WORD.., of which the words are the emulator's. All is in $to/uart, the
+# Runs the emulator in the folder $to, and parts what is printed: emulate WORD.., of which the words are its own. All is in $to/uart, the
 # trace in $to/trace, and what came of it in $to/found. It has $limit seconds, or 300. A firmware that hangs, or an emulator that doesn't
 # run it, prints no end.
 emulate() {
-    local firmware=$1
-    shift
     : >"$to/uart"
-    timeout "${limit:-300}" "$emulator" "$@" -nodefaults -display none -serial "file:$to/uart" -kernel "$to/$firmware.elf" </dev/null >&2 ||
+    (cd "$to" && timeout "${limit:-300}" "$emulator" -nodefaults -display none -serial file:uart "$@" </dev/null >&2) ||
         echo "! $emulator ended with $?" >>"$to/uart"
-    sed -n 's/^> //p' "$to/uart" >"$to/trace"
-    sed -n 's/^< //p' "$to/uart" >"$to/found"
+    part "$to/uart"
+}
+
+part() {
+    sed -n 's/^> //p' "$1" >"$to/trace"
+    sed -n 's/^< //p' "$1" >"$to/found"
 }
 
 # Whether the board came to its end.

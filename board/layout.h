@@ -5,11 +5,15 @@
 
 /* Where QEMU's machine `virt` has what is used of it, and where the firmware has what it needs. The machine's RAM begins with the
  * board's, or where run.sh says; the firmware and the two texts that run.sh loads stand behind the 64 MiB that a machine has at most. */
+#ifndef UART_BASE
 #define UART_BASE 0x09000000
+#endif
 #ifndef RAM_BASE
 #define RAM_BASE 0x40000000
 #endif
-#define FIRMWARE_BASE 0x44000000
+#ifndef FIRMWARE_BASE
+#define FIRMWARE_BASE 0x44000000 /* board.ld has it too */
+#endif
 #define MANIFEST_TEXT 0x48000000
 #define SCENE_TEXT 0x49000000
 

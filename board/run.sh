@@ -79,7 +79,7 @@ play() {
     if [[ $1 == high ]]; then memory=3G; fi
     if is_watched "$4"; then processors=2; fi
     mapfile -t devices < <(loader "$3" 48000000 && loader "$4" 49000000)
-    emulate "$1" -machine virt,virtualization=on -accel tcg,thread=multi -smp $processors -cpu "$2" -m $memory "${devices[@]}"
+    emulate -kernel "$to/$1.elf" -machine virt,virtualization=on -accel tcg,thread=multi -smp $processors -cpu "$2" -m $memory "${devices[@]}"
     "$player" run "$3" "$to/trace" >"$to/expected" || fail "the program doesn't play what $(basename "$4") did"
     if [[ $keep ]]; then keep_scene "$1-$2-$(basename "$4")"; fi
     has_end && ! grep -q '^!' "$to/uart" && cmp -s "$to/expected" "$to/found"

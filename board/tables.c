@@ -7,12 +7,26 @@
 
 SYSTEM_REGISTER(par_el1)
 
+/* The assembler knows these by their numbers alone. */
+SYSTEM_REGISTER(s3_4_c2_c6_0)
+SYSTEM_REGISTER(s3_4_c2_c6_2)
+#define write_vsttbr_el2 write_s3_4_c2_c6_0
+#define write_vstcr_el2 write_s3_4_c2_c6_2
+
 /* The fields of registers are those of DDI 0487, under the register's name.
  *
  * VTCR_EL2: T0SZ 32, SL0 1, write-back walks (IRGN0, ORGN0) that are inner shareable (SH0), TG0 0 and 40 bits of physical address (PS). */
 #define VTCR (UINT64_C(32) | UINT64_C(1) << 6 | UINT64_C(5) << 8 | UINT64_C(3) << 12 | UINT64_C(2) << 16 | UINT64_C(1) << 31)
 
+/* In the secure state. VTCR_EL2: what a non-secure address leads to is non-secure (NSA), and tables are secure (NSW 0). VSTCR_EL2: T0SZ 32, SL0 1,
+ * TG0 0; what a secure address leads to is secure (SA 0), and so are tables (SW 0). */
+#define NSA (UINT64_C(1) << 30)
+#define VSTCR (UINT64_C(32) | UINT64_C(1) << 6 | UINT64_C(1) << 31)
+#define NON_SECURE_SPACE (UINT64_C(1) << 63) /* of TLBI IPAS2E1IS */
+
 /* VTTBR_EL2.VMID has 8 bits, as VTCR_EL2.VS is 0. Endpoints have 1 and on. */
+#define ROOT_OF(vttbr) ((vttbr) & ((UINT64_C(1) << 48) - 1))
+#define VMID_IN(vttbr) ((vttbr) >> 48)
 #define VMID_OF(place) ((place) + UINT64_C(1))
 #define UNUSED_VMID 255
 
@@ -26,11 +40,13 @@ static _Alignas(4096) const uint64_t maps_nothing[512];
 
 static void load_root(uint64_t root, uint64_t vmid) {
     write_vttbr_el2(root | vmid << 48);
+    if (SECURE) write_vsttbr_el2(root);
     DO("isb");
 }
 
 void begin_tables(uint64_t hcr) {
-    write_vtcr_el2(VTCR);
+    write_vtcr_el2(SECURE ? VTCR | NSA : VTCR);
+    if (SECURE) write_vstcr_el2(VSTCR);
     load_root((uintptr_t)maps_nothing, UNUSED_VMID);
     write_hcr_el2(hcr);
     DO("isb");
@@ -46,6 +62,7 @@ static void forget(uint32_t place, uint64_t address, uint64_t size) {
     if (size <= MOST_SINGLY * GORSEPLUMB_PAGE_SIZE) {
         for (uint64_t page = address; page < address + size; page += GORSEPLUMB_PAGE_SIZE) {
             __asm__ volatile("tlbi ipas2e1is, %0" : : "r"(page >> 12) : "memory");
+            if (SECURE) __asm__ volatile("tlbi ipas2e1is, %0" : : "r"(page >> 12 | NON_SECURE_SPACE) : "memory");
         }
         DO("dsb ish");
         DO("tlbi vmalle1is");
@@ -53,15 +70,14 @@ static void forget(uint32_t place, uint64_t address, uint64_t size) {
         DO("tlbi vmalls12e1is");
     }
     DO("dsb ish");
-    write_vttbr_el2(walked);
-    DO("isb");
+    load_root(ROOT_OF(walked), VMID_IN(walked));
 }
 
 static struct settled settled;
 
 void settle_tables(uint16_t endpoint, uint64_t address, uint64_t size) {
     DO("dsb ishst");
-    if (size == 0) return;
+    if (size == 0 || (SECURE && endpoint == 0)) return;
     if (size < ALL_ADDRESSES) {
         settled.times++;
         settled.pages += size / GORSEPLUMB_PAGE_SIZE;

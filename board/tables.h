@@ -14,6 +14,13 @@
 #define WRONG_ROOT 0 /* the partition 8001 runs with the tables of the next endpoint */
 #endif
 
+/* 1 where EL2 is the secure world's. An endpoint has two spaces of addresses there, the secure one, by VSTTBR_EL2, and the non-secure one, by
+ * VTTBR_EL2: its own stage 1 chooses, by NS, and without one it has the secure one. Both are walked by the one table that the core has for
+ * it: whichever it takes, it reaches what the core grants, and nothing else. The normal world is below another EL2, and nobody walks its. */
+#ifndef SECURE
+#define SECURE 0
+#endif
+
 /* Fields of HCR_EL2 (DDI 0487), of which each firmware says what it has while an endpoint runs: VM and TSC at least. */
 #define HCR_VM (UINT64_C(1) << 0)         /* stage 2 is on */
 #define HCR_INTERRUPTS (UINT64_C(7) << 3) /* FMO, IMO, AMO: interrupts go to EL2 */

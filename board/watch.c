@@ -1,6 +1,7 @@
 /* SPDX-License-Identifier: MIT OR Apache-2.0 */
 #include "watch.h"
 #include "layout.h"
+#include "lock.h"
 #include "processor.h"
 #include "scene.h"
 #include "text.h"
@@ -80,14 +81,6 @@ void second_processor(void);
 static uint32_t read_now(const uint32_t *at) { return __atomic_load_n(at, __ATOMIC_SEQ_CST); }
 static void write_now(uint32_t *at, uint32_t value) { __atomic_store_n(at, value, __ATOMIC_SEQ_CST); }
 
-static bool try_lock(void) { return __atomic_exchange_n(&held, 1, __ATOMIC_SEQ_CST) == 0; }
-
-static void lock(void) {
-    while (!try_lock()) continue;
-}
-
-static void unlock(void) { write_now(&held, 0); }
-
 /* The words are those that stand in RAM: the first processor's endpoints store them, and the core's zeros are written over them. */
 static struct sight look(struct board *board, uint64_t address) {
     uint32_t page = (uint32_t)((address - RAM_BASE) / GORSEPLUMB_PAGE_SIZE);
@@ -98,7 +91,7 @@ static struct sight look(struct board *board, uint64_t address) {
 
 void begin_change(void) {
     while (read_now(&waits)) continue;
-    lock();
+    take_lock(&held);
     write_now(&version, version + 1);
     watch.settled[(version + 1) / 2 % KEPT] = false;
     DO("dmb ish");
@@ -112,7 +105,7 @@ void end_change(struct board *board) {
     }
     DO("dmb ish");
     write_now(&version, version + 1);
-    unlock();
+    release_lock(&held);
 }
 
 /* The second processor does one access as a program at EL1, that of the endpoint's own page. */
@@ -196,7 +189,7 @@ static void watch_page(struct seen *seen, const struct watched *page, enum acces
 /* The lock, behind which no operation is on its way. */
 static void wait_for_lock(void) {
     write_now(&waits, 1);
-    lock();
+    take_lock(&held);
     write_now(&waits, 0);
 }
 
@@ -206,7 +199,7 @@ static unsigned judge_all(struct seen *burst, unsigned count) {
     for (unsigned i = 0; i < count; i++) {
         if (judge(&burst[i])) burst[stay++] = burst[i];
     }
-    unlock();
+    release_lock(&held);
     return stay;
 }
 
@@ -246,7 +239,7 @@ static unsigned watch_pages(uint64_t turn) {
     bool has_lock = false;
     for (; !has_lock && goes_on(count); turn++) {
         watch_page(&burst[count++], &watch.pages[next_number() % watch.count], (enum access)(next_number() % ACCESSES), turn);
-        has_lock = count >= BURST && try_lock();
+        has_lock = count >= BURST && try_lock(&held);
     }
     if (!has_lock) wait_for_lock();
     unsigned stay = judge_all(burst, count);

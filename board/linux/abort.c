@@ -1,6 +1,5 @@
 /* SPDX-License-Identifier: MIT OR Apache-2.0 */
 /* Aborts of stage 2. The core's tables have RAM alone, so Linux's devices abort too, and are told from the rest here. */
-#include "exception.h"
 #include "guest.h"
 #include "processor.h"
 #include "text.h"
@@ -30,15 +29,6 @@ SYSTEM_REGISTER(sctlr_el1)
 #define FROM_SHARED_STACK 0x000
 #define FROM_OWN_STACK 0x200
 #define FROM_EL0 0x400
-
-void tell(const struct endpoint *endpoint, const char *what, uint64_t syndrome, uint64_t address) {
-    begin_line();
-    put_text("# ");
-    put_text(what);
-    put_text(" of ");
-    put_hex(endpoint->identifier, 4);
-    put_exception(syndrome, address, endpoint->context.pc);
-}
 
 static uint64_t vector_of(uint64_t state) {
     if ((state & MODE) == MODE_EL0) return FROM_EL0;

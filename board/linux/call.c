@@ -9,12 +9,6 @@
 #define NOTIFY 0 /* 1 interrupts Linux where a notification is pending for it, and tells it of that interrupt, of which the core knows nothing */
 #endif
 
-/* FF-A has the functions 60 to EF of the standard secure service calls (DEN0077A, 11.1), which aren't interrupted, in 32 and in 64 bits. */
-static bool is_ffa(uint32_t function) {
-    uint32_t plain = function & ~WITH_64_BITS;
-    return plain >= UINT32_C(0x84000060) && plain <= UINT32_C(0x840000EF);
-}
-
 /* Linux has notifications only where FFA_FEATURES tells it of an interrupt, and it wants one that a processor sends itself: 0 to 7 are
  * its own. The core knows of no interrupt, and answers NOT_SUPPORTED. */
 #define PENDING_INTERRUPT 1 /* the feature (DEN0077A, FFA_FEATURES) */

@@ -1,24 +1,12 @@
 /* SPDX-License-Identifier: MIT OR Apache-2.0 */
 /* The processor as Linux and as partitions have it, and the change from one to another. */
+#include "el2.h"
 #include "guest.h"
 #include "processor.h"
 #include "tables.h"
 #include "text.h"
 
 SYSTEM_REGISTER(cnthctl_el2)
-SYSTEM_REGISTER(cntvoff_el2)
-SYSTEM_REGISTER(hstr_el2)
-SYSTEM_REGISTER(vpidr_el2)
-SYSTEM_REGISTER(vmpidr_el2)
-SYSTEM_REGISTER(midr_el1)
-SYSTEM_REGISTER(mpidr_el1)
-SYSTEM_REGISTER(icc_sre_el2)
-SYSTEM_REGISTER(ich_hcr_el2)
-SYSTEM_REGISTER(icc_pmr_el1)
-SYSTEM_REGISTER(cntv_ctl_el0)
-SYSTEM_REGISTER(cntv_cval_el0)
-SYSTEM_REGISTER(cntp_ctl_el0)
-SYSTEM_REGISTER(cntp_cval_el0)
 
 /* The fields of registers are those of DDI 0487, under the register's name.
  *
@@ -35,27 +23,12 @@ SYSTEM_REGISTER(cntp_cval_el0)
 /* CNTHCTL_EL2: EL1 may use the physical counter and timer (EL1PCTEN, EL1PCEN), or nothing of them. */
 #define COUNTERS 3
 
-/* ICC_SRE_EL2: system registers are the way to the interrupt controller (SRE, DFB, DIB), also for EL1 (Enable). */
-#define INTERRUPTS_BY_REGISTERS 15
-
-/* Timers and interrupts are Linux's alone, and nobody's while a partition runs: what is due then waits until Linux runs again, as the
- * core has no state for a partition that was interrupted. */
-static struct {
-    uint64_t virtual_control, virtual_value, physical_control, physical_value, priority;
-} of_linux;
-
-/* Whether the processor is Linux's now. */
+/* Whether the processor is Linux's now; else what is put aside of it. */
 static bool is_linux;
+static struct timers of_linux;
 
 static void suspend_linux(void) {
-    of_linux.virtual_control = read_cntv_ctl_el0();
-    of_linux.virtual_value = read_cntv_cval_el0();
-    of_linux.physical_control = read_cntp_ctl_el0();
-    of_linux.physical_value = read_cntp_cval_el0();
-    of_linux.priority = read_icc_pmr_el1();
-    write_cntv_ctl_el0(0);
-    write_cntp_ctl_el0(0);
-    write_icc_pmr_el1(0);
+    put_aside(&of_linux);
     write_cnthctl_el2(0);
     write_hcr_el2(PARTITION_HCR);
     is_linux = false;
@@ -64,23 +37,12 @@ static void suspend_linux(void) {
 static void resume_linux(void) {
     write_hcr_el2(LINUX_HCR);
     write_cnthctl_el2(COUNTERS);
-    write_cntv_cval_el0(of_linux.virtual_value);
-    write_cntv_ctl_el0(of_linux.virtual_control);
-    write_cntp_cval_el0(of_linux.physical_value);
-    write_cntp_ctl_el0(of_linux.physical_control);
-    write_icc_pmr_el1(of_linux.priority);
+    put_back(&of_linux);
     is_linux = true;
 }
 
 void begin_guests(struct board *board) {
-    begin_tables(PARTITION_HCR);
-    write_vpidr_el2(read_midr_el1());
-    write_vmpidr_el2(read_mpidr_el1());
-    write_hstr_el2(0);
-    write_cntvoff_el2(0);
-    write_icc_sre_el2(INTERRUPTS_BY_REGISTERS);
-    DO("isb");
-    write_ich_hcr_el2(0);
+    begin_el2(PARTITION_HCR);
     board->endpoints[0].context.system[AT_sctlr_el1] = LINUX_SCTLR;
     load_system(&running(board)->context);
 }

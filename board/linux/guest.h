@@ -31,6 +31,7 @@ bool serve_device(struct context *context, uint64_t syndrome, uint64_t address);
  * what it wrote to RX. */
 void record_call(struct board *board, const struct gorseplumb_registers *registers);
 void record_answer(struct board *board, const struct gorseplumb_registers *registers, const struct gorseplumb_outcome *outcome);
+void record_store(uint64_t address, unsigned size, uint64_t value);
 
 /* A line of the firmware's own begins: it ends the line of Linux's that is open. */
 void begin_line(void);

@@ -53,13 +53,15 @@ static uint64_t read_by(struct board *board, const uint64_t *x, const struct buf
     return reads_descriptor(function) && (uint32_t)x[1] <= of->bytes ? (uint32_t)x[1] : 0;
 }
 
+void record_store(uint64_t address, unsigned size, uint64_t value) {
+    struct operation operation = {.kind = STORE, .address = address, .size = size, .value = value};
+    if (!RECORD) return;
+    put_operation(&operation);
+    put_done();
+}
+
 static void put_stores(struct board *board, uint64_t address, uint64_t bytes) {
-    for (uint64_t at = 0; at < bytes; at += 8) {
-        uint64_t word = word_at(board, address + at);
-        struct operation operation = {.kind = STORE, .address = address + at, .size = 8, .value = word};
-        put_operation(&operation);
-        put_done();
-    }
+    for (uint64_t at = 0; at < bytes; at += 8) record_store(address + at, 8, word_at(board, address + at));
 }
 
 static void put_loads(struct board *board, uint64_t address, uint64_t bytes) {

@@ -6,11 +6,13 @@ set -euo pipefail
 me=board/linux
 . "$(dirname "${BASH_SOURCE[0]}")/../common.sh"
 here=$board/linux
+. "$here/common.sh"
 packages=(qemu-system-arm gcc-aarch64-linux-gnu binutils-aarch64-linux-gnu device-tree-compiler)
 flags+=("-I$here")
 
-# Where QEMU puts images, each in pages of its endpoint: RAM of the machine is 40000000 to 43FFFFFF, and Linux has 40200000 to 43DFFFFF.
-image_at=40200000 initramfs_at=43C00000 tree_at=43D80000 first_at=43E00000 second_at=43F00000 third_at=43F80000
+# Where QEMU puts images, each in pages of its endpoint: RAM of the machine is 40000000 to 43FFFFFF, and Linux has 40200000 to 43DFFFFF. It has the
+# part of the interrupt controller that is one processor's.
+image_at=40200000 memory_bytes=3C00000 redistributors=20000 initramfs_at=43C00000 tree_at=43D80000 first_at=43E00000 second_at=43F00000 third_at=43F80000
 
 usage() {
     cat <<'HELP'
@@ -66,32 +68,11 @@ if [[ $limits ]]; then
 fi
 flags=("-I$repository/c" "${flags[@]}")
 
-# What the core has room for, by its name in limits.rt.
-limit_of() { sed -n "s/^pub const $1: .* = \([0-9]*\);.*/\1/p" "$repository/crates/ffa_model/src/limits.rt"; }
-ranges=$(limit_of MOST_RANGES)
-
-build_partition() {
-    $compiler "${flags[@]}" "${program_flags[@]}" -T "$here/partition/partition.ld" "$here"/partition/*.c "$here/partition/start.S" "$top/c/bytes.c" -o "$to/partition.elf"
-    $copier -O binary "$to/partition.elf" "$to/partition"
-}
-
 # A firmware: what is here, and of the board's what is the same for both: build NAME DEFINITION..
 build() {
-    local shared=(boot call endpoint exception memory operation tables text) name=$1
+    local name=$1
     shift
-    shared=("${shared[@]/#/$board/}")
-    $compiler "${flags[@]}" -O2 "$@" -Wl,--no-warn-rwx-segments -T "$board/board.ld" "$here"/*.c "${shared[@]/%/.c}" "$board/start.S" "$top"/c/{array,bytes,settle}.c \
-        "$archive" -o "$to/$name.elf"
-}
-
-size_of() { stat -L -c %s "$1"; }
-
-# The device tree: build_tree CONDUIT PROCESSORS WORD.., of which the first is the instruction by which Linux calls, and the last are for the driver
-build_tree() {
-    local end=$((16#$initramfs_at + $(size_of "$linux/initramfs"))) others='' words="ffa_try.ranges=$ranges ffa_try.open=$(limit_of MOST_OPEN)"
-    if (($2 == 2)); then others='cpu@1 { device_type = "cpu"; compatible = "arm,cortex-a57"; enable-method = "psci"; reg = <1>; };'; fi
-    sed -e "s/= CONDUIT/= \"$1\"/" -e "s/ARGUMENTS;/\"earlycon console=ttyAMA0 panic=-1 $words ${*:3}\";/" -e "s/^ *OTHERS$/$others/" \
-        -e "s/<0 INITRD_BEGIN>/<0 0x$initramfs_at>/" -e "s/<0 INITRD_END>/<0 $end>/" "$here/linux.dts" | dtc -q -O dtb -o "$to/tree"
+    $compiler "${flags[@]}" -O2 "$@" -Wl,--no-warn-rwx-segments -T "$board/board.ld" "$here"/*.c "${shared[@]}" "$board/own_table.S" "$archive" -o "$to/$name.elf"
 }
 
 # Where each endpoint begins, and what x0 tells it there: Linux is told of the device tree.
@@ -111,7 +92,7 @@ run() {
         loader "$to/tree" $tree_at
         for at in $first_at $second_at $third_at; do loader "$to/partition" $at; done
     )
-    emulate "$firmware" -machine virt,virtualization=on,gic-version=3 -m 256M "$@" "${devices[@]}"
+    emulate -kernel "$to/$firmware.elf" -machine virt,virtualization=on,gic-version=3 -m 256M "$@" "${devices[@]}"
     emulated=$SECONDS
     tr -d '\r' <"$to/uart" | sed -E '/^[><] /d' >"$to/linux"
     "$player" run "$to/manifest" "$to/trace" >"$to/expected" || fail "$name: the program doesn't play what Linux did"
@@ -123,14 +104,6 @@ keep_run() {
     local kind
     "$player" run --explain --names "$to/manifest" "$to/trace" >"$to/explained"
     for kind in uart linux trace found expected explained; do cp "$to/$kind" "$keep/$1.$kind"; done
-}
-
-# The lines of expected.txt that Linux has to say and doesn't: missing SECTION.. RANGES there are as many as a transaction may have, and MORE one more.
-missing() {
-    local line
-    awk -v sections=" $* " '/^\[/ { on = index(sections, " " substr($0, 2, length($0) - 2) " "); next } on && !/^(#|$)/' "$here/expected.txt" |
-        sed -e "s/RANGES/$ranges/" -e "s/MORE/$((ranges + 1))/" |
-        while IFS= read -r line; do grep -qF -- "$line" "$to/linux" || echo "$line"; done
 }
 
 # Judges what was run: judge NAME SECTION.., of expected.txt
@@ -182,7 +155,7 @@ try_random() {
 
 # All that is run of the kernel of the kind 4k.
 run_all() {
-    local all=(linux driver 6.12) conduit
+    local all=(linux driver held 6.12) conduit
     build notify -DNOTIFY=1
     for conduit in smc hvc; do
         build_tree $conduit 1
@@ -202,16 +175,16 @@ run_all() {
 run_long() {
     local limit=3000
     build_tree smc 1 ffa_try.rounds=50000 ffa_try.pieces=1
-    try long plain cortex-a57 linux driver 6.12 no-interrupt
+    try long plain cortex-a57 linux driver held 6.12 no-interrupt
     grep -o 'note: 50000 rounds.*' "$to/linux"
-    try_random plain cortex-a57 linux driver 6.12
+    try_random plain cortex-a57 linux driver held 6.12
 }
 
 # What is run of another: run_other PROCESSOR SECTION
 run_other() {
     build_tree smc 1
-    try "$kernel" plain "$1" linux driver "$2"
-    try_random plain "$1" linux driver "$2"
+    try "$kernel" plain "$1" linux driver held "$2"
+    try_random plain "$1" linux driver held "$2"
 }
 
 "$here/kernel" ${install:+--install} --jobs "$jobs" "$kernel" "$work"

@@ -52,6 +52,13 @@ static const char *arguments_of_driver(void) {
     return words;
 }
 
+/* A place that the driver's words name, or else this one. */
+static off_t place_of(const char *name, off_t otherwise) {
+    const char *at = arguments_of_driver();
+    while (*at != '\0' && strncmp(at, name, strlen(name)) != 0) at++;
+    return *at == '\0' ? otherwise : (off_t)strtoul(at + strlen(name), NULL, 16);
+}
+
 static void tell_memory(void) {
     struct sysinfo info;
     long result = syscall(__NR_sysinfo, &info);
@@ -115,8 +122,8 @@ static void reach(const char *what, off_t at) {
 static void use_partitions(bool has_core) {
     bool has_tee = load("/tee.ko", ""), has_services = load("/arm-tstee.ko", "");
     if (has_services) use_service();
-    reach("a partition's page has SIGBUS", 0x43E00000);
-    reach("a table of the core has SIGBUS", 0x40000000);
+    reach("a partition's page has SIGBUS", place_of("partition_at=", 0x43E00000));
+    reach("a table of the core has SIGBUS", place_of("table_at=", 0x40000000));
     load("/optee.ko", "");
     load("/ffa_try.ko", arguments_of_driver());
     unload("ffa_try");

@@ -1,0 +1,31 @@
+# SPDX-License-Identifier: MIT OR Apache-2.0
+# What run.sh and secure/run.sh have in common where Linux is the normal world. Who reads this in has read in ../common.sh, and has the folder of a
+# kernel, `linux`, and what linux.dts wants to know: `image_at`, with which Linux's memory begins, `memory_bytes`, `initramfs_at`, `redistributors`.
+
+# What the core has room for, by its name in limits.rt.
+limit_of() { sed -n "s/^pub const $1: .* = \([0-9]*\);.*/\1/p" "${repository:-$top}/crates/ffa_model/src/limits.rt"; }
+
+build_partition() {
+    local of=$board/linux/partition
+    $compiler "${flags[@]}" "${program_flags[@]}" -T "$of/partition.ld" "$of"/*.c "$of/start.S" "$top/c/bytes.c" -o "$to/partition.elf"
+    $copier -O binary "$to/partition.elf" "$to/partition"
+}
+
+# The device tree: build_tree CONDUIT PROCESSORS WORD.., of which the first is the instruction by which Linux calls, and the last are for the driver
+build_tree() {
+    local end others='' words="ffa_try.ranges=$(limit_of MOST_RANGES) ffa_try.open=$(limit_of MOST_OPEN)"
+    end=$((16#$initramfs_at + $(stat -L -c %s "$linux/initramfs")))
+    if (($2 == 2)); then others='cpu@1 { device_type = "cpu"; compatible = "arm,cortex-a57"; enable-method = "psci"; reg = <1>; };'; fi
+    sed -e "s/= CONDUIT/= \"$1\"/" -e "s/ARGUMENTS;/\"earlycon console=ttyAMA0 panic=-1 $words ${*:3}\";/" -e "s/^ *OTHERS$/$others/" \
+        -e "s/<0 INITRD_BEGIN>/<0 0x$initramfs_at>/" -e "s/<0 INITRD_END>/<0 $end>/" -e "s/MEMORY_BEGIN/$image_at/" -e "s/MEMORY_BYTES/$memory_bytes/" \
+        -e "s/REDISTRIBUTORS/$redistributors/" "$board/linux/linux.dts" | dtc -q -O dtb -o "$to/tree"
+}
+
+# The lines of expected.txt that Linux has to say and doesn't: missing SECTION.. RANGES there are as many as a transaction may have, and MORE one more.
+missing() {
+    local line ranges
+    ranges=$(limit_of MOST_RANGES)
+    awk -v sections=" $* " '/^\[/ { on = index(sections, " " substr($0, 2, length($0) - 2) " "); next } on && !/^(#|$)/' "$board/linux/expected.txt" |
+        sed -e "s/RANGES/$ranges/" -e "s/MORE/$((ranges + 1))/" |
+        while IFS= read -r line; do grep -qF -- "$line" "$to/linux" || echo "$line"; done
+}

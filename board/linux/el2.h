@@ -1,0 +1,19 @@
+/* SPDX-License-Identifier: MIT OR Apache-2.0 */
+/* EL2's registers for guests: endpoints of which one at a time runs, and of which the normal world alone has timers and interrupts. */
+#ifndef BOARD_LINUX_EL2_H
+#define BOARD_LINUX_EL2_H
+
+#include <stdint.h>
+
+/* Makes a processor ready for guests, with this HCR_EL2. */
+void begin_el2(uint64_t hcr);
+
+/* The timers of EL1, and the priority above which interrupts come. While a partition runs no timer rings, and nothing comes: what is due of
+ * the normal world waits until that runs again, as the core has no state for a partition that was interrupted. */
+struct timers {
+    uint64_t virtual_control, virtual_value, physical_control, physical_value, priority;
+};
+void put_aside(struct timers *of);
+void put_back(const struct timers *of);
+
+#endif
