@@ -9,7 +9,7 @@ AGAINST =
 # The crates whose wrong bodies `wrong` tries; all where none is named.
 CRATES =
 
-.PHONY: test quick gate prove wrong c rust python board linux docs page bench
+.PHONY: test quick gate prove wrong c rust python board linux secure docs page bench
 
 # All tests over unproved builds, side by side, from a fresh clone in minutes: it proves nothing.
 test:
@@ -53,6 +53,10 @@ board:
 # Runs Linux as the normal world of the core, under QEMU.
 linux:
 	board/linux/run.sh
+
+# Runs the core as the manager of the secure world that TF-A boots, under QEMU.
+secure:
+	board/secure/run.sh
 
 # Compares the pages and licence lines with the code, what other languages have of its tables, each list of calls with the definitions'
 # table, C's names with the crates', the manual's lists of checks with the definitions, and its pictures with what the program draws; and

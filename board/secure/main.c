@@ -1,0 +1,36 @@
+/* SPDX-License-Identifier: MIT OR Apache-2.0 */
+/* The firmware's entries, for the processor that TF-A boots on and for another that the normal world turns on. */
+#include "calls.h"
+#include "guest.h"
+#include "secure.h"
+#include "text.h"
+
+void firmware(void);
+void second_processor(void);
+
+static struct board board;
+
+/* Each partition runs once before the normal world does, for what it has to do at its start: by a call in the name of that. */
+static void run_first(void) {
+    for (uint32_t i = 1; i < board.count; i++) {
+        uint64_t x[8] = {FFA_RUN, (uint64_t)identifier_of(i) << 16};
+        serve_call_of_normal_world(&board, x);
+        if ((uint32_t)x[0] != FFA_MSG_WAIT) stop("a partition doesn't come to wait");
+    }
+}
+
+void firmware(void) {
+    boot(&board, manifest_text, gorseplumb_boot_held);
+    place_endpoints(&board, endpoint_list);
+    begin_partitions();
+    run_first();
+    put_text("# the core is the manager, and has endpoints: ");
+    put_decimal(board.count);
+    put_text("\n");
+    serve_normal_world(&board, true);
+}
+
+void second_processor(void) {
+    begin_partitions();
+    serve_normal_world(&board, false);
+}

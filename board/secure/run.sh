@@ -1,0 +1,220 @@
+#!/usr/bin/env bash
+# SPDX-License-Identifier: MIT OR Apache-2.0
+# Builds TF-A out of Debian's source, the core's firmware as its manager of the secure world, and a program or Linux as the normal world, has QEMU boot
+# them, and compares each answer of the core with what the program ffaplay prints. With --help it says more.
+set -euo pipefail
+me=board/secure
+. "$(dirname "${BASH_SOURCE[0]}")/../common.sh"
+. "$board/linux/common.sh"
+here=$board/secure
+packages=(qemu-system-arm gcc-aarch64-linux-gnu binutils-aarch64-linux-gnu device-tree-compiler)
+all=(plain version two tsp linux)
+
+# Of the machine's RAM, 48000000 to 4BFFFFFF, the first 8 MiB are the secure world's. Linux has the rest.
+first_at=48100000 second_at=48200000 third_at=48300000
+image_at=48800000 memory_bytes=3800000 initramfs_at=4BC00000 tree_at=4BD80000 redistributors=40000
+
+usage() {
+    cat <<'HELP'
+board/secure/run.sh [--install] [--work FOLDER] [--keep FOLDER] [--jobs N] [RUN..]
+
+  --install      installs Debian's packages for it first
+  --work FOLDER  has sources and what is built of them; what stands there is built once. /tmp/gorseplumb-secure where nothing is given
+  --keep FOLDER  leaves what each run printed in this folder: NAME.uart, which is what TF-A, the normal world and TSP print, NAME.core, which is what the
+                 firmware prints, and NAME.trace, .found and .expected
+  --jobs N       how many processors a build has
+
+Runs, of which all but the last are done where none is named:
+
+  plain    TF-A with nothing changed: a program calls three partitions through the dispatcher, which says version 1.0
+  version  the dispatcher asks the core for the version, which is 1.1
+  two      as version, with two processors, each of which calls
+  tsp      TF-A's own test partition (TSP) as the one partition
+  linux    Linux as the normal world, on one processor; and on two, with clients at random
+  measure  instructions of calls to three partitions, and to TSP
+
+It ends with 0 and `passed`, with 1 and what is missing or differs, or with 64 where the words are none of these.
+HELP
+}
+
+install='' work=${TMPDIR:-/tmp}/gorseplumb-secure keep='' jobs=$(nproc) runs=()
+while (($#)); do
+    case $1 in
+        --install) install=yes ;;
+        --work | --keep | --jobs)
+            [[ ${2:-} ]] || refuse "$1 needs a word behind it"
+            declare "${1#--}=$2"
+            shift
+            ;;
+        plain | version | two | tsp | linux | measure) runs+=("$1") ;;
+        --help) usage && exit 0 ;;
+        *) refuse "there is no $1" ;;
+    esac
+    shift
+done
+((${#runs[@]})) || runs=("${all[@]}")
+if [[ $install ]]; then install_packages "${packages[@]}"; fi
+needs "${packages[*]}" $compiler $copier $emulator dtc
+mkdir -p "$work" ${keep:+"$keep"}
+work=$(cd "$work" && pwd)
+to=$(mktemp -d)
+trap 'rm -rf "$to"' EXIT
+linux=$work/linux/4k
+
+# (the firmware prints to the line that the secure world has for itself, and has less memory than another board's)
+flags+=("-I$board/linux" "-I$board/linux/partition" "-I$here")
+secure_flags=(-DSECURE=1 -DRAM_BASE=0x48000000 -DSECURE_BYTES=0x800000 -DFIRMWARE_BASE=0x0E100000 -DUART_BASE=0x09040000
+    -UGORSEPLUMB_ARRAY_BYTES -DGORSEPLUMB_ARRAY_BYTES=0x400000 -Wl,--defsym=FIRMWARE_BASE=0x0E100000 -Wl,--defsym=FIRMWARE_END=0x0F000000)
+
+# The firmware, which TF-A calls BL32, with the manifest and the list of endpoints in it: build_firmware DEFINITION..
+build_firmware() {
+    local of_linux=(access el2 place record tell)
+    of_linux=("${of_linux[@]/#/$board/linux/}")
+    $compiler "${flags[@]}" "${secure_flags[@]}" -O2 "$@" -Wl,--no-warn-rwx-segments -Wa,-I"$to" -T "$board/board.ld" "$here"/*.c "$here"/*.S \
+        "${of_linux[@]/%/.c}" "${shared[@]}" "$archive" -o "$to/bl32.elf"
+    $copier -O binary "$to/bl32.elf" "$to/bl32.bin"
+}
+
+# The normal world's first program, BL33: build_normal DEFINITION.., and build_linux for one that begins Linux
+build_normal() {
+    $compiler "${flags[@]}" "${program_flags[@]}" -fno-pie "$@" -Wl,--no-warn-rwx-segments -T "$here/normal/normal.ld" "$here"/normal/*.c "$here/normal/start.S" \
+        "$board/text.c" "$top/c/bytes.c" -o "$to/bl33.elf"
+    $copier -O binary "$to/bl33.elf" "$to/bl33.bin"
+}
+
+build_linux() {
+    $compiler "${flags[@]}" -DLINUX_IMAGE=0x$image_at -DLINUX_TREE=0x$tree_at -T "$here/normal/normal.ld" "$here/normal/linux.S" -o "$to/bl33.elf"
+    $copier -O binary "$to/bl33.elf" "$to/bl33.bin"
+}
+
+# Where each endpoint begins: the normal world where TF-A loads BL33.
+list_endpoints() { printf '%s %s 0\n' 0 60000000 "$@" >"$to/list"; }
+
+with_three_partitions() {
+    cp "$here/secure.toml" "$to/manifest"
+    list_endpoints 8001 $first_at 8002 $second_at 8003 $third_at
+    images=()
+    for at in $first_at $second_at $third_at; do add_image "$to/partition" $at; done
+}
+
+with_tsp() {
+    "$here/tf-a" ${install:+--install} --jobs "$jobs" tsp "$work/tf-a"
+    cp "$here/tsp.toml" "$to/manifest"
+    list_endpoints 8001 $first_at
+    images=()
+    add_image "$work/tf-a/tsp/bl32.bin" $first_at
+}
+
+# QEMU puts a file into RAM: add_image FILE ADDRESS
+add_image() {
+    local words
+    mapfile -t words < <(loader "$1" "$2")
+    images+=("${words[@]}")
+}
+
+# Boots TF-A of a kind, and all of $to that it loads, which is by its name in QEMU's folder: boot KIND NAME WORD.., of which the words are QEMU's
+boot() {
+    local kind=$1 name=$2
+    shift 2
+    "$here/tf-a" ${install:+--install} --jobs "$jobs" "$kind" "$work/tf-a"
+    cp "$work/tf-a/$kind"/bl*.bin "$to"
+    : >"$to/core"
+    SECONDS=0
+    emulate -machine virt,secure=on,virtualization=on,gic-version=3 -cpu "$processor" -m 1024 -semihosting-config enable=on,target=native -bios bl1.bin \
+        "$@" "${images[@]}" -serial file:core
+    emulated=$SECONDS
+    tr -d '\r' <"$to/uart" >"$to/linux"
+    part "$to/core"
+    "$player" run "$to/manifest" "$to/trace" >"$to/expected" || fail "$name: the program doesn't play what was done"
+    if [[ $keep ]]; then for kind in uart core trace found expected; do cp "$to/$kind" "$keep/$name.$kind"; done; fi
+}
+
+# Judges a run: judge NAME
+judge() {
+    if ! cmp -s "$to/expected" "$to/found"; then
+        { diff "$to/expected" "$to/found" || true; } | sed -n 1,10p >&2
+        fail "$1: the core answered otherwise than the program (< the program, > the core)"
+    fi
+    if grep '^!' "$to/core" "$to/uart" >&2; then fail "$1: the board stopped"; fi
+    echo "$1: $(grep -c '^call' "$to/trace") calls as the program prints them, $(grep -cE '^(ok:|.*ffa_try: ok)' "$to/linux") things that the normal world tried, $emulated s"
+}
+
+# The program as the normal world: try_program NAME KIND WORD.., of which the words are QEMU's
+try_program() {
+    boot "$2" "$1" "${@:3}"
+    judge "$1"
+    grep -qx '= end' "$to/linux" || { tail -n 20 "$to/linux" >&2; fail "$1: the normal world didn't come to its end"; }
+    if grep '^FAILED' "$to/linux" >&2; then fail "$1: something that the normal world tried came out otherwise"; fi
+    sed -n 's/^normal: FFA_VERSION/the dispatcher answers FFA_VERSION/p; s/^note: //p' "$to/linux"
+}
+
+# Linux as the normal world. What it says FAILED is in expected.txt, as nothing holds it to its table: try_linux NAME PROCESSORS "SECTION.." WORD.., of
+# which the words are for its driver
+try_linux() {
+    local lacks
+    build_tree smc "$2" ffa_try.table_at=0x48000000 ffa_try.partition_at=0x$first_at ffa_try.firmware_at=0x0E100000 ffa_try.device_at=0x09040000 "${@:4}"
+    with_three_partitions
+    add_image "$linux/Image" $image_at
+    add_image "$linux/initramfs" $initramfs_at
+    add_image "$to/tree" $tree_at
+    boot version "$1" -smp "$2"
+    judge "$1"
+    lacks=$(missing linux driver 6.12 beside "$3")
+    [[ -z $lacks ]] || { tail -n 30 "$to/linux" >&2; fail "$1: Linux doesn't say: $lacks"; }
+    (($(grep -c FAILED "$to/linux") == $(grep -c FAILED "$board/linux/expected.txt"))) || fail "$1: $(grep FAILED "$to/linux")"
+    grep -o 'random: [0-9].*' "$to/linux" || true
+}
+
+# What takes how many instructions, with nothing printed of calls: measure NAME
+measure() {
+    boot version "$1" -icount shift=0,sleep=off
+    paste -d ' ' <(sed -n 's/^measured: /  /p' "$to/linux") <(sed -n 's/^measured: /(/p' "$to/core" | sed 's/$/)/') | grep . || fail "$1: nothing was measured"
+}
+
+make_archive "$top"
+[[ -n ${FFAPLAY:-} ]] || "$top/ffaplay" prove
+processor=max
+build_partition
+for run in "${runs[@]}"; do
+    case $run in
+        plain | version)
+            with_three_partitions
+            build_firmware
+            build_normal
+            try_program "$run" "$run"
+            ;;
+        two)
+            with_three_partitions
+            build_firmware
+            build_normal -DTWO=1
+            try_program two version -smp 2 -accel tcg,thread=multi
+            ;;
+        tsp)
+            with_tsp
+            build_firmware -DFOR_TSP=1
+            build_normal -DOF_TSP=1
+            try_program tsp version
+            ;;
+        linux)
+            "$board/linux/kernel" ${install:+--install} --jobs "$jobs" 4k "$work/linux"
+            processor=max,sve=off,sme=off
+            with_three_partitions
+            build_firmware
+            build_linux
+            try_linux linux 1 no-interrupt
+            try_linux linux-two 2 "two-beside random" ffa_try.random=500
+            processor=max
+            ;;
+        measure)
+            with_three_partitions
+            build_firmware -DRECORD=0 -DMEASURE=1
+            build_normal -DMEASURE=1
+            measure "three partitions"
+            with_tsp
+            build_firmware -DRECORD=0 -DMEASURE=1 -DFOR_TSP=1
+            build_normal -DMEASURE=1 -DOF_TSP=1
+            measure TSP
+            ;;
+    esac
+done
+echo passed

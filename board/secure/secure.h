@@ -1,0 +1,38 @@
+/* SPDX-License-Identifier: MIT OR Apache-2.0 */
+/* The core as the manager of the secure world that TF-A boots: the firmware is at S-EL2, partitions are at S-EL1, and the normal world is behind
+ * TF-A's dispatcher at EL3. What board/ and board/linux have of the processor and of the core's answers is used as it is. */
+#ifndef BOARD_SECURE_SECURE_H
+#define BOARD_SECURE_SECURE_H
+
+#include "board.h"
+
+/* In the image: the manifest, and the list of endpoints as place.c of board/linux wants it. */
+extern const char manifest_text[], endpoint_list[];
+
+/* Makes this processor ready for partitions. */
+void begin_partitions(void);
+
+/* A call of the normal world, x0 to x7, is served, whichever of its processors makes it, and they are its answer then. Where a partition works
+ * for another processor this one waits: the core, which knows of one, would answer BUSY, and Linux doesn't try again. */
+void serve_call_of_normal_world(struct board *board, uint64_t *x);
+
+/* Gives this processor to the normal world, and serves it from then on. The first one says where others begin. */
+_Noreturn void serve_normal_world(struct board *board, bool first);
+
+/* x0 to x7 go to the dispatcher, with the vector registers of the normal world; then they are its next call. */
+void to_normal_world(struct context *normal_world);
+
+/* What TF-A's test partition asks of its manager and the core doesn't do: a call that is answered beside it, the line to which the partition
+ * prints, and the NS bit in a retrieve's response. Each says whether it was that, and does nothing in a firmware for other partitions. */
+bool serve_beside(struct context *partition);
+bool serve_line(struct context *partition, uint64_t syndrome, uint64_t address);
+void mark_non_secure(const struct gorseplumb_registers *registers, const struct gorseplumb_outcome *outcome);
+
+/* Who has the processor from here on, in a firmware that measures. */
+enum having { NORMAL_WORLD, FIRMWARE, CORE, PARTITION, HAVING };
+void has_processor(enum having next);
+
+/* A call of the normal world's may be one by which that begins to measure, or ends: how long each had it meanwhile is printed. */
+void measure_call(const struct gorseplumb_registers *registers);
+
+#endif
