@@ -154,10 +154,11 @@ impl<'m, S: Stage + Drop> Generator<'m, S> {
         let Some(buffers) = self.buffers() else {
             return;
         };
-        for index in 0..WORDS {
+        let count = length.div_ceil(8) as usize;
+        for index in 0..count.min(WORDS) {
             let word = LittleEndian::read_u64(&page[8 * index..]);
             let address = buffers.tx.address.wrapping_add(8 * index as u64);
-            if 8 * index < length as usize && self.stage.word_at(address) != Some(word) {
+            if self.stage.word_at(address) != Some(word) {
                 self.store(address, Size::B8, word);
             }
         }

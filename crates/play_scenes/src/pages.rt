@@ -55,7 +55,7 @@ impl<'m, S: Stage + Drop> Generator<'m, S> {
                 || has_address(rx, address),
             None => false,
         };
-        if is_used || self.offers.have_address(address) || self.stage.owner_of(address) != runner {
+        if self.stage.owner_of(address) != runner || is_used || self.offers.have_address(address) {
             return None;
         }
         Some(rights.level)
