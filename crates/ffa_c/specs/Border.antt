@@ -26,6 +26,7 @@ use Rattle.ffa_laws.specs.Silence.{Silence}
 use Rattle.ffa_laws.specs.Writers.{OnlyWriters}
 use Rattle.ffa_spmc.specs.AccessChange.{IsTelling}
 use Rattle.ffa_spmc.specs.Among.{IsDoneAlone, IsDoneReading, pages_read}
+use Rattle.ffa_spmc.specs.Mixtures.{StayMixed}
 use Rattle.ffa_spmc.specs.Moments.{AreMoments}
 use Rattle.ffa_spmc.specs.Snapshot.{Snapshot}
 use Rattle.ffa_spmc.specs.Unowned.{KeepsUnowned}
@@ -73,6 +74,7 @@ pub record HasDone (old new : Snapshot) (op : Op) (told : COutcome) : Type 0 whe
   pub refused : is_refusal (step old.state op).outcome ≡ true → new ≡ old
   pub unowned : KeepsUnowned old.state old.ram new.ram
   pub moments : AreMoments old.state old.ram new.ram old.past new.past
+  pub mixtures : StayMixed old.state old.ram new.ram old.past new.past
   pub telling : IsTelling op old.state new.state old.told new.told
   pub sound : IsSoundState new.state
   pub alone : OneStep old.state op

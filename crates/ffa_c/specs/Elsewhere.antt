@@ -11,6 +11,7 @@ use Rattle.ffa_model.specs.declared.operation.Size.{Size}
 use Rattle.ffa_laws.specs.Elsewhere.{ConfidentialAs, IntegrityAs, OneStepAs, OnlyWritersAs, OwnAccessAs, SilenceAs}
 use Rattle.ffa_laws.specs.Isolation.{NeverGrow}
 use Rattle.ffa_spmc.specs.AccessChange.{IsTelling}
+use Rattle.ffa_spmc.specs.Mixtures.{StayMixed}
 use Rattle.ffa_spmc.specs.Moments.{AreMoments}
 use Rattle.ffa_spmc.specs.Snapshot.{Snapshot}
 use Rattle.ffa_spmc.specs.Unowned.{KeepsUnowned}
@@ -26,6 +27,7 @@ pub record HasActed (old new : Snapshot) (e : ℕ) (op : Op) (told : COutcome) :
   pub refused : is_refusal (step_as old.state e op).outcome ≡ true → new ≡ old
   pub unowned : KeepsUnowned old.state old.ram new.ram
   pub moments : AreMoments old.state old.ram new.ram old.past new.past
+  pub mixtures : StayMixed old.state old.ram new.ram old.past new.past
   pub telling : IsTelling op old.state new.state old.told new.told
   pub sound : IsSoundState new.state
   pub alone : OneStepAs old.state e op

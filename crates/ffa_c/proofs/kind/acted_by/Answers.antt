@@ -12,6 +12,7 @@ returns g c = record {
   refused = λ r. c.op_as.ensures.refused (ap is_refusal c.op_as.ensures.outcome ∙ r);
   unowned = c.op_as.ensures.unowned;
   moments = c.op_as.ensures.moments;
+  mixtures = c.op_as.ensures.mixtures;
   telling = c.op_as.ensures.telling;
   sound = c.op_as.ensures.sound;
   alone = c.op_as.ensures.step;

@@ -12,6 +12,7 @@ returns g c = record {
   refused = λ r. c.op.ensures.refused (ap is_refusal c.op.ensures.outcome ∙ r);
   unowned = c.op.ensures.unowned;
   moments = c.op.ensures.moments;
+  mixtures = c.op.ensures.mixtures;
   telling = c.op.ensures.telling;
   sound = c.op.ensures.sound;
   alone = c.op.ensures.step;
