@@ -5,7 +5,8 @@ use Rattle.std.specs.Prelude.{◌==◌, not, codes, if◌then◌else◌}
 use Rattle.std.proofs.lemmas.Bool.{cases_Bool, cases_lt, eqb-true, lt-ltb, le-ltb, ne_eqb}
 use Rattle.std.proofs.lemmas.Bool.Decides.{nat_tests}
 use Rattle.play_syntax.specs.TraceText.{digit, hex}
-use Rattle.play_page.specs.Escapes.{escaped, has_meaning, is_bare, is_printed}
+use Rattle.play_drawing.specs.Escapes.{is_printed}
+use Rattle.play_page.specs.Escapes.{escaped, has_meaning, is_bare}
 
 from_numbers : (byte : ℕ) → (byte == 34) ≡ false → (byte == 38) ≡ false → (byte == 39) ≡ false → (byte == 60) ≡ false → (byte == 62) ≡ false → not (has_meaning byte) ≡ true
 from_numbers byte quote and single less more = rw (quote, and, single, less, more) refl

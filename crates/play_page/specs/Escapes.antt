@@ -1,16 +1,13 @@
 -- SPDX-License-Identifier: MIT OR Apache-2.0
 -- Bytes as text of JSON that stands in HTML.
-use Rattle.std.specs.Prelude.{ℕ, ◌==◌, Bool, not, ◌&&◌, ◌||◌, nat_le, List, [], ◌∷◌, ◌++◌, codes, if◌then◌else◌}
+use Rattle.std.specs.Prelude.{ℕ, ◌==◌, Bool, not, ◌||◌, List, [], ◌∷◌, ◌++◌, codes, if◌then◌else◌}
 use Rattle.std.specs.List.{list_all}
 use Rattle.play_syntax.specs.TraceText.{hex}
+use Rattle.play_drawing.specs.Escapes.{is_printed}
 
 -- what has a meaning in HTML, or ends a text of JSON: `"`, `&`, `'`, `<` and `>`
 abbrev pub has_meaning : ℕ → Bool
 has_meaning byte = byte == 34 || (byte == 38 || (byte == 39 || (byte == 60 || byte == 62)))
-
--- a printed character of ASCII
-abbrev pub is_printed : ℕ → Bool
-is_printed byte = nat_le 32 byte && nat_le byte 126
 
 -- a byte between the quotes of a text of JSON: what has a meaning is a character by its number, and a byte that isn't a
 -- printed character of ASCII the four characters `\xNN`

@@ -28,11 +28,12 @@ module _ (start mid now : State) (lines : List (List ℕ)) (bytes : List ℕ) (l
       ap (λ l. option_map_or (reason_if true mid) l []) is
       ∙ ap (λ s. option_map_or (reason_if true s) (line_of bytes) []) at_mid
 
-  pub entries_more : {A : Type 0} (old new : List (Entry A)) → AreEntries start lines old → TellsEntry mid now.runner line bytes old new → AreEntries start (lines ++ bytes ∷ []) new
-  entries_more old new are (entry, told, put) =
+  pub entries_more : {A : Type 0} (old new : List (Entry A)) {own : List ℕ} → AreEntries start lines old → own ≡ bytes → TellsEntry mid now.runner line own old new
+      → AreEntries start (lines ++ bytes ∷ []) new
+  entries_more old new are whole (entry, told, put) =
       subst (AreEntries start (lines ++ bytes ∷ [])) (sym put)
       (one_more lines old bytes entry are (record {
-        line = told.line;
+        line = told.line ∙ whole;
         runner = told.runner ∙ ap (λ (s : State). s.runner) at_now;
         outcome = told.outcome ∙ came;
         text = told.text ∙ said;

@@ -9,6 +9,7 @@ use Rattle.play_syntax.specs.declared.lines.Line.{Line}
 use Rattle.play_syntax.specs.declared.output.PlayError.{PlayError}
 use Rattle.play_syntax.specs.declared.output.PlayError.TheVariants.{Read, Write, NoMemory, BadLine}
 use Rattle.play_syntax.specs.Lines.{meant, outcome_of}
+use Rattle.play_syntax.specs.TraceLines.{line_of}
 use Rattle.play_syntax.specs.TraceText.{line_after}
 use Rattle.play_forms.specs.Followed.{EndsBadly, Followed}
 use Rattle.play_forms.specs.Forms.{line_text_in, plain}
@@ -43,19 +44,26 @@ sees_none keep start had number seen first rows latest = record {
 
 module _ {A : Type 0} {keep : Keep} {start mid : State} {had has : Option (List ℕ)} {lines : List (List ℕ)} {number : ℕ} {seen : Seen A} (sees : Sees keep start mid had has lines number seen)
     (then : Option (List ℕ)) (bytes : List ℕ) where
-  -- once a line more was done
-  pub sees_more : (its next : ℕ) (line : Line) → TakesNext number next has then bytes (Ok (Some (its, line))) → (came : Option Outcome) (now : State) (after : Seen A) → came ≡ outcome_of mid (meant line)
-      → now ≡ line_after mid (meant line) → SeesLine keep its (meant line) bytes came now seen after → Sees keep start now had then (lines ++ bytes ∷ []) next after
-  sees_more its next line (is, more, (read, single, good)) came now after by state saw =
-      let count = is ∙ sees.next in
-      let followed = followed_more plain start mid had has lines sees.text sees.followed its count now then bytes (meant line) _ read single good state refl in
-      let put = saw mid by state sees.latest in record {
-        text = sees.text ++ line_text_in plain its mid (meant line);
-        followed = followed;
-        next = omega (arith, sees.next, more, length-append lines (bytes ∷ []));
-        rows = rows_line keep start mid now lines bytes its (meant line) sees.followed.state followed.state count good seen.rows.items after.rows.items sees.rows put.0;
-        latest = put.1;
-      }
+  -- once a line more was taken and done
+  module _ (next : ℕ) {o : Option (ℕ × Line)} {its : ℕ} {line : Line} (is : o ≡ Some (its, line)) (taken : TakesNext number next has then bytes (Ok o)) where
+    took : TakesNext number next has then bytes (Ok (Some (its, line)))
+    took = subst (λ o. TakesNext number next has then bytes (Ok o)) is taken
+
+    pub line_taken : Some (meant line) ≡ line_of bytes
+    line_taken = took.2.2
+
+    pub sees_more : {came : Option Outcome} {now : State} (after : Seen A) {own : List ℕ} → came ≡ outcome_of mid (meant line) → now ≡ line_after mid (meant line) → own ≡ bytes
+        → SeesLine keep its (meant line) own came now seen after → Sees keep start now had then (lines ++ bytes ∷ []) next after
+    sees_more {came = came} {now = now} after by state whole saw =
+        let count = took.0 ∙ sees.next in
+        let followed = followed_more plain start mid had has lines sees.text sees.followed its count now then bytes (meant line) _ took.2.0 took.2.1 line_taken state refl in
+        let put = subst (λ own. SeesLine keep its (meant line) own came now seen after) whole saw mid by state sees.latest in record {
+          text = sees.text ++ line_text_in plain its mid (meant line);
+          followed = followed;
+          next = omega (arith, sees.next, took.1, length-append lines (bytes ∷ []));
+          rows = rows_line keep start mid now lines bytes its (meant line) sees.followed.state followed.state count line_taken seen.rows.items after.rows.items sees.rows put.0;
+          latest = put.1;
+        }
 
   module _ {X : Type 0} (Makes : State → State → Option (List ℕ) → List (List ℕ) → X → Type 0) where
     -- what is made of the lines, or there is no memory for it

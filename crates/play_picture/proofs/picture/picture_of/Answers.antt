@@ -1,12 +1,9 @@
 -- SPDX-License-Identifier: MIT OR Apache-2.0
-use Rattle.std.proofs.Common.{◌≤◌, ◌<◌, ◌++◌, ◌∷◌, [], Ok, ◌∙◌, ap, length, subst, sym, arith, rules}
+use Rattle.std.proofs.Common.{◌≤◌, ◌<◌, [], ◌∙◌, ap, length, subst, sym, arith, rules}
 use Rattle.std.specs.Io.KnownBytes.{IsAtEnd}
 use Rattle.std.proofs.lemmas.Result.{err_from_is_err_and}
-use Rattle.play_syntax.specs.Lines.{meant}
-use Rattle.play_forms.specs.Reading.{TakesNext}
 use Rattle.play_drawing.specs.Sizes.{most_rows}
 use Rattle.play_picture.specs.Pictured.{Draws}
-use Rattle.play_picture.specs.Steps.{SeesLine}
 use Rattle.play_picture.proofs.Fitting.{one_fits, rows_few, too_large}
 use Rattle.play_picture.proofs.Watches.{sees_more, sees_none, watches_made, watches_untaken}
 use Rattle.play_picture.proofs.picture.picture_of.Goals as goal
@@ -27,30 +24,20 @@ returns-in_err-number g c =
 pub loop-seen-preserved : goal.loop-seen-preserved
 loop-seen-preserved g c =
     let (lines, sees, fits) = c.loop-seen.invariant in
-    let bytes = c.next.new.bytes.items in
-    let taken = subst (λ o. TakesNext c.loop-seen.lines.number c.next.new.self.number (g.R.Read.remaining c.loop-seen.reader) (g.R.Read.remaining c.next.new.reader) bytes (Ok o)) c.in-Some.is c.in_ok-number.ensures in
     let done = c.in_ok-outcome.ensures in
-    let now = c.follow.new.player.state in
-    let saw = subst (λ bytes. SeesLine c.args.keep c.in-Some.number (meant c.in-Some.line) bytes c.in_ok-outcome.outcome now c.loop-seen.seen c.see.new.self) c.deref.ensures.value c.in_ok-see.ensures.seen in
+    let more = sees_more sees _ c.next.new.bytes.items _ c.in-Some.is c.in_ok-number.ensures c.see.new.self done.outcome done.state c.deref.ensures.value c.in_ok-see.ensures.seen in
     let most = c.most_rows-most.ensures ∙ ap most_rows (c.len.ensures ∙ c.see.new.self.latest.ok.0) in
-    let few : length c.see.new.self.rows.items ≤ c.most_rows-most.result = omega (arith, c.if-len-most.false, c.len-in-Some.ensures, c.see.new.self.rows.ok.0) in (
-      lines ++ bytes ∷ [],
-      sees_more sees _ bytes c.in-Some.number _ c.in-Some.line taken c.in_ok-outcome.outcome now c.see.new.self done.outcome done.state saw,
-      subst (λ k. length c.see.new.self.rows.items ≤ k) most few,
-    )
+    let few : length c.see.new.self.rows.items ≤ c.most_rows-most.result = omega (arith, c.if-len-most.false, c.len-in-Some.ensures, c.see.new.self.rows.ok.0) in
+    (_, more, subst (λ k. length c.see.new.self.rows.items ≤ k) most few)
 
 pub returns-then-len-most : goal.returns-then-len-most
 returns-then-len-most g c =
     let (lines, sees, fits) = c.loop-seen.invariant in
-    let bytes = c.next.new.bytes.items in
-    let taken = subst (λ o. TakesNext c.loop-seen.lines.number c.next.new.self.number (g.R.Read.remaining c.loop-seen.reader) (g.R.Read.remaining c.next.new.reader) bytes (Ok o)) c.in-Some.is c.in_ok-number.ensures in
     let done = c.in_ok-outcome.ensures in
-    let now = c.follow.new.player.state in
-    let saw = subst (λ bytes. SeesLine c.args.keep c.in-Some.number (meant c.in-Some.line) bytes c.in_ok-outcome.outcome now c.loop-seen.seen c.see.new.self) c.deref.ensures.value c.in_ok-see.ensures.seen in
-    let more = sees_more sees _ bytes c.in-Some.number _ c.in-Some.line taken c.in_ok-outcome.outcome now c.see.new.self done.outcome done.state saw in
+    let more = sees_more sees _ c.next.new.bytes.items _ c.in-Some.is c.in_ok-number.ensures c.see.new.self done.outcome done.state c.deref.ensures.value c.in_ok-see.ensures.seen in
     let most = c.most_rows-most.ensures ∙ ap most_rows (c.len.ensures ∙ c.see.new.self.latest.ok.0) in
     let over : c.most_rows-most.result < length c.see.new.self.rows.items = omega (arith, c.if-len-most.true, c.len-in-Some.ensures, c.see.new.self.rows.ok.0) in
-    (_, _, _, more.followed, too_large c.args.keep _ now _ c.loop-seen.seen c.see.new.self _ more.rows fits most over c.in_ok-see.ensures.anew)
+    (_, _, _, more.followed, too_large c.args.keep _ _ _ c.loop-seen.seen c.see.new.self _ more.rows fits most over c.in_ok-see.ensures.anew)
 
 pub returns : goal.returns
 returns g c =

@@ -17,7 +17,7 @@ returns-then-not-may_have_row-clause-seen g c = λ mid came state latest.
         λ has.
             c.may_have_row.ensures.none c.if-not-may_have_row.true (certificate mid) (certificate now) (λ still. sym (ap certificate state ∙ kept still))
             (subst (λ r. HasRow c.args.keep c.args.number r (certificate mid) (certificate now)) (sym same) has),
-        refl,
+        refl {a = c.args.self.now.rows.items},
       ),
       still_latest c.args.keep.pace c.args.self.now.latest.items mid now (λ is. ap certificate state ∙ kept (c.may_have_row.ensures.still c.if-not-may_have_row.true is)) latest,
     )
