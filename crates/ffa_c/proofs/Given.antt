@@ -1,6 +1,6 @@
 -- SPDX-License-Identifier: MIT OR Apache-2.0
 -- Numbers are never refused for want of memory.
-use Rattle.std.proofs.Common.{◌≡◌, ◌≢◌, ℕ, Bool, true, false, List, [], ◌∷◌, ◌++◌, Option, None, Some, Result, Ok, Err, take, refl, arith, length}
+use Rattle.std.proofs.Common.{◌≡◌, ◌≢◌, ℕ, Bool, true, false, List, [], ◌∷◌, ◌++◌, Option, None, Some, Result, Ok, Err, take, length}
 use Rattle.std.specs.Prelude.{IfErr, nat_le, if◌then◌else◌}
 use Rattle.std.specs.Option.{option_map}
 use Rattle.ffa_model.specs.declared.endpoint.Endpoint.{Endpoint}
@@ -11,7 +11,7 @@ use Rattle.ffa_manifest.specs.Document.{Parts}
 use Rattle.ffa_manifest.specs.Parts.{Tests, endpoint_tests, first_cause, first_failure, region_tests, tests_of, tests_of_each}
 use Rattle.ffa_manifest.specs.Reading.{◌>>=◌, or_cause}
 use Rattle.ffa_manifest.specs.declared.error.ManifestError.{ManifestError}
-use Rattle.ffa_manifest.specs.declared.error.ManifestError.TheVariants.{NoMemory, Toml, UnknownKey, MissingKey, WrongKind, RamBase, RamBlocks, EndpointCount, Uuid, Property, RegionCount, RegionOutside, RegionOverlap, Version}
+use Rattle.ffa_manifest.specs.declared.error.ManifestError.TheVariants.{NoMemory, WrongKind, EndpointCount, RegionCount, Version}
 use Rattle.ffa_c.specs.declared.manifest.CEndpoint.{CEndpoint}
 use Rattle.ffa_c.specs.declared.manifest.CManifest.{CManifest}
 use Rattle.ffa_c.specs.declared.manifest.CRegion.{CRegion}

@@ -64,7 +64,7 @@ impl Buffers {
     /// # Errors
     ///
     /// `Denied` where the caller has no buffers or its RX isn't full. An error changes nothing.
-    pub fn release(&mut self, caller: EndpointId) -> Result<(), ErrorCode>
+    pub fn rx_release(&mut self, caller: EndpointId) -> Result<(), ErrorCode>
         requires { is_known_among (length self.old) caller.0 ≡ true }
         ensures refusal { result_err result ≡ first_failure (release_guards (buffers_in self.old caller.0)) }
         ensures kept { OnErr result (self.new ≡ self.old) }

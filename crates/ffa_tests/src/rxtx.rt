@@ -28,7 +28,7 @@ fn map_and_unmap(rt: HostRuntime) -> Result<(), Fail> {
         buffers.map(&table, BASE, FIRST, 0x4002_E000, 0x4002_F000, 1),
         Err(ErrorCode::Denied)
     );
-    assert_eq!(rt; buffers.release(FIRST), Err(ErrorCode::Denied));
+    assert_eq!(rt; buffers.rx_release(FIRST), Err(ErrorCode::Denied));
     assert_eq!(rt; buffers.unmap(FIRST, 1), Err(ErrorCode::InvalidParameters));
     assert_eq!(rt; buffers.unmap(FIRST, 0), Ok(()));
     assert_eq!(rt; buffers.unmap(FIRST, 0), Err(ErrorCode::InvalidParameters));
@@ -77,8 +77,8 @@ fn fill_and_release(rt: HostRuntime) -> Result<(), Fail> {
     assert_eq!(rt; buffers.is_full(SECOND), true);
     buffers.fill(&mut ram, SECOND, &[4, 5]);
     assert_eq!(rt; word(&ram, 0x3F, 0), Some(0x0003_0504));
-    assert_eq!(rt; buffers.release(SECOND), Ok(()));
-    assert_eq!(rt; buffers.release(SECOND), Err(ErrorCode::Denied));
+    assert_eq!(rt; buffers.rx_release(SECOND), Ok(()));
+    assert_eq!(rt; buffers.rx_release(SECOND), Err(ErrorCode::Denied));
     assert_eq!(rt; buffers.has(SECOND), true);
     Ok(())
 }

@@ -29,7 +29,7 @@ impl<M: PhysMem + Drop, S: Store> Manager<M, S> {
         ensures { IsReplied self.old self.new (rx_release self.old.state) result }
     {
         let runner = self.kept.chain.runner();
-        done_or_error(self.kept.buffers.release(runner))
+        done_or_error(self.kept.buffers.rx_release(runner))
     }
 
     // FFA_RXTX_MAP of the runner.

@@ -2,7 +2,7 @@
 use Rattle.std.proofs.Common.{rules}
 use Rattle.ffa_model.specs.Buffers.{buffers_in, release_guards}
 use Rattle.ffa_model.proofs.Guards.{answers-code, answers-pass}
-use Rattle.ffa_rxtx.proofs.buffers.Buffers.release.Goals as goal
+use Rattle.ffa_rxtx.proofs.buffers.Buffers.rx_release.Goals as goal
 
 pub returns-in_err-check_release-clause-refusal : goal.returns-in_err-check_release-clause-refusal
 returns-in_err-check_release-clause-refusal c =
