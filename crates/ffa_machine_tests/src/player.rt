@@ -147,7 +147,7 @@ fn refuses_a_line_that_does_not_end(rt: HostRuntime) -> Result<(), Fail> {
         out.as_slice(),
         b"done\ndata 002A\ndata 2A\n".as_slice(),
     );
-    same(&rt, player.machine().endpoints(), 3);
+    same(&rt, player.machine().0.endpoints(), 3);
     Ok(())
 }
 

@@ -4,6 +4,7 @@ use crate::checks::same_at;
 use crate::machines::{FlatPlayer, booted, play};
 use crate::printed;
 use ffa_model::{EndpointId, MOST_SENDS, Op, PageNo, Size};
+use ffa_playable::Playable;
 use ffa_reasons::{Explained, grant_of};
 use fixtures::row_machine;
 use play_player::Player;
