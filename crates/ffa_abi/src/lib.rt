@@ -4,11 +4,9 @@
 
 mod call;
 mod names;
-mod reasons;
 mod reply;
 
 pub use call::{decode, is_function, is_read_whole, low};
 pub use ffa_model::{Call, CallRow, Reply};
 pub use names::{call_name, call_place, call_row, error_name};
-pub use reasons::about_registers;
 pub use reply::encode;

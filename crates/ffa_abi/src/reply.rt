@@ -94,7 +94,7 @@ fn cycles_registers(function: u32, partition: EndpointId) -> [u64; 8]
 }
 
 // The word of two halves.
-pub(crate) fn word_of_two(high: u16, low: u16) -> u32
+fn word_of_two(high: u16, low: u16) -> u32
     ensures { result ≡ word_of_two high low }
 {
     u32::from(high) * 0x1_0000 + u32::from(low)

@@ -7,6 +7,7 @@ ghost use Rattle.ffa_model.specs.Obstacles.{unless_own};
 ghost use Rattle.ffa_model.specs.State.{transaction_of};
 
 use crate::reasons::Reasons;
+use crate::registers::about_registers;
 use ffa_memshare::DescriptorCall;
 use ffa_model::{About, Call, Handle, Kind, Obstacle, PageNo, Refusal, Transfer};
 use ffa_physmem::PhysMem;
@@ -18,7 +19,7 @@ impl<M: PhysMem + Drop, T: Translations + Drop, S: Store> Reasons<'_, M, T, S> {
     pub(crate) fn about(&self, number: u32, call: Call, refusal: Refusal) -> Option<About>
         ensures { result ≡ about self.now number call refusal }
     {
-        if let Some(about) = ffa_abi::about_registers(number, &call, refusal) {
+        if let Some(about) = about_registers(number, &call, refusal) {
             return Some(about);
         }
         if let Some(about) = self.about_contents(call, refusal) {

@@ -10,6 +10,7 @@ mod faults;
 mod mends;
 mod reasons;
 mod refusals;
+mod registers;
 mod telling;
 
 pub use explained::Explained;

@@ -1,18 +1,16 @@
 // SPDX-License-Identifier: MIT OR Apache-2.0
-//! What a check that fails is about, where the call's registers tell it (DEN0077A, 11 to 16). Only who asks why a call was refused asks
-//! this: no call does.
+//! What a check that fails is about, where the call's registers tell it (DEN0077A, 11 to 16).
 ghost use Rattle.std.specs.Prelude.{◌≡◌};
 ghost use Rattle.ffa_model.specs.AboutRegisters.{about_registers, in_register, registers_of_bind, registers_of_create, registers_of_destroy, registers_of_get, registers_of_map, registers_of_reclaim, registers_of_request, registers_of_response, registers_of_run, registers_of_set, registers_of_transfer, registers_of_unmap};
 ghost use Rattle.ffa_model.specs.Bits.{word_of_two};
 
-use crate::reply::word_of_two;
 use ffa_model::{
     About, Call, DirectMessage, EndpointId, Handle, NotificationBits, Refusal, Transfer,
 };
 
-/// What a check of a call that fails is about, where its registers tell it: a register, an endpoint that one names, or a
-/// handle. The number is that of the function, in w0.
-pub fn about_registers(number: u32, call: &Call, refusal: Refusal) -> Option<About>
+// What a check of a call that fails is about, where its registers tell it: a register, an endpoint that one names, or a
+// handle. The number is that of the function, in w0.
+pub(crate) fn about_registers(number: u32, call: &Call, refusal: Refusal) -> Option<About>
     ensures { result ≡ about_registers number call.now refusal }
 {
     match *call {
@@ -200,4 +198,11 @@ fn register(register: u32, value: u64) -> Option<About>
     ensures { result ≡ in_register register value }
 {
     Some(About::Register { register, value })
+}
+
+// The word of two halves.
+fn word_of_two(high: u16, low: u16) -> u32
+    ensures { result ≡ word_of_two high low }
+{
+    u32::from(high) * 0x1_0000 + u32::from(low)
 }
