@@ -178,20 +178,6 @@ pub fn store<M: PhysMem>(
     store_at(memory, walked, address, size, value)
 }
 
-/// What `store_at` would answer: the fault of a store, where a walk of the address answered this.
-pub fn check_store<M: PhysMem>(
-    memory: &M,
-    walked: Result<Leaf, FaultKind>,
-    address: u64,
-    size: Size,
-) -> Result<(), FaultKind>
-    requires offset { KeepsOffset address walked }
-    ensures answer { result ≡ spec.store_answer_by (M.ram memory.now) walked address (size_of size) }
-{
-    reach(memory, walked, address, size, Need::Write)?;
-    Ok(())
-}
-
 /// Stores as `store` does, where a walk of the address answered this.
 #[inline(always)]
 pub fn store_at<M: PhysMem>(

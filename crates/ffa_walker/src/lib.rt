@@ -6,7 +6,7 @@ pub mod access;
 pub mod certification;
 pub mod translation;
 
-pub use access::{check_store, fetch, fetch_at, load, load_at, store, store_at};
+pub use access::{fetch, fetch_at, load, load_at, store, store_at};
 pub use certification::audit;
 pub use ffa_model::{FaultKind, Leaf};
 pub use translation::{is_in_ram, translate};
