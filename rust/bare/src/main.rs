@@ -106,7 +106,10 @@ fn play(pages: &mut [Page]) -> Result<(), u8> {
         return Err(4);
     }
     machine.send(&Relinquish::new(handle, PARTITION), PARTITIONS_TX, Version::V1_1).map_err(|_| 5)?;
-    if SETTLED.load(Relaxed) != AT_BOOT + 1 || LAST.load(Relaxed) as u64 != PAGE || machine.access(PARTITION, 16).is_some() {
+    if SETTLED.load(Relaxed) != AT_BOOT + 1
+        || LAST.load(Relaxed) as u64 != PAGE
+        || machine.access(PARTITION, 16).is_some()
+    {
         return Err(6);
     }
     drop(machine);
