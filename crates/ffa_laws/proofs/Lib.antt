@@ -70,3 +70,4 @@ pub mod Origins
 pub mod Waiting
 pub mod ElsewhereLaws
 pub mod ElsewhereRunLaws
+pub mod Stores

@@ -13,3 +13,4 @@ pub mod RunIntegrity
 pub mod Isolation
 pub mod Elsewhere
 pub mod ElsewhereRuns
+pub mod Stores

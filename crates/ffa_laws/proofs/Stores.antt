@@ -1,0 +1,170 @@
+-- SPDX-License-Identifier: MIT OR Apache-2.0
+-- Bytes of a page are stored one by one, by who may write there.
+use Rattle.std.proofs.Common.{◌≡◌, ◌∙◌, ℕ, zero, suc, ◌+◌, ◌-◌, ◌*◌, ◌/◌, ◌%◌, ◌^◌, ◌<◌, ◌≤◌, Bool, true, cond, List, [], ◌∷◌, length, get_or, set, Option, Some, None, refl, sym, ap, subst, arith, inl, inr, length-set, get_or-set_same, set-set}
+use Rattle.std.specs.Prelude.{◌==◌, ◌&&◌, nat_le, nat_lt}
+use Rattle.std.specs.Option.{option_and_then, option_map, option_map_or}
+use Rattle.std.proofs.lemmas.Bool.{and_from, and_parts, cases_eq, eq-eqb, false≢true, eqb-true, le-leb, leb-true, lt-ltb, ltb-true}
+use Rattle.std.proofs.lemmas.Option.{none-some}
+use Rattle.std.proofs.lemmas.List.{set-get_or}
+use Rattle.byteorder.specs.Endian.{little_bytes}
+use Rattle.ffa_model.specs.declared.operation.FaultKind.{FaultKind}
+use Rattle.ffa_model.specs.declared.operation.FaultKind.TheVariants.{Permission}
+use Rattle.ffa_model.specs.declared.operation.Op.TheVariants.{Store}
+use Rattle.ffa_model.specs.declared.operation.Outcome.TheVariants.{Done}
+use Rattle.ffa_model.specs.declared.operation.Size.TheVariants.{B1}
+use Rattle.ffa_model.specs.declared.rights.Rights.{Rights}
+use Rattle.ffa_model.specs.declared.limits.TheConstants.{MOST_RAM}
+use Rattle.ffa_model.specs.Access.{access, right_of, transaction_at}
+use Rattle.ffa_model.specs.Calls.{Stepped}
+use Rattle.ffa_model.specs.Elsewhere.{as_run_by, state_after_as, step_as}
+use Rattle.ffa_model.specs.Manifest.{is_ram_base}
+use Rattle.ffa_model.specs.Memory.{access_at, accessed, fault_of, page_bytes, page_of_address, page_with, store_fault, stored, written, written_pages}
+use Rattle.ffa_model.specs.Ram.{with_bytes}
+use Rattle.ffa_model.specs.Rights.{may_store}
+use Rattle.ffa_model.specs.SoundState.{IsSoundState, are_bytes}
+use Rattle.ffa_model.specs.State.{State, Page, page_at}
+use Rattle.ffa_model.proofs.CallAccesses.{access-written}
+use Rattle.ffa_laws.specs.Stores.{stores, with_bytes_of}
+use Rattle.ffa_laws.proofs.ByteLists.{length-with_bytes}
+use Rattle.ffa_laws.proofs.ElsewhereLaws.{step_as-rests, step_as-runs}
+
+-- ---- lists
+-- one byte is written, and then those behind it
+one-more : (page : List ℕ) (at : ℕ) (b : ℕ) (bs : List ℕ) → at < length page
+    → with_bytes (with_bytes page at (b ∷ [])) (suc at) bs ≡ with_bytes page at (b ∷ bs)
+one-more [] at b bs within = absurd (omega (arith, within))
+one-more (x ∷ page) zero b bs within = refl
+one-more (x ∷ page) (suc at) b bs within = ap (λ ys. x ∷ ys) (one-more page at b bs (omega (arith, within)))
+
+-- nothing is written
+none-more : (page : List ℕ) (at : ℕ) → with_bytes page at [] ≡ page
+none-more [] zero = refl
+none-more [] (suc at) = refl
+none-more (x ∷ page) zero = refl
+none-more (x ∷ page) (suc at) = ap (λ ys. x ∷ ys) (none-more page at)
+
+-- all is written
+all-written : (page bytes : List ℕ) → length page ≡ length bytes → with_bytes page 0 bytes ≡ bytes
+all-written [] [] same = refl
+all-written (x ∷ page) [] same = absurd (omega (arith, same))
+all-written [] (b ∷ bytes) same = absurd (omega (arith, same))
+all-written (x ∷ page) (b ∷ bytes) same = ap (λ ys. b ∷ ys) (all-written page bytes (omega (arith, same)))
+
+-- ---- one byte
+one-byte : (b : ℕ) → b < 256 → little_bytes 1 b ≡ b ∷ []
+one-byte b small = ap (λ (x : ℕ). x ∷ []) (omega (arith, small))
+
+-- an access that is allowed
+allowed : (o : Option Rights) → may_store o ≡ true → fault_of true o may_store ≡ None
+allowed None may = absurd (false≢true may)
+allowed (Some right) may = ap (λ (b : Bool). cond b None (Some Permission)) may
+
+passed : (o : Option FaultKind) (old new : State) → o ≡ None → (accessed o old new Done).state ≡ new
+passed None old new none = refl
+passed (Some fault) old new none = absurd (none-some fault (sym none))
+
+-- a store of a byte where e may store, whoever runs
+module _ (s : State) (e address byte : ℕ) (from : s.ram_base ≤ address) (below : address < 2 ^ 32)
+    (may : may_store (access s e ((address - s.ram_base) / 4096)) ≡ true) where
+  there : page_of_address s address ≡ Some ((address - s.ram_base) / 4096)
+  there =
+      ap (λ (b : Bool). cond b (Some ((address - s.ram_base) / 4096)) None)
+      (and_from (nat_le s.ram_base address) (nat_lt address (2 ^ 32)) (le-leb s.ram_base address from) (lt-ltb address (2 ^ 32) below))
+
+  no-fault : (r : ℕ) → r ≡ e → store_fault (as_run_by r s) address 1 ≡ None
+  no-fault r is =
+      ap (λ (b : Bool). fault_of b (access_at s r address) may_store) (eq-eqb (address % 1) 0 (omega arith))
+      ∙ allowed (access_at s r address)
+      (ap (λ (o : Option ℕ). may_store (option_and_then (access s r) o)) there ∙ ap (λ (f : ℕ). may_store (access s f ((address - s.ram_base) / 4096))) is ∙ may)
+
+  store-byte : (step_as s e (Store address B1 byte)).state ≡ stored s address (little_bytes 1 byte)
+  store-byte = elim (cases_eq s.runner e) [
+    | inl runs ↦
+        ap (λ (t : Stepped). t.state) (step_as-runs s e (Store address B1 byte) runs)
+        ∙ passed (store_fault s address 1) s (stored s address (little_bytes 1 byte)) (no-fault s.runner runs)
+    | inr rests ↦
+        ap (λ (t : Stepped). t.state) (step_as-rests s e (Store address B1 byte) rests)
+        ∙ ap (as_run_by s.runner) (passed (store_fault (as_run_by e s) address 1) (as_run_by e s) (stored (as_run_by e s) address (little_bytes 1 byte)) (no-fault e refl))
+  ]
+
+-- ---- all of them
+page-none : (o : Option Page) (at : ℕ) → page_with at [] o ≡ o
+page-none None at = refl
+page-none (Some q) at = ap (λ (bytes : List ℕ). Some (record q { bytes = bytes })) (none-more q.bytes at)
+
+page-more : (o : Option Page) (at b : ℕ) (bs : List ℕ) → at < length (option_map_or (λ (q : Page). q.bytes) o [])
+    → page_with (suc at) bs (page_with at (b ∷ []) o) ≡ page_with at (b ∷ bs) o
+page-more None at b bs within = refl
+page-more (Some q) at b bs within = ap (λ (bytes : List ℕ). Some (record q { bytes = bytes })) (one-more q.bytes at b bs within)
+
+page-all : (o : Option Page) (bytes : List ℕ) → length (option_map_or (λ (q : Page). q.bytes) o []) ≡ length bytes
+    → page_with 0 bytes o ≡ option_map (λ (q : Page). record q { bytes = bytes }) o
+page-all None bytes same = refl
+page-all (Some q) bytes same = ap (λ (all : List ℕ). Some (record q { bytes = all })) (all-written q.bytes bytes same)
+
+page-length : (o : Option Page) (at : ℕ) (bs : List ℕ) → at + length bs ≤ length (option_map_or (λ (q : Page). q.bytes) o [])
+    → length (option_map_or (λ (q : Page). q.bytes) (page_with at bs o) []) ≡ length (option_map_or (λ (q : Page). q.bytes) o [])
+page-length None at bs fits = refl
+page-length (Some q) at bs fits = length-with_bytes q.bytes at bs fits
+
+-- what stands in a page that was written
+written-page : (ps : List (Option Page)) (p at : ℕ) (bs : List ℕ) → p < length ps → get_or (written_pages ps p at bs) p None ≡ page_with at bs (get_or ps p None)
+written-page ps p at bs within = get_or-set_same ps p (page_with at bs (get_or ps p None)) None within
+
+written-more : (ps : List (Option Page)) (p at b : ℕ) (bs : List ℕ) → p < length ps → at < length (option_map_or (λ (q : Page). q.bytes) (get_or ps p None) [])
+    → written_pages (written_pages ps p at (b ∷ [])) p (suc at) bs ≡ written_pages ps p at (b ∷ bs)
+written-more ps p at b bs within inside =
+    set-set ps p (page_with at (b ∷ []) (get_or ps p None)) (page_with (suc at) bs (get_or (written_pages ps p at (b ∷ [])) p None))
+    ∙ ap (set ps p) (ap (page_with (suc at) bs) (written-page ps p at (b ∷ []) within) ∙ page-more (get_or ps p None) at b bs inside)
+
+stores-from : (bs : List ℕ) (s : State) (e p at : ℕ) → p < length s.pages → s.ram_base % 4096 ≡ 0 → s.ram_base + 4096 * length s.pages ≤ 2 ^ 32
+    → may_store (access s e p) ≡ true → are_bytes bs → at + length bs ≤ 4096 → length (page_bytes s p) ≡ 4096
+    → state_after_as s (stores e (s.ram_base + 4096 * p + at) bs) ≡ written s p at bs
+stores-from [] s e p at within aligned fits may bytes room whole =
+    sym (ap (λ (ps : List (Option Page)). record s { pages = ps }) (ap (set s.pages p) (page-none (page_at s p) at) ∙ set-get_or s.pages p None))
+stores-from (b ∷ bs) s e p at within aligned fits may bytes room whole =
+    let (small, rest) = and_parts (nat_lt b 256) _ bytes in
+    let lt : b < 256 = ltb-true b 256 small in
+    let address : ℕ = s.ram_base + 4096 * p + at in
+    let page : (address - s.ram_base) / 4096 ≡ p = omega (arith, room) in
+    let place : address % 4096 ≡ at = omega (arith, room, aligned) in
+    let one : (step_as s e (Store address B1 b)).state ≡ written s p at (b ∷ []) =
+    store-byte s e address b (omega arith) (omega (arith, within, fits, room)) (ap (λ (q : ℕ). may_store (access s e q)) page ∙ may)
+    ∙ ap (λ (q : ℕ). written s q (address % 4096) (little_bytes 1 b)) page
+    ∙ ap (λ (i : ℕ). written s p i (little_bytes 1 b)) place
+    ∙ ap (written s p at) (one-byte b lt) in
+    let next : State = written s p at (b ∷ []) in
+    ap (λ (t : State). state_after_as t (stores e (address + 1) bs)) one
+    ∙ ap (λ (a : ℕ). state_after_as next (stores e a bs)) (omega arith)
+    ∙ stores-from bs next e p (suc at) (subst (λ (n : ℕ). p < n) (sym (length-set s.pages p (page_with at (b ∷ []) (page_at s p)))) within) aligned
+    (subst (λ (n : ℕ). s.ram_base + 4096 * n ≤ 2 ^ 32) (sym (length-set s.pages p (page_with at (b ∷ []) (page_at s p)))) fits)
+    (ap may_store (access-written s p at (b ∷ []) e p) ∙ may) rest (omega (arith, room))
+    (ap (λ (o : Option Page). length (option_map_or (λ (q : Page). q.bytes) o [])) (written-page s.pages p at (b ∷ []) within)
+    ∙ page-length (page_at s p) at (b ∷ []) (omega (arith, room, whole)) ∙ whole)
+    ∙ ap (λ (ps : List (Option Page)). record s { pages = ps }) (written-more s.pages p at b bs within (omega (arith, room, whole)))
+
+-- a page into which somebody may store has its bytes
+page-size : (s : State) (e p : ℕ) → IsSoundState s → may_store (access s e p) ≡ true → length (page_bytes s p) ≡ 4096
+page-size s e p sound may = of (page_at s p) refl
+  where
+    of : (o : Option Page) → page_at s p ≡ o → length (option_map_or (λ (q : Page). q.bytes) o []) ≡ 4096
+    of None at = absurd (false≢true (ap (λ (o : Option Page). may_store (right_of e o (transaction_at s p))) (sym at) ∙ may))
+    of (Some q) at = (sound.pages p q at).size
+
+-- where RAM of a sound state stands
+place-of : (base : ℕ) → is_ram_base base ≡ true → (base % MOST_RAM ≡ 0) × (base ≤ 2 ^ 32 - MOST_RAM)
+place-of base is =
+    let (front, most) = and_parts (base % MOST_RAM == 0 && nat_le MOST_RAM base) (nat_le base (2 ^ 32 - MOST_RAM)) is in
+    let (aligned, _) = and_parts (base % MOST_RAM == 0) (nat_le MOST_RAM base) front in
+    (eqb-true (base % MOST_RAM) 0 aligned, leb-true base (2 ^ 32 - MOST_RAM) most)
+
+-- bytes of a page of a sound state that e stores there
+pub bytes-stored : (s : State) (e p : ℕ) (bytes : List ℕ) → IsSoundState s → p < length s.pages → may_store (access s e p) ≡ true → length bytes ≡ 4096 → are_bytes bytes
+    → state_after_as s (stores e (s.ram_base + 4096 * p) bytes) ≡ with_bytes_of s p bytes
+bytes-stored s e p bytes sound within may size are =
+    let (aligned, most) = place-of s.ram_base sound.sized.base in
+    let (n, pages, _, few) = sound.sized.blocks in
+    let room = page-size s e p sound may in
+    ap (λ (a : ℕ). state_after_as s (stores e a bytes)) (omega arith)
+    ∙ stores-from bytes s e p 0 within (omega (arith, aligned)) (omega (arith, most, pages, few)) may are (omega (arith, size)) room
+    ∙ ap (λ (o : Option Page). record s { pages = set s.pages p o }) (page-all (page_at s p) bytes (room ∙ sym size))
