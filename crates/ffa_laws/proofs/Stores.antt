@@ -1,32 +1,40 @@
 -- SPDX-License-Identifier: MIT OR Apache-2.0
 -- Bytes of a page are stored one by one, by who may write there.
-use Rattle.std.proofs.Common.{◌≡◌, ◌∙◌, ℕ, zero, suc, ◌+◌, ◌-◌, ◌*◌, ◌/◌, ◌%◌, ◌^◌, ◌<◌, ◌≤◌, Bool, true, cond, List, [], ◌∷◌, length, get_or, set, Option, Some, None, refl, sym, ap, subst, arith, inl, inr, length-set, get_or-set_same, set-set}
+use Rattle.std.proofs.Common.{◌≡◌, ◌≢◌, ◌∙◌, ℕ, zero, suc, ◌+◌, ◌-◌, ◌*◌, ◌/◌, ◌%◌, ◌^◌, ◌<◌, ◌≤◌, Bool, true, false, cond, List, [], ◌∷◌, ◌++◌, length, get_or, set, Option, Some, None, refl, sym, ap, subst, arith, inl, inr, length-set, get_or-set_other, get_or-set_same, set-set}
 use Rattle.std.specs.Prelude.{◌==◌, ◌&&◌, nat_le, nat_lt}
 use Rattle.std.specs.Option.{option_and_then, option_map, option_map_or}
-use Rattle.std.proofs.lemmas.Bool.{and_from, and_parts, cases_eq, eq-eqb, false≢true, eqb-true, le-leb, leb-true, lt-ltb, ltb-true}
-use Rattle.std.proofs.lemmas.Option.{none-some}
-use Rattle.std.proofs.lemmas.List.{set-get_or}
+use Rattle.std.proofs.lemmas.Bool.{and_from, and_parts, cases_Bool, cases_eq, cases_lt, eq-eqb, eqb-true, false_from_ne_true, false≢true, le-leb, leb-true, lt-ltb, ltb-true}
+use Rattle.std.proofs.lemmas.Option.{none-some, same_Some}
+use Rattle.std.proofs.lemmas.List.{get_or_past, set-get_or}
 use Rattle.byteorder.specs.Endian.{little_bytes}
 use Rattle.ffa_model.specs.declared.operation.FaultKind.{FaultKind}
 use Rattle.ffa_model.specs.declared.operation.FaultKind.TheVariants.{Permission}
+use Rattle.ffa_model.specs.declared.operation.Op.{Op}
 use Rattle.ffa_model.specs.declared.operation.Op.TheVariants.{Store}
 use Rattle.ffa_model.specs.declared.operation.Outcome.TheVariants.{Done}
 use Rattle.ffa_model.specs.declared.operation.Size.TheVariants.{B1}
 use Rattle.ffa_model.specs.declared.rights.Rights.{Rights}
 use Rattle.ffa_model.specs.declared.limits.TheConstants.{MOST_RAM}
-use Rattle.ffa_model.specs.Access.{access, right_of, transaction_at}
+use Rattle.ffa_model.specs.Access.{access, held_by, right_by, right_of, transaction_at}
 use Rattle.ffa_model.specs.Calls.{Stepped}
 use Rattle.ffa_model.specs.Elsewhere.{as_run_by, state_after_as, step_as}
+use Rattle.ffa_model.specs.Lists.{is_in_run}
 use Rattle.ffa_model.specs.Manifest.{is_ram_base}
 use Rattle.ffa_model.specs.Memory.{access_at, accessed, fault_of, page_bytes, page_of_address, page_with, store_fault, stored, written, written_pages}
 use Rattle.ffa_model.specs.Ram.{with_bytes}
 use Rattle.ffa_model.specs.Rights.{may_store}
 use Rattle.ffa_model.specs.SoundState.{IsSoundState, are_bytes}
-use Rattle.ffa_model.specs.State.{State, Page, page_at}
+use Rattle.ffa_model.specs.State.{State, Page, Transaction, page_at}
+use Rattle.ffa_model.proofs.Accesses.{length-map_at}
 use Rattle.ffa_model.proofs.CallAccesses.{access-written}
-use Rattle.ffa_laws.specs.Stores.{stores, with_bytes_of}
+use Rattle.ffa_model.proofs.Runs.{in-run, run-wider, to-run}
+use Rattle.ffa_laws.specs.Readable.{blank, blank_where}
+use Rattle.ffa_laws.specs.Stores.{run_stores, stores, with_bytes_of}
+use Rattle.ffa_laws.proofs.Blanks.{at-blanked}
 use Rattle.ffa_laws.proofs.ByteLists.{length-with_bytes}
 use Rattle.ffa_laws.proofs.ElsewhereLaws.{step_as-rests, step_as-runs}
+use Rattle.ffa_laws.proofs.ElsewhereRunLaws.{sound_after_as}
+use Rattle.ffa_laws.proofs.Maps.{map_at-alike, map_at-id}
 
 -- ---- lists
 -- one byte is written, and then those behind it
@@ -168,3 +176,121 @@ bytes-stored s e p bytes sound within may size are =
     ap (λ (a : ℕ). state_after_as s (stores e a bytes)) (omega arith)
     ∙ stores-from bytes s e p 0 within (omega (arith, aligned)) (omega (arith, most, pages, few)) may are (omega (arith, size)) room
     ∙ ap (λ (o : Option Page). record s { pages = set s.pages p o }) (page-all (page_at s p) bytes (room ∙ sym size))
+
+-- ---- pages in a row
+after-both : (s : State) (xs ys : List (ℕ × Op)) → state_after_as s (xs ++ ys) ≡ state_after_as (state_after_as s xs) ys
+after-both s [] ys = refl
+after-both s (x ∷ xs) ys = after-both (step_as s x.0 x.1).state xs ys
+
+abbrev given : List ℕ → Option Page → Option Page
+given bytes o = option_map (λ (q : Page). record q { bytes = bytes }) o
+
+right-given : (e : ℕ) (bytes : List ℕ) (o : Option Page) (t : Option Transaction) → right_of e (given bytes o) t ≡ right_of e o t
+right-given e bytes None t = refl
+right-given e bytes (Some q) None = refl
+right-given e bytes (Some q) (Some t) = of (held_by t e)
+  where
+    of : (o : Option Rights) → right_by e (record q { bytes = bytes }) t o ≡ right_by e q t o
+    of None = refl
+    of (Some right) = refl
+
+access-given : (s : State) (q : ℕ) (bytes : List ℕ) (e p : ℕ) → q < length s.pages → access (with_bytes_of s q bytes) e p ≡ access s e p
+access-given s q bytes e p within = elim (cases_eq p q) [
+  | inr other ↦ ap (λ (o : Option Page). right_of e o (transaction_at s p)) (get_or-set_other s.pages q p (given bytes (page_at s q)) None other)
+  | inl same ↦
+      subst (λ (r : ℕ). access (with_bytes_of s q bytes) e r ≡ access s e r) (sym same)
+      (ap (λ (o : Option Page). right_of e o (transaction_at s q)) (get_or-set_same s.pages q (given bytes (page_at s q)) None within) ∙ right-given e bytes (page_at s q) (transaction_at s q))
+]
+
+-- a page into which somebody may store is one of RAM
+page-within : (s : State) (e p : ℕ) → may_store (access s e p) ≡ true → p < length s.pages
+page-within s e p may = elim (cases_lt p (length s.pages)) [
+  | inl lt ↦ lt
+  | inr past ↦ absurd (false≢true (ap (λ (o : Option Page). may_store (right_of e o (transaction_at s p))) (sym (get_or_past s.pages p None past)) ∙ may))
+]
+
+some-there : (s : State) (e p : ℕ) (o : Option Page) → page_at s p ≡ o → may_store (access s e p) ≡ true → o ≡ None → ⊥
+some-there s e p o at may none = false≢true (ap (λ (o : Option Page). may_store (right_of e o (transaction_at s p))) (sym (at ∙ none)) ∙ may)
+
+-- two pages that differ in bytes alone
+given-alike : (o q : Option Page) → blank_where true o ≡ blank_where true q → given (option_map_or (λ (x : Page). x.bytes) q []) o ≡ q
+given-alike None None same = refl
+given-alike None (Some q) same = absurd (none-some _ same)
+given-alike (Some o) None same = absurd (none-some _ (sym same))
+given-alike (Some o) (Some q) same = ap (λ (x : Page). Some (record x { bytes = q.bytes })) (same_Some _ _ same)
+
+page-sound : (t : State) (p : ℕ) → IsSoundState t → (o : Option Page) → page_at t p ≡ o → (o ≡ None → ⊥)
+    → (length (option_map_or (λ (x : Page). x.bytes) o []) ≡ 4096) × are_bytes (option_map_or (λ (x : Page). x.bytes) o [])
+page-sound t p sound None at some = absurd (some refl)
+page-sound t p sound (Some q) at some = let good = sound.pages p q at in (good.size, good.bytes)
+
+-- what is alike but for bytes of some pages is alike there
+page-alike : (hides : ℕ → Bool) (s t : State) → blank hides s ≡ blank hides t → (p : ℕ) → blank_where (hides p) (page_at s p) ≡ blank_where (hides p) (page_at t p)
+page-alike hides s t same p =
+    sym (at-blanked hides s.pages p) ∙ ap (λ (x : State). page_at x p) same ∙ at-blanked hides t.pages p
+
+none-none : (o : Option Page) → None ≡ blank_where true o → o ≡ None
+none-none None is = refl
+none-none (Some q) is = absurd (none-some _ is)
+
+-- who differs from t in bytes of pages in a row alone, and stores there what t has, is t
+pub run-stored : (n : ℕ) (s t : State) (e first : ℕ) → IsSoundState s → IsSoundState t → blank (is_in_run first n) s ≡ blank (is_in_run first n) t
+    → ((p : ℕ) → is_in_run first n p ≡ true → may_store (access s e p) ≡ true) → state_after_as s (run_stores e t first n) ≡ t
+run-stored zero s t e first sound good same may =
+    sym (nothing-hidden s) ∙ same ∙ nothing-hidden t
+  where
+    nobody : (p : ℕ) → is_in_run first 0 p ≡ false
+    nobody p = false_from_ne_true (is_in_run first 0 p) (λ is. let (low, high) = in-run first 0 p is in absurd (omega (arith, low, high)))
+
+    nothing-hidden : (x : State) → blank (is_in_run first 0) x ≡ x
+    nothing-hidden x = ap (λ (ps : List (Option Page)). record x { pages = ps })
+        (map_at-id (λ p page. blank_where (is_in_run first 0 p) page) x.pages None (λ p. ap (λ (b : Bool). blank_where b (page_at x p)) (nobody p)))
+run-stored (suc n) s t e first sound good same may =
+    let here : is_in_run first (suc n) first ≡ true = to-run first (suc n) first (omega arith) (omega arith) in
+    let base : s.ram_base ≡ t.ram_base = ap (λ (x : State). x.ram_base) same in
+    let within = page-within s e first (may first here) in
+    let alike : blank_where true (page_at s first) ≡ blank_where true (page_at t first) =
+    subst (λ (b : Bool). blank_where b (page_at s first) ≡ blank_where b (page_at t first)) here (page-alike (is_in_run first (suc n)) s t same first) in
+    let some : page_at t first ≡ None → ⊥ = λ none. some-there s e first (page_at s first) refl (may first here)
+    (none-none (page_at s first) (sym (alike ∙ ap (blank_where true) none))) in
+    let (size, are) = page-sound t first good (page_at t first) refl some in
+    let one : state_after_as s (stores e (t.ram_base + 4096 * first) (page_bytes t first)) ≡ with_bytes_of s first (page_bytes t first) =
+    ap (λ (b : ℕ). state_after_as s (stores e (b + 4096 * first) (page_bytes t first))) (sym base)
+    ∙ bytes-stored s e first (page_bytes t first) sound within (may first here) size are in
+    let next : State = with_bytes_of s first (page_bytes t first) in
+    after-both s (stores e (t.ram_base + 4096 * first) (page_bytes t first)) (run_stores e t (first + 1) n)
+    ∙ ap (λ (x : State). state_after_as x (run_stores e t (first + 1) n)) one
+    ∙ run-stored n next t e (first + 1)
+    (subst IsSoundState one (sound_after_as s (stores e (t.ram_base + 4096 * first) (page_bytes t first)) sound)) good
+    (next-alike s t first n (page_bytes t first) same within
+    (given-alike (page_at s first) (page_at t first) alike))
+    (λ p its. ap may_store (access-given s first (page_bytes t first) e p within) ∙ may p (run-wider first n p its))
+  where
+    next-alike : (s t : State) (first n : ℕ) (bytes : List ℕ) → blank (is_in_run first (suc n)) s ≡ blank (is_in_run first (suc n)) t → first < length s.pages
+        → given bytes (page_at s first) ≡ page_at t first → blank (is_in_run (first + 1) n) (with_bytes_of s first bytes) ≡ blank (is_in_run (first + 1) n) t
+    next-alike s t first n bytes same within is = λ i. record (same i) {
+      pages =
+          map_at-alike (λ p page. blank_where (is_in_run (first + 1) n p) page) (λ p page. blank_where (is_in_run (first + 1) n p) page)
+          (set s.pages first (given bytes (page_at s first))) t.pages None None
+          (length-set s.pages first (given bytes (page_at s first)) ∙ sym (length-map_at _ s.pages) ∙ ap (λ (x : State). length x.pages) same ∙ length-map_at _ t.pages)
+          each i;
+    }
+      where
+        each : (p : ℕ) → blank_where (is_in_run (first + 1) n p) (get_or (set s.pages first (given bytes (page_at s first))) p None) ≡ blank_where (is_in_run (first + 1) n p) (page_at t p)
+        each p = elim (cases_eq p first) [
+          | inl at ↦
+              ap (blank_where (is_in_run (first + 1) n p))
+              (subst (λ (q : ℕ). get_or (set s.pages first (given bytes (page_at s first))) q None ≡ page_at t q) (sym at)
+              (get_or-set_same s.pages first (given bytes (page_at s first)) None within ∙ is))
+          | inr other ↦
+              ap (blank_where (is_in_run (first + 1) n p)) (get_or-set_other s.pages first p (given bytes (page_at s first)) None other)
+              ∙ subst (λ (b : Bool). blank_where b (page_at s p) ≡ blank_where b (page_at t p)) (rest p other) (page-alike (is_in_run first (suc n)) s t same p)
+        ]
+          where
+            rest : (p : ℕ) → p ≢ first → is_in_run first (suc n) p ≡ is_in_run (first + 1) n p
+            rest p other = elim (cases_Bool (is_in_run (first + 1) n p)) [
+              | inl its ↦ run-wider first n p its ∙ sym its
+              | inr off ↦
+                  false_from_ne_true (is_in_run first (suc n) p) (λ its. let (low, high) = in-run first (suc n) p its in
+                  false≢true (sym off ∙ to-run (first + 1) n p (omega (arith, low, other)) (omega (arith, high)))) ∙ sym off
+            ]
