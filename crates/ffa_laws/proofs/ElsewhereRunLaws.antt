@@ -23,7 +23,7 @@ use Rattle.ffa_laws.proofs.Growth.{never_grow}
 use Rattle.ffa_laws.proofs.Within.{within-through}
 
 -- the endpoints stay
-known-as : (s : State) (f : ℕ) (op : Op) (e : ℕ) → is_known s e ≡ true → is_known (step_as s f op).state e ≡ true
+pub known-as : (s : State) (f : ℕ) (op : Op) (e : ℕ) → is_known s e ≡ true → is_known (step_as s f op).state e ≡ true
 known-as s f op e known = subst (λ (parts : List Party × ℕ). is_known_among (length parts.0) e ≡ true) (sym (fixed-step_as s f op)) known
 
 pub all-known : (s : State) (f : ℕ) (op : Op) (xs : List (ℕ × Op)) → are_known s xs ≡ true → are_known (step_as s f op).state xs ≡ true

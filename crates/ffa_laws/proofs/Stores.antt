@@ -178,7 +178,7 @@ bytes-stored s e p bytes sound within may size are =
     ∙ ap (λ (o : Option Page). record s { pages = set s.pages p o }) (page-all (page_at s p) bytes (room ∙ sym size))
 
 -- ---- pages in a row
-after-both : (s : State) (xs ys : List (ℕ × Op)) → state_after_as s (xs ++ ys) ≡ state_after_as (state_after_as s xs) ys
+pub after-both : (s : State) (xs ys : List (ℕ × Op)) → state_after_as s (xs ++ ys) ≡ state_after_as (state_after_as s xs) ys
 after-both s [] ys = refl
 after-both s (x ∷ xs) ys = after-both (step_as s x.0 x.1).state xs ys
 

@@ -73,7 +73,7 @@ may-store true None none = cc
 may-store false right none = cc
 
 -- a page that may be a buffer may be written to
-usable-writes : (s : State) (e p : ℕ) → is_usable e (ownership_of s) p ≡ true → may_store (access s e p) ≡ true
+pub usable-writes : (s : State) (e p : ℕ) → is_usable e (ownership_of s) p ≡ true → may_store (access s e p) ≡ true
 usable-writes s e p is = of (page_at s p) (handle_at s p) is
   where
     of : (page : Option Page) (o : Option ℕ)

@@ -38,5 +38,6 @@ pub mod Forgotten
 pub mod Unowned
 pub mod Sizes
 pub mod Chains
+pub mod Interleaved
 pub mod Moments
 pub mod Mixtures

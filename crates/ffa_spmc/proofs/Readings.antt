@@ -182,7 +182,7 @@ behind-tables x machine run behind p its =
     omega (arith, (in-run run.first.0 run.count p its).0, behind, tables)
 
 -- no more pages are read than there are
-holding-few : (pages bytes : ℕ) → pages_holding pages bytes ≤ pages
+pub holding-few : (pages bytes : ℕ) → pages_holding pages bytes ≤ pages
 holding-few pages bytes = grind (arith, nat_tests)
 
 -- those of an endpoint's TX: they are in RAM, no more than a TX may have, behind the tables, and its own

@@ -18,5 +18,6 @@ pub mod Readied
 pub mod Unowned
 pub mod Operated
 pub mod Among
+pub mod Interleaved
 pub mod Mixtures
 pub mod Moments

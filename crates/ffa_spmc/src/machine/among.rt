@@ -6,6 +6,7 @@ ghost use Rattle.ffa_model.specs.Agreement.{Agrees};
 ghost use Rattle.ffa_model.specs.SoundState.{IsSoundState};
 ghost use Rattle.ffa_spmc.specs.Among.{AreDoneReading, IsDone, IsDoneAlone, IsDoneReading, IsRead, pages_read};
 ghost use Rattle.ffa_spmc.specs.Cached.{AreWalks};
+ghost use Rattle.ffa_spmc.specs.Interleaved.{IsInterleaved};
 ghost use Rattle.ffa_spmc.specs.Unowned.{KeepsUnowned, pages_of_tables};
 
 use super::Machine;
@@ -48,12 +49,17 @@ impl<M: Observed + Drop, T: Translations + Drop, S: Store> Machine<M, T, S> {
         requires { length ops.now ≡ length filled.old }
         // From one operation to the next the machine changes as `op_among_others` says, and nothing is done besides.
         ensures chain { AreDoneReading M.is_alone self.old ops.now filled.new self.new }
+        // So they are a list of operations of endpoints, what others write being stores of the runner: isolated, with rights that
+        // never grow.
+        ensures interleaved { IsInterleaved self.old.state ops.now filled.new self.new.state }
         ensures agrees { Agrees self.new.ram self.new.state }
         ensures sound { IsSoundState self.new.state }
         ensures walks { AreWalks self.new }
     {
-        self.operate_all_among(ops, filled);
         // Proof step: the state is sound, and the tables give its access.
+        self.manager.holds();
+        self.operate_all_among(ops, filled);
+        // Proof step: so it is afterwards.
         self.manager.holds();
     }
 

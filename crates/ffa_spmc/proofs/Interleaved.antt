@@ -1,0 +1,358 @@
+-- SPDX-License-Identifier: MIT OR Apache-2.0
+-- What others write while operations are done, as stores of who runs.
+use Rattle.std.proofs.Common.{◌≡◌, ◌∙◌, ℕ, zero, suc, ◌+◌, ◌*◌, ◌≤◌, Bool, true, false, cond, List, [], ◌∷◌, ◌++◌, length, get_or, Option, Some, None, refl, sym, ap, subst, arith}
+use Rattle.std.specs.Prelude.{◌==◌}
+use Rattle.std.specs.Option.{option_and_then, option_map, option_map_or}
+use Rattle.std.specs.List.{list_all}
+use Rattle.std.proofs.lemmas.Bool.{and_from, false≢true}
+use Rattle.std.proofs.lemmas.Bool.Decides.{nat_tests}
+use Rattle.std.proofs.lemmas.List.{append_assoc}
+use Rattle.std.proofs.lemmas.List.Folds.{list_all-append}
+use Rattle.std.proofs.lemmas.Option.{none-some, same_Some}
+use Rattle.ffa_model.specs.declared.call.Call as calls
+use Rattle.ffa_model.specs.declared.call.Call.TheVariants.{MemDonate, MemLend, MemShare, MemRetrieve, MemRelinquish, MsgSend2}
+use Rattle.ffa_model.specs.declared.descriptor.RelinquishDesc.{RelinquishDesc}
+use Rattle.ffa_model.specs.declared.descriptor.RetrieveDesc.{RetrieveDesc}
+use Rattle.ffa_model.specs.declared.operation.Op.{Op}
+use Rattle.ffa_model.specs.declared.operation.Op.TheVariants.{Call, Load, Store, Fetch}
+use Rattle.ffa_model.specs.declared.operation.Outcome.{Outcome}
+use Rattle.ffa_model.specs.declared.rights.Kind.{Kind}
+use Rattle.ffa_model.specs.declared.rights.Kind.TheVariants.{Share, Lend, Donate}
+use Rattle.ffa_model.specs.Access.{access}
+use Rattle.ffa_model.specs.Buffers.{buffers_with_rx}
+use Rattle.ffa_model.specs.Calls.{Stepped}
+use Rattle.ffa_model.specs.Elsewhere.{state_after_as, step_as}
+use Rattle.ffa_model.specs.Identifiers.{place}
+use Rattle.ffa_model.specs.Lists.{is_in_run}
+use Rattle.ffa_model.specs.Memory.{page_bytes}
+use Rattle.ffa_model.specs.MemoryRetrieve.{retrieve_read, retrieved, retrieved_from}
+use Rattle.ffa_model.specs.MemoryReturn.{relinquish_read, relinquished, relinquished_from}
+use Rattle.ffa_model.specs.MemorySend.{memory_sent, send_read}
+use Rattle.ffa_model.specs.Messages.{header_in, tx_bytes}
+use Rattle.ffa_model.specs.Registers.{decode}
+use Rattle.ffa_model.specs.Rights.{may_store}
+use Rattle.ffa_model.specs.SendDescriptor.{SendRecord}
+use Rattle.ffa_model.specs.SoundState.{IsSoundState}
+use Rattle.ffa_model.specs.State.{State, Buffers, Page, Party, buffers_of, is_known, is_known_among, page_at, transaction_of}
+use Rattle.ffa_model.specs.Step.{service, step}
+use Rattle.ffa_model.proofs.Runs.{in-run, run-wider, to-run}
+use Rattle.ffa_laws.specs.ElsewhereRuns.{are_known}
+use Rattle.ffa_laws.specs.Isolation.{NeverGrow}
+use Rattle.ffa_laws.specs.Readable.{blank}
+use Rattle.ffa_laws.specs.Stores.{run_stores, stores}
+use Rattle.ffa_laws.proofs.ElsewhereLaws.{fixed-step_as, step_as-runner}
+use Rattle.ffa_laws.proofs.ElsewhereRunLaws.{isolated_as, known-as, never_grow_as, sound_after_as}
+use Rattle.ffa_laws.proofs.Form.{served-kept}
+use Rattle.ffa_laws.proofs.Kept.{fixed, step-fixed}
+use Rattle.ffa_laws.proofs.SoundOperations.{step-sound}
+use Rattle.ffa_laws.proofs.SoundSteady.{runner-known, sound-steady}
+use Rattle.ffa_laws.proofs.Stores.{after-both, run-stored}
+use Rattle.ffa_laws.proofs.Writers.{usable-writes}
+use Rattle.ffa_laws.proofs.Written.{at-changed, is_at, with_rx_full}
+use Rattle.ffa_spmc.specs.declared.run.Run.{Run}
+use Rattle.ffa_spmc.specs.Among.{AreDoneReading, IsDoneReading, are_in, bytes_read, front_of, is_in, pages_holding, pages_read}
+use Rattle.ffa_spmc.specs.Interleaved.{AreAmongStores, AreStoresInto, IsInterleaved}
+use Rattle.ffa_spmc.specs.Snapshot.{Snapshot}
+use Rattle.ffa_spmc.proofs.Readings.{holding-few}
+
+-- ---- where TX stands
+
+abbrev tx_place : Buffers → ℕ × ℕ
+tx_place b = (b.tx, b.pages)
+
+abbrev tx_in : List (Option Buffers) → ℕ → Option (ℕ × ℕ)
+tx_in bs e = option_map tx_place (get_or bs (place e) None)
+
+tx-filled : (bs : List (Option Buffers)) (f : ℕ) (full : Bool) (e : ℕ) → tx_in (buffers_with_rx bs f full) e ≡ tx_in bs e
+tx-filled bs f full e =
+    ap (λ (o : Option Buffers). option_map tx_place o) (at-changed (with_rx_full full) bs (place f) (place e) refl)
+    ∙ of (is_at (place f) (place e)) (get_or bs (place e) None)
+  where
+    of : (b : Bool) (o : Option Buffers) → option_map tx_place (cond b (with_rx_full full o) o) ≡ option_map tx_place o
+    of true None = refl
+    of true (Some x) = refl
+    of false o = refl
+
+-- the calls that read it
+abbrev reads_tx : calls.Call → Bool
+reads_tx (MemDonate x) = true
+reads_tx (MemLend x) = true
+reads_tx (MemShare x) = true
+reads_tx (MemRetrieve x) = true
+reads_tx MemRelinquish = true
+reads_tx MsgSend2 = true
+reads_tx call = false
+
+no-pages : (pages : ℕ) → pages_holding pages 0 ≡ 0
+no-pages pages = grind (arith, nat_tests)
+
+front-none : (b : Buffers) (n : ℕ) (run : Run) → n ≡ 0 → front_of b n ≡ Some run → ⊥
+front-none b n run none some = none-some run (ap (front_of b) (sym none) ∙ some)
+
+-- leave it where it is
+module _ (s : State) (e : ℕ) where
+  abbrev IsKept : State → Type 0
+  IsKept t = tx_in t.buffers e ≡ tx_in s.buffers e
+
+  tx-sent : (kind : Kind) (o : Option SendRecord) → IsKept (memory_sent s kind o)
+  tx-sent kind None = refl
+  tx-sent kind (Some r) = refl
+
+  tx-retrieved : (o : Option RetrieveDesc) → IsKept (retrieved s o)
+  tx-retrieved None = refl
+  tx-retrieved (Some d) = elim (transaction_of s d.handle) as (λ o. IsKept (retrieved_from s d o)) [ None ↦ refl | Some t ↦ tx-filled s.buffers s.runner true e ]
+
+  tx-relinquished : (o : Option RelinquishDesc) → IsKept (relinquished s o)
+  tx-relinquished None = refl
+  tx-relinquished (Some d) = elim (transaction_of s d.handle) as (λ o. IsKept (relinquished_from s d o)) [ None ↦ refl | Some t ↦ refl ]
+
+  tx-service : (call : calls.Call) → reads_tx call ≡ true → IsKept (service s call).state
+  tx-service (MemDonate x) reads = tx-sent Donate (send_read s Donate x.total)
+  tx-service (MemLend x) reads = tx-sent Lend (send_read s Lend x.total)
+  tx-service (MemShare x) reads = tx-sent Share (send_read s Share x.total)
+  tx-service (MemRetrieve x) reads = tx-retrieved (retrieve_read s x.total)
+  tx-service MemRelinquish reads = tx-relinquished (relinquish_read s)
+  tx-service MsgSend2 reads = tx-filled s.buffers (header_in (tx_bytes s s.runner)).receiver true e
+  tx-service call reads = absurd (false≢true reads)
+
+-- pages are read by such a call alone, of TX
+record IsOfTx (s : State) (op : Op) (run : Run) : Type 0 where
+  buffers : Buffers
+  has : buffers_of s s.runner ≡ Some buffers
+  first : run.first.0 ≡ buffers.tx
+  few : run.count ≤ buffers.pages
+  kept : tx_in (step s op).state.buffers s.runner ≡ tx_in s.buffers s.runner
+
+reads-some : (call : calls.Call) (b : Buffers) (run : Run) → front_of b (pages_holding b.pages (bytes_read call (4096 * b.pages))) ≡ Some run → reads_tx call ≡ true
+reads-some (MemDonate x) b run is = refl
+reads-some (MemLend x) b run is = refl
+reads-some (MemShare x) b run is = refl
+reads-some (MemRetrieve x) b run is = refl
+reads-some MemRelinquish b run is = refl
+reads-some MsgSend2 b run is = refl
+reads-some call b run is = absurd (front-none b (pages_holding b.pages 0) run (no-pages b.pages) is)
+
+front-parts : (b : Buffers) (n : ℕ) (run : Run) → front_of b n ≡ Some run → (run.first.0 ≡ b.tx) × (run.count ≡ n)
+front-parts b n run is = go (n == 0) is
+  where
+    go : (z : Bool) → cond z None (Some (record { first = record { 0 = b.tx }; count = n })) ≡ Some run → (run.first.0 ≡ b.tx) × (run.count ≡ n)
+    go true none = absurd (none-some run none)
+    go false some = (ap (λ (r : Run). r.first.0) (sym (same_Some _ _ some)), ap (λ (r : Run). r.count) (sym (same_Some _ _ some)))
+
+of-tx : (s : State) (op : Op) (run : Run) → pages_read s op ≡ Some run → IsOfTx s op run
+of-tx s (Load address size) run is = absurd (none-some run is)
+of-tx s (Store address size value) run is = absurd (none-some run is)
+of-tx s (Fetch address) run is = absurd (none-some run is)
+of-tx s (Call x) run is = of (buffers_of s s.runner) refl is
+  where
+    of : (o : Option Buffers) → buffers_of s s.runner ≡ o
+        → option_and_then (λ (b : Buffers). front_of b (pages_holding b.pages (bytes_read (decode x) (4096 * b.pages)))) o ≡ Some run → IsOfTx s (Call x) run
+    of None at none = absurd (none-some run none)
+    of (Some b) at some =
+        let bytes : ℕ = bytes_read (decode x) (4096 * b.pages) in
+        let (first, count) = front-parts b (pages_holding b.pages bytes) run some in
+        let most = holding-few b.pages bytes in
+        record {
+          buffers = b;
+          has = at;
+          first = first;
+          few = omega (arith, count, most);
+          kept =
+              served-kept (λ t. tx_in t.buffers s.runner ≡ tx_in s.buffers s.runner) s (service s (decode x)) refl
+              (λ none. tx-service s s.runner (decode x) (reads-some (decode x) b run some));
+        }
+
+tx-some : (o : Option Buffers) (b : Buffers) → option_map tx_place o ≡ Some (b.tx, b.pages) → (c : Buffers) × (o ≡ Some c) × (c.tx ≡ b.tx) × (c.pages ≡ b.pages)
+tx-some None b is = absurd (none-some _ is)
+tx-some (Some c) b is = let same = same_Some _ _ is in (c, refl, ap (λ (x : ℕ × ℕ). x.0) same, ap (λ (x : ℕ × ℕ). x.1) same)
+
+-- into which its endpoint may store, before and behind
+module _ (s : State) (sound : IsSoundState s) (op : Op) (run : Run) (is : pages_read s op ≡ Some run) where
+  within : (b : Buffers) → run.first.0 ≡ b.tx → run.count ≤ b.pages → (p : ℕ) → is_in run p ≡ true → is_in_run b.tx b.pages p ≡ true
+  within b first few p its = let (low, high) = in-run run.first.0 run.count p its in to-run b.tx b.pages p (omega (arith, low, first)) (omega (arith, high, first, few))
+
+  pub may-before : (p : ℕ) → is_in run p ≡ true → may_store (access s s.runner p) ≡ true
+  may-before p its =
+      let tx = of-tx s op run is in
+      usable-writes s s.runner p ((sound.buffers s.runner tx.buffers (runner-known s sound) tx.has).tx p (within tx.buffers tx.first tx.few p its))
+
+  pub may-behind : is_known (step s op).state s.runner ≡ true → (p : ℕ) → is_in run p ≡ true → may_store (access (step s op).state s.runner p) ≡ true
+  may-behind known p its =
+      let tx = of-tx s op run is in
+      let next = (step s op).state in
+      let (c, has, first, pages) = tx-some (buffers_of next s.runner) tx.buffers (tx.kept ∙ ap (option_map tx_place) tx.has) in
+      usable-writes next s.runner p
+      (((step-sound s sound op).buffers s.runner c known has).tx p (within c (tx.first ∙ sym first) (omega (arith, tx.few, pages)) p its))
+
+-- ---- stores
+
+-- of all bytes of a page, and of pages in a row
+stores-into : (bytes : List ℕ) (e base at p : ℕ) (named : ℕ → Bool) → at + length bytes ≤ 4096 → named p ≡ true
+    → AreStoresInto e base named (stores e (base + 4096 * p + at) bytes)
+stores-into [] e base at p named fits is = tt
+stores-into (b ∷ bytes) e base at p named fits is = (
+  (base + 4096 * p + at, b, refl, subst (λ (q : ℕ). named q ≡ true) (omega (arith, fits)) is),
+  subst (λ (a : ℕ). AreStoresInto e base named (stores e a bytes)) (omega arith) (stores-into bytes e base (suc at) p named (omega (arith, fits)) is),
+)
+
+both-into : (e base : ℕ) (named : ℕ → Bool) (xs ys : List (ℕ × Op)) → AreStoresInto e base named xs → AreStoresInto e base named ys → AreStoresInto e base named (xs ++ ys)
+both-into e base named [] ys front back = back
+both-into e base named (x ∷ xs) ys (one, front) back = (one, both-into e base named xs ys front back)
+
+page-few : (t : State) → IsSoundState t → (p : ℕ) → length (page_bytes t p) ≤ 4096
+page-few t sound p = of (page_at t p) refl
+  where
+    of : (o : Option Page) → page_at t p ≡ o → length (option_map_or (λ (q : Page). q.bytes) o []) ≤ 4096
+    of None at = omega arith
+    of (Some q) at = let size = (sound.pages p q at).size in omega (arith, size)
+
+run-into : (n : ℕ) (e : ℕ) (t : State) → IsSoundState t → (first : ℕ) (named : ℕ → Bool) → ((p : ℕ) → is_in_run first n p ≡ true → named p ≡ true)
+    → AreStoresInto e t.ram_base named (run_stores e t first n)
+run-into zero e t sound first named each = tt
+run-into (suc n) e t sound first named each =
+    both-into e t.ram_base named (stores e (t.ram_base + 4096 * first) (page_bytes t first)) (run_stores e t (first + 1) n)
+    (subst (λ (a : ℕ). AreStoresInto e t.ram_base named (stores e a (page_bytes t first))) (omega arith)
+    (stores-into (page_bytes t first) e t.ram_base 0 first named (let few = page-few t sound first in omega (arith, few)) (each first (to-run first (suc n) first (omega arith) (omega arith)))))
+    (run-into n e t sound (first + 1) named (λ p its. each p (run-wider first n p its)))
+
+-- they are of an endpoint that there is
+stores-known : (e base : ℕ) (named : ℕ → Bool) (s : State) → is_known s e ≡ true → (xs : List (ℕ × Op)) → AreStoresInto e base named xs → are_known s xs ≡ true
+stores-known e base named s known [] into = refl
+stores-known e base named s known (x ∷ xs) ((address, byte, is, at), into) =
+    and_from (is_known s x.0) (are_known s xs) (subst (λ (y : ℕ × Op). is_known s y.0 ≡ true) (sym is) known) (stores-known e base named s known xs into)
+
+-- ---- one operation
+
+record IsOneAmong (s : State) (op : Op) (told : Outcome) (next : State) : Type 0 where
+  before : List (ℕ × Op)
+  behind : List (ℕ × Op)
+  front : AreStoresInto s.runner s.ram_base (are_in (pages_read s op)) before
+  back : AreStoresInto s.runner s.ram_base (are_in (pages_read s op)) behind
+  outcome : told ≡ (step (state_after_as s before) op).outcome
+  state : state_after_as s (before ++ ((s.runner, op) ∷ behind)) ≡ next
+
+read-same : (s t : State) (hides : ℕ → Bool) (op : Op) → blank hides s ≡ blank hides t → pages_read t op ≡ pages_read s op
+read-same s t hides (Call x) same = ap (λ (u : State). pages_read u (Call x)) (sym same)
+read-same s t hides (Load address size) same = refl
+read-same s t hides (Store address size value) same = refl
+read-same s t hides (Fetch address) same = refl
+
+known-step : (s : State) (op : Op) → IsSoundState s → is_known (step s op).state s.runner ≡ true
+known-step s op sound =
+    subst (λ (t : Stepped). is_known t.state s.runner ≡ true) (step_as-runner s op) (known-as s s.runner op s.runner (runner-known s sound))
+
+one-among : (r : Option Run) (old : Snapshot) (op : Op) (told : Outcome) (new : Snapshot) → IsSoundState old.state → pages_read old.state op ≡ r
+    → IsDoneReading r old op told new → IsOneAmong old.state op told new.state
+one-among None old op told new sound is done =
+    record {
+      before = [];
+      behind = [];
+      front = tt;
+      back = tt;
+      outcome = done.outcome;
+      state = ap (λ (t : Stepped). t.state) (step_as-runner old.state op) ∙ sym done.operated.state;
+    }
+one-among (Some run) old op told new sound is among =
+    let s : State = old.state in
+    let seen : State = among.seen.state in
+    let left : State = among.left.state in
+    let base : seen.ram_base ≡ s.ram_base = ap (λ (t : State). t.ram_base) (sym among.read.state.same) in
+    let runs : seen.runner ≡ s.runner = ap (λ (t : State). t.runner) (sym among.read.state.same) in
+    let before : List (ℕ × Op) = run_stores s.runner seen run.first.0 run.count in
+    let reads : state_after_as s before ≡ seen =
+    run-stored run.count s seen s.runner run.first.0 sound among.read.sound among.read.state.same (may-before s sound op run is) in
+    let again : pages_read seen op ≡ Some run = read-same s seen (is_in run) op among.read.state.same ∙ is in
+    let acts : left ≡ (step seen op).state = among.done.operated.state in
+    let settled : IsSoundState left = subst IsSoundState (sym acts) (step-sound seen among.read.sound op) in
+    let behind : List (ℕ × Op) = run_stores s.runner new.state run.first.0 run.count in
+    let last : ((p : ℕ) → is_in run p ≡ true → may_store (access left s.runner p) ≡ true) = λ p its.
+    subst (λ (e : ℕ). may_store (access left e p) ≡ true) runs
+    (subst (λ (t : State). may_store (access t seen.runner p) ≡ true) (sym acts)
+    (may-behind seen among.read.sound op run again (known-step seen op among.read.sound) p its)) in
+    let ends : state_after_as left behind ≡ new.state =
+    run-stored run.count left new.state s.runner run.first.0 settled among.ended.sound among.ended.state.same last in
+    let base' : new.state.ram_base ≡ s.ram_base =
+    ap (λ (t : State). t.ram_base) (sym among.ended.state.same) ∙ ap (λ (t : State). t.ram_base) acts ∙ ap (λ (f : List Party × ℕ). f.1) (step-fixed seen op) ∙ base in
+    record {
+      before = before;
+      behind = behind;
+      front = subst (λ (b : ℕ). AreStoresInto s.runner b (are_in (pages_read s op)) before) base
+          (run-into run.count s.runner seen among.read.sound run.first.0 (are_in (pages_read s op)) (λ p its. ap (λ (o : Option Run). are_in o p) is ∙ its));
+      back = subst (λ (b : ℕ). AreStoresInto s.runner b (are_in (pages_read s op)) behind) base'
+          (run-into run.count s.runner new.state among.ended.sound run.first.0 (are_in (pages_read s op)) (λ p its. ap (λ (o : Option Run). are_in o p) is ∙ its));
+      outcome = among.done.outcome ∙ ap (λ (t : State). (step t op).outcome) (sym reads);
+      state =
+          after-both s before ((s.runner, op) ∷ behind)
+          ∙ ap (λ (t : State). state_after_as t ((s.runner, op) ∷ behind)) reads
+          ∙ ap (λ (t : State). state_after_as t behind)
+          (ap (λ (e : ℕ). (step_as seen e op).state) (sym runs) ∙ ap (λ (t : Stepped). t.state) (step_as-runner seen op) ∙ sym acts)
+          ∙ ends;
+    }
+
+-- ---- all of them
+
+record AreAllAmong (s : State) (ops : List Op) (told : List Outcome) (new : State) : Type 0 where
+  list : List (ℕ × Op)
+  among : AreAmongStores s ops told list
+  state : state_after_as s list ≡ new
+  known : are_known s list ≡ true
+
+known-both : (s : State) (xs ys : List (ℕ × Op)) → are_known s xs ≡ true → are_known s ys ≡ true → are_known s (xs ++ ys) ≡ true
+known-both s xs ys front back = list_all-append (λ (x : ℕ × Op). is_known s x.0) xs ys ∙ and_from (are_known s xs) (are_known s ys) front back
+
+known-back : (s t : State) → fixed t ≡ fixed s → (xs : List (ℕ × Op)) → are_known t xs ≡ true → are_known s xs ≡ true
+known-back s t same xs known =
+    subst (λ (parts : List Party × ℕ). list_all (λ (x : ℕ × Op). is_known_among (length parts.0) x.0) xs ≡ true) same known
+
+fixed-after : (xs : List (ℕ × Op)) (s : State) → fixed (state_after_as s xs) ≡ fixed s
+fixed-after [] s = refl
+fixed-after (x ∷ xs) s = fixed-after xs (step_as s x.0 x.1).state ∙ fixed-step_as s x.0 x.1
+
+all-among : (ops : List Op) (alone : Bool) (old new : Snapshot) (told : List Outcome) → IsSoundState old.state → AreDoneReading alone old ops told new
+    → AreAllAmong old.state ops told new.state
+all-among [] alone old new told sound (none, same) =
+    record { list = []; among = (none, refl); state = sym (ap (λ (x : Snapshot). x.state) same); known = refl }
+all-among (op ∷ ops) alone old new told sound (next, outcome, rest, first, done, by_memory, left) =
+    let one = one-among (pages_read old.state op) old op outcome next sound refl done in
+    let both : List (ℕ × Op) = one.before ++ ((old.state.runner, op) ∷ one.behind) in
+    let later = all-among ops alone next new rest (subst IsSoundState one.state (sound_after_as old.state both sound)) left in
+    let runner = runner-known old.state sound in
+    let list : List (ℕ × Op) = one.before ++ ((old.state.runner, op) ∷ (one.behind ++ later.list)) in
+    let same : both ++ later.list ≡ list = append_assoc one.before ((old.state.runner, op) ∷ one.behind) later.list in
+    record {
+      list = list;
+      among = (
+        one.before,
+        one.behind,
+        later.list,
+        rest,
+        refl,
+        one.front,
+        one.back,
+        first ∙ ap (λ (o : Outcome). o ∷ rest) one.outcome,
+        subst (λ (t : State). AreAmongStores t ops rest later.list) (sym one.state) later.among,
+      );
+      state =
+          ap (state_after_as old.state) (sym same) ∙ after-both old.state both later.list
+          ∙ ap (λ (t : State). state_after_as t later.list) one.state ∙ later.state;
+      known =
+          ap (are_known old.state) (sym same)
+          ∙ known-both old.state both later.list
+          (known-both old.state one.before ((old.state.runner, op) ∷ one.behind) (stores-known old.state.runner old.state.ram_base (are_in (pages_read old.state op)) old.state runner one.before one.front)
+          (and_from (is_known old.state old.state.runner) (are_known old.state one.behind) runner
+          (stores-known old.state.runner old.state.ram_base (are_in (pages_read old.state op)) old.state runner one.behind one.back)))
+          (known-back old.state next.state (ap fixed (sym one.state) ∙ fixed-after both old.state) later.list later.known);
+    }
+
+pub interleaved : (ops : List Op) (alone : Bool) (old new : Snapshot) (told : List Outcome) → IsSoundState old.state → AreDoneReading alone old ops told new
+    → IsInterleaved old.state ops told new.state
+interleaved ops alone old new told sound done =
+    let all = all-among ops alone old new told sound done in
+    let steady = sound-steady old.state sound in
+    record {
+      list = all.list;
+      among = all.among;
+      state = all.state;
+      isolated = isolated_as old.state all.list steady all.known;
+      never_grow = subst (NeverGrow old.state) all.state (never_grow_as old.state all.list steady all.known);
+    }
