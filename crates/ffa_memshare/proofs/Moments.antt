@@ -14,7 +14,7 @@ use Rattle.ffa_model.specs.State.{Buffers}
 use Rattle.ffa_physmem.specs.Moments.{IsBeside, IsSettledBy, IsWriting, Only, Step}
 use Rattle.ffa_physmem.proofs.Moments.{Only-map, Only-then, writing-below, writing-keeps}
 use Rattle.ffa_rxtx.specs.Parts.{IsBesideRx, IsRxWriting}
-use Rattle.ffa_stage2.specs.Moments.{EndsSettled, IsBetween, IsMoment, IsOutOrStays}
+use Rattle.ffa_stage2.specs.Moments.{EndsSettled, IsBetween, IsMoment, IsOutOrStays, IsUnchanged}
 use Rattle.ffa_stage2.specs.Orders.{IsOrdered}
 use Rattle.ffa_stage2.specs.Tables.{IsBuilt, table_page}
 use Rattle.ffa_stage2.specs.Blocks.{IsEither}
@@ -99,23 +99,23 @@ cleared-page old middle new first next low inside cleared wrote = record {
 -- ---- each step on the way of a call
 
 -- a right that is the same before, now and behind
-pub stays-same : (now before behind : Option Rights) (settled : Type 0) → now ≡ before → behind ≡ before → IsOutOrStays now before behind settled
-stays-same now None behind settled same still = inl (same, λ none. absurd (false≢true none))
-stays-same now (Some r) behind settled same still = inr (refl, ap is_some still)
+pub stays-same : (now before behind : Option Rights) (settled unchanged : Type 0) → now ≡ before → behind ≡ before → IsOutOrStays now before behind settled unchanged
+stays-same now None behind settled unchanged same still = inl (same, λ none. absurd (false≢true none), λ some. absurd (false≢true (sym (ap is_some still) ∙ some)))
+stays-same now (Some r) behind settled unchanged same still = inr (refl, ap is_some still)
 
 -- or that there wasn't, or is
-stays-some : (before behind : Option Rights) (settled : Type 0) → is_some behind ≡ true → IsOutOrStays before before behind settled
-stays-some None behind settled some = inl (refl, λ none. absurd (false≢true none))
-stays-some (Some r) behind settled some = inr (refl, some)
+stays-some : (before behind : Option Rights) (settled unchanged : Type 0) → is_some behind ≡ true → unchanged → IsOutOrStays before before behind settled unchanged
+stays-some None behind settled unchanged some begins = inl (refl, λ none. absurd (false≢true none), λ _. begins)
+stays-some (Some r) behind settled unchanged some begins = inr (refl, some)
 
 other-right : (access : ℕ → ℕ → Option Rights) (index : ℕ) (named : ℕ → Bool) (right : ℕ → Option Rights) (e p : ℕ) → (e ≡ index → ⊥) → with_rights access index named right e p ≡ access e p
 other-right access index named right e p other = let off : (e == index && named p) ≡ false = grind (arith, nat_tests) in rw off
 
 module _ (old new : Ram) (n b : ℕ) (access after : ℕ → ℕ → Option Rights) (built : IsBuilt old n b access) (is : IsBuilt new n b after) (stays : new.base ≡ old.base) where
   -- a word of an endpoint's tables
-  pub granted-moment : (index : ℕ) → index < n → (h : List Step) (s : Step) → IsBetween s.after n b access after → s.after.base ≡ old.base → IsOrdered old b index h s
-      → IsMoment old new n b h s
-  granted-moment index lt h s between base ordered = record {
+  pub granted-moment : (index : ℕ) → index < n → (past : Option (List Step)) (h : List Step) (s : Step) → IsBetween s.after n b access after → s.after.base ≡ old.base → IsOrdered old b index h s
+      → IsMoment old new n b past h s
+  granted-moment index lt past h s between base ordered = record {
     access = access;
     after = after;
     was = built;
@@ -128,8 +128,8 @@ module _ (old new : Ram) (n b : ℕ) (access after : ℕ → ℕ → Option Righ
   }
 
   -- nothing, while the tables give the rights in the end
-  pub settled-moment : (middle : Ram) → IsBuilt middle n b after → middle.base ≡ old.base → (h : List Step) (s : Step) → s.after ≡ s.before → s.after ≡ middle → IsMoment old new n b h s
-  settled-moment middle done base h s same at = record {
+  pub settled-moment : (middle : Ram) → IsBuilt middle n b after → middle.base ≡ old.base → (past : Option (List Step)) (h : List Step) (s : Step) → s.after ≡ s.before → s.after ≡ middle → IsMoment old new n b past h s
+  settled-moment middle done base past h s same at = record {
     access = access;
     after = after;
     was = built;
@@ -143,9 +143,11 @@ module _ (old new : Ram) (n b : ℕ) (access after : ℕ → ℕ → Option Righ
 
   -- pages behind the tables, while these give one of the two
   pub written-moment : (middle : Ram) (named : ℕ → Bool) (rights : ℕ → ℕ → Option Rights) → AreBehind n b named → IsBuilt middle n b rights → IsBetween middle n b access after → middle.base ≡ old.base
-      → (h : List Step) (s : Step) → IsWriting middle named s
-      → ((p : ℕ) → named p ≡ true → (e : ℕ) → e < n → IsOutOrStays (rights e p) (access e p) (after e p) (IsSettledBy (table_page b n 0) e p h)) → IsMoment old new n b h s
-  written-moment middle named rights behind now between base h s writing each = record {
+      → (past : Option (List Step)) (h : List Step) (s : Step) → IsWriting middle named s
+      → ((p : ℕ) → named p ≡ true → (e : ℕ) → e < n
+      → IsOutOrStays (rights e p) (access e p) (after e p) (IsSettledBy (table_page b n 0) e p h) (IsUnchanged (table_page b n 0) past h))
+      → IsMoment old new n b past h s
+  written-moment middle named rights behind now between base past h s writing each = record {
     access = access;
     after = after;
     was = built;
@@ -167,20 +169,34 @@ module _ (old new : Ram) (n b : ℕ) (access after : ℕ → ℕ → Option Righ
       below p low = false_from_ne_true (named p) (λ at. absurd (omega (arith, low, behind p at)))
 
 -- rights that end: nobody who had one has it any more, and it is settled
-pub taken-each : (access : ℕ → ℕ → Option Rights) (index : ℕ) (named : ℕ → Bool) (right : ℕ → Option Rights) (e p : ℕ) (settled : Type 0) → named p ≡ true → right p ≡ None → (e ≡ index → settled)
-    → IsOutOrStays (with_rights access index named right e p) (access e p) (with_rights access index named right e p) settled
-taken-each access index named right e p settled at none is = elim (cases_eq e index) [
-  | inl same ↦ inl (rw same (its-right access index named right p at ∙ none), λ _. is same)
-  | inr other ↦ stays-same _ (access e p) _ settled (other-right access index named right e p (λ same. other same)) (other-right access index named right e p (λ same. other same))
+pub taken-each : (access : ℕ → ℕ → Option Rights) (index : ℕ) (named : ℕ → Bool) (right : ℕ → Option Rights) (e p : ℕ) (settled unchanged : Type 0)
+    → named p ≡ true → right p ≡ None → (e ≡ index → settled)
+    → IsOutOrStays (with_rights access index named right e p) (access e p) (with_rights access index named right e p) settled unchanged
+taken-each access index named right e p settled unchanged at none is = elim (cases_eq e index) [
+  | inl same ↦
+      let gone : with_rights access index named right e p ≡ None = rw same (its-right access index named right p at ∙ none) in
+      inl (gone, λ _. is same, λ some. absurd (false≢true (sym (ap is_some gone) ∙ some)))
+  | inr other ↦ stays-same _ (access e p) _ settled unchanged (other-right access index named right e p (λ same. other same)) (other-right access index named right e p (λ same. other same))
 ]
 
--- rights that begin
-pub given-each : (access : ℕ → ℕ → Option Rights) (index : ℕ) (named : ℕ → Bool) (right : ℕ → Option Rights) (e p : ℕ) (settled : Type 0) → named p ≡ true → is_some (right p) ≡ true
-    → IsOutOrStays (access e p) (access e p) (with_rights access index named right e p) settled
-given-each access index named right e p settled at some = elim (cases_eq e index) [
-  | inl same ↦ stays-some (access e p) _ settled (ap is_some (rw same (its-right access index named right p at)) ∙ some)
-  | inr other ↦ stays-same (access e p) (access e p) _ settled refl (other-right access index named right e p (λ same. other same))
+-- rights that begin, when no table has changed yet
+pub given-each : (access : ℕ → ℕ → Option Rights) (index : ℕ) (named : ℕ → Bool) (right : ℕ → Option Rights) (e p : ℕ) (settled unchanged : Type 0)
+    → named p ≡ true → is_some (right p) ≡ true → unchanged
+    → IsOutOrStays (access e p) (access e p) (with_rights access index named right e p) settled unchanged
+given-each access index named right e p settled unchanged at some begins = elim (cases_eq e index) [
+  | inl same ↦ stays-some (access e p) _ settled unchanged (ap is_some (rw same (its-right access index named right p at)) ∙ some) begins
+  | inr other ↦ stays-same (access e p) (access e p) _ settled unchanged refl (other-right access index named right e p (λ same. other same))
 ]
+
+-- no table changes while pages behind the tables are written
+pub unchanged-first : (end : ℕ) (past : Option (List Step)) (h : List Step) → past ≡ Some h → IsUnchanged end past h
+unchanged-first end past [] there = there
+unchanged-first end past (s ∷ h) there = inl there
+
+pub unchanged-along : (ram : Ram) (named : ℕ → Bool) (end : ℕ) (past : Option (List Step)) → ((q : ℕ) → named q ≡ true → end ≤ q) → (h : List Step) (s : Step) → IsWriting ram named s
+    → IsUnchanged end past h → IsUnchanged end past (s ∷ h)
+unchanged-along ram named end past behind h s writing so_far =
+    inr (writing-below ram s named end (λ q low. false_from_ne_true (named q) (λ at. absurd (omega (arith, low, behind q at)))) writing, so_far)
 
 -- what is settled stays so while pages behind the tables are written
 pub settled-along : (ram : Ram) (named : ℕ → Bool) (end e p : ℕ) → ((q : ℕ) → named q ≡ true → end ≤ q) → (h : List Step) (s : Step) → IsWriting ram named s
@@ -241,8 +257,8 @@ module _ (memory : Memory) (granted new : Ram) (index : ℕ) (named : ℕ → Bo
       built-kept granted ram n b after is its.beside.base its.beside.size
       (λ p low. its.beside.pages p (before-run x.rx x.pages p (omega (arith, low, rx.behind x its.are))))
 
-  pub then-responded : (past middle last : Option (List Step)) → Only past middle (λ h s. IsMoment old granted n b h s) → Only middle last (λ _ s. IsRxWriting granted own s)
-      → Only past last (λ h s. IsMoment old new n b h s)
+  pub then-responded : (past middle last : Option (List Step)) → Only past middle (λ h s. IsMoment old granted n b past h s) → Only middle last (λ _ s. IsRxWriting granted own s)
+      → Only past last (λ h s. IsMoment old new n b past h s)
   then-responded past middle last first second =
       let after : ℕ → ℕ → Option Rights = with_rights access index named right in
       let is : IsBuilt granted n b after = done access built in
@@ -261,8 +277,8 @@ module _ (memory : Memory) (granted new : Ram) (index : ℕ) (named : ℕ → Bo
       (λ h s its.
       let x = its.buffers in
       written-moment old new n b access after built (kept new beside after is) (beside.beside.base ∙ base) granted (is_in_run x.rx x.pages) after
-      (behind-rx x its.are) is (between-behind granted n b access after is) base h s its.writing
-      (λ p at e he. let same : after e p ≡ access e p = sym (no-rights access index named right e p (rx.apart x its.are p at)) in stays-same (after e p) (access e p) (after e p) _ same same))
+      (behind-rx x its.are) is (between-behind granted n b access after is) base past h s its.writing
+      (λ p at e he. let same : after e p ≡ access e p = sym (no-rights access index named right e p (rx.apart x its.are p at)) in stays-same (after e p) (access e p) (after e p) _ _ same same))
 
   -- and nobody's rights end
   pub responded-ends : ((p : ℕ) → named p ≡ true → is_some (right p) ≡ true) → (last : Option (List Step)) → EndsSettled old new n b last

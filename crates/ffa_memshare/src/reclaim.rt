@@ -15,7 +15,7 @@ ghost use Rattle.ffa_memshare.specs.Memory.{memory_of};
 ghost use Rattle.ffa_memshare.specs.Ranges.{in_ranges};
 ghost use Rattle.ffa_memshare.specs.Shared.{IsShared};
 ghost use Rattle.ffa_memshare.specs.SlotChanges.{IsClosed};
-ghost use Rattle.ffa_memshare.specs.Steps.{EndsSettledFor, IsMomentFor};
+ghost use Rattle.ffa_memshare.specs.Steps.{EndsSettledFor, OnlyMomentsFor};
 ghost use Rattle.ffa_memshare.specs.Stored.{open_in, transaction_in};
 
 use crate::changed::{Done, News, Value, changed_sender};
@@ -65,8 +65,7 @@ impl<O: Room<OpenSlot> + Drop> Pool<O> {
             let named = in_ranges layout.now.base.0 ranges in
             let right = own_right_at pages.old in let zero = flags == 1 in
             OnOk result (IsMovedFor layout.now (M.ram ram.old) (M.ram ram.new) (place caller.0) named right zero) }
-        ensures steps { Only (M.past ram.old) (M.past ram.new)
-            (IsMomentFor layout.now (M.ram ram.old) (M.ram ram.new)) }
+        ensures steps { OnlyMomentsFor layout.now (M.ram ram.old) (M.ram ram.new) (M.past ram.old) (M.past ram.new) }
         ensures ended { EndsSettledFor layout.now (M.ram ram.old) (M.ram ram.new) (M.past ram.new) }
         ensures pages { let ranges = named_ranges (transaction_in self.old.slots handle.0) in
             let named = in_ranges layout.now.base.0 ranges in

@@ -12,7 +12,7 @@ ghost use Rattle.ffa_memshare.specs.Callers.{IsCaller};
 ghost use Rattle.ffa_memshare.specs.Memory.{memory_of, memory_parts};
 ghost use Rattle.ffa_memshare.specs.Relinquished.{IsRelinquished};
 ghost use Rattle.ffa_memshare.specs.Shared.{IsShared};
-ghost use Rattle.ffa_memshare.specs.Steps.{EndsSettledFor, IsMomentFor};
+ghost use Rattle.ffa_memshare.specs.Steps.{EndsSettledFor, OnlyMomentsFor};
 ghost use Rattle.ffa_memshare.specs.Stored.{open_in};
 
 use crate::changed::{Done, News, Value};
@@ -62,8 +62,7 @@ impl<O: Room<OpenSlot> + Drop> Pool<O> {
             let after = memory_parts (M.ram ram.new) layout.now pages.now buffers.now self.new in
             let bytes = tx_in (M.ram ram.old) (buffers_in buffers.now caller.0) in
             IfOk result (λ done. IsRelinquished before after caller.0 bytes done.changed) }
-        ensures steps { Only (M.past ram.old) (M.past ram.new)
-            (IsMomentFor layout.now (M.ram ram.old) (M.ram ram.new)) }
+        ensures steps { OnlyMomentsFor layout.now (M.ram ram.old) (M.ram ram.new) (M.past ram.old) (M.past ram.new) }
         ensures ended { EndsSettledFor layout.now (M.ram ram.old) (M.ram ram.new) (M.past ram.new) }
     {
         let found = self.check_relinquish(ram, buffers, caller)?;

@@ -19,7 +19,7 @@ ghost use Rattle.ffa_memshare.specs.Ranges.{ArePlaced, in_ranges};
 ghost use Rattle.ffa_memshare.specs.Retrieved.{IsPassedOn, IsResponded, IsRetrieved, IsTaken};
 ghost use Rattle.ffa_memshare.specs.Scenes.{descriptor_in, scene_in};
 ghost use Rattle.ffa_memshare.specs.Shared.{IsHeld, IsShared};
-ghost use Rattle.ffa_memshare.specs.Steps.{EndsSettledFor, IsMomentFor};
+ghost use Rattle.ffa_memshare.specs.Steps.{EndsSettledFor, OnlyMomentsFor};
 ghost use Rattle.ffa_memshare.specs.Stored.{open_in, pool_slot, view_of};
 
 use crate::changed::{Done, News, Value};
@@ -80,7 +80,7 @@ impl<O: Room<OpenSlot> + Drop> Pool<O> {
             IfOk result (IsRetrieved before after caller bytes) }
         ensures steps { let before = memory_parts (M.ram ram.old) layout.now pages.old buffers.old self.old in
             IsRxApartOfOpen before caller.0
-            → Only (M.past ram.old) (M.past ram.new) (IsMomentFor layout.now (M.ram ram.old) (M.ram ram.new)) }
+            → OnlyMomentsFor layout.now (M.ram ram.old) (M.ram ram.new) (M.past ram.old) (M.past ram.new) }
         ensures ended { let before = memory_parts (M.ram ram.old) layout.now pages.old buffers.old self.old in
             IsRxApartOfOpen before caller.0
             → EndsSettledFor layout.now (M.ram ram.old) (M.ram ram.new) (M.past ram.new) }
@@ -153,7 +153,7 @@ impl OpenTransaction {
         ensures full { buffers.new ≡ buffers_with_rx buffers.old caller.0 true }
         ensures steps { let before = memory_of (M.ram ram.old) layout.now pages.now in
             IsRxApart before (buffers_in buffers.old caller.0) (in_ranges layout.now.base.0 self.now.ranges)
-            → Only (M.past ram.old) (M.past ram.new) (IsMomentFor layout.now (M.ram ram.old) (M.ram ram.new)) }
+            → OnlyMomentsFor layout.now (M.ram ram.old) (M.ram ram.new) (M.past ram.old) (M.past ram.new) }
         ensures ended { let before = memory_of (M.ram ram.old) layout.now pages.now in
             IsRxApart before (buffers_in buffers.old caller.0) (in_ranges layout.now.base.0 self.now.ranges)
             → EndsSettledFor layout.now (M.ram ram.old) (M.ram ram.new) (M.past ram.new) }

@@ -15,7 +15,7 @@ ghost use Rattle.ffa_memshare.specs.Memory.{memory_of, memory_parts};
 ghost use Rattle.ffa_memshare.specs.Scenes.{descriptor_in, scene_in};
 ghost use Rattle.ffa_memshare.specs.Sent.{IsSent};
 ghost use Rattle.ffa_memshare.specs.Shared.{IsRoom};
-ghost use Rattle.ffa_memshare.specs.Steps.{EndsSettledFor, IsMomentFor};
+ghost use Rattle.ffa_memshare.specs.Steps.{EndsSettledFor, OnlyMomentsFor};
 ghost use Rattle.ffa_memshare.specs.Stored.{open_in};
 
 use crate::changed::{Done, News, Value, changed_sender};
@@ -76,8 +76,7 @@ impl<O: Room<OpenSlot> + Drop> Pool<O> {
 
         // At each moment the walks of all endpoints at an address are those from before the call, or all are
         // those from behind.
-        ensures steps { Only (M.past ram.old) (M.past ram.new)
-            (IsMomentFor layout.now (M.ram ram.old) (M.ram ram.new)) }
+        ensures steps { OnlyMomentsFor layout.now (M.ram ram.old) (M.ram ram.new) (M.past ram.old) (M.past ram.new) }
         ensures ended { EndsSettledFor layout.now (M.ram ram.old) (M.ram ram.new) (M.past ram.new) }
     {
         let draft = &mut news.draft;

@@ -17,7 +17,7 @@ ghost use Rattle.ffa_memshare.specs.Ranges.{ArePlaced, in_ranges};
 ghost use Rattle.ffa_memshare.specs.Grants.{new_right};
 ghost use Rattle.ffa_memshare.specs.Sent.{right_after};
 ghost use Rattle.ffa_memshare.specs.Shared.{IsHeld};
-ghost use Rattle.ffa_memshare.specs.Steps.{EndsSettledFor, IsMomentFor};
+ghost use Rattle.ffa_memshare.specs.Steps.{EndsSettledFor, OnlyMomentsFor};
 
 use crate::common::{Common, common_of};
 use crate::grants::NewRight;
@@ -171,8 +171,7 @@ impl OpenTransaction {
         ensures moved { let named = in_ranges layout.now.base.0 self.now.ranges in
             let index = place self.now.sender.0 in let right = own_right_at pages.old in
             IsMovedFor layout.now (M.ram ram.old) (M.ram ram.new) index named right zero }
-        ensures steps { Only (M.past ram.old) (M.past ram.new)
-            (IsMomentFor layout.now (M.ram ram.old) (M.ram ram.new)) }
+        ensures steps { OnlyMomentsFor layout.now (M.ram ram.old) (M.ram ram.new) (M.past ram.old) (M.past ram.new) }
         ensures ended { EndsSettledFor layout.now (M.ram ram.old) (M.ram ram.new) (M.past ram.new) }
         ensures marked { let named = in_ranges layout.now.base.0 self.now.ranges in
             IsMarked pages.old pages.new named (Mark.Named None) }
@@ -196,8 +195,7 @@ impl OpenTransaction {
         ensures moved { let named = in_ranges layout.now.base.0 self.now.ranges in
             let index = place self.now.sender.0 in let right = new_right (right_after self.now.kind) pages.old in
             IsMovedFor layout.now (M.ram ram.old) (M.ram ram.new) index named right self.now.zero }
-        ensures steps { Only (M.past ram.old) (M.past ram.new)
-            (IsMomentFor layout.now (M.ram ram.old) (M.ram ram.new)) }
+        ensures steps { OnlyMomentsFor layout.now (M.ram ram.old) (M.ram ram.new) (M.past ram.old) (M.past ram.new) }
         ensures ended { EndsSettledFor layout.now (M.ram ram.old) (M.ram ram.new) (M.past ram.new) }
         ensures marked { let named = in_ranges layout.now.base.0 self.now.ranges in
             IsMarked pages.old pages.new named (Mark.Named (Some slot)) }

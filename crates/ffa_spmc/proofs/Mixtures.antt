@@ -114,6 +114,7 @@ module _ (s t : State) (old new : Ram) (was : Agrees old s) (is : Agrees new t) 
     held = Only-map (Only-turn new turns (all-mixed past later moments rest)) (λ h step its.
         let (turn, between) = its in
         held-between old new step.after (length s.parties) (blocks_of s) (step ∷ h) turn between);
+    unheld = moments.mixtures.unheld rest;
     rest = moments.mixtures.rest rest is-steady;
   }
 

@@ -81,16 +81,16 @@ module _ (x : Parts) (machine : IsManager x) where
 
   -- rights that change
   pub moments-of : (new : Ram) (past later : Option (List Step)) → TurnsIn new later
-      → Only past later (λ h s. IsMoment x.ram new (array_vec_len x.kept.layout.regions) x.kept.layout.blocks h s)
+      → Only past later (λ h s. IsMoment x.ram new (array_vec_len x.kept.layout.regions) x.kept.layout.blocks past h s)
       → EndsSettled x.ram new (array_vec_len x.kept.layout.regions) x.kept.layout.blocks later → AreMoments (state_of x) x.ram new past later
   unfolding IsMixed
   moments-of new past later turns only ended = record {
     steps =
-        Only-map (of-manifest x machine (λ base endpoints blocks. Only past later (λ h s. IsMoment x.ram new endpoints blocks h s)) only)
-        (λ h s m. by-state x.ram new h s (moment-walks x.ram new n b h s m) m.order (moment-unreached x.ram new n b h s m));
+        Only-map (of-manifest x machine (λ base endpoints blocks. Only past later (λ h s. IsMoment x.ram new endpoints blocks past h s)) only)
+        (λ h s m. by-state x.ram new h s (moment-walks x.ram new n b past h s m) m.order (moment-unreached x.ram new n b past h s m));
     ended = of-state (λ k j. EndsSettled x.ram new k j later) (of-manifest x machine (λ base endpoints blocks. EndsSettled x.ram new endpoints blocks later) ended);
     mixtures = of-state (λ k j. AreMixed x.ram new k j past later) (mixed-of x.ram new n b past later turns
-        (of-manifest x machine (λ base endpoints blocks. Only past later (λ h s. IsMoment x.ram new endpoints blocks h s)) only)
+        (of-manifest x machine (λ base endpoints blocks. Only past later (λ h s. IsMoment x.ram new endpoints blocks past h s)) only)
         (of-manifest x machine (λ base endpoints blocks. EndsSettled x.ram new endpoints blocks later) ended));
   }
 
@@ -102,16 +102,16 @@ module _ (x : Parts) (machine : IsManager x) where
   beside-moments new still {past = past} {later = later} turns only its =
       let old = machine.tables.built in
       let rights = access_by_place (state_of x) in
-      let moments : Only past later (λ h s. IsMoment x.ram new n b h s) =
+      let moments : Only past later (λ h s. IsMoment x.ram new n b past h s) =
       Only-map only (λ h s holds.
       let (named, behind, writing) = its h s holds in
       written-moment x.ram new n b rights rights old still.built (still.base ∙ sym machine.tables.base) x.ram named rights behind old
-      (between-first x.ram n b rights rights old) refl h s writing
-      (λ p at e he. stays-same (rights e p) (rights e p) (rights e p) _ refl refl))
+      (between-first x.ram n b rights rights old) refl past h s writing
+      (λ p at e he. stays-same (rights e p) (rights e p) (rights e p) _ _ refl refl))
       in
       let ends : EndsSettled x.ram new n b later = no-right-ends x.ram new n b rights rights old still.built later (λ e p was. was) in
       record {
-        steps = Only-map moments (λ h s m. by-state x.ram new h s (moment-walks x.ram new n b h s m) m.order (moment-unreached x.ram new n b h s m));
+        steps = Only-map moments (λ h s m. by-state x.ram new h s (moment-walks x.ram new n b past h s m) m.order (moment-unreached x.ram new n b past h s m));
         ended = of-state (λ k j. EndsSettled x.ram new k j later) ends;
         mixtures = of-state (λ k j. AreMixed x.ram new k j past later) (mixed-of x.ram new n b past later turns moments ends);
       }

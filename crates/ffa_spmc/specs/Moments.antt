@@ -16,7 +16,8 @@ pub record IsSafeStep (s : State) (old new : Ram) (h : List Step) (step : Step) 
   pub order : IsInOrder old (length s.parties) (blocks_of s) h step
   pub unreached : WritesUnreached old new (length s.parties) (blocks_of s) h step
 
--- where the tables were at rest: each endpoint's walks in mixtures give what they give in either, or a translation fault
+-- where the tables were at rest: each endpoint's walks in mixtures give what they give in either, or a translation fault, and
+-- pages behind the tables change only while no translation unit may hold a way there
 unfoldable pub IsMixed : State → Ram → Ram → Option (List Step) → Option (List Step) → Type 0
 IsMixed s old new past later = AreMixed old new (length s.parties) (blocks_of s) past later
 

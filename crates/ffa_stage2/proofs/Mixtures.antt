@@ -28,12 +28,12 @@ use Rattle.ffa_stage2.proofs.Places.{table_page-address, table_page-below, table
 -- ---- what may be read
 
 -- what stands there
-may-now : (e p : ℕ) (h : List Step) (ram : Ram) (page i : ℕ) → MayRead e p h ram page i (word_of (page_of ram page) i)
+pub may-now : (e p : ℕ) (h : List Step) (ram : Ram) (page i : ℕ) → MayRead e p h ram page i (word_of (page_of ram page) i)
 may-now e p [] ram page i = refl
 may-now e p (s ∷ h) ram page i = inl refl
 
 -- of a word that a step leaves as it is, what might be read before
-may-kept : (e p : ℕ) (s : Step) (h : List Step) (page i v : ℕ) → word_of (page_of s.after page) i ≡ word_of (page_of s.before page) i
+pub may-kept : (e p : ℕ) (s : Step) (h : List Step) (page i v : ℕ) → word_of (page_of s.after page) i ≡ word_of (page_of s.before page) i
     → MayRead e p (s ∷ h) s.after page i v → MayRead e p h s.before page i v
 may-kept e p s h page i v same (inl is) = subst (MayRead e p h s.before page i) (sym (is ∙ same)) (may-now e p h s.before page i)
 may-kept e p s h page i v same (inr (off, before)) = before
@@ -415,6 +415,38 @@ walk-mixed ram m n b e a h Is room he ha reads mix =
             | inl none ↦ inl none
             | inr link ↦ let (q, its, is) = x.leaf _ third in inr (inr (q, subst (λ (p : ℕ). Is e p q) (sym at) its, link, is))
           ]
+        ]
+
+-- in RAM that has the words of an endpoint's tables as they stand
+pub walk-words : (ram m : Ram) (n b e a : ℕ) (rights : ℕ → ℕ → Option Rights) → IsStanding ram n b rights → e < n → a < 2 ^ 32 → m.base ≡ ram.base → length m.pages ≡ length ram.pages
+    → ((t i : ℕ) → t < table_pages b → i < 512 → word_of (page_of m (table_page b e t)) i ≡ word_of (page_of ram (table_page b e t)) i)
+    → IsAnswered m a (λ q. q ≡ rights e (page_at ram a)) (walk_at m b e a)
+walk-words ram m n b e a rights stands he ha base size words =
+    walk-way m n b e a (λ q. q ≡ rights e (page_at ram a)) (HasRoom-kept ram m n b stands.fits base size) he ha
+    (λ i hi. rw base (words 0 i (omega arith) hi ∙ stands.level1 e i he hi))
+    (λ i hi off. words 1 i (omega arith) hi ∙ stands.outside e i he hi (rw base at off))
+    (λ k j hk hj at. subst (λ (c : ℕ). (word_of (page_of m (table_page b e 1)) (level2_place c + k) ≡ 0)
+    ⊎ (((r : Rights) × (Some r ≡ rights e (page_at ram a)) × (word_of (page_of m (table_page b e 1)) (level2_place c + k) ≡ block_word (c + 0x200000 * k) r))
+    ⊎ ((q : Option Rights) × (q ≡ rights e (page_at ram a)) × (word_of (page_of m (table_page b e 1)) (level2_place c + k) ≡ table_link c b e (2 + k))
+    × (word_of (page_of m (table_page b e (2 + k))) j ≡ page_word (c + 0x200000 * k + 4096 * j) q)))) (sym base)
+    (way k j hk hj (ap (λ (c : ℕ). (a - c) / 4096) (sym base) ∙ at)))
+  where
+    way : (k j : ℕ) → k < b → j < 512 → page_at ram a ≡ 512 * k + j
+        → (word_of (page_of m (table_page b e 1)) (level2_place ram.base + k) ≡ 0)
+        ⊎ (((r : Rights) × (Some r ≡ rights e (page_at ram a)) × (word_of (page_of m (table_page b e 1)) (level2_place ram.base + k) ≡ block_word (ram.base + 0x200000 * k) r))
+        ⊎ ((q : Option Rights) × (q ≡ rights e (page_at ram a)) × (word_of (page_of m (table_page b e 1)) (level2_place ram.base + k) ≡ table_link ram.base b e (2 + k))
+        × (word_of (page_of m (table_page b e (2 + k))) j ≡ page_word (ram.base + 0x200000 * k + 4096 * j) q)))
+    way k j hk hj at =
+        let aligned : ram.base % MOST_RAM ≡ 0 = stands.fits.place in
+        let few : b ≤ MOST_BLOCKS = stands.fits.few in
+        let within : ram.base + 0x200000 * b ≤ 2 ^ 32 = stands.fits.within in
+        let second = words 1 (level2_place ram.base + k) (omega arith) (omega arith) in
+        let third = words (2 + k) j (omega (arith, hk)) hj in
+        let here : rights e (512 * k + j) ≡ rights e (page_at ram a) = ap (rights e) (sym at) in
+        elim (stands.each e k he hk) [
+          | inl it ↦ inr (inl (it.right, sym (it.one j hj) ∙ here, second ∙ it.is))
+          | inr (inl it) ↦ inr (inr (rights e (512 * k + j), here, second ∙ it.is, third ∙ it.pages j hj))
+          | inr (inr it) ↦ inl (second ∙ it.is)
         ]
 
 -- what walks give in one of two RAMs, or nothing

@@ -358,8 +358,8 @@ walks-between old new ram n b access after built built' between base size base' 
       ])
     ]
 
-pub moment-walks : (old new : Ram) (n b : ℕ) (h : List Step) (s : Step) → IsMoment old new n b h s → WalksBetween old new n b s.after
-moment-walks old new n b h s m =
+pub moment-walks : (old new : Ram) (n b : ℕ) (past : Option (List Step)) (h : List Step) (s : Step) → IsMoment old new n b past h s → WalksBetween old new n b s.after
+moment-walks old new n b past h s m =
     walks-between old new s.after n b m.access m.after m.was m.is m.between m.place (m.between.stands.fits.size ∙ sym m.was.fits.size) m.stays (m.is.fits.size ∙ sym m.was.fits.size)
 
 -- ---- pages that nobody reaches
@@ -385,8 +385,8 @@ unfolding mapped_answer
 answer-some None a = refl
 answer-some (Some r) a = refl
 
-pub moment-unreached : (old new : Ram) (n b : ℕ) (h : List Step) (s : Step) → IsMoment old new n b h s → WritesUnreached old new n b h s
-moment-unreached old new n b h s m p behind hp = elim m.unreached [
+pub moment-unreached : (old new : Ram) (n b : ℕ) (past : Option (List Step)) (h : List Step) (s : Step) → IsMoment old new n b past h s → WritesUnreached old new n b h s
+moment-unreached old new n b past h s m p behind hp = elim m.unreached [
   | inl kept ↦ inl (kept p behind)
   | inr free ↦ elim (free.each p behind) [
     | inl kept ↦ inl kept
@@ -399,7 +399,7 @@ moment-unreached old new n b h s m p behind hp = elim m.unreached [
         ap is_ok (walk-page new n b m.after e p old.base (standing-of_built new n b m.after m.is) (sym m.stays) he hp) ∙ sym (answer-some (m.after e p) a)
         in
         elim (each e he) [
-          | inl (none, settled) ↦ inl (walk-page s.before n b free.rights e p old.base free.stands (sym free.place) he hp ∙ answer-none (free.rights e p) a none, λ ok. settled (sym some-then ∙ ok))
+          | inl (none, settled, _) ↦ inl (walk-page s.before n b free.rights e p old.base free.stands (sym free.place) he hp ∙ answer-none (free.rights e p) a none, λ ok. settled (sym some-then ∙ ok))
           | inr (one, other) ↦ inr (some-then ∙ one, some-now ∙ other)
         ])
   ]

@@ -1,6 +1,6 @@
 -- SPDX-License-Identifier: MIT OR Apache-2.0
 -- Steps on the way from one RAM to another: what walks in mixtures give at each, and that the tables are at rest behind the last.
-use Rattle.std.proofs.Common.{◌≡◌, ◌∙◌, ℕ, ◌+◌, ◌-◌, ◌*◌, ◌/◌, ◌^◌, ◌<◌, ◌≤◌, Bool, true, false, refl, ap, sym, subst, arith, List, [], ◌∷◌, length, Option, Some, None, inl, inr, ◌⊎◌}
+use Rattle.std.proofs.Common.{◌≡◌, ◌∙◌, ℕ, ◌+◌, ◌-◌, ◌*◌, ◌/◌, ◌^◌, ◌<◌, ◌≤◌, Bool, true, false, refl, ap, sym, subst, arith, List, [], ◌∷◌, length, Option, Some, None, Err, inl, inr, ◌⊎◌}
 use Rattle.std.specs.Prelude.{◌==◌, ◌&&◌, is_some, is_ok, if◌then◌else◌}
 use Rattle.std.proofs.lemmas.Bool.{cases_Bool, true≢false}
 use Rattle.std.proofs.lemmas.Bool.Decides.{nat_tests}
@@ -8,15 +8,16 @@ use Rattle.ffa_model.specs.declared.limits.TheConstants.{MOST_BLOCKS}
 use Rattle.ffa_model.specs.Ram.{Ram, page_of, word_of}
 use Rattle.ffa_model.specs.Walk.{Answer, is_in_ram, mapped_answer}
 use Rattle.ffa_model.specs.declared.rights.Rights.{Rights}
-use Rattle.ffa_physmem.specs.Moments.{Adds, AreInTurn, IsSettledBy, Only, Settles, Step, TurnsIn}
+use Rattle.ffa_model.specs.declared.operation.FaultKind.TheVariants.{Translation}
+use Rattle.ffa_physmem.specs.Moments.{Adds, AreInTurn, IsSettledBy, KeepsBelow, Only, Settles, StaysPlaced, Step, TurnsIn}
 use Rattle.ffa_physmem.proofs.Moments.{Only-along, Only-behind-all, Only-map, Only-none}
-use Rattle.ffa_stage2.specs.Held.{MayHold}
-use Rattle.ffa_stage2.specs.Mixtures.{IsMixture, MayRead, MixedBetween}
-use Rattle.ffa_stage2.specs.Moments.{EndsSettled, IsBetween, IsMoment, walk_at}
+use Rattle.ffa_stage2.specs.Held.{MayHold, WritesUnheld}
+use Rattle.ffa_stage2.specs.Mixtures.{IsMixture, MayRead, MixedBetween, page_at}
+use Rattle.ffa_stage2.specs.Moments.{EndsSettled, IsBetween, IsMoment, IsUnchanged, walk_at}
 use Rattle.ffa_stage2.specs.Orders.{IsOrdered}
 use Rattle.ffa_stage2.specs.Rest.{AllSettled, AreAtRest, AreMixed, IsAsIn, IsWalked, Reads, ReadsBlock, ReadsTable, RestIn, WalksSameOrNone}
-use Rattle.ffa_stage2.specs.Tables.{IsBuilt, WalksChange, is_in_pages, level2_place, table_page}
-use Rattle.ffa_stage2.proofs.Mixtures.{IsAsInEither, OneDiffers, mixed-between, reads-behind}
+use Rattle.ffa_stage2.specs.Tables.{HasRoom, IsBuilt, IsStanding, WalksChange, is_in_pages, level2_place, table_page}
+use Rattle.ffa_stage2.proofs.Mixtures.{IsAsInEither, OneDiffers, may-kept, mixed-between, reads-behind, walk-mixed, walk-words}
 use Rattle.ffa_stage2.proofs.Moments.{ordered-behind}
 use Rattle.ffa_stage2.proofs.Places.{table_page-below_end}
 use Rattle.ffa_stage2.proofs.Walks.{walk-built}
@@ -41,8 +42,8 @@ walked-of ram n b rights e p r built he hp is i hi =
     ap (λ (q : Option Rights). mapped_answer q (ram.base + 4096 * p + i)) is ∙ sym (walk-byte ram n b rights e p i built he hp hi)
 
 -- the rights at a moment are those before all steps, or behind all, or none
-moment-either : (old new : Ram) (n b : ℕ) (h : List Step) (s : Step) (m : IsMoment old new n b h s) (e p : ℕ) → e < n → p < 512 * b → IsAsInEither old new b e p (m.between.rights e p)
-moment-either old new n b h s m e p he hp = elim (m.between.each p) [
+moment-either : (old new : Ram) (n b : ℕ) (past : Option (List Step)) (h : List Step) (s : Step) (m : IsMoment old new n b past h s) (e p : ℕ) → e < n → p < 512 * b → IsAsInEither old new b e p (m.between.rights e p)
+moment-either old new n b past h s m e p he hp = elim (m.between.each p) [
   | inl kept ↦ elim (kept e) [ inl is ↦ inl (inr (walked-of old n b m.access e p (m.between.rights e p) m.was he hp is)) | inr none ↦ inl (inl none) ]
   | inr changed ↦ elim (changed e) [ inl is ↦ inr (inr (walked-of new n b m.after e p (m.between.rights e p) m.is he hp is)) | inr none ↦ inl (inl none) ]
 ]
@@ -80,37 +81,7 @@ Adds-turn past P (s ∷ h) ram (at, placed, turn) (inr (its, rest)) = inr (((ref
 pub Only-turn : {past later : Option (List Step)} {P : List Step → Step → Type 0} (new : Ram) → TurnsIn new later → Only past later P → Only past later (λ h s. AreInTurn (s ∷ h) s.after × P h s)
 Only-turn {past} {later} {P} new turns only = record { each = λ h there. Adds-turn past P h new (turns h there) (only.each h there) }
 
-module _ (old new : Ram) (n b : ℕ) (past later : Option (List Step)) (rest : RestIn old n b past) (turns : TurnsIn new later) (only : Only past later (λ h s. IsMoment old new n b h s)) where
-  abbrev AllRead : List Step → Type 0
-  AllRead h = (ram : Ram) → AreInTurn h ram → Reads old.base n b h ram (IsAsInEither old new b)
-
-  first-read : (h : List Step) → past ≡ Some h → AllRead h
-  first-read h there ram turn =
-      let its = rest h there in
-      let (s, earlier, is) = its.begun in
-      subst (λ (r : Ram). Reads old.base n b h r (IsAsInEither old new b)) (same-turn s earlier h old ram is its.turn turn)
-      (reads-more old.base n b h old (IsAsIn old b) (IsAsInEither old new b) (λ e k j he hk hj r its. inl its) its.reads)
-
-  next-read : (h : List Step) (s : Step) → AreInTurn (s ∷ h) s.after × IsMoment old new n b h s → AllRead h → AllRead (s ∷ h)
-  next-read h s ((_, _, turn), m) reads ram (at, _, _) =
-      subst (λ (r : Ram). Reads old.base n b (s ∷ h) r (IsAsInEither old new b)) at
-      (reads-behind old n b h s (IsAsInEither old new b) m.between.rights m.between.stands m.place (moment-either old new n b h s m) m.order (reads s.before turn))
-
-  pub reads-at : Only past later (λ h s. Reads old.base n b (s ∷ h) s.after (IsAsInEither old new b) × IsMoment old new n b h s)
-  reads-at = Only-map (Only-along AllRead first-read next-read (Only-turn new turns only)) (λ h s its.
-      let (reads, (turn, m)) = its in
-      (next-read h s (turn, m) reads s.after turn, m))
-
-  pub mixed-along : Only past later (λ h s. MixedBetween old new n b (s ∷ h) s.after)
-  mixed-along = Only-map reads-at (λ h s its.
-      let (reads, m) = its in
-      mixed-between old new s.after n b (s ∷ h) m.between.stands.fits m.place m.stays
-      (subst (λ (c : ℕ). Reads c n b (s ∷ h) s.after (IsAsInEither old new b)) (sym m.place) reads))
-
-  pub reads-last : (h : List Step) → later ≡ Some h → Reads old.base n b h new (IsAsInEither old new b)
-  reads-last h there = Only-behind-all AllRead first-read next-read (Only-turn new turns only) h there new (turns h there)
-
--- ---- at rest again
+-- ---- what is read as it stands
 
 -- what was settled since a table changed is read as it stands
 may-unchanged : (end e p : ℕ) (h : List Step) (ram : Ram) → AreInTurn h ram → IsSettledBy end e p h → (page i v : ℕ) → page < end → MayRead e p h ram page i v
@@ -132,6 +103,173 @@ some-answer (Some r) a = refl
 none-of : (r : Option Rights) → is_some r ≡ false → r ≡ None
 none-of None h = refl
 none-of (Some r) h = absurd (true≢false h)
+
+-- ---- translation units
+
+mixture-still : (b e p : ℕ) (s : Step) (h : List Step) (mixed : Ram) → s.after.base ≡ s.before.base → length s.after.pages ≡ length s.before.pages → (Settles e p s → ⊥)
+    → IsMixture b e p h s.before mixed → IsMixture b e p (s ∷ h) s.after mixed
+mixture-still b e p s h mixed base size off mix = record {
+  base = mix.base ∙ sym base;
+  size = mix.size ∙ sym size;
+  words = λ t i ht hi. inr (off, mix.words t i ht hi);
+}
+
+-- whatever a translation unit may hold is the answer of a walk in a mixture now
+pub held-mixed : (b e p a : ℕ) (h : List Step) (ram : Ram) (answer : Answer) → AreInTurn h ram → MayHold b e p a h ram answer
+    → (mixed : Ram) × IsMixture b e p h ram mixed × (answer ≡ walk_at mixed b e a)
+held-mixed b e p a [] ram answer turn held = held
+held-mixed b e p a (s ∷ h) ram answer turn (inl held) = held
+held-mixed b e p a (s ∷ h) ram answer (at, placed, turn) (inr (off, held)) =
+    let (mixed, mix, is) = held-mixed b e p a h s.before answer turn held in
+    (mixed, subst (λ (r : Ram). IsMixture b e p (s ∷ h) r mixed) at (mixture-still b e p s h mixed placed.base placed.size off mix), is)
+
+-- ---- a page that is written
+
+-- where a walk into a page leads
+some-walked : (ram : Ram) (n b : ℕ) (rights : ℕ → ℕ → Option Rights) (e p : ℕ) → IsBuilt ram n b rights → e < n → p < 512 * b
+    → is_ok (walk_at ram b e (ram.base + 4096 * p)) ≡ is_some (rights e p)
+some-walked ram n b rights e p built he hp =
+    let zero : ram.base + 4096 * p + 0 ≡ ram.base + 4096 * p = omega arith in
+    ap (λ (y : ℕ). is_ok (walk_at ram b e y)) (sym zero) ∙ ap is_ok (walk-byte ram n b rights e p 0 built he hp (omega arith)) ∙ sym (some-answer (rights e p) (ram.base + 4096 * p + 0))
+
+none-answers : (q : Option Rights) (x : ℕ) → q ≡ None → mapped_answer q x ≡ Err Translation
+unfolding mapped_answer
+none-answers q x none = ap (λ (r : Option Rights). mapped_answer r x) none
+
+-- a right that is none, or what walks give where there is none
+as-none : (ram : Ram) (n b : ℕ) (rights : ℕ → ℕ → Option Rights) (e p i x : ℕ) (q : Option Rights) → IsBuilt ram n b rights → e < n → p < 512 * b → i < 4096 → is_some (rights e p) ≡ false
+    → x ≡ ram.base + 4096 * p + i → IsAsIn ram b e p q → mapped_answer q x ≡ Err Translation
+as-none ram n b rights e p i x q built he hp hi gone at (inl none) = none-answers q x none
+as-none ram n b rights e p i x q built he hp hi gone at (inr walked) =
+    ap (mapped_answer q) at ∙ walked i hi ∙ walk-byte ram n b rights e p i built he hp hi ∙ none-answers (rights e p) (ram.base + 4096 * p + i) (none-of (rights e p) gone)
+
+-- so the walk in a mixture gives nothing, where all that is read leads nowhere
+mixed-none : (ram m : Ram) (n b e p i : ℕ) (h : List Step) (Is : ℕ → ℕ → Option Rights → Type 0) → HasRoom ram n b → e < n → p < 512 * b → i < 4096 → Reads ram.base n b h ram Is
+    → IsMixture b e p h ram m → ((q : Option Rights) → Is e p q → mapped_answer q (ram.base + 4096 * p + i) ≡ Err Translation) → walk_at m b e (ram.base + 4096 * p + i) ≡ Err Translation
+mixed-none ram m n b e p i h Is room he hp hi reads mix none =
+    let a : ℕ = ram.base + 4096 * p + i in
+    let at : page_at ram a ≡ p = omega arith in
+    let within : ram.base + 0x200000 * b ≤ 2 ^ 32 = room.within in
+    elim (walk-mixed ram m n b e a h Is room he (omega arith) reads (subst (λ (x : ℕ). IsMixture b e x h ram m) (sym at) mix)) [
+      | inl nothing ↦ nothing
+      | inr (q, its, low, is) ↦ is ∙ none q (subst (λ (x : ℕ). Is e x q) at its)
+    ]
+
+-- where the page was settled since a table changed
+settled-none : (ram m : Ram) (n b e p i : ℕ) (h : List Step) (rights : ℕ → ℕ → Option Rights) → IsStanding ram n b rights → AreInTurn h ram → IsSettledBy (table_page b n 0) e p h
+    → rights e p ≡ None → e < n → p < 512 * b → i < 4096 → IsMixture b e p h ram m → walk_at m b e (ram.base + 4096 * p + i) ≡ Err Translation
+settled-none ram m n b e p i h rights stands turn settled none he hp hi mix =
+    let a : ℕ = ram.base + 4096 * p + i in
+    let at : page_at ram a ≡ p = omega arith in
+    let within : ram.base + 0x200000 * b ≤ 2 ^ 32 = stands.fits.within in
+    elim (walk-words ram m n b e a rights stands he (omega arith) mix.base mix.size
+    (λ t j ht hj. may-unchanged (table_page b n 0) e p h ram turn settled (table_page b e t) j _ (omega (arith, table_page-below_end n b e t he ht)) (mix.words t j ht hj))) [
+      | inl nothing ↦ nothing
+      | inr (q, its, low, is) ↦ is ∙ none-answers q a (its ∙ ap (rights e) at ∙ none)
+    ]
+
+-- a mixture is one of what was before a step that changes no table
+mixture-before : (n b e p : ℕ) (s : Step) (h : List Step) (ram m : Ram) → e < n → s.after ≡ ram → StaysPlaced s → KeepsBelow (table_page b n 0) s → IsMixture b e p (s ∷ h) ram m
+    → IsMixture b e p h s.before m
+mixture-before n b e p s h ram m he at placed kept mix = record {
+  base = mix.base ∙ ap (λ (r : Ram). r.base) (sym at) ∙ placed.base;
+  size = mix.size ∙ ap (λ (r : Ram). length r.pages) (sym at) ∙ placed.size;
+  words = λ t i ht hi.
+      let below : table_page b e t < table_page b n 0 = omega (arith, table_page-below_end n b e t he ht) in
+      may-kept e p s h (table_page b e t) i _ (ap (λ (bytes : List ℕ). word_of bytes i) (kept (table_page b e t) below))
+      (subst (λ (r : Ram). MayRead e p (s ∷ h) r (table_page b e t) i (word_of (page_of m (table_page b e t)) i)) (sym at) (mix.words t i ht hi));
+}
+
+-- where no table has changed since all were at rest
+unchanged-none : (old m : Ram) (n b e p i : ℕ) (access : ℕ → ℕ → Option Rights) (past : Option (List Step)) → RestIn old n b past → IsBuilt old n b access → is_some (access e p) ≡ false
+    → e < n → p < 512 * b → i < 4096 → (h : List Step) (ram : Ram) → AreInTurn h ram → IsUnchanged (table_page b n 0) past h → IsMixture b e p h ram m
+    → walk_at m b e (old.base + 4096 * p + i) ≡ Err Translation
+unchanged-none old m n b e p i access past rest built gone he hp hi = along
+  where
+    first : (h : List Step) (ram : Ram) → AreInTurn h ram → past ≡ Some h → IsMixture b e p h ram m → walk_at m b e (old.base + 4096 * p + i) ≡ Err Translation
+    first h ram turn there mix =
+        let at_rest = rest h there in
+        let (s, earlier, is) = at_rest.begun in
+        mixed-none old m n b e p i h (IsAsIn old b) built.fits he hp hi at_rest.reads
+        (subst (λ (r : Ram). IsMixture b e p h r m) (sym (same-turn s earlier h old ram is at_rest.turn turn)) mix)
+        (λ q its. as-none old n b access e p i (old.base + 4096 * p + i) q built he hp hi gone refl its)
+
+    along : (h : List Step) (ram : Ram) → AreInTurn h ram → IsUnchanged (table_page b n 0) past h → IsMixture b e p h ram m → walk_at m b e (old.base + 4096 * p + i) ≡ Err Translation
+    along [] ram turn there mix = first [] ram turn there mix
+    along (s ∷ h) ram turn (inl there) mix = first (s ∷ h) ram turn there mix
+    along (s ∷ h) ram (at, placed, turn) (inr (kept, more)) mix = along h s.before turn more (mixture-before n b e p s h ram m he at placed kept mix)
+
+-- so a page is written only while nothing is held that leads there
+moment-unheld : (old new : Ram) (n b : ℕ) (past : Option (List Step)) → RestIn old n b past → (h : List Step) (s : Step) → AreInTurn h s.before
+    → Reads old.base n b h s.before (IsAsInEither old new b) → IsMoment old new n b past h s → WritesUnheld old new n b h s
+moment-unheld old new n b past rest h s turn reads m p behind hp = elim m.unreached [
+  | inl kept ↦ inl (kept p behind)
+  | inr free ↦ elim (free.each p behind) [
+    | inl kept ↦ inl kept
+    | inr each ↦ inr (λ e he. elim (each e he) [
+      | inr (one, other) ↦ inr (
+        some-walked old n b m.access e p m.was he hp ∙ one,
+        subst (λ (c : ℕ). is_ok (walk_at new b e (c + 4096 * p)) ≡ true) m.stays (some-walked new n b m.after e p m.is he hp ∙ other),
+      )
+      | inl (none, settled, unchanged) ↦ inl (λ i answer hi held.
+          let (mixed, mix, is) = held-mixed b e p (old.base + 4096 * p + i) h s.before answer turn held in
+          is ∙ elim (cases_Bool (is_some (m.access e p))) [
+            | inl there ↦ subst (λ (c : ℕ). walk_at mixed b e (c + 4096 * p + i) ≡ Err Translation) free.place
+                (settled-none s.before mixed n b e p i h free.rights free.stands turn (settled there) none he hp hi mix)
+            | inr gone ↦ elim (cases_Bool (is_some (m.after e p))) [
+              | inl here ↦ unchanged-none old mixed n b e p i m.access past rest m.was gone he hp hi h s.before turn (unchanged here) mix
+              | inr over ↦ subst (λ (c : ℕ). walk_at mixed b e (c + 4096 * p + i) ≡ Err Translation) free.place
+                  (mixed-none s.before mixed n b e p i h (IsAsInEither old new b) free.stands.fits he hp hi
+                  (subst (λ (c : ℕ). Reads c n b h s.before (IsAsInEither old new b)) (sym free.place) reads) mix
+                  (λ q either. elim either [
+                    | inl its ↦ as-none old n b m.access e p i (s.before.base + 4096 * p + i) q m.was he hp hi gone (ap (λ (c : ℕ). c + 4096 * p + i) free.place) its
+                    | inr its ↦ as-none new n b m.after e p i (s.before.base + 4096 * p + i) q m.is he hp hi over (ap (λ (c : ℕ). c + 4096 * p + i) (free.place ∙ sym m.stays)) its
+                  ]))
+            ]
+          ])
+    ])
+  ]
+]
+
+-- ---- all steps of a history
+
+module _ (old new : Ram) (n b : ℕ) (past later : Option (List Step)) (rest : RestIn old n b past) (turns : TurnsIn new later) (only : Only past later (λ h s. IsMoment old new n b past h s)) where
+  abbrev AllRead : List Step → Type 0
+  AllRead h = (ram : Ram) → AreInTurn h ram → Reads old.base n b h ram (IsAsInEither old new b)
+
+  first-read : (h : List Step) → past ≡ Some h → AllRead h
+  first-read h there ram turn =
+      let its = rest h there in
+      let (s, earlier, is) = its.begun in
+      subst (λ (r : Ram). Reads old.base n b h r (IsAsInEither old new b)) (same-turn s earlier h old ram is its.turn turn)
+      (reads-more old.base n b h old (IsAsIn old b) (IsAsInEither old new b) (λ e k j he hk hj r its. inl its) its.reads)
+
+  next-read : (h : List Step) (s : Step) → AreInTurn (s ∷ h) s.after × IsMoment old new n b past h s → AllRead h → AllRead (s ∷ h)
+  next-read h s ((_, _, turn), m) reads ram (at, _, _) =
+      subst (λ (r : Ram). Reads old.base n b (s ∷ h) r (IsAsInEither old new b)) at
+      (reads-behind old n b h s (IsAsInEither old new b) m.between.rights m.between.stands m.place (moment-either old new n b past h s m) m.order (reads s.before turn))
+
+  pub reads-at : Only past later (λ h s. Reads old.base n b (s ∷ h) s.after (IsAsInEither old new b) × IsMoment old new n b past h s)
+  reads-at = Only-map (Only-along AllRead first-read next-read (Only-turn new turns only)) (λ h s its.
+      let (reads, (turn, m)) = its in
+      (next-read h s (turn, m) reads s.after turn, m))
+
+  pub mixed-along : Only past later (λ h s. MixedBetween old new n b (s ∷ h) s.after)
+  mixed-along = Only-map reads-at (λ h s its.
+      let (reads, m) = its in
+      mixed-between old new s.after n b (s ∷ h) m.between.stands.fits m.place m.stays
+      (subst (λ (c : ℕ). Reads c n b (s ∷ h) s.after (IsAsInEither old new b)) (sym m.place) reads))
+
+  -- and each writes a page only while nothing is held that leads there
+  pub unheld-along : Only past later (λ h s. WritesUnheld old new n b h s)
+  unheld-along = Only-map (Only-along AllRead first-read next-read (Only-turn new turns only)) (λ h s its.
+      let (reads, ((_, _, turn), m)) = its in
+      moment-unheld old new n b past rest h s turn (reads s.before turn) m)
+
+  pub reads-last : (h : List Step) → later ≡ Some h → Reads old.base n b h new (IsAsInEither old new b)
+  reads-last h there = Only-behind-all AllRead first-read next-read (Only-turn new turns only) h there new (turns h there)
+
+-- ---- at rest again
 
 module _ (old new : Ram) (n b : ℕ) (access after : ℕ → ℕ → Option Rights) (was : IsBuilt old n b access) (is : IsBuilt new n b after) (stays : new.base ≡ old.base) (h : List Step)
     (turn : AreInTurn h new)
@@ -196,16 +334,11 @@ module _ (old new : Ram) (n b : ℕ) (access after : ℕ → ℕ → Option Righ
           | inr gone ↦ more e k j he hk hj (inl gone) (reads.each e k j he hk hj)
           | inl there ↦ elim (cases_Bool (is_some (after e (512 * k + j)))) [
             | inl here ↦ more e k j he hk hj (inr (there, here)) (reads.each e k j he hk hj)
-            | inr over ↦ each-settled e k j he hk hj (ended e (512 * k + j) he hp (some old access was e (512 * k + j) he hp ∙ there) (some new after is e (512 * k + j) he hp ∙ over))
+            | inr over ↦ each-settled e k j he hk hj (ended e (512 * k + j) he hp (some-walked old n b access e (512 * k + j) was he hp ∙ there) (some-walked new n b after e (512 * k + j) is he hp ∙ over))
           ]
         ];
   }
     where
-      some : (ram : Ram) (rights : ℕ → ℕ → Option Rights) → IsBuilt ram n b rights → (e p : ℕ) → e < n → p < 512 * b → is_ok (walk_at ram b e (ram.base + 4096 * p)) ≡ is_some (rights e p)
-      some ram rights built e p he hp =
-          let zero : ram.base + 4096 * p + 0 ≡ ram.base + 4096 * p = omega arith in
-          ap (λ (y : ℕ). is_ok (walk_at ram b e y)) (sym zero) ∙ ap is_ok (walk-byte ram n b rights e p 0 built he hp (omega arith)) ∙ sym (some-answer (rights e p) (ram.base + 4096 * p + 0))
-
       more : (e k j : ℕ) → e < n → k < b → j < 512
           → ((is_some (access e (512 * k + j)) ≡ false) ⊎ ((is_some (access e (512 * k + j)) ≡ true) × (is_some (after e (512 * k + j)) ≡ true)))
           → (ReadsBlock new.base b e k j h new (IsAsInEither old new b e (512 * k + j)) ⊎ ReadsTable new.base b e k j h new (IsAsInEither old new b e (512 * k + j)))
@@ -219,7 +352,7 @@ module _ (old new : Ram) (n b : ℕ) (access after : ℕ → ℕ → Option Righ
       })
 
 -- all of it, of steps that are moments on the way from one RAM to another, where what ended is settled
-module _ (old new : Ram) (n b : ℕ) (past later : Option (List Step)) (turns : TurnsIn new later) (only : Only past later (λ h s. IsMoment old new n b h s))
+module _ (old new : Ram) (n b : ℕ) (past later : Option (List Step)) (turns : TurnsIn new later) (only : Only past later (λ h s. IsMoment old new n b past h s))
     (ended : EndsSettled old new n b later) where
   still-at-rest : RestIn old n b past → (h : List Step) → later ≡ Some h → past ≡ Some h → AreAtRest new n b h
   still-at-rest rest h there was =
@@ -227,7 +360,7 @@ module _ (old new : Ram) (n b : ℕ) (past later : Option (List Step)) (turns : 
       let (s, earlier, is) = its.begun in
       subst (λ (r : Ram). AreAtRest r n b h) (same-turn s earlier h old new is its.turn (turns h there)) its
 
-  at-rest : RestIn old n b past → WalksSameOrNone old new n b → (h : List Step) → later ≡ Some h → Adds past (λ h s. IsMoment old new n b h s) h → AreAtRest new n b h
+  at-rest : RestIn old n b past → WalksSameOrNone old new n b → (h : List Step) → later ≡ Some h → Adds past (λ h s. IsMoment old new n b past h s) h → AreAtRest new n b h
   at-rest rest steady [] there was = still-at-rest rest [] there was
   at-rest rest steady (s ∷ h) there (inl was) = still-at-rest rest (s ∷ h) there was
   at-rest rest steady (s ∷ h) there (inr (m, more)) = record {
@@ -240,6 +373,7 @@ module _ (old new : Ram) (n b : ℕ) (past later : Option (List Step)) (turns : 
   pub mixed-of : AreMixed old new n b past later
   mixed-of = record {
     each = λ rest. mixed-along old new n b past later rest turns only;
+    unheld = λ rest. unheld-along old new n b past later rest turns only;
     rest = λ rest steady h there. at-rest rest steady h there (only.each h there);
   }
 
@@ -247,33 +381,15 @@ module _ (old new : Ram) (n b : ℕ) (past later : Option (List Step)) (turns : 
 pub mixed-still : (old new : Ram) (n b : ℕ) (past later : Option (List Step)) → new ≡ old → later ≡ past → AreMixed old new n b past later
 mixed-still old new n b past later same same_past = record {
   each = λ _. subst (λ (l : Option (List Step)). Only past l (λ h s. MixedBetween old new n b (s ∷ h) s.after)) (sym same_past) Only-none;
+  unheld = λ _. subst (λ (l : Option (List Step)). Only past l (λ h s. WritesUnheld old new n b h s)) (sym same_past) Only-none;
   rest = λ rest _ h there. subst (λ (r : Ram). AreAtRest r n b h) (sym same) (rest h (sym same_past ∙ there));
 }
-
--- ---- translation units
-
-mixture-still : (b e p : ℕ) (s : Step) (h : List Step) (mixed : Ram) → s.after.base ≡ s.before.base → length s.after.pages ≡ length s.before.pages → (Settles e p s → ⊥)
-    → IsMixture b e p h s.before mixed → IsMixture b e p (s ∷ h) s.after mixed
-mixture-still b e p s h mixed base size off mix = record {
-  base = mix.base ∙ sym base;
-  size = mix.size ∙ sym size;
-  words = λ t i ht hi. inr (off, mix.words t i ht hi);
-}
-
--- whatever a translation unit may hold is the answer of a walk in a mixture now
-pub held-mixed : (b e p a : ℕ) (h : List Step) (ram : Ram) (answer : Answer) → AreInTurn h ram → MayHold b e p a h ram answer
-    → (mixed : Ram) × IsMixture b e p h ram mixed × (answer ≡ walk_at mixed b e a)
-held-mixed b e p a [] ram answer turn held = held
-held-mixed b e p a (s ∷ h) ram answer turn (inl held) = held
-held-mixed b e p a (s ∷ h) ram answer (at, placed, turn) (inr (off, held)) =
-    let (mixed, mix, is) = held-mixed b e p a h s.before answer turn held in
-    (mixed, subst (λ (r : Ram). IsMixture b e p (s ∷ h) r mixed) at (mixture-still b e p s h mixed placed.base placed.size off mix), is)
 
 -- ---- of pages that follow one another
 
 pub pages-moment : (old new : Ram) (n b : ℕ) (access after : ℕ → ℕ → Option Rights) → IsBuilt old n b access → IsBuilt new n b after → new.base ≡ old.base → (e : ℕ) → e < n
-    → (h : List Step) (s : Step) → IsBetween s.after n b access after → s.after.base ≡ old.base → IsOrdered old b e h s → IsMoment old new n b h s
-pages-moment old new n b access after was is stays e he h s between place ordered = record {
+    → (past : Option (List Step)) (h : List Step) (s : Step) → IsBetween s.after n b access after → s.after.base ≡ old.base → IsOrdered old b e h s → IsMoment old new n b past h s
+pages-moment old new n b access after was is stays e he past h s between place ordered = record {
   access = access;
   after = after;
   was = was;

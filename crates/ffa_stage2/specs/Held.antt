@@ -1,12 +1,14 @@
 -- SPDX-License-Identifier: MIT OR Apache-2.0
 -- What a translation unit may hold for a page: the answer of any walk since the page was last settled, each in a mixture of its
 -- own time (DDI 0487, C5.5, TLBI IPAS2E1IS and TLBI VMALLE1IS).
-use Rattle.std.specs.Prelude.{◌≡◌, ℕ, ◌⊎◌, List, [], ◌∷◌}
-use Rattle.ffa_model.specs.Ram.{Ram}
+use Rattle.std.specs.Prelude.{◌≡◌, true, ℕ, ◌+◌, ◌*◌, ◌<◌, ◌≤◌, ◌⊎◌, is_ok, List, [], ◌∷◌, Err}
+use Rattle.ffa_model.specs.Ram.{Ram, page_of}
 use Rattle.ffa_model.specs.Walk.{Answer}
+use Rattle.ffa_model.specs.declared.operation.FaultKind.TheVariants.{Translation}
 use Rattle.ffa_physmem.specs.Moments.{Settles, Step}
 use Rattle.ffa_stage2.specs.Mixtures.{IsMixture}
 use Rattle.ffa_stage2.specs.Moments.{walk_at}
+use Rattle.ffa_stage2.specs.Tables.{table_page}
 
 -- the answer of a walk in a mixture now
 abbrev pub IsMixedAnswer : ℕ → ℕ → ℕ → ℕ → List Step → Ram → Answer → Type 0
@@ -20,3 +22,20 @@ MayHold blocks e p address [] ram answer = IsMixedAnswer blocks e p address [] r
 MayHold blocks e p address (s ∷ earlier) ram answer =
     IsMixedAnswer blocks e p address (s ∷ earlier) ram answer
     ⊎ ((Settles e p s → ⊥) × MayHold blocks e p address earlier s.before answer)
+
+-- all that a translation unit may hold for an endpoint at the addresses of page p is a translation fault
+abbrev pub HoldsNothing : ℕ → ℕ → ℕ → ℕ → List Step → Ram → Type 0
+HoldsNothing base blocks e p h ram =
+    (i : ℕ) (answer : Answer) → i < 4096 → MayHold blocks e p (base + 4096 * p + i) h ram answer
+    → answer ≡ Err Translation
+
+-- A page behind the tables changes at a step only while no translation unit may hold a way there for any endpoint, but for one
+-- whose walk leads there both before the operation and behind it.
+abbrev pub WritesUnheld : Ram → Ram → ℕ → ℕ → List Step → Step → Type 0
+WritesUnheld old new endpoints blocks h s =
+    (p : ℕ) → table_page blocks endpoints 0 ≤ p → p < 512 * blocks
+    → (page_of s.after p ≡ page_of s.before p)
+    ⊎ ((e : ℕ) → e < endpoints
+    → HoldsNothing old.base blocks e p h s.before
+    ⊎ ((is_ok (walk_at old blocks e (old.base + 4096 * p)) ≡ true)
+    × (is_ok (walk_at new blocks e (old.base + 4096 * p)) ≡ true)))

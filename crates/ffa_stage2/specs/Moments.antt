@@ -8,7 +8,7 @@ use Rattle.ffa_model.specs.Walk.{Answer, walk}
 use Rattle.ffa_model.specs.declared.operation.FaultKind.TheVariants.{Translation}
 use Rattle.ffa_model.specs.declared.rights.Rights.{Rights}
 use Rattle.ffa_stage2.specs.declared.layout.Layout.{Layout}
-use Rattle.ffa_physmem.specs.Moments.{IsSettledBy, KeepsBelow, Step}
+use Rattle.ffa_physmem.specs.Moments.{Adds, IsSettledBy, KeepsBelow, Step}
 use Rattle.ffa_stage2.specs.Orders.{IsOrdered}
 use Rattle.ffa_stage2.specs.Tables.{IsBuilt, IsStanding, table_page}
 
@@ -26,20 +26,26 @@ pub record IsBetween (ram : Ram) (endpoints blocks : ℕ) (access after : ℕ �
 abbrev pub IsBetweenFor : Layout → Ram → (ℕ → ℕ → Option Rights) → (ℕ → ℕ → Option Rights) → Type 0
 IsBetweenFor layout ram access after = IsBetween ram (array_vec_len layout.regions) layout.blocks access after
 
--- no right now, after which a page was settled if there was one before; or a right before and behind
-abbrev pub IsOutOrStays : Option Rights → Option Rights → Option Rights → Type 0 → Type 0
-IsOutOrStays now before behind settled =
-    ((now ≡ None) × (is_some before ≡ true → settled)) ⊎ ((is_some before ≡ true) × (is_some behind ≡ true))
+-- No right now: a page was settled if there was a right before, and no table has changed yet if there is one behind. Or a right
+-- before and behind.
+abbrev pub IsOutOrStays : Option Rights → Option Rights → Option Rights → Type 0 → Type 0 → Type 0
+IsOutOrStays now before behind settled unchanged =
+    ((now ≡ None) × (is_some before ≡ true → settled) × (is_some behind ≡ true → unchanged))
+    ⊎ ((is_some before ≡ true) × (is_some behind ≡ true))
+
+-- from a history to a later one no step changes a page below this one
+abbrev pub IsUnchanged : ℕ → Option (List Step) → List Step → Type 0
+IsUnchanged end past h = Adds past (λ _ s. KeepsBelow end s) h
 
 -- a step that leaves the pages from one on as they are
 abbrev pub KeepsBehind : ℕ → Step → Type 0
 KeepsBehind first s = (p : ℕ) → first ≤ p → page_of s.after p ≡ page_of s.before p
 
 -- Before a step that writes pages behind the tables, the tables give these rights. To a page that it changes an endpoint has
--- no right then, and if it had one before the operation, the page was settled since that ended; or the endpoint has a right to
--- it both before the operation and behind it.
+-- no right then: if it had one before the operation, the page was settled since that ended, and if it has one behind it, no
+-- table has changed since the operation began. Or the endpoint has a right to it both before the operation and behind it.
 pub record IsUnreached (old : Ram) (endpoints blocks : ℕ) (access after : ℕ → ℕ → Option Rights)
-    (h : List Step) (s : Step) : Type 0 where
+    (past : Option (List Step)) (h : List Step) (s : Step) : Type 0 where
   pub rights : ℕ → ℕ → Option Rights
   pub stands : IsStanding s.before endpoints blocks rights
   pub place : s.before.base ≡ old.base
@@ -47,22 +53,24 @@ pub record IsUnreached (old : Ram) (endpoints blocks : ℕ) (access after : ℕ 
       (p : ℕ) → table_page blocks endpoints 0 ≤ p
       → (page_of s.after p ≡ page_of s.before p)
       ⊎ ((e : ℕ) → e < endpoints
-      → IsOutOrStays (rights e p) (access e p) (after e p) (IsSettledBy (table_page blocks endpoints 0) e p h))
+      → IsOutOrStays (rights e p) (access e p) (after e p) (IsSettledBy (table_page blocks endpoints 0) e p h)
+      (IsUnchanged (table_page blocks endpoints 0) past h))
 
 -- a step that leaves all tables as they are, or is one in the tables of an endpoint, by way of nothing where it has to be
 abbrev pub IsInOrder : Ram → ℕ → ℕ → List Step → Step → Type 0
 IsInOrder old endpoints blocks h s =
     KeepsBelow (table_page blocks endpoints 0) s ⊎ ((e : ℕ) × (e < endpoints) × IsOrdered old blocks e h s)
 
--- a step on the way from one RAM where tables are built to another
-pub record IsMoment (old new : Ram) (endpoints blocks : ℕ) (h : List Step) (s : Step) : Type 0 where
+-- a step on the way from one RAM where tables are built to another, which began at the end of a history
+pub record IsMoment (old new : Ram) (endpoints blocks : ℕ) (past : Option (List Step)) (h : List Step) (s : Step) : Type 0 where
   pub access : ℕ → ℕ → Option Rights
   pub after : ℕ → ℕ → Option Rights
   pub was : IsBuilt old endpoints blocks access
   pub is : IsBuilt new endpoints blocks after
   pub between : IsBetween s.after endpoints blocks access after
   pub order : IsInOrder old endpoints blocks h s
-  pub unreached : KeepsBehind (table_page blocks endpoints 0) s ⊎ IsUnreached old endpoints blocks access after h s
+  pub unreached :
+      KeepsBehind (table_page blocks endpoints 0) s ⊎ IsUnreached old endpoints blocks access after past h s
   pub place : s.after.base ≡ old.base
   pub stays : new.base ≡ old.base
 

@@ -8,6 +8,7 @@ use Rattle.ffa_model.specs.Walk.{mapped_answer}
 use Rattle.ffa_model.specs.declared.rights.Rights.{Rights}
 use Rattle.ffa_physmem.specs.Moments.{AreInTurn, IsSettledBy, Only, Step}
 use Rattle.ffa_stage2.specs.Blocks.{block_word}
+use Rattle.ffa_stage2.specs.Held.{WritesUnheld}
 use Rattle.ffa_stage2.specs.Mixtures.{MayRead, MixedBetween, MixturesBetween}
 use Rattle.ffa_stage2.specs.Moments.{walk_at}
 use Rattle.ffa_stage2.specs.Tables.{level1_place, level2_place, table_link, table_page}
@@ -81,9 +82,12 @@ WalksSameOrNone old new endpoints blocks =
     → is_ok (walk_at new blocks e address) ≡ true
     → walk_at new blocks e address ≡ walk_at old blocks e address
 
--- The same of each endpoint for itself; and the tables are at rest again, where nobody got another right in the place of one.
+-- The same of each endpoint for itself; and pages behind the tables change only while no translation unit may hold a way there;
+-- and the tables are at rest again, where nobody got another right in the place of one.
 pub record AreMixed (old new : Ram) (endpoints blocks : ℕ) (past later : Option (List Step)) : Type 0 where
   pub each :
       RestIn old endpoints blocks past → Only past later (λ h s. MixedBetween old new endpoints blocks (s ∷ h) s.after)
+  pub unheld :
+      RestIn old endpoints blocks past → Only past later (λ h s. WritesUnheld old new endpoints blocks h s)
   pub rest :
       RestIn old endpoints blocks past → WalksSameOrNone old new endpoints blocks → RestIn new endpoints blocks later

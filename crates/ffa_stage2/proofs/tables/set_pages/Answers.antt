@@ -138,5 +138,5 @@ returns-clause-mixtures g c rest =
     let is = returns-clause-built g c access h in
     Only-map
     (mixed-along old new _ _ _ _ rest (g.met.M.PhysMem.in_turn c.loop-next.memory) (Only-map (Only-both (Only-both (i.steps access h) i.others_stay) i.orders)
-    (λ hist s ((between, others), ordered). pages-moment old new _ _ access _ h is i.others.base c.args.index c.requires.index hist s between others.base ordered)))
+    (λ hist s ((between, others), ordered). pages-moment old new _ _ access _ h is i.others.base c.args.index c.requires.index _ hist s between others.base ordered)))
     (λ hist s its. mixtures-between old new s.after _ _ (s ∷ hist) (one-changes old new _ _ c.args.index _ _ c.args.right (returns-clause-walks g c)) its)
