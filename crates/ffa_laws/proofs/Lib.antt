@@ -39,7 +39,6 @@ pub mod News
 pub mod OwnBuffers
 pub mod Alone
 pub mod Opened
-pub mod Unchained
 pub mod SoundLaws
 pub mod SoundSteps
 pub mod Firsts
@@ -70,3 +69,5 @@ pub mod Origins
 pub mod Waiting
 pub mod ElsewhereLaws
 pub mod ElsewhereRunLaws
+pub mod ProcessorLaws
+pub mod ProcessorRunLaws

@@ -13,3 +13,5 @@ pub mod RunIntegrity
 pub mod Isolation
 pub mod Elsewhere
 pub mod ElsewhereRuns
+pub mod Processors
+pub mod ProcessorRuns
