@@ -85,7 +85,7 @@ pub sound_after_as : (s : State) (xs : List (ℕ × Op)) → IsSoundState s → 
 sound_after_as s [] sound = sound
 sound_after_as s (x ∷ xs) sound = sound_after_as (step_as s x.0 x.1).state xs (sound-step_as s x.0 x.1 sound)
 
-grows-through : (s t u : State) → NeverGrow s t → NeverGrow t u → NeverGrow s u
+pub grows-through : (s t u : State) → NeverGrow s t → NeverGrow t u → NeverGrow s u
 grows-through s t u one later =
     record {
       own_right = λ p. within-through (own_right_of u p) (own_right_of t p) (own_right_of s p) (later.own_right p) (one.own_right p);

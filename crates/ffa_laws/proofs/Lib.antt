@@ -39,7 +39,6 @@ pub mod News
 pub mod OwnBuffers
 pub mod Alone
 pub mod Opened
-pub mod Unchained
 pub mod SoundLaws
 pub mod SoundSteps
 pub mod Firsts
@@ -71,3 +70,5 @@ pub mod Waiting
 pub mod ElsewhereLaws
 pub mod ElsewhereRunLaws
 pub mod Stores
+pub mod ProcessorLaws
+pub mod ProcessorRunLaws

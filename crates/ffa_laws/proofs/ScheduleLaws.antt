@@ -5,7 +5,7 @@ use Rattle.std.specs.Prelude.{◌==◌, ◌++◌}
 use Rattle.std.proofs.lemmas.Bool.{and_parts, eqb-true, false≢true}
 use Rattle.ffa_model.specs.declared.call.DirectMessage.{DirectMessage}
 use Rattle.ffa_model.specs.declared.schedule.Status.{Status}
-use Rattle.ffa_model.specs.declared.schedule.Status.TheVariants.{Running, Waiting, Yielded, Blocked}
+use Rattle.ffa_model.specs.declared.schedule.Status.TheVariants.{Running, Waiting, Yielded, Blocked, Preempted, RunsElsewhere}
 use Rattle.ffa_model.specs.declared.schedule.Work.{Work}
 use Rattle.ffa_model.specs.declared.schedule.Work.TheVariants.{Run, Request}
 use Rattle.ffa_model.specs.Identifiers.{place}
@@ -86,6 +86,8 @@ module _ (s : State) (steady : IsSteady s) where
   given-known e Yielded known = record { runner = known; requesters = steady.requesters }
   given-known e Running known = record { runner = steady.runner; requesters = steady.requesters }
   given-known e Blocked known = record { runner = steady.runner; requesters = steady.requesters }
+  given-known e Preempted known = record { runner = steady.runner; requesters = steady.requesters }
+  given-known e RunsElsewhere known = record { runner = steady.runner; requesters = steady.requesters }
 
   first-known : Known s 0
   first-known = refl

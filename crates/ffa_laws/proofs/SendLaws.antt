@@ -51,7 +51,7 @@ use Rattle.ffa_laws.proofs.ReturnLaws.{steady-zeroed}
 use Rattle.ffa_laws.proofs.Sends.{counted}
 use Rattle.ffa_laws.proofs.Steadies.{alone-far, alone-near, own-alone}
 use Rattle.ffa_laws.proofs.Told.{IsTold}
-use Rattle.ffa_laws.proofs.Unchained.{identifier-known}
+use Rattle.ffa_laws.proofs.SoundLaws.{identifier-known}
 use Rattle.ffa_laws.proofs.Views.{kept_none, or_true, view-named, view-page}
 use Rattle.ffa_model.specs.declared.refusal.Refusal.{Refusal}
 

@@ -1,6 +1,6 @@
 -- SPDX-License-Identifier: MIT OR Apache-2.0
--- What holds of each call: five lists, in each of which a new call has an entry.
-use Rattle.std.proofs.Common.{◌≡◌, ◌≢◌, ℕ, true, false, Some, None, refl, sym, cond, length}
+-- What holds of each call: five lists, in each of which a new call has an entry, and one of those that change run states.
+use Rattle.std.proofs.Common.{◌≡◌, ◌≢◌, ℕ, true, false, Some, None, refl, sym, subst, cond, length}
 use Rattle.ffa_model.specs.declared.call.Call as calls
 use Rattle.ffa_model.specs.declared.call.Call.TheVariants.{Version, Features, RxRelease, RxtxMap, RxtxUnmap, PartitionInfoGet, IdGet, MsgWait, Yield, Run, DirectRequest, DirectResponse, MemDonate, MemLend, MemShare, MemRetrieve, MemRelinquish, MemReclaim, BitmapCreate, BitmapDestroy, NotificationBind, NotificationUnbind, NotificationSet, NotificationGet, SpmIdGet, MsgSend2, Unknown}
 use Rattle.ffa_model.specs.State.{State, is_known, transaction_of, version_of, buffers_of}
@@ -35,17 +35,19 @@ use Rattle.ffa_model.specs.Messages.{header_in, message_in, tx_bytes, msg_send2,
 use Rattle.ffa_model.specs.MemorySend.{send_read}
 use Rattle.ffa_model.specs.MemoryRetrieve.{retrieve_read}
 use Rattle.ffa_model.specs.MemoryReturn.{relinquish_read}
+use Rattle.ffa_model.specs.Processors.{SameElsewhere}
 use Rattle.ffa_model.specs.SoundState.{IsSoundState}
 use Rattle.ffa_model.proofs.Guards.{guard-passes}
 use Rattle.ffa_laws.proofs.SoundBuffers.{filled-state-sound, map-sound, rx-sound, unmap-sound}
 use Rattle.ffa_laws.proofs.SoundKept.{schedule-sound}
+use Rattle.ffa_laws.proofs.SoundLaws.{same-elsewhere}
 use Rattle.ffa_laws.proofs.SoundNotifications.{bind-sound, create-sound, destroy-sound, framework-sound, get-sound, set-sound, unbind-sound}
 use Rattle.ffa_laws.proofs.SoundPages.{informed-sound, sent-sound}
 use Rattle.ffa_laws.proofs.SoundRetrieves.{retrieve-sound}
 use Rattle.ffa_laws.proofs.SoundReturns.{reclaim-sound, relinquish-sound}
 use Rattle.ffa_laws.proofs.SoundSends.{send-sound}
 use Rattle.ffa_laws.proofs.SoundSteady.{sound-steady}
-use Rattle.ffa_laws.proofs.Showing.{Shows, no_delivery, no_message, no_messages, no_opening, no_releases, no_takes, quiet, runs-informed, runs-offered, runs-relinquished, runs-retrieved, switching}
+use Rattle.ffa_laws.proofs.Showing.{Shows, no_delivery, no_message, no_messages, no_opening, no_releases, no_takes, quiet, informed-runs, offered-runs, relinquished-runs, retrieved-runs, switching}
 use Rattle.ffa_laws.proofs.SoundSteps.{AreSound, IsScheduled, scheduled-request, scheduled-response, scheduled-run, scheduled-wait, scheduled-yield}
 
 -- what an endpoint does is done alike in its view
@@ -147,7 +149,7 @@ module _ (e : ℕ) (s : State) (differ : s.runner ≢ e) where
   shows-service RxRelease = quiet e s differ (service s RxRelease) (told_by e s RxRelease) refl refl
   shows-service (RxtxMap tx rx pages) = quiet e s differ (service s (RxtxMap tx rx pages)) (told_by e s (RxtxMap tx rx pages)) refl refl
   shows-service (RxtxUnmap endpoint) = quiet e s differ (service s (RxtxUnmap endpoint)) (told_by e s (RxtxUnmap endpoint)) refl refl
-  shows-service (PartitionInfoGet uuid flags) = quiet e s differ (service s (PartitionInfoGet uuid flags)) (told_by e s (PartitionInfoGet uuid flags)) refl (runs-informed s (uuid_bytes uuid) (is_count_alone flags))
+  shows-service (PartitionInfoGet uuid flags) = quiet e s differ (service s (PartitionInfoGet uuid flags)) (told_by e s (PartitionInfoGet uuid flags)) refl (informed-runs s (uuid_bytes uuid) (is_count_alone flags))
   shows-service IdGet = quiet e s differ (service s IdGet) (told_by e s IdGet) refl refl
   shows-service SpmIdGet = quiet e s differ (service s SpmIdGet) (told_by e s SpmIdGet) refl refl
   shows-service MsgWait = switching e s differ (msg_wait s)
@@ -155,11 +157,11 @@ module _ (e : ℕ) (s : State) (differ : s.runner ≢ e) where
   shows-service (Run target context) = switching e s differ (run_partition s target.0 context)
   shows-service (DirectRequest message) = switching e s differ (direct_request s message)
   shows-service (DirectResponse message) = switching e s differ (direct_response s message)
-  shows-service (MemDonate x) = quiet e s differ (service s (MemDonate x)) (told_by e s (MemDonate x)) (no_opening e s Donate (send_read s Donate x.total)) (runs-offered s Donate (send_read s Donate x.total))
-  shows-service (MemLend x) = quiet e s differ (service s (MemLend x)) (told_by e s (MemLend x)) (no_opening e s Lend (send_read s Lend x.total)) (runs-offered s Lend (send_read s Lend x.total))
-  shows-service (MemShare x) = quiet e s differ (service s (MemShare x)) (told_by e s (MemShare x)) (no_opening e s Share (send_read s Share x.total)) (runs-offered s Share (send_read s Share x.total))
-  shows-service (MemRetrieve x) = quiet e s differ (service s (MemRetrieve x)) (told_by e s (MemRetrieve x)) (no_takes e s (retrieve_read s x.total)) (runs-retrieved s (retrieve_read s x.total))
-  shows-service MemRelinquish = quiet e s differ (service s MemRelinquish) (told_by e s MemRelinquish) (no_releases e s (relinquish_read s)) (runs-relinquished s (relinquish_read s))
+  shows-service (MemDonate x) = quiet e s differ (service s (MemDonate x)) (told_by e s (MemDonate x)) (no_opening e s Donate (send_read s Donate x.total)) (offered-runs s Donate (send_read s Donate x.total))
+  shows-service (MemLend x) = quiet e s differ (service s (MemLend x)) (told_by e s (MemLend x)) (no_opening e s Lend (send_read s Lend x.total)) (offered-runs s Lend (send_read s Lend x.total))
+  shows-service (MemShare x) = quiet e s differ (service s (MemShare x)) (told_by e s (MemShare x)) (no_opening e s Share (send_read s Share x.total)) (offered-runs s Share (send_read s Share x.total))
+  shows-service (MemRetrieve x) = quiet e s differ (service s (MemRetrieve x)) (told_by e s (MemRetrieve x)) (no_takes e s (retrieve_read s x.total)) (retrieved-runs s (retrieve_read s x.total))
+  shows-service MemRelinquish = quiet e s differ (service s MemRelinquish) (told_by e s MemRelinquish) (no_releases e s (relinquish_read s)) (relinquished-runs s (relinquish_read s))
   shows-service (MemReclaim handle flags) = quiet e s differ (service s (MemReclaim handle flags)) (told_by e s (MemReclaim handle flags)) (no_message e (is_offered e (transaction_of s handle.0)) (Closed handle.0) refl) refl
   shows-service (BitmapCreate endpoint contexts) = quiet e s differ (service s (BitmapCreate endpoint contexts)) (told_by e s (BitmapCreate endpoint contexts)) refl refl
   shows-service (BitmapDestroy endpoint) = quiet e s differ (service s (BitmapDestroy endpoint)) (told_by e s (BitmapDestroy endpoint)) (no_messages e (e == e) _ _ (λ k. refl)) refl
@@ -176,8 +178,8 @@ module _ (s : State) (sound : IsSoundState s) where
   scheduled = record { steady = sound-steady s sound; works = sound.sized.works; schedule = sound.schedule }
 
   -- run states that a call leaves
-  run-states : (c : Schedule) → AreSound (length s.parties) c → IsSoundState (with_schedule s c)
-  run-states c are = schedule-sound s sound c are.works are.sound
+  run-states : (c : Schedule) → AreSound (length s.parties) (schedule_of s) c → IsSoundState (with_schedule s c)
+  run-states c are = schedule-sound s sound c are.works are.next.sound
 
   sent : first_failure (msg_send2 s).guards ≡ None → IsSoundState (msg_send2 s).state
   sent none =
@@ -222,3 +224,22 @@ module _ (s : State) (sound : IsSoundState s) where
   sound-service (NotificationGet receiver context flags) none = get-sound s sound flags
   sound-service MsgSend2 none = sent none
   sound-service Unknown none = sound
+
+  -- run states that stay
+  same-runs : (c : Schedule) → c ≡ schedule_of s → SameElsewhere (schedule_of s) c
+  same-runs c same = subst (SameElsewhere (schedule_of s)) (sym same) (same-elsewhere (schedule_of s))
+
+  -- the same partitions run elsewhere
+  pub elsewhere-service : (call : calls.Call) → first_failure (service s call).guards ≡ None → SameElsewhere (schedule_of s) (schedule_of (service s call).state)
+  elsewhere-service MsgWait none = (scheduled-wait s scheduled none).next.elsewhere
+  elsewhere-service Yield none = (scheduled-yield s scheduled none).next.elsewhere
+  elsewhere-service (Run target context) none = (scheduled-run s scheduled target.0 context none).next.elsewhere
+  elsewhere-service (DirectRequest message) none = (scheduled-request s scheduled message none).next.elsewhere
+  elsewhere-service (DirectResponse message) none = (scheduled-response s scheduled message none).next.elsewhere
+  elsewhere-service (PartitionInfoGet uuid flags) none = same-runs _ (informed-runs s (uuid_bytes uuid) (is_count_alone flags))
+  elsewhere-service (MemDonate x) none = same-runs _ (offered-runs s Donate (send_read s Donate x.total))
+  elsewhere-service (MemLend x) none = same-runs _ (offered-runs s Lend (send_read s Lend x.total))
+  elsewhere-service (MemShare x) none = same-runs _ (offered-runs s Share (send_read s Share x.total))
+  elsewhere-service (MemRetrieve x) none = same-runs _ (retrieved-runs s (retrieve_read s x.total))
+  elsewhere-service MemRelinquish none = same-runs _ (relinquished-runs s (relinquish_read s))
+  elsewhere-service call none = same-elsewhere (schedule_of s)

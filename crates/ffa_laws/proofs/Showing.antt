@@ -14,6 +14,7 @@ use Rattle.ffa_model.specs.Access.{is_receiver}
 use Rattle.ffa_model.specs.Calls.{Service, encode}
 use Rattle.ffa_model.specs.Buffers.{filled}
 use Rattle.ffa_model.specs.Setup.{info_bytes}
+use Rattle.ffa_model.specs.RunStates.{schedule_of}
 use Rattle.ffa_model.specs.Messages.{header_in, message_in}
 use Rattle.ffa_model.specs.Notifications.{manager_class, message_bits, has_bitmaps_in, notifications_of}
 use Rattle.ffa_model.specs.SendDescriptor.{SendRecord}
@@ -67,30 +68,30 @@ no_releases e s (Some d) = of _ _
     of false true = refl
     of false false = refl
 
--- who runs on
-pub runs-offered : (s : State) (kind : Kind) (r : Option SendRecord) → (memory_sent s kind r).runner ≡ s.runner
-runs-offered s kind None = refl
-runs-offered s kind (Some r) = refl
+-- run states that stay
+pub offered-runs : (s : State) (kind : Kind) (r : Option SendRecord) → schedule_of (memory_sent s kind r) ≡ schedule_of s
+offered-runs s kind None = refl
+offered-runs s kind (Some r) = refl
 
-pub runs-retrieved : (s : State) (d : Option RetrieveDesc) → (retrieved s d).runner ≡ s.runner
-runs-retrieved s None = refl
-runs-retrieved s (Some d) = elim (transaction_of s d.handle) as (λ o. (retrieved_from s d o).runner ≡ s.runner) [ None ↦ refl | Some t ↦ refl ]
+pub retrieved-runs : (s : State) (d : Option RetrieveDesc) → schedule_of (retrieved s d) ≡ schedule_of s
+retrieved-runs s None = refl
+retrieved-runs s (Some d) = elim (transaction_of s d.handle) as (λ o. schedule_of (retrieved_from s d o) ≡ schedule_of s) [ None ↦ refl | Some t ↦ refl ]
 
-pub runs-relinquished : (s : State) (d : Option RelinquishDesc) → (relinquished s d).runner ≡ s.runner
-runs-relinquished s None = refl
-runs-relinquished s (Some d) = elim (transaction_of s d.handle) as (λ o. (relinquished_from s d o).runner ≡ s.runner) [ None ↦ refl | Some t ↦ refl ]
+pub relinquished-runs : (s : State) (d : Option RelinquishDesc) → schedule_of (relinquished s d) ≡ schedule_of s
+relinquished-runs s None = refl
+relinquished-runs s (Some d) = elim (transaction_of s d.handle) as (λ o. schedule_of (relinquished_from s d o) ≡ schedule_of s) [ None ↦ refl | Some t ↦ refl ]
 
-pub runs-informed : (s : State) (uuid : List ℕ) (b : Bool) → (cond b s (filled s s.runner (info_bytes (version_of s s.runner) s.parties uuid))).runner ≡ s.runner
-runs-informed s uuid true = refl
-runs-informed s uuid false = refl
+pub informed-runs : (s : State) (uuid : List ℕ) (b : Bool) → schedule_of (cond b s (filled s s.runner (info_bytes (version_of s s.runner) s.parties uuid))) ≡ schedule_of s
+informed-runs s uuid true = refl
+informed-runs s uuid false = refl
 
 module _ (e : ℕ) (s : State) (differ : s.runner ≢ e) where
   -- what a call shows to e that nothing refuses
   abbrev pub Shows : Service → List Event → Type 0
   Shows c told = messages e told ≡ cond (c.state.runner == e) (Regs (record { 0 = c.state.runner }) (encode c.reply) ∷ []) []
 
-  pub quiet : (c : Service) (told : List Event) → messages e told ≡ [] → c.state.runner ≡ s.runner → Shows c told
-  quiet c told none same = none ∙ ap (λ b. cond b (Regs (record { 0 = c.state.runner }) (encode c.reply) ∷ []) []) (sym (ap (λ r. r == e) same ∙ ne_eqb s.runner e differ))
+  pub quiet : (c : Service) (told : List Event) → messages e told ≡ [] → schedule_of c.state ≡ schedule_of s → Shows c told
+  quiet c told none same = none ∙ ap (λ b. cond b (Regs (record { 0 = c.state.runner }) (encode c.reply) ∷ []) []) (sym (ap (λ states. states.runner == e) same ∙ ne_eqb s.runner e differ))
 
   pub switching : (c : Service) → Shows c (switches e c)
   switching c =

@@ -1,89 +1,68 @@
 -- SPDX-License-Identifier: MIT OR Apache-2.0
--- Run states stay sound.
-use Rattle.std.proofs.Common.{◌≡◌, ◌⊎◌, ◌∙◌, ℕ, zero, suc, ◌<◌, ◌≤◌, true, false, List, [], ◌∷◌, ◌++◌, length, set, Option, Some, None, is_some, refl, sym, ap, subst, inl, inr, arith}
+-- Run states stay sound, and the same partitions run elsewhere.
+use Rattle.std.proofs.Common.{◌≡◌, ◌≢◌, ◌∙◌, ℕ, zero, suc, ◌<◌, ◌≤◌, true, length, get_or, List, Option, Some, None, refl, sym, ap, inl, inr, arith}
 use Rattle.std.specs.Prelude.{◌==◌, ◌||◌}
-use Rattle.std.proofs.lemmas.Bool.{cases_Bool, eq-eqb, eqb-true, false≢true, not_from_true, or_left, true≢false}
-use Rattle.std.proofs.lemmas.List.{set-get_or}
-use Rattle.ffa_model.specs.declared.limits.TheConstants.{MOST_ENDPOINTS}
+use Rattle.std.proofs.lemmas.Bool.{cases_lt, eq-eqb, eqb-true, false≢true, not_from_true, true≢false}
+use Rattle.std.proofs.lemmas.Bool.Decides.{nat_tests}
+use Rattle.std.proofs.lemmas.List.{get_or_past}
+use Rattle.std.proofs.lemmas.Option.{none-some}
 use Rattle.ffa_model.specs.declared.schedule.Status.{Status}
-use Rattle.ffa_model.specs.declared.schedule.Status.TheVariants.{Running, Waiting, Yielded, Blocked}
+use Rattle.ffa_model.specs.declared.schedule.Status.TheVariants.{Running, Waiting, Yielded, Blocked, Preempted, RunsElsewhere}
 use Rattle.ffa_model.specs.declared.schedule.Work.{Work}
 use Rattle.ffa_model.specs.declared.schedule.Work.TheVariants.{Run, Request}
 use Rattle.ffa_model.specs.declared.call.DirectMessage.{DirectMessage}
-use Rattle.ffa_model.specs.Identifiers.{place}
+use Rattle.ffa_model.specs.Identifiers.{identifier}
 use Rattle.ffa_model.specs.State.{Party, is_known_among, is_partition_among}
-use Rattle.ffa_model.specs.RunStates.{Schedule, finished, given_cycles, is_endpoint, is_run, is_waiting, is_yielded, request_guards, requested, requester, run_guards, status_in, switched, wait_guards, with_work, work_in, yield_guards}
+use Rattle.ffa_model.specs.RunStates.{Schedule, finished, given_cycles, is_endpoint, is_run, is_stopped, request_guards, requested, requester, run_guards, status_in, switched, wait_guards, with_work, work_in, yield_guards}
 use Rattle.ffa_model.specs.Calls.{first_failure}
-use Rattle.ffa_model.specs.Sound.{IsSound, origin}
-use Rattle.ffa_model.specs.Links.{IsChain, has_link_at, last_link, link_at, schedule_of, status_outside, work_at}
+use Rattle.ffa_model.specs.Processors.{SameElsewhere}
+use Rattle.ffa_model.specs.Sound.{IsFor, IsSound, MayGoOn, origin}
 use Rattle.ffa_model.proofs.Guards.{guard-passes}
-use Rattle.ffa_model.proofs.Places.{known-cases, partition-place}
-use Rattle.ffa_model.proofs.Links.{last-more, link-found}
-use Rattle.ffa_model.proofs.Chains.{behind, link-known, origin-before, popped, pushed, schedule-popped, schedule-pushed}
-use Rattle.ffa_model.proofs.Sounds.{outside-chain, outside-works, sound}
-use Rattle.ffa_laws.proofs.Unchained.{chain-of, links, schedule-is}
+use Rattle.ffa_model.proofs.Places.{known-cases, partition-known, place-identifier}
+use Rattle.ffa_model.proofs.Processors.{elsewhere-begun, elsewhere-done, elsewhere-going}
+use Rattle.ffa_model.proofs.Sounds.{sound-begun, sound-done, sound-going, waits}
 
--- a list with an element, from its end
-ended : (x : ℕ) (xs : List ℕ) → (ys : List ℕ) × (e : ℕ) × (x ∷ xs ≡ ys ++ e ∷ [])
-ended x [] = ([], x, refl)
-ended x (y ∷ xs) = let (ys, e, is) = ended y xs in (x ∷ ys, e, ap (λ zs. x ∷ zs) is)
+pub identifier-known : (n p : ℕ) → p < n → is_known_among n (identifier p) ≡ true
+identifier-known n zero lt = refl
+identifier-known n (suc p) lt = grind (arith, nat_tests)
 
-module _ (c : Schedule) (is : IsSound c) (some : 1 ≤ length c.works) (few : length c.works ≤ MOST_ENDPOINTS) where
-  -- a partition that waits or has yielded begins to run for the runner
-  started : (e : ℕ) (w : Option Work) → is_partition_among (length c.works) e ≡ true → (is_waiting (status_in c e) || is_yielded (status_in c e)) ≡ true → origin w ≡ Some c.runner
-      → IsSound (with_work (switched c Blocked e) e w)
-  started e w partition idle works_for =
-      subst IsSound (schedule-pushed (links c is some few) c.works e w chain outer ∙ ap (λ (d : Schedule). with_work (switched d Blocked e) e w) same)
-      (sound (links c is some few ++ e ∷ []) (set c.works (place e) w) (pushed (links c is some few) c.works e w chain partition outer (works_for ∙ ap (λ (d : Schedule). Some d.runner) (sym same))))
-    where
-      chain : IsChain (links c is some few) c.works
-      chain = chain-of c is some few
+pub same-elsewhere : (c : Schedule) → SameElsewhere c c
+same-elsewhere c e = ((λ its. its), (λ its. its))
 
-      same : schedule_of (links c is some few) c.works ≡ c
-      same = schedule-is c is some few
+-- run states that are sound, and in which the same partitions run elsewhere
+pub record IsNext (c d : Schedule) : Type 0 where
+  pub sound : IsSound d
+  pub elsewhere : SameElsewhere c d
 
-      outer : has_link_at (links c is some few) (place e) ≡ false
-      outer =
-          outside-chain (links c is some few) c.works chain e (partition-place (length c.works) e partition).1
-          (subst (λ (d : Schedule). (is_waiting (status_in d e) || is_yielded (status_in d e)) ≡ true) (sym same) idle)
+module _ (c : Schedule) (is : IsSound c) (some : 1 ≤ length c.works) where
+  same-next : IsNext c c
+  same-next = record { sound = is; elsewhere = same-elsewhere c }
 
-  -- the runner, which works for an endpoint, stops, and that endpoint runs
-  stopped : (w : Option Work) (by : ℕ) → origin (work_in c c.runner) ≡ Some by → (w ≡ None) ⊎ (origin w ≡ Some 0)
-      → IsSound (with_work (switched c (status_outside w) by) c.runner w)
-  stopped w by works_for left =
-      let (rest, e, split) = ended 0 is.chain.partitions in of rest e split
-    where
-      of : (rest : List ℕ) (e : ℕ) → links c is some few ≡ rest ++ e ∷ [] → IsSound (with_work (switched c (status_outside w) by) c.runner w)
-      of rest e split =
-          subst IsSound (schedule-popped rest c.works e w chain begins ∙ ap (λ f. with_work (switched (schedule_of (rest ++ e ∷ []) c.works) (status_outside w) f) (last_link (rest ++ e ∷ [])) w) before ∙ ap (λ (d : Schedule). with_work (switched d (status_outside w) by) d.runner w) same)
-          (sound rest (set c.works (place e) w) (popped rest c.works e w chain begins left))
-        where
-          chain : IsChain (rest ++ e ∷ []) c.works
-          chain = subst (λ xs. IsChain xs c.works) split (chain-of c is some few)
+  running≢elsewhere : Running ≡ RunsElsewhere → ⊥
+  running≢elsewhere h = cc
 
-          same : schedule_of (rest ++ e ∷ []) c.works ≡ c
-          same = ap (λ xs. schedule_of xs c.works) (sym split) ∙ schedule-is c is some few
+  blocked≢elsewhere : Blocked ≡ RunsElsewhere → ⊥
+  blocked≢elsewhere h = cc
 
-          runs : e ≡ c.runner
-          runs = sym (last-more rest e) ∙ ap (λ (d : Schedule). d.runner) same
+  yielded≢elsewhere : Yielded ≡ RunsElsewhere → ⊥
+  yielded≢elsewhere h = cc
 
-          own : origin (work_at c.works (place e)) ≡ Some by
-          own = ap (λ f. origin (work_at c.works (place f))) runs ∙ works_for
+  normal-here : status_in c 0 ≢ RunsElsewhere
+  normal-here away = elim is.normal [ inl runs ↦ running≢elsewhere (sym runs ∙ away) | inr blocked ↦ blocked≢elsewhere (sym blocked ∙ away) ]
 
-          begins : 1 ≤ length rest
-          begins = behind rest c.works e chain (ap is_some own)
+  -- a partition that waits begins to work for the runner
+  begun : (e : ℕ) (w : Work) → is_partition_among (length c.works) e ≡ true → status_in c e ≡ Waiting → origin (Some w) ≡ Some c.runner → IsNext c (with_work (switched c Blocked e) e (Some w))
+  begun e w partition waiting works_for =
+      record { sound = sound-begun c is some e w partition waiting works_for; elsewhere = elsewhere-begun c is some e w partition waiting }
 
-          before : last_link rest ≡ by
-          before = some_same (sym (origin-before rest c.works e chain begins) ∙ own)
-            where
-              some_same : {x y : ℕ} → Some x ≡ Some y → x ≡ y
-              some_same h = cc
+  done : (e : ℕ) → origin (work_in c c.runner) ≡ Some e → IsNext c (finished c e)
+  done e works_for = record { sound = sound-done c is some e works_for; elsewhere = elsewhere-done c is some e works_for }
 
   -- ---- the calls
   module _ (parties : List Party) (each : length parties ≡ length c.works) where
-    pub sound-request : (message : DirectMessage) → first_failure (request_guards parties c message) ≡ None → IsSound (requested c message.receiver.0)
-    sound-request message none =
-        started message.receiver.0 (Some (Request (record { 0 = c.runner }))) partition idle refl
+    pub next-request : (message : DirectMessage) → first_failure (request_guards parties c message) ≡ None → IsNext c (requested c message.receiver.0)
+    next-request message none =
+        begun message.receiver.0 (Request (record { 0 = c.runner })) partition (waits (status_in c message.receiver.0) (guard-passes (request_guards parties c message) 7 (sym none))) refl
       where
         known : is_known_among (length c.works) message.receiver.0 ≡ true
         known = ap (λ n. is_known_among n message.receiver.0) (sym each) ∙ guard-passes (request_guards parties c message) 2 (sym none)
@@ -94,11 +73,8 @@ module _ (c : Schedule) (is : IsSound c) (some : 1 ≤ length c.works) (few : le
           | inr is ↦ is
         ]
 
-        idle : (is_waiting (status_in c message.receiver.0) || is_yielded (status_in c message.receiver.0)) ≡ true
-        idle = or_left (is_waiting (status_in c message.receiver.0)) (is_yielded (status_in c message.receiver.0)) (guard-passes (request_guards parties c message) 7 (sym none))
-
-  pub sound-run : (target context : ℕ) → first_failure (run_guards (length c.works) c target context) ≡ None → IsSound (given_cycles c target (status_in c target))
-  sound-run target context none = go (status_in c target) refl
+  pub next-run : (target context : ℕ) → first_failure (run_guards (length c.works) c target context) ≡ None → IsNext c (given_cycles c target (status_in c target))
+  next-run target context none = go (status_in c target) refl
     where
       partition : is_partition_among (length c.works) target ≡ true
       partition = guard-passes (run_guards (length c.works) c target context) 1 (sym none)
@@ -106,23 +82,23 @@ module _ (c : Schedule) (is : IsSound c) (some : 1 ≤ length c.works) (few : le
       normal : c.runner ≡ 0
       normal = eqb-true c.runner 0 (guard-passes (run_guards (length c.works) c target context) 0 (sym none))
 
-      idle : (is_waiting (status_in c target) || is_yielded (status_in c target)) ≡ true
-      idle = guard-passes (run_guards (length c.works) c target context) 3 (sym none)
+      on : status_in c target ≡ Yielded → MayGoOn c target
+      on at = inr (record { partition = partition; stopped = ap is_stopped at })
 
-      go : (status : Status) → status_in c target ≡ status → IsSound (given_cycles c target status)
-      go Waiting at = started target (Some Run) partition idle (ap Some (sym normal))
-      go Yielded at =
-          subst IsSound (λ i. record (switched c Blocked target) { works = set-get_or c.works (place target) None i })
-          (started target (work_in c target) partition idle (is.yielded target partition at ∙ ap Some (sym normal)))
-      go Running at = is
-      go Blocked at = is
+      go : (status : Status) → status_in c target ≡ status → IsNext c (given_cycles c target status)
+      go Waiting at = begun target Run partition at (ap Some (sym normal))
+      go Yielded at = record {
+        sound = sound-going c is some Blocked target normal (on at);
+        elsewhere = elsewhere-going c is some Blocked target normal (on at) blocked≢elsewhere (λ away. yielded≢elsewhere (sym at ∙ away));
+      }
+      go Running at = same-next
+      go Blocked at = same-next
+      go Preempted at = same-next
+      go RunsElsewhere at = same-next
 
   work-origin : (w : Option Work) (by : ℕ) → requester w ≡ Some by → origin w ≡ Some by
   work-origin None by h = h
-  work-origin (Some Run) by h = absurd (none_some h)
-    where
-      none_some : None ≡ Some by → ⊥
-      none_some e = cc
+  work-origin (Some Run) by h = absurd (none-some by h)
   work-origin (Some (Request x)) by h = h
 
   run-origin : (w : Option Work) → is_run w ≡ true → origin w ≡ Some 0
@@ -135,41 +111,38 @@ module _ (c : Schedule) (is : IsSound c) (some : 1 ≤ length c.works) (few : le
   yield-origin (Some Run) h = refl
   yield-origin (Some (Request x)) h = ap Some (eqb-true x.0 0 h)
 
-  pub sound-wait : first_failure (wait_guards c) ≡ None → IsSound (finished c 0)
-  sound-wait none = stopped None 0 (run-origin (work_in c c.runner) (guard-passes (wait_guards c) 0 (sym none))) (inl refl)
+  pub next-wait : first_failure (wait_guards c) ≡ None → IsNext c (finished c 0)
+  next-wait none = done 0 (run-origin (work_in c c.runner) (guard-passes (wait_guards c) 0 (sym none)))
 
-  pub sound-yield : first_failure (yield_guards c) ≡ None → IsSound (switched c Yielded 0)
-  sound-yield none =
+  pub next-yield : first_failure (yield_guards c) ≡ None → IsNext c (switched c Yielded 0)
+  next-yield none =
       let from = yield-origin (work_in c c.runner) (guard-passes (yield_guards c) 0 (sym none)) in
-      subst IsSound (λ i. record (switched c (outside-works (work_in c c.runner) 0 from i) 0) { works = set-get_or c.works (place c.runner) None i })
-      (stopped (work_in c c.runner) 0 from (inr from))
+      record {
+        sound = sound-going c is some Yielded 0 from (inl refl);
+        elsewhere = elsewhere-going c is some Yielded 0 from (inl refl) yielded≢elsewhere normal-here;
+      }
 
-  pub sound-response : (by : ℕ) → requester (work_in c c.runner) ≡ Some by → IsSound (finished c by)
-  sound-response by asked = stopped None by (work-origin (work_in c c.runner) by asked) (inl refl)
+  pub next-response : (by : ℕ) → requester (work_in c c.runner) ≡ Some by → IsNext c (finished c by)
+  next-response by asked = done by (work-origin (work_in c c.runner) by asked)
 
--- whoever waits for an answer is an endpoint
-module _ (c : Schedule) (is : IsSound c) (some : 1 ≤ length c.works) (few : length c.works ≤ MOST_ENDPOINTS) where
-  pub requester-known : (p by : ℕ) → requester (work_at c.works p) ≡ Some by → is_known_among (length c.works) by ≡ true
-  requester-known p by asked =
-      elim (cases_Bool (has_link_at (links c is some few) p)) [
-        | inl has ↦ (let (k, lt, at) = link-found (links c is some few) p has in of_link k lt at)
-        | inr none ↦ (elim ((chain-of c is some few).outside p none) [
-          | inl nothing ↦ absurd (none_some (sym (ap requester nothing) ∙ asked))
-          | inr normal ↦ ap (is_known_among (length c.works)) (some_same (sym works_for ∙ normal))
-        ])
-      ]
+  -- whoever waits for an answer is an endpoint
+  pub requester-known : (p by : ℕ) → requester (get_or c.works p None) ≡ Some by → is_known_among (length c.works) by ≡ true
+  requester-known p by asked = elim (cases_lt p (length c.works)) [
+    | inl within ↦ at p within asked
+    | inr past ↦ absurd (none-some by (ap requester (sym (get_or_past c.works p None past)) ∙ asked))
+  ]
     where
-      works_for : origin (work_at c.works p) ≡ Some by
-      works_for = work-origin c is some few (work_at c.works p) by asked
+      partition : (q : ℕ) → suc q < length c.works → is_partition_among (length c.works) (identifier (suc q)) ≡ true
+      partition q lt = grind (arith, nat_tests)
 
-      none_some : {x : ℕ} → None ≡ Some x → ⊥
-      none_some e = cc
-
-      some_same : {x y : ℕ} → Some x ≡ Some y → x ≡ y
-      some_same h = cc
-
-      of_link : (k : ℕ) → k < length (links c is some few) → place (link_at (links c is some few) k) ≡ p → is_known_among (length c.works) by ≡ true
-      of_link zero lt at = absurd (none_some (sym (ap (λ q. requester (work_at c.works q)) (sym at) ∙ ap requester is.no_work) ∙ asked))
-      of_link (suc k) lt at =
-          let before : link_at (links c is some few) k ≡ by = some_same (sym ((chain-of c is some few).origins k lt) ∙ ap (λ q. origin (work_at c.works q)) at ∙ works_for) in
-          ap (is_known_among (length c.works)) (sym before) ∙ link-known (links c is some few) c.works k (chain-of c is some few) (omega arith)
+      at : (p : ℕ) → p < length c.works → requester (get_or c.works p None) ≡ Some by → is_known_among (length c.works) by ≡ true
+      at zero lt asked = absurd (none-some by (sym (ap requester is.no_work) ∙ asked))
+      at (suc q) lt asked =
+          let its : IsFor c by (identifier (suc q)) = record {
+            partition = partition q lt;
+            works = ap (λ (r : ℕ). origin (get_or c.works r None)) (place-identifier (suc q)) ∙ work-origin (get_or c.works (suc q) None) by asked;
+          } in
+          elim (is.chains.between by (identifier (suc q)) its) [
+            | inl first ↦ ap (is_known_among (length c.works)) first
+            | inr blocked ↦ partition-known (length c.works) by blocked.partition
+          ]

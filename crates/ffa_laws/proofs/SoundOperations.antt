@@ -1,5 +1,5 @@
 -- SPDX-License-Identifier: MIT OR Apache-2.0
--- Each operation keeps a state sound.
+-- Each operation keeps a state sound, and whoever runs on another processor.
 use Rattle.std.proofs.Common.{◌≡◌, ℕ, true}
 use Rattle.byteorder.specs.Endian.{little_bytes}
 use Rattle.std.specs.Prelude.{◌==◌, ◌-◌, ◌/◌, ◌%◌}
@@ -12,12 +12,15 @@ use Rattle.ffa_model.specs.Registers.{decode}
 use Rattle.ffa_model.specs.State.{State}
 use Rattle.ffa_model.specs.Calls.{served}
 use Rattle.ffa_model.specs.Memory.{fetch_fault, number_at, read_fault, size_of, store_fault, stored, written_pages}
+use Rattle.ffa_model.specs.Processors.{SameElsewhere}
+use Rattle.ffa_model.specs.RunStates.{schedule_of}
 use Rattle.ffa_model.specs.SoundState.{IsSoundState}
 use Rattle.ffa_model.specs.Step.{service, step}
 use Rattle.ffa_laws.proofs.Form.{accessed-kept, served-kept}
 use Rattle.ffa_laws.proofs.SoundKept.{pages-sound}
 use Rattle.ffa_laws.proofs.SoundPages.{store-aligned, stored-sound}
-use Rattle.ffa_laws.proofs.Services.{sound-service}
+use Rattle.ffa_laws.proofs.Services.{elsewhere-service, sound-service}
+use Rattle.ffa_laws.proofs.SoundLaws.{same-elsewhere}
 use Rattle.ffa_laws.proofs.Written.{rewritten-written}
 
 module _ (s : State) (sound : IsSoundState s) where
@@ -38,3 +41,14 @@ module _ (s : State) (sound : IsSoundState s) where
       accessed-kept IsSoundState s (stored s address (little_bytes (size_of size) value)) Done (store_fault s address (size_of size)) sound
       (λ none. store-sound address size value (store-aligned s address (size_of size) none))
   step-sound (Fetch address) = accessed-kept IsSoundState s s (Data (number_at s address 4)) (fetch_fault s address) sound (λ none. sound)
+
+  -- the same partitions run elsewhere
+  abbrev StaysElsewhere : State → Type 0
+  StaysElsewhere t = SameElsewhere (schedule_of s) (schedule_of t)
+
+  pub elsewhere-step : (op : Op) → StaysElsewhere (step s op).state
+  elsewhere-step (Call x) = served-kept StaysElsewhere s (service s (decode x)) (same-elsewhere (schedule_of s)) (elsewhere-service s sound (decode x))
+  elsewhere-step (Load address size) = accessed-kept StaysElsewhere s s (Data (number_at s address (size_of size))) (read_fault s address (size_of size)) (same-elsewhere (schedule_of s)) (λ none. same-elsewhere (schedule_of s))
+  elsewhere-step (Store address size value) =
+      accessed-kept StaysElsewhere s (stored s address (little_bytes (size_of size) value)) Done (store_fault s address (size_of size)) (same-elsewhere (schedule_of s)) (λ none. same-elsewhere (schedule_of s))
+  elsewhere-step (Fetch address) = accessed-kept StaysElsewhere s s (Data (number_at s address 4)) (fetch_fault s address) (same-elsewhere (schedule_of s)) (λ none. same-elsewhere (schedule_of s))

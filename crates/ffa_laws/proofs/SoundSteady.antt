@@ -85,7 +85,7 @@ module _ (s : State) (sound : IsSoundState s) where
         few = sized.few;
         each = sized.buffers;
         runner = subst (λ n. is_known_among n s.runner ≡ true) sized.works sound.schedule.runner;
-        requesters = λ i by asked. subst (λ n. is_known_among n by ≡ true) sized.works (requester-known (schedule_of s) sound.schedule some few i by asked);
+        requesters = λ i by asked. subst (λ n. is_known_among n by ≡ true) sized.works (requester-known (schedule_of s) sound.schedule some i by asked);
         one = λ p h k at_h at_k. sound.one p h k (naming-inside p h at_h) at_h at_k;
         transactions = λ h t is. steady-transaction h t is;
         sends = sized.sent;

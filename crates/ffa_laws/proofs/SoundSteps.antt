@@ -1,9 +1,8 @@
 -- SPDX-License-Identifier: MIT OR Apache-2.0
--- Each call that changes run states keeps them sound.
+-- Each call that changes run states keeps them sound, and whoever runs elsewhere.
 use Rattle.std.proofs.Common.{◌≡◌, ◌∙◌, ℕ, ◌≤◌, length, Some, None, refl, sym, ap, subst, arith, length-set}
-use Rattle.ffa_model.specs.declared.limits.TheConstants.{MOST_ENDPOINTS}
 use Rattle.ffa_model.specs.declared.schedule.Status.{Status}
-use Rattle.ffa_model.specs.declared.schedule.Status.TheVariants.{Running, Waiting, Yielded, Blocked}
+use Rattle.ffa_model.specs.declared.schedule.Status.TheVariants.{Running, Waiting, Yielded, Blocked, Preempted, RunsElsewhere}
 use Rattle.ffa_model.specs.declared.schedule.Work.TheVariants.{Run as WorkRun, Request}
 use Rattle.ffa_model.specs.declared.call.DirectMessage.{DirectMessage}
 use Rattle.ffa_model.specs.Identifiers.{place}
@@ -13,11 +12,11 @@ use Rattle.ffa_model.specs.RunStates.{Schedule, direct_request, direct_response,
 use Rattle.ffa_model.specs.Sound.{IsSound}
 use Rattle.ffa_laws.specs.Steady.{IsSteady}
 use Rattle.ffa_laws.proofs.ScheduleLaws.{answerer}
-use Rattle.ffa_laws.proofs.SoundLaws.{sound-request, sound-response, sound-run, sound-wait, sound-yield}
+use Rattle.ffa_laws.proofs.SoundLaws.{IsNext, next-request, next-response, next-run, next-wait, next-yield}
 
--- run states that are sound, of as many endpoints
-pub record AreSound (n : ℕ) (c : Schedule) : Type 0 where
-  pub sound : IsSound c
+-- run states that are sound, of as many endpoints, of which the same run elsewhere as before
+pub record AreSound (n : ℕ) (before c : Schedule) : Type 0 where
+  pub next : IsNext before c
   pub works : length c.works ≡ n
 
 -- a steady state with sound run states
@@ -36,33 +35,32 @@ module _ (s : State) (is : IsScheduled s) where
   some : 1 ≤ length s.works
   some = let least = is.steady.some in omega (arith, is.works)
 
-  few : length s.works ≤ MOST_ENDPOINTS
-  few = let most = is.steady.few in omega (arith, is.works)
-
   given-works : (e : ℕ) (status : Status) → length (given_cycles c e status).works ≡ length s.works
   given-works e Waiting = length-set s.works (place e) (Some WorkRun)
   given-works e Yielded = refl
   given-works e Running = refl
   given-works e Blocked = refl
+  given-works e Preempted = refl
+  given-works e RunsElsewhere = refl
 
   finished-works : (e : ℕ) → length (finished c e).works ≡ n
   finished-works e = length-set s.works (place s.runner) None ∙ is.works
 
-  pub scheduled-wait : first_failure (msg_wait s).guards ≡ None → AreSound n (finished c 0)
-  scheduled-wait none = record { sound = sound-wait c is.schedule some few none; works = finished-works 0 }
+  pub scheduled-wait : first_failure (msg_wait s).guards ≡ None → AreSound n c (finished c 0)
+  scheduled-wait none = record { next = next-wait c is.schedule some none; works = finished-works 0 }
 
-  pub scheduled-yield : first_failure (yield_now s).guards ≡ None → AreSound n (switched c Yielded 0)
-  scheduled-yield none = record { sound = sound-yield c is.schedule some few none; works = is.works }
+  pub scheduled-yield : first_failure (yield_now s).guards ≡ None → AreSound n c (switched c Yielded 0)
+  scheduled-yield none = record { next = next-yield c is.schedule some none; works = is.works }
 
-  pub scheduled-run : (target context : ℕ) → first_failure (run_partition s target context).guards ≡ None → AreSound n (given_cycles c target (status_in c target))
+  pub scheduled-run : (target context : ℕ) → first_failure (run_partition s target context).guards ≡ None → AreSound n c (given_cycles c target (status_in c target))
   scheduled-run target context none =
-      record { sound = sound-run c is.schedule some few target context (ap (λ k. first_failure (run_guards k c target context)) is.works ∙ none); works = given-works target (status_in c target) ∙ is.works }
+      record { next = next-run c is.schedule some target context (ap (λ k. first_failure (run_guards k c target context)) is.works ∙ none); works = given-works target (status_in c target) ∙ is.works }
 
-  pub scheduled-request : (message : DirectMessage) → first_failure (direct_request s message).guards ≡ None → AreSound n (requested c message.receiver.0)
+  pub scheduled-request : (message : DirectMessage) → first_failure (direct_request s message).guards ≡ None → AreSound n c (requested c message.receiver.0)
   scheduled-request message none =
-      record { sound = sound-request c is.schedule some few s.parties (sym is.works) message none; works = length-set s.works (place message.receiver.0) (Some (Request (record { 0 = s.runner }))) ∙ is.works }
+      record { next = next-request c is.schedule some s.parties (sym is.works) message none; works = length-set s.works (place message.receiver.0) (Some (Request (record { 0 = s.runner }))) ∙ is.works }
 
-  pub scheduled-response : (message : DirectMessage) → first_failure (direct_response s message).guards ≡ None → AreSound n (finished c message.receiver.0)
+  pub scheduled-response : (message : DirectMessage) → first_failure (direct_response s message).guards ≡ None → AreSound n c (finished c message.receiver.0)
   scheduled-response message none =
       (let (by, asked, to) = answerer s is.steady message none in
-      subst (λ e. AreSound n (finished c e)) (sym to) (record { sound = sound-response c is.schedule some few by asked; works = finished-works by }))
+      subst (λ e. AreSound n c (finished c e)) (sym to) (record { next = next-response c is.schedule some by asked; works = finished-works by }))

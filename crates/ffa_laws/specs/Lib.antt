@@ -14,3 +14,5 @@ pub mod Isolation
 pub mod Elsewhere
 pub mod ElsewhereRuns
 pub mod Stores
+pub mod Processors
+pub mod ProcessorRuns

@@ -4,6 +4,7 @@
 
 pub mod elsewhere;
 pub mod isolation;
+pub mod processors;
 
 pub use elsewhere::{
     confidential_as, integrity_as, one_step_as, only_writers_as, own_access_as, silence_as,
@@ -13,3 +14,4 @@ pub use isolation::{
     confidential, first_is_sound, integrity, loans, one_call, one_step, only_writers, own_access,
     rights_never_grow, run_integrity, silence, sound_is_steady, whole_run,
 };
+pub use processors::{one_chain, one_effect, one_interrupt, one_operation, whole_run_on};

@@ -22,9 +22,9 @@ pub mod KeptSend
 pub mod KeptDonate
 pub mod KeptCalls
 pub mod Slots
-pub mod Links
-pub mod Chains
 pub mod Sounds
+pub mod Processors
+pub mod OneChain
 pub mod Sets
 pub mod FirstChain
 pub mod ResponseSize

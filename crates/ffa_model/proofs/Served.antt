@@ -15,7 +15,7 @@ use Rattle.ffa_model.specs.declared.operation.ErrorCode.TheVariants.{NotSupporte
 use Rattle.ffa_model.specs.declared.refusal.Refusal.TheVariants.{FunctionUnknown}
 use Rattle.ffa_model.specs.declared.rights.Kind.TheVariants.{Share, Lend, Donate}
 use Rattle.ffa_model.specs.declared.schedule.Status.{Status}
-use Rattle.ffa_model.specs.declared.schedule.Status.TheVariants.{Waiting, Running, Blocked, Yielded}
+use Rattle.ffa_model.specs.declared.schedule.Status.TheVariants.{Waiting, Running, Blocked, Yielded, Preempted, RunsElsewhere}
 use Rattle.ffa_model.specs.Bits.{high_half, word_of_halves}
 use Rattle.ffa_model.specs.Calls.{Service, first_failure, success}
 use Rattle.ffa_model.specs.MemoryRetrieve.{retrieve_read}
@@ -36,6 +36,8 @@ run-no-error target Waiting = refl
 run-no-error target Yielded = refl
 run-no-error target Running = refl
 run-no-error target Blocked = refl
+run-no-error target Preempted = refl
+run-no-error target RunsElsewhere = refl
 
 version-no-error : (known : Bool) → is_error (cond known (replies.Version 0x10001) (replies.Version 0xFFFFFFFF)) ≡ false
 version-no-error true = refl

@@ -18,7 +18,7 @@ use Rattle.ffa_model.specs.declared.rights.Kind.TheVariants.{Share, Lend, Donate
 use Rattle.ffa_model.specs.declared.transaction.Range.{Range}
 use Rattle.ffa_model.specs.declared.transaction.Receiver.{Receiver}
 use Rattle.ffa_model.specs.declared.schedule.Status.{Status}
-use Rattle.ffa_model.specs.declared.schedule.Status.TheVariants.{Running, Waiting, Yielded, Blocked}
+use Rattle.ffa_model.specs.declared.schedule.Status.TheVariants.{Running, Waiting, Yielded, Blocked, Preempted, RunsElsewhere}
 use Rattle.ffa_model.specs.declared.schedule.Work.{Work}
 use Rattle.ffa_model.specs.declared.schedule.Work.TheVariants.{Run, Request}
 use Rattle.ffa_model.specs.Rights.{may_write}
@@ -62,15 +62,19 @@ status_number Running = 0
 status_number Waiting = 1
 status_number Yielded = 2
 status_number Blocked = 3
+status_number Preempted = 4
+status_number RunsElsewhere = 5
 
 abbrev pub status_from : ℕ → Status
-status_from n = if n == 0 then Running else if n == 1 then Waiting else if n == 2 then Yielded else Blocked
+status_from n = if n == 0 then Running else if n == 1 then Waiting else if n == 2 then Yielded else if n == 3 then Blocked else if n == 4 then Preempted else RunsElsewhere
 
 abbrev pub status_from-number : (s : Status) → status_from (status_number s) ≡ s
 status_from-number Running = refl
 status_from-number Waiting = refl
 status_from-number Yielded = refl
 status_from-number Blocked = refl
+status_from-number Preempted = refl
+status_from-number RunsElsewhere = refl
 
 abbrev pub coded_status : Coded Status
 coded_status = code_by ℕ coded_ℕ status_number status_from status_from-number

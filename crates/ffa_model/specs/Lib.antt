@@ -49,9 +49,10 @@ pub mod SoundState
 pub mod Step
 pub mod Checks
 pub mod Elsewhere
+pub mod Processors
+pub mod OneChain
 pub mod Obstacles
 pub mod AboutRegisters
 pub mod AboutContents
 pub mod About
 pub mod Why
-pub mod Links

@@ -4,7 +4,7 @@ use Rattle.std.specs.Prelude.{ℕ, ◌==◌, Bool, true, false, not, ◌&&◌, �
 use Rattle.ffa_model.specs.declared.refusal.Refusal.{Refusal}
 use Rattle.ffa_model.specs.declared.refusal.Refusal.TheVariants.{SenderIsAnother, FlagsReserved, ReceiverUnknown, ReceiverIsCaller, ReceiverIsNormalWorld, RequestsUnsent, RequestsUnreceived, ReceiverNotWaiting, NoRequest, AnswerMisdirected, NotNormalWorld, TargetUnknown, ContextUnknown, TargetNotReady, NotRun, NobodyToYieldTo}
 use Rattle.ffa_model.specs.declared.schedule.Status.{Status}
-use Rattle.ffa_model.specs.declared.schedule.Status.TheVariants.{Running, Waiting, Yielded, Blocked}
+use Rattle.ffa_model.specs.declared.schedule.Status.TheVariants.{Running, Waiting, Yielded, Blocked, Preempted, RunsElsewhere}
 use Rattle.ffa_model.specs.declared.schedule.Work.{Work}
 use Rattle.ffa_model.specs.declared.schedule.Work.TheVariants.{Run, Request}
 use Rattle.ffa_model.specs.declared.call.Reply.{Reply}
@@ -41,12 +41,33 @@ is_waiting Running = false
 is_waiting Waiting = true
 is_waiting Yielded = false
 is_waiting Blocked = false
+is_waiting Preempted = false
+is_waiting RunsElsewhere = false
 
 abbrev pub is_yielded : Status → Bool
 is_yielded Running = false
 is_yielded Waiting = false
 is_yielded Yielded = true
 is_yielded Blocked = false
+is_yielded Preempted = false
+is_yielded RunsElsewhere = false
+
+abbrev pub is_preempted : Status → Bool
+is_preempted Running = false
+is_preempted Waiting = false
+is_preempted Yielded = false
+is_preempted Blocked = false
+is_preempted Preempted = true
+is_preempted RunsElsewhere = false
+
+-- whether an endpoint has stopped in the midst of its work, with which it may go on
+abbrev pub is_stopped : Status → Bool
+is_stopped Running = false
+is_stopped Waiting = false
+is_stopped Yielded = true
+is_stopped Blocked = false
+is_stopped Preempted = true
+is_stopped RunsElsewhere = true
 
 -- whether the normal world gave the cycles
 abbrev pub is_run : Option Work → Bool
@@ -90,6 +111,8 @@ given_cycles schedule e Waiting = with_work (switched schedule Blocked e) e (Som
 given_cycles schedule e Yielded = switched schedule Blocked e
 given_cycles schedule e Running = schedule
 given_cycles schedule e Blocked = schedule
+given_cycles schedule e Preempted = schedule
+given_cycles schedule e RunsElsewhere = schedule
 
 -- the checks of each call, in order
 
@@ -147,6 +170,8 @@ run_reply target Waiting = scheduled FFA_RUN target
 run_reply target Yielded = success 0 0
 run_reply target Running = success 0 0
 run_reply target Blocked = success 0 0
+run_reply target Preempted = success 0 0
+run_reply target RunsElsewhere = success 0 0
 
 abbrev pub wait_reply : Identifier → Reply
 wait_reply runner = scheduled FFA_MSG_WAIT runner

@@ -34,11 +34,11 @@ pub use flaw::{
 pub use home::{Here, Home};
 pub use leaf::Leaf;
 pub use limits::{
-    MOST_BLOCKS, MOST_BUFFER_PAGES, MOST_ENDPOINTS, MOST_OPEN, MOST_PAGES, MOST_RAM, MOST_RANGES,
-    MOST_RECEIVERS, MOST_REGIONS, MOST_SENDS, SlotNumber,
+    MOST_BLOCKS, MOST_BUFFER_PAGES, MOST_ENDPOINTS, MOST_OPEN, MOST_PAGES, MOST_PROCESSORS,
+    MOST_RAM, MOST_RANGES, MOST_RECEIVERS, MOST_REGIONS, MOST_SENDS, SlotNumber,
 };
 pub use manifest::Manifest;
-pub use operation::{ErrorCode, FaultKind, Op, Outcome, Size};
+pub use operation::{Act, Effect, ErrorCode, FaultKind, Op, Outcome, Size};
 pub use refusal::{Refusal, WORDS};
 pub use rights::{Data, Kind, Rights};
 pub use room::Room;

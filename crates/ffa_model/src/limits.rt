@@ -19,6 +19,10 @@ pub const MOST_PAGES: usize = 512 * MOST_BLOCKS as usize;
 // transaction's slot has an entry for each.
 pub const MOST_ENDPOINTS: usize = 8;
 
+/// The most processors that run endpoints of a machine.
+// Of each the machine of several processors notes who runs. Definitions and proofs take any number.
+pub const MOST_PROCESSORS: usize = 8;
+
 /// The most regions of an endpoint.
 // They stand in the manifest and in the layout of `ffa_stage2`. A boot asks all of them once wherever one begins or
 // ends.

@@ -67,6 +67,13 @@ pub enum Op {
     Fetch { addr: u64 },
 }
 
+/// What a processor does: an operation of whoever runs on it, or it takes an interrupt.
+#[derive(Clone, Copy)]
+pub enum Act {
+    Operate(Op),
+    Interrupt,
+}
+
 /// What an operation gives.
 #[derive(Clone, Copy)]
 pub enum Outcome {
@@ -77,6 +84,14 @@ pub enum Outcome {
     /// A store was done.
     Done,
     Fault(FaultKind),
+}
+
+/// What comes of an operation where interrupts may preempt partitions.
+#[derive(Clone, Copy)]
+pub enum Effect {
+    Outcome(Outcome),
+    /// A partition that was preempted runs next, and goes on where it was: it sees no registers but its own.
+    Resumed(EndpointId),
 }
 
 impl Outcome {

@@ -1,29 +1,29 @@
 // SPDX-License-Identifier: MIT OR Apache-2.0
-//! The chain of endpoints that work for one another.
-ghost use Rattle.std.specs.Prelude.{◌≡◌, ◌==◌, ◌⊎◌, ◌||◌, ◌≤◌, length, is_some, true, Some, None, OnOk, OnErr, IfOk, IsSomeAnd};
-ghost use Rattle.std.specs.List.{list_any};
+//! The chains of endpoints that work for one another.
+ghost use Rattle.std.specs.Prelude.{◌≡◌, ◌<◌, ◌≤◌, length, slice_set, is_some, true, Some, None, OnOk, OnErr, IfOk, IsSomeAnd};
 ghost use Rattle.std.specs.Result.{result_err};
 ghost use Rattle.ffa_model.specs.Calls.{first_failure};
-ghost use Rattle.ffa_model.specs.declared.endpoint.EndpointId.{EndpointId};
 ghost use Rattle.ffa_model.specs.declared.schedule.Status.TheVariants.{Yielded, Blocked};
+ghost use Rattle.ffa_model.specs.First.{first_status};
 ghost use Rattle.ffa_model.specs.Identifiers.{place};
-ghost use Rattle.ffa_model.specs.RunStates.{finished, first_schedule, given_cycles, is_waiting, is_yielded, requested, requester, run_guards, run_reply, scheduled, status_in, switched, wait_guards, wait_reply, with_work, work_in, yield_guards, yield_reply};
-ghost use Rattle.ffa_model.specs.Sound.{IsSound, origin};
+ghost use Rattle.ffa_model.specs.RunStates.{finished, first_schedule, given_cycles, is_waiting, requested, requester, run_guards, run_reply, scheduled, status_in, switched, wait_guards, wait_reply, with_work, work_in, yield_guards, yield_reply};
+ghost use Rattle.ffa_model.specs.Sound.{IsSound, MayGoOn, MayStop, origin};
 ghost use Rattle.ffa_model.specs.State.{is_partition_among};
-ghost use Rattle.ffa_model.specs.Links.{status_outside};
 
 use arrayvec::ArrayVec;
 use ffa_model::function::{FFA_MSG_WAIT, FFA_RUN, FFA_YIELD};
 use ffa_model::{EndpointId, ErrorCode, MOST_ENDPOINTS, Reply, Status, Work};
 use std::marker::Model;
 
-/// Who runs, and for whom: the endpoints from the normal world to the runner, each of which is blocked for the one
-/// behind it (DEN0077A, 8.2). A partition that waits or has yielded stands outside.
+/// Who runs, and for whom: from the normal world chains of endpoints, each of which is blocked for the one behind it, lead to
+/// the runner, and to each partition that has stopped in the midst of its work (DEN0077A, 8.2 and 9).
 #[derive(Drop)]
 pub struct Chain {
-    // From the normal world to the runner, each of which works for the one before it.
-    pub(crate) links: ArrayVec<EndpointId, MOST_ENDPOINTS>,
-    // Of each endpoint the work that it has.
+    // The endpoint that runs.
+    pub(crate) runner: EndpointId,
+    // Of each endpoint its run state.
+    pub(crate) statuses: ArrayVec<Status, MOST_ENDPOINTS>,
+    // Of each endpoint the work that it has: for whom it works is who stands before it.
     pub(crate) works: ArrayVec<Option<Work>, MOST_ENDPOINTS>,
 }
 
@@ -35,11 +35,19 @@ impl Model for Chain {
 
     ghost coded = { coded_schedule };
 
-    ghost use Rattle.ffa_model.specs.Links.{identifiers_of, schedule_of, IsChain};
+    ghost use Rattle.ffa_schedule.specs.Kept.{IsKept};
 
-    ghost view = { λ c. schedule_of (identifiers_of c.links.items) c.works.items };
+    ghost view = { λ c. record {
+      runner = c.runner.0;
+      statuses = c.statuses.items;
+      works = c.works.items;
+    } };
 
-    ghost invariant = { λ c. IsChain (identifiers_of c.links.items) c.works.items };
+    ghost invariant = { λ c. IsKept (record {
+      runner = c.runner.0;
+      statuses = c.statuses.items;
+      works = c.works.items;
+    }) };
 }
 
 impl Chain {
@@ -50,13 +58,17 @@ impl Chain {
         ensures value { result ≡ first_schedule endpoints }
         ensures sound { IsSound result }
     {
-        let mut links = ArrayVec::new();
-        links.push(EndpointId::NORMAL_WORLD);
+        let mut statuses = ArrayVec::new();
         let mut works = ArrayVec::new();
-        for _place in 0..endpoints {
+        for place in 0..endpoints {
+            statuses.push(first_status(place));
             works.push(None);
         }
-        Chain { links, works }
+        Chain {
+            runner: EndpointId::NORMAL_WORLD,
+            statuses,
+            works,
+        }
     }
 
     /// The endpoint that runs.
@@ -64,7 +76,7 @@ impl Chain {
         ensures runner { result.0 ≡ self.now.runner }
         ensures sound { IsSound self.now }
     {
-        self.links[self.links.len() - 1]
+        self.runner
     }
 
     /// The run state of an endpoint. An identifier that is no endpoint's is read at its place.
@@ -72,14 +84,10 @@ impl Chain {
         ensures { result ≡ status_in self.now endpoint.0 }
     {
         let place = endpoint.place();
-        if place >= self.works.len() {
-            Status::Waiting
-        } else if self.runner().place() == place {
-            Status::Running
-        } else if has_link_at(self.links.as_slice(), place) {
-            Status::Blocked
+        if place < self.statuses.len() {
+            self.statuses[place]
         } else {
-            status_outside(self.works[place])
+            Status::Waiting
         }
     }
 
@@ -101,8 +109,8 @@ impl Chain {
     /// # Errors
     ///
     /// In this order: `Denied` where the runner isn't the normal world; `InvalidParameters` where the target is no
-    /// partition, or the execution context isn't 0; `Busy` where the target neither waits nor has yielded, though
-    /// there is no such partition while the normal world runs. An error changes nothing.
+    /// partition, or the execution context isn't 0; `Busy` where the target neither waits nor has yielded. An error
+    /// changes nothing.
     pub fn run_partition(&mut self, target: EndpointId, context: u16) -> Result<Reply, ErrorCode>
         ensures refusal { result_err result
             ≡ first_failure (run_guards (length self.old.works) self.old target.0 context) }
@@ -112,13 +120,13 @@ impl Chain {
         ensures sound { IsSound self.new }
     {
         self.check_run(target, context)?;
-        match self.work(target) {
-            None => {
+        match self.status(target) {
+            Status::Waiting => {
                 self.start(target, Work::Run);
                 Ok(reply_with(FFA_RUN, target))
             }
-            Some(work) => {
-                self.start(target, work);
+            _ => {
+                self.switch(Status::Blocked, target);
                 Ok(Reply::Success([0; 6]))
             }
         }
@@ -139,7 +147,7 @@ impl Chain {
     {
         let runner = self.runner();
         self.check_wait()?;
-        self.stop(None);
+        self.finish(EndpointId::NORMAL_WORLD);
         Ok(reply_with(FFA_MSG_WAIT, runner))
     }
 
@@ -157,8 +165,8 @@ impl Chain {
         ensures sound { IsSound self.new }
     {
         let runner = self.runner();
-        let work = self.check_yield()?;
-        self.stop(Some(work));
+        self.check_yield()?;
+        self.switch(Status::Yielded, EndpointId::NORMAL_WORLD);
         Ok(reply_with(FFA_YIELD, runner))
     }
 
@@ -180,51 +188,81 @@ impl Chain {
             self.new ≡ finished self.old by) }
         ensures sound { IsSound self.new }
     {
-        self.stop(None);
+        if let Some(Work::Request(by)) = self.own_work() {
+            self.finish(by);
+        }
     }
 
-    // The runner is blocked, and a partition that stands outside has this work for it and runs.
+    /// The runner stops in this status with the work that it has, and an endpoint that had stopped so, or the normal world, goes
+    /// on with its own: so it is where an interrupt preempts a partition, where that one goes on, and where another processor
+    /// does an operation.
+    pub fn switch(&mut self, status: Status, endpoint: EndpointId)
+        requires stops { MayStop self.old status }
+        requires goes { MayGoOn self.old endpoint.0 }
+        ensures changed { self.new ≡ switched self.old status endpoint.0 }
+        ensures sound { IsSound self.new }
+    {
+        set_status(&mut self.statuses, self.runner, status);
+        set_status(&mut self.statuses, endpoint, Status::Running);
+        self.runner = endpoint;
+    }
+
+    // The runner is blocked, and a partition that waits has this work for it and runs.
     fn start(&mut self, partition: EndpointId, work: Work)
         requires partition { is_partition_among (length self.old.works) partition.0 ≡ true }
-        requires outside { (is_waiting (status_in self.old partition.0)
-            || is_yielded (status_in self.old partition.0)) ≡ true }
+        requires waiting { is_waiting (status_in self.old partition.0) ≡ true }
         requires origin { origin (Some work) ≡ Some self.old.runner }
         ensures changed { self.new ≡ with_work (switched self.old Blocked partition.0) partition.0 (Some work) }
         ensures sound { IsSound self.new }
     {
-        self.works[partition.place()] = Some(work);
-        self.links.push(partition);
+        set_status(&mut self.statuses, self.runner, Status::Blocked);
+        set_status(&mut self.statuses, partition, Status::Running);
+        set_work(&mut self.works, partition, Some(work));
+        self.runner = partition;
     }
 
-    // The runner stops and has this work, with which it has yielded, or none, and the one before it runs.
-    fn stop(&mut self, work: Option<Work>)
-        requires partition { is_some (origin (work_in self.old self.old.runner)) ≡ true }
-        requires origin { (work ≡ None) ⊎ (origin work ≡ Some 0) }
-        ensures changed { IsSomeAnd (origin (work_in self.old self.old.runner)) (λ by.
-            self.new ≡ with_work (switched self.old (status_outside work) by) self.old.runner work) }
+    // The runner has done its work, and waits; the endpoint that it worked for runs.
+    fn finish(&mut self, by: EndpointId)
+        requires { origin (work_in self.old self.old.runner) ≡ Some by.0 }
+        ensures changed { self.new ≡ finished self.old by.0 }
         ensures sound { IsSound self.new }
     {
-        if let Some(runner) = self.links.pop() {
-            self.works[runner.place()] = work;
-        }
+        set_status(&mut self.statuses, self.runner, Status::Waiting);
+        set_status(&mut self.statuses, by, Status::Running);
+        set_work(&mut self.works, self.runner, None);
+        self.runner = by;
     }
 }
 
-// Whether one of these links has its place in the manifest here.
-fn has_link_at(links: &[EndpointId], index: usize) -> bool
-    ensures { result ≡ list_any (λ (link : EndpointId). place link.0 == index) links.now }
+// The run state at first of the endpoint at a place in the manifest.
+fn first_status(place: usize) -> Status
+    ensures { result ≡ first_status place }
 {
-    links.iter().any(|link| link.place() == index)
+    if place == 0 {
+        Status::Running
+    } else {
+        Status::Waiting
+    }
 }
 
-// The run state of an endpoint with this work that stands outside of the chain.
-fn status_outside(work: Option<Work>) -> Status
-    ensures { result ≡ status_outside work }
+// An endpoint has this run state.
+fn set_status(statuses: &mut ArrayVec<Status, MOST_ENDPOINTS>, endpoint: EndpointId, status: Status)
+    requires { place endpoint.0 < length statuses.old.items }
+    ensures { statuses.new.items ≡ slice_set statuses.old.items (place endpoint.0) status }
 {
-    match work {
-        None => Status::Waiting,
-        Some(_) => Status::Yielded,
-    }
+    statuses[endpoint.place()] = status;
+}
+
+// An endpoint has this work.
+fn set_work(
+    works: &mut ArrayVec<Option<Work>, MOST_ENDPOINTS>,
+    endpoint: EndpointId,
+    work: Option<Work>,
+)
+    requires { place endpoint.0 < length works.old.items }
+    ensures { works.new.items ≡ slice_set works.old.items (place endpoint.0) work }
+{
+    works[endpoint.place()] = work;
 }
 
 // What the endpoint that runs next is told of a partition which is given cycles, or gives them back.

@@ -4,8 +4,9 @@ ghost use Rattle.std.specs.Prelude.{◌≡◌, ◌||◌, length, Some, OnOk, IfO
 ghost use Rattle.std.specs.Result.{result_err};
 ghost use Rattle.ffa_model.specs.Calls.{first_refusal};
 ghost use Rattle.ffa_model.specs.declared.schedule.Work.TheVariants.{Run};
-ghost use Rattle.ffa_model.specs.RunStates.{is_endpoint, is_run, requester, run_guards, wait_guards, work_in, yield_guards};
+ghost use Rattle.ffa_model.specs.RunStates.{is_endpoint, is_preempted, is_run, requester, run_guards, wait_guards, work_in, yield_guards};
 ghost use Rattle.ffa_model.specs.Sound.{IsSound, origin};
+ghost use Rattle.ffa_model.specs.Processors.{may_resume};
 
 use crate::chain::Chain;
 use ffa_model::{EndpointId, Refusal, Status, Work};
@@ -28,7 +29,9 @@ impl Chain {
         }
         match self.status(target) {
             Status::Waiting | Status::Yielded => Ok(()),
-            Status::Running | Status::Blocked => Err(Refusal::TargetNotReady),
+            Status::Running | Status::Blocked | Status::Preempted | Status::RunsElsewhere => {
+                Err(Refusal::TargetNotReady)
+            }
         }
     }
 
@@ -56,12 +59,30 @@ impl Chain {
         }
     }
 
+    /// Whether FFA_RUN of a target in one of its execution contexts lets a preempted partition go on.
+    pub fn may_resume(&self, target: EndpointId, context: u16) -> bool
+        ensures may { result ≡ may_resume (length self.now.works) self.now target.0 context }
+        ensures sound { IsSound self.now }
+    {
+        self.runner() == EndpointId::NORMAL_WORLD
+            && target.is_partition_among(self.works.len())
+            && context == 0
+            && is_preempted(self.status(target))
+    }
+
     // The work of the runner.
-    fn own_work(&self) -> Option<Work>
+    pub(crate) fn own_work(&self) -> Option<Work>
         ensures { result ≡ work_in self.now self.now.runner }
     {
         self.work(self.runner())
     }
+}
+
+// Whether an interrupt stopped an endpoint in this run state.
+fn is_preempted(status: Status) -> bool
+    ensures { result ≡ is_preempted status }
+{
+    matches!(status, Status::Preempted)
 }
 
 // Whether work was set going by the normal world.

@@ -1,23 +1,22 @@
 -- SPDX-License-Identifier: MIT OR Apache-2.0
 use Rattle.std.proofs.lemmas.Grind.{common_steps}
-use Rattle.std.proofs.Common.{◌≡◌, ◌∙◌, ◌++◌, ◌∷◌, [], List, ℕ, replicate, None, ap, arith}
-use Rattle.ffa_model.specs.declared.endpoint.EndpointId.{EndpointId}
-use Rattle.ffa_schedule.proofs.Steps.{first-sound, first-view}
+use Rattle.std.proofs.Common.{◌≡◌, ◌∙◌, ℕ, ap, arith, replicate, None}
+use Rattle.ffa_model.specs.First.{first_status}
+use Rattle.ffa_model.specs.Lists.{listed}
+use Rattle.ffa_model.proofs.Listed.{listed-more}
+use Rattle.ffa_schedule.proofs.Steps.{first-kept, first-view, schedule}
 use Rattle.ffa_schedule.proofs.chain.Chain.first.Goals as goal
 
-pub returns-clause-value : goal.returns-clause-value
-returns-clause-value c =
-    let all : c.loop-place._place ≡ c.args.endpoints = omega (arith, c.loop-place-test.false, c.loop-place.auto._place-end) in
-    first-view c.push.new.self.items c.loop-place.works.items c.args.endpoints
-    (c.push.ensures.items ∙ ap (λ (xs : List EndpointId). xs ++ record { 0 = 0 } ∷ []) c.new-links.ensures)
-    (c.loop-place.invariant.works ∙ ap (λ (n : ℕ). replicate n None) all)
+pub loop-place-preserved : goal.loop-place-preserved
+loop-place-preserved c = grind (arith, common_steps, listed-more c.loop-place.place first_status)
+
+pub invariant_of-result : goal.invariant_of-result
+invariant_of-result c =
+    let all : c.loop-place.place ≡ c.args.endpoints = omega (arith, c.loop-place-test.false, c.loop-place.auto.place-end) in
+    first-kept (schedule 0 c.loop-place.statuses.items c.loop-place.works.items) c.args.endpoints
+    (first-view c.loop-place.statuses.items c.loop-place.works.items c.args.endpoints
+    (c.loop-place.invariant.statuses ∙ ap (λ (n : ℕ). listed n first_status) all)
+    (c.loop-place.invariant.works ∙ ap (λ (n : ℕ). replicate n None) all)) c.requires.some c.requires.few
 
 pub returns-clause-sound : goal.returns-clause-sound
-returns-clause-sound c =
-    let all : c.loop-place._place ≡ c.args.endpoints = omega (arith, c.loop-place-test.false, c.loop-place.auto._place-end) in
-    first-sound c.push.new.self.items c.loop-place.works.items c.args.endpoints
-    (c.push.ensures.items ∙ ap (λ (xs : List EndpointId). xs ++ record { 0 = 0 } ∷ []) c.new-links.ensures)
-    (c.loop-place.invariant.works ∙ ap (λ (n : ℕ). replicate n None) all) c.requires.some c.requires.few
-
-pub loop-place-preserved : goal.loop-place-preserved
-loop-place-preserved c = grind (arith, common_steps)
+returns-clause-sound c = (invariant_of-result c).sound

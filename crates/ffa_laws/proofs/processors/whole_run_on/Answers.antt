@@ -1,0 +1,12 @@
+-- SPDX-License-Identifier: MIT OR Apache-2.0
+use Rattle.ffa_laws.proofs.ProcessorRunLaws.{isolated_on, shared_never_grows, sound_after_all}
+use Rattle.ffa_laws.proofs.processors.whole_run_on.Goals as goal
+
+pub returns-clause-isolated : goal.returns-clause-isolated
+returns-clause-isolated c = isolated_on
+
+pub returns-clause-sound : goal.returns-clause-sound
+returns-clause-sound c = sound_after_all
+
+pub returns-clause-never_grow : goal.returns-clause-never_grow
+returns-clause-never_grow c = shared_never_grows

@@ -1,0 +1,62 @@
+// SPDX-License-Identifier: MIT OR Apache-2.0
+//! Interrupts, and operations of several processors: who runs is public, and all else is as it is of a step.
+
+ghost use Rattle.std.specs.Prelude.{ℕ, ◌≡◌, ◌<◌, true, List, length, None};
+ghost use Rattle.ffa_model.specs.declared.operation.Act.{Act};
+ghost use Rattle.ffa_model.specs.declared.operation.Op.{Op};
+ghost use Rattle.ffa_model.specs.OneChain.{IsOneChain, IsSimple};
+ghost use Rattle.ffa_model.specs.Processors.{ArePlaced, Processors, Shared, are_there, effected, interrupt, shared_after_all, step_on, step_resuming, turned};
+ghost use Rattle.ffa_model.specs.RunStates.{Schedule, schedule_of};
+ghost use Rattle.ffa_model.specs.Sound.{IsSound};
+ghost use Rattle.ffa_model.specs.SoundState.{IsSoundState};
+ghost use Rattle.ffa_model.specs.State.{State};
+ghost use Rattle.ffa_laws.specs.Isolation.{NeverGrow};
+ghost use Rattle.ffa_laws.specs.Processors.{HasRunner, OneEffect, OneInterrupt, OneOperation};
+ghost use Rattle.ffa_laws.specs.ProcessorRuns.{IsSoundShared, IsolatedOn};
+ghost use Rattle.ffa_laws.specs.Steady.{IsSteady};
+
+/// An interrupt: what others learn is in its events, and rights, tables and bytes stay. A sound state stays so.
+pub fn one_interrupt()
+    ensures interrupt { (s : State) → OneInterrupt s }
+    ensures sound { (s : State) → IsSoundState s → IsSoundState (interrupt s).state }
+{}
+
+/// One operation where partitions may be preempted: the laws of a step hold of it.
+pub fn one_effect()
+    ensures effect { (s : State) (op : Op) → IsSteady s → OneEffect s op }
+    ensures never_grow { (s : State) (op : Op) → IsSteady s → NeverGrow s (step_resuming s op).state }
+    ensures sound { (s : State) (op : Op) → IsSoundState s → IsSoundState (step_resuming s op).state }
+{}
+
+/// One operation of a processor: the laws of a step hold of it. A sound state stays so, and who runs where fits together.
+pub fn one_operation()
+    ensures operation { (processors : Processors) (p : ℕ) (s : State) (op : Op) → IsSteady s
+        → HasRunner processors p s → OneOperation processors p s op }
+    ensures never_grow { (processors : Processors) (p : ℕ) (s : State) (op : Op) → IsSteady s
+        → HasRunner processors p s → NeverGrow s (step_on processors p s op).state }
+    ensures sound { (processors : Processors) (p : ℕ) (s : State) (op : Op) → p < length processors.runners
+        → ArePlaced processors s → IsSoundState s → IsSoundState (step_on processors p s op).state }
+    ensures placed { (processors : Processors) (p : ℕ) (s : State) (op : Op) → p < length processors.runners
+        → ArePlaced processors s → IsSoundState s → ArePlaced (turned processors p s) (step_on processors p s op).state }
+{}
+
+/// Where no partition was preempted or runs elsewhere, as where interrupts and other processors are not used, sound run states
+/// are one chain from the normal world to the runner, through each blocked endpoint once; and an operation is a step.
+pub fn one_chain()
+    ensures chain { (c : Schedule) → IsSound c → IsSimple c → IsOneChain c }
+    ensures effect { (s : State) (op : Op) → length s.works ≡ length s.parties → IsSimple (schedule_of s)
+        → step_resuming s op ≡ effected s op None }
+    ensures operation { (processors : Processors) (s : State) (op : Op)
+        → step_on processors processors.current s op ≡ step_resuming s op }
+{}
+
+/// A list of operations and interrupts of several processors: what an endpoint sees of it, and its view after it, depend on its
+/// view at the start, on its own operations and on the events towards it. Rights never grow, a sound state stays so, and
+/// who runs where fits together.
+pub fn whole_run_on()
+    ensures isolated { (m : Shared) (xs : List (ℕ × Act)) → IsSoundShared m → are_there m xs ≡ true → IsolatedOn m xs }
+    ensures sound { (m : Shared) (xs : List (ℕ × Act)) → IsSoundShared m → are_there m xs ≡ true
+        → IsSoundShared (shared_after_all m xs) }
+    ensures never_grow { (m : Shared) (xs : List (ℕ × Act)) → IsSoundShared m → are_there m xs ≡ true
+        → NeverGrow m.state (shared_after_all m xs).state }
+{}

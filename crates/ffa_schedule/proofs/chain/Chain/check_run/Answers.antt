@@ -1,6 +1,0 @@
--- SPDX-License-Identifier: MIT OR Apache-2.0
-use Rattle.std.proofs.Common.{rules}
-use Rattle.ffa_schedule.proofs.chain.Chain.check_run.Goals as goal
-
-pub returns-in-Waiting : goal.returns-in-Waiting
-returns-in-Waiting c = search rules
