@@ -11,5 +11,5 @@ pub use elsewhere::{
 };
 pub use isolation::{
     confidential, first_is_sound, integrity, loans, one_call, one_step, only_writers, own_access,
-    rights_never_grow, run_integrity, silence, sound_is_steady, whole_run,
+    reads_no_more, rights_never_grow, run_integrity, silence, sound_is_steady, whole_run,
 };

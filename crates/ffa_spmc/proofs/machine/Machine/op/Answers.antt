@@ -7,7 +7,7 @@ use Rattle.ffa_physmem.specs.Moments.{TurnsIn}
 use Rattle.ffa_spmc.specs.Cached.{AreWalks}
 use Rattle.ffa_spmc.specs.Mixtures.{TablesRest}
 use Rattle.ffa_spmc.specs.Snapshot.{Snapshot}
-use Rattle.ffa_spmc.proofs.Laws.{access-now, confidential-now, integrity-now, no_growth-now, open-now, silence-now, step-now, writers-now}
+use Rattle.ffa_spmc.proofs.Laws.{access-now, confidential-now, integrity-now, no_growth-now, open-now, reads-now, silence-now, step-now, writers-now}
 use Rattle.ffa_spmc.proofs.Mixtures.{op-mixed}
 use Rattle.ffa_spmc.proofs.machine.Machine.op.Goals as goal
 
@@ -56,6 +56,11 @@ returns-clause-silent_offers g c =
     open-now c.args.self.now.state
     (subst (λ (seen : Snapshot). IsSoundState seen.state) c.self.view_is c.holds.ensures.sound)
     (subst (λ (seen : Snapshot). AreApart seen.state) c.self.view_is c.holds.ensures.apart) c.args.op.now
+
+pub returns-clause-reads_no_more : goal.returns-clause-reads_no_more
+returns-clause-reads_no_more g c =
+    reads-now c.args.self.now.state
+    (subst (λ (seen : Snapshot). IsSoundState seen.state) c.self.view_is c.holds.ensures.sound) c.args.op.now
 
 pub returns-clause-mixtures : goal.returns-clause-mixtures
 returns-clause-mixtures g c =
