@@ -39,4 +39,6 @@ pub mod Unowned
 pub mod Sizes
 pub mod Chains
 pub mod Moments
+pub mod Amid
 pub mod Mixtures
+pub mod Left

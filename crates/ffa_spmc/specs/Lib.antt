@@ -18,5 +18,7 @@ pub mod Readied
 pub mod Unowned
 pub mod Operated
 pub mod Among
+pub mod Amid
 pub mod Mixtures
 pub mod Moments
+pub mod Meanwhile

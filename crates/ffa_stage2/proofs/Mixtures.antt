@@ -28,7 +28,7 @@ use Rattle.ffa_stage2.proofs.Places.{table_page-address, table_page-below, table
 -- ---- what may be read
 
 -- what stands there
-may-now : (e p : ℕ) (h : List Step) (ram : Ram) (page i : ℕ) → MayRead e p h ram page i (word_of (page_of ram page) i)
+pub may-now : (e p : ℕ) (h : List Step) (ram : Ram) (page i : ℕ) → MayRead e p h ram page i (word_of (page_of ram page) i)
 may-now e p [] ram page i = refl
 may-now e p (s ∷ h) ram page i = inl refl
 
