@@ -144,6 +144,36 @@ module _ (hides : ℕ → Bool) where
   zeroed-blind true s ranges = changed-blind s ranges zeroed_page blind-zeroed
   zeroed-blind false s ranges = blanked-twice s.pages
 
+-- ---- what is read of TX: the same of both, by what a call makes of it
+abbrev pub AreReadAlike : calls.Call → List ℕ → List ℕ → Type 0
+AreReadAlike (MemDonate x) tx other = take x.total tx ≡ take x.total other
+AreReadAlike (MemLend x) tx other = take x.total tx ≡ take x.total other
+AreReadAlike (MemShare x) tx other = take x.total tx ≡ take x.total other
+AreReadAlike (MemRetrieve x) tx other = take x.total tx ≡ take x.total other
+AreReadAlike MemRelinquish tx other = relinquish_of tx ≡ relinquish_of other
+AreReadAlike MsgSend2 tx other = tx ≡ other
+AreReadAlike call tx other = Unit {0}
+
+read-same : (call : calls.Call) (tx other : List ℕ) → tx ≡ other → AreReadAlike call tx other
+read-same (MemDonate x) tx other same = ap (take x.total) same
+read-same (MemLend x) tx other same = ap (take x.total) same
+read-same (MemShare x) tx other same = ap (take x.total) same
+read-same (MemRetrieve x) tx other same = ap (take x.total) same
+read-same MemRelinquish tx other same = ap relinquish_of same
+read-same MsgSend2 tx other same = same
+read-same call tx other same = tt
+
+-- an operation reads none, unless it is a call
+abbrev pub IsReadAlike : Op → List ℕ → List ℕ → Type 0
+IsReadAlike (Call x) tx other = AreReadAlike (decode x) tx other
+IsReadAlike op tx other = Unit {0}
+
+op-read-same : (op : Op) (tx other : List ℕ) → tx ≡ other → IsReadAlike op tx other
+op-read-same (Call x) tx other same = read-same (decode x) tx other same
+op-read-same (Load address size) tx other same = tt
+op-read-same (Store address size value) tx other same = tt
+op-read-same (Fetch address) tx other same = tt
+
 -- ---- a state, some pages of which are blank
 module _ (s : State) (hides : ℕ → Bool) where
   abbrev b : State
@@ -200,23 +230,22 @@ module _ (s : State) (hides : ℕ → Bool) where
   sent-b kind None = λ i. record s { pages = blanked-twice hides s.pages i }
   sent-b kind (Some r) = λ i. record (memory_sent s kind (Some r)) { pages = zeroed-blind hides r.zero s r.ranges i }
 
-  -- a page that the runner has access to has its bytes
-  module _ (shows : (p : ℕ) → is_some (access s s.runner p) ≡ true → hides p ≡ false) where
-    bytes-shown : (p : ℕ) → is_some (access s s.runner p) ≡ true → option_map_or (λ (q : Page). q.bytes) (page_at b p) [] ≡ option_map_or (λ (q : Page). q.bytes) (page_at s p) []
-    bytes-shown p some = ap (λ page. option_map_or (λ (q : Page). q.bytes) page []) (page-b p ∙ ap (λ c. blank_where c (page_at s p)) (shows p some))
+  -- a page that isn't blank has its bytes
+  pub bytes-b : (p : ℕ) → hides p ≡ false → page_bytes b p ≡ page_bytes s p
+  bytes-b p off = ap (λ page. option_map_or (λ (q : Page). q.bytes) page []) (page-b p ∙ ap (λ c. blank_where c (page_at s p)) off)
 
   -- ---- the runner can read its TX
   module _ (steady : IsSteady s) (shows : (p : ℕ) → is_some (access s s.runner p) ≡ true → hides p ≡ false) where
     -- a page that the runner has alone
-    bytes-alone : (p : ℕ) → IsAlone s s.runner p → option_map_or (λ (q : Page). q.bytes) (page_at b p) [] ≡ option_map_or (λ (q : Page). q.bytes) (page_at s p) []
+    bytes-alone : (p : ℕ) → IsAlone s s.runner p → page_bytes b p ≡ page_bytes s p
     bytes-alone p alone = of (page_at s p) refl
       where
-        of : (page : Option Page) → page_at s p ≡ page → option_map_or (λ (q : Page). q.bytes) (page_at b p) [] ≡ option_map_or (λ (q : Page). q.bytes) (page_at s p) []
+        of : (page : Option Page) → page_at s p ≡ page → page_bytes b p ≡ page_bytes s p
         of None at = ap (λ page. option_map_or (λ (q : Page). q.bytes) page []) (page-b p ∙ ap (blank_where (hides p)) at ∙ blank-none (hides p) ∙ sym at)
         of (Some q) at =
             let mine : (q.owner == s.runner) ≡ true = eq-eqb q.owner s.runner (sym (ap (λ o. option_map_or (λ (x : Page). x.owner) o 0x8000) at) ∙ alone.owner) in
-            bytes-shown shows p
-            (ap is_some ((λ i. right_of s.runner (at i) (option_and_then (transaction_of s) (alone.unnamed i))) ∙ ap (λ c. cond c (Some q.own_right) None) mine))
+            bytes-b p (shows p
+            (ap is_some ((λ i. right_of s.runner (at i) (option_and_then (transaction_of s) (alone.unnamed i))) ∙ ap (λ c. cond c (Some q.own_right) None) mine)))
 
     pub tx-shown : tx_bytes b s.runner ≡ tx_bytes s s.runner
     tx-shown = of (buffers_of s s.runner) refl
@@ -226,142 +255,192 @@ module _ (s : State) (hides : ℕ → Bool) where
         of None is = refl
         of (Some x) is = flat-run-same (page_bytes b) (page_bytes s) x.tx x.pages (λ p its. bytes-alone p ((steady.buffers s.runner x steady.runner is).tx p its))
 
-  -- ---- what the runner does, whose TX has all its bytes
+  -- ---- what the runner does, where what it reads of TX has its bytes
+  send-b : (kind : Kind) (x : Transfer) → take x.total (tx_bytes b s.runner) ≡ take x.total (tx_bytes s s.runner) → Alike (memory_send b kind x) (memory_send s kind x)
+  send-b kind x part =
+      record {
+        guards = λ i. first_failure (send_guards (scene-b i) s.runner x (send_of kind (in_version (version_of s s.runner) (part i))));
+        reply = refl;
+        state = ap (λ said. blank hides (memory_sent b kind (send_of kind (in_version (version_of s s.runner) said)))) part ∙ sent-b kind (send_read s kind x.total);
+      }
+
+  retrieved-b : (o : Option RetrieveDesc) → blank hides (retrieved b o) ≡ blank hides (retrieved s o)
+  retrieved-b None = λ i. record s { pages = blanked-twice hides s.pages i }
+  retrieved-b (Some d) = from (transaction_of s d.handle)
+    where
+      given : (kind : Kind) (ranges : List Range) (e : ℕ) (right : Rights) (bytes : List ℕ)
+          → blanked hides (filled_pages (cond (is_donate kind) (changed_pages b ranges (donated_page e right)) b.pages) bytes (buffers_of s e))
+          ≡ blanked hides (filled_pages (cond (is_donate kind) (changed_pages s ranges (donated_page e right)) s.pages) bytes (buffers_of s e))
+      given kind ranges e right bytes =
+          sym (filled-blind hides bytes (buffers_of s e) (cond (is_donate kind) (changed_pages b ranges (donated_page e right)) b.pages))
+          ∙ ap (λ ps. blanked hides (filled_pages ps bytes (buffers_of s e))) (by (is_donate kind))
+          ∙ filled-blind hides bytes (buffers_of s e) (cond (is_donate kind) (changed_pages s ranges (donated_page e right)) s.pages)
+        where
+          by : (donated : Bool) → blanked hides (cond donated (changed_pages b ranges (donated_page e right)) b.pages) ≡ blanked hides (cond donated (changed_pages s ranges (donated_page e right)) s.pages)
+          by true = changed-blind hides s ranges (donated_page e right) (blind-donated e right)
+          by false = blanked-twice hides s.pages
+
+      from : (o : Option Transaction) → blank hides (retrieved_from b d o) ≡ blank hides (retrieved_from s d o)
+      from None = λ i. record s { pages = blanked-twice hides s.pages i }
+      from (Some t) =
+          ap (λ ram. blank hides (retrieved_right b d.handle t s.runner (right_for ram t s.runner d))) ownership-b
+          ∙ (let right = right_for (ownership_of s) t s.runner d in
+          λ i. record (retrieved_right s d.handle t s.runner right) { pages = given t.kind t.ranges s.runner right (response_bytes (version_of s s.runner) (response_to d.handle t s.runner right)) i })
+
+  retrieve-b : (x : Transfer) → take x.total (tx_bytes b s.runner) ≡ take x.total (tx_bytes s s.runner) → Alike (memory_retrieve b x) (memory_retrieve s x)
+  retrieve-b x part =
+      record {
+        guards = λ i. first_failure (retrieve_guards (scene-b i) s.runner x (retrieve_of s.runner (in_version (version_of s s.runner) (part i))));
+        reply = λ i. Retrieved (response_length s (retrieve_of s.runner (in_version (version_of s s.runner) (part i))));
+        state = ap (λ said. blank hides (retrieved b (retrieve_of s.runner (in_version (version_of s s.runner) said)))) part ∙ retrieved-b (retrieve_read s x.total);
+      }
+
+  relinquished-b : (o : Option RelinquishDesc) → blank hides (relinquished b o) ≡ blank hides (relinquished s o)
+  relinquished-b None = λ i. record s { pages = blanked-twice hides s.pages i }
+  relinquished-b (Some d) = from (transaction_of s d.handle)
+    where
+      from : (o : Option Transaction) → blank hides (relinquished_from b d o) ≡ blank hides (relinquished_from s d o)
+      from None = λ i. record s { pages = blanked-twice hides s.pages i }
+      from (Some t) = λ i. record (relinquished_from s d (Some t)) { pages = zeroed-blind hides d.zero s t.ranges i }
+
+  relinquish-b : relinquish_of (tx_bytes b s.runner) ≡ relinquish_of (tx_bytes s s.runner) → Alike (memory_relinquish b) (memory_relinquish s)
+  relinquish-b part =
+      record {
+        guards = λ i. first_failure (relinquish_guards (buffers_of s s.runner) (open_of s) s.runner (part i));
+        reply = refl;
+        state = ap (λ said. blank hides (relinquished b said)) part ∙ relinquished-b (relinquish_of (tx_bytes s s.runner));
+      }
+
+  reclaim-b : (handle flags : ℕ) → Alike (memory_reclaim b handle flags) (memory_reclaim s handle flags)
+  reclaim-b handle flags =
+      record {
+        guards = λ i. first_failure (reclaim_guards (ownership-b i) s.runner flags (transaction_of s handle));
+        reply = refl;
+        state = λ i. record (memory_reclaim s handle flags).state { pages = zeroed-blind hides (is_set 0 flags) s (named_ranges (transaction_of s handle)) i };
+      }
+
+  send2-b : tx_bytes b s.runner ≡ tx_bytes s s.runner → Alike (msg_send2 b) (msg_send2 s)
+  send2-b tx-b =
+      record {
+        guards = λ i. first_failure (send2_guards s.parties s.buffers s.runner (header_in (tx-b i)));
+        reply = refl;
+        state =
+            ap (λ tx. blank hides (delivered b (header_in tx).receiver (message_in tx))) tx-b
+            ∙ (λ i. record (msg_send2 s).state { pages = filled-blind hides (message_in (tx_bytes s s.runner)) (buffers_of s (header_in (tx_bytes s s.runner)).receiver) s.pages i });
+      }
+
+  pub service-part : (call : calls.Call) → AreReadAlike call (tx_bytes b s.runner) (tx_bytes s s.runner) → Alike (service b call) (service s call)
+  service-part (RxtxMap tx rx pages) part =
+      record {
+        guards = λ i. first_failure (map_guards s.runner (buffers_of s s.runner) (ownership-b i) tx rx pages);
+        reply = refl;
+        state = λ i. record (service s (RxtxMap tx rx pages)).state { pages = blanked-twice hides s.pages i };
+      }
+  service-part (PartitionInfoGet uuid flags) part =
+      record {
+        guards = refl;
+        reply = refl;
+        state = elim (is_count_alone flags) as (λ c. blank hides (cond c b (filled b s.runner (info_bytes (version_of s s.runner) s.parties (uuid_bytes uuid)))) ≡ blank hides (cond c s (filled s s.runner (info_bytes (version_of s s.runner) s.parties (uuid_bytes uuid))))) [
+          | true ↦ λ i. record s { pages = blanked-twice hides s.pages i }
+          | false ↦ λ i. record (filled s s.runner (info_bytes (version_of s s.runner) s.parties (uuid_bytes uuid))) { pages = filled-blind hides (info_bytes (version_of s s.runner) s.parties (uuid_bytes uuid)) (buffers_of s s.runner) s.pages i }
+        ];
+      }
+  service-part (MemDonate x) part = send-b Donate x part
+  service-part (MemLend x) part = send-b Lend x part
+  service-part (MemShare x) part = send-b Share x part
+  service-part (MemRetrieve x) part = retrieve-b x part
+  service-part MemRelinquish part = relinquish-b part
+  service-part (MemReclaim handle flags) part = reclaim-b handle.0 flags
+  service-part MsgSend2 part = send2-b part
+  service-part call part = record { guards = refl; reply = refl; state = λ i. record (service s call).state { pages = blanked-twice hides s.pages i } }
+
+  served-b : (c d : Service) → Alike c d → Steps (served b c) (served s d)
+  served-b c d alike = subst (λ g. Steps (answered g b c.state c.reply) (served s d)) (sym alike.guards) (of (first_failure d.guards))
+    where
+      of : (g : Option ErrorCode) → Steps (answered g b c.state c.reply) (answered g s d.state d.reply)
+      of None = record { outcome = λ i. Regs (record { 0 = (alike.state i).runner }) (encode (alike.reply i)); state = alike.state }
+      of (Some code) = record { outcome = refl; state = twice }
+
+  call-part : (call : calls.Call) → AreReadAlike call (tx_bytes b s.runner) (tx_bytes s s.runner) → Steps (serve b call) (serve s call)
+  call-part call part = served-b (service b call) (service s call) (service-part call part)
+
+  accessed-state : (f g : Option FaultKind) (new next : State) (told said : Outcome) → f ≡ g → blank hides new ≡ blank hides next
+      → blank hides (accessed f b new told).state ≡ blank hides (accessed g s next said).state
+  accessed-state f g new next told said same states = ap (λ h. blank hides (accessed h b new told).state) same ∙ of g
+    where
+      of : (h : Option FaultKind) → blank hides (accessed h b new told).state ≡ blank hides (accessed h s next said).state
+      of None = states
+      of (Some fault) = twice
+
+  -- the state after it, also where it reads bytes that are blank
+  pub state-part : (op : Op) → IsReadAlike op (tx_bytes b s.runner) (tx_bytes s s.runner) → blank hides (step b op).state ≡ blank hides (step s op).state
+  state-part (Call x) part = (call-part (decode x) part).state
+  state-part (Load address size) part =
+      accessed-state (read_fault b address (size_of size)) (read_fault s address (size_of size)) b s (Data (number_at b address (size_of size))) (Data (number_at s address (size_of size)))
+      (ap (λ right. fault_of (address % size_of size == 0) right (λ r. true)) (access_at-b address)) twice
+  state-part (Store address size value) part =
+      accessed-state (store_fault b address (size_of size)) (store_fault s address (size_of size)) (stored b address (little_bytes (size_of size) value)) (stored s address (little_bytes (size_of size) value)) Done Done
+      (ap (λ right. fault_of (address % size_of size == 0) right may_store) (access_at-b address))
+      (λ i. record s { pages = written-blind hides ((address - s.ram_base) / 4096) (address % 4096) (little_bytes (size_of size) value) s.pages i })
+  state-part (Fetch address) part =
+      accessed-state (fetch_fault b address) (fetch_fault s address) b s (Data (number_at b address 4)) (Data (number_at s address 4))
+      (ap (λ right. fault_of (address % 4 == 0) right may_fetch) (access_at-b address)) twice
+
+  -- ---- the page of an address that it may read has its bytes
+  abbrev pub IsShownAt : ℕ → Type 0
+  IsShownAt address = is_some (access_at s s.runner address) ≡ true → hides ((address - s.ram_base) / 4096) ≡ false
+
+  abbrev pub IsShownTo : Op → Type 0
+  IsShownTo (Call x) = Unit {0}
+  IsShownTo (Load address size) = IsShownAt address
+  IsShownTo (Store address size value) = Unit {0}
+  IsShownTo (Fetch address) = IsShownAt address
+
+  number-b : (address n : ℕ) → IsShownAt address → is_some (access_at s s.runner address) ≡ true → number_at b address n ≡ number_at s address n
+  number-b address n shown some = ap (λ bytes. number_in bytes (address % 4096) n) (bytes-b ((address - s.ram_base) / 4096) (shown some))
+
+  accessed-b : (f g : Option FaultKind) (new next : State) (told said : Outcome) → f ≡ g → (g ≡ None → told ≡ said) → blank hides new ≡ blank hides next
+      → Steps (accessed f b new told) (accessed g s next said)
+  accessed-b f g new next told said same outcome states = subst (λ h. Steps (accessed h b new told) (accessed g s next said)) (sym same) (of g outcome)
+    where
+      of : (h : Option FaultKind) → (h ≡ None → told ≡ said) → Steps (accessed h b new told) (accessed h s next said)
+      of None outcome = record { outcome = outcome refl; state = states }
+      of (Some fault) outcome = record { outcome = refl; state = twice }
+
+  -- and its outcome
+  pub outcome-part : (op : Op) → IsReadAlike op (tx_bytes b s.runner) (tx_bytes s s.runner) → IsShownTo op → Steps (step b op) (step s op)
+  outcome-part (Call x) part shown = call-part (decode x) part
+  outcome-part (Load address size) part shown =
+      accessed-b (read_fault b address (size_of size)) (read_fault s address (size_of size)) b s (Data (number_at b address (size_of size))) (Data (number_at s address (size_of size)))
+      (ap (λ right. fault_of (address % size_of size == 0) right (λ r. true)) (access_at-b address))
+      (λ none. ap Data (number-b address (size_of size) shown (fault-none (address % size_of size == 0) (access_at s s.runner address) (λ r. true) none)))
+      twice
+  outcome-part (Store address size value) part shown =
+      accessed-b (store_fault b address (size_of size)) (store_fault s address (size_of size)) (stored b address (little_bytes (size_of size) value)) (stored s address (little_bytes (size_of size) value)) Done Done
+      (ap (λ right. fault_of (address % size_of size == 0) right may_store) (access_at-b address))
+      (λ none. refl)
+      (λ i. record s { pages = written-blind hides ((address - s.ram_base) / 4096) (address % 4096) (little_bytes (size_of size) value) s.pages i })
+  outcome-part (Fetch address) part shown =
+      accessed-b (fetch_fault b address) (fetch_fault s address) b s (Data (number_at b address 4)) (Data (number_at s address 4))
+      (ap (λ right. fault_of (address % 4 == 0) right may_fetch) (access_at-b address))
+      (λ none. ap Data (number-b address 4 shown (fault-none (address % 4 == 0) (access_at s s.runner address) may_fetch none)))
+      twice
+
+  -- ---- whose TX has all its bytes
   module _ (tx-b : tx_bytes b s.runner ≡ tx_bytes s s.runner) where
-    send-b : (kind : Kind) (x : Transfer) → Alike (memory_send b kind x) (memory_send s kind x)
-    send-b kind x =
-        record {
-          guards = λ i. first_failure (send_guards (scene-b i) s.runner x (send_of kind (in_version (version_of s s.runner) (take x.total (tx-b i)))));
-          reply = refl;
-          state = ap (λ tx. blank hides (memory_sent b kind (send_of kind (in_version (version_of s s.runner) (take x.total tx))))) tx-b ∙ sent-b kind (send_read s kind x.total);
-        }
-
-    retrieved-b : (o : Option RetrieveDesc) → blank hides (retrieved b o) ≡ blank hides (retrieved s o)
-    retrieved-b None = λ i. record s { pages = blanked-twice hides s.pages i }
-    retrieved-b (Some d) = from (transaction_of s d.handle)
-      where
-        given : (kind : Kind) (ranges : List Range) (e : ℕ) (right : Rights) (bytes : List ℕ)
-            → blanked hides (filled_pages (cond (is_donate kind) (changed_pages b ranges (donated_page e right)) b.pages) bytes (buffers_of s e))
-            ≡ blanked hides (filled_pages (cond (is_donate kind) (changed_pages s ranges (donated_page e right)) s.pages) bytes (buffers_of s e))
-        given kind ranges e right bytes =
-            sym (filled-blind hides bytes (buffers_of s e) (cond (is_donate kind) (changed_pages b ranges (donated_page e right)) b.pages))
-            ∙ ap (λ ps. blanked hides (filled_pages ps bytes (buffers_of s e))) (by (is_donate kind))
-            ∙ filled-blind hides bytes (buffers_of s e) (cond (is_donate kind) (changed_pages s ranges (donated_page e right)) s.pages)
-          where
-            by : (donated : Bool) → blanked hides (cond donated (changed_pages b ranges (donated_page e right)) b.pages) ≡ blanked hides (cond donated (changed_pages s ranges (donated_page e right)) s.pages)
-            by true = changed-blind hides s ranges (donated_page e right) (blind-donated e right)
-            by false = blanked-twice hides s.pages
-
-        from : (o : Option Transaction) → blank hides (retrieved_from b d o) ≡ blank hides (retrieved_from s d o)
-        from None = λ i. record s { pages = blanked-twice hides s.pages i }
-        from (Some t) =
-            ap (λ ram. blank hides (retrieved_right b d.handle t s.runner (right_for ram t s.runner d))) ownership-b
-            ∙ (let right = right_for (ownership_of s) t s.runner d in
-            λ i. record (retrieved_right s d.handle t s.runner right) { pages = given t.kind t.ranges s.runner right (response_bytes (version_of s s.runner) (response_to d.handle t s.runner right)) i })
-
-    retrieve-b : (x : Transfer) → Alike (memory_retrieve b x) (memory_retrieve s x)
-    retrieve-b x =
-        record {
-          guards = λ i. first_failure (retrieve_guards (scene-b i) s.runner x (retrieve_of s.runner (in_version (version_of s s.runner) (take x.total (tx-b i)))));
-          reply = λ i. Retrieved (response_length s (retrieve_of s.runner (in_version (version_of s s.runner) (take x.total (tx-b i)))));
-          state = ap (λ tx. blank hides (retrieved b (retrieve_of s.runner (in_version (version_of s s.runner) (take x.total tx))))) tx-b ∙ retrieved-b (retrieve_read s x.total);
-        }
-
-    relinquished-b : (o : Option RelinquishDesc) → blank hides (relinquished b o) ≡ blank hides (relinquished s o)
-    relinquished-b None = λ i. record s { pages = blanked-twice hides s.pages i }
-    relinquished-b (Some d) = from (transaction_of s d.handle)
-      where
-        from : (o : Option Transaction) → blank hides (relinquished_from b d o) ≡ blank hides (relinquished_from s d o)
-        from None = λ i. record s { pages = blanked-twice hides s.pages i }
-        from (Some t) = λ i. record (relinquished_from s d (Some t)) { pages = zeroed-blind hides d.zero s t.ranges i }
-
-    relinquish-b : Alike (memory_relinquish b) (memory_relinquish s)
-    relinquish-b =
-        record {
-          guards = λ i. first_failure (relinquish_guards (buffers_of s s.runner) (open_of s) s.runner (relinquish_of (tx-b i)));
-          reply = refl;
-          state = ap (λ tx. blank hides (relinquished b (relinquish_of tx))) tx-b ∙ relinquished-b (relinquish_of (tx_bytes s s.runner));
-        }
-
-    reclaim-b : (handle flags : ℕ) → Alike (memory_reclaim b handle flags) (memory_reclaim s handle flags)
-    reclaim-b handle flags =
-        record {
-          guards = λ i. first_failure (reclaim_guards (ownership-b i) s.runner flags (transaction_of s handle));
-          reply = refl;
-          state = λ i. record (memory_reclaim s handle flags).state { pages = zeroed-blind hides (is_set 0 flags) s (named_ranges (transaction_of s handle)) i };
-        }
-
-    send2-b : Alike (msg_send2 b) (msg_send2 s)
-    send2-b =
-        record {
-          guards = λ i. first_failure (send2_guards s.parties s.buffers s.runner (header_in (tx-b i)));
-          reply = refl;
-          state =
-              ap (λ tx. blank hides (delivered b (header_in tx).receiver (message_in tx))) tx-b
-              ∙ (λ i. record (msg_send2 s).state { pages = filled-blind hides (message_in (tx_bytes s s.runner)) (buffers_of s (header_in (tx_bytes s s.runner)).receiver) s.pages i });
-        }
-
     pub service-b : (call : calls.Call) → Alike (service b call) (service s call)
-    service-b (RxtxMap tx rx pages) =
-        record {
-          guards = λ i. first_failure (map_guards s.runner (buffers_of s s.runner) (ownership-b i) tx rx pages);
-          reply = refl;
-          state = λ i. record (service s (RxtxMap tx rx pages)).state { pages = blanked-twice hides s.pages i };
-        }
-    service-b (PartitionInfoGet uuid flags) =
-        record {
-          guards = refl;
-          reply = refl;
-          state = elim (is_count_alone flags) as (λ c. blank hides (cond c b (filled b s.runner (info_bytes (version_of s s.runner) s.parties (uuid_bytes uuid)))) ≡ blank hides (cond c s (filled s s.runner (info_bytes (version_of s s.runner) s.parties (uuid_bytes uuid))))) [
-            | true ↦ λ i. record s { pages = blanked-twice hides s.pages i }
-            | false ↦ λ i. record (filled s s.runner (info_bytes (version_of s s.runner) s.parties (uuid_bytes uuid))) { pages = filled-blind hides (info_bytes (version_of s s.runner) s.parties (uuid_bytes uuid)) (buffers_of s s.runner) s.pages i }
-          ];
-        }
-    service-b (MemDonate x) = send-b Donate x
-    service-b (MemLend x) = send-b Lend x
-    service-b (MemShare x) = send-b Share x
-    service-b (MemRetrieve x) = retrieve-b x
-    service-b MemRelinquish = relinquish-b
-    service-b (MemReclaim handle flags) = reclaim-b handle.0 flags
-    service-b MsgSend2 = send2-b
-    service-b call = record { guards = refl; reply = refl; state = λ i. record (service s call).state { pages = blanked-twice hides s.pages i } }
-
-    served-b : (c d : Service) → Alike c d → Steps (served b c) (served s d)
-    served-b c d alike = subst (λ g. Steps (answered g b c.state c.reply) (served s d)) (sym alike.guards) (of (first_failure d.guards))
-      where
-        of : (g : Option ErrorCode) → Steps (answered g b c.state c.reply) (answered g s d.state d.reply)
-        of None = record { outcome = λ i. Regs (record { 0 = (alike.state i).runner }) (encode (alike.reply i)); state = alike.state }
-        of (Some code) = record { outcome = refl; state = twice }
+    service-b call = service-part call (read-same call _ _ tx-b)
 
     pub call-b : (call : calls.Call) → Steps (serve b call) (serve s call)
-    call-b call = served-b (service b call) (service s call) (service-b call)
+    call-b call = call-part call (read-same call _ _ tx-b)
 
-    accessed-state : (f g : Option FaultKind) (new next : State) (told said : Outcome) → f ≡ g → blank hides new ≡ blank hides next
-        → blank hides (accessed f b new told).state ≡ blank hides (accessed g s next said).state
-    accessed-state f g new next told said same states = ap (λ h. blank hides (accessed h b new told).state) same ∙ of g
-      where
-        of : (h : Option FaultKind) → blank hides (accessed h b new told).state ≡ blank hides (accessed h s next said).state
-        of None = states
-        of (Some fault) = twice
-
-    -- the state after it, also where it reads bytes that are blank
     pub state-b : (op : Op) → blank hides (step b op).state ≡ blank hides (step s op).state
-    state-b (Call x) = (call-b (decode x)).state
-    state-b (Load address size) =
-        accessed-state (read_fault b address (size_of size)) (read_fault s address (size_of size)) b s (Data (number_at b address (size_of size))) (Data (number_at s address (size_of size)))
-        (ap (λ right. fault_of (address % size_of size == 0) right (λ r. true)) (access_at-b address)) twice
-    state-b (Store address size value) =
-        accessed-state (store_fault b address (size_of size)) (store_fault s address (size_of size)) (stored b address (little_bytes (size_of size) value)) (stored s address (little_bytes (size_of size) value)) Done Done
-        (ap (λ right. fault_of (address % size_of size == 0) right may_store) (access_at-b address))
-        (λ i. record s { pages = written-blind hides ((address - s.ram_base) / 4096) (address % 4096) (little_bytes (size_of size) value) s.pages i })
-    state-b (Fetch address) =
-        accessed-state (fetch_fault b address) (fetch_fault s address) b s (Data (number_at b address 4)) (Data (number_at s address 4))
-        (ap (λ right. fault_of (address % 4 == 0) right may_fetch) (access_at-b address)) twice
+    state-b op = state-part op (op-read-same op _ _ tx-b)
 
     -- ---- all pages that it has access to have their bytes
     module _ (shows : (p : ℕ) → is_some (access s s.runner p) ≡ true → hides p ≡ false) where
-      number-b : (address n : ℕ) → is_some (access_at s s.runner address) ≡ true → number_at b address n ≡ number_at s address n
-      number-b address n some = ap (λ bytes. number_in bytes (address % 4096) n) (bytes-shown shows ((address - s.ram_base) / 4096) (reached some))
+      shown-at : (address : ℕ) → IsShownAt address
+      shown-at address some = shows ((address - s.ram_base) / 4096) (reached some)
         where
           reached : is_some (access_at s s.runner address) ≡ true → is_some (access s s.runner ((address - s.ram_base) / 4096)) ≡ true
           reached =
@@ -370,32 +449,14 @@ module _ (s : State) (hides : ℕ → Bool) where
                 | false ↦ λ is. absurd (false≢true is)
               ]
 
-      accessed-b : (f g : Option FaultKind) (new next : State) (told said : Outcome) → f ≡ g → (g ≡ None → told ≡ said) → blank hides new ≡ blank hides next
-          → Steps (accessed f b new told) (accessed g s next said)
-      accessed-b f g new next told said same outcome states = subst (λ h. Steps (accessed h b new told) (accessed g s next said)) (sym same) (of g outcome)
-        where
-          of : (h : Option FaultKind) → (h ≡ None → told ≡ said) → Steps (accessed h b new told) (accessed h s next said)
-          of None outcome = record { outcome = outcome refl; state = states }
-          of (Some fault) outcome = record { outcome = refl; state = twice }
+      shown-to : (op : Op) → IsShownTo op
+      shown-to (Call x) = tt
+      shown-to (Load address size) = shown-at address
+      shown-to (Store address size value) = tt
+      shown-to (Fetch address) = shown-at address
 
-      -- and its outcome
       pub outcome-b : (op : Op) → Steps (step b op) (step s op)
-      outcome-b (Call x) = call-b (decode x)
-      outcome-b (Load address size) =
-          accessed-b (read_fault b address (size_of size)) (read_fault s address (size_of size)) b s (Data (number_at b address (size_of size))) (Data (number_at s address (size_of size)))
-          (ap (λ right. fault_of (address % size_of size == 0) right (λ r. true)) (access_at-b address))
-          (λ none. ap Data (number-b address (size_of size) (fault-none (address % size_of size == 0) (access_at s s.runner address) (λ r. true) none)))
-          twice
-      outcome-b (Store address size value) =
-          accessed-b (store_fault b address (size_of size)) (store_fault s address (size_of size)) (stored b address (little_bytes (size_of size) value)) (stored s address (little_bytes (size_of size) value)) Done Done
-          (ap (λ right. fault_of (address % size_of size == 0) right may_store) (access_at-b address))
-          (λ none. refl)
-          (λ i. record s { pages = written-blind hides ((address - s.ram_base) / 4096) (address % 4096) (little_bytes (size_of size) value) s.pages i })
-      outcome-b (Fetch address) =
-          accessed-b (fetch_fault b address) (fetch_fault s address) b s (Data (number_at b address 4)) (Data (number_at s address 4))
-          (ap (λ right. fault_of (address % 4 == 0) right may_fetch) (access_at-b address))
-          (λ none. ap Data (number-b address 4 (fault-none (address % 4 == 0) (access_at s s.runner address) may_fetch none)))
-          twice
+      outcome-b op = outcome-part op (op-read-same op _ _ tx-b) (shown-to op)
 
   -- ---- an operation of a runner that can read all other pages to which it has access
   pub step-b : IsSteady s → ((p : ℕ) → is_some (access s s.runner p) ≡ true → hides p ≡ false) → (op : Op) → Steps (step b op) (step s op)

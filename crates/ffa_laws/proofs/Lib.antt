@@ -63,6 +63,7 @@ pub mod SoundOperations
 pub mod Clean
 pub mod Readings
 pub mod ReadRuns
+pub mod NoMore
 pub mod Tellings
 pub mod Forgotten
 pub mod Origins

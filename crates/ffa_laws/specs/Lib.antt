@@ -6,6 +6,7 @@ pub mod Steady
 pub mod Replay
 pub mod OwnAccess
 pub mod Readable
+pub mod Reads
 pub mod Loans
 pub mod Silence
 pub mod Writers

@@ -16,6 +16,7 @@ ghost use Rattle.ffa_laws.specs.Steady.{IsSteady};
 ghost use Rattle.ffa_laws.specs.OwnAccess.{AreApart, OwnAccess};
 ghost use Rattle.ffa_laws.specs.Loans.{OfferSaysNothing, ZeroedIsForgotten};
 ghost use Rattle.ffa_laws.specs.Readable.{Confidential, RunConfidential};
+ghost use Rattle.ffa_laws.specs.Reads.{ReadsNoMore};
 ghost use Rattle.ffa_laws.specs.Replay.{Replays};
 ghost use Rattle.ffa_laws.specs.RunIntegrity.{RunIntegrity};
 ghost use Rattle.ffa_laws.specs.Silence.{Silence};
@@ -88,6 +89,13 @@ pub fn own_access()
 pub fn confidential()
     ensures step { (s : State) (op : Op) → IsSteady s → AreApart s → Confidential s op }
     ensures run { (s : State) (ops : List Op) → IsSteady s → RunConfidential s ops }
+{}
+
+/// An operation reads no page but those that it is said to read: a call the first pages of TX that hold what it reads, a load
+/// and a fetch the page of the address. From another sound state with other bytes in any other pages it has the same outcome,
+/// and what it leaves differs in bytes of these pages alone.
+pub fn reads_no_more()
+    ensures { (s : State) (op : Op) → IsSoundState s → ReadsNoMore s op }
 {}
 
 /// What a borrower stores into a loan is forgotten where its next call gives the loan up with zeros: nothing that comes later

@@ -41,6 +41,9 @@ mod memory;
 // Notifications.
 mod notifications;
 
+// Which pages operations read.
+mod reads;
+
 // Calls in RAM that keeps a record of its steps.
 mod recorded;
 

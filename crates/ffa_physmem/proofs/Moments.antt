@@ -8,7 +8,7 @@ use Rattle.ffa_model.specs.Ram.{Ram, page_of, with_page}
 use Rattle.ffa_physmem.specs.Moments.{Step, IsInLoan, IsBeside, IsWriting, IsSettling, IsSettledBy, KeepsBelow, Adds, One, Only}
 
 -- nothing was added
-Adds-none : (old : Option (List Step)) (P : List Step → Step → Type 0) (h : List Step) → old ≡ Some h → Adds old P h
+pub Adds-none : (old : Option (List Step)) (P : List Step → Step → Type 0) (h : List Step) → old ≡ Some h → Adds old P h
 Adds-none old P [] there = there
 Adds-none old P (s ∷ h) there = inl there
 
@@ -81,6 +81,15 @@ Only-along {old} {new} {P} Q first keeps only = record { each = λ h there. (Add
 pub Only-behind-all : {old new : Option (List Step)} {P : List Step → Step → Type 0} (Q : List Step → Type 0) → ((h : List Step) → old ≡ Some h → Q h)
     → ((h : List Step) (s : Step) → P h s → Q h → Q (s ∷ h)) → Only old new P → (h : List Step) → new ≡ Some h → Q h
 Only-behind-all {old} {new} {P} Q first keeps only h there = (Adds-along old P Q first keeps h (only.each h there)).1
+
+-- of each step, that so it is of all up to it
+Adds-each : (old : Option (List Step)) (P : List Step → Step → Type 0) (h : List Step) → Adds old P h → Adds old (λ h s. Adds old P (s ∷ h)) h
+Adds-each old P [] there = there
+Adds-each old P (s ∷ h) (inl there) = inl there
+Adds-each old P (s ∷ h) (inr (its, rest)) = inr (inr (its, rest), Adds-each old P h rest)
+
+pub Only-each : {old new : Option (List Step)} {P : List Step → Step → Type 0} → Only old new P → Only old new (λ h s. Adds old P (s ∷ h))
+Only-each {old} {new} {P} only = record { each = λ h there. Adds-each old P h (only.each h there) }
 
 -- ---- what is settled
 

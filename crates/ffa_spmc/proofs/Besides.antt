@@ -6,8 +6,8 @@ use Rattle.ffa_model.specs.Manifest.{table_pages}
 use Rattle.ffa_model.specs.State.{State, is_known, page_at}
 use Rattle.ffa_model.proofs.Accesses.{length-map_at}
 use Rattle.ffa_laws.specs.Readable.{blank_where}
+use Rattle.ffa_laws.specs.Reads.{AreBeside}
 use Rattle.ffa_laws.proofs.Blanks.{access-b, page-b}
-use Rattle.ffa_spmc.specs.Among.{AreBeside}
 use Rattle.ffa_spmc.specs.Unowned.{pages_of_tables}
 
 module _ (s t : State) (named : ℕ → Bool) (beside : AreBeside s t named) where

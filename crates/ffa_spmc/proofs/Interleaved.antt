@@ -39,6 +39,7 @@ use Rattle.ffa_model.proofs.Runs.{in-run, run-wider, to-run}
 use Rattle.ffa_laws.specs.ElsewhereRuns.{are_known}
 use Rattle.ffa_laws.specs.Isolation.{NeverGrow}
 use Rattle.ffa_laws.specs.Readable.{blank}
+use Rattle.ffa_laws.specs.Reads.{bytes_read, pages_holding, tx_pages_read}
 use Rattle.ffa_laws.specs.Stores.{run_stores, stores}
 use Rattle.ffa_laws.proofs.ElsewhereLaws.{fixed-step_as, step_as-runner}
 use Rattle.ffa_laws.proofs.ElsewhereRunLaws.{isolated_as, known-as, never_grow_as, sound_after_as}
@@ -50,7 +51,7 @@ use Rattle.ffa_laws.proofs.Stores.{after-both, run-stored}
 use Rattle.ffa_laws.proofs.Writers.{usable-writes}
 use Rattle.ffa_laws.proofs.Written.{at-changed, is_at, with_rx_full}
 use Rattle.ffa_spmc.specs.declared.run.Run.{Run}
-use Rattle.ffa_spmc.specs.Among.{AreDoneReading, IsDoneReading, are_in, bytes_read, front_of, is_in, pages_holding, pages_read}
+use Rattle.ffa_spmc.specs.Among.{AreDoneReading, IsDoneReading, are_in, front_of, is_in, pages_read}
 use Rattle.ffa_spmc.specs.Interleaved.{AreAmongStores, AreStoresInto, IsInterleaved}
 use Rattle.ffa_spmc.specs.Snapshot.{Snapshot}
 use Rattle.ffa_spmc.proofs.Readings.{holding-few}

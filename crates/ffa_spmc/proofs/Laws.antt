@@ -13,6 +13,7 @@ use Rattle.ffa_laws.specs.Isolation.{Integrity, Isolated, NeverGrow, OneStep, sh
 use Rattle.ffa_laws.specs.Loans.{OfferSaysNothing, ZeroedIsForgotten}
 use Rattle.ffa_laws.specs.OwnAccess.{AreApart, OwnAccess}
 use Rattle.ffa_laws.specs.Readable.{Confidential, RunConfidential}
+use Rattle.ffa_laws.specs.Reads.{ReadsNoMore}
 use Rattle.ffa_laws.specs.Replay.{Replays}
 use Rattle.ffa_laws.specs.RunIntegrity.{RunIntegrity}
 use Rattle.ffa_laws.specs.Silence.{Silence}
@@ -25,6 +26,7 @@ use Rattle.ffa_laws.proofs.Growth.{never_grow, step_never_grows}
 use Rattle.ffa_laws.proofs.Integrities.{integrity}
 use Rattle.ffa_laws.proofs.Laws.{one_step}
 use Rattle.ffa_laws.proofs.News.{silence}
+use Rattle.ffa_laws.proofs.NoMore.{reads_no_more}
 use Rattle.ffa_laws.proofs.Waiting.{offer_says_nothing}
 use Rattle.ffa_laws.proofs.OwnAccesses.{own_access}
 use Rattle.ffa_laws.proofs.ReadRuns.{run_confidential}
@@ -61,6 +63,9 @@ module _ (s : State) (sound : IsSoundState s) where
 
   pub open-now : AreApart s → (op : Op) → OfferSaysNothing s op
   open-now apart op = offer_says_nothing s op steady apart
+
+  pub reads-now : (op : Op) → ReadsNoMore s op
+  reads-now op = reads_no_more s op sound
 
   pub loans-now : ZeroedIsForgotten s
   loans-now = zeroed_is_forgotten s steady

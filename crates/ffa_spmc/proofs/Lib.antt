@@ -40,4 +40,6 @@ pub mod Sizes
 pub mod Chains
 pub mod Interleaved
 pub mod Moments
+pub mod Amid
 pub mod Mixtures
+pub mod Left

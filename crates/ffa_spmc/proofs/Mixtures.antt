@@ -3,7 +3,7 @@
 use Rattle.std.proofs.Common.{◌≡◌, ◌≢◌, ◌∙◌, ℕ, zero, suc, ◌-◌, ◌/◌, ◌^◌, ◌<◌, true, false, refl, ap, sym, subst, arith, List, ◌∷◌, length, Option, Some, None, inl, inr}
 use Rattle.std.specs.Prelude.{◌==◌, nat_le, nat_lt, ◌&&◌, if◌then◌else◌, is_ok}
 use Rattle.std.specs.Option.{option_and_then}
-use Rattle.std.proofs.lemmas.Bool.{cases_eq, cases_lt, false≢true}
+use Rattle.std.proofs.lemmas.Bool.{cases_eq, false≢true}
 use Rattle.ffa_model.specs.declared.operation.Op.{Op}
 use Rattle.ffa_model.specs.declared.operation.Op.TheVariants.{Call, Load, Store, Fetch}
 use Rattle.ffa_model.specs.declared.rights.Rights.{Rights}
@@ -11,25 +11,27 @@ use Rattle.ffa_model.specs.Access.{access}
 use Rattle.ffa_model.specs.Agreement.{Agrees, blocks_of}
 use Rattle.ffa_model.specs.Elsewhere.{as_run_by, step_as, step_elsewhere}
 use Rattle.ffa_model.specs.Identifiers.{identifier, place}
-use Rattle.ffa_model.specs.Manifest.{root_of}
 use Rattle.ffa_model.specs.Memory.{access_at, page_of_address}
 use Rattle.ffa_model.specs.Ram.{Ram}
+use Rattle.ffa_model.specs.SoundState.{IsSoundState}
 use Rattle.ffa_model.specs.State.{Party, State}
 use Rattle.ffa_model.specs.Step.{step}
-use Rattle.ffa_model.specs.Walk.{mapped_answer, walk}
+use Rattle.ffa_model.specs.Walk.{mapped_answer}
 use Rattle.ffa_laws.specs.Elsewhere.{OwnAccessAs}
 use Rattle.ffa_laws.specs.OwnAccess.{IsSameOrNone, OwnAccess}
 use Rattle.ffa_laws.proofs.ElsewhereLaws.{fixed-step_as}
 use Rattle.ffa_laws.proofs.Kept.{step-fixed}
-use Rattle.ffa_physmem.specs.Moments.{AreInTurn, Only, Step, TurnsIn}
+use Rattle.ffa_physmem.specs.Moments.{Only, Step, TurnsIn}
 use Rattle.ffa_physmem.proofs.Moments.{Only-map}
-use Rattle.ffa_stage2.specs.Mixtures.{IsMixture, MixturesBetween, page_at}
+use Rattle.ffa_stage2.specs.Mixtures.{MixturesBetween}
 use Rattle.ffa_stage2.specs.Moments.{walk_at}
 use Rattle.ffa_stage2.specs.Rest.{RestIn, WalksSameOrNone}
 use Rattle.ffa_stage2.proofs.Mixtures.{OneDiffers, mixtures-between}
-use Rattle.ffa_stage2.proofs.Rest.{Only-turn, held-mixed}
-use Rattle.ffa_spmc.specs.Mixtures.{HeldBetween, StayMixed, TablesRest}
+use Rattle.ffa_stage2.proofs.Rest.{Only-turn}
+use Rattle.ffa_spmc.specs.Mixtures.{StayMixed, TablesRest}
 use Rattle.ffa_spmc.specs.Moments.{AreMoments, IsMixed}
+use Rattle.ffa_spmc.specs.Unowned.{OwnsNoTables}
+use Rattle.ffa_spmc.proofs.Amid.{held-between, seen, stays-amid}
 use Rattle.ffa_spmc.proofs.Sizes.{pages-step}
 
 -- who isn't at the place of an identifier has another one
@@ -48,25 +50,6 @@ and-then-same f g same (Some p) = same p
 and-then-kept : (f g : ℕ → Option Rights) → ((p : ℕ) → IsSameOrNone (f p) (g p)) → (o : Option ℕ) → IsSameOrNone (option_and_then f o) (option_and_then g o)
 and-then-kept f g same None = inl refl
 and-then-kept f g same (Some p) = same p
-
--- a walk gives the access
-seen : (x : State) (ram : Ram) (b e a : ℕ) → Agrees ram x → blocks_of x ≡ b → e < length x.parties → a < 2 ^ 32 → walk_at ram b e a ≡ mapped_answer (access_at x (identifier e) a) a
-seen x ram b e a agrees blocks he ha =
-    ap (λ (c : ℕ). walk ram (root_of c b e) a) agrees.place ∙ ap (λ (k : ℕ). walk ram (root_of x.ram_base k e) a) (sym blocks) ∙ agrees.walks e a he ha
-
--- what may be held is the answer of a walk in a mixture
-held-between : (old new ram : Ram) (n b : ℕ) (h : List Step) → AreInTurn h ram → MixturesBetween old new n b h ram → HeldBetween old new n b h ram
-held-between old new ram n b h turn between a answer ha held =
-    elim (between a (λ e. (pick e).0) ha (λ e he. ((pick e).1 he).0)) [
-      | inl each ↦ inl (λ e he. elim (each e he) [ inl is ↦ inl (((pick e).1 he).1 ∙ is) | inr none ↦ inr (((pick e).1 he).1 ∙ none) ])
-      | inr each ↦ inr (λ e he. elim (each e he) [ inl is ↦ inl (((pick e).1 he).1 ∙ is) | inr none ↦ inr (((pick e).1 he).1 ∙ none) ])
-    ]
-  where
-    pick : (e : ℕ) → (m : Ram) × (e < n → IsMixture b e (page_at ram a) h ram m × (answer e ≡ walk_at m b e a))
-    pick e = elim (cases_lt e n) [
-      | inl lt ↦ let (m, mix, is) = held-mixed b e (page_at ram a) a h ram (answer e) turn (held e lt) in (m, λ _. (mix, is))
-      | inr out ↦ (ram, λ lt. absurd (omega (arith, out, lt)))
-    ]
 
 module _ (s t : State) (old new : Ram) (was : Agrees old s) (is : Agrees new t) (parties : length t.parties ≡ length s.parties) (base : t.ram_base ≡ s.ram_base)
     (size : length t.pages ≡ length s.pages) (r : ℕ) (others : (e p : ℕ) → r ≢ e → access t e p ≡ access s e p)
@@ -107,15 +90,18 @@ module _ (s t : State) (old new : Ram) (was : Agrees old s) (is : Agrees new t) 
   all-mixed past later moments rest =
       Only-map (moments.mixtures.each rest) (λ h step its. mixtures-between old new step.after (length s.parties) (blocks_of s) (step ∷ h) one-differs its)
 
-  pub stay-mixed : (past later : Option (List Step)) → TurnsIn new later → AreMoments s old new past later → TablesRest s old past → StayMixed s old new past later
+  pub stay-mixed : IsSoundState s → OwnsNoTables s → OwnsNoTables t → (past later : Option (List Step)) → TurnsIn new later → AreMoments s old new past later → TablesRest s old past → StayMixed s old new past later
   unfolding StayMixed IsMixed TablesRest
-  stay-mixed past later turns moments rest = record {
+  stay-mixed sound none none' past later turns moments rest = record {
     walks = all-mixed past later moments rest;
     held = Only-map (Only-turn new turns (all-mixed past later moments rest)) (λ h step its.
         let (turn, between) = its in
         held-between old new step.after (length s.parties) (blocks_of s) (step ∷ h) turn between);
     unheld = moments.mixtures.unheld rest;
     rest = moments.mixtures.rest rest is-steady;
+    amid =
+        stays-amid s t old new was is parties base size sound none none' past later turns rest (moments.mixtures.rest rest is-steady) (moments.mixtures.each rest)
+        (all-mixed past later moments rest);
   }
 
   -- and by the state behind it
@@ -132,17 +118,17 @@ rest-alike s t old new past later was is parties base size same moments rest =
     rest-behind s t old new was is parties base size 0 (λ e p _. same e p) (λ p. inr (inr (same 0 p))) past later moments rest
 
 pub mixed-alike : (s t : State) (old new : Ram) (past later : Option (List Step)) → Agrees old s → Agrees new t → length t.parties ≡ length s.parties → t.ram_base ≡ s.ram_base
-    → length t.pages ≡ length s.pages → ((e p : ℕ) → access t e p ≡ access s e p) → TurnsIn new later → AreMoments s old new past later → TablesRest s old past
+    → length t.pages ≡ length s.pages → ((e p : ℕ) → access t e p ≡ access s e p) → IsSoundState s → OwnsNoTables s → OwnsNoTables t → TurnsIn new later → AreMoments s old new past later → TablesRest s old past
     → StayMixed s old new past later
-mixed-alike s t old new past later was is parties base size same turns moments rest =
-    stay-mixed s t old new was is parties base size 0 (λ e p _. same e p) (λ p. inr (inr (same 0 p))) past later turns moments rest
+mixed-alike s t old new past later was is parties base size same sound none none' turns moments rest =
+    stay-mixed s t old new was is parties base size 0 (λ e p _. same e p) (λ p. inr (inr (same 0 p))) sound none none' past later turns moments rest
 
 -- of an operation
 pub op-mixed : (s t : State) (op : Op) (old new : Ram) (past later : Option (List Step)) → t ≡ (step s op).state → Agrees old s → Agrees new t → OwnAccess s op
-    → TurnsIn new later → AreMoments s old new past later → TablesRest s old past → StayMixed s old new past later
-op-mixed s t op old new past later state was is own turns moments =
+    → IsSoundState s → OwnsNoTables s → OwnsNoTables t → TurnsIn new later → AreMoments s old new past later → TablesRest s old past → StayMixed s old new past later
+op-mixed s t op old new past later state was is own sound none none' turns moments =
     stay-mixed s (step s op).state old new was (subst (Agrees new) state is) (ap (λ (f : List Party × ℕ). length f.0) (step-fixed s op)) (ap (λ (f : List Party × ℕ). f.1) (step-fixed s op))
-    (pages-step s op) s.runner own.others own.keeps past later turns moments
+    (pages-step s op) s.runner own.others own.keeps sound none (subst OwnsNoTables state none') past later turns moments
 
 -- and the tables are at rest behind a call
 pub call-rest : (s t : State) (op : Op) (old new : Ram) (past later : Option (List Step)) → t ≡ (step s op).state → Agrees old s → Agrees new t → OwnAccess s op
@@ -158,12 +144,12 @@ pages-elsewhere s e (Load address size) = pages-step (as_run_by e s) (Load addre
 pages-elsewhere s e (Store address size value) = pages-step (as_run_by e s) (Store address size value)
 pages-elsewhere s e (Fetch address) = pages-step (as_run_by e s) (Fetch address)
 
-pages-as : (s : State) (e : ℕ) (op : Op) → length (step_as s e op).state.pages ≡ length s.pages
+pub pages-as : (s : State) (e : ℕ) (op : Op) → length (step_as s e op).state.pages ≡ length s.pages
 pages-as s e op = elim (s.runner == e) as (λ b. length (if b then step s op else step_elsewhere s e op).state.pages ≡ length s.pages) [ true ↦ pages-step s op | false ↦ pages-elsewhere s e op ]
 
 -- of an operation of any endpoint
 pub op_as-mixed : (s t : State) (e : ℕ) (op : Op) (old new : Ram) (past later : Option (List Step)) → t ≡ (step_as s e op).state → Agrees old s → Agrees new t → OwnAccessAs s e op
-    → TurnsIn new later → AreMoments s old new past later → TablesRest s old past → StayMixed s old new past later
-op_as-mixed s t e op old new past later state was is own turns moments =
+    → IsSoundState s → OwnsNoTables s → OwnsNoTables t → TurnsIn new later → AreMoments s old new past later → TablesRest s old past → StayMixed s old new past later
+op_as-mixed s t e op old new past later state was is own sound none none' turns moments =
     stay-mixed s (step_as s e op).state old new was (subst (Agrees new) state is) (ap (λ (f : List Party × ℕ). length f.0) (fixed-step_as s e op)) (ap (λ (f : List Party × ℕ). f.1) (fixed-step_as s e op))
-    (pages-as s e op) e (λ f p far. own.others f p far) own.keeps past later turns moments
+    (pages-as s e op) e (λ f p far. own.others f p far) own.keeps sound none (subst OwnsNoTables state none') past later turns moments

@@ -18,6 +18,7 @@ use Rattle.ffa_model.specs.Ram.{Ram, page_of}
 use Rattle.ffa_model.specs.SoundState.{IsSoundPage, are_bytes}
 use Rattle.ffa_model.specs.State.{State, Buffers, Page, page_at}
 use Rattle.ffa_laws.specs.Readable.{blank, blank_where}
+use Rattle.ffa_laws.specs.Reads.{AreBeside, pages_holding}
 use Rattle.ffa_laws.proofs.Blanks.{access-b}
 use Rattle.ffa_laws.proofs.Changes.{AreRewritten, standing}
 use Rattle.ffa_laws.proofs.Maps.{map_at-alike}
@@ -28,7 +29,7 @@ use Rattle.ffa_physmem.specs.Moments.{IsBeside}
 use Rattle.ffa_stage2.specs.Tables.{IsBuilt, table_page}
 use Rattle.ffa_stage2.proofs.Kept.{built-kept}
 use Rattle.ffa_spmc.specs.declared.run.Run.{Run}
-use Rattle.ffa_spmc.specs.Among.{AreBeside, is_in, pages_holding}
+use Rattle.ffa_spmc.specs.Among.{is_in}
 use Rattle.ffa_spmc.specs.Meaning.{HasTables, IsManager, Parts, access_by_place, state_of}
 use Rattle.ffa_spmc.specs.Unowned.{pages_of_tables}
 use Rattle.ffa_spmc.proofs.Fills.{buffers-there, in-ram, runner-there}

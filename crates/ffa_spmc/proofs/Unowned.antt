@@ -1,7 +1,7 @@
 -- SPDX-License-Identifier: MIT OR Apache-2.0
 -- A page behind the tables that nobody owns keeps its bytes: where RAM is the same, where a page is written that an
 -- endpoint owns, and where rights to such pages change.
-use Rattle.std.proofs.Common.{◌≡◌, ◌∙◌, ℕ, zero, suc, ◌+◌, ◌*◌, ◌<◌, ◌≤◌, Bool, true, false, List, [], length, take, drop, Option, Some, None, refl, sym, ap, subst, arith, inl, inr}
+use Rattle.std.proofs.Common.{◌≡◌, ◌∙◌, ℕ, zero, suc, ◌+◌, ◌*◌, ◌/◌, ◌<◌, ◌≤◌, Bool, true, false, List, [], length, take, drop, Option, Some, None, refl, sym, ap, subst, arith, inl, inr}
 use Rattle.std.specs.Prelude.{◌&&◌, if◌then◌else◌, replicate}
 use Rattle.std.specs.Option.{option_and_then, option_map}
 use Rattle.std.proofs.lemmas.Bool.{cases_lt}
@@ -21,10 +21,24 @@ use Rattle.ffa_rxtx.specs.Parts.{with_run, with_rx_bytes}
 use Rattle.ffa_stage2.specs.Tables.{table_page}
 use Rattle.ffa_memshare.specs.Changes.{IsMoved}
 use Rattle.ffa_spmc.specs.Meaning.{IsManager, Parts, state_of}
-use Rattle.ffa_spmc.specs.Unowned.{KeepsUnowned, pages_of_tables}
+use Rattle.ffa_spmc.specs.Unowned.{KeepsUnowned, OwnsNoTables, pages_of_tables}
 use Rattle.ffa_spmc.proofs.Fills.{buffers-there}
-use Rattle.ffa_spmc.proofs.Held.{page-held, parties_are, size_is}
+use Rattle.ffa_spmc.proofs.Held.{owned-behind, page-held, parties_are, size_is}
 use Rattle.ffa_spmc.proofs.Pools.{named-marked, open-slot}
+
+-- nobody owns the tables' pages
+pub no-tables : (x : Parts) → IsManager x → OwnsNoTables (state_of x)
+no-tables x machine p low = of (page_at (state_of x) p) refl
+  where
+    of : (o : Option Page) → page_at (state_of x) p ≡ o → page_at (state_of x) p ≡ None
+    of None is = is
+    of (Some page) is =
+        let size : length (state_of x).pages ≡ 512 * x.manifest.ram_blocks = size_is x ∙ machine.tables.size in
+        let blocks : length (state_of x).pages / 512 ≡ x.manifest.ram_blocks = omega (arith, size) in
+        let tables : pages_of_tables (state_of x) ≡ length x.manifest.endpoints.items * table_pages x.manifest.ram_blocks =
+        (λ i. parties_are x i * table_pages (blocks i))
+        in
+        absurd (omega (arith, low, tables, owned-behind x machine p page is))
 
 pub unowned-same : (s : State) (old new : Ram) → new ≡ old → KeepsUnowned s old new
 unowned-same s old new same p behind none = ap (λ (ram : Ram). page_of ram p) same

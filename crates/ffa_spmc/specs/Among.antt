@@ -1,16 +1,13 @@
 -- SPDX-License-Identifier: MIT OR Apache-2.0
 -- An operation while other processors of its runner write to the runner's TX: which pages of TX it reads, and that it does
 -- what an operation does that finds there what one reading of these pages gave.
-use Rattle.std.specs.Prelude.{◌≡◌, ℕ, ◌+◌, ◌*◌, ◌/◌, ◌==◌, Bool, true, false, nat_lt, List, [], ◌∷◌, length, Option, Some, None, if◌then◌else◌}
+use Rattle.std.specs.Prelude.{◌≡◌, ℕ, ◌==◌, Bool, true, false, List, [], ◌∷◌, Option, Some, None, if◌then◌else◌}
 use Rattle.std.specs.Option.{option_and_then}
-use Rattle.ffa_model.specs.declared.call.Call as calls
-use Rattle.ffa_model.specs.declared.call.Call.TheVariants.{MemDonate, MemLend, MemShare, MemRetrieve, MemRelinquish, MsgSend2}
 use Rattle.ffa_model.specs.declared.operation.Op.{Op}
 use Rattle.ffa_model.specs.declared.operation.Op.TheVariants.{Call}
 use Rattle.ffa_model.specs.declared.operation.Outcome.{Outcome}
 use Rattle.ffa_model.specs.Agreement.{Agrees}
 use Rattle.ffa_model.specs.Lists.{is_in_run}
-use Rattle.ffa_model.specs.Memory.{page_bytes}
 use Rattle.ffa_model.specs.Registers.{decode}
 use Rattle.ffa_model.specs.SoundState.{IsSoundState}
 use Rattle.ffa_model.specs.State.{State, Buffers, buffers_of}
@@ -18,7 +15,8 @@ use Rattle.ffa_model.specs.Step.{step}
 use Rattle.ffa_laws.specs.Isolation.{Integrity, NeverGrow, OneStep}
 use Rattle.ffa_laws.specs.Loans.{OfferSaysNothing}
 use Rattle.ffa_laws.specs.OwnAccess.{OwnAccess}
-use Rattle.ffa_laws.specs.Readable.{Confidential, blank}
+use Rattle.ffa_laws.specs.Readable.{Confidential}
+use Rattle.ffa_laws.specs.Reads.{AreBeside, ReadsNoMore, tx_pages_read}
 use Rattle.ffa_laws.specs.Silence.{Silence}
 use Rattle.ffa_laws.specs.Writers.{OnlyWriters}
 use Rattle.ffa_physmem.specs.Moments.{IsBeside, IsReading, One}
@@ -28,21 +26,6 @@ use Rattle.ffa_spmc.specs.Mixtures.{StayMixed}
 use Rattle.ffa_spmc.specs.Operated.{IsOperated}
 use Rattle.ffa_spmc.specs.Snapshot.{Snapshot}
 
--- how many bytes of a TX of so many a call reads: those of its descriptor, whose length is in w1 or always the same, and for
--- a message all
-abbrev pub bytes_read : calls.Call → ℕ → ℕ
-bytes_read MsgSend2 room = room
-bytes_read (MemDonate x) room = x.total
-bytes_read (MemLend x) room = x.total
-bytes_read (MemShare x) room = x.total
-bytes_read (MemRetrieve x) room = x.total
-bytes_read MemRelinquish room = 18
-bytes_read call room = 0
-
--- how many pages hold so many bytes, but no more than there are
-abbrev pub pages_holding : ℕ → ℕ → ℕ
-pages_holding pages bytes = if nat_lt pages ((bytes + 4095) / 4096) then pages else (bytes + 4095) / 4096
-
 -- the first pages of a TX, if it is some
 abbrev pub front_of : Buffers → ℕ → Option Run
 front_of b count = if count == 0 then None else Some (record { first = record { 0 = b.tx }; count = count })
@@ -50,16 +33,11 @@ front_of b count = if count == 0 then None else Some (record { first = record { 
 -- the pages of its TX that an operation of the runner reads, if it reads any
 abbrev pub pages_read : State → Op → Option Run
 pages_read s (Call x) =
-    option_and_then (λ (b : Buffers). front_of b (pages_holding b.pages (bytes_read (decode x) (4096 * b.pages)))) (buffers_of s s.runner)
+    option_and_then (λ (b : Buffers). front_of b (tx_pages_read b (decode x))) (buffers_of s s.runner)
 pages_read s op = None
 
 abbrev pub is_in : Run → ℕ → Bool
 is_in run p = is_in_run run.first.0 run.count p
-
--- two states differ at most in the bytes of pages that are named, of which each has as many
-pub record AreBeside (s t : State) (named : ℕ → Bool) : Type 0 where
-  pub same : blank named s ≡ blank named t
-  pub whole : (p : ℕ) → length (page_bytes t p) ≡ length (page_bytes s p)
 
 -- Pages are read at once, or are no longer as they were read. They alone may have other bytes then, in RAM and in the state
 -- alike, and the cache holds what it held, which no walk contradicts. Walks in mixtures stay what they are.
@@ -84,6 +62,7 @@ pub record HasLaws (s : State) (op : Op) : Type 0 where
   pub own_access : OwnAccess s op
   pub only_writers : OnlyWriters s op
   pub silent_offers : OfferSaysNothing s op
+  pub reads_no_more : ReadsNoMore s op
 
 -- an operation was done, with this outcome
 pub record IsDone (old : Snapshot) (op : Op) (told : Outcome) (new : Snapshot) : Type 0 where

@@ -19,5 +19,7 @@ pub mod Unowned
 pub mod Operated
 pub mod Among
 pub mod Interleaved
+pub mod Amid
 pub mod Mixtures
 pub mod Moments
+pub mod Meanwhile

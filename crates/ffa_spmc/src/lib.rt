@@ -6,6 +6,7 @@ mod answer;
 mod kept;
 pub mod machine;
 mod manager;
+pub mod meanwhile;
 pub mod parts;
 mod records;
 mod replies;
@@ -13,6 +14,7 @@ mod run;
 pub mod storage;
 
 pub use machine::Machine;
+pub use meanwhile::left_among_others;
 pub use parts::Parts;
 pub use records::Records;
 pub use storage::{Given, Inline, Ready, Storage, Store};

@@ -12,6 +12,7 @@ ghost use Rattle.ffa_laws.specs.Isolation.{Integrity, Isolated, NeverGrow, OneSt
 ghost use Rattle.ffa_laws.specs.Loans.{OfferSaysNothing, ZeroedIsForgotten};
 ghost use Rattle.ffa_laws.specs.OwnAccess.{OwnAccess};
 ghost use Rattle.ffa_laws.specs.Readable.{Confidential, RunConfidential};
+ghost use Rattle.ffa_laws.specs.Reads.{ReadsNoMore};
 ghost use Rattle.ffa_laws.specs.Replay.{Replays};
 ghost use Rattle.ffa_laws.specs.RunIntegrity.{RunIntegrity};
 ghost use Rattle.ffa_laws.specs.Silence.{Silence};
@@ -383,6 +384,10 @@ impl<M: PhysMem + Drop, T: Translations + Drop, S: Store> Machine<M, T, S> {
         // Where it opens a transaction, the bytes of the pages make no difference to a receiver that doesn't retrieve
         // them, whatever is done later.
         ensures silent_offers { OfferSaysNothing self.old.state op.now }
+
+        // From another sound state, with other bytes in pages that it doesn't read, it has the same outcome, and leaves a
+        // state with other bytes in these pages at most.
+        ensures reads_no_more { ReadsNoMore self.old.state op.now }
     {
         // Proof step: the state is sound, and the tables give its access.
         self.manager.holds();

@@ -20,7 +20,7 @@ ghost use Rattle.ffa_spmc.specs.Served.{IsAnswered};
 ghost use Rattle.ffa_spmc.specs.Storages.{IsRoomFor};
 ghost use Rattle.ffa_spmc.specs.Mixtures.{TablesRest};
 ghost use Rattle.ffa_spmc.specs.Moments.{AreMoments};
-ghost use Rattle.ffa_spmc.specs.Unowned.{KeepsUnowned};
+ghost use Rattle.ffa_spmc.specs.Unowned.{KeepsUnowned, OwnsNoTables};
 
 mod accesses;
 mod buffers;
@@ -144,6 +144,7 @@ impl<M: PhysMem + Drop, S: Store> Manager<M, S> {
         ensures sound { IsSoundState self.now.state }
         ensures apart { AreApart self.now.state }
         ensures turn { TurnsIn self.now.ram self.now.past }
+        ensures tables { OwnsNoTables self.now.state }
     {
         // Proof step: the invariant of all parts is at hand where one is read.
         let _ = &self.kept;

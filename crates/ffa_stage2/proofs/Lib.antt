@@ -16,3 +16,4 @@ pub mod RunChanges
 pub mod Moments
 pub mod Mixtures
 pub mod Rest
+pub mod Amid

@@ -55,7 +55,7 @@ same-turn s earlier h ram other is first second =
     let (there, _, _) = subst (λ (g : List Step). AreInTurn g other) is second in
     sym at ∙ there
 
-reads-more : (base n b : ℕ) (h : List Step) (ram : Ram) (Is More : ℕ → ℕ → Option Rights → Type 0)
+pub reads-more : (base n b : ℕ) (h : List Step) (ram : Ram) (Is More : ℕ → ℕ → Option Rights → Type 0)
     → ((e k j : ℕ) → e < n → k < b → j < 512 → (r : Option Rights) → Is e (512 * k + j) r → More e (512 * k + j) r)
     → Reads base n b h ram Is → Reads base n b h ram More
 reads-more base n b h ram Is More more reads = record {

@@ -1,12 +1,12 @@
 -- SPDX-License-Identifier: MIT OR Apache-2.0
 -- What a translation unit may hold for a page: the answer of any walk since the page was last settled, each in a mixture of its
 -- own time (DDI 0487, C5.5, TLBI IPAS2E1IS and TLBI VMALLE1IS).
-use Rattle.std.specs.Prelude.{◌≡◌, true, ℕ, ◌+◌, ◌*◌, ◌<◌, ◌≤◌, ◌⊎◌, is_ok, List, [], ◌∷◌, Err}
+use Rattle.std.specs.Prelude.{◌≡◌, true, ℕ, ◌+◌, ◌*◌, ◌^◌, ◌<◌, ◌≤◌, ◌⊎◌, is_ok, List, [], ◌∷◌, Err}
 use Rattle.ffa_model.specs.Ram.{Ram, page_of}
 use Rattle.ffa_model.specs.Walk.{Answer}
 use Rattle.ffa_model.specs.declared.operation.FaultKind.TheVariants.{Translation}
 use Rattle.ffa_physmem.specs.Moments.{Settles, Step}
-use Rattle.ffa_stage2.specs.Mixtures.{IsMixture}
+use Rattle.ffa_stage2.specs.Mixtures.{IsMixture, page_at}
 use Rattle.ffa_stage2.specs.Moments.{walk_at}
 use Rattle.ffa_stage2.specs.Tables.{table_page}
 
@@ -39,3 +39,16 @@ WritesUnheld old new endpoints blocks h s =
     → HoldsNothing old.base blocks e p h s.before
     ⊎ ((is_ok (walk_at old blocks e (old.base + 4096 * p)) ≡ true)
     × (is_ok (walk_at new blocks e (old.base + 4096 * p)) ≡ true)))
+
+-- each endpoint is answered what its walk gives in a RAM, or a translation fault
+abbrev pub AnswersAlike : (ℕ → Answer) → Ram → ℕ → ℕ → ℕ → Type 0
+AnswersAlike answer ram endpoints blocks address =
+    (e : ℕ) → e < endpoints → (answer e ≡ walk_at ram blocks e address) ⊎ (answer e ≡ Err Translation)
+
+-- At every address, whatever answer a translation unit may hold for each endpoint, all are what walks give in the one RAM or a
+-- translation fault, or all are what they give in the other or a translation fault.
+abbrev pub HeldBetween : Ram → Ram → ℕ → ℕ → List Step → Ram → Type 0
+HeldBetween old new endpoints blocks h ram =
+    (address : ℕ) (answer : ℕ → Answer) → address < 2 ^ 32
+    → ((e : ℕ) → e < endpoints → MayHold blocks e (page_at ram address) address h ram (answer e))
+    → AnswersAlike answer old endpoints blocks address ⊎ AnswersAlike answer new endpoints blocks address

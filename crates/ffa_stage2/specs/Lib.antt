@@ -1,4 +1,5 @@
 -- SPDX-License-Identifier: MIT OR Apache-2.0
+pub mod Amid
 pub mod Blocks
 pub mod Held
 pub mod Layout

@@ -6,7 +6,8 @@ ghost use Rattle.ffa_model.specs.Ram.{page_of};
 ghost use Rattle.ffa_model.specs.SoundState.{are_bytes};
 ghost use Rattle.ffa_model.specs.State.{page_at};
 ghost use Rattle.ffa_physmem.specs.Moments.{IsBeside, IsReading, One};
-ghost use Rattle.ffa_spmc.specs.Among.{AreBeside, bytes_read, is_in, pages_holding, pages_read};
+ghost use Rattle.ffa_laws.specs.Reads.{AreBeside, bytes_read, pages_holding};
+ghost use Rattle.ffa_spmc.specs.Among.{is_in, pages_read};
 ghost use Rattle.ffa_spmc.specs.Moments.{AreMoments};
 ghost use Rattle.ffa_spmc.specs.Unowned.{pages_of_tables};
 

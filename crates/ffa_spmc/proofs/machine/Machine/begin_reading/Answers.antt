@@ -46,7 +46,7 @@ returns-clause-read g c =
       mixtures =
           mixed-alike s new.state c.self.inside.manager.ram new.ram c.self.inside.manager.past new.past c.holds.ensures.agrees c.holds-2.ensures.agrees
           (ap (λ (u : State). length u.parties) (sym beside.same)) (beside-base s new.state (is_in c.args.run) beside) (beside-size s new.state (is_in c.args.run) beside)
-          (beside-access s new.state (is_in c.args.run) beside) c.holds-2.ensures.turn c.begin_reading.ensures.moments c.self.invariant.1;
+          (beside-access s new.state (is_in c.args.run) beside) c.holds.ensures.sound c.holds.ensures.tables c.holds-2.ensures.tables c.holds-2.ensures.turn c.begin_reading.ensures.moments c.self.invariant.1;
       held = refl;
       told = refl;
       agrees = c.holds-2.ensures.agrees;

@@ -7,7 +7,8 @@ use Rattle.ffa_physmem.specs.Moments.{TurnsIn}
 use Rattle.ffa_spmc.specs.Cached.{AreWalks}
 use Rattle.ffa_spmc.specs.Mixtures.{TablesRest}
 use Rattle.ffa_spmc.specs.Snapshot.{Snapshot}
-use Rattle.ffa_spmc.proofs.Laws.{access-now, confidential-now, integrity-now, no_growth-now, open-now, silence-now, step-now, writers-now}
+use Rattle.ffa_spmc.specs.Unowned.{OwnsNoTables}
+use Rattle.ffa_spmc.proofs.Laws.{access-now, confidential-now, integrity-now, no_growth-now, open-now, reads-now, silence-now, step-now, writers-now}
 use Rattle.ffa_spmc.proofs.Mixtures.{op-mixed}
 use Rattle.ffa_spmc.proofs.machine.Machine.op.Goals as goal
 
@@ -57,10 +58,17 @@ returns-clause-silent_offers g c =
     (subst (λ (seen : Snapshot). IsSoundState seen.state) c.self.view_is c.holds.ensures.sound)
     (subst (λ (seen : Snapshot). AreApart seen.state) c.self.view_is c.holds.ensures.apart) c.args.op.now
 
+pub returns-clause-reads_no_more : goal.returns-clause-reads_no_more
+returns-clause-reads_no_more g c =
+    reads-now c.args.self.now.state
+    (subst (λ (seen : Snapshot). IsSoundState seen.state) c.self.view_is c.holds.ensures.sound) c.args.op.now
+
 pub returns-clause-mixtures : goal.returns-clause-mixtures
 returns-clause-mixtures g c =
     op-mixed c.args.self.now.state _ c.args.op.now c.args.self.now.ram _ _ _ c.operate-outcome.ensures.state
     (subst (λ (seen : Snapshot). Agrees seen.ram seen.state) c.self.view_is c.holds.ensures.agrees)
     (subst (λ (seen : Snapshot). Agrees seen.ram seen.state) c.self-2.view_is c.holds-2.ensures.agrees)
-    (returns-clause-own_access g c) (subst (λ (seen : Snapshot). TurnsIn seen.ram seen.past) c.self-2.view_is c.holds-2.ensures.turn) c.operate-outcome.ensures.moments
+    (returns-clause-own_access g c) (subst (λ (seen : Snapshot). IsSoundState seen.state) c.self.view_is c.holds.ensures.sound)
+    (subst (λ (seen : Snapshot). OwnsNoTables seen.state) c.self.view_is c.holds.ensures.tables)
+    (subst (λ (seen : Snapshot). OwnsNoTables seen.state) c.self-2.view_is c.holds-2.ensures.tables) (subst (λ (seen : Snapshot). TurnsIn seen.ram seen.past) c.self-2.view_is c.holds-2.ensures.turn) c.operate-outcome.ensures.moments
     (subst (λ (seen : Snapshot). TablesRest seen.state seen.ram seen.past) c.self.view_is c.self.invariant.1)

@@ -3,8 +3,9 @@ use Rattle.std.proofs.Common.{◌≡◌, ◌∙◌, ◌+◌, ◌≤◌, length, 
 use Rattle.std.specs.Prelude.{IsSome}
 use Rattle.ffa_model.specs.State.{State, page_at}
 use Rattle.ffa_model.specs.Step.{step}
+use Rattle.ffa_laws.specs.Reads.{AreBeside}
 use Rattle.ffa_spmc.specs.declared.run.Run.{Run}
-use Rattle.ffa_spmc.specs.Among.{AreBeside, IsDoneAmong, IsDoneReading, are_in, is_in, pages_read}
+use Rattle.ffa_spmc.specs.Among.{IsDoneAmong, IsDoneReading, are_in, is_in, pages_read}
 use Rattle.ffa_spmc.specs.Snapshot.{Snapshot}
 use Rattle.ffa_spmc.specs.Unowned.{pages_of_tables}
 use Rattle.ffa_spmc.proofs.Amongs.{among-unowned, left-behind, left-within}

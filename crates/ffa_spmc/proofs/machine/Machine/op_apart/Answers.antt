@@ -30,5 +30,6 @@ returns-clause-done g c = record {
     own_access = c.op.ensures.own_access;
     only_writers = c.op.ensures.only_writers;
     silent_offers = c.op.ensures.silent_offers;
+    reads_no_more = c.op.ensures.reads_no_more;
   };
 }

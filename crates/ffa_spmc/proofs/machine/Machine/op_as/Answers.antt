@@ -7,6 +7,7 @@ use Rattle.ffa_physmem.specs.Moments.{TurnsIn}
 use Rattle.ffa_spmc.specs.Cached.{AreWalks}
 use Rattle.ffa_spmc.specs.Mixtures.{TablesRest}
 use Rattle.ffa_spmc.specs.Snapshot.{Snapshot}
+use Rattle.ffa_spmc.specs.Unowned.{OwnsNoTables}
 use Rattle.ffa_spmc.proofs.Laws.{access-as, confidential-as, integrity-as, no_growth-as, silence-as, step-as, writers-as}
 use Rattle.ffa_spmc.proofs.Mixtures.{op_as-mixed}
 use Rattle.ffa_spmc.proofs.machine.Machine.op_as.Goals as goal
@@ -57,5 +58,7 @@ returns-clause-mixtures g c =
     op_as-mixed c.args.self.now.state _ c.args.endpoint.0 c.args.op.now c.args.self.now.ram _ _ _ c.operate_as-outcome.ensures.state
     (subst (λ (seen : Snapshot). Agrees seen.ram seen.state) c.self.view_is c.holds.ensures.agrees)
     (subst (λ (seen : Snapshot). Agrees seen.ram seen.state) c.self-2.view_is c.holds-2.ensures.agrees)
-    (returns-clause-own_access g c) (subst (λ (seen : Snapshot). TurnsIn seen.ram seen.past) c.self-2.view_is c.holds-2.ensures.turn) c.operate_as-outcome.ensures.moments
+    (returns-clause-own_access g c) (subst (λ (seen : Snapshot). IsSoundState seen.state) c.self.view_is c.holds.ensures.sound)
+    (subst (λ (seen : Snapshot). OwnsNoTables seen.state) c.self.view_is c.holds.ensures.tables)
+    (subst (λ (seen : Snapshot). OwnsNoTables seen.state) c.self-2.view_is c.holds-2.ensures.tables) (subst (λ (seen : Snapshot). TurnsIn seen.ram seen.past) c.self-2.view_is c.holds-2.ensures.turn) c.operate_as-outcome.ensures.moments
     (subst (λ (seen : Snapshot). TablesRest seen.state seen.ram seen.past) c.self.view_is c.self.invariant.1)

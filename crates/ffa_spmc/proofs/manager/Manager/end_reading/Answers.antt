@@ -1,7 +1,8 @@
 -- SPDX-License-Identifier: MIT OR Apache-2.0
 use Rattle.std.proofs.Common.{◌+◌, ◌≤◌, false, length, sym, subst}
+use Rattle.ffa_laws.specs.Reads.{AreBeside}
 use Rattle.ffa_physmem.specs.Moments.{IsBeside, IsReading, One}
-use Rattle.ffa_spmc.specs.Among.{AreBeside, is_in}
+use Rattle.ffa_spmc.specs.Among.{is_in}
 use Rattle.ffa_spmc.specs.Managed.{Managed}
 use Rattle.ffa_spmc.specs.Meaning.{state_of}
 use Rattle.ffa_spmc.specs.Moments.{AreMoments}

@@ -5,9 +5,11 @@ use Rattle.ffa_model.specs.SoundState.{IsSoundState}
 use Rattle.ffa_laws.specs.OwnAccess.{AreApart}
 use Rattle.ffa_physmem.specs.Moments.{TurnsIn}
 use Rattle.ffa_spmc.specs.Managed.{Managed}
+use Rattle.ffa_spmc.specs.Unowned.{OwnsNoTables}
 use Rattle.ffa_spmc.proofs.Agreements.{agrees}
 use Rattle.ffa_spmc.proofs.Inside.{parts_of}
 use Rattle.ffa_spmc.proofs.Pools.{senders-apart}
+use Rattle.ffa_spmc.proofs.Unowned.{no-tables}
 use Rattle.ffa_spmc.proofs.manager.Manager.holds.Goals as goal
 
 pub returns-clause-agrees : goal.returns-clause-agrees
@@ -26,3 +28,8 @@ returns-clause-apart g c =
 
 pub returns-clause-turn : goal.returns-clause-turn
 returns-clause-turn g c = subst (λ (seen : Managed). TurnsIn seen.ram seen.past) c.self.view_is (g.met.M.PhysMem.in_turn c.self.inside.ram)
+
+pub returns-clause-tables : goal.returns-clause-tables
+returns-clause-tables g c =
+    let x = parts_of g.M.PhysMem.ram g.S.Records.Home.value c.self.inside in
+    subst (λ (seen : Managed). OwnsNoTables seen.state) c.self.view_is (no-tables x c.self.invariant)

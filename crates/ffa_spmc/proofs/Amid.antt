@@ -1,0 +1,184 @@
+-- SPDX-License-Identifier: MIT OR Apache-2.0
+-- What others write while an operation is done.
+use Rattle.std.proofs.Common.{◌≡◌, ◌∙◌, ℕ, ◌+◌, ◌-◌, ◌*◌, ◌/◌, ◌%◌, ◌^◌, ◌<◌, ◌≤◌, true, false, cond, refl, ap, sym, subst, arith, List, ◌∷◌, length, Option, Some, None, Ok, Err, inl, inr, ◌⊎◌, is_some}
+use Rattle.std.specs.Prelude.{is_ok, nat_le, nat_lt, ◌&&◌}
+use Rattle.std.specs.Option.{option_and_then}
+use Rattle.std.proofs.lemmas.Bool.{cases_lt, false≢true}
+use Rattle.std.proofs.lemmas.Bool.Decides.{nat_tests}
+use Rattle.std.proofs.Math.Nat.{mul-le-mul_right}
+use Rattle.ffa_model.specs.declared.leaf.Leaf.{Leaf}
+use Rattle.ffa_model.specs.declared.limits.TheConstants.{MOST_ENDPOINTS, MOST_RAM}
+use Rattle.ffa_model.specs.declared.rights.Rights.{Rights}
+use Rattle.ffa_model.specs.Access.{access, right_of, transaction_at}
+use Rattle.ffa_model.specs.Agreement.{Agrees, blocks_of}
+use Rattle.ffa_model.specs.Identifiers.{identifier}
+use Rattle.ffa_model.specs.Manifest.{root_of, table_pages}
+use Rattle.ffa_model.specs.Memory.{access_at}
+use Rattle.ffa_model.specs.Ram.{Ram}
+use Rattle.ffa_model.specs.SoundState.{IsSoundState}
+use Rattle.ffa_model.specs.State.{State, Page}
+use Rattle.ffa_model.specs.Walk.{Answer, mapped_answer, walk}
+use Rattle.ffa_physmem.specs.Moments.{Adds, AreInTurn, Only, Step, TurnsIn}
+use Rattle.ffa_physmem.proofs.Moments.{Adds-none, Only-both, Only-each, Only-map}
+use Rattle.ffa_stage2.specs.Amid.{Amid, Moment, behind}
+use Rattle.ffa_stage2.specs.Held.{HeldBetween}
+use Rattle.ffa_stage2.specs.Mixtures.{IsMixture, MixedBetween, MixturesBetween, page_at}
+use Rattle.ffa_stage2.specs.Moments.{walk_at}
+use Rattle.ffa_stage2.specs.Rest.{RestIn}
+use Rattle.ffa_stage2.specs.Tables.{HasRoom, table_page}
+use Rattle.ffa_stage2.proofs.Amid.{Along, Leads, LeadsBehind, along-amid, between-amid, leads-mixed, mixed-rest, mixtures-rest, rest-amid, walks-amid}
+use Rattle.ffa_stage2.proofs.Kept.{HasRoom-kept}
+use Rattle.ffa_stage2.proofs.Rest.{Only-turn, held-mixed}
+use Rattle.ffa_spmc.specs.Amid.{EndsAmid, StandsAmid, StaysAmid}
+use Rattle.ffa_spmc.specs.Unowned.{OwnsNoTables, pages_of_tables}
+
+-- a walk gives the access
+pub seen : (x : State) (ram : Ram) (b e a : ℕ) → Agrees ram x → blocks_of x ≡ b → e < length x.parties → a < 2 ^ 32 → walk_at ram b e a ≡ mapped_answer (access_at x (identifier e) a) a
+seen x ram b e a agrees blocks he ha =
+    ap (λ (c : ℕ). walk ram (root_of c b e) a) agrees.place ∙ ap (λ (k : ℕ). walk ram (root_of x.ram_base k e) a) (sym blocks) ∙ agrees.walks e a he ha
+
+-- what may be held is the answer of a walk in a mixture
+pub held-between : (old new ram : Ram) (n b : ℕ) (h : List Step) → AreInTurn h ram → MixturesBetween old new n b h ram → HeldBetween old new n b h ram
+held-between old new ram n b h turn between a answer ha held =
+    elim (between a (λ e. (pick e).0) ha (λ e he. ((pick e).1 he).0)) [
+      | inl each ↦ inl (λ e he. elim (each e he) [ inl is ↦ inl (((pick e).1 he).1 ∙ is) | inr none ↦ inr (((pick e).1 he).1 ∙ none) ])
+      | inr each ↦ inr (λ e he. elim (each e he) [ inl is ↦ inl (((pick e).1 he).1 ∙ is) | inr none ↦ inr (((pick e).1 he).1 ∙ none) ])
+    ]
+  where
+    pick : (e : ℕ) → (m : Ram) × (e < n → IsMixture b e (page_at ram a) h ram m × (answer e ≡ walk_at m b e a))
+    pick e = elim (cases_lt e n) [
+      | inl lt ↦ let (m, mix, is) = held-mixed b e (page_at ram a) a h ram (answer e) turn (held e lt) in (m, λ _. (mix, is))
+      | inr out ↦ (ram, λ lt. absurd (omega (arith, out, lt)))
+    ]
+
+-- the tables of a sound state have room
+pub room-of : (s : State) (ram : Ram) → IsSoundState s → Agrees ram s → HasRoom ram (length s.parties) (blocks_of s)
+room-of s ram sound agrees =
+    let (k, size, some, few) = sound.sized.blocks in
+    let blocks : blocks_of s ≡ k = omega (arith, size) in
+    let place : ram.base ≡ s.ram_base = agrees.place in
+    let most : length s.parties ≤ MOST_ENDPOINTS = sound.sized.few in
+    let ok = sound.sized.base in
+    let aligned : s.ram_base % MOST_RAM ≡ 0 = grind (arith, nat_tests, ok) in
+    let high : s.ram_base ≤ 2 ^ 32 - MOST_RAM = grind (arith, nat_tests, ok) in
+    let rows : length s.parties * (2 + k) ≤ MOST_ENDPOINTS * (2 + k) = mul-le-mul_right (2 + k) most in
+    record {
+      place = subst (λ (c : ℕ). c % MOST_RAM ≡ 0) (sym place) aligned;
+      few = omega (arith, blocks, few);
+      within = omega (arith, blocks, few, place, high);
+      size = agrees.size ∙ size ∙ ap (λ (x : ℕ). 512 * x) (sym blocks);
+      room = subst (λ (x : ℕ). length s.parties * table_pages x ≤ 512 * x) (sym blocks) (omega (arith, rows, some));
+    }
+
+phys_of : Answer → ℕ
+phys_of (Ok leaf) = leaf.phys
+phys_of (Err fault) = 0
+
+-- where a walk leads somewhere, there is a right, and it leads to the address itself
+leaf-of : (r : Option Rights) (a : ℕ) (leaf : Leaf) → mapped_answer r a ≡ Ok leaf → (is_some r ≡ true) × (leaf.phys ≡ a)
+unfolding mapped_answer phys_of
+leaf-of None a leaf is = absurd (false≢true (ap (λ (x : Answer). is_ok x) is))
+leaf-of (Some r) a leaf is = (refl, sym (ap phys_of is))
+
+-- a walk leads to pages behind the tables alone
+leaf-behind : (x : State) (ram : Ram) (e a : ℕ) (leaf : Leaf) → Agrees ram x → OwnsNoTables x → e < length x.parties → a < 2 ^ 32 → walk_at ram (blocks_of x) e a ≡ Ok leaf
+    → pages_of_tables x ≤ (leaf.phys - x.ram_base) / 4096
+leaf-behind x ram e a leaf agrees none he ha leads =
+    let (some, at) = leaf-of (access_at x (identifier e) a) a leaf (sym (seen x ram (blocks_of x) e a agrees refl he ha) ∙ leads) in
+    subst (λ (c : ℕ). pages_of_tables x ≤ (c - x.ram_base) / 4096) (sym at)
+    (elim (nat_le x.ram_base a && nat_lt a (2 ^ 32)) as (λ c. is_some (option_and_then (access x (identifier e)) (cond c (Some ((a - x.ram_base) / 4096)) None)) ≡ true
+    → pages_of_tables x ≤ (a - x.ram_base) / 4096) [
+      | true ↦ of ((a - x.ram_base) / 4096)
+      | false ↦ λ no. absurd (false≢true no)
+    ] some)
+  where
+    of : (q : ℕ) → is_some (access x (identifier e) q) ≡ true → pages_of_tables x ≤ q
+    of q some = elim (cases_lt q (pages_of_tables x)) [
+      | inl low ↦ absurd (false≢true (sym (ap (λ (o : Option Page). is_some (right_of (identifier e) o (transaction_at x q))) (none q low)) ∙ some))
+      | inr far ↦ far
+    ]
+
+module _ (s t : State) (old new : Ram) (was : Agrees old s) (is : Agrees new t) (parties : length t.parties ≡ length s.parties) (base : t.ram_base ≡ s.ram_base)
+    (size : length t.pages ≡ length s.pages) (sound : IsSoundState s) (none : OwnsNoTables s) (none' : OwnsNoTables t) (past later : Option (List Step)) (turns : TurnsIn new later)
+    (rest : RestIn old (length s.parties) (blocks_of s) past) (rest' : RestIn new (length s.parties) (blocks_of s) later)
+    (mixed : Only past later (λ h step. MixedBetween old new (length s.parties) (blocks_of s) (step ∷ h) step.after))
+    (between : Only past later (λ h step. MixturesBetween old new (length s.parties) (blocks_of s) (step ∷ h) step.after)) where
+  abbrev n : ℕ
+  n = length s.parties
+
+  abbrev b : ℕ
+  b = blocks_of s
+
+  room : HasRoom old n b
+  room = room-of s old sound was
+
+  stays : new.base ≡ old.base
+  stays = is.place ∙ base ∙ sym was.place
+
+  room' : HasRoom new n b
+  room' = HasRoom-kept old new n b room stays (is.size ∙ size ∙ sym was.size)
+
+  far : (e a : ℕ) (leaf : Leaf) → e < n → a < 2 ^ 32 → (walk_at old b e a ≡ Ok leaf) ⊎ (walk_at new b e a ≡ Ok leaf) → table_page b n 0 ≤ page_at old leaf.phys
+  far e a leaf he ha (inl led) =
+      subst (λ (c : ℕ). table_page b n 0 ≤ (leaf.phys - c) / 4096) (sym was.place)
+      (let low = leaf-behind s old e a leaf was none he ha led in omega (arith, low))
+  far e a leaf he ha (inr led) =
+      subst (λ (c : ℕ). table_page b n 0 ≤ (leaf.phys - c) / 4096) (sym was.place)
+      (let low = leaf-behind t new e a leaf is none' (subst (λ (k : ℕ). e < k) (sym parties) he) ha (ap (λ (k : ℕ). walk_at new (k / 512) e a) size ∙ led) in
+      let tables : pages_of_tables t ≡ pages_of_tables s = (λ i. parties i * table_pages (size i / 512)) in
+      let here : pages_of_tables s ≤ (leaf.phys - s.ram_base) / 4096 = subst (λ (c : ℕ). pages_of_tables s ≤ (leaf.phys - c) / 4096) base (subst (λ (k : ℕ). k ≤ (leaf.phys - t.ram_base) / 4096) tables low) in
+      omega (arith, here))
+
+  abbrev Leading : List Step → Step → Type 0
+  Leading h step = LeadsBehind old new n b h step
+
+  leading : Only past later Leading
+  leading = Only-map (Only-turn new turns (Only-both mixed between)) (λ h step its.
+      let (turn, both) = its in
+      (turn, leads-mixed old new step.after n b (step ∷ h) turn both.0, both.1))
+
+  module _ (g : List Step) (there : past ≡ Some g) (alone memory : Moment) (written : List ℕ) (amid : Amid n b (record { history = g; ram = old }) alone memory written) where
+    first-leads : Leads old new n b g old
+    first-leads = leads-mixed old new old n b g (rest g there).turn (mixed-rest old new n b g room stays (rest g there))
+
+    first-between : MixturesBetween old new n b g old
+    first-between = mixtures-rest old new n b g room (rest g there)
+
+    along : Adds past Leading alone.history → Along old new n b g (rest g there).begun (rest g there).turn first-leads first-between far alone memory written
+    along adds =
+        along-amid old new n b g (rest g there).begun (rest g there).turn first-leads first-between far alone memory written amid
+        (subst (λ (o : Option (List Step)). Adds o Leading alone.history) there adds)
+
+    walks-now : Adds past Leading alone.history → MixturesBetween old new n b memory.history memory.ram
+    walks-now adds = between-amid old new n b g (rest g there).begun (rest g there).turn first-leads first-between far alone memory written (along adds)
+
+    stands-now : Adds past Leading alone.history → StandsAmid old new n b alone memory written
+    stands-now adds = record {
+      theirs = (along adds).theirs;
+      beside = (along adds).beside;
+      bytes = (along adds).bytes;
+      walks = walks-now adds;
+      held = held-between old new memory.ram n b memory.history (along adds).follow (walks-now adds);
+    }
+
+  module _ (g h : List Step) (there : past ≡ Some g) (last : later ≡ Some h) (memory : Moment) (written : List ℕ)
+      (amid : Amid n b (record { history = g; ram = old }) (record { history = h; ram = new }) memory written) where
+    ends-now : EndsAmid new n b memory
+    ends-now =
+        let along = along g there (record { history = h; ram = new }) memory written amid (leading.each h last) in
+        record {
+          walks = walks-amid old new n b g (rest g there).begun (rest g there).turn (first-leads g there (record { history = h; ram = new }) memory written amid)
+              (first-between g there (record { history = h; ram = new }) memory written amid) far room' h memory written (rest' h last) along;
+          rest = rest-amid old new n b g (rest g there).begun (rest g there).turn (first-leads g there (record { history = h; ram = new }) memory written amid)
+              (first-between g there (record { history = h; ram = new }) memory written amid) far room' h memory written (rest' h last) along;
+        }
+
+  pub stays-amid : StaysAmid s old new past later
+  stays-amid = record {
+    first = λ h there g is memory written amid. stands-now g is (record { history = h; ram = old }) memory written amid (Adds-none past Leading h there);
+    steps = Only-map (Only-each leading) (λ h step adds g is memory written amid. stands-now g is (behind step h) memory written amid adds);
+    ended = λ h last g is memory written amid. (
+      stands-now g is (record { history = h; ram = new }) memory written amid (leading.each h last),
+      ends-now g h is last memory written amid,
+    );
+  }

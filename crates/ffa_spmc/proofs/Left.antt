@@ -1,0 +1,228 @@
+-- SPDX-License-Identifier: MIT OR Apache-2.0
+-- The machine that an operation leaves while others write.
+use Rattle.std.proofs.Common.{◌≡◌, ◌∙◌, ℕ, ◌-◌, ◌/◌, ◌^◌, ◌<◌, Bool, true, false, cond, refl, ap, sym, subst, List, length, Option, Some, None, Ok, Err, inl, inr}
+use Rattle.std.specs.Prelude.{nat_le, nat_lt, ◌&&◌}
+use Rattle.std.specs.Option.{option_and_then, option_map}
+use Rattle.std.proofs.lemmas.Bool.{cases_Bool, false≢true}
+use Rattle.std.proofs.lemmas.Option.{none-some, same_Some}
+use Rattle.ffa_model.specs.declared.leaf.Leaf.{Leaf}
+use Rattle.ffa_model.specs.declared.operation.Op.{Op}
+use Rattle.ffa_model.specs.declared.rights.Rights.{Rights}
+use Rattle.ffa_model.specs.Access.{access}
+use Rattle.ffa_model.specs.Agreement.{Agrees, blocks_of}
+use Rattle.ffa_model.specs.Identifiers.{identifier}
+use Rattle.ffa_model.specs.Lists.{map_at}
+use Rattle.ffa_model.specs.Manifest.{root_of}
+use Rattle.ffa_model.specs.Memory.{access_at, page_of_address}
+use Rattle.ffa_model.specs.Ram.{Ram, page_of}
+use Rattle.ffa_model.specs.Rights.{may_store}
+use Rattle.ffa_model.specs.SoundState.{IsSoundPage, IsSoundState, are_bytes}
+use Rattle.ffa_model.specs.State.{Page, Party, State, page_at}
+use Rattle.ffa_model.specs.Walk.{Answer, mapped_answer, walk}
+use Rattle.ffa_model.proofs.Accesses.{length-map_at}
+use Rattle.ffa_laws.specs.Readable.{blank, blank_where}
+use Rattle.ffa_laws.specs.Reads.{AreBeside}
+use Rattle.ffa_laws.proofs.Changes.{AreRewritten, standing}
+use Rattle.ffa_laws.proofs.ElsewhereLaws.{fixed-step_as, sound-step_as}
+use Rattle.ffa_laws.proofs.Kept.{step-fixed}
+use Rattle.ffa_laws.proofs.Maps.{at-map_at, map_at-alike, map_at-twice}
+use Rattle.ffa_laws.proofs.NoMore.{whole-beside}
+use Rattle.ffa_laws.proofs.SoundKept.{pages-sound}
+use Rattle.ffa_laws.proofs.SoundOperations.{step-sound}
+use Rattle.ffa_physmem.specs.Moments.{Step}
+use Rattle.ffa_stage2.specs.Amid.{CouldWrite, Moment, is_one_of}
+use Rattle.ffa_stage2.specs.Moments.{walk_at}
+use Rattle.ffa_stage2.specs.Rest.{AreAtRest}
+use Rattle.ffa_spmc.specs.Amid.{EndsAmid, StandsAmid}
+use Rattle.ffa_spmc.specs.Cached.{AreWalks}
+use Rattle.ffa_spmc.specs.Meanwhile.{IsLeft, LeavesAmid, MayStore}
+use Rattle.ffa_spmc.specs.Mixtures.{StayMixed, TablesRest}
+use Rattle.ffa_spmc.specs.Operated.{IsOperated, IsOperatedAs}
+use Rattle.ffa_spmc.specs.Snapshot.{Snapshot}
+use Rattle.ffa_spmc.proofs.Amid.{seen}
+use Rattle.ffa_spmc.proofs.Besides.{beside-access}
+use Rattle.ffa_spmc.proofs.HeldWalks.{walks-after}
+use Rattle.ffa_spmc.proofs.Mixtures.{pages-as}
+use Rattle.ffa_spmc.proofs.Sizes.{pages-step}
+
+-- a state, with the bytes that RAM has
+abbrev in_ram : Ram → ℕ → Option Page → Option Page
+in_ram ram p page = option_map (λ (q : Page). record q { bytes = page_of ram p }) page
+
+abbrev held_in : Ram → State → State
+held_in ram s = record s { pages = map_at (λ p page. in_ram ram p page) s.pages }
+
+write_of : Answer → Bool
+write_of (Ok leaf) = leaf.write
+write_of (Err fault) = false
+
+phys_of : Answer → ℕ
+phys_of (Ok leaf) = leaf.phys
+phys_of (Err fault) = 0
+
+-- what a leaf that lets write tells of a right
+may-of : (r : Option Rights) (a : ℕ) (leaf : Leaf) → mapped_answer r a ≡ Ok leaf → leaf.write ≡ true → (may_store r ≡ true) × (leaf.phys ≡ a)
+unfolding mapped_answer phys_of write_of
+may-of None a leaf is write = absurd (false≢true (ap write_of is ∙ write))
+may-of (Some r) a leaf is write = (ap write_of is ∙ write, sym (ap phys_of is))
+
+may-at : (x : State) (e a q : ℕ) → may_store (access_at x e a) ≡ true → (a - x.ram_base) / 4096 ≡ q → may_store (access x e q) ≡ true
+may-at x e a q may at =
+    subst (λ (k : ℕ). may_store (access x e k) ≡ true) at
+    (elim (nat_le x.ram_base a && nat_lt a (2 ^ 32)) as (λ c. may_store (option_and_then (access x e) (cond c (Some ((a - x.ram_base) / 4096)) None)) ≡ true
+    → may_store (access x e ((a - x.ram_base) / 4096)) ≡ true) [
+      | true ↦ λ is. is
+      | false ↦ λ no. absurd (false≢true no)
+    ] may)
+
+module _ (old new : Snapshot) (was : Agrees old.ram old.state) (is : Agrees new.ram new.state) (sound : IsSoundState new.state) (parties : length new.state.parties ≡ length old.state.parties)
+    (base : new.state.ram_base ≡ old.state.ram_base) (size : length new.state.pages ≡ length old.state.pages) (memory : Moment) (written : List ℕ)
+    (stands : StandsAmid old.ram new.ram (length old.state.parties) (blocks_of old.state) (record { history = memory.history; ram = new.ram }) memory written)
+    (ends : EndsAmid new.ram (length old.state.parties) (blocks_of old.state) memory) where
+  abbrev t : State
+  t = held_in memory.ram new.state
+
+  at-page : (p : ℕ) → page_at t p ≡ in_ram memory.ram p (page_at new.state p)
+  at-page p = at-map_at (λ q page. in_ram memory.ram q page) new.state.pages p (λ q. refl)
+
+  each : length t.pages ≡ length new.state.pages
+  each = length-map_at (λ p page. in_ram memory.ram p page) new.state.pages
+
+  -- the bytes of a page that others didn't write
+  same-bytes : (c : Bool) (p : ℕ) (o : Option Page) → page_at new.state p ≡ o → is_one_of written p ≡ c → blank_where c o ≡ blank_where c (in_ram memory.ram p o)
+  same-bytes c p None at its = refl
+  same-bytes true p (Some q) at its = refl
+  same-bytes false p (Some q) at its = λ i. Some (record q { bytes = (sym (is.bytes p q at) ∙ sym (stands.beside.pages p its)) i })
+
+  blank-same : blank (is_one_of written) new.state ≡ blank (is_one_of written) t
+  blank-same =
+      (λ i. record new.state { pages = (map_at-each ∙ sym (map_at-twice (λ p page. blank_where (is_one_of written p) page) (λ p page. in_ram memory.ram p page) new.state.pages)) i })
+    where
+      map_at-each : map_at (λ p page. blank_where (is_one_of written p) page) new.state.pages ≡ map_at (λ p page. blank_where (is_one_of written p) (in_ram memory.ram p page)) new.state.pages
+      map_at-each = map_at-alike (λ p page. blank_where (is_one_of written p) page) (λ p page. blank_where (is_one_of written p) (in_ram memory.ram p page)) new.state.pages new.state.pages None None refl
+          (λ p. same-bytes (is_one_of written p) p (page_at new.state p) refl refl)
+
+  rewritten : AreRewritten new.state.pages t.pages
+  rewritten = record { each = each; same = λ p. ap standing (at-page p) ∙ stands-as p (page_at new.state p) }
+    where
+      stands-as : (p : ℕ) (o : Option Page) → standing (in_ram memory.ram p o) ≡ standing o
+      stands-as p None = refl
+      stands-as p (Some q) = refl
+
+  sound-page : (p : ℕ) (o : Option Page) → page_at new.state p ≡ o → (page : Page) → in_ram memory.ram p o ≡ Some page → IsSoundPage new.state page
+  sound-page p None at page there = absurd (none-some page there)
+  sound-page p (Some q) at page there =
+      let good = sound.pages p q at in
+      subst (IsSoundPage new.state) (same_Some (record q { bytes = page_of memory.ram p }) page there)
+      (elim (cases_Bool (is_one_of written p)) [
+        | inl its ↦ record { owner = good.owner; size = (stands.bytes p its).0; bytes = (stands.bytes p its).1 }
+        | inr off ↦
+            let bytes : page_of memory.ram p ≡ q.bytes = stands.beside.pages p off ∙ is.bytes p q at in
+            record { owner = good.owner; size = ap (λ (xs : List ℕ). length xs) bytes ∙ good.size; bytes = subst are_bytes (sym bytes) good.bytes }
+      ])
+
+  sound-left : IsSoundState t
+  sound-left =
+      pages-sound new.state sound t.pages rewritten
+      (λ p page there. sound-page p (page_at new.state p) refl page (sym (at-page p) ∙ there))
+
+  beside : AreBeside new.state t (is_one_of written)
+  beside = whole-beside new.state t sound sound-left (is_one_of written) blank-same
+
+  -- access is what it is without these bytes
+  same-access : (e p : ℕ) → access t e p ≡ access new.state e p
+  same-access e p = beside-access new.state t (is_one_of written) beside e p
+
+  access-same : (e a : ℕ) → access_at t e a ≡ access_at new.state e a
+  access-same e a = elim (page_of_address new.state a) as (λ o. option_and_then (access t e) o ≡ option_and_then (access new.state e) o) [ None ↦ refl | Some p ↦ same-access e p ]
+
+  blocks : blocks_of new.state ≡ blocks_of old.state
+  blocks = ap (λ (n : ℕ). n / 512) size
+
+  bytes-left : (p : ℕ) (page : Page) → page_at t p ≡ Some page → page_of memory.ram p ≡ page.bytes
+  bytes-left p page there = of (page_at new.state p) (sym (at-page p) ∙ there)
+    where
+      of : (o : Option Page) → in_ram memory.ram p o ≡ Some page → page_of memory.ram p ≡ page.bytes
+      of None none = absurd (none-some page none)
+      of (Some q) same = ap (λ (x : Page). x.bytes) (same_Some (record q { bytes = page_of memory.ram p }) page same)
+
+  agrees-left : Agrees memory.ram t
+  agrees-left = record {
+    place = stands.beside.base ∙ is.place;
+    size = stands.beside.size ∙ is.size ∙ sym each;
+    walks = λ e a he ha.
+        let he' : e < length old.state.parties = subst (λ (k : ℕ). e < k) parties he in
+        ap (λ (k : ℕ). walk memory.ram (root_of new.state.ram_base (k / 512) e) a) each
+        ∙ ap (λ (c : ℕ). walk memory.ram (root_of c (blocks_of new.state) e) a) (sym (stands.beside.base ∙ is.place))
+        ∙ ap (λ (k : ℕ). walk_at memory.ram k e a) blocks
+        ∙ ends.walks e a he' ha
+        ∙ ap (λ (k : ℕ). walk_at new.ram k e a) (sym blocks)
+        ∙ seen new.state new.ram (blocks_of new.state) e a is refl he ha
+        ∙ sym (ap (λ (r : Option Rights). mapped_answer r a) (access-same (identifier e) a));
+    bytes = bytes-left;
+  }
+
+  could : (p : ℕ) → CouldWrite old.ram new.ram (length old.state.parties) (blocks_of old.state) p → MayStore old.state new.state p
+  could p w = record {
+    index = w.endpoint;
+    there = w.one;
+    right = elim w.walk [
+      | inl led ↦
+          let (may, at) = may-of (access_at old.state (identifier w.endpoint) w.address) w.address w.leaf
+          (sym (seen old.state old.ram (blocks_of old.state) w.endpoint w.address was refl w.one w.low) ∙ led) w.lets.write in
+          inl (may-at old.state (identifier w.endpoint) w.address p may
+          (ap (λ (x : ℕ). (x - old.state.ram_base) / 4096) (sym at) ∙ ap (λ (c : ℕ). (w.leaf.phys - c) / 4096) (sym was.place) ∙ w.lets.page))
+      | inr led ↦
+          let (may, at) = may-of (access_at new.state (identifier w.endpoint) w.address) w.address w.leaf
+          (sym (seen new.state new.ram (blocks_of old.state) w.endpoint w.address is blocks (subst (λ (k : ℕ). w.endpoint < k) (sym parties) w.one) w.low) ∙ led) w.lets.write in
+          inr (may-at new.state (identifier w.endpoint) w.address p may
+          (ap (λ (x : ℕ). (x - new.state.ram_base) / 4096) (sym at) ∙ ap (λ (c : ℕ). (w.leaf.phys - c) / 4096) (base ∙ sym was.place) ∙ w.lets.page))
+    ];
+  }
+
+  abbrev left : Snapshot
+  left = record new { state = t; ram = memory.ram; past = Some memory.history }
+
+  rest-left : TablesRest t memory.ram (Some memory.history)
+  unfolding TablesRest
+  rest-left = λ h there.
+      subst (λ (g : List Step). AreAtRest memory.ram (length new.state.parties) (blocks_of t) g) (same_Some memory.history h there)
+      (subst (λ (n : ℕ). AreAtRest memory.ram n (blocks_of t) memory.history) (sym parties)
+      (subst (λ (b : ℕ). AreAtRest memory.ram (length old.state.parties) b memory.history) (sym (ap (λ (n : ℕ). n / 512) (each ∙ size))) ends.rest))
+
+  pub is-left : AreWalks new → IsLeft old new left memory written
+  is-left walks = record {
+    state = beside;
+    theirs = λ p its. could p (stands.theirs.could p its);
+    ram = refl;
+    past = refl;
+    held = refl;
+    told = refl;
+    agrees = agrees-left;
+    sound = sound-left;
+    walks = walks-after new.ram memory.ram new.state t is agrees-left sound sound-left refl (λ e known. known) new.held new.held (λ e p leaf there. (there, same-access e p)) walks;
+    rest = rest-left;
+  }
+
+leaves-amid : (old new : Snapshot) → Agrees old.ram old.state → Agrees new.ram new.state → IsSoundState new.state → length new.state.parties ≡ length old.state.parties
+    → new.state.ram_base ≡ old.state.ram_base → length new.state.pages ≡ length old.state.pages → AreWalks new → StayMixed old.state old.ram new.ram old.past new.past → LeavesAmid old new
+unfolding StayMixed
+leaves-amid old new was is sound parties base size walks mixed begun ended there last memory written amid =
+    let (stands, ends) = mixed.amid.ended ended last begun there memory written amid in
+    let beside : StandsAmid old.ram new.ram (length old.state.parties) (blocks_of old.state) (record { history = memory.history; ram = new.ram }) memory written =
+    record { theirs = stands.theirs; beside = stands.beside; bytes = stands.bytes; walks = stands.walks; held = stands.held } in
+    (_, is-left old new was is sound parties base size memory written beside ends walks)
+
+pub left-operated : (old new : Snapshot) (op : Op) → IsOperated old op new → Agrees old.ram old.state → IsSoundState old.state → LeavesAmid old new
+left-operated old new op done was sound =
+    leaves-amid old new was done.agrees (subst IsSoundState (sym done.state) (step-sound old.state sound op))
+    (ap (λ (s : State). length s.parties) done.state ∙ ap (λ (f : List Party × ℕ). length f.0) (step-fixed old.state op))
+    (ap (λ (s : State). s.ram_base) done.state ∙ ap (λ (f : List Party × ℕ). f.1) (step-fixed old.state op))
+    (ap (λ (s : State). length s.pages) done.state ∙ pages-step old.state op) done.walks done.mixtures
+
+pub left-operated_as : (old new : Snapshot) (e : ℕ) (op : Op) → IsOperatedAs old e op new → Agrees old.ram old.state → IsSoundState old.state → LeavesAmid old new
+left-operated_as old new e op done was sound =
+    leaves-amid old new was done.agrees (subst IsSoundState (sym done.state) (sound-step_as old.state e op sound))
+    (ap (λ (s : State). length s.parties) done.state ∙ ap (λ (f : List Party × ℕ). length f.0) (fixed-step_as old.state e op))
+    (ap (λ (s : State). s.ram_base) done.state ∙ ap (λ (f : List Party × ℕ). f.1) (fixed-step_as old.state e op))
+    (ap (λ (s : State). length s.pages) done.state ∙ pages-as old.state e op) done.walks done.mixtures
