@@ -5,13 +5,12 @@ use Rattle.std.specs.Prelude.{◌==◌, ◌&&◌, IfOk, OnErr}
 use Rattle.std.specs.Option.{option_map}
 use Rattle.std.specs.Result.{result_err, result_ok}
 use Rattle.std.proofs.lemmas.Bool.{false≢true}
-use Rattle.arrayvec.specs.ArrayVec.{array_vec_len}
 use Rattle.ffa_model.specs.declared.refusal.Refusal.{Refusal}
 use Rattle.ffa_model.specs.declared.operation.ErrorCode.{ErrorCode}
 use Rattle.ffa_model.specs.declared.descriptor.RelinquishDesc.{RelinquishDesc}
 use Rattle.ffa_model.specs.Access.{access, is_offered, is_receiver, names}
 use Rattle.ffa_model.specs.Buffers.{buffers_in}
-use Rattle.ffa_model.specs.Calls.{first_failure, replied, served, success}
+use Rattle.ffa_model.specs.Calls.{first_failure, replied, served}
 use Rattle.ffa_model.specs.Identifiers.{place}
 use Rattle.ffa_model.specs.MemoryReturn.{memory_relinquish, relinquish_guards, relinquish_read, relinquished, relinquished_from}
 use Rattle.ffa_model.specs.Memory.{zeroed_if}

@@ -20,3 +20,4 @@ pub mod Operated
 pub mod Among
 pub mod Mixtures
 pub mod Moments
+pub mod Clustered

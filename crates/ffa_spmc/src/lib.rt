@@ -3,6 +3,7 @@
 #![tactic(auto)]
 
 mod answer;
+pub mod cluster;
 mod kept;
 pub mod machine;
 mod manager;
@@ -12,6 +13,7 @@ mod replies;
 mod run;
 pub mod storage;
 
+pub use cluster::Cluster;
 pub use machine::Machine;
 pub use parts::Parts;
 pub use records::Records;

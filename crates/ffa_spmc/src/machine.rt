@@ -34,6 +34,7 @@ mod accesses;
 mod among;
 mod certificates;
 mod elsewhere;
+mod interrupts;
 mod parts;
 
 use crate::manager::{Manager, clear_rest};

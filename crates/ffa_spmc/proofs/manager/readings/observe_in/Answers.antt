@@ -1,5 +1,5 @@
 -- SPDX-License-Identifier: MIT OR Apache-2.0
-use Rattle.std.proofs.Common.{◌≡◌, ◌∙◌, ◌+◌, ◌<◌, ◌≤◌, ℕ, true, List, length, Option, sym, ap, subst, arith}
+use Rattle.std.proofs.Common.{◌∙◌, ◌+◌, ◌≤◌, true, List, length, Option, sym, ap, subst}
 use Rattle.ffa_model.specs.Ram.{Ram, page_of}
 use Rattle.ffa_physmem.specs.Moments.{IsBeside, IsReading, One, Step}
 use Rattle.ffa_spmc.specs.Among.{is_in}
