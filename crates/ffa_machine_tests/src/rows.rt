@@ -41,6 +41,9 @@ mod memory;
 // Notifications.
 mod notifications;
 
+// Interrupts, and several processors.
+mod processors;
+
 // Calls in RAM that keeps a record of its steps.
 mod recorded;
 
