@@ -41,6 +41,9 @@ mod memory;
 // Notifications.
 mod notifications;
 
+// Interrupts, and several processors.
+mod processors;
+
 // Which pages operations read.
 mod reads;
 

@@ -24,6 +24,9 @@ pub mod BufferCalls
 pub mod Fills
 pub mod Information
 pub mod Schedules
+pub mod Switches
+pub mod Clusters
+pub mod Acts
 pub mod Sends
 pub mod Reclaims
 pub mod Relinquishes

@@ -9,7 +9,7 @@ use Rattle.ffa_model.specs.declared.call.Reply.{Reply}
 use Rattle.ffa_model.specs.declared.call.Reply.TheVariants.{Passed}
 use Rattle.ffa_model.specs.declared.operation.ErrorCode.{ErrorCode}
 use Rattle.ffa_model.specs.declared.schedule.Status.{Status}
-use Rattle.ffa_model.specs.declared.schedule.Status.TheVariants.{Waiting, Running, Blocked, Yielded}
+use Rattle.ffa_model.specs.declared.schedule.Status.TheVariants.{Waiting, Running, Blocked, Yielded, Preempted, RunsElsewhere}
 use Rattle.ffa_model.specs.Calls.{Service, first_failure, replied, served}
 use Rattle.ffa_model.specs.First.{first}
 use Rattle.ffa_model.specs.RunStates.{Schedule, finished, msg_wait, run_reply, wait_guards, with_schedule}
@@ -28,7 +28,7 @@ module _ (x : Parts) where
   abbrev pub with_chain : Schedule → State
   with_chain c = state_of (record x { kept = record x.kept { chain = c } })
 
-  with_chain-is : (c : Schedule) → with_chain c ≡ with_schedule s c
+  pub with_chain-is : (c : Schedule) → with_chain c ≡ with_schedule s c
   unfolding first
   with_chain-is c = refl
 
@@ -70,3 +70,5 @@ run-plain target Waiting = refl
 run-plain target Yielded = refl
 run-plain target Running = refl
 run-plain target Blocked = refl
+run-plain target Preempted = refl
+run-plain target RunsElsewhere = refl

@@ -23,3 +23,4 @@ pub mod Amid
 pub mod Mixtures
 pub mod Moments
 pub mod Meanwhile
+pub mod Clustered

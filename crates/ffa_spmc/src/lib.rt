@@ -3,6 +3,7 @@
 #![tactic(auto)]
 
 mod answer;
+pub mod cluster;
 mod kept;
 pub mod machine;
 mod manager;
@@ -13,6 +14,7 @@ mod replies;
 mod run;
 pub mod storage;
 
+pub use cluster::Cluster;
 pub use machine::Machine;
 pub use meanwhile::left_among_others;
 pub use parts::Parts;

@@ -35,6 +35,7 @@ mod accesses;
 mod among;
 mod certificates;
 mod elsewhere;
+mod interrupts;
 mod parts;
 
 use crate::manager::{Manager, clear_rest};

@@ -32,6 +32,7 @@ mod messages;
 mod notifications;
 mod parts;
 mod readings;
+mod switching;
 
 use crate::kept::Kept;
 use crate::storage::{Inline, Storage, Store};

@@ -47,7 +47,7 @@ fn registers(alloc: Global, runner: EndpointId, x: &[u64; 8]) -> Result<String, 
 }
 
 // Whether an outcome is what a step wants.
-fn is_wanted(alloc: Global, outcome: Outcome, wanted: &str) -> Result<bool, Fail> {
+pub(super) fn is_wanted(alloc: Global, outcome: Outcome, wanted: &str) -> Result<bool, Fail> {
     Ok(match outcome {
         Outcome::Done => wanted == "done",
         Outcome::Data(value) => {

@@ -13,7 +13,7 @@ use super::Machine;
 use crate::run::Run;
 use crate::storage::Store;
 use ffa_model::{Op, Outcome};
-use ffa_physmem::Observed;
+use ffa_physmem::{Observed, PhysMem};
 use ffa_tlb::Translations;
 
 impl<M: Observed + Drop, T: Translations + Drop, S: Store> Machine<M, T, S> {
@@ -73,15 +73,6 @@ impl<M: Observed + Drop, T: Translations + Drop, S: Store> Machine<M, T, S> {
         }
     }
 
-    // The operation itself, which stands here once for both its calls.
-    #[inline(never)]
-    fn op_apart(&mut self, op: &Op) -> Outcome
-        ensures done { IsDone self.old op.now result self.new }
-        ensures sound { IsSoundState self.new.state }
-    {
-        self.op(op)
-    }
-
     // Reads pages behind the tables at once.
     fn begin_reading(&mut self, run: Run)
         requires within { run.first.0 + run.count ≤ length self.old.ram.pages }
@@ -108,5 +99,16 @@ impl<M: Observed + Drop, T: Translations + Drop, S: Store> Machine<M, T, S> {
         self.manager.end_reading(run);
         // Proof step: so it is afterwards.
         self.manager.holds();
+    }
+}
+
+impl<M: PhysMem + Drop, T: Translations + Drop, S: Store> Machine<M, T, S> {
+    // The operation itself, which stands here once for all its calls.
+    #[inline(never)]
+    pub(crate) fn op_apart(&mut self, op: &Op) -> Outcome
+        ensures done { IsDone self.old op.now result self.new }
+        ensures sound { IsSoundState self.new.state }
+    {
+        self.op(op)
     }
 }

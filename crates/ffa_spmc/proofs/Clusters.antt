@@ -1,0 +1,274 @@
+-- SPDX-License-Identifier: MIT OR Apache-2.0
+-- Who runs on each processor of a machine, as it is kept.
+use Rattle.std.proofs.Common.{◌≡◌, ◌≢◌, ◌∙◌, ℕ, suc, inl, inr, zero, ◌<◌, ◌≤◌, Bool, true, false, cond, Option, Some, None, List, [], ◌∷◌, length, map, get_or, set, replicate, refl, sym, ap, subst, subst₂, arith}
+use Rattle.std.specs.Prelude.{◌==◌}
+use Rattle.std.proofs.lemmas.Bool.{cases_eq, eq-eqb, ne_eqb}
+use Rattle.byteorder.specs.Endian.{little_bytes}
+use Rattle.std.proofs.lemmas.List.{get_or-replicate, length-map, map-set}
+use Rattle.ffa_model.specs.declared.endpoint.Endpoint.{Endpoint}
+use Rattle.ffa_model.specs.declared.manifest.Manifest.{Manifest}
+use Rattle.ffa_model.specs.First.{first, first_held, party_of}
+use Rattle.ffa_model.specs.Ram.{Ram, page_of}
+use Rattle.ffa_model.proofs.FirstChain.{first-here}
+use Rattle.ffa_spmc.specs.Booted.{IsBooted, IsBootedHeld}
+use Rattle.ffa_model.specs.declared.endpoint.EndpointId.{EndpointId}
+use Rattle.ffa_model.specs.declared.limits.TheConstants.{MOST_PROCESSORS}
+use Rattle.ffa_model.specs.declared.operation.Effect.{Effect}
+use Rattle.ffa_model.specs.declared.operation.Effect.TheVariants as effects
+use Rattle.ffa_model.specs.declared.operation.Op.{Op}
+use Rattle.ffa_model.specs.declared.operation.Op.TheVariants.{Call, Load, Store, Fetch}
+use Rattle.ffa_model.specs.declared.operation.Outcome.TheVariants.{Data, Done}
+use Rattle.ffa_model.specs.Calls.{Stepped}
+use Rattle.ffa_model.specs.Elsewhere.{as_run_by, step_as, step_elsewhere}
+use Rattle.ffa_model.specs.Memory.{fetch_fault, number_at, read_fault, size_of, store_fault, stored}
+use Rattle.ffa_model.specs.Step.{step}
+use Rattle.ffa_model.specs.declared.operation.Outcome.{Outcome}
+use Rattle.ffa_model.specs.declared.schedule.Status.{Status}
+use Rattle.ffa_model.specs.Processors.{ArePlaced, IsHere, Processors, SameElsewhere, effected, first_processors, interrupt, left_status, moved_to, noted, on, runner_on, step_resuming, turned, with_switch}
+use Rattle.ffa_model.specs.RunStates.{Schedule, schedule_of}
+use Rattle.ffa_model.specs.Sound.{MayGoOn}
+use Rattle.ffa_model.specs.SoundState.{IsSoundState}
+use Rattle.ffa_model.specs.State.{State}
+use Rattle.ffa_model.proofs.Processors.{moved-goes, placed-still, turned-placed}
+use Rattle.ffa_laws.specs.Isolation.{NeverGrow}
+use Rattle.ffa_laws.specs.Processors.{OneOperation}
+use Rattle.ffa_laws.proofs.ProcessorLaws.{effect-elsewhere, has-runner, interrupt-placed, on-sound-state, one_operation, operation-placed, operation_never_grows}
+use Rattle.ffa_laws.proofs.ElsewhereLaws.{step_as-rests, step_as-runs}
+use Rattle.ffa_laws.proofs.Form.{accessed-kept}
+use Rattle.ffa_laws.proofs.SoundLaws.{same-elsewhere}
+use Rattle.ffa_laws.proofs.SoundOperations.{elsewhere-step}
+use Rattle.ffa_laws.proofs.SoundSteady.{sound-steady}
+use Rattle.ffa_spmc.specs.declared.run.Run.{Run}
+use Rattle.ffa_spmc.specs.Among.{IsDone, IsDoneReading, IsRead, pages_read}
+use Rattle.ffa_spmc.specs.Clustered.{Clustered, IsEffectedAmong, in_state, seen_by}
+use Rattle.ffa_spmc.specs.Snapshot.{Snapshot}
+use Rattle.ffa_spmc.specs.Unowned.{KeepsUnowned}
+
+abbrev pub nobody : EndpointId
+nobody = record { 0 = 0 }
+
+abbrev pub numbers : List EndpointId → List ℕ
+numbers items = map (λ (e : EndpointId). e.0) items
+
+abbrev pub kept_as : ℕ → List EndpointId → Processors
+kept_as current items = record { current = current; runners = numbers items }
+
+number-at : (items : List EndpointId) (p : ℕ) → get_or (numbers items) p 0 ≡ (get_or items p nobody).0
+number-at [] p = refl
+number-at (e ∷ items) zero = refl
+number-at (e ∷ items) (suc p) = number-at items p
+
+-- where a machine has booted no partition runs elsewhere
+pub booted-here : (base blocks : ℕ) (es : List Endpoint) → 1 ≤ length es → IsHere (first base blocks es)
+unfolding first
+booted-here base blocks es some e its = first-here (length es) some e (record { partition = its.partition; status = its.status })
+
+pub boot-here : (m : Manifest) (s : State) (ram : Ram) → IsBooted m s ram → IsHere s
+unfolding first
+boot-here m s ram booted =
+    let least : 1 ≤ length s.parties = booted.sound.sized.some in
+    let size : length s.parties ≡ length m.endpoints.items = ap (λ (t : State). length t.parties) booted.state ∙ length-map m.endpoints.items party_of in
+    subst IsHere (sym booted.state) (booted-here m.ram_base.0 m.ram_blocks m.endpoints.items (omega (arith, least, size)))
+
+pub booted-here-held : (base blocks : ℕ) (es : List Endpoint) (held : ℕ → List ℕ) → 1 ≤ length es → IsHere (first_held base blocks es held)
+unfolding first
+booted-here-held base blocks es held some e its = first-here (length es) some e (record { partition = its.partition; status = its.status })
+
+pub boot-here-held : (m : Manifest) (given : Ram) (s : State) (ram : Ram) → IsBootedHeld m given s ram → IsHere s
+unfolding first
+boot-here-held m given s ram booted =
+    let least : 1 ≤ length s.parties = booted.sound.sized.some in
+    let size : length s.parties ≡ length m.endpoints.items = ap (λ (t : State). length t.parties) booted.state ∙ length-map m.endpoints.items party_of in
+    subst IsHere (sym booted.state) (booted-here-held m.ram_base.0 m.ram_blocks m.endpoints.items (page_of given) (omega (arith, least, size)))
+
+-- at first the normal world runs on all but the first
+pub first-placed : (s : State) → IsHere s → ArePlaced first_processors s
+first-placed s here = record {
+  count = refl;
+  current = omega arith;
+  others = λ p its busy. absurd (busy (get_or-replicate MOST_PROCESSORS p 0 0 its.within));
+  apart = λ p q one two busy alike. absurd (busy (get_or-replicate MOST_PROCESSORS p 0 0 one.within));
+  found = λ e its. absurd (here e its);
+}
+
+pub first-kept : (items : List EndpointId) (n : ℕ) → n ≡ MOST_PROCESSORS → items ≡ replicate n nobody → kept_as 0 items ≡ first_processors
+first-kept items n all is = ap (kept_as 0) (is ∙ ap (λ (k : ℕ). replicate k nobody) all)
+
+-- another processor does an operation
+module _ (machine : Snapshot) (current p : ℕ) (items : List EndpointId) (placed : ArePlaced (kept_as current items) machine.state) (sound : IsSoundState machine.state) (low : p < MOST_PROCESSORS) (other : p ≢ current)
+    (slice : List EndpointId) (same : slice ≡ items) where
+  abbrev s : State
+  s = machine.state
+
+  abbrev processors : Processors
+  processors = kept_as current items
+
+  within : p < length (numbers items)
+  within = let count = placed.count in omega (arith, count, low)
+
+  some : 1 ≤ length s.works
+  some =
+      let least = sound.sized.some in
+      let works = sound.sized.works in
+      omega (arith, least, works)
+
+  differ : current ≢ p
+  differ h = other (sym h)
+
+  next-is : (get_or slice p nobody).0 ≡ runner_on processors p
+  next-is = ap (λ (xs : List EndpointId). (get_or xs p nobody).0) same ∙ sym (number-at items p)
+
+  pub goes-next : MayGoOn (schedule_of s) (get_or slice p nobody).0
+  goes-next = subst (MayGoOn (schedule_of s)) (sym next-is) (moved-goes processors s sound.schedule some placed p within differ)
+
+  turned-is : turned processors p s ≡ noted processors p s
+  turned-is = ap (λ b. cond b processors (noted processors p s)) (ne_eqb current p differ)
+
+  on-is : on processors p s ≡ moved_to s (runner_on processors p)
+  on-is = ap (λ b. cond b s (moved_to s (runner_on processors p))) (ne_eqb current p differ)
+
+  module _ (runner : EndpointId) (runs : runner.0 ≡ s.runner) (left : Status) (is_left : left ≡ left_status runner.0) (new : Snapshot) (switched : new ≡ in_state machine (with_switch s left (get_or slice p nobody).0))
+      (written : List EndpointId) (notes : written ≡ set items current runner) where
+    pub kept-next : kept_as p written ≡ turned processors p s
+    kept-next =
+        ap (kept_as p) notes
+        ∙ ap (λ (xs : List ℕ). let ps : Processors = record { current = p; runners = xs } in ps) (map-set (λ (e : EndpointId). e.0) items current runner ∙ ap (λ (r : ℕ). set (numbers items) current r) runs)
+        ∙ sym turned-is
+
+    state-next : new.state ≡ on processors p s
+    state-next =
+        ap (λ (x : Snapshot). x.state) switched
+        ∙ (λ i. with_switch s ((is_left ∙ ap left_status runs) i) (next-is i))
+        ∙ sym on-is
+
+    pub placed-next : ArePlaced (kept_as p written) new.state
+    placed-next = subst₂ ArePlaced (sym kept-next) (sym state-next) (turned-placed processors s sound.schedule some placed p within)
+
+    pub machine-next : new ≡ in_state machine (on processors p s)
+    machine-next = switched ∙ ap (in_state machine) (sym (ap (λ (x : Snapshot). x.state) switched) ∙ state-next)
+
+-- who runs on a processor
+pub runner-here : (machine : Snapshot) (current p : ℕ) (items : List EndpointId) → current ≡ p → machine.state.runner ≡ (on (kept_as current items) p machine.state).runner
+runner-here machine current p items same =
+    ap (λ b. (cond b machine.state (moved_to machine.state (runner_on (kept_as current items) p))).runner) (sym (eq-eqb current p same))
+
+pub runner-there : (machine : Snapshot) (current p : ℕ) (items slice : List EndpointId) → current ≢ p → slice ≡ items → (get_or slice p nobody).0 ≡ (on (kept_as current items) p machine.state).runner
+runner-there machine current p items slice other same =
+    ap (λ (xs : List EndpointId). (get_or xs p nobody).0) same
+    ∙ sym (number-at items p)
+    ∙ ap (λ b. (cond b machine.state (moved_to machine.state (runner_on (kept_as current items) p))).runner) (sym (ne_eqb current p other))
+
+-- an operation of any endpoint, whoever runs, leaves those that run elsewhere
+module _ (s : State) (e : ℕ) where
+  abbrev there : State
+  there = as_run_by e s
+
+  abbrev stays : SameElsewhere (schedule_of s) (schedule_of s)
+  stays = same-elsewhere (schedule_of s)
+
+  abbrev StaysBehind : State → Type 0
+  StaysBehind t = SameElsewhere (schedule_of s) (schedule_of (as_run_by s.runner t))
+
+  rests-elsewhere : (op : Op) → SameElsewhere (schedule_of s) (schedule_of (step_elsewhere s e op).state)
+  rests-elsewhere (Call x) = stays
+  rests-elsewhere (Load address size) = accessed-kept StaysBehind there there (Data (number_at there address (size_of size))) (read_fault there address (size_of size)) stays (λ none. stays)
+  rests-elsewhere (Store address size value) =
+      accessed-kept StaysBehind there (stored there address (little_bytes (size_of size) value)) Done (store_fault there address (size_of size)) stays (λ none. stays)
+  rests-elsewhere (Fetch address) = accessed-kept StaysBehind there there (Data (number_at there address 4)) (fetch_fault there address) stays (λ none. stays)
+
+  as-elsewhere : IsSoundState s → (op : Op) → SameElsewhere (schedule_of s) (schedule_of (step_as s e op).state)
+  as-elsewhere sound op = elim (cases_eq s.runner e) [
+    | inl runs ↦ subst (λ (done : Stepped). SameElsewhere (schedule_of s) (schedule_of done.state)) (sym (step_as-runs s e op runs)) (elsewhere-step s sound op)
+    | inr rests ↦ subst (λ (done : Stepped). SameElsewhere (schedule_of s) (schedule_of done.state)) (sym (step_as-rests s e op rests)) (rests-elsewhere op)
+  ]
+
+-- an operation while others write to TX changes nothing of who runs elsewhere either
+read-elsewhere : (run : Run) (begins : Bool) (old new : Snapshot) → IsRead run begins old new → SameElsewhere (schedule_of old.state) (schedule_of new.state)
+read-elsewhere run begins old new read =
+    subst (SameElsewhere (schedule_of old.state)) (ap (λ (t : State). schedule_of t) read.state.same) (λ e. ((λ its. its), (λ its. its)))
+
+done-elsewhere : (old new : Snapshot) (op : Op) (outcome : Outcome) → IsSoundState old.state → IsDone old op outcome new → SameElsewhere (schedule_of old.state) (schedule_of new.state)
+done-elsewhere old new op outcome sound done =
+    subst (λ (t : State). SameElsewhere (schedule_of old.state) (schedule_of t)) (sym done.operated.state) (elsewhere-step old.state sound op)
+
+elsewhere-through : (a b c : Schedule) → SameElsewhere a b → SameElsewhere b c → SameElsewhere a c
+elsewhere-through a b c one other e = ((λ its. (other e).0 ((one e).0 its)), (λ its. (one e).1 ((other e).1 its)))
+
+reading-elsewhere : (o : Option Run) (old new : Snapshot) (op : Op) (outcome : Outcome) → IsSoundState old.state → IsDoneReading o old op outcome new → SameElsewhere (schedule_of old.state) (schedule_of new.state)
+reading-elsewhere None old new op outcome sound done = done-elsewhere old new op outcome sound done
+reading-elsewhere (Some run) old new op outcome sound done =
+    elsewhere-through (schedule_of old.state) (schedule_of done.seen.state) (schedule_of new.state) (read-elsewhere run true old done.seen done.read)
+    (elsewhere-through (schedule_of done.seen.state) (schedule_of done.left.state) (schedule_of new.state)
+    (done-elsewhere done.seen done.left op outcome done.read.sound done.done) (read-elsewhere run false done.left new done.ended))
+
+-- as the processor of the last operation sees it
+module _ (processors : Processors) (old : Snapshot) (sound : IsSoundState old.state) (placed : ArePlaced processors old.state) where
+  pub placed-here : (op : Op) (new : State) → new ≡ (step old.state op).state → ArePlaced processors new
+  placed-here op new is = subst (ArePlaced processors) (sym is) (placed-still processors old.state (step old.state op).state (elsewhere-step old.state sound op) placed)
+
+  pub placed-as : (e : ℕ) (op : Op) (new : State) → new ≡ (step_as old.state e op).state → ArePlaced processors new
+  placed-as e op new is =
+      subst (ArePlaced processors) (sym is) (placed-still processors old.state (step_as old.state e op).state (as-elsewhere old.state e sound op) placed)
+
+  pub placed-reading : (o : Option Run) (op : Op) (outcome : Outcome) (new : Snapshot) → IsDoneReading o old op outcome new → ArePlaced processors new.state
+  placed-reading o op outcome new done = placed-still processors old.state new.state (reading-elsewhere o old new op outcome sound done) placed
+
+-- pages that nobody owns are those of the machine
+pub unowned-on : (processors : Processors) (p : ℕ) (s : State) (old new : Ram) → KeepsUnowned (on processors p s) old new → KeepsUnowned s old new
+unowned-on processors p s old new = from (processors.current == p)
+  where
+    from : (b : Bool) → KeepsUnowned (cond b s (moved_to s (runner_on processors p))) old new → KeepsUnowned s old new
+    from true its = its
+    from false its = λ q behind none. its q behind none
+
+among-elsewhere : (old new : Snapshot) (op : Op) (effect : Effect) → IsSoundState old.state → IsEffectedAmong old op effect new → SameElsewhere (schedule_of old.state) (schedule_of new.state)
+among-elsewhere old new op (effects.Outcome outcome) sound done = reading-elsewhere (pages_read old.state op) old new op outcome sound done.1
+among-elsewhere old new op (effects.Resumed e) sound done =
+    subst (λ (t : State). SameElsewhere (schedule_of old.state) (schedule_of t)) (sym (ap (λ (x : Snapshot). x.state) done.1))
+    (subst (λ (o : Option ℕ). SameElsewhere (schedule_of old.state) (schedule_of (effected old.state op o).state)) done.0 (effect-elsewhere old.state sound op))
+
+-- behind an operation of a processor
+module _ (now turned_to : Clustered) (p : ℕ) (placed : ArePlaced now.processors now.machine.state) (sound : IsSoundState now.machine.state) (low : p < MOST_PROCESSORS)
+    (machine : turned_to.machine ≡ seen_by p now) (processors : turned_to.processors ≡ turned now.processors p now.machine.state)
+    (inside : Clustered) (view : inside ≡ turned_to) where
+  in-range : p < length now.processors.runners
+  in-range = let count = placed.count in omega (arith, count, low)
+
+  some-works : 1 ≤ length now.machine.state.works
+  some-works =
+      let least = sound.sized.some in
+      let works = sound.sized.works in
+      omega (arith, least, works)
+
+  pub state-there : inside.machine.state ≡ on now.processors p now.machine.state
+  state-there = ap (λ (x : Clustered). x.machine.state) view ∙ ap (λ (x : Snapshot). x.state) machine
+
+  pub processors-there : inside.processors ≡ turned now.processors p now.machine.state
+  processors-there = ap (λ (x : Clustered). x.processors) view ∙ processors
+
+  pub placed-behind : (op : Op) (new : State) → new ≡ (step_resuming inside.machine.state op).state → ArePlaced inside.processors new
+  placed-behind op new is =
+      subst₂ ArePlaced (sym processors-there) (sym (is ∙ ap (λ (t : State). (step_resuming t op).state) state-there))
+      (operation-placed now.processors p now.machine.state op in-range placed sound)
+
+  pub placed-among : (op : Op) (effect : Effect) (new : Snapshot) → IsEffectedAmong inside.machine op effect new → ArePlaced inside.processors new.state
+  placed-among op effect new done =
+      placed-still inside.processors inside.machine.state new.state
+      (among-elsewhere inside.machine new op effect (subst IsSoundState (sym state-there) (on-sound-state now.machine.state sound now.processors placed p in-range)) done)
+      (subst₂ ArePlaced (sym processors-there) (sym state-there) (turned-placed now.processors now.machine.state sound.schedule some-works placed p in-range))
+
+  pub placed-interrupted : (new : State) → new ≡ (interrupt inside.machine.state).state → ArePlaced inside.processors new
+  placed-interrupted new is =
+      subst₂ ArePlaced (sym processors-there) (sym (is ∙ ap (λ (t : State). (interrupt t).state) state-there))
+      (interrupt-placed now.processors p now.machine.state in-range placed sound)
+
+  pub grown-behind : (op : Op) (new : State) → new ≡ (step_resuming inside.machine.state op).state → NeverGrow now.machine.state new
+  grown-behind op new is =
+      subst (NeverGrow now.machine.state) (sym (is ∙ ap (λ (t : State). (step_resuming t op).state) state-there))
+      (operation_never_grows now.processors p op now.machine.state (sound-steady now.machine.state sound) (has-runner now.processors p now.machine.state in-range placed sound))
+
+-- what others learn of it
+pub operation-now : (now : Clustered) (p : ℕ) (op : Op) → ArePlaced now.processors now.machine.state → IsSoundState now.machine.state → p < MOST_PROCESSORS → OneOperation now.processors p now.machine.state op
+operation-now now p op placed sound low =
+    let count = placed.count in
+    one_operation now.processors p op now.machine.state (sound-steady now.machine.state sound) (has-runner now.processors p now.machine.state (omega (arith, count, low)) placed sound)

@@ -1,0 +1,83 @@
+-- SPDX-License-Identifier: MIT OR Apache-2.0
+-- What a contract sees of a machine that several processors run, and what an operation of one of them comes to.
+use Rattle.std.specs.Prelude.{◌≡◌, ℕ, Bool, true, nat_lt, List, [], ◌∷◌, Some, None, refl}
+use Rattle.std.specs.List.{list_all}
+use Rattle.std.specs.Coded.{Coded, code_by, coded×, coded_ℕ, coded_list}
+use Rattle.ffa_model.specs.declared.limits.TheConstants.{MOST_PROCESSORS}
+use Rattle.ffa_model.specs.declared.operation.Act.{Act}
+use Rattle.ffa_model.specs.declared.operation.Act.TheVariants.{Operate, Interrupt}
+use Rattle.ffa_model.specs.declared.operation.Effect.{Effect}
+use Rattle.ffa_model.specs.declared.operation.Effect.TheVariants.{Outcome, Resumed}
+use Rattle.ffa_model.specs.declared.operation.Op.{Op}
+use Rattle.ffa_model.specs.declared.schedule.Status.TheVariants.{Blocked}
+use Rattle.ffa_model.specs.Processors.{Processors, Shared, interrupt, on, resumed_by, turned, with_switch}
+use Rattle.ffa_model.specs.State.{State}
+use Rattle.ffa_spmc.specs.Among.{IsDone, IsDoneAlone, IsDoneReading, pages_read}
+use Rattle.ffa_spmc.specs.Snapshot.{Snapshot, coded_snapshot}
+
+-- the machine as the processor of the last operation sees it, and who runs on each other one
+pub record Clustered : Type 0 where
+  pub machine : Snapshot
+  pub processors : Processors
+
+abbrev pub coded_clustered : Coded Clustered
+coded_clustered =
+    code_by (Snapshot × (ℕ × List ℕ)) (coded× coded_snapshot (coded× coded_ℕ (coded_list coded_ℕ)))
+    (λ c. (c.machine, (c.processors.current, c.processors.runners)))
+    (λ p. record { machine = p.0; processors = record { current = p.1.0; runners = p.1.1 } }) (λ _. refl)
+
+-- the machine in another state, with all else as it is
+abbrev pub in_state : Snapshot → State → Snapshot
+in_state x s = record x { state = s }
+
+-- the machine as processor p sees it
+abbrev pub seen_by : ℕ → Clustered → Snapshot
+seen_by p c = in_state c.machine (on c.processors p c.machine.state)
+
+-- An operation of the runner where partitions may be preempted is done as any operation, or lets a preempted partition go on:
+-- then all but the run states is as it was.
+abbrev pub IsEffected : Snapshot → Op → Effect → Snapshot → Type 0
+IsEffected old op (Outcome outcome) new = (resumed_by old.state op ≡ None) × IsDone old op outcome new
+IsEffected old op (Resumed e) new = (resumed_by old.state op ≡ Some e.0) × (new ≡ in_state old (with_switch old.state Blocked e.0))
+
+-- the same while others may write to the runner's TX
+abbrev pub IsEffectedAmong : Snapshot → Op → Effect → Snapshot → Type 0
+IsEffectedAmong old op (Outcome outcome) new =
+    (resumed_by old.state op ≡ None) × IsDoneReading (pages_read old.state op) old op outcome new
+IsEffectedAmong old op (Resumed e) new = (resumed_by old.state op ≡ Some e.0) × (new ≡ in_state old (with_switch old.state Blocked e.0))
+
+-- while nobody else wrote: by what stood in memory
+abbrev pub IsEffectedAlone : State → Op → Effect → State → Type 0
+IsEffectedAlone old op (Outcome outcome) new = IsDoneAlone old op outcome new
+IsEffectedAlone old op (Resumed e) new = new ≡ with_switch old Blocked e.0
+
+-- both, where it is known whether anybody else writes
+abbrev pub IsEffectedReading : Bool → Snapshot → Op → Effect → Snapshot → Type 0
+IsEffectedReading alone old op effect new =
+    IsEffectedAmong old op effect new × (alone ≡ true → IsEffectedAlone old.state op effect new.state)
+
+-- An act in the machine as its processor sees it: an operation is done so, and an interrupt changes the run states alone.
+abbrev pub IsActed : (Snapshot → Op → Effect → Snapshot → Type 0) → Snapshot → Act → Effect → Snapshot → Type 0
+IsActed IsDoneSo old (Operate op) effect new = IsDoneSo old op effect new
+IsActed IsDoneSo old Interrupt effect new =
+    (effect ≡ Outcome (interrupt old.state).outcome) × (new ≡ in_state old (interrupt old.state).state)
+
+-- an act of processor p
+pub record IsActedOn (IsDoneSo : Snapshot → Op → Effect → Snapshot → Type 0) (old : Clustered) (p : ℕ) (act : Act) (effect : Effect) (new : Clustered) : Type 0 where
+  pub acted : IsActed IsDoneSo (seen_by p old) act effect new.machine
+  pub processors : new.processors ≡ turned old.processors p old.machine.state
+
+-- acts that are done one after another, each of the processor beside it, and nothing between them
+abbrev pub AreActed : (Snapshot → Op → Effect → Snapshot → Type 0) → Clustered → List (ℕ × Act) → List Effect → Clustered → Type 0
+AreActed IsDoneSo old [] told new = (told ≡ []) × (new ≡ old)
+AreActed IsDoneSo old (x ∷ xs) told new =
+    (next : Clustered) × (effect : Effect) × (rest : List Effect)
+    × (told ≡ effect ∷ rest) × IsActedOn IsDoneSo old x.0 x.1 effect next × AreActed IsDoneSo next xs rest new
+
+-- there are these processors
+abbrev pub are_processors : List (ℕ × Act) → Bool
+are_processors xs = list_all (λ (x : ℕ × Act). nat_lt x.0 MOST_PROCESSORS) xs
+
+-- without the RAM, and what is held and told
+abbrev pub shared_by : Clustered → Shared
+shared_by c = record { processors = c.processors; state = c.machine.state }

@@ -1,0 +1,51 @@
+// SPDX-License-Identifier: MIT OR Apache-2.0
+//! Who runs, apart from any call: an interrupt preempts a partition, one that was goes on, and another processor does an
+//! operation.
+ghost use Rattle.std.specs.Prelude.{◌≡◌};
+ghost use Rattle.std.specs.Option.{option_map};
+ghost use Rattle.ffa_model.specs.declared.endpoint.EndpointId.{EndpointId};
+ghost use Rattle.ffa_model.specs.Processors.{resumed_by, resumed_by_call, with_switch};
+ghost use Rattle.ffa_model.specs.RunStates.{schedule_of};
+ghost use Rattle.ffa_model.specs.Sound.{MayGoOn, MayStop};
+
+use super::Manager;
+use crate::storage::Store;
+use ffa_model::{Call, EndpointId, Op, Status};
+use ffa_physmem::PhysMem;
+
+impl<M: PhysMem + Drop, S: Store> Manager<M, S> {
+    // The runner stops in this status with the work that it has, and an endpoint goes on with its own.
+    pub(crate) fn switch(&mut self, status: Status, endpoint: EndpointId)
+        requires stops { MayStop (schedule_of self.old.state) status }
+        requires goes { MayGoOn (schedule_of self.old.state) endpoint.0 }
+        ensures { self.new ≡ record self.old { state = with_switch self.old.state status endpoint.0 } }
+    {
+        self.kept.chain.switch(status, endpoint);
+    }
+
+    // The preempted partition that an operation of the runner lets go on, if it does.
+    pub(crate) fn resumed_by(&self, op: &Op) -> Option<EndpointId>
+        ensures { option_map (λ (e : EndpointId). e.0) result ≡ resumed_by self.now.state op.now }
+    {
+        match *op {
+            Op::Call(x) => self.resumed_by_call(ffa_abi::decode(x)),
+            Op::Load { .. } | Op::Store { .. } | Op::Fetch { .. } => None,
+        }
+    }
+
+    // So of a call.
+    fn resumed_by_call(&self, call: Call) -> Option<EndpointId>
+        ensures { option_map (λ (e : EndpointId). e.0) result ≡ resumed_by_call self.now.state call }
+    {
+        match call {
+            Call::Run { target, context } => {
+                if self.kept.chain.may_resume(target, context) {
+                    Some(target)
+                } else {
+                    None
+                }
+            }
+            _ => None,
+        }
+    }
+}
