@@ -48,13 +48,14 @@ needs() {
 }
 
 # Sets `archive` to the core's archive for AArch64: the one that stands ready in the folder ARCHIVES, or the repository's own, which is
-# made: make_archive REPOSITORY
+# made: make_archive REPOSITORY [--general-registers]
 make_archive() {
-    local target=aarch64-unknown-linux-gnu
-    archive=${ARCHIVES:-}/$target/libgorseplumb.a
+    local target=aarch64-unknown-linux-gnu file
+    file=$target${2:+-${2#--}}/libgorseplumb.a
+    archive=${ARCHIVES:-}/$file
     if [[ -e $archive ]]; then return; fi
-    archive=$1/out/$target/libgorseplumb.a
-    "$1/c/archive" --target $target >&2 || fail "the archive isn't made, c/archive ended with $?"
+    archive=$1/out/$file
+    "$1/c/archive" --target $target "${@:2}" >&2 || fail "the archive isn't made, c/archive ended with $?"
 }
 
 # A file that QEMU puts somewhere, as two of its words: loader FILE ADDRESS

@@ -4,13 +4,14 @@ from __future__ import annotations
 
 import ctypes
 from dataclasses import dataclass
-from typing import Iterator, Sequence
+from typing import Iterable, Iterator, Sequence
 from xml.sax.saxutils import escape
 
 from . import _library as c
 from .codes import MANAGER, PAGE_SIZE, Right
 from .errors import NoSuchEndpoint, NoSuchPage
 from .hexadecimal import by_fields
+from .misuse import each_of
 
 
 @dataclass(frozen=True, slots=True)
@@ -123,10 +124,11 @@ def _joined(runs: Sequence[Run]) -> list[Run]:
     return joined
 
 
-def raw_runs(runs: Sequence[Run]) -> ctypes.Array[c.CertRun]:
+def raw_runs(runs: Iterable[Run]) -> ctypes.Array[c.CertRun]:
     """Runs for the library."""
-    raw = (c.CertRun * len(runs))()
-    for place, run in zip(raw, runs):
+    told = each_of("runs", runs, Run)
+    raw = (c.CertRun * len(told))()
+    for place, run in zip(raw, told):
         if (run.first | run.last | run.owner) >> 32 or (run.handle or 0) >> 64 or len(run.rights) > c.MOST_ENDPOINTS:
             raise ValueError(f"no run of a certificate: {run}")
         place.first, place.last, place.owner = run.first, run.last, run.owner

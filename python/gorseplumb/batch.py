@@ -3,7 +3,8 @@
 from __future__ import annotations
 
 import ctypes
-from typing import Iterable, Iterator, Sequence, overload
+from collections.abc import Iterable, Iterator, Sequence
+from typing import overload
 
 from . import _library as c
 from .codes import Fault
@@ -17,6 +18,8 @@ class Batch:
     """Operations as the library takes them, packed once, which may be run as often as one likes."""
 
     def __init__(self, operations: Iterable[Operation]) -> None:
+        if not isinstance(operations, Iterable):
+            refuse("what is run", "a list of operations", operations, f"[{operations!r}]")
         self.operations: tuple[Operation, ...] = tuple(operations)
         self.packed = b"".join(map(_pack, self.operations))
         self.sizes = tuple(4 if isinstance(it, Fetch) else getattr(it, "size", 0) for it in self.operations)

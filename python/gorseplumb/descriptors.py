@@ -11,7 +11,7 @@ from .checks import Flaw
 from .codes import PAGE_SIZE, Form, Function, Kind
 from .errors import MalformedDescriptor
 from .hexadecimal import by_fields, shown
-from .misuse import check_each, check_member, check_member_or_number, refuse
+from .misuse import check_each, check_member, check_member_or_number, check_numbers, refuse
 from .outcomes import Call, Operation, Store
 
 NORMAL_MEMORY = 0x2F
@@ -55,6 +55,7 @@ class Receiver:
     __repr__ = by_fields
 
     def __post_init__(self) -> None:
+        check_numbers(self, "endpoint")
         check_member_or_number("data", self.data, DataAccess)
         check_member_or_number("instructions", self.instructions, InstructionAccess)
 
@@ -72,6 +73,9 @@ class PageRange:
     pages: int
 
     __repr__ = by_fields
+
+    def __post_init__(self) -> None:
+        check_numbers(self, "address", "pages")
 
     @property
     def end(self) -> int:
@@ -94,6 +98,7 @@ class Offer:
 
     def __post_init__(self) -> None:
         check_member("kind", self.kind, Kind)
+        check_numbers(self, "sender", "tag")
         check_each("receivers", self.receivers, Receiver)
         check_each("ranges", self.ranges, PageRange)
 
@@ -146,6 +151,7 @@ class Retrieve:
     __repr__ = by_fields
 
     def __post_init__(self) -> None:
+        check_numbers(self, "sender", "handle", "tag")
         _check_receiver(self.receiver)
         if self.kind is not None:
             check_member_or_number("kind", self.kind, Kind)
@@ -199,6 +205,7 @@ class RetrieveResponse:
 
     def __post_init__(self) -> None:
         check_member_or_number("kind", self.kind, Kind)
+        check_numbers(self, "sender", "handle", "tag")
         _check_receiver(self.receiver)
         check_each("ranges", self.ranges, PageRange)
 
@@ -239,6 +246,9 @@ class Relinquish:
     zero: bool = False
 
     __repr__ = by_fields
+
+    def __post_init__(self) -> None:
+        check_numbers(self, "handle", "endpoint")
 
     def to_bytes(self) -> bytes:
         """The descriptor."""

@@ -9,7 +9,7 @@ from typing import TYPE_CHECKING
 
 from .checks import Check, Flaw
 from .codes import Cause, ErrorCode, Fault, Function
-from .hexadecimal import address_text, short_text
+from .hexadecimal import address_text, short_text, shown
 
 if TYPE_CHECKING:
     from .reasons import Reason
@@ -17,6 +17,9 @@ if TYPE_CHECKING:
 
 class GorseplumbError(Exception):
     """Any error of this package."""
+
+    def __repr__(self) -> str:
+        return f"{type(self).__name__}({', '.join(map(shown, self.args))})"
 
 
 class LibraryError(GorseplumbError):

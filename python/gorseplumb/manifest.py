@@ -13,7 +13,7 @@ from ._library import library
 from .codes import Answer, Cause, Form, Properties, Right
 from .errors import LibraryError, ManifestRefused, OutOfMemory, WrongRamSize
 from .hexadecimal import by_fields
-from .misuse import check_member_or_number, check_number, file_hint, refuse
+from .misuse import check_each, check_member_or_number, check_number, check_numbers, file_hint, refuse
 
 _NIL = uuids.UUID(int=0)
 _RIGHTS = {Right.RO: "ro", Right.RW: "rw", Right.ROX: "rox", Right.RWX: "rwx"}
@@ -30,6 +30,7 @@ class Region:
     __repr__ = by_fields
 
     def __post_init__(self) -> None:
+        check_numbers(self, "base", "pages")
         check_member_or_number("rights", self.rights, Right)
 
 
@@ -45,6 +46,7 @@ class Endpoint:
     __repr__ = by_fields
 
     def __post_init__(self) -> None:
+        check_each("regions", self.regions, Region)
         check_member_or_number("properties", self.properties, Properties)
         check_member_or_number("form", self.form, Form)
         if self.uuid is not None and not isinstance(self.uuid, uuids.UUID):
@@ -60,6 +62,10 @@ class Manifest:
     endpoints: Sequence[Endpoint]
 
     __repr__ = by_fields
+
+    def __post_init__(self) -> None:
+        check_numbers(self, "ram_base", "ram_blocks")
+        check_each("endpoints", self.endpoints, Endpoint)
 
     @classmethod
     def read(cls, text: str | bytes | os.PathLike[str]) -> Manifest:

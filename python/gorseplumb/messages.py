@@ -9,7 +9,7 @@ from dataclasses import dataclass
 from .codes import Form, Function, Properties
 from .descriptors import stores
 from .hexadecimal import by_fields
-from .misuse import check_member
+from .misuse import check_member, check_member_or_number, check_numbers, refuse
 from .outcomes import Call, Operation
 
 HEADER_SIZE = 20
@@ -31,6 +31,11 @@ class IndirectMessage:
     offset: int = HEADER_SIZE
 
     __repr__ = by_fields
+
+    def __post_init__(self) -> None:
+        check_numbers(self, "sender", "receiver", "offset")
+        if not isinstance(self.payload, (bytes, bytearray, memoryview)):
+            refuse("payload", "bytes", self.payload, "its encode()" if isinstance(self.payload, str) else None)
 
     def to_bytes(self) -> bytes:
         """Header and message, with zeros between."""
@@ -71,6 +76,10 @@ class PartitionInfo:
     contexts: int = 1
 
     __repr__ = by_fields
+
+    def __post_init__(self) -> None:
+        check_numbers(self, "identifier", "contexts")
+        check_member_or_number("properties", self.properties, Properties)
 
     def to_bytes(self, form: Form = Form.FFA_1_1) -> bytes:
         """The descriptor, as the machine writes it."""

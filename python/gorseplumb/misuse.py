@@ -5,17 +5,19 @@ from __future__ import annotations
 
 import difflib
 import reprlib
-from collections.abc import Sequence
+from collections.abc import Iterable, Sequence
 from enum import Enum
 from pathlib import Path
-from typing import NoReturn
+from typing import NoReturn, TypeVar
 
 from .hexadecimal import shown
 
+_T = TypeVar("_T")
 _MOST_LISTED = 8
 _MOST_SHOWN = 200
+_MOST_OF_VALUE = 60
 _brief = reprlib.Repr()
-_brief.maxstring = _brief.maxother = 60
+_brief.maxstring = _brief.maxother = _MOST_OF_VALUE
 
 
 def check_number(what: str, given: object) -> None:
@@ -24,6 +26,12 @@ def check_number(what: str, given: object) -> None:
         return
     meant = _number_of(given)
     refuse(what, "a number", given, f"0x{meant:X}" if meant is not None else None)
+
+
+def check_numbers(of: object, *names: str) -> None:
+    """Refuses a value of which one of these fields is no number."""
+    for name in names:
+        check_number(name, getattr(of, name))
 
 
 def check_registers(given: object) -> None:
@@ -62,6 +70,17 @@ def check_each(what: str, given: object, kind: type) -> None:
             refuse(f"{what}[{place}]", _with_article(kind.__name__), it)
 
 
+def each_of(what: str, given: Iterable[_T], kind: type[_T]) -> tuple[_T, ...]:
+    """What an iterable has, as a tuple; refused is what is none, and what it has of another type."""
+    if not isinstance(given, Iterable):
+        has_it = hasattr(given, what)
+        instead = f"[{kind.__name__}(..)]" if isinstance(given, kind) else f"its {what}" if has_it else None
+        refuse(what, f"an iterable of {kind.__name__}", given, instead)
+    told = tuple(given)
+    check_each(what, told, kind)
+    return told
+
+
 def refuse(what: str, wanted: str, given: object, instead: str | None = None) -> NoReturn:
     """Raises it."""
     hint = f": give {instead}" if instead is not None else ""
@@ -94,8 +113,13 @@ def _described(given: object) -> str:
         return _name_of(given)
     if given is None:
         return "None"
-    text = shown(given) if type(given) is int else _brief.repr(given)
+    is_plain = type(given) in (int, tuple, list)
+    text = _cut(shown(given)) if is_plain else _brief.repr(given)
     return text if text.startswith(type(given).__name__) else f"the {type(given).__name__} {text}"
+
+
+def _cut(text: str) -> str:
+    return text if len(text) <= _MOST_OF_VALUE else f"{text[: _MOST_OF_VALUE - 3]}..."
 
 
 def _name_of(member: Enum) -> str:

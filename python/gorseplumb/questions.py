@@ -168,8 +168,8 @@ class Questions:
     def audit(self, runs: Iterable[Run] | None = None) -> bool:
         """Whether the tables in RAM give just the access that these runs say, which may be a list, a generator or any
         other iterable: the machine's own, if none are given."""
-        told = tuple(self.runs() if runs is None else runs)
-        answer = library.audit(self._raw, raw_runs(told), len(told))
+        told = raw_runs(self.runs() if runs is None else runs)
+        answer = library.audit(self._raw, told, len(told))
         if answer == Answer.NO_MEMORY:
             raise OutOfMemory("an allocation was refused")
         if answer == Answer.NO_MACHINE:

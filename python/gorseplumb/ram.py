@@ -58,13 +58,15 @@ class Ram:
         where RAM begins at `base`. Both may be any iterable. The checker knows nothing of a machine."""
         from .access import raw_runs
 
-        tables, named = tuple(roots), tuple(runs)  # read before the loan, since they may ask this RAM
+        tables, named = tuple(roots), raw_runs(runs)  # read before the loan, since they may ask this RAM
+        for number in (base, *tables):
+            check_number("an address", number)
         if base >> 32 or any(root >> 32 for root in tables):
             raise ValueError("RAM and its tables stand below 4 GiB")
         lent = self.lend()
         try:
             told = (ctypes.c_uint32 * len(tables))(*tables)
-            answer = library.audit_tables(lent, base, told, len(tables), raw_runs(named), len(named))
+            answer = library.audit_tables(lent, base, told, len(tables), named, len(named))
         finally:
             self.take_back()
         if answer == Answer.NO_MEMORY:

@@ -3,6 +3,7 @@
 from __future__ import annotations
 
 from dataclasses import replace
+from typing import Any, Callable
 
 import pytest
 from conftest import EXAMPLES, Program
@@ -82,6 +83,37 @@ def test_judges_what_any_iterable_gives(partitions: Machine) -> None:
     assert partitions.audit(run for run in partitions.runs())
     assert not partitions.audit(run for run in partitions.runs() if run.first != 0x28)
     assert not partitions.audit(iter(()))
+
+
+def test_says_what_are_no_runs(partitions: Machine) -> None:
+    run = partitions.run_at(0)
+    given: list[tuple[Any, str]] = [  # a type checker refuses these
+        (run, f"runs is an iterable of Run, and not {run!r}"[:60]),
+        (partitions.access_map(), "runs is an iterable of Run, and not AccessMap("),
+        (5, "runs is an iterable of Run, and not the int 5"),
+        ([run, 1], "runs[1] is a Run, and not the int 1"),
+        ("run", "runs[0] is a Run, and not the str 'r'"),
+    ]
+    for odd, told in given:
+        asks: list[Callable[[], object]] = [
+            lambda: partitions.audit(odd),
+            lambda: Ram(2).audit(0x40000000, [0x40000000], odd),
+        ]
+        for asked in asks:
+            with pytest.raises(TypeError) as wrong:
+                asked()
+            assert str(wrong.value).startswith(told)
+    with pytest.raises(TypeError, match=r": give \[Run\(\.\.\)\]$"):
+        partitions.audit(untyped(run))
+    with pytest.raises(TypeError, match=": give its runs$"):
+        partitions.audit(untyped(partitions.access_map()))
+    with pytest.raises(TypeError, match="^an address is a number, and not the str '40000000': give 0x40000000$"):
+        Ram(2).audit(0x40000000, untyped(["40000000"]), [run])
+
+
+def untyped(value: object) -> Any:
+    """A value of which no type checker knows what it is."""
+    return value
 
 
 def test_prints_what_the_program_audits(program: Program) -> None:

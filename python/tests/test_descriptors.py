@@ -7,9 +7,9 @@ from typing import Any, Callable
 
 import pytest
 
-from gorseplumb import DataAccess, Flaw, Form, InstructionAccess, Kind, MalformedDescriptor, Offer, PageRange
-from gorseplumb import PartitionInfo, Properties, Receiver, Relinquish, Retrieve, RetrieveResponse, Right, Store
-from gorseplumb import read_partitions
+from gorseplumb import DataAccess, Flaw, Form, IndirectMessage, InstructionAccess, Kind, MalformedDescriptor, Offer
+from gorseplumb import PageRange, PartitionInfo, Properties, Receiver, Relinquish, Retrieve, RetrieveResponse, Right
+from gorseplumb import Store, read_partitions
 
 FORMS = [Form.FFA_1_1, Form.COMPACT]
 RW = DataAccess.RW
@@ -238,7 +238,7 @@ def test_refuses_what_is_no_part_of_a_descriptor() -> None:
         (lambda: Offer(Kind.LEND, 1, untyped((2,)), LEND.ranges), "receivers[0] is a Receiver, and not the int 2"),
         (
             lambda: Offer(Kind.LEND, 1, LEND.receivers, untyped((LEND.ranges[0], (4096, 1)))),
-            "ranges[1] is a PageRange, and not the tuple (4096, 1)",
+            "ranges[1] is a PageRange, and not the tuple (0x1000, 1)",
         ),
         (
             lambda: Retrieve(1, 2, untyped(0x8002)),
@@ -249,6 +249,17 @@ def test_refuses_what_is_no_part_of_a_descriptor() -> None:
             "kind is a Kind, and not the str 'lend': give Kind.LEND",
         ),
         (lambda: RetrieveResponse(Kind.LEND, 1, 2, untyped(None), ()), "receiver is a Receiver, and not None"),
+        (lambda: Receiver(untyped("8002")), "endpoint is a number, and not the str '8002': give 0x8002"),
+        (lambda: PageRange(untyped("40028000"), 1), "address is a number, and not the str '40028000': give 0x40028000"),
+        (lambda: Offer(Kind.LEND, untyped(None), (), ()), "sender is a number, and not None"),
+        (lambda: Retrieve(1, untyped(1.5), Receiver(3)), "handle is a number, and not the float 1.5"),
+        (lambda: Relinquish(1, untyped("vm")), "endpoint is a number, and not the str 'vm'"),
+        (lambda: IndirectMessage(1, 2, untyped("hi")), "payload is bytes, and not the str 'hi': give its encode()"),
+        (lambda: IndirectMessage(1, untyped("8002"), b"hi"), "receiver is a number, and not the str '8002': give 0x8002"),
+        (
+            lambda: PartitionInfo(0x8001, untyped("NOTIFICATIONS")),
+            "properties is a Properties, and not the str 'NOTIFICATIONS': give Properties.NOTIFICATIONS",
+        ),
     ]
     for make, told in makes:
         with pytest.raises(TypeError) as wrong:

@@ -51,6 +51,14 @@ def test_is_copied_with_its_reason() -> None:
     assert_is_copied(fault.value)
 
 
+def test_shows_its_numbers_in_hexadecimal() -> None:
+    assert repr(call_refused(100, 0x84000083)) == "CallRefused(0x64, 0x84000083, None, None)"
+    assert repr(NoSuchEndpoint(0x8005)) == "NoSuchEndpoint(0x8005)"
+    assert repr(ManifestRefused(Cause.TOML)) == "ManifestRefused(Cause.TOML, '')"
+    fault = access_fault(Fault.TRANSLATION, 0x40020000, 0x8001)
+    assert repr(fault) == "TranslationFault(Fault.TRANSLATION, 0x40020000, 0x8001, None)"
+
+
 def assert_is_copied(wrong: GorseplumbError) -> None:
     for other in (pickle.loads(pickle.dumps(wrong)), copy.copy(wrong), copy.deepcopy(wrong)):
         assert type(other) is type(wrong) and str(other) == str(wrong) and vars(other) == vars(wrong)

@@ -183,6 +183,7 @@ def test_says_what_is_no_number_and_no_operation() -> None:
     text: Any = "40010000"
     run: Any = Function.FFA_RUN
     half: Any = 1.5
+    load: Any = Load(RAM, 1)
     number = "a number, and not the str '40010000': give 0x40010000"
     kinds = "an operation is a Call, a Load, a Store or a Fetch, and not"
     with Machine(MANIFEST) as machine:
@@ -218,6 +219,11 @@ def test_says_what_is_no_number_and_no_operation() -> None:
             (
                 lambda: machine.send(run, RAM),
                 "a request is an Offer, a Retrieve, a Relinquish or an IndirectMessage, and not Function.FFA_RUN",
+            ),
+            (
+                lambda: machine.run(load),
+                "what is run is a list of operations, and not Load(address=0x40000000, size=1): "
+                "give [Load(address=0x40000000, size=1)]",
             ),
         ]
         for asked, told in asks:

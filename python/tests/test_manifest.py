@@ -50,6 +50,7 @@ def test_reads_what_a_text_says() -> None:
 def test_names_the_member_that_is_meant() -> None:
     # a type checker refuses these
     odd: list[Any] = ["rw", "rw-", "compact", "sends_requests", "all", "00112233-4455-6677-8899-aabbccddeeff"]
+    odd += ["40010000", (0x40010000, 16)]
     region = Region(0x40010000, 1)
     makes: list[tuple[Callable[[], object], str]] = [
         (lambda: Region(0, 1, odd[0]), "rights is a Right, and not the str 'rw': give Right.RW"),
@@ -65,6 +66,10 @@ def test_names_the_member_that_is_meant() -> None:
             "Properties.SENDS_REQUESTS or Properties.INDIRECT_MESSAGES or Properties.NOTIFICATIONS",
         ),
         (lambda: Endpoint([region], uuid=odd[5]), f"uuid is a UUID, and not the str '{odd[5]}': give UUID('{odd[5]}')"),
+        (lambda: Region(odd[6], 16), "base is a number, and not the str '40010000': give 0x40010000"),
+        (lambda: Manifest(odd[6], 1, []), "ram_base is a number, and not the str '40010000': give 0x40010000"),
+        (lambda: Endpoint([odd[7]]), "regions[0] is a Region, and not the tuple (0x40010000, 0x10)"),
+        (lambda: Manifest(0x40000000, 1, [odd[7]]), "endpoints[0] is an Endpoint, and not the tuple (0x40010000, 0x10)"),
     ]
     for make, told in makes:
         with pytest.raises(TypeError) as wrong:

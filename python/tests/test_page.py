@@ -34,6 +34,14 @@ def test_the_first_example_prints_what_it_says(monkeypatch: pytest.MonkeyPatch) 
     assert printed.getvalue().splitlines() == told and len(told) == 2
 
 
+def test_the_arguments_of_calls_are_those_of_help() -> None:
+    told = dict(re.findall(r"^ +(FFA_\w+\*?) +(\S.*)$", Machine.do.__doc__ or "", re.M))
+    page: dict[str, str] = {}
+    for names, arguments in re.findall(r"^((?:FFA_\w+\*?,?\s+)+)(\S.*)$", block("Calls by name"), re.M):
+        page |= {name: arguments for name in re.findall(r"[\w*]+", names)}
+    assert page == {name: arguments for name, arguments in told.items() if arguments != "-"} and len(page) == 21
+
+
 def test_the_session_answers_what_it_shows() -> None:
     session = Session(EXAMPLES / "partitions.toml")
     printed: list[str] = []

@@ -11,7 +11,7 @@ type Piece = (usize, u32, u32);
 /// Where a number stands: its pieces, the lowest one first.
 type Place = (&'static str, &'static [Piece]);
 
-/// What the registers of a call or an answer hold. (tests/copies writes it and the next one, as Python has them.)
+/// What the registers of a call or an answer hold. (tests/copies writes it and the next two, as Python has them.)
 const fn arguments(function: Function) -> &'static [Place] {
     match function {
         Function::Error => &[("code", &[(2, 0, 32)])],
@@ -70,6 +70,34 @@ const fn arguments(function: Function) -> &'static [Place] {
         Function::NotificationGet => {
             &[("receiver", &[(1, 0, 16)]), ("context", &[(1, 16, 16)]), ("flags", &[(2, 0, 32)])]
         }
+        _ => &[],
+    }
+}
+
+/// Which arguments of a call may be left out.
+const fn optional(function: Function) -> &'static [&'static str] {
+    match function {
+        Function::RxtxUnmap => &["endpoint"],
+        Function::PartitionInfoGet => &["uuid", "count_only"],
+        Function::MsgWait | Function::Yield => &["partition", "context"],
+        Function::Run | Function::NotificationGet => &["context"],
+        Function::MsgSendDirectReq
+        | Function::MsgSendDirectReq64
+        | Function::MsgSendDirectResp
+        | Function::MsgSendDirectResp64 => &["flags", "payload0", "payload1", "payload2", "payload3", "payload4"],
+        Function::MemDonate
+        | Function::MemDonate64
+        | Function::MemLend
+        | Function::MemLend64
+        | Function::MemShare
+        | Function::MemShare64
+        | Function::MemRetrieveReq
+        | Function::MemRetrieveReq64 => &["fragment", "address", "pages"],
+        Function::MemRetrieveResp => &["fragment"],
+        Function::MemReclaim
+        | Function::NotificationBind
+        | Function::NotificationUnbind
+        | Function::NotificationSet => &["flags"],
         _ => &[],
     }
 }
@@ -203,6 +231,13 @@ pub enum ArgumentError {
         /// Which of the arguments that are given, from 0.
         place: usize,
     },
+    /// An argument is missing, and may not be left out.
+    Missing {
+        /// Which function.
+        function: Function,
+        /// The argument's name.
+        name: &'static str,
+    },
     /// An argument is given twice.
     Twice {
         /// Its name.
@@ -224,11 +259,11 @@ impl fmt::Display for ArgumentError {
         match *self {
             ArgumentError::Unknown { function, place } => {
                 write!(to, "{function} has no argument of the name at place {place}: it has ")?;
-                let names = arguments(function);
-                for (index, (name, _)) in names.iter().enumerate() {
-                    write!(to, "{}{name}", if index == 0 { "" } else { ", " })?;
-                }
-                to.write_str(if names.is_empty() { "none" } else { "" })
+                list(function, to)
+            }
+            ArgumentError::Missing { function, name } => {
+                write!(to, "{function} lacks the argument {name}: it has ")?;
+                list(function, to)
             }
             ArgumentError::Twice { name } => write!(to, "{name} is given twice"),
             ArgumentError::TooLarge { name, bits, value } => write!(to, "{name} has {bits} bits, and is {value:#X}"),
@@ -236,10 +271,20 @@ impl fmt::Display for ArgumentError {
     }
 }
 
+/// The arguments of a function, those in brackets that may be left out.
+fn list(function: Function, to: &mut fmt::Formatter<'_>) -> fmt::Result {
+    for (index, (name, _)) in arguments(function).iter().enumerate() {
+        let (open, close) = if optional(function).contains(name) { ("[", "]") } else { ("", "") };
+        write!(to, "{}{open}{name}{close}", if index == 0 { "" } else { ", " })?;
+    }
+    to.write_str(if arguments(function).is_empty() { "none" } else { "" })
+}
+
 #[cfg(feature = "std")]
 impl std::error::Error for ArgumentError {}
 
-/// Registers that make a call of these arguments. What isn't given is 0, but for `fragment`, which is `length`.
+/// Registers that make a call of these arguments. One that may be left out is 0 then, but for `fragment`, which is
+/// `length`.
 ///
 /// ```
 /// # use gorseplumb::*;
@@ -247,11 +292,13 @@ impl std::error::Error for ArgumentError {}
 /// assert_eq!(map, registers([0x8400_0066, 0x4001_E000, 0x4001_F000, 1]));
 /// let error = encode(Function::Run, &[("partition", 0x1_8001)]).unwrap_err();
 /// assert_eq!(error.to_string(), "partition has 16 bits, and is 0x18001");
+/// let error = encode(Function::Run, &[]).unwrap_err();
+/// assert_eq!(error.to_string(), "FFA_RUN lacks the argument partition: it has partition, [context]");
 /// # Ok::<(), ArgumentError>(())
 /// ```
 ///
 /// # Errors
-/// [`ArgumentError`], of the first argument that has one.
+/// [`ArgumentError`], of the first argument given that has one, or else that is missing.
 pub fn encode(function: Function, given: &[(&str, u128)]) -> Result<Registers, ArgumentError> {
     let mut call = registers([function.number().into()]);
     let places = arguments(function);
@@ -268,6 +315,11 @@ pub fn encode(function: Function, given: &[(&str, u128)]) -> Result<Registers, A
         write(&mut call, pieces, *value);
     }
     let is_given = |wanted: &str| given.iter().any(|(name, _)| *name == wanted);
+    for (name, _) in places {
+        if !is_given(name) && !optional(function).contains(name) {
+            return Err(ArgumentError::Missing { function, name });
+        }
+    }
     if is_given("length") && !is_given("fragment") {
         call[2] = call[1];
     }

@@ -49,14 +49,14 @@ fn what_is_written_is_read() {
         let names: Vec<&str> = empty.iter().map(|(name, _)| name).collect();
         // Each argument alone, full: the others are none, and one bit more has no room.
         let mut all = [0; 8];
-        for name in names {
+        for name in &names {
             let ones =
                 decode(&[&[u64::from(function.number())][..], &[u64::MAX; 7]].concat().try_into().unwrap(), None);
             let full = ones.unwrap().get(name).unwrap();
-            let given = [(name, full), ("fragment", 0)];
-            let call = encode(*function, &given[..if name == "length" { 2 } else { 1 }]).unwrap();
+            let given: Vec<_> = names.iter().map(|it| (*it, if it == name { full } else { 0 })).collect();
+            let call = encode(*function, &given).unwrap();
             for (other, value) in decode(&call, None).unwrap().iter() {
-                assert_eq!(value, if other == name { full } else { 0 }, "{function:?}: {name}, {other}");
+                assert_eq!(value, if other == *name { full } else { 0 }, "{function:?}: {name}, {other}");
             }
             for (all, register) in all.iter_mut().zip(call).skip(1) {
                 assert_eq!(*all & register, 0, "{function:?}: {name} has a bit of another argument");
@@ -76,12 +76,18 @@ fn what_is_written_is_read() {
 fn what_makes_no_call() {
     let error = encode(Function::Run, &[("context", 0), ("endpoint", 1)]).unwrap_err();
     assert_eq!(error, ArgumentError::Unknown { function: Function::Run, place: 1 });
-    let told = "FFA_RUN has no argument of the name at place 1: it has partition, context";
+    let told = "FFA_RUN has no argument of the name at place 1: it has partition, [context]";
     assert_eq!(error.to_string(), told);
     let error = encode(Function::IdGet, &[("context", 0)]).unwrap_err();
     assert_eq!(error.to_string(), "FFA_ID_GET has no argument of the name at place 0: it has none");
     let error = encode(Function::Run, &[("context", 0), ("context", 0)]).unwrap_err();
     assert_eq!(error.to_string(), "context is given twice");
+    let error = encode(Function::RxtxMap, &[("rx", 0x4001_F000)]).unwrap_err();
+    assert_eq!(error, ArgumentError::Missing { function: Function::RxtxMap, name: "tx" });
+    assert_eq!(error.to_string(), "FFA_RXTX_MAP lacks the argument tx: it has tx, rx, pages");
+    let error = encode(Function::MemReclaim, &[("flags", 1)]).unwrap_err();
+    assert_eq!(error.to_string(), "FFA_MEM_RECLAIM lacks the argument handle: it has handle, [flags]");
+    assert_eq!(encode(Function::MsgWait, &[]), Ok(registers([0x8400_006B])));
     assert_eq!(encode(Function::MemShare, &[("length", 0x60)]), Ok(registers([0x8400_0073, 0x60, 0x60])));
     let parts = encode(Function::MemShare, &[("length", 0x60), ("fragment", 0x20)]);
     assert_eq!(parts, Ok(registers([0x8400_0073, 0x60, 0x20])));
