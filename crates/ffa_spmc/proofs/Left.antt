@@ -1,6 +1,6 @@
 -- SPDX-License-Identifier: MIT OR Apache-2.0
 -- The machine that an operation leaves while others write.
-use Rattle.std.proofs.Common.{◌≡◌, ◌∙◌, ℕ, ◌-◌, ◌/◌, ◌^◌, ◌<◌, Bool, true, false, cond, refl, ap, sym, subst, List, length, Option, Some, None, Ok, Err, inl, inr}
+use Rattle.std.proofs.Common.{◌≡◌, ◌∙◌, ℕ, ◌-◌, ◌/◌, ◌^◌, ◌<◌, Bool, true, false, cond, refl, ap, sym, subst, List, length, Option, Some, None, Ok, Err, inl, inr, [], ◌∷◌}
 use Rattle.std.specs.Prelude.{nat_le, nat_lt, ◌&&◌}
 use Rattle.std.specs.Option.{option_and_then, option_map}
 use Rattle.std.proofs.lemmas.Bool.{cases_Bool, false≢true}
@@ -8,34 +8,40 @@ use Rattle.std.proofs.lemmas.Option.{none-some, same_Some}
 use Rattle.ffa_model.specs.declared.leaf.Leaf.{Leaf}
 use Rattle.ffa_model.specs.declared.operation.Op.{Op}
 use Rattle.ffa_model.specs.declared.rights.Rights.{Rights}
-use Rattle.ffa_model.specs.Access.{access}
+use Rattle.ffa_model.specs.declared.operation.Outcome.{Outcome}
+use Rattle.ffa_model.specs.Access.{Ownership, access}
 use Rattle.ffa_model.specs.Agreement.{Agrees, blocks_of}
 use Rattle.ffa_model.specs.Identifiers.{identifier}
 use Rattle.ffa_model.specs.Lists.{map_at}
 use Rattle.ffa_model.specs.Manifest.{root_of}
 use Rattle.ffa_model.specs.Memory.{access_at, page_of_address}
 use Rattle.ffa_model.specs.Ram.{Ram, page_of}
-use Rattle.ffa_model.specs.Rights.{may_store}
+use Rattle.ffa_model.specs.Rights.{is_within, may_store}
 use Rattle.ffa_model.specs.SoundState.{IsSoundPage, IsSoundState, are_bytes}
-use Rattle.ffa_model.specs.State.{Page, Party, State, page_at}
+use Rattle.ffa_model.specs.State.{Page, Party, State, own_right_of, page_at}
 use Rattle.ffa_model.specs.Walk.{Answer, mapped_answer, walk}
 use Rattle.ffa_model.proofs.Accesses.{length-map_at}
+use Rattle.ffa_laws.specs.Isolation.{NeverGrow}
 use Rattle.ffa_laws.specs.Readable.{blank, blank_where}
 use Rattle.ffa_laws.specs.Reads.{AreBeside}
+use Rattle.ffa_laws.proofs.Blanks.{blank-none, ownership-b, page-b}
 use Rattle.ffa_laws.proofs.Changes.{AreRewritten, standing}
 use Rattle.ffa_laws.proofs.ElsewhereLaws.{fixed-step_as, sound-step_as}
+use Rattle.ffa_laws.proofs.Growth.{never_grow, step_never_grows}
 use Rattle.ffa_laws.proofs.Kept.{step-fixed}
 use Rattle.ffa_laws.proofs.Maps.{at-map_at, map_at-alike, map_at-twice}
 use Rattle.ffa_laws.proofs.NoMore.{whole-beside}
 use Rattle.ffa_laws.proofs.SoundKept.{pages-sound}
 use Rattle.ffa_laws.proofs.SoundOperations.{step-sound}
+use Rattle.ffa_laws.proofs.SoundSteady.{sound-steady}
+use Rattle.ffa_laws.proofs.Within.{within-through}
 use Rattle.ffa_physmem.specs.Moments.{Step}
 use Rattle.ffa_stage2.specs.Amid.{CouldWrite, Moment, is_one_of}
 use Rattle.ffa_stage2.specs.Moments.{walk_at}
 use Rattle.ffa_stage2.specs.Rest.{AreAtRest}
 use Rattle.ffa_spmc.specs.Amid.{EndsAmid, StandsAmid}
 use Rattle.ffa_spmc.specs.Cached.{AreWalks}
-use Rattle.ffa_spmc.specs.Meanwhile.{IsLeft, LeavesAmid, MayStore}
+use Rattle.ffa_spmc.specs.Meanwhile.{AreDoneAmid, IsLeft, LeavesAmid, MayStore}
 use Rattle.ffa_spmc.specs.Mixtures.{StayMixed, TablesRest}
 use Rattle.ffa_spmc.specs.Operated.{IsOperated, IsOperatedAs}
 use Rattle.ffa_spmc.specs.Snapshot.{Snapshot}
@@ -226,3 +232,40 @@ left-operated_as old new e op done was sound =
     (ap (λ (s : State). length s.parties) done.state ∙ ap (λ (f : List Party × ℕ). length f.0) (fixed-step_as old.state e op))
     (ap (λ (s : State). s.ram_base) done.state ∙ ap (λ (f : List Party × ℕ). f.1) (fixed-step_as old.state e op))
     (ap (λ (s : State). length s.pages) done.state ∙ pages-as old.state e op) done.walks done.mixtures
+
+-- ---- one after another
+
+-- other bytes change no own right, and give the manager's pages to nobody
+same-own : (s t : State) (named : ℕ → Bool) → AreBeside s t named → (p : ℕ) → own_right_of t p ≡ own_right_of s p
+same-own s t named beside p =
+    sym (ap (λ (o : Ownership). o.own_right p) (ownership-b t named)) ∙ ap (λ (u : State). own_right_of u p) (sym beside.same)
+    ∙ ap (λ (o : Ownership). o.own_right p) (ownership-b s named)
+
+same-none : (s t : State) (named : ℕ → Bool) → AreBeside s t named → (p : ℕ) → page_at s p ≡ None → page_at t p ≡ None
+same-none s t named beside p none =
+    of (named p) (page_at t p)
+    (sym (page-b t named p) ∙ ap (λ (u : State). page_at u p) (sym beside.same) ∙ page-b s named p ∙ ap (blank_where (named p)) none ∙ blank-none (named p))
+  where
+    of : (c : Bool) (o : Option Page) → blank_where c o ≡ None → o ≡ None
+    of c None is = refl
+    of true (Some q) is = absurd (none-some (record q { bytes = [] }) (sym is))
+    of false (Some q) is = absurd (none-some q (sym is))
+
+pub safe-amid : (old : Snapshot) (ops : List Op) (told : List Outcome) (new : Snapshot) → IsSoundState old.state → AreDoneAmid old ops told new
+    → IsSoundState new.state × NeverGrow old.state new.state
+safe-amid old [] told new sound (none, same) =
+    subst (λ (x : Snapshot). IsSoundState x.state × NeverGrow old.state x.state) (sym same) (sound, never_grow old.state [] (sound-steady old.state sound))
+safe-amid old (op ∷ ops) told new sound (done, next, memory, written, rest, is, operated, its, more) =
+    let (safe, grown) = safe-amid next ops rest new its.sound more in
+    let first : NeverGrow old.state done.state = subst (NeverGrow old.state) (sym operated.state) (step_never_grows old.state op (sound-steady old.state sound)) in (
+      safe,
+      record {
+        own_right = λ p.
+            within-through (own_right_of new.state p) (own_right_of done.state p) (own_right_of old.state p)
+            (subst (λ (r : Option Rights). is_within (own_right_of new.state p) r ≡ true) (same-own done.state next.state (is_one_of written) its.state p) (grown.own_right p))
+            (first.own_right p);
+        within = grown.within;
+        manager = λ p none. grown.manager p (same-none done.state next.state (is_one_of written) its.state p (first.manager p none));
+        alone = grown.alone;
+      },
+    )

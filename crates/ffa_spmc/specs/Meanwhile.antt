@@ -1,17 +1,21 @@
 -- SPDX-License-Identifier: MIT OR Apache-2.0
--- The machine that an operation leaves where others wrote to memory while it was done.
-use Rattle.std.specs.Prelude.{◌≡◌, ◌⊎◌, ◌<◌, true, ℕ, List, length, Some}
+-- The machine that an operation leaves where others wrote to memory while it was done, and so of lists of operations.
+use Rattle.std.specs.Prelude.{◌≡◌, ◌⊎◌, ◌<◌, true, ℕ, List, length, Some, [], ◌∷◌}
+use Rattle.ffa_model.specs.declared.operation.Op.{Op}
+use Rattle.ffa_model.specs.declared.operation.Outcome.{Outcome}
 use Rattle.ffa_model.specs.Access.{access}
 use Rattle.ffa_model.specs.Agreement.{Agrees, blocks_of}
 use Rattle.ffa_model.specs.Identifiers.{identifier}
 use Rattle.ffa_model.specs.Rights.{may_store}
 use Rattle.ffa_model.specs.SoundState.{IsSoundState}
 use Rattle.ffa_model.specs.State.{State}
+use Rattle.ffa_model.specs.Step.{step}
 use Rattle.ffa_laws.specs.Reads.{AreBeside}
 use Rattle.ffa_physmem.specs.Moments.{Step}
 use Rattle.ffa_stage2.specs.Amid.{Amid, Moment, is_one_of}
 use Rattle.ffa_spmc.specs.Cached.{AreWalks}
 use Rattle.ffa_spmc.specs.Mixtures.{TablesRest}
+use Rattle.ffa_spmc.specs.Operated.{IsOperated}
 use Rattle.ffa_spmc.specs.Snapshot.{Snapshot}
 
 -- some endpoint has the right to write to page p in the one state, or in the other
@@ -42,3 +46,12 @@ LeavesAmid old new =
     → Amid (length old.state.parties) (blocks_of old.state) (record { history = begun; ram = old.ram })
     (record { history = ended; ram = new.ram }) memory written
     → (left : Snapshot) × IsLeft old new left memory written
+
+-- Operations are done one after another while others write, and between which they write: each as promised of the machine that
+-- was left before it, with the small machine's outcome.
+abbrev pub AreDoneAmid : Snapshot → List Op → List Outcome → Snapshot → Type 0
+AreDoneAmid old [] told new = (told ≡ []) × (new ≡ old)
+AreDoneAmid old (op ∷ ops) told new =
+    (done : Snapshot) × (left : Snapshot) × (memory : Moment) × (written : List ℕ) × (rest : List Outcome)
+    × (told ≡ (step old.state op).outcome ∷ rest) × IsOperated old op done × IsLeft old done left memory written
+    × AreDoneAmid left ops rest new

@@ -1,11 +1,13 @@
 // SPDX-License-Identifier: MIT OR Apache-2.0
 //! A law of operations while others write to memory.
 
-ghost use Rattle.std.specs.Prelude.{ℕ};
+ghost use Rattle.std.specs.Prelude.{ℕ, List};
 ghost use Rattle.ffa_model.specs.declared.operation.Op.{Op};
+ghost use Rattle.ffa_model.specs.declared.operation.Outcome.{Outcome};
 ghost use Rattle.ffa_model.specs.Agreement.{Agrees};
 ghost use Rattle.ffa_model.specs.SoundState.{IsSoundState};
-ghost use Rattle.ffa_spmc.specs.Meanwhile.{LeavesAmid};
+ghost use Rattle.ffa_laws.specs.Isolation.{NeverGrow};
+ghost use Rattle.ffa_spmc.specs.Meanwhile.{AreDoneAmid, LeavesAmid};
 ghost use Rattle.ffa_spmc.specs.Operated.{IsOperated, IsOperatedAs};
 ghost use Rattle.ffa_spmc.specs.Snapshot.{Snapshot};
 
@@ -18,4 +20,7 @@ pub fn left_among_others()
         → IsSoundState old.state → LeavesAmid old new }
     ensures operated_as { (old new : Snapshot) (e : ℕ) (op : Op) → IsOperatedAs old e op new → Agrees old.ram old.state
         → IsSoundState old.state → LeavesAmid old new }
+    // A list of operations, between which others write too: the state stays sound, and rights never grow.
+    ensures list { (old : Snapshot) (ops : List Op) (told : List Outcome) (new : Snapshot) → IsSoundState old.state
+        → AreDoneAmid old ops told new → IsSoundState new.state × NeverGrow old.state new.state }
 {}
