@@ -31,6 +31,7 @@ struct function {
 static const struct function functions[] = {
     {"FFA_ERROR", 0x84000060, false, {CHECK(FUNCTION_UNKNOWN)}},
     {"FFA_SUCCESS", 0x84000061, false, {CHECK(FUNCTION_UNKNOWN)}},
+    {"FFA_INTERRUPT", 0x84000062, false, {CHECK(FUNCTION_UNKNOWN)}},
     {"FFA_VERSION", 0x84000063, false, {0}},
     {"FFA_FEATURES", 0x84000064, false, {CHECK(FUNCTION_UNKNOWN)}},
     {"FFA_RX_RELEASE", 0x84000065, false, {CHECK(RX_EMPTY)}},

@@ -40,6 +40,7 @@ static void has_name(uint32_t function, const char *name) {
 static void identifiers(void) {
     NARROW(FFA_ERROR);
     NARROW(FFA_SUCCESS);
+    NARROW(FFA_INTERRUPT);
     NARROW(FFA_VERSION);
     NARROW(FFA_FEATURES);
     NARROW(FFA_RX_RELEASE);
