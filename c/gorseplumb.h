@@ -129,7 +129,10 @@ enum gorseplumb_kind {
     GORSEPLUMB_KIND_NO_MACHINE = 4, /* there is no machine, and nothing was done */
     GORSEPLUMB_KIND_BAD_SIZE = 5,   /* the size is none of 1, 2, 4 and 8, or of gorseplumb_run the kind is unknown, with a
                                      * machine or without one, and nothing was done */
-    GORSEPLUMB_KIND_NO_ENDPOINT = 6 /* the machine has no such endpoint, and nothing was done */
+    GORSEPLUMB_KIND_NO_ENDPOINT = 6, /* the machine has no such endpoint, and nothing was done */
+    GORSEPLUMB_KIND_RESUMED = 7,     /* `runner` runs next and goes on where an interrupt stopped it, with its own registers: `x`
+                                      * is zeros, and isn't for it */
+    GORSEPLUMB_KIND_NO_PROCESSOR = 8 /* there is no such processor, and nothing was done */
 };
 
 enum gorseplumb_fault {
@@ -309,6 +312,29 @@ struct gorseplumb_outcome gorseplumb_store_as(struct gorseplumb_machine *machine
                                               uint64_t value);
 struct gorseplumb_outcome gorseplumb_fetch_as(struct gorseplumb_machine *machine, uint16_t endpoint, uint64_t address);
 
+/* How many processors may run endpoints of a machine: 0 to 7. */
+#define GORSEPLUMB_MOST_PROCESSORS 8
+
+/* The first four above of whoever runs on a processor, where several run endpoints of a machine at once: on each runs the
+ * normal world or a partition, and each partition on one at most. They are done in the machine as that processor sees it,
+ * in which a partition that another one runs is busy, and the normal world, which is on each, may call. When a machine has
+ * booted the normal world runs on all. One thing is as above no more: FFA_RUN of a partition that an interrupt had stopped
+ * lets it go on, on this processor, and answers GORSEPLUMB_KIND_RESUMED; above that partition is busy. Where there is no
+ * such processor the answer is GORSEPLUMB_KIND_NO_PROCESSOR. Everything that names no processor is of the one that did
+ * the last operation or took the last interrupt, at first of 0: so who has one processor needs none of these. */
+struct gorseplumb_outcome gorseplumb_call_on(struct gorseplumb_machine *machine, uint32_t processor,
+                                             const struct gorseplumb_registers *registers);
+struct gorseplumb_outcome gorseplumb_load_on(struct gorseplumb_machine *machine, uint32_t processor, uint64_t address, uint32_t size);
+struct gorseplumb_outcome gorseplumb_store_on(struct gorseplumb_machine *machine, uint32_t processor, uint64_t address, uint32_t size,
+                                              uint64_t value);
+struct gorseplumb_outcome gorseplumb_fetch_on(struct gorseplumb_machine *machine, uint32_t processor, uint64_t address);
+
+/* An interrupt that a processor takes and that the normal world is to handle. GORSEPLUMB_KIND_REGISTERS: a partition ran
+ * there, and stops where it is, preempted; the normal world runs there and sees FFA_INTERRUPT, which names the partition,
+ * whose registers firmware keeps until it goes on. GORSEPLUMB_KIND_DONE: the normal world runs there and takes the interrupt
+ * by itself, and nothing changes. Else GORSEPLUMB_KIND_NO_MACHINE or GORSEPLUMB_KIND_NO_PROCESSOR, and nothing was done. */
+struct gorseplumb_outcome gorseplumb_interrupt(struct gorseplumb_machine *machine, uint32_t processor);
+
 /* Pages in a row. */
 struct gorseplumb_range {
     uint64_t address; /* of the first byte */
@@ -336,6 +362,9 @@ bool gorseplumb_changed(struct gorseplumb_machine *machine, struct gorseplumb_ch
  * The endpoint that runs, and how many there are. */
 uint32_t gorseplumb_runner(const struct gorseplumb_machine *machine);
 uint32_t gorseplumb_endpoints(const struct gorseplumb_machine *machine);
+
+/* The endpoint that runs on a processor. GORSEPLUMB_NOTHING also where there is no such processor. */
+uint32_t gorseplumb_runner_on(const struct gorseplumb_machine *machine, uint32_t processor);
 
 /* The address of RAM's first byte, and how many blocks of 2 MiB RAM has. */
 uint32_t gorseplumb_ram_base(const struct gorseplumb_machine *machine);

@@ -33,6 +33,7 @@ from .errors import (
     NoMemory,
     NoSuchEndpoint,
     NoSuchPage,
+    NoSuchProcessor,
     NotRecordable,
     NotSupported,
     OutOfMemory,
@@ -46,7 +47,8 @@ from .errors import (
 from .machine import Machine, Watcher
 from .manifest import Endpoint, Manifest, Region
 from .messages import IndirectMessage, PartitionInfo, read_partitions
-from .outcomes import Call, Data, Done, Faulted, Fetch, Load, Operation, Outcome, Registers, Store
+from .outcomes import Act, Call, Data, Done, Effect, Faulted, Fetch, Interrupt, Load, Operation, Outcome, Registers
+from .outcomes import Resumed, Store
 from .questions import Change, Grant
 from .ram import Ram
 from .reasons import Hindrance, Reason, Subject
@@ -62,6 +64,7 @@ __all__ = [
     "AccessFault",
     "AccessFlagFault",
     "AccessMap",
+    "Act",
     "AlignmentFault",
     "BadLine",
     "Batch",
@@ -77,6 +80,7 @@ __all__ = [
     "Denied",
     "Difference",
     "Done",
+    "Effect",
     "Endpoint",
     "ErrorCode",
     "Fault",
@@ -92,6 +96,7 @@ __all__ = [
     "Hindrance",
     "IndirectMessage",
     "InstructionAccess",
+    "Interrupt",
     "Interrupted",
     "InvalidParameters",
     "JsonRecording",
@@ -110,6 +115,7 @@ __all__ = [
     "NoMemory",
     "NoSuchEndpoint",
     "NoSuchPage",
+    "NoSuchProcessor",
     "NotRecordable",
     "NotSupported",
     "Obstacle",
@@ -131,6 +137,7 @@ __all__ = [
     "Region",
     "Registers",
     "Relinquish",
+    "Resumed",
     "Retrieve",
     "RetrieveResponse",
     "Retry",

@@ -18,11 +18,13 @@ DECLARATIONS = 2
 
 MOST_REGIONS = 16
 MOST_ENDPOINTS = 8
+MOST_PROCESSORS = 8
 MOST_BLOCKS = 32
 MOST_RANGES = 64
 NOTHING = 0xFFFFFFFF
 
 KIND_REGISTERS, KIND_DATA, KIND_DONE, KIND_FAULT, KIND_NO_MACHINE, KIND_BAD_SIZE, KIND_NO_ENDPOINT = range(7)
+KIND_RESUMED, KIND_NO_PROCESSOR = 7, 8
 OPERATION_CALL, OPERATION_LOAD, OPERATION_STORE, OPERATION_FETCH = range(4)
 
 REGISTERS = struct.Struct("<8Q")
@@ -138,9 +140,15 @@ _DECLARED: dict[str, tuple[Any, ...]] = {
     "load_as": (Outcome, _MACHINE, c_uint16, c_uint64, c_uint32),
     "store_as": (Outcome, _MACHINE, c_uint16, c_uint64, c_uint32, c_uint64),
     "fetch_as": (Outcome, _MACHINE, c_uint16, c_uint64),
+    "call_on": (Outcome, _MACHINE, c_uint32, _REGISTERS),
+    "load_on": (Outcome, _MACHINE, c_uint32, c_uint64, c_uint32),
+    "store_on": (Outcome, _MACHINE, c_uint32, c_uint64, c_uint32, c_uint64),
+    "fetch_on": (Outcome, _MACHINE, c_uint32, c_uint64),
+    "interrupt": (Outcome, _MACHINE, c_uint32),
     "run": (c_size_t, _MACHINE, c_char_p, c_size_t, c_void_p, c_size_t),
     "changed": (c_bool, _MACHINE, POINTER(Change)),
     "runner": (c_uint32, _MACHINE),
+    "runner_on": (c_uint32, _MACHINE, c_uint32),
     "endpoints": (c_uint32, _MACHINE),
     "owner": (c_uint32, _MACHINE, c_uint32),
     "access": (c_uint32, _MACHINE, c_uint16, c_uint32),

@@ -65,6 +65,17 @@ class NoSuchEndpoint(GorseplumbError, LookupError):
         return f"the machine has no endpoint {self.endpoint:04X}"
 
 
+class NoSuchProcessor(GorseplumbError, LookupError):
+    """There is no processor of this number, which counts from 0."""
+
+    def __init__(self, processor: int) -> None:
+        super().__init__(processor)
+        self.processor = processor
+
+    def __str__(self) -> str:
+        return f"there is no processor {self.processor}: they are 0 to 7"
+
+
 class NoSuchPage(GorseplumbError, IndexError):
     """RAM has no page of this number, which counts from RAM's first page, or none that has this address."""
 

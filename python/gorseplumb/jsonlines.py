@@ -6,20 +6,24 @@ import json
 from typing import Any, NamedTuple
 
 from .codes import Fault
-from .outcomes import DONE, FAULTED, Call, Data, Done, Fetch, Load, Operation, Outcome, Registers, Store
+from .outcomes import DONE, FAULTED, INTERRUPT
+from .outcomes import Act, Call, Data, Done, Effect, Fetch, Interrupt, Load, Registers, Resumed, Store
 
 
 class Entry(NamedTuple):
-    """An operation, what came of it, and the endpoint that was asked for, where one was."""
+    """An operation or an interrupt, what came of it, and the endpoint or the processor that was asked for, where one was."""
 
-    operation: Operation
-    outcome: Outcome
+    operation: Act
+    outcome: Effect
     by: int | None
+    processor: int | None = None
 
 
-def dumps(operation: Operation, outcome: Outcome, by: int | None = None) -> str:
+def dumps(operation: Act, outcome: Effect, by: int | None = None, processor: int | None = None) -> str:
     """The line, without its end."""
     told: dict[str, Any] = {"by": f"{by:04X}"} if by is not None else {}
+    if processor is not None:
+        told["on"] = processor
     return json.dumps({**told, **_operation(operation), "outcome": _outcome(outcome)})
 
 
@@ -28,12 +32,15 @@ def loads(line: str) -> Entry:
     try:
         told = json.loads(line)
         by = int(told["by"], 16) if "by" in told else None
-        return Entry(_read_operation(told), _read_outcome(told["outcome"]), by)
+        processor = int(told["on"]) if "on" in told else None
+        return Entry(_read_operation(told), _read_outcome(told["outcome"]), by, processor)
     except (KeyError, TypeError, AttributeError, ValueError) as wrong:
         raise ValueError(f"no operation with its outcome: {line.strip()[:80]!r}: {wrong!r}") from None
 
 
-def _operation(operation: Operation) -> dict[str, Any]:
+def _operation(operation: Act) -> dict[str, Any]:
+    if isinstance(operation, Interrupt):
+        return {"interrupt": True}
     if isinstance(operation, Call):
         return {"call": [f"{register:X}" for register in operation.x]}
     address = f"{operation.address:08X}"
@@ -44,7 +51,9 @@ def _operation(operation: Operation) -> dict[str, Any]:
     return {"fetch": address}
 
 
-def _outcome(outcome: Outcome) -> dict[str, Any]:
+def _outcome(outcome: Effect) -> dict[str, Any]:
+    if isinstance(outcome, Resumed):
+        return {"resumed": f"{outcome.runner:04X}"}
     if isinstance(outcome, Registers):
         return {"runner": f"{outcome.runner:04X}", "regs": [f"{register:X}" for register in outcome.x]}
     if isinstance(outcome, Data):
@@ -52,7 +61,9 @@ def _outcome(outcome: Outcome) -> dict[str, Any]:
     return {"done": True} if isinstance(outcome, Done) else {"fault": outcome.fault.text}
 
 
-def _read_operation(told: dict[str, Any]) -> Operation:
+def _read_operation(told: dict[str, Any]) -> Act:
+    if "interrupt" in told:
+        return INTERRUPT
     if "call" in told:
         return Call(tuple(int(word, 16) for word in told["call"]))
     if "load" in told:
@@ -62,7 +73,9 @@ def _read_operation(told: dict[str, Any]) -> Operation:
     return Fetch(int(told["fetch"], 16))
 
 
-def _read_outcome(told: dict[str, Any]) -> Outcome:
+def _read_outcome(told: dict[str, Any]) -> Effect:
+    if "resumed" in told:
+        return Resumed(int(told["resumed"], 16))
     if "regs" in told:
         return Registers(int(told["runner"], 16), tuple(int(word, 16) for word in told["regs"]))
     if "data" in told:

@@ -18,8 +18,9 @@ from .hexadecimal import shown
 from .manifest import Manifest, checked_boot, text_of
 from .messages import IndirectMessage
 from .misuse import check_number, refuse
-from .outcomes import DONE, FAULTED, KINDS, SIZES
-from .outcomes import Call, Data, Done, Faulted, Fetch, Load, Operation, Outcome, Registers, Store
+from .outcomes import DONE, FAULTED, INTERRUPT, KINDS, SIZES
+from .outcomes import Act, Call, Data, Done, Effect, Faulted, Fetch, Interrupt, Load, Operation, Outcome, Registers
+from .outcomes import Resumed, Store
 from .questions import Questions
 from .ram import Ram
 from .registers import encode
@@ -37,11 +38,20 @@ class Watcher:
     def after(self, machine: Machine, by: int | None, operation: Operation, outcome: Outcome) -> None:
         """An operation was done, or refused: of the endpoint that was asked for, or of the runner, which is None."""
 
+    def before_on(self, machine: Machine, processor: int, act: Act) -> None:
+        """An operation or an interrupt of a processor is about to be done. An exception stops it."""
+
+    def after_on(self, machine: Machine, processor: int, act: Act, effect: Effect) -> None:
+        """One was done, or refused."""
+
 
 class _First(Watcher):
     """Sees that a machine isn't as it booted any more."""
 
     def after(self, machine: Machine, by: int | None, operation: Operation, outcome: Outcome) -> None:
+        machine.unwatch(self)
+
+    def after_on(self, machine: Machine, processor: int, act: Act, effect: Effect) -> None:
         machine.unwatch(self)
 
 
@@ -238,6 +248,78 @@ class Machine(Questions):
         self._tell(endpoint, operation, found)
         return found
 
+    # THE SAME of whoever runs on a processor, where several run endpoints of a machine at once, and interrupts
+
+    def call_on(self, processor: int, *x: int) -> Registers | Resumed:
+        """A call of whoever runs on a processor, in the machine as that one sees it. A partition that another processor
+        runs is busy, and FFA_RUN of one that an interrupt stopped lets it go on."""
+        call = Call(x)
+        self._warn_on(processor, call)
+        told = library.call_on(self._raw, processor, _pack(*call.x))
+        effect: Registers | Resumed
+        if told.kind == c.KIND_RESUMED:
+            effect = Resumed(told.runner)
+        elif told.kind == c.KIND_REGISTERS:
+            effect = Registers(told.runner, tuple(told.x))
+        else:
+            self._refuse_kind(told.kind)
+        self._tell_on(processor, call, effect)
+        return effect
+
+    def load_on(self, processor: int, address: int, size: int) -> Data | Faulted:
+        """A load of whoever runs on a processor."""
+        operation = Load(address, size)
+        self._warn_on(processor, operation)
+        found = self._accessed(library.load_on(self._raw, processor, address, size), size)
+        self._tell_on(processor, operation, found)
+        return found
+
+    def store_on(self, processor: int, address: int, size: int, value: int) -> Done | Faulted:
+        """A store of whoever runs on a processor."""
+        operation = Store(address, size, value)
+        self._warn_on(processor, operation)
+        found = self._stored(library.store_on(self._raw, processor, address, size, value))
+        self._tell_on(processor, operation, found)
+        return found
+
+    def fetch_on(self, processor: int, address: int) -> Data | Faulted:
+        """A fetch of whoever runs on a processor."""
+        operation = Fetch(address)
+        self._warn_on(processor, operation)
+        found = self._accessed(library.fetch_on(self._raw, processor, address), 4)
+        self._tell_on(processor, operation, found)
+        return found
+
+    def interrupt(self, processor: int = 0) -> Registers | Done:
+        """An interrupt that a processor takes, and that the normal world is to handle: a partition that runs there stops
+        where it is, and the normal world sees FFA_INTERRUPT, which names it. Done: the normal world runs there already,
+        and takes it by itself."""
+        self._warn_on(processor, INTERRUPT)
+        told = library.interrupt(self._raw, processor)
+        found: Registers | Done
+        if told.kind == c.KIND_REGISTERS:
+            found = Registers(told.runner, tuple(told.x))
+        elif told.kind == c.KIND_DONE:
+            found = DONE
+        else:
+            self._refuse_kind(told.kind)
+        self._tell_on(processor, INTERRUPT, found)
+        return found
+
+    def perform_on(self, processor: int, act: Act) -> Effect:
+        """One operation of whoever runs on a processor, or an interrupt that it takes."""
+        if isinstance(act, Interrupt):
+            return self.interrupt(processor)
+        if isinstance(act, Call):
+            return self.call_on(processor, *act.x)
+        if isinstance(act, Load):
+            return self.load_on(processor, act.address, act.size)
+        if isinstance(act, Store):
+            return self.store_on(processor, act.address, act.size, act.value)
+        if isinstance(act, Fetch):
+            return self.fetch_on(processor, act.address)
+        refuse("an act", f"an Interrupt, {KINDS}", act)
+
     # MANY OPERATIONS, and operations that raise where they are refused
 
     def perform(self, operation: Operation) -> Outcome:
@@ -385,6 +467,15 @@ class Machine(Questions):
     def _tell(self, by: int | None, operation: Operation, outcome: Outcome) -> None:
         for watcher in tuple(self._watchers):
             watcher.after(self, by, operation, outcome)
+
+    def _warn_on(self, processor: int, act: Act) -> None:
+        self._check_processor(processor)
+        for watcher in self._watchers:
+            watcher.before_on(self, processor, act)
+
+    def _tell_on(self, processor: int, act: Act, effect: Effect) -> None:
+        for watcher in tuple(self._watchers):
+            watcher.after_on(self, processor, act, effect)
 
     def _accessed(self, told: c.Outcome, size: int) -> Data | Faulted:
         if told.kind == c.KIND_DATA:

@@ -111,8 +111,18 @@ class Fetch:
         return f"fetch {self.address:08X}"
 
 
+@dataclass(frozen=True, slots=True)
+class Interrupt:
+    """An interrupt that a processor takes, and that the normal world is to handle."""
+
+    def __str__(self) -> str:
+        return "interrupt"
+
+
 Operation = Union[Call, Load, Store, Fetch]
 """What an endpoint can do."""
+Act = Union[Call, Load, Store, Fetch, Interrupt]
+"""What a processor can do."""
 KINDS = "a Call, a Load, a Store or a Fetch"
 
 
@@ -207,7 +217,23 @@ class Faulted:
         return f"fault {self.fault.text}"
 
 
+@dataclass(frozen=True, slots=True)
+class Resumed:
+    """The partition `runner`, which an interrupt had stopped, runs next and goes on where it was: it sees no registers but
+    its own."""
+
+    runner: int
+
+    __repr__ = by_fields
+
+    def __str__(self) -> str:
+        return f"resumed {self.runner:04X}"
+
+
 Outcome = Union[Registers, Data, Done, Faulted]
 """What comes of an operation."""
+Effect = Union[Registers, Data, Done, Faulted, Resumed]
+"""What comes of an operation or an interrupt of a processor."""
 DONE = Done()
+INTERRUPT = Interrupt()
 FAULTED = {fault: Faulted(fault) for fault in Fault}

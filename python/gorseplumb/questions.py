@@ -12,7 +12,7 @@ from .access import AccessMap, Run, raw_runs, run_of_raw
 from .checks import Check, Flaw
 from .codes import BLOCK_SIZE, MANAGER, PAGE_SIZE, PAGES_OF_BLOCK
 from .codes import About, Answer, ErrorCode, Fault, GrantKind, Obstacle, Right
-from .errors import MachineEnded, NoSuchEndpoint, NoSuchPage, OutOfMemory
+from .errors import MachineEnded, NoSuchEndpoint, NoSuchPage, NoSuchProcessor, OutOfMemory
 from .hexadecimal import by_fields
 from .misuse import check_number, refuse
 from .outcomes import KINDS, Call, Fetch, Load, Operation, Store
@@ -63,6 +63,11 @@ class Questions:
     def runner(self) -> int:
         """The endpoint that runs."""
         return self._some(library.runner(self._raw))
+
+    def runner_on(self, processor: int) -> int:
+        """The endpoint that runs on a processor."""
+        self._check_processor(processor)
+        return self._some(library.runner_on(self._raw, processor))
 
     @property
     def endpoints(self) -> tuple[int, ...]:
@@ -243,6 +248,11 @@ class Questions:
         if endpoint not in self._endpoints:
             check_number("an endpoint", endpoint)
             raise NoSuchEndpoint(endpoint)
+
+    def _check_processor(self, processor: int) -> None:
+        check_number("a processor", processor)
+        if not 0 <= processor < c.MOST_PROCESSORS:
+            raise NoSuchProcessor(processor)
 
     def _refuse_page(self, page: int) -> NoReturn:
         if library.runner(self._raw) == c.NOTHING:

@@ -10,7 +10,7 @@ from typing import Self, TextIO
 from . import jsonlines
 from .errors import NotRecordable
 from .machine import Machine, Watcher
-from .outcomes import Operation, Outcome, Registers, Store
+from .outcomes import Act, Effect, Operation, Outcome, Registers, Store
 
 
 class Recording(Watcher):
@@ -81,6 +81,10 @@ class TraceRecording(Recording):
         if isinstance(outcome, Registers):
             self._runner = outcome.runner
 
+    def before_on(self, machine: Machine, processor: int, act: Act) -> None:
+        """Refuses what names a processor, which no trace can have."""
+        raise NotRecordable("a trace has operations of one processor, and none of a processor that is named")
+
     def note(self, words: str) -> None:
         """A comment."""
         for line in words.splitlines():
@@ -107,5 +111,9 @@ class JsonRecording(Recording):
     def after(self, machine: Machine, by: int | None, operation: Operation, outcome: Outcome) -> None:
         """Writes a line."""
         self._put(jsonlines.dumps(operation, outcome, by))
+
+    def after_on(self, machine: Machine, processor: int, act: Act, effect: Effect) -> None:
+        """Writes a line."""
+        self._put(jsonlines.dumps(act, effect, processor=processor))
 
 

@@ -37,6 +37,7 @@ _BITS = {**_PAIR_OF_ENDPOINTS, "flags": _word(2), "bits": _pair(3)}
 ARGUMENTS: Mapping[Function, Mapping[str, Place]] = {
     Function.FFA_ERROR: {"code": _word(2)},
     Function.FFA_SUCCESS: {},
+    Function.FFA_INTERRUPT: _TARGET,
     Function.FFA_VERSION: {"major": _bits(1, 30, 16), "minor": _bits(1, 15, 0)},
     Function.FFA_FEATURES: {"feature": _word(1)},
     Function.FFA_RX_RELEASE: {},
@@ -71,6 +72,7 @@ ARGUMENTS: Mapping[Function, Mapping[str, Place]] = {
 """What the registers of each call and answer hold, in the 32-bit form."""
 
 OPTIONAL: Mapping[Function, frozenset[str]] = {
+    Function.FFA_INTERRUPT: frozenset({"context"}),
     Function.FFA_RXTX_UNMAP: frozenset({"endpoint"}),
     Function.FFA_PARTITION_INFO_GET: frozenset({"uuid", "count_only"}),
     Function.FFA_MSG_WAIT: frozenset({"partition", "context"}),

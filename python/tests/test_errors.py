@@ -10,7 +10,7 @@ from conftest import BUILT_IN
 
 from gorseplumb import AccessFault, BadLine, CallRefused, Cause, Check, ErrorCode, Fault, Flaw, Function
 from gorseplumb import GorseplumbError, GuardUnmet, Load, Machine, MachineEnded, MalformedDescriptor, ManifestRefused
-from gorseplumb import NoSuchEndpoint, NoSuchPage
+from gorseplumb import NoSuchEndpoint, NoSuchPage, NoSuchProcessor
 from gorseplumb.errors import access_fault, call_refused
 
 
@@ -24,6 +24,7 @@ from gorseplumb.errors import access_fault, call_refused
         (ManifestRefused(Cause.RAM_BASE), "M6 RamBase"),
         (ManifestRefused(Cause.TOML, "a hint"), "M2 Toml: a hint"),
         (NoSuchEndpoint(0x8005), "the machine has no endpoint 8005"),
+        (NoSuchProcessor(8), "there is no processor 8: they are 0 to 7"),
         (NoSuchPage("no page"), "no page"),
         (BadLine("why", 2, 1), "line 1, column 2: why"),
         (BadLine("why", hint="a hint"), "why: a hint"),

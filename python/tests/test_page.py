@@ -61,7 +61,7 @@ def test_the_lines_of_json_are_read() -> None:
     with Machine(EXAMPLES / "partitions.toml") as machine:
         for entry, line in zip(entries, block("Recordings", 1).splitlines()):
             assert jsonlines.dumps(*entry) == line
-        assert machine.perform(entries[0].operation) == entries[0].outcome
+        assert machine.perform_on(0, entries[0].operation) == entries[0].outcome
         assert str(machine.load_as(0x8001, 0x40010000, 1)) == str(entries[1].outcome)
 
 

@@ -8,7 +8,7 @@ import pytest
 from conftest import EXAMPLES, Program
 
 from gorseplumb import Call, DataAccess, Fault, Faulted, Function, IndirectMessage, Kind, Machine, NotRecordable
-from gorseplumb import Offer, PageRange, Receiver, jsonlines, play
+from gorseplumb import Interrupt, Offer, PageRange, Receiver, jsonlines, play
 
 MANIFEST = EXAMPLES / "partitions.toml"
 
@@ -85,10 +85,10 @@ def test_lines_of_json_are_read_as_they_were_written(partitions: Machine, tmp_pa
     assert [str(it.outcome) for it in entries if it.by is None] == [
         line[3:] for line in trace.text.splitlines() if line.startswith("#= ")
     ]
-    assert {it.by for it in entries} == {None, 0x8002}
+    assert {it.by for it in entries} == {None, 0x8002} and {it.processor for it in entries} == {None}
     with Machine(MANIFEST) as machine:
         for entry in entries:
-            if entry.by is None:
+            if entry.by is None and not isinstance(entry.operation, Interrupt):
                 assert machine.perform(entry.operation) == entry.outcome
 
 

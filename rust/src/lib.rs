@@ -137,6 +137,7 @@ mod manifest;
 mod named;
 mod names;
 mod operation;
+mod processors;
 mod questions;
 mod ram;
 pub mod raw;
@@ -162,6 +163,7 @@ pub use manifest::{
 pub use named::{decode, encode, ArgumentError, Named};
 pub use names::{call_name, declarations};
 pub use operation::{registers, Answer, Registers, Size};
+pub use processors::{Effect, Processor};
 pub use ram::{Heap, Lent, Page, Ram, PAGE_SIZE};
 pub use reasons::{About, AccessReason, CallReason, Obstacle};
 pub use sending::{Descriptor, SendError};

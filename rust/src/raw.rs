@@ -76,9 +76,12 @@ pub const KIND_FAULT: u32 = 3;
 pub const KIND_NO_MACHINE: u32 = 4;
 pub const KIND_BAD_SIZE: u32 = 5;
 pub const KIND_NO_ENDPOINT: u32 = 6;
+pub const KIND_RESUMED: u32 = 7;
+pub const KIND_NO_PROCESSOR: u32 = 8;
 
 pub const MOST_REGIONS: usize = 16;
 pub const MOST_ENDPOINTS: usize = 8;
+pub const MOST_PROCESSORS: u32 = 8;
 pub const MOST_BLOCKS: u32 = 32;
 pub const MOST_RANGES: usize = 64;
 
@@ -239,9 +242,15 @@ extern "C" {
     pub fn gorseplumb_load_as(machine: *mut Machine, endpoint: u16, address: u64, size: u32) -> Outcome;
     pub fn gorseplumb_store_as(machine: *mut Machine, endpoint: u16, address: u64, size: u32, value: u64) -> Outcome;
     pub fn gorseplumb_fetch_as(machine: *mut Machine, endpoint: u16, address: u64) -> Outcome;
+    pub fn gorseplumb_call_on(machine: *mut Machine, processor: u32, registers: *const Registers) -> Outcome;
+    pub fn gorseplumb_load_on(machine: *mut Machine, processor: u32, address: u64, size: u32) -> Outcome;
+    pub fn gorseplumb_store_on(machine: *mut Machine, processor: u32, address: u64, size: u32, value: u64) -> Outcome;
+    pub fn gorseplumb_fetch_on(machine: *mut Machine, processor: u32, address: u64) -> Outcome;
+    pub fn gorseplumb_interrupt(machine: *mut Machine, processor: u32) -> Outcome;
     pub fn gorseplumb_changed(machine: *mut Machine, change: *mut Change) -> bool;
 
     pub fn gorseplumb_runner(machine: *const Machine) -> u32;
+    pub fn gorseplumb_runner_on(machine: *const Machine, processor: u32) -> u32;
     pub fn gorseplumb_endpoints(machine: *const Machine) -> u32;
     pub fn gorseplumb_owner(machine: *const Machine, page: u32) -> u32;
     pub fn gorseplumb_access(machine: *const Machine, endpoint: u16, page: u32) -> u32;

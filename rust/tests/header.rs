@@ -54,7 +54,8 @@ fn operations() -> Vec<(String, i64)> {
     rows.push(("sizeof(struct gorseplumb_page)".into(), size_of::<gorseplumb::Page>() as i64));
     rows.extend(numbers!(KIND_REGISTERS KIND_DATA KIND_DONE KIND_FAULT KIND_NO_MACHINE KIND_BAD_SIZE KIND_NO_ENDPOINT));
     rows.extend(numbers!(OK NO_MEMORY OCCUPIED NO_LIST NO_PAGE HAS_PAGES NO_MACHINE WRONG_COUNT NOTHING));
-    rows.extend(numbers!(MOST_REGIONS MOST_ENDPOINTS MOST_BLOCKS MOST_RANGES));
+    rows.extend(numbers!(KIND_RESUMED KIND_NO_PROCESSOR));
+    rows.extend(numbers!(MOST_REGIONS MOST_ENDPOINTS MOST_BLOCKS MOST_RANGES MOST_PROCESSORS));
     rows
 }
 

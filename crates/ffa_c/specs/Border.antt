@@ -103,11 +103,11 @@ abbrev pub HasDoneIn : Bool → Snapshot → Snapshot → Op → COutcome → Ty
 HasDoneIn false old new op told = HasDone old new op told
 HasDoneIn true old new op told = HasDoneAmong old new op told
 
--- the same of what C holds, which may be no machine; whose the RAM is stays
+-- the same of what C holds, which may be no machine; whose the RAM is stays, and who runs on other processors
 abbrev pub Operated : Option Boarded → Option Boarded → Op → COutcome → Type 0
 Operated None new op told = (new ≡ None) × (told ≡ nothing_done 4)
 Operated (Some old) new op told =
-    (s : Snapshot) × (new ≡ Some (record { machine = s; is_lent = old.is_lent }))
+    (s : Snapshot) × (new ≡ Some (record old { machine = s }))
     × HasDoneIn old.is_lent old.machine s op told
 
 -- the size of so many bytes

@@ -46,7 +46,7 @@ OperatedAs (Some old) new e op told =
     (is_known old.machine.state e ≡ false → (new ≡ Some old) × (told ≡ nothing_done 6))
     × (is_known old.machine.state e ≡ true → old.machine.state.runner ≡ e → Operated (Some old) new op told)
     × (is_known old.machine.state e ≡ true → old.machine.state.runner ≢ e
-    → (s : Snapshot) × (new ≡ Some (record { machine = s; is_lent = old.is_lent })) × HasActed old.machine s e op told)
+    → (s : Snapshot) × (new ≡ Some (record old { machine = s })) × HasActed old.machine s e op told)
 
 -- the same of an access of so many bytes, where those are a size
 abbrev pub OperatedAtAs : Option Size → Option Boarded → Option Boarded → ℕ → (Size → Op) → COutcome → Type 0

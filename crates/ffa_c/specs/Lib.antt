@@ -2,6 +2,7 @@
 pub mod Audit
 pub mod Border
 pub mod Elsewhere
+pub mod Processors
 pub mod Boarded
 pub mod Booting
 pub mod Boots

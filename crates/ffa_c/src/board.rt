@@ -1,10 +1,12 @@
 // SPDX-License-Identifier: MIT OR Apache-2.0
 //! A machine with the outcomes that C sees, whichever RAM it has.
 ghost use Rattle.std.specs.Prelude.{◌≡◌, ◌≢◌, ◌<◌, ◌≤◌, ◌*◌, ◌↔◌, IsTrue, true, false, length, is_some};
+ghost use Rattle.ffa_model.specs.declared.limits.TheConstants.{MOST_PROCESSORS};
 ghost use Rattle.ffa_model.specs.Access.{access};
 ghost use Rattle.ffa_model.specs.Agreement.{Agrees, blocks_of, roots_of};
 ghost use Rattle.ffa_model.specs.Certified.{IsCertified};
 ghost use Rattle.ffa_model.specs.Notifications.{has_pending, notifications_of};
+ghost use Rattle.ffa_model.specs.Processors.{first_processors, on};
 ghost use Rattle.ffa_model.specs.Ram.{page_of, zero_ram};
 ghost use Rattle.ffa_model.specs.Refusals.{is_refusal};
 ghost use Rattle.ffa_model.specs.State.{is_known};
@@ -12,33 +14,48 @@ ghost use Rattle.ffa_model.specs.Step.{step};
 ghost use Rattle.ffa_model.specs.Why.{granted, why};
 ghost use Rattle.ffa_manifest.specs.Document.{parts_of};
 ghost use Rattle.ffa_spmc.specs.Storages.{IsRoomFor};
+ghost use Rattle.ffa_c.specs.Boarded.{cluster_of};
 ghost use Rattle.ffa_c.specs.Booting.{IsFirst, IsFirstBy};
 ghost use Rattle.ffa_c.specs.Border.{HasDoneIn, access_code, nothing_done, owner_number, root_number};
 ghost use Rattle.ffa_c.specs.Changes.{with_all_told};
 ghost use Rattle.ffa_c.specs.Elsewhere.{HasActed};
+ghost use Rattle.ffa_c.specs.Processors.{HasDoneInOn, HasInterrupted};
 ghost use Rattle.ffa_c.specs.Runs.{run_at};
 
 use crate::codes::KIND_NO_ENDPOINT;
 use crate::kind::{
-    BoardMachine, acted_by, audited_by, code_of, done_among, done_by, owner_by, root_by, run_by,
+    BoardMachine, acted_by, audited_by, code_of, done_among, done_among_on, done_by, done_on,
+    interrupted_by, owner_by, root_by, run_by,
 };
 use crate::outcome::COutcome;
 use ffa_lent::{Frames, LentRam};
 use ffa_memshare::Changed;
-use ffa_model::{CertRun, EndpointId, Grant, MOST_ENDPOINTS, Manifest, Op, PageNo, Why};
+use ffa_model::{
+    CertRun, EndpointId, Grant, MOST_ENDPOINTS, MOST_PROCESSORS, Manifest, Op, PageNo, Why,
+};
 use ffa_physmem::{FlatRam, PhysMem};
-use ffa_spmc::{Given, Machine, Ready, Storage};
+use ffa_spmc::{Cluster, Given, Ready, Storage};
 use ffa_tlb::NoTlb;
 use std::alloc::Global;
 use std::marker::Model;
 
 // The same of a machine of either kind.
 macro_rules! either {
-    ($kind:expr, $machine:ident => $done:expr) => {
+    ($kind:expr, $cluster:ident => $done:expr) => {
         match $kind {
-            BoardMachine::Heap($machine) => $done,
-            BoardMachine::Lent($machine) => $done,
+            BoardMachine::Heap($cluster) => $done,
+            BoardMachine::Lent($cluster) => $done,
         }
+    };
+}
+
+// The same of what a machine of either kind is to the processor of the last operation.
+macro_rules! asked {
+    ($kind:expr, $machine:ident => $asked:expr) => {
+        either!($kind, cluster => {
+            let $machine = cluster.machine();
+            $asked
+        })
     };
 }
 
@@ -51,7 +68,8 @@ pub enum FirstBytes {
     Kept,
 }
 
-/// A machine with no cache, and with RAM of the heap or RAM that is lent. Contracts see the machine, and which it is.
+/// A machine with no cache, and with RAM of the heap or RAM that is lent. Contracts see the machine as the processor of
+/// the last operation does, who runs on each other one, and which RAM it has.
 #[derive(Drop)]
 pub struct Board {
     kind: BoardMachine,
@@ -74,9 +92,10 @@ impl Board {
         requires ram { let pages = 512 * manifest.now.ram_blocks in
             ⟦<FlatRam as PhysMem>⟧.ram ram ≡ zero_ram manifest.now.ram_base.0 pages }
         ensures first { IsFirst (parts_of manifest.now) result.machine }
+        ensures processors { result.processors ≡ first_processors }
         ensures kind { result.is_lent ≡ false }
     {
-        let kind = BoardMachine::Heap(Machine::boot_cleared_in(storage, manifest, ram, NoTlb));
+        let kind = BoardMachine::Heap(Cluster::boot_cleared_in(storage, manifest, ram, NoTlb));
         Board { kind }
     }
 
@@ -92,14 +111,15 @@ impl Board {
         requires base { (⟦<LentRam as PhysMem>⟧.ram ram).base ≡ manifest.now.ram_base.0 }
         requires size { length (⟦<LentRam as PhysMem>⟧.ram ram).pages ≡ 512 * manifest.now.ram_blocks }
         ensures first { IsFirstBy bytes (⟦<LentRam as PhysMem>⟧.ram ram).pages (parts_of manifest.now) result.machine }
+        ensures processors { result.processors ≡ first_processors }
         ensures kind { result.is_lent ≡ true }
     {
-        let machine = match bytes {
-            FirstBytes::Cleared => Machine::boot_in(storage, manifest, ram, NoTlb),
-            FirstBytes::Kept => Machine::boot_held_in(storage, manifest, ram, NoTlb),
+        let cluster = match bytes {
+            FirstBytes::Cleared => Cluster::boot_in(storage, manifest, ram, NoTlb),
+            FirstBytes::Kept => Cluster::boot_held_in(storage, manifest, ram, NoTlb),
         };
         Board {
-            kind: BoardMachine::Lent(machine),
+            kind: BoardMachine::Lent(cluster),
         }
     }
 
@@ -119,23 +139,55 @@ impl Board {
         ensures room { length result.1.pages ≡ length result.0.pages }
     {
         match self.kind {
-            BoardMachine::Lent(machine) => {
-                let (ram, storage) = machine.into_parts();
+            BoardMachine::Lent(cluster) => {
+                let (ram, storage) = cluster.into_parts();
                 (ram.into_frames(), storage)
             }
             BoardMachine::Heap(_) => unreachable!(),
         }
     }
 
-    /// Does one operation of the runner, to whose TX others may write at the same time where the RAM is lent.
+    /// Does one operation of the runner, to whose TX others may write at the same time where the RAM is lent. The processor
+    /// is the one that did the last operation.
     pub fn op(&mut self, op: &Op) -> COutcome
         ensures done { HasDoneIn self.old.is_lent self.old.machine self.new.machine op.now result }
+        ensures processors { self.new.processors ≡ self.old.processors }
         ensures kind { self.new.is_lent ≡ self.old.is_lent }
     {
         match &mut self.kind {
-            BoardMachine::Heap(machine) => done_by(machine, op),
-            BoardMachine::Lent(machine) => done_among(machine, op),
+            BoardMachine::Heap(cluster) => done_by(cluster, op),
+            BoardMachine::Lent(cluster) => done_among(cluster, op),
         }
+    }
+
+    /// Does one operation of whoever runs on a processor, to whose TX others may write at the same time where the RAM is
+    /// lent.
+    pub fn op_on(&mut self, processor: usize, op: &Op) -> COutcome
+        requires { processor < MOST_PROCESSORS }
+        ensures done { HasDoneInOn self.old.is_lent processor (cluster_of self.old) (cluster_of self.new) op.now result }
+        ensures kind { self.new.is_lent ≡ self.old.is_lent }
+    {
+        match &mut self.kind {
+            BoardMachine::Heap(cluster) => done_on(cluster, processor, op),
+            BoardMachine::Lent(cluster) => done_among_on(cluster, processor, op),
+        }
+    }
+
+    /// An interrupt that a processor takes while it runs whoever it runs.
+    pub fn interrupt(&mut self, processor: usize) -> COutcome
+        requires { processor < MOST_PROCESSORS }
+        ensures done { HasInterrupted processor (cluster_of self.old) (cluster_of self.new) result }
+        ensures kind { self.new.is_lent ≡ self.old.is_lent }
+    {
+        either!(&mut self.kind, cluster => interrupted_by(cluster, processor))
+    }
+
+    /// The endpoint that runs on a processor.
+    pub fn runner_on(&self, processor: usize) -> u32
+        requires { processor < MOST_PROCESSORS }
+        ensures { result ≡ (on self.now.processors processor self.now.machine.state).runner }
+    {
+        either!(&self.kind, cluster => u32::from(cluster.runner_of(processor).0))
     }
 
     /// Does one operation of an endpoint, whoever runs: that of the runner is `op`. Where there is no such endpoint,
@@ -147,6 +199,7 @@ impl Board {
             → HasDoneIn self.old.is_lent self.old.machine self.new.machine op.now result }
         ensures other { is_known self.old.machine.state endpoint.0 ≡ true → self.old.machine.state.runner ≢ endpoint.0
             → HasActed self.old.machine self.new.machine endpoint.0 op.now result }
+        ensures processors { self.new.processors ≡ self.old.processors }
         ensures kind { self.new.is_lent ≡ self.old.is_lent }
     {
         if !endpoint.is_among(self.endpoints() as usize) {
@@ -155,7 +208,7 @@ impl Board {
         if u32::from(endpoint.0) == self.runner() {
             return self.op(op);
         }
-        either!(&mut self.kind, machine => acted_by(machine, endpoint, op))
+        either!(&mut self.kind, cluster => acted_by(cluster, endpoint, op))
     }
 
     /// Whose access to which pages the last call on memory that was done has changed: told once.
@@ -163,77 +216,77 @@ impl Board {
         ensures told { result ≡ self.old.machine.told }
         ensures rest { self.new ≡ with_all_told self.old }
     {
-        either!(&mut self.kind, machine => machine.take_change())
+        either!(&mut self.kind, cluster => cluster.take_change())
     }
 
     /// The endpoint that runs.
     pub fn runner(&self) -> u32
         ensures { result ≡ self.now.machine.state.runner }
     {
-        either!(&self.kind, machine => u32::from(machine.runner().0))
+        asked!(&self.kind, machine => u32::from(machine.runner().0))
     }
 
     /// The number of endpoints.
     pub fn endpoints(&self) -> u32
         ensures { result ≡ length self.now.machine.state.parties }
     {
-        either!(&self.kind, machine => machine.endpoints() as u32)
+        asked!(&self.kind, machine => machine.endpoints() as u32)
     }
 
     /// RAM's first address.
     pub fn ram_base(&self) -> u32
         ensures { result ≡ self.now.machine.state.ram_base }
     {
-        either!(&self.kind, machine => machine.ram().base().0)
+        asked!(&self.kind, machine => machine.ram().base().0)
     }
 
     /// The number of blocks of 2 MiB.
     pub fn ram_blocks(&self) -> u32
         ensures { result ≡ blocks_of self.now.machine.state }
     {
-        either!(&self.kind, machine => machine.ram().pages() / 512)
+        asked!(&self.kind, machine => machine.ram().pages() / 512)
     }
 
     /// The address of an endpoint's level 1 table, or `NOTHING` where there is no such endpoint.
     pub fn root_of(&self, endpoint: u16) -> u32
         ensures { result ≡ root_number self.now.machine.state endpoint }
     {
-        either!(&self.kind, machine => root_by(machine, EndpointId(endpoint)))
+        asked!(&self.kind, machine => root_by(machine, EndpointId(endpoint)))
     }
 
     /// The number of pages.
     pub fn pages(&self) -> u32
         ensures { result ≡ length self.now.machine.ram.pages }
     {
-        either!(&self.kind, machine => machine.ram().pages())
+        asked!(&self.kind, machine => machine.ram().pages())
     }
 
     /// The owner of a page, or `NOTHING` where there is no such page; 0x8000 is the manager.
     pub fn owner_of(&self, page: u32) -> u32
         ensures { result ≡ owner_number self.now.machine page }
     {
-        either!(&self.kind, machine => owner_by(machine, PageNo(page)))
+        asked!(&self.kind, machine => owner_by(machine, PageNo(page)))
     }
 
     /// The right of an endpoint to a page, as a code.
     pub fn access(&self, endpoint: u16, page: u32) -> u32
         ensures { result ≡ access_code (access self.now.machine.state endpoint page) }
     {
-        either!(&self.kind, machine => code_of(machine.access(EndpointId(endpoint), PageNo(page))))
+        asked!(&self.kind, machine => code_of(machine.access(EndpointId(endpoint), PageNo(page))))
     }
 
     /// By what an endpoint has its access to a page.
     pub fn grant_of(&self, endpoint: u16, page: u32) -> Option<Grant>
         ensures { result ≡ granted self.now.machine.state endpoint page }
     {
-        either!(&self.kind, machine => ffa_reasons::grant_of(machine, EndpointId(endpoint), PageNo(page)))
+        asked!(&self.kind, machine => ffa_reasons::grant_of(machine, EndpointId(endpoint), PageNo(page)))
     }
 
     /// The longest run of the certificate from a page on, where there is such a page.
     pub fn cert_run(&self, page: u32) -> Option<CertRun>
         ensures { result ≡ run_at self.now.machine page }
     {
-        either!(&self.kind, machine => run_by(machine, PageNo(page)))
+        asked!(&self.kind, machine => run_by(machine, PageNo(page)))
     }
 
     /// Why an operation of the runner would be refused now, or was refused just before.
@@ -241,14 +294,14 @@ impl Board {
         ensures why { result ≡ why self.now.machine.state op.now }
         ensures refused { is_some result ≡ is_refusal (step self.now.machine.state op.now).outcome }
     {
-        either!(&self.kind, machine => ffa_reasons::why(machine, op))
+        asked!(&self.kind, machine => ffa_reasons::why(machine, op))
     }
 
     /// Whether an endpoint has a notification pending.
     pub fn has_pending(&self, endpoint: u16) -> bool
         ensures { result ≡ has_pending (notifications_of self.now.machine.state) endpoint }
     {
-        either!(&self.kind, machine => machine.has_pending(EndpointId(endpoint)))
+        asked!(&self.kind, machine => machine.has_pending(EndpointId(endpoint)))
     }
 
     /// Whether runs of pages are a certificate that the machine's tables give.
@@ -257,7 +310,7 @@ impl Board {
         ensures agrees { Agrees self.now.machine.ram self.now.machine.state }
         ensures few { length self.now.machine.state.parties ≤ MOST_ENDPOINTS }
     {
-        either!(&self.kind, machine => audited_by(machine, runs))
+        asked!(&self.kind, machine => audited_by(machine, runs))
     }
 
     /// The bytes of a page.
@@ -265,6 +318,6 @@ impl Board {
         requires { page < length self.now.machine.ram.pages }
         ensures { result.now ≡ page_of self.now.machine.ram page }
     {
-        either!(&self.kind, machine => machine.ram().page(PageNo(page)))
+        asked!(&self.kind, machine => machine.ram().page(PageNo(page)))
     }
 }

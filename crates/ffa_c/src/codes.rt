@@ -3,7 +3,7 @@
 //! which a call answers in its registers.
 
 /// The number of the header's declarations, raised by each change that a caller has to know of.
-pub const DECLARATIONS: u32 = 2;
+pub const DECLARATIONS: u32 = 3;
 
 /// It was done.
 pub const OK: u32 = 0;
@@ -103,6 +103,12 @@ pub const KIND_BAD_SIZE: u32 = 5;
 
 /// Of an outcome: the machine has no such endpoint, and nothing was done.
 pub const KIND_NO_ENDPOINT: u32 = 6;
+
+/// Of an outcome: a partition that an interrupt had stopped runs next, and goes on where it was.
+pub const KIND_RESUMED: u32 = 7;
+
+/// Of an outcome: there is no such processor, and nothing was done.
+pub const KIND_NO_PROCESSOR: u32 = 8;
 
 /// An operation is a call, with registers.
 pub const OPERATION_CALL: u32 = 0;

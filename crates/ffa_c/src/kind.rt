@@ -1,61 +1,106 @@
 // SPDX-License-Identifier: MIT OR Apache-2.0
 //! A machine by where its RAM comes from, and what C asks of any machine.
-ghost use Rattle.std.specs.Prelude.{◌≡◌, ◌≤◌, ◌↔◌, IsTrue, true, length};
+ghost use Rattle.std.specs.Prelude.{◌≡◌, ◌<◌, ◌≤◌, ◌↔◌, IsTrue, true, length};
+ghost use Rattle.ffa_model.specs.declared.limits.TheConstants.{MOST_PROCESSORS};
 ghost use Rattle.ffa_model.specs.Agreement.{Agrees, roots_of};
 ghost use Rattle.ffa_model.specs.Certified.{IsCertified};
 ghost use Rattle.ffa_model.specs.State.{is_known};
 ghost use Rattle.ffa_c.specs.Border.{HasDone, HasDoneAmong, access_code, exec_code, level_code, owner_number, root_number};
 ghost use Rattle.ffa_c.specs.Elsewhere.{HasActed};
+ghost use Rattle.ffa_c.specs.Processors.{HasDoneAmongOn, HasDoneOn, HasInterrupted};
 ghost use Rattle.ffa_c.specs.Runs.{run_at};
 
 use crate::codes::{EXECUTE, NOTHING, READ, WRITE};
 use crate::outcome::COutcome;
 use ffa_lent::LentRam;
-use ffa_model::{CertRun, Data, EndpointId, MOST_ENDPOINTS, Op, PageNo, Rights};
+use ffa_model::{
+    CertRun, Data, EndpointId, MOST_ENDPOINTS, MOST_PROCESSORS, Op, PageNo, Rights,
+};
 use ffa_physmem::{FlatRam, PhysMem};
-use ffa_spmc::{Given, Machine, Ready, Store};
+use ffa_spmc::{Cluster, Given, Machine, Ready, Store};
 use ffa_tlb::NoTlb;
 use std::alloc::Global;
 
-/// A machine over RAM of the heap, or over RAM that is lent.
+/// A machine that several processors run, over RAM of the heap, or over RAM that is lent.
 #[derive(Drop)]
 pub enum BoardMachine {
     /// The RAM is one piece of the heap.
-    Heap(Machine<FlatRam, NoTlb, Given<Global>>),
+    Heap(Cluster<FlatRam, NoTlb, Given<Global>>),
     /// The RAM is lent, page by page.
-    Lent(Machine<LentRam, NoTlb, Ready<Global>>),
+    Lent(Cluster<LentRam, NoTlb, Ready<Global>>),
 }
 
-/// An operation of a machine, with the outcome for C.
+/// An operation of the processor that did the last one, with the outcome for C.
 #[inline]
 pub(crate) fn done_by<M: PhysMem + Drop, S: Store>(
-    machine: &mut Machine<M, NoTlb, S>,
+    cluster: &mut Cluster<M, NoTlb, S>,
     op: &Op,
 ) -> COutcome
-    ensures { HasDone machine.old machine.new op.now result }
+    ensures done { HasDone cluster.old.machine cluster.new.machine op.now result }
+    ensures processors { cluster.new.processors ≡ cluster.old.processors }
 {
-    COutcome::of(&machine.op(op))
+    COutcome::of(&cluster.op_here(op))
 }
 
 /// The same over RAM that is lent, while others may write to the runner's TX.
 #[inline]
-pub(crate) fn done_among<S: Store>(machine: &mut Machine<LentRam, NoTlb, S>, op: &Op) -> COutcome
-    ensures { HasDoneAmong machine.old machine.new op.now result }
+pub(crate) fn done_among<S: Store>(cluster: &mut Cluster<LentRam, NoTlb, S>, op: &Op) -> COutcome
+    ensures done { HasDoneAmong cluster.old.machine cluster.new.machine op.now result }
+    ensures processors { cluster.new.processors ≡ cluster.old.processors }
 {
-    COutcome::of(&machine.op_among_others(op))
+    COutcome::of(&cluster.op_here_among_others(op))
 }
 
 /// An operation of an endpoint of a machine, whoever runs, with the outcome for C.
 #[inline]
 pub(crate) fn acted_by<M: PhysMem + Drop, S: Store>(
-    machine: &mut Machine<M, NoTlb, S>,
+    cluster: &mut Cluster<M, NoTlb, S>,
     endpoint: EndpointId,
     op: &Op,
 ) -> COutcome
-    requires { is_known machine.old.state endpoint.0 ≡ true }
-    ensures { HasActed machine.old machine.new endpoint.0 op.now result }
+    requires { is_known cluster.old.machine.state endpoint.0 ≡ true }
+    ensures done { HasActed cluster.old.machine cluster.new.machine endpoint.0 op.now result }
+    ensures processors { cluster.new.processors ≡ cluster.old.processors }
 {
-    COutcome::of(&machine.op_as(endpoint, op))
+    COutcome::of(&cluster.op_as(endpoint, op))
+}
+
+/// An operation of a processor, with what C is told of it.
+#[inline]
+pub(crate) fn done_on<M: PhysMem + Drop, S: Store>(
+    cluster: &mut Cluster<M, NoTlb, S>,
+    processor: usize,
+    op: &Op,
+) -> COutcome
+    requires { processor < MOST_PROCESSORS }
+    ensures { HasDoneOn processor cluster.old cluster.new op.now result }
+{
+    COutcome::of_effect(&cluster.op(processor, op))
+}
+
+/// The same over RAM that is lent, while others may write to the TX of whoever runs there.
+#[inline]
+pub(crate) fn done_among_on<S: Store>(
+    cluster: &mut Cluster<LentRam, NoTlb, S>,
+    processor: usize,
+    op: &Op,
+) -> COutcome
+    requires { processor < MOST_PROCESSORS }
+    ensures { HasDoneAmongOn processor cluster.old cluster.new op.now result }
+{
+    COutcome::of_effect(&cluster.op_among_others(processor, op))
+}
+
+/// An interrupt that a processor takes, with what C is told of it.
+#[inline]
+pub(crate) fn interrupted_by<M: PhysMem + Drop, S: Store>(
+    cluster: &mut Cluster<M, NoTlb, S>,
+    processor: usize,
+) -> COutcome
+    requires { processor < MOST_PROCESSORS }
+    ensures { HasInterrupted processor cluster.old cluster.new result }
+{
+    COutcome::of(&cluster.interrupt(processor))
 }
 
 /// The address of an endpoint's level 1 table, or `NOTHING` where there is no such endpoint.

@@ -26,6 +26,7 @@ pub mod machine;
 pub mod manifest;
 pub mod operations;
 pub mod outcome;
+pub mod processors;
 pub mod questions;
 pub mod reading;
 pub mod reason;

@@ -2,20 +2,21 @@
 //! Outcomes as C sees them.
 ghost use Rattle.std.specs.Prelude.{◌≡◌, replicate};
 ghost use Rattle.ffa_c.specs.Border.{packed, nothing_done, fault_number};
+ghost use Rattle.ffa_c.specs.Processors.{packed_effect};
 
 use crate::codes::{
     FAULT_ACCESS_FLAG, FAULT_ALIGNMENT, FAULT_OUTSIDE_RAM, FAULT_PERMISSION, FAULT_TRANSLATION,
-    KIND_DATA, KIND_DONE, KIND_FAULT, KIND_REGISTERS,
+    KIND_DATA, KIND_DONE, KIND_FAULT, KIND_REGISTERS, KIND_RESUMED,
 };
-use ffa_model::{FaultKind, Outcome};
+use ffa_model::{Effect, FaultKind, Outcome};
 
 /// What an operation gives. What its kind doesn't name is zero.
 #[repr(C)]
 #[derive(Clone, Copy)]
 pub struct COutcome {
-    /// What it is, as one of `KIND_REGISTERS` to `KIND_NO_ENDPOINT`.
+    /// What it is, as one of `KIND_REGISTERS` to `KIND_NO_PROCESSOR`.
     pub kind: u32,
-    /// The endpoint that runs next, with registers.
+    /// The endpoint that runs next, with registers or where it was.
     pub runner: u32,
     /// The data, or the fault, as one of `FAULT_TRANSLATION` to `FAULT_OUTSIDE_RAM`.
     pub value: u64,
@@ -38,6 +39,22 @@ impl COutcome {
             Outcome::Data(value) => plain(KIND_DATA, value),
             Outcome::Done => plain(KIND_DONE, 0),
             Outcome::Fault(fault) => plain(KIND_FAULT, u64::from(fault_code(fault))),
+        }
+    }
+
+    /// What an operation of a processor gives, for C.
+    #[inline]
+    pub fn of_effect(effect: &Effect) -> COutcome
+        ensures { result ≡ packed_effect effect.now }
+    {
+        match effect {
+            Effect::Outcome(outcome) => COutcome::of(outcome),
+            Effect::Resumed(partition) => COutcome {
+                kind: KIND_RESUMED,
+                runner: u32::from(partition.0),
+                value: 0,
+                x: [0; 8],
+            },
         }
     }
 

@@ -1,18 +1,20 @@
 // SPDX-License-Identifier: MIT OR Apache-2.0
 //! A board's place in memory.
-ghost use Rattle.std.specs.Prelude.{◌≡◌, true, Option, Some, None, IsSome, IfOk, length};
+ghost use Rattle.std.specs.Prelude.{◌≡◌, ◌<◌, true, Option, Some, None, IsSome, IfOk, length};
 ghost use Rattle.std.specs.Option.{option_map};
 ghost use Rattle.std.specs.Coded.{coded_option};
+ghost use Rattle.ffa_model.specs.declared.limits.TheConstants.{MOST_PROCESSORS};
 ghost use Rattle.ffa_c.specs.Boarded.{Boarded, coded_boarded, lends, ram_pages};
 ghost use Rattle.ffa_c.specs.Border.{Operated};
 ghost use Rattle.ffa_c.specs.Changes.{told_by, with_all_told};
 ghost use Rattle.ffa_c.specs.Elsewhere.{OperatedAs};
+ghost use Rattle.ffa_c.specs.Processors.{Interrupted, OperatedOn};
 
 use crate::board::Board;
 use crate::outcome::COutcome;
 use ffa_lent::Frames;
 use ffa_memshare::Changed;
-use ffa_model::{EndpointId, Op};
+use ffa_model::{EndpointId, MOST_PROCESSORS, Op};
 use ffa_spmc::{Ready, Storage};
 use std::alloc::{AllocError, Global};
 use std::marker::Model;
@@ -80,6 +82,32 @@ impl Seat {
             unreachable!()
         };
         board.op(op)
+    }
+
+    /// Does one operation of whoever runs on a processor.
+    pub fn op_on(&mut self, processor: usize, op: &Op) -> COutcome
+        requires there { IsSome self.old }
+        requires processor { processor < MOST_PROCESSORS }
+        ensures done { OperatedOn self.old self.new processor op.now result }
+        ensures there { IsSome self.new }
+    {
+        let Some(board) = &mut self.board else {
+            unreachable!()
+        };
+        board.op_on(processor, op)
+    }
+
+    /// An interrupt that a processor takes.
+    pub fn interrupt(&mut self, processor: usize) -> COutcome
+        requires there { IsSome self.old }
+        requires processor { processor < MOST_PROCESSORS }
+        ensures done { Interrupted self.old self.new processor result }
+        ensures there { IsSome self.new }
+    {
+        let Some(board) = &mut self.board else {
+            unreachable!()
+        };
+        board.interrupt(processor)
     }
 
     /// Does one operation of an endpoint, whoever runs.
