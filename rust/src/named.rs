@@ -15,6 +15,9 @@ type Place = (&'static str, &'static [Piece]);
 const fn arguments(function: Function) -> &'static [Place] {
     match function {
         Function::Error => &[("code", &[(2, 0, 32)])],
+        Function::Interrupt | Function::MsgWait | Function::Yield | Function::Run => {
+            &[("partition", &[(1, 16, 16)]), ("context", &[(1, 0, 16)])]
+        }
         Function::Version => &[("major", &[(1, 16, 15)]), ("minor", &[(1, 0, 16)])],
         Function::Features => &[("feature", &[(1, 0, 32)])],
         Function::RxtxMap => &[("tx", &[(1, 0, 32)]), ("rx", &[(2, 0, 32)]), ("pages", &[(3, 0, 32)])],
@@ -22,9 +25,6 @@ const fn arguments(function: Function) -> &'static [Place] {
         Function::RxtxUnmap | Function::NotificationBitmapDestroy => &[("endpoint", &[(1, 0, 32)])],
         Function::PartitionInfoGet => {
             &[("uuid", &[(1, 0, 32), (2, 0, 32), (3, 0, 32), (4, 0, 32)]), ("count_only", &[(5, 0, 1)])]
-        }
-        Function::MsgWait | Function::Yield | Function::Run => {
-            &[("partition", &[(1, 16, 16)]), ("context", &[(1, 0, 16)])]
         }
         Function::MsgSendDirectReq | Function::MsgSendDirectResp => &[
             ("sender", &[(1, 16, 16)]),
