@@ -1,4 +1,5 @@
 -- SPDX-License-Identifier: MIT OR Apache-2.0
+pub mod Boards
 pub mod Ready
 pub mod Heap
 pub mod HeldSteps

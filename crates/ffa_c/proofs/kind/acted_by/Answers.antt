@@ -4,8 +4,8 @@ use Rattle.ffa_model.specs.Refusals.{is_refusal}
 use Rattle.ffa_c.specs.Border.{packed}
 use Rattle.ffa_c.proofs.kind.acted_by.Goals as goal
 
-pub returns : goal.returns
-returns g c = record {
+pub returns-clause-done : goal.returns-clause-done
+returns-clause-done g c = record {
   outcome = c.of.ensures ∙ ap packed c.op_as.ensures.outcome;
   state = c.op_as.ensures.state;
   agrees = c.op_as.ensures.agrees;

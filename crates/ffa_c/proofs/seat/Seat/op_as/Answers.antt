@@ -1,6 +1,7 @@
 -- SPDX-License-Identifier: MIT OR Apache-2.0
 use Rattle.std.proofs.Common.{◌≡◌, ◌∙◌, Some, ap, sym}
 use Rattle.ffa_c.specs.Boarded.{Boarded}
+use Rattle.ffa_c.proofs.Boards.{kept-apart}
 use Rattle.ffa_c.proofs.seat.Seat.op_as.Goals as goal
 
 pub returns-clause-done : goal.returns-clause-done
@@ -8,7 +9,7 @@ returns-clause-done c =
     let new = c.op_as.new.self in
     let its = c.op_as.ensures in
     let was : c.args.self.now ≡ Some c.in-Some.board = sym c.self.view_is ∙ c.in-Some.is in
-    let put = ap (λ k. Some (record { machine = new.machine; is_lent = k })) its.kind in
+    let put = kept-apart c.in-Some.board new its.processors its.kind in
     rw was (
       λ unknown. (ap (λ (b : Boarded). Some b) (its.unchanged unknown), its.unknown unknown),
       λ known is. (new.machine, put, its.runner known is),
