@@ -141,7 +141,7 @@ def test_arguments_that_may_be_left_out_are_zero() -> None:
 
 
 def test_help_has_the_arguments_of_each_call() -> None:
-    answers = (Function.FFA_ERROR, Function.FFA_SUCCESS, Function.FFA_MEM_RETRIEVE_RESP)
+    answers = (Function.FFA_ERROR, Function.FFA_SUCCESS, Function.FFA_INTERRUPT, Function.FFA_MEM_RETRIEVE_RESP)
     names = [function.name for function in Function]
     wanted = [
         [function.name + ("*" if f"{function.name}_64" in names else ""), signature(function) or "-"]

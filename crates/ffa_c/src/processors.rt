@@ -1,8 +1,7 @@
 // SPDX-License-Identifier: MIT OR Apache-2.0
 //! Operations of whoever runs on a processor, and interrupts, for C. Each is its namesake without `_on`, of the machine as
 //! that processor sees it, but that FFA_RUN of a partition that an interrupt had stopped lets that go on.
-ghost use Rattle.std.specs.Prelude.{◌≡◌, Some, None, nat_lt, if◌then◌else◌};
-ghost use Rattle.ffa_model.specs.declared.limits.TheConstants.{MOST_PROCESSORS};
+ghost use Rattle.std.specs.Prelude.{◌≡◌};
 ghost use Rattle.ffa_c.specs.Processors.{Interrupted, OperatedOn, OperatedSizedOn, running_on};
 
 use crate::codes::{KIND_BAD_SIZE, KIND_NO_MACHINE, KIND_NO_PROCESSOR, NOTHING};
@@ -75,10 +74,11 @@ pub extern "C" fn gorseplumb_interrupt(machine: &mut CMachine, processor: u32) -
     if !machine.live {
         return COutcome::nothing(KIND_NO_MACHINE);
     }
-    match processor_of(processor) {
-        Some(processor) => machine.held.seat_mut().interrupt(processor),
-        None => COutcome::nothing(KIND_NO_PROCESSOR),
+    let processor = processor as usize;
+    if processor >= MOST_PROCESSORS {
+        return COutcome::nothing(KIND_NO_PROCESSOR);
     }
+    machine.held.seat_mut().interrupt(processor)
 }
 
 /// The endpoint that runs on a processor; `NOTHING` where there is no such processor.
@@ -87,9 +87,8 @@ pub extern "C" fn gorseplumb_runner_on(machine: &mut CMachine, processor: u32) -
     ensures same { machine.new.held.value ≡ machine.old.held.value }
     ensures value { result ≡ running_on processor machine.old.held.value }
 {
-    if machine.live
-        && let Some(processor) = processor_of(processor)
-    {
+    let processor = processor as usize;
+    if machine.live && processor < MOST_PROCESSORS {
         machine.held.board().runner_on(processor)
     } else {
         NOTHING
@@ -102,20 +101,9 @@ fn operate_on(machine: &mut CMachine, processor: u32, op: &Op) -> COutcome
     if !machine.live {
         return COutcome::nothing(KIND_NO_MACHINE);
     }
-    match processor_of(processor) {
-        Some(processor) => machine.held.seat_mut().op_on(processor, op),
-        None => COutcome::nothing(KIND_NO_PROCESSOR),
+    let processor = processor as usize;
+    if processor >= MOST_PROCESSORS {
+        return COutcome::nothing(KIND_NO_PROCESSOR);
     }
-}
-
-// The processor of a number, if there is one.
-fn processor_of(number: u32) -> Option<usize>
-    ensures { result ≡ (if nat_lt number MOST_PROCESSORS then Some number else None) }
-{
-    let number = number as usize;
-    if number < MOST_PROCESSORS {
-        Some(number)
-    } else {
-        None
-    }
+    machine.held.seat_mut().op_on(processor, op)
 }
