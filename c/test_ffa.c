@@ -120,7 +120,7 @@ static void outcomes(void) {
     struct gorseplumb_outcome told = seen(0x84000060, 0xFFFFFFFA, 0);
     CHECK(gorseplumb_function_of(told) == GORSEPLUMB_FFA_ERROR && gorseplumb_is_error(told));
     CHECK(gorseplumb_error_of(told) == GORSEPLUMB_ERROR_DENIED && gorseplumb_handle_of(told) == 0);
-    for (uint32_t kind = GORSEPLUMB_KIND_DATA; kind <= GORSEPLUMB_KIND_NO_ENDPOINT; kind++) {
+    for (uint32_t kind = GORSEPLUMB_KIND_DATA; kind <= GORSEPLUMB_KIND_NO_PROCESSOR; kind++) {
         told.kind = kind;
         CHECK(gorseplumb_function_of(told) == 0 && !gorseplumb_is_error(told) && gorseplumb_error_of(told) == 0);
     }

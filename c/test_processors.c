@@ -24,9 +24,8 @@ static const size_t text_size = sizeof manifest_text - 1;
 
 static const uint64_t busy = (uint32_t)GORSEPLUMB_ERROR_BUSY;
 
-/* The registers of a call, and what a call of a processor gives. */
-#define GIVEN(...) &(struct gorseplumb_registers){{__VA_ARGS__}}
-#define CALL_ON(processor, ...) gorseplumb_call_on(&machine, processor, GIVEN(__VA_ARGS__))
+#define CALL(...) GORSEPLUMB_CALL(&machine, __VA_ARGS__)
+#define CALL_ON(processor, ...) GORSEPLUMB_CALL_ON(&machine, processor, __VA_ARGS__)
 
 /* Registers for this runner. Those that aren't given are zero. */
 #define SEES(told_, runner_, ...) \
@@ -70,7 +69,7 @@ static void a_timer(void) {
     stores_on(0, 0x40020000, 0x1122334455667788);
     SEES(gorseplumb_interrupt(&machine, 0), 0, FFA_INTERRUPT, 0x80010000);
     run_by(0, 0, 0);
-    SEES(gorseplumb_call(&machine, GIVEN(FFA_RUN, 0x80010000)), 0, FFA_ERROR, 0, busy);
+    SEES(CALL(FFA_RUN, 0x80010000), 0, FFA_ERROR, 0, busy);
     SEES(CALL_ON(0, FFA_MSG_SEND_DIRECT_REQ, 0x8001), 0, FFA_ERROR, 0, busy);
     faults(gorseplumb_load_on(&machine, 0, 0x40020000, 8), GORSEPLUMB_FAULT_TRANSLATION);
     is_plain(gorseplumb_interrupt(&machine, 1), GORSEPLUMB_KIND_DONE, 0);
@@ -80,10 +79,10 @@ static void a_timer(void) {
     loads_on(1, 0x40020000, 0x1122334455667788);
     CHECK(gorseplumb_fetch_on(&machine, 1, 0x40020000).value == 0x55667788);
     SEES(CALL_ON(1, FFA_ID_GET), 0x8001, FFA_SUCCESS, 0, 0x8001);
-    SEES(gorseplumb_call(&machine, GIVEN(FFA_ID_GET)), 0x8001, FFA_SUCCESS, 0, 0x8001);
+    SEES(CALL(FFA_ID_GET), 0x8001, FFA_SUCCESS, 0, 0x8001);
     SEES(CALL_ON(0, FFA_RUN, 0x80010000), 0, FFA_ERROR, 0, busy);
     struct gorseplumb_reason reason;
-    CHECK(gorseplumb_why_call(&machine, GIVEN(FFA_RUN, 0x80010000), &reason));
+    CHECK(gorseplumb_why_call(&machine, &GORSEPLUMB_REGISTERS(FFA_RUN, 0x80010000), &reason));
     CHECK(reason.check == GORSEPLUMB_CHECK_TARGET_NOT_READY && reason.error == GORSEPLUMB_ERROR_BUSY);
     run_by(0, 0x8001, 0);
 }
