@@ -138,7 +138,8 @@ moves() {
 # The bytes of code and data of a program, as `size` adds them up.
 bytes() { size "$1" | awk 'NR == 2 { print $4 }'; }
 
-# Plays each trace that there is, with a comment that has a NUL, and `audit`, on RAM of the heap and on lent pages: plays NAME COMMAND..
+# Plays each trace that there is, with a comment that has a NUL, and `audit`, on RAM of the heap, on lent pages, and by one of several processors:
+# plays NAME COMMAND..
 plays() {
     local name=$1 machine kind
     shift
@@ -149,12 +150,12 @@ plays() {
         *) printf '# a NUL: \0\n' && cat "$top/examples/${pair#*:}.trace" && echo audit ;;
         esac >"$to/trace"
         "$player" run "$machine" "$to/trace" >"$to/expected"
-        for kind in heap lent; do
+        for kind in heap lent several; do
             "$@" $kind "$machine" "$to/trace" >"$to/played"
             cmp "$to/expected" "$to/played" || { echo "$name: $kind: $pair differs" >&2; exit 1; }
         done
     done
-    echo "$name: five traces and $(wc -l <"$to/generated") generated lines, on the heap's RAM and on lent pages: as the program prints them"
+    echo "$name: five traces and $(wc -l <"$to/generated") generated lines, on the heap's RAM, on lent pages, and by processor 0 of several: as the program prints them"
 }
 
 # Whether play tells each reason of the generated lines, and those of each check that a table of tests has, as the program does: explains
