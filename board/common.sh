@@ -47,15 +47,31 @@ needs() {
     command -v rt >/dev/null || fail "there is no rt, the toolchain's command: README.md says what is needed"
 }
 
-# Sets `archive` to the core's archive for AArch64: the one that stands ready in the folder ARCHIVES, or the repository's own, which is
-# made: make_archive REPOSITORY [--general-registers]
+# Sets `archive` to the core's archive for AArch64, for another target, or for AArch64 with general registers alone: the one that stands
+# ready in the folder ARCHIVES, or the repository's own, which is made: make_archive REPOSITORY [TARGET | --general-registers]
 make_archive() {
-    local target=aarch64-unknown-linux-gnu file
-    file=$target${2:+-${2#--}}/libgorseplumb.a
-    archive=${ARCHIVES:-}/$file
+    local target=aarch64-unknown-linux-gnu folder flags=()
+    case ${2:-} in
+    --*)
+        flags=("$2")
+        folder=$target-${2#--}
+        ;;
+    *)
+        target=${2:-$target}
+        folder=$target
+        ;;
+    esac
+    archive=${ARCHIVES:-}/$folder/libgorseplumb.a
     if [[ -e $archive ]]; then return; fi
-    archive=$1/out/$file
-    "$1/c/archive" --target $target "${@:2}" >&2 || fail "the archive isn't made, c/archive ended with $?"
+    archive=$1/out/$folder/libgorseplumb.a
+    "$1/c/archive" --target "$target" "${flags[@]}" >&2 || fail "the archive isn't made, c/archive ended with $?"
+}
+
+# Builds what plays traces of several processors, which the program doesn't: c/play.c over the archive for this machine, as $to/judge. It is told
+# `several`, a manifest and a trace: build_judge REPOSITORY
+build_judge() {
+    make_archive "$1" x86_64-unknown-linux-gnu
+    gcc -std=c11 -Wall -Wextra -Werror -O2 "-I$1/c" "$1"/c/{play,heap}.c "$archive" -o "$to/judge"
 }
 
 # A file that QEMU puts somewhere, as two of its words: loader FILE ADDRESS

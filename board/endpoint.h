@@ -36,7 +36,8 @@ enum phase {
     SETTLED, /* it was printed what came of it, or there is none */
     LOOKING, /* the word that is to be fetched is loaded first */
     DOING,
-    STEPPING /* the word is executed by a single step */
+    STEPPING, /* the word is executed by a single step */
+    LOOPING   /* the program goes round, which others don't wait for */
 };
 
 struct endpoint {
@@ -48,6 +49,7 @@ struct endpoint {
     enum phase phase;
     bool faulted;  /* the word that was looked at can't be loaded */
     uint32_t word; /* it */
+    struct context began; /* as it was when it began to go round */
 };
 
 /* The program of endpoints, as instructions, and places in it: see program.S. The generator's code: see generator/. */
@@ -65,7 +67,7 @@ void begin_context(struct context *context, uint64_t program);
 void save_system(struct context *context);
 void load_system(const struct context *context);
 
-/* Runs an endpoint until the next exception that EL2 takes. */
-void enter(struct context *context);
+/* Runs an endpoint until the next exception that EL2 takes: whether that is an interrupt. */
+bool enter(struct context *context);
 
 #endif

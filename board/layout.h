@@ -29,6 +29,7 @@
 #define HVC_EXCEPTION 4 /* an exception was taken at EL1: x9 ESR_EL1, x10 FAR_EL1, x11 ELR_EL1 */
 #define HVC_MADE 5      /* the generator made up an operation: x0 to x7 of a call, x8 its kind, x9 address, x10 size, x11 value */
 #define HVC_ASK 6       /* a question of the generator: x0 is one of those below */
+#define HVC_LOOPED 7    /* the program went round until there was an end */
 #define FIRST_FETCHED 256
 
 /* Places in the program's table. A load or a store of 2^n bytes is at its place plus n. */
@@ -38,18 +39,27 @@
 #define DO_SMC 9
 #define DO_HVC 10
 #define DO_GENERATE 11
+#define DO_LOOP 12
+
+/* What the stack pointer counts in each round of a loop. */
+#define LOOP_STACK 16
 
 /* Where the program's table of vectors begins, in its page. */
 #define PROGRAM_VECTORS 0x800
 
 /* Questions of a generator, which x0 is: of the machine and of itself; of the page x2 that the endpoint at place x1 had at first; of the
  * notice x1, which x2 to x7 are then; and another in its stead. x0 answers with the seed, and with the page or 0. */
-#define ASK_MACHINE 0 /* x1 its place, x2 how many endpoints, x3 RAM's first byte, x4 RAM's pages, x5 the page of its program */
+#define ASK_MACHINE 0 /* x1 its place, x2 how many endpoints, x3 RAM's first byte, x4 RAM's pages, x5 the page of its program, x6 of the normal world's on another processor */
 #define ASK_PAGE 1
 #define ASK_NOTICE 2
 #define TELL_NOTICE 3
+#define ASK_BUFFERS 4  /* may the endpoint use TX now? x0 answers 0, 1, or 2 where another processor's normal world did meanwhile */
+#define TELL_BUFFERS 5 /* it uses TX no more */
 #define MOST_NOTICES 48
 #define NOTICE_WORDS 6
+
+/* Where a program that awaits a word stores how often it looked, so many bytes behind its page's start. */
+#define PROGRAM_SCRATCH 0xFF8
 
 /* Where an endpoint that has a generator has it: its code, and its variables with its stack above them, so many bytes before the program. */
 #define GENERATOR_CODE 0x5000

@@ -1,4 +1,5 @@
 /* SPDX-License-Identifier: MIT OR Apache-2.0 */
+#include "doing.h"
 #include "generators.h"
 #include "layout.h"
 #include "scene.h"
@@ -58,6 +59,13 @@ struct operation next_operation(struct board *of) {
     }
     return operation;
 }
+
+/* One processor runs the scene, and has no interrupts. */
+void begin_operation(struct board *of) { (void)of; }
+void end_operation(struct board *of) { (void)of; }
+void before_running(struct board *of) { (void)of; }
+void serve_tick(struct board *of) { unexpected(of, "interrupt"); }
+void has_resumed(uint32_t place) { (void)place; }
 
 void firmware(void) {
     uint64_t seed, count;

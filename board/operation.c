@@ -25,11 +25,21 @@ static bool read_access(const char **at, enum operation_kind kind, struct operat
     return operation->size == 1 || operation->size == 2 || operation->size == 4 || operation->size == 8;
 }
 
+/* `await ADDRESS WORD` and `spin ADDRESS TIMES`, which are of scenes alone. */
+static bool read_rounds(const char **at, enum operation_kind kind, struct operation *operation) {
+    unsigned digits;
+    operation->kind = kind;
+    operation->size = 8;
+    return take_hex(at, &operation->address, &digits) && take_hex(at, &operation->value, &digits);
+}
+
 static bool read_line(const char **at, struct operation *operation) {
     if (take_word(at, "call")) return read_call(at, operation);
     if (take_word(at, "load")) return read_access(at, LOAD, operation);
     if (take_word(at, "store")) return read_access(at, STORE, operation);
     if (take_word(at, "fetch")) return read_access(at, FETCH, operation);
+    if (take_word(at, "await")) return read_rounds(at, AWAIT, operation);
+    if (take_word(at, "spin")) return read_rounds(at, SPIN, operation);
     operation->kind = SHOW;
     return take_word(at, "show");
 }
@@ -97,6 +107,12 @@ void put_registers(uint32_t runner, const uint64_t *x) {
         put_text(" ");
         put_hex(x[i], 16);
     }
+    put_text("\n");
+}
+
+void put_resumed(uint32_t runner) {
+    put_text("< resumed ");
+    put_hex(runner, 4);
     put_text("\n");
 }
 

@@ -6,13 +6,15 @@
 #include <stdbool.h>
 #include <stdint.h>
 
-enum operation_kind { NOTHING, CALL, LOAD, STORE, FETCH, SHOW };
+/* The last two go round: until a word is loaded that is awaited, or so many times, with a store in each. No trace has a line of these, but one of
+ * the last load or store. */
+enum operation_kind { NOTHING, CALL, LOAD, STORE, FETCH, SHOW, AWAIT, SPIN };
 
 struct operation {
     enum operation_kind kind;
     uint64_t address;
-    unsigned size;  /* of an access: 1, 2, 4 or 8 */
-    uint64_t value; /* of a store */
+    unsigned size;  /* of an access: 1, 2, 4 or 8; of rounds 0, where the last isn't told */
+    uint64_t value; /* of a store; what is awaited; how many times */
     uint64_t x[8];  /* of a call */
 };
 
@@ -25,6 +27,7 @@ void put_operation(const struct operation *operation);
 
 /* What came of one, as a line behind `< `. */
 void put_registers(uint32_t runner, const uint64_t *x);
+void put_resumed(uint32_t runner);
 void put_data(uint64_t value, unsigned size);
 void put_done(void);
 void put_fault(const char *kind);

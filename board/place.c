@@ -5,12 +5,16 @@
 #include "scene.h"
 #include "text.h"
 
-/* Where an endpoint's program stands: the last page that it may load, store and fetch. */
-static uint64_t page_of_program(struct board *board, uint16_t identifier) {
+static bool may_have_program(struct board *board, uint16_t identifier, uint32_t page) {
+    return page < board->pages && gorseplumb_access(&board->machine, identifier, page) == (GORSEPLUMB_WRITE | GORSEPLUMB_EXECUTE);
+}
+
+/* Where an endpoint's program stands: the last page that it may load, store and fetch; or the last of such pages in a row, of which so many
+ * others come behind. */
+static uint64_t page_of_program(struct board *board, uint16_t identifier, uint32_t behind) {
     for (uint32_t page = board->pages; page > 0; page--) {
-        if (gorseplumb_access(&board->machine, identifier, page - 1) == (GORSEPLUMB_WRITE | GORSEPLUMB_EXECUTE)) {
-            return RAM_BASE + (uint64_t)GORSEPLUMB_PAGE_SIZE * (page - 1);
-        }
+        bool is_last = may_have_program(board, identifier, page - 1) && !may_have_program(board, identifier, page);
+        if (is_last && behind-- == 0) return RAM_BASE + (uint64_t)GORSEPLUMB_PAGE_SIZE * (page - 1);
     }
     stop("an endpoint has no page for its program");
 }
@@ -39,15 +43,26 @@ static void place(struct board *board, struct endpoint *endpoint, uint64_t addre
     }
 }
 
+static void place_program(struct board *board, struct endpoint *endpoint, uint64_t program, bool generators) {
+    endpoint->program = program;
+    place(board, endpoint, program, program_begin, program_end);
+    if (generators) place(board, endpoint, program - GENERATOR_CODE, generator_begin, generator_end);
+    begin_context(&endpoint->context, program);
+}
+
+void place_other_programs(struct board *board, uint32_t processors, bool generators) {
+    for (uint32_t i = 1; i < processors; i++) {
+        board->others[i].root = board->endpoints[0].root;
+        place_program(board, &board->others[i], page_of_program(board, 0, i), generators);
+    }
+}
+
 void place_programs(struct board *board, bool generators) {
     for (uint32_t i = 0; i < board->count; i++) {
         struct endpoint *endpoint = &board->endpoints[i];
-        endpoint->program = page_of_program(board, endpoint->identifier);
         if (i != 0) call(board, FFA_RUN, (uint64_t)endpoint->identifier << 16);
-        place(board, endpoint, endpoint->program, program_begin, program_end);
-        if (generators) place(board, endpoint, endpoint->program - GENERATOR_CODE, generator_begin, generator_end);
+        place_program(board, endpoint, page_of_program(board, endpoint->identifier, 0), generators);
         if (i != 0) call(board, FFA_MSG_WAIT, 0);
-        begin_context(&endpoint->context, endpoint->program);
     }
     if (WRONG_ROOT) board->endpoints[1].root = board->endpoints[2 % board->count].root;
 }

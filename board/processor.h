@@ -21,6 +21,7 @@ SYSTEM_REGISTER(far_el2)
 SYSTEM_REGISTER(hcr_el2)
 SYSTEM_REGISTER(vtcr_el2)
 SYSTEM_REGISTER(vttbr_el2)
+SYSTEM_REGISTER(mpidr_el1)
 
 /* An instruction with no operand, as a barrier or an invalidation, between all that stands before and behind it. */
 #define DO(instruction) __asm__ volatile(instruction : : : "memory")

@@ -52,6 +52,31 @@ operations:
         b       seen
         b       make
         nop
+        b       loop
+        nop
+
+/* Goes round until the word at x1 is x2, or x3 rounds were done, and stores their count, x0, at x30 in each. All other registers count too: an
+ * interrupt that loses or changes one is found, since the firmware knows what each has to be in the end (rounds.c). */
+loop:
+        mov     x17, #0
+0:      add     x0, x0, #1
+        .irp    n, 4, 5, 6, 7, 8, 9, 10, 11, 12, 13, 14, 15, 17, 18, 19, 20, 21, 22, 23, 24, 25, 28, 29
+        add     x\n, x\n, #\n
+        .endr
+        .irp    n, 1, 2, 3, 4, 5, 6, 7, 8, 9, 10, 11, 12, 13, 14, 15, 16, 17, 18, 19, 20, 21, 22, 23, 24, 25, 26, 27, 28, 29, 30
+        add     v\n\().2d, v\n\().2d, v31.2d
+        .endr
+        add     sp, sp, #LOOP_STACK
+        mrs     x16, tpidr_el0
+        add     x16, x16, #1
+        msr     tpidr_el0, x16
+        str     x0, [x30]
+        ldr     x16, [x1]
+        cmp     x16, x2
+        ccmp    x0, x3, #4, ne          /* equal, where the word is what is awaited */
+        b.ne    0b
+        hvc     #HVC_LOOPED
+        b       program_next
 
 /* What was stored before may be executed: the cache of instructions is emptied first. */
 fetch:

@@ -3,14 +3,17 @@
 #include "layout.h"
 #include "processor.h"
 #include "generators.h"
+#include "rounds.h"
 #include "scene.h"
 #include "text.h"
 #include "watch.h"
 #include "words.h"
 
-/* How many calls were made by programs, and whether the last was answered and nobody has told yet what it sees. */
+/* How many calls were made by programs, and whether the last of a processor was answered and nobody has told yet what it sees. */
 static uint64_t calls;
-static bool answered;
+static bool answered[GORSEPLUMB_MOST_PROCESSORS];
+
+void await_answer(void) { answered[this_processor()] = true; }
 
 static unsigned logarithm_of(unsigned size) { return size == 1 ? 0 : size == 2 ? 1 : size == 4 ? 2 : 3; }
 
@@ -24,6 +27,11 @@ static void dispatch_call(struct endpoint *endpoint) {
 static void give(struct board *board, struct operation operation) {
     struct endpoint *endpoint = running(board);
     endpoint->operation = operation;
+    if (operation.kind == AWAIT || operation.kind == SPIN) {
+        begin_rounds(endpoint);
+        return;
+    }
+    begin_operation(board);
     put_operation(&operation);
     switch (endpoint->operation.kind) {
     case CALL:
@@ -44,11 +52,18 @@ static void give(struct board *board, struct operation operation) {
     }
 }
 
+/* The scene's next operation, or none where the program is to ask again. */
+static void give_line(struct board *board) {
+    struct operation operation = next_operation(board);
+    if (operation.kind == NOTHING) settle(running(board));
+    else give(board, operation);
+}
+
 /* The program asks what to do. */
 static void give_next(struct board *board) {
     if (running(board)->phase != SETTLED) unexpected(board, "question");
     if (generators_go_on()) dispatch(running(board), DO_GENERATE);
-    else give(board, next_operation(board));
+    else give_line(board);
 }
 
 /* The program tells that an access was done. Where it was skipped there is nothing to tell. */
@@ -73,8 +88,20 @@ static void told(struct board *board) {
 /* The program tells what it sees when it runs: what the call before was answered. */
 static void seen(struct board *board) {
     struct endpoint *endpoint = running(board);
-    if (answered) put_registers((uint32_t)endpoint->context.x[8], endpoint->context.x);
-    answered = false;
+    bool *is_answered = &answered[this_processor()];
+    if (*is_answered) put_registers((uint32_t)endpoint->context.x[8], endpoint->context.x);
+    *is_answered = false;
+    endpoint->phase = SETTLED;
+}
+
+/* The program has gone round to the end: the last store, or the last load, is its operation. */
+static void looped(struct board *board) {
+    struct endpoint *endpoint = running(board);
+    if (endpoint->phase != LOOPING || !kept_registers(endpoint)) unexpected(board, "registers behind rounds");
+    if (endpoint->operation.size != 0) {
+        begin_operation(board);
+        put_rounds(endpoint);
+    }
     endpoint->phase = SETTLED;
 }
 
@@ -85,9 +112,10 @@ void begin_call(struct board *board, const struct gorseplumb_registers *register
 }
 
 void end_call(struct board *board, const struct gorseplumb_registers *registers, const struct gorseplumb_outcome *outcome) {
-    (void)registers, (void)outcome;
+    (void)registers;
     end_change(board);
-    answered = true;
+    if (outcome->kind == GORSEPLUMB_KIND_REGISTERS) await_answer();
+    else put_resumed(outcome->runner), has_resumed(place_of(outcome->runner));
 }
 
 /* An abort that EL2 takes: it is what came of the access that was asked for. The instruction is skipped, and of a fetch control goes
@@ -161,6 +189,8 @@ static void serve_hypercall(struct board *board, unsigned immediate) {
         serve_question(board);
     } else if (immediate == HVC_MADE) {
         give(board, take_made(board));
+    } else if (immediate == HVC_LOOPED) {
+        looped(board);
     } else if (!keeps_registers(endpoint)) {
         unexpected(board, "registers");
     } else if (immediate == HVC_SEEN) {
@@ -206,12 +236,20 @@ static void serve(struct board *board, uint64_t syndrome) {
     }
 }
 
+/* Whether what was printed has come to its end: the endpoint that runs has an answer that was told, or goes round. */
+static bool is_done(struct board *board) {
+    enum phase phase = running(board)->phase;
+    return !answered[this_processor()] && (phase == SETTLED || phase == LOOPING);
+}
+
 _Noreturn void run_board(struct board *board) {
     load_system(&running(board)->context);
     for (;;) {
-        walk_tables(board->running, running(board)->root);
-        enter(&running(board)->context);
-        serve(board, read_esr_el2());
+        before_running(board);
+        walk_tables(running_place(board), running(board)->root);
+        if (enter(&running(board)->context)) serve_tick(board);
+        else serve(board, read_esr_el2());
         if (running(board)->phase == SETTLED) end_change(board);
+        if (is_done(board)) end_operation(board);
     }
 }

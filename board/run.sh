@@ -6,25 +6,29 @@ set -euo pipefail
 me=board
 . "$(dirname "${BASH_SOURCE[0]}")/common.sh"
 scenes=$board/scenes
-packages=(qemu-system-arm gcc-aarch64-linux-gnu)
+several=$board/several
+packages=(qemu-system-arm gcc-aarch64-linux-gnu gcc libc6-dev)
 
 usage() {
     cat <<'HELP'
 board/run.sh [--install] [--keep FOLDER] [--seed N] [--operations N] [--rounds N]
-    [--break-root | --break-vectors | --break-settling | --break-zeros-first | --break-zeros-last]
+    [--break-root | --break-vectors | --break-settling | --break-zeros-first | --break-zeros-last | --break-resumed | --break-untold]
 
 Runs all scenes on QEMU's machine `virt`, and compares. It takes some minutes, and longer where the core is proved first.
 
-  --install             installs Debian's packages for it first: qemu-system-arm and gcc-aarch64-linux-gnu
+  --install             installs Debian's packages for it first: qemu-system-arm, gcc-aarch64-linux-gnu, gcc and libc6-dev
   --keep FOLDER         leaves what each scene printed in this folder: FIRMWARE-PROCESSOR-SCENE.uart, and its .trace, .found and .expected
   --seed N              the seed of operations that are made up; 1 where none is given
   --operations N        how many of them; 10000 where nothing is given
-  --rounds N            how often pages are offered and had back while a second processor watches; 60 where nothing is given
+  --rounds N            how often pages are offered and had back while a second processor watches, and partitions of two processors are asked at
+                        once; 60 where nothing is given
   --break-root          builds a firmware in which one endpoint runs with another's tables, and wants a difference to be found
   --break-vectors       builds one that doesn't save vector registers, and wants a difference to be found
   --break-settling      builds one that forgets no translation when the core asks for it, and wants the second processor to see it
   --break-zeros-first   compiles, without proofs, a core that writes zeros before it takes a right, and wants the second processor to see it
   --break-zeros-last    the same of one that writes zeros behind the right that it gives
+  --break-resumed       builds a firmware that writes registers of a partition that goes on behind an interrupt, and wants it to be found
+  --break-untold        builds one that doesn't tell the core of an interrupt, and wants it to be found
 
 Without a --break all of them are tried at the end, too.
 
@@ -41,7 +45,7 @@ while (($#)); do
             declare "${1#--}=$2"
             shift
             ;;
-        --break-root | --break-vectors | --break-settling | --break-zeros-first | --break-zeros-last) breaks+=("${1#--break-}") ;;
+        --break-root | --break-vectors | --break-settling | --break-zeros-first | --break-zeros-last | --break-resumed | --break-untold) breaks+=("${1#--break-}") ;;
         --help) usage && exit 0 ;;
         *) refuse "there is no $1" ;;
     esac
@@ -52,7 +56,7 @@ is_count "$operations" || refuse "the number of operations is one below a thousa
 is_count "$rounds" || refuse "the number of rounds is one below a thousand million, and not $rounds"
 ((${#breaks[@]} < 2)) || refuse "one --break at a time"
 if [[ $install ]]; then install_packages "${packages[@]}"; fi
-needs "${packages[*]}" $compiler $copier $emulator
+needs "${packages[*]}" $compiler $copier $emulator gcc
 if [[ $keep ]]; then mkdir -p "$keep"; fi
 to=$(mktemp -d)
 trap 'rm -rf "$to"' EXIT
@@ -72,36 +76,52 @@ build_over() {
     $compiler "${flags[@]}" -O2 "$@" -Wl,--no-warn-rwx-segments -Wa,-I"$to" -T "$board/board.ld" "$board"/*.c "$board"/*.S "$top"/c/{array,bytes,settle}.c "$core" -o "$to/$name.elf"
 }
 
-# Runs a scene, and has the program play what was done: play FIRMWARE PROCESSOR MANIFEST SCENE, true where both print the same. What the
-# program printed is in $to/expected.
+# A firmware in which several processors run endpoints, and interrupts are told: of the board's files it has those for scenes.
+build_several() {
+    local name=$1 of_scenes=(run doing fetch generators place rounds show)
+    shift
+    of_scenes=("${of_scenes[@]/#/$board/}")
+    $compiler "${flags[@]}" -O2 -DSEVERAL=1 "$@" -Wl,--no-warn-rwx-segments -Wa,-I"$to" "-I$several" -T "$board/board.ld" "$several"/*.c \
+        "${of_scenes[@]/%/.c}" "${shared[@]}" "$board"/{program,generator,own_table}.S "$archive" -o "$to/$name.elf"
+}
+
+# Runs a scene, and has the program play what was done, or the judge where several processors did: play FIRMWARE PROCESSOR MANIFEST SCENE, true where
+# both print the same. What the program printed is in $to/expected.
 play() {
-    local devices memory=256M processors=1
+    local devices memory=256M processors=1 machine=virt,virtualization=on judge=("$player" run)
     if [[ $1 == high ]]; then memory=3G; fi
     if is_watched "$4"; then processors=2; fi
+    if is_several "$4"; then processors=$(sed -n 's/^processors //p' "$4") machine+=,gic-version=3 judge=("$to/judge" several); fi
     mapfile -t devices < <(loader "$3" 48000000 && loader "$4" 49000000)
-    emulate -kernel "$to/$1.elf" -machine virt,virtualization=on -accel tcg,thread=multi -smp $processors -cpu "$2" -m $memory "${devices[@]}"
-    "$player" run "$3" "$to/trace" >"$to/expected" || fail "the program doesn't play what $(basename "$4") did"
+    emulate -kernel "$to/$1.elf" -machine $machine -accel tcg,thread=multi -smp "$processors" -cpu "$2" -m $memory "${devices[@]}"
+    "${judge[@]}" "$3" "$to/trace" >"$to/expected" || fail "the program doesn't play what $(basename "$4") did"
     if [[ $keep ]]; then keep_scene "$1-$2-$(basename "$4")"; fi
     has_end && ! grep -q '^!' "$to/uart" && cmp -s "$to/expected" "$to/found"
 }
 
-# Whether a second processor runs beside a scene.
+# Whether a second processor runs beside a scene, and whether processors do it that have interrupts.
 is_watched() { grep -q '^watch ' "$1"; }
+is_several() { grep -q '^processors ' "$1"; }
 
 keep_scene() {
     for kind in uart trace found expected; do cp "$to/$kind" "$keep/$1.$kind"; done
 }
 
-# The operations of a text, each written in one way: in upper case, and with no zeros that say nothing.
+# The operations of a text, each written in one way: in upper case, and with no zeros that say nothing. A program that goes round does what it does last.
 operations_of() {
-    sed -E -e '/^(#|$|random|everywhere|watch)/d' "$1" | tr '[:lower:]' '[:upper:]' |
+    sed -E -e '/^(#|$|random|everywhere|watch|processors|at-once|on )/d' "$1" | tr '[:lower:]' '[:upper:]' |
+        sed -E -e 's/^AWAIT ([0-9A-F]+) .*/LOAD \1 8/' -e 's/^SPIN ([0-9A-F]+) /STORE \1 000000000000000/' -e '/^STORE/s/ 0*([0-9A-F]{16})$/ \1/' |
         sed -E -e '/^CALL/s/( 0+)+$//' -e '/^(CALL|LOAD|FETCH)/s/ 0+([0-9A-F])/ \1/g' -e 's/^STORE 0+([0-9A-F])/STORE \1/'
 }
 
-# Whether the trace ends with the operations of a scene, behind as many as were to be made up.
+# Whether the trace ends with the operations of a scene, behind as many as were to be made up; of several processors in any order.
 whole() {
     operations_of "$1" >"$to/lines"
     operations_of "$to/trace" >"$to/done"
+    if is_several "$1" && ! grep -q '^random' "$1"; then
+        cmp -s <(sort "$to/lines") <(tail -n "$(wc -l <"$to/lines")" "$to/done" | sort)
+        return
+    fi
     if grep -q '^random' "$1" && (($(wc -l <"$to/done") < operations)); then return 1; fi
     tail -n "$(wc -l <"$to/lines")" "$to/done" | cmp -s "$to/lines" -
 }
@@ -182,12 +202,21 @@ make_scenes() {
     "$board/watches" 3 "$rounds" >"$to/watch-owner"
     "$board/watches" 2 "$rounds" >"$to/watch-borrower"
     add "$scenes/four.toml" "$to"/watch-{owner,borrower}
+    "$several/scenes" preempted >"$to/several-preempted"
+    "$several/scenes" moved >"$to/several-moved"
+    "$several/scenes" two "$rounds" >"$to/several-two"
+    "$several/scenes" random "$seed" "$operations" >"$to/several-random"
+    add "$several/several.toml" "$to"/several-{preempted,moved,two,random}
 }
 
-# All scenes on one firmware and one processor.
+# All scenes on one firmware and one processor, and those of several processors on that for them.
 all_agree() {
-    local i
-    for i in "${!traces[@]}"; do agree "$1" "$2" "${manifests[i]}" "${traces[i]}"; done
+    local i firmware
+    for i in "${!traces[@]}"; do
+        firmware=$1
+        if is_several "${traces[i]}"; then firmware=several; fi
+        agree $firmware "$2" "${manifests[i]}" "${traces[i]}"
+    done
 }
 
 # A firmware that is broken, and the first scene of those whose names begin with a word that shows it: found FIRMWARE WHAT [WORD]
@@ -217,16 +246,20 @@ find_break() {
         root) build wrong-root -DWRONG_ROOT=1 && found wrong-root "an endpoint with another's tables" ;;
         vectors) build no-vectors -DSAVE_VECTORS=0 && found no-vectors "vector registers that aren't saved" ;;
         settling) build no-settling -DSETTLE=0 && found no-settling "translations that are kept" watch ;;
+        resumed) build_several written -DWRITE_RESUMED=1 && found written "registers of a partition that goes on" several ;;
+        untold) build_several untold -DTELL_INTERRUPTS=0 && found untold "an interrupt that the core isn't told" several ;;
         zeros-first) find_unproved zeros-first "zeros before a right is taken" ;;
         zeros-last) find_unproved zeros-last "zeros behind a right that is given" ;;
     esac
 }
 
+build_judge "$top"
 make_archive "$top"
 [[ -n ${FFAPLAY:-} ]] || "$top/ffaplay" prove
 make_scenes
 build_generator
 build documented
+build_several several
 if ((${#breaks[@]})); then
     agree documented cortex-a57 "${manifests[0]}" "${traces[0]}"
 else
@@ -234,7 +267,7 @@ else
     all_agree documented max
     build high -DRAM_BASE=0xC0000000
     agree high cortex-a57 "$to/high.toml" "$to/generated-high"
-    breaks=(root vectors settling zeros-first zeros-last)
+    breaks=(root vectors settling zeros-first zeros-last resumed untold)
 fi
 for name in "${breaks[@]}"; do find_break "$name"; done
 echo passed

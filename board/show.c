@@ -81,7 +81,7 @@ static uint32_t behind_run(struct board *board, uint32_t first) {
 void show(struct board *board) {
     ask_all(board);
     put_text("< runner ");
-    put_hex(board->endpoints[board->running].identifier, 4);
+    put_hex(running(board)->identifier, 4);
     put_text("\n");
     for (uint32_t first = 0, behind; first < board->pages; first = behind) {
         behind = behind_run(board, first);

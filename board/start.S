@@ -20,13 +20,18 @@ _start:
 0:      wfe
         b       0b
 
-/* The second processor's entry, with translation off: in a firmware that starts one. */
+/* The entry of each other processor, with translation off: in a firmware that starts some. The affinity of a processor of the
+ * board is its number (MPIDR_EL1.Aff0), and each has a stack of its own. */
         .section .text.second, "ax"
         .global second_start
 second_start:
         msr     daifset, #15
-        adrp    x0, second_stack_top
-        add     x0, x0, :lo12:second_stack_top
+        mrs     x1, mpidr_el1
+        and     x1, x1, #7
+        adrp    x0, stack_top
+        add     x0, x0, :lo12:stack_top
+        mov     x2, #SECOND_STACK_BYTES
+        madd    x0, x1, x2, x0
         bl      begin
         bl      translate
         bl      second_processor
@@ -81,8 +86,8 @@ translate:
 
         .section .text, "ax"
 
-/* void enter(struct context *context): loads the general and vector registers of an endpoint and runs it, and is back after the next
- * exception that is taken to EL2, with the registers saved as that left them. */
+/* bool enter(struct context *context): loads the general and vector registers of an endpoint and runs it, and is back after the next
+ * exception that is taken to EL2, with the registers saved as that left them: whether it was an interrupt. */
         .global enter
 enter:
         sub     sp, sp, #KEPT_BYTES
@@ -103,12 +108,18 @@ enter:
         ldp     x0, x1, [x0]
         eret
 
-/* Behind an exception from an endpoint: `enter` returns to who called it. */
+/* Behind an exception from an endpoint, or an interrupt: `enter` returns to who called it. */
+interrupted:
+        stp     x0, x1, [sp, #-16]!
+        mov     x1, #1
+        b       0f
 left:
         stp     x0, x1, [sp, #-16]!
-        mrs     x0, tpidr_el2
+        mov     x1, #0
+0:      mrs     x0, tpidr_el2
         general stp
         str     x30, [x0, #240]
+        mov     x3, x1
         ldp     x1, x2, [sp], #16
         stp     x1, x2, [x0]
         mrs     x1, elr_el2
@@ -121,6 +132,7 @@ left:
 #if SAVE_VECTORS
         vector  stp
 #endif
+        mov     x0, x3
         kept    ldp
         add     sp, sp, #KEPT_BYTES
         ret
@@ -142,7 +154,9 @@ vectors:
         .endr
         .balign 128
         b       left
-        .rept   7
+        .balign 128
+        b       interrupted
+        .rept   6
         .balign 128
         b       broken
         .endr
@@ -151,5 +165,4 @@ vectors:
         .balign 4096
         .space  STACK_BYTES
 stack_top:
-        .space  SECOND_STACK_BYTES
-second_stack_top:
+        .space  7 * SECOND_STACK_BYTES

@@ -74,6 +74,7 @@ static void begin(struct generator *generator) {
     generator->ram_base = x[3];
     generator->ram_pages = x[4];
     generator->program = x[5];
+    generator->other_program = x[6];
     generator->asked = MOST_NOTICES;
     generator->state = (x[0] << 8 | generator->place) * UINT64_C(0x9E3779B97F4A7C15) | 1;
     for (uint32_t place = 0; place < generator->count; place++) ask_pages(generator, place);
@@ -112,8 +113,25 @@ static void note_success(struct generator *generator, const uint64_t *x) {
     if (function == FFA_MEM_RECLAIM || function == FFA_MEM_RELINQUISH || function == FFA_MEM_RETRIEVE_REQ) tell_change(generator);
 }
 
+bool take_buffers(struct generator *generator) {
+    uint64_t x[8] = {ASK_BUFFERS};
+    ask(x);
+    if (x[0] == 0) return false;
+    if (x[0] == 2) __builtin_memset(generator->tx, 0xA5, sizeof generator->tx); /* so that each word is stored */
+    generator->uses_buffers = true;
+    return true;
+}
+
+static void end_move(struct generator *generator) {
+    uint64_t x[8] = {TELL_BUFFERS};
+    generator->first = generator->queued = 0;
+    if (generator->uses_buffers) ask(x);
+    generator->uses_buffers = false;
+}
+
 static void note_answer(struct generator *generator, const uint64_t *x) {
     uint32_t function = (uint32_t)x[0] & ~WITH_64_BITS;
+    if (function == FFA_INTERRUPT) generator->preempted = (uint32_t)x[1] >> 16;
     if (function == FFA_SUCCESS || function == FFA_MEM_RETRIEVE_RESP) note_success(generator, x);
     if (function == FFA_RUN || function == FFA_MSG_SEND_DIRECT_REQ) generator->work = function;
     if (function == FFA_MSG_SEND_DIRECT_REQ) generator->requester = (uint32_t)x[1] >> 16;
@@ -122,7 +140,7 @@ static void note_answer(struct generator *generator, const uint64_t *x) {
 
 static void fill_queue(struct generator *generator) {
     while (generator->first == generator->queued) {
-        generator->first = generator->queued = 0;
+        end_move(generator);
         make_move(generator);
     }
 }

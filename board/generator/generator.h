@@ -33,7 +33,7 @@ struct generator {
 
     /* Of the machine and its endpoints. */
     bool begun;
-    uint64_t state, ram_base, ram_pages, program;
+    uint64_t state, ram_base, ram_pages, program, other_program;
     uint32_t place, count;
     uint64_t pages[MOST_PLACES][MOST_PAGES];
     uint32_t page_count[MOST_PLACES];
@@ -41,6 +41,9 @@ struct generator {
     /* Of this endpoint. */
     uint64_t tx[TX_WORDS]; /* the first words of TX, as they were stored */
     bool mapped;
+    uint64_t rounds;      /* that the last loop went */
+    bool uses_buffers;    /* a move that is on its way has TX */
+    uint32_t preempted;   /* the partition that the normal world was interrupted in last, until it is run again */
     uint32_t work; /* the call that gave it cycles, FFA_RUN or a direct request, and 0 for the normal world */
     uint32_t requester;
     struct operation queue[MOST_QUEUED];
@@ -57,6 +60,9 @@ static inline bool one_in(struct generator *generator, uint64_t many) { return b
 /* The notice at a place of the board of notices, and another in its stead. */
 struct offer read_notice(uint64_t index);
 void write_notice(uint64_t index, const struct offer *offer);
+
+/* Whether the endpoint may use TX in the move that it begins: the normal world may have another processor that does. */
+bool take_buffers(struct generator *generator);
 
 /* Fills the queue, which is empty, with the operations of one move. It may stay empty. */
 void make_move(struct generator *generator);

@@ -33,7 +33,8 @@ static uint64_t own_page(struct generator *generator) { return page_of(generator
 
 /* Whether an endpoint's own operations would change, or see, what no operation has made: its program, its generator and that one's variables. */
 static bool is_of_program(struct generator *generator, uint64_t page) {
-    return page >= generator->program - GENERATOR_CODE && page <= generator->program;
+    uint64_t own = generator->program, other = generator->other_program;
+    return (page >= own - GENERATOR_CODE && page <= own) || (page >= other - GENERATOR_CODE && page <= other);
 }
 
 /* A page that is worth an access: its own, another's, a table page, or any. */
@@ -316,15 +317,32 @@ static void move_on(struct generator *generator) {
     }
 }
 
+/* Goes round with nothing to tell: only an interrupt shows. */
+static void move_rounds(struct generator *generator) {
+    uint64_t address = (uint64_t)(uintptr_t)&generator->rounds;
+    queue(generator, (struct operation){.kind = SPIN, .address = address, .value = 1 + below(generator, 4096)});
+}
+
+/* The normal world runs the partition again that it was interrupted in. */
+static void move_back(struct generator *generator) {
+    queue_call(generator, FFA_RUN, (uint64_t)generator->preempted << 16, 0, 0, 0);
+    generator->preempted = 0;
+}
+
 /* Maps TX and RX, where the endpoint has none. */
 static void move_map(struct generator *generator) {
     const uint64_t *pages = generator->pages[generator->place];
     queue_call(generator, FFA_RXTX_MAP, pages[0], pages[1], 1, 0);
 }
 
+/* Whether a move of this choice writes TX. */
+static bool needs_buffers(uint64_t choice) { return (choice >= 32 && choice < 64) || (choice >= 74 && choice < 78); }
+
 void make_move(struct generator *generator) {
     uint64_t choice = below(generator, 100);
-    if (!generator->mapped && one_in(generator, 3)) move_map(generator);
+    if (needs_buffers(choice) && !take_buffers(generator)) choice = 0;
+    if (generator->preempted != 0 && one_in(generator, 5)) move_back(generator);
+    else if (!generator->mapped && one_in(generator, 3)) move_map(generator);
     else if (choice < 24) move_access(generator);
     else if (choice < 32) move_fetch(generator);
     else if (choice < 44) move_send(generator);
@@ -336,5 +354,6 @@ void make_move(struct generator *generator) {
     else if (choice < 82) move_notification(generator);
     else if (choice < 85) move_question(generator);
     else if (choice < 86) queue_call(generator, FFA_RXTX_UNMAP, 0, 0, 0, 0);
+    else if (choice < 89 && generator->place != 0) move_rounds(generator);
     else move_on(generator);
 }

@@ -58,7 +58,7 @@ static uint64_t address_of_fault(void) { return read_hpfar_el2() >> 4 << 12 | (r
 void serve_abort(struct board *board, uint64_t syndrome) {
     struct endpoint *endpoint = running(board);
     uint64_t address = address_of_fault();
-    if (board->running != 0) {
+    if (running_place(board) != 0) {
         tell(endpoint, "abort", syndrome, address);
         stop("a partition's abort");
     }

@@ -44,8 +44,8 @@ void gorseplumb_settle(uint16_t endpoint, uint64_t address, uint64_t size) { set
 
 void serve_trap(struct board *board) {
     struct context *context = &running(board)->context;
-    if (board->running == 0 && serve_feature(context)) return;
+    if (running_place(board) == 0 && serve_feature(context)) return;
     if (is_ffa((uint32_t)context->x[0])) serve_call(board);
-    else if (board->running == 0) serve_power_call(context);
+    else if (running_place(board) == 0) serve_power_call(context);
     else stop("a partition made a call that isn't FF-A's");
 }

@@ -49,7 +49,7 @@ void begin_guests(struct board *board) {
 
 /* The processor is made that of who runs next. */
 static void change_guest(const struct board *board) {
-    bool wants_linux = board->running == 0;
+    bool wants_linux = running_place(board) == 0;
     if (is_linux && !wants_linux) suspend_linux();
     if (!is_linux && wants_linux) resume_linux();
 }
@@ -76,7 +76,7 @@ static void serve(struct board *board, uint64_t syndrome) {
 _Noreturn void run_guests(struct board *board) {
     for (;;) {
         change_guest(board);
-        walk_tables(board->running, running(board)->root);
+        walk_tables(running_place(board), running(board)->root);
         enter(&running(board)->context);
         serve(board, read_esr_el2());
     }

@@ -91,9 +91,9 @@ static void run_partitions(struct board *board) {
     write_cptr_el2(VECTORS_DO_NOT);
     DO("isb");
     take_vectors(&vectors);
-    while (board->running != 0) {
+    while (running_place(board) != 0) {
         struct context *context = &running(board)->context;
-        walk_tables(board->running, running(board)->root);
+        walk_tables(running_place(board), running(board)->root);
         release_lock(&lock);
         has_processor(PARTITION);
         enter(context);
@@ -109,7 +109,7 @@ static void run_partitions(struct board *board) {
 
 static void take_lock_when_nobody_works(const struct board *board) {
     take_lock(&lock);
-    while (board->running != 0) {
+    while (running_place(board) != 0) {
         release_lock(&lock);
         DO("yield");
         take_lock(&lock);
@@ -121,7 +121,7 @@ void serve_call_of_normal_world(struct board *board, uint64_t *x) {
     take_lock_when_nobody_works(board);
     memcpy(served, x, 8 * sizeof *x);
     serve_call(board);
-    if (board->running != 0) run_partitions(board);
+    if (running_place(board) != 0) run_partitions(board);
     memcpy(x, served, 8 * sizeof *x);
     release_lock(&lock);
 }
