@@ -137,16 +137,17 @@ difference() {
 
 # One scene on one firmware and one processor, which has to agree: agree FIRMWARE PROCESSOR MANIFEST SCENE
 agree() {
-    local name
+    local name by=program
     name=$(basename "$4")
+    if is_several "$4"; then by=judge; fi
     if ! play "$@"; then
-        echo "$name: $1 on $2 differs from the program (< the program, > the processor):" >&2
+        echo "$name: $1 on $2 differs from the $by (< the $by, > the processor):" >&2
         difference >&2
         fail "$name differs"
     fi
     whole "$4" || fail "$name: $1 on $2 left lines out"
     echo "$name: $1 on $2: $(wc -l <"$to/trace") operations, $(count fault "$to/found") faults," \
-        "$(count fetch "$to/trace") fetches: as the program prints them"
+        "$(count fetch "$to/trace") fetches: as the $by prints them"
     sed -n 's/^= the/the/p' "$to/uart"
 }
 
@@ -267,7 +268,7 @@ else
     all_agree documented max
     build high -DRAM_BASE=0xC0000000
     agree high cortex-a57 "$to/high.toml" "$to/generated-high"
-    breaks=(root vectors settling zeros-first zeros-last resumed untold)
+    breaks=(root vectors settling resumed untold zeros-first zeros-last)
 fi
 for name in "${breaks[@]}"; do find_break "$name"; done
 echo passed
