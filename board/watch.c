@@ -3,6 +3,7 @@
 #include "layout.h"
 #include "lock.h"
 #include "processor.h"
+#include "psci.h"
 #include "scene.h"
 #include "text.h"
 
@@ -27,7 +28,6 @@
 /* What was to be seen is kept behind so many operations. */
 #define KEPT 1024
 
-#define PSCI_CPU_ON UINT64_C(0xC4000003)
 #define SECOND_PROCESSOR 1
 
 enum access { A_LOAD, A_STORE, A_FETCH, ACCESSES };
@@ -75,7 +75,6 @@ static struct {
     struct seen noted[MOST_NOTED];
 } saw;
 
-void second_start(void);
 void second_processor(void);
 
 static uint32_t read_now(const uint32_t *at) { return __atomic_load_n(at, __ATOMIC_SEQ_CST); }
@@ -275,16 +274,6 @@ void second_processor(void) {
     for (;;) DO("wfe");
 }
 
-static void start_second(void) {
-    register uint64_t function __asm__("x0") = PSCI_CPU_ON;
-    register uint64_t processor __asm__("x1") = SECOND_PROCESSOR;
-    register uint64_t entry __asm__("x2") = (uintptr_t)second_start;
-    register uint64_t unused __asm__("x3") = 0;
-    DO("dsb ish");
-    __asm__ volatile("smc #0" : "+r"(function), "+r"(processor), "+r"(entry), "+r"(unused) : : "memory");
-    if (function != 0) stop("there is no second processor");
-}
-
 void begin_watch(struct board *board, uint32_t place, uint64_t first, uint32_t count, uint64_t step) {
     if (place >= board->count || count == 0 || count > MOST_WATCHED) stop("this can't be watched");
     watch.place = place;
@@ -299,7 +288,7 @@ void begin_watch(struct board *board, uint32_t place, uint64_t first, uint32_t c
         page->sights[version / 2 % KEPT] = look(board, page->address);
     }
     watch.on = true;
-    start_second();
+    if (!start_processor(SECOND_PROCESSOR)) stop("there is no second processor");
 }
 
 static void put_count(const char *what, uint64_t count) {

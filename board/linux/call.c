@@ -15,6 +15,11 @@
 #define PENDING_NUMBER UINT64_C(8)
 #define INTERRUPT_OF_ITS(number) __asm__ volatile("msr icc_sgi1r_el1, %0" : : "r"((number) << 24 | 1) : "memory")
 
+static uint64_t calls, interrupts;
+
+uint64_t all_calls(void) { return calls; }
+uint64_t all_interrupts(void) { return interrupts; }
+
 static bool serve_feature(struct context *context) {
     if (!NOTIFY || (uint32_t)context->x[0] != FFA_FEATURES || (uint32_t)context->x[1] != PENDING_INTERRUPT) return false;
     begin_line();
@@ -36,8 +41,18 @@ static void notify_linux(struct board *board) {
 void begin_call(struct board *board, const struct gorseplumb_registers *registers) { record_call(board, registers); }
 
 void end_call(struct board *board, const struct gorseplumb_registers *registers, const struct gorseplumb_outcome *outcome) {
+    calls++;
     record_answer(board, registers, outcome);
     if (NOTIFY) notify_linux(board);
+}
+
+void begin_interrupt(struct board *board) { (void)board; }
+
+/* An interrupt stops a partition alone: Linux takes its own. */
+void end_interrupt(struct board *board, const struct gorseplumb_outcome *outcome) {
+    (void)board;
+    interrupts++;
+    record_interrupt(outcome);
 }
 
 void gorseplumb_settle(uint16_t endpoint, uint64_t address, uint64_t size) { settle_tables(endpoint, address, size); }
@@ -46,6 +61,6 @@ void serve_trap(struct board *board) {
     struct context *context = &running(board)->context;
     if (running_place(board) == 0 && serve_feature(context)) return;
     if (is_ffa((uint32_t)context->x[0])) serve_call(board);
-    else if (running_place(board) == 0) serve_power_call(context);
+    else if (running_place(board) == 0) serve_power_call(board, context);
     else stop("a partition made a call that isn't FF-A's");
 }

@@ -13,9 +13,11 @@ build_partition() {
 
 # The device tree: build_tree CONDUIT PROCESSORS WORD.., of which the first is the instruction by which Linux calls, and the last are for the driver
 build_tree() {
-    local end others='' words="ffa_try.ranges=$(limit_of MOST_RANGES) ffa_try.open=$(limit_of MOST_OPEN)"
+    local end i others='' words="ffa_try.ranges=$(limit_of MOST_RANGES) ffa_try.open=$(limit_of MOST_OPEN)"
     end=$((16#$initramfs_at + $(stat -L -c %s "$linux/initramfs")))
-    if (($2 == 2)); then others='cpu@1 { device_type = "cpu"; compatible = "arm,cortex-a57"; enable-method = "psci"; reg = <1>; };'; fi
+    for ((i = 1; i < $2; i++)); do
+        others+="cpu@$i { device_type = \"cpu\"; compatible = \"arm,cortex-a57\"; enable-method = \"psci\"; reg = <$i>; }; "
+    done
     sed -e "s/= CONDUIT/= \"$1\"/" -e "s/ARGUMENTS;/\"earlycon console=ttyAMA0 panic=-1 $words ${*:3}\";/" -e "s/^ *OTHERS$/$others/" \
         -e "s/<0 INITRD_BEGIN>/<0 0x$initramfs_at>/" -e "s/<0 INITRD_END>/<0 $end>/" -e "s/MEMORY_BEGIN/$image_at/" -e "s/MEMORY_BYTES/$memory_bytes/" \
         -e "s/REDISTRIBUTORS/$redistributors/" "$board/linux/linux.dts" | dtc -q -O dtb -o "$to/tree"

@@ -9,7 +9,7 @@
 #define DISTRIBUTOR 0x08000000
 #define DISTRIBUTOR_BYTES 0x10000
 #define REDISTRIBUTOR 0x080A0000
-#define REDISTRIBUTOR_BYTES 0x20000 /* of one processor */
+#define REDISTRIBUTOR_BYTES (SEVERAL ? 0x100000 : 0x20000) /* of as many processors as may be, or of one */
 #define UART_BYTES 0x1000
 
 static bool within(uint64_t address, unsigned size, uint64_t base, uint64_t bytes) {

@@ -8,12 +8,17 @@
 /* Makes a processor ready for guests, with this HCR_EL2. */
 void begin_el2(uint64_t hcr);
 
-/* The timers of EL1, and the priority above which interrupts come. While a partition runs no timer rings, and nothing comes: what is due of
- * the normal world waits until that runs again, as the core has no state for a partition that was interrupted. */
+/* The timers of EL1, and the priority above which interrupts come. While a partition runs they are put aside, so that it changes none of them, and
+ * nothing comes: what is due of the normal world waits until that runs again. */
 struct timers {
     uint64_t virtual_control, virtual_value, physical_control, physical_value, priority;
 };
 void put_aside(struct timers *of);
 void put_back(const struct timers *of);
+
+/* In a firmware that tells the core of interrupts: what is due of the normal world, as the first of its timers, comes to EL2 though these are put
+ * aside, until they are put back. */
+void let_interrupts_come(const struct timers *of);
+void let_none_come(void);
 
 #endif

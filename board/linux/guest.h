@@ -19,10 +19,13 @@ _Noreturn void run_guests(struct board *board);
 
 /* A call of who runs: FF-A's go to the core, the others are answered by the firmware. */
 void serve_trap(struct board *board);
-void serve_power_call(struct context *context);
+uint64_t all_calls(void);       /* that reached the core */
+uint64_t all_interrupts(void);  /* that stopped a partition */
+void serve_power_call(struct board *board, struct context *context);
 
 /* An abort that EL2 takes. Linux's access to a device is done for it; any other abort of Linux's is handed to it as an external one. */
 void serve_abort(struct board *board, uint64_t syndrome);
+uint64_t all_tried_again(void); /* faults, behind which the instruction was tried again */
 
 /* Does the access to a device that an abort is about, if it is one: whether it was. */
 bool serve_device(struct context *context, uint64_t syndrome, uint64_t address);
@@ -31,6 +34,7 @@ bool serve_device(struct context *context, uint64_t syndrome, uint64_t address);
  * what it wrote to RX. */
 void record_call(struct board *board, const struct gorseplumb_registers *registers);
 void record_answer(struct board *board, const struct gorseplumb_registers *registers, const struct gorseplumb_outcome *outcome);
+void record_interrupt(const struct gorseplumb_outcome *outcome);
 void record_store(uint64_t address, unsigned size, uint64_t value);
 
 /* A line of the firmware's own begins: it ends the line of Linux's that is open. */

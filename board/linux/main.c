@@ -9,6 +9,7 @@ SYSTEM_REGISTER(cntpct_el0)
 SYSTEM_REGISTER(cntfrq_el0)
 
 void firmware(void);
+void second_processor(void);
 
 static struct board board;
 
@@ -19,6 +20,12 @@ static void put_boot(uint64_t took) {
     put_text("# boot: ");
     put_decimal(took);
     put_text(" ns\n");
+}
+
+/* A processor that Linux has turned on. */
+void second_processor(void) {
+    begin_guests(&board);
+    run_guests(&board);
 }
 
 void firmware(void) {

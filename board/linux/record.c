@@ -72,11 +72,34 @@ static void put_loads(struct board *board, uint64_t address, uint64_t bytes) {
     }
 }
 
+/* Where several processors call a line says which one does what follows. */
+static void begin_record(void) {
+    static uint32_t speaker;
+    begin_line();
+    if (speaker == this_processor()) return;
+    speaker = this_processor();
+    put_text("> on ");
+    put_number(speaker);
+    put_text("\n");
+}
+
+static void put_outcome(const struct gorseplumb_outcome *outcome) {
+    if (SEVERAL && outcome->kind == GORSEPLUMB_KIND_RESUMED) put_resumed(outcome->runner);
+    else put_registers(outcome->runner, outcome->x);
+}
+
+void record_interrupt(const struct gorseplumb_outcome *outcome) {
+    if (!RECORD) return;
+    begin_record();
+    put_text("> interrupt\n");
+    put_outcome(outcome);
+}
+
 void record_call(struct board *board, const struct gorseplumb_registers *registers) {
     struct operation operation = {.kind = CALL};
-    struct buffers *of = &buffers[place_of(gorseplumb_runner(&board->machine))];
+    struct buffers *of = &buffers[running_place(board)];
     if (!RECORD) return;
-    begin_line();
+    begin_record();
     put_stores(board, of->tx, read_by(board, registers->x, of));
     memcpy(operation.x, registers->x, sizeof operation.x);
     put_operation(&operation);
@@ -93,7 +116,7 @@ void record_answer(struct board *board, const struct gorseplumb_registers *regis
     uint32_t function = (uint32_t)registers->x[0];
     struct buffers *of = &buffers[place_of(outcome->runner)];
     if (!RECORD) return;
-    put_registers(outcome->runner, outcome->x);
+    put_outcome(outcome);
     if ((uint32_t)outcome->x[0] == FFA_ERROR) return;
     if ((function & ~WITH_64_BITS) == FFA_RXTX_MAP) {
         *of = (struct buffers){registers->x[1], registers->x[2], GORSEPLUMB_PAGE_SIZE * registers->x[3]};

@@ -7,7 +7,7 @@ me=board/linux
 . "$(dirname "${BASH_SOURCE[0]}")/../common.sh"
 here=$board/linux
 . "$here/common.sh"
-packages=(qemu-system-arm gcc-aarch64-linux-gnu binutils-aarch64-linux-gnu device-tree-compiler)
+packages=(qemu-system-arm gcc-aarch64-linux-gnu binutils-aarch64-linux-gnu device-tree-compiler gcc libc6-dev)
 flags+=("-I$here")
 
 # Where QEMU puts images, each in pages of its endpoint: RAM of the machine is 40000000 to 43FFFFFF, and Linux has 40200000 to 43DFFFFF. It has the
@@ -16,7 +16,7 @@ image_at=40200000 memory_bytes=3C00000 redistributors=20000 initramfs_at=43C0000
 
 usage() {
     cat <<'HELP'
-board/linux/run.sh [--install] [--kernel KIND | --limits NAME] [--rounds N] [--work FOLDER] [--keep FOLDER] [--jobs N]
+board/linux/run.sh [--install] [--kernel KIND | --limits NAME] [--several] [--rounds N] [--work FOLDER] [--keep FOLDER] [--jobs N]
 
 Runs Linux as the normal world on QEMU's machine `virt`, some times, and compares. Where the core is proved and the kernel built it takes some minutes.
 
@@ -24,6 +24,7 @@ Runs Linux as the normal world on QEMU's machine `virt`, some times, and compare
   --kernel KIND  runs another Linux than that of the kind 4k; board/linux/kernel --help names the kinds
   --limits NAME  runs it over a copy of the repository with other limits, limits/NAME.edit: its library is proved first, and its program, which judges, is
                  compiled unproved. Linux shares a page 100,000 times there
+  --several      runs Linux on two and on four processors alone, each of which may run a partition
   --rounds N     how much is made up by threads of Linux; 10000 where nothing is given
   --work FOLDER  has the kernel's source and what is built; what stands there is built once. /tmp/gorseplumb-linux where nothing is given
   --keep FOLDER  leaves what each run printed in this folder: NAME.uart, and its .linux, .trace, .found, .expected and .explained
@@ -33,10 +34,11 @@ It ends with 0 and `passed`, with 1 and what is missing or differs, or with 64 w
 HELP
 }
 
-install='' kernel=4k limits='' rounds=10000 work=${TMPDIR:-/tmp}/gorseplumb-linux keep='' jobs=$(nproc)
+install='' kernel=4k limits='' several='' rounds=10000 work=${TMPDIR:-/tmp}/gorseplumb-linux keep='' jobs=$(nproc)
 while (($#)); do
     case $1 in
         --install) install=yes ;;
+        --several) several=yes ;;
         --kernel | --limits | --rounds | --work | --keep | --jobs)
             [[ ${2:-} ]] || refuse "$1 needs a word behind it"
             declare "${1#--}=$2"
@@ -52,7 +54,7 @@ done
 [[ -z $limits || -e $top/limits/$limits.edit ]] || refuse "there are no limits $limits"
 is_count "$rounds" || refuse "the number of rounds is one below a thousand million, and not $rounds"
 if [[ $install ]]; then install_packages "${packages[@]}"; fi
-needs "${packages[*]}" $compiler $copier $emulator dtc
+needs "${packages[*]}" $compiler $copier $emulator dtc gcc
 mkdir -p "$work" ${keep:+"$keep"}
 work=$(cd "$work" && pwd)
 to=$(mktemp -d)
@@ -95,14 +97,14 @@ run() {
     emulate -kernel "$to/$firmware.elf" -machine virt,virtualization=on,gic-version=3 -m 256M "$@" "${devices[@]}"
     emulated=$SECONDS
     tr -d '\r' <"$to/uart" | sed -E '/^[><] /d' >"$to/linux"
-    "$player" run "$to/manifest" "$to/trace" >"$to/expected" || fail "$name: the program doesn't play what Linux did"
+    "${judge[@]}" "$to/manifest" "$to/trace" >"$to/expected" || fail "$name: the program doesn't play what Linux did"
     if [[ $keep ]]; then keep_run "$name"; fi
 }
 
 # What was printed, and why the core refused what it refused.
 keep_run() {
     local kind
-    "$player" run --explain --names "$to/manifest" "$to/trace" >"$to/explained"
+    if [[ ${judge[1]} == run ]]; then "$player" run --explain --names "$to/manifest" "$to/trace"; fi >"$to/explained"
     for kind in uart linux trace found expected explained; do cp "$to/$kind" "$keep/$1.$kind"; done
 }
 
@@ -153,6 +155,38 @@ try_random() {
     grep -o 'random: [0-9].*' "$to/linux"
 }
 
+# How many calls of Linux's were answered that somebody is busy. They are those that may be: requests, cycles and messages.
+busy() {
+    paste -d '|' <(grep -v '^on ' "$to/trace") "$to/found" | awk -F '|' '
+        $2 !~ /^regs 0000 0000000084000060 0000000000000000 00000000FFFFFFFC / { next }
+        $1 ~ /^call (C400006F|8400006F|8400006D|84000086)( |$)/ { busy++; next }
+        { print "busy: " $1 >"/dev/stderr"; others++ }
+        END { if (others) exit 1; print busy + 0 }'
+}
+
+# Linux on so many processors, on each of which a partition may run and is interrupted by what is due there: a partition that works long for one, and
+# threads that all work at once. Traces of several processors aren't the program's to play: try_several NUMBER PROCESSOR
+try_several() {
+    local judge=("$to/judge" several) redistributors found
+    redistributors=$(printf %X $((0x20000 * $1)))
+    build_tree smc "$1" ffa_try.works=20 "ffa_try.random=$rounds"
+    limit=1800 run "$1-processors" several -cpu "$2" -smp "$1" -accel tcg,thread=multi
+    judge "$1-processors" linux driver held 6.12 "$1-processors" works random
+    grep -o 'works: [0-9].*' "$to/linux"
+    grep -o 'random: [0-9].*' "$to/linux"
+    found=$(busy) || fail "$1-processors: a call is busy that names no partition"
+    echo "$1-processors: $(grep -c '^interrupt' "$to/trace") interrupts of partitions, $(grep -c '^resumed' "$to/found") times one went on;" \
+        "$found calls were busy; $(sed -n 's/^# interrupts.*; \(faults .*\)/\1/p' "$to/linux")"
+}
+
+all_several() {
+    build several -DSEVERAL=1
+    build_judge "$repository"
+    make_archive "$repository"
+    try_several 2 "$1"
+    try_several 4 "$1"
+}
+
 # All that is run of the kernel of the kind 4k.
 run_all() {
     local all=(linux driver held 6.12) conduit
@@ -167,6 +201,7 @@ run_all() {
     build_tree smc 2
     try two-processors plain cortex-a57 "${all[@]}" two-processors
     try_random notify cortex-a57 "${all[@]}" notifications
+    all_several cortex-a57
     find_stale
     measure
 }
@@ -194,6 +229,12 @@ make_archive "$repository"
 [[ -n ${FFAPLAY:-}$limits ]] || "$repository/ffaplay" prove
 build_partition
 build plain
+judge=("$player" run)
+if [[ $several ]]; then
+    all_several cortex-a57
+    echo passed
+    exit
+fi
 case $kernel in
     4k) if [[ $limits ]]; then run_long; else run_all; fi ;;
     16k) run_other max 6.12 ;;

@@ -3,12 +3,11 @@
 #include "generators.h"
 #include "layout.h"
 #include "lock.h"
+#include "psci.h"
 #include "rounds.h"
 #include "several.h"
 #include "text.h"
 #include "watch.h"
-
-#define PSCI_CPU_ON UINT64_C(0xC4000003)
 
 /* Microseconds: how soon an interrupt comes that is to come, how soon the timer rings again that came too early, and the most of one that is
  * made up. */
@@ -17,7 +16,6 @@
 #define MOST_RANDOM 2000
 
 void firmware(void);
-void second_start(void);
 void second_processor(void);
 
 static struct board board;
@@ -198,16 +196,6 @@ void second_processor(void) {
     run_board(&board);
 }
 
-static void start_processor(uint64_t number) {
-    register uint64_t function __asm__("x0") = PSCI_CPU_ON;
-    register uint64_t processor __asm__("x1") = number;
-    register uint64_t entry __asm__("x2") = (uintptr_t)second_start;
-    register uint64_t unused __asm__("x3") = 0;
-    DO("dsb ish");
-    __asm__ volatile("smc #0" : "+r"(function), "+r"(processor), "+r"(entry), "+r"(unused) : : "memory");
-    if (function != 0) stop("a processor doesn't start");
-}
-
 void firmware(void) {
     uint64_t seed, count;
     begin_processor();
@@ -218,6 +206,8 @@ void firmware(void) {
     place_other_programs(&board, scene_processors(), is_random);
     if (is_random) begin_generators(&board, seed, count);
     after_boot();
-    for (uint32_t i = 1; i < scene_processors(); i++) start_processor(i);
+    for (uint32_t i = 1; i < scene_processors(); i++) {
+        if (!start_processor(i)) stop("a processor doesn't start");
+    }
     run_board(&board);
 }

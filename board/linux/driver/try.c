@@ -22,6 +22,10 @@ static unsigned int pieces = 64;
 module_param(pieces, uint, 0);
 MODULE_PARM_DESC(pieces, "how many pieces the greater of the measured shares has");
 
+static unsigned int works;
+module_param(works, uint, 0);
+MODULE_PARM_DESC(works, "how many requests a partition works for a long time, while others call");
+
 static unsigned int random;
 module_param(random, uint, 0);
 MODULE_PARM_DESC(random, "how many rounds the random clients go in all");
@@ -127,6 +131,8 @@ static int try_all(struct ffa_device *device)
 	tell("the second partition, by its UUID", find_second(), 0);
 	if (rounds)
 		measure(rounds, pieces);
+	if (works)
+		try_works(works);
 	if (random)
 		try_random(random, seed);
 	try_messages();

@@ -82,6 +82,7 @@ void try_messages(void);
 void try_memory(void);
 void try_reach(void);
 void measure(unsigned int rounds, unsigned int pieces);
+void try_works(unsigned int requests);
 void try_random(unsigned int rounds, u64 seed);
 
 /*
