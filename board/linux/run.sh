@@ -110,17 +110,18 @@ keep_run() {
 
 # Judges what was run: judge NAME SECTION.., of expected.txt
 judge() {
-    local lacks name=$1
+    local lacks name=$1 by=program
     shift
+    if [[ ${judge[1]} == several ]]; then by=judge; fi
     if ! cmp -s "$to/expected" "$to/found"; then
         { diff "$to/expected" "$to/found" || true; } | sed -n 1,10p >&2
-        fail "$name: the core answered Linux otherwise than the program (< the program, > the core)"
+        fail "$name: the core answered Linux otherwise than the $by (< the $by, > the core)"
     fi
     lacks=$(missing "$@")
     [[ -z $lacks ]] || { tail -n 30 "$to/linux" >&2; fail "$name: Linux doesn't say: $lacks"; }
     if grep 'FAILED' "$to/linux" >&2; then fail "$name: something that Linux tried came out otherwise"; fi
     has_end || fail "$name: the board didn't come to its end"
-    echo "$name: $(grep -c '^call' "$to/trace") calls as the program prints them, $(grep -c 'ffa_try: ok' "$to/linux") things that the driver tried," \
+    echo "$name: $(grep -c '^call' "$to/trace") calls as the $by prints them, $(grep -c 'ffa_try: ok' "$to/linux") things that the driver tried," \
         "$(sed -n 's/^# \(settled .*\)/\1/p' "$to/linux"), $emulated s"
 }
 
@@ -164,8 +165,8 @@ busy() {
         END { if (others) exit 1; print busy + 0 }'
 }
 
-# Linux on so many processors, on each of which a partition may run and is interrupted by what is due there: a partition that works long for one, and
-# threads that all work at once. Traces of several processors aren't the program's to play: try_several NUMBER PROCESSOR
+# Linux on so many processors, on each of which a partition may run and is stopped by what is due there: a partition that works long for one, and
+# threads that all work at once. The program doesn't play what several processors did: try_several NUMBER PROCESSOR
 try_several() {
     local judge=("$to/judge" several) redistributors found
     redistributors=$(printf %X $((0x20000 * $1)))
