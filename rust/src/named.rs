@@ -77,10 +77,10 @@ const fn arguments(function: Function) -> &'static [Place] {
 /// Which arguments of a call may be left out.
 const fn optional(function: Function) -> &'static [&'static str] {
     match function {
+        Function::Interrupt | Function::Run | Function::NotificationGet => &["context"],
         Function::RxtxUnmap => &["endpoint"],
         Function::PartitionInfoGet => &["uuid", "count_only"],
         Function::MsgWait | Function::Yield => &["partition", "context"],
-        Function::Run | Function::NotificationGet => &["context"],
         Function::MsgSendDirectReq
         | Function::MsgSendDirectReq64
         | Function::MsgSendDirectResp
