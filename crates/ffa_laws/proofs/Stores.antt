@@ -1,9 +1,9 @@
 -- SPDX-License-Identifier: MIT OR Apache-2.0
 -- Bytes of a page are stored one by one, by who may write there.
-use Rattle.std.proofs.Common.{◌≡◌, ◌≢◌, ◌∙◌, ℕ, zero, suc, ◌+◌, ◌-◌, ◌*◌, ◌/◌, ◌%◌, ◌^◌, ◌<◌, ◌≤◌, Bool, true, false, cond, List, [], ◌∷◌, ◌++◌, length, get_or, set, Option, Some, None, refl, sym, ap, subst, arith, inl, inr, length-set, get_or-set_other, get_or-set_same, set-set}
-use Rattle.std.specs.Prelude.{◌==◌, ◌&&◌, nat_le, nat_lt}
+use Rattle.std.proofs.Common.{◌≡◌, ◌∙◌, ℕ, zero, suc, ◌+◌, ◌-◌, ◌*◌, ◌/◌, ◌%◌, ◌^◌, ◌<◌, ◌≤◌, Bool, true, cond, List, [], ◌∷◌, ◌++◌, length, get_or, set, Option, Some, None, refl, sym, ap, subst, arith, inl, inr, length-set, get_or-set_other, get_or-set_same, set-set}
+use Rattle.std.specs.Prelude.{◌==◌, ◌&&◌, ◌||◌, nat_le, nat_lt}
 use Rattle.std.specs.Option.{option_and_then, option_map, option_map_or}
-use Rattle.std.proofs.lemmas.Bool.{and_from, and_parts, cases_Bool, cases_eq, cases_lt, eq-eqb, eqb-true, false_from_ne_true, false≢true, le-leb, leb-true, lt-ltb, ltb-true}
+use Rattle.std.proofs.lemmas.Bool.{and_from, and_parts, cases_eq, cases_lt, eq-eqb, eqb-true, ne_eqb, false≢true, le-leb, leb-true, lt-ltb, ltb-true}
 use Rattle.std.proofs.lemmas.Option.{none-some, same_Some}
 use Rattle.std.proofs.lemmas.List.{get_or_past, set-get_or}
 use Rattle.byteorder.specs.Endian.{little_bytes}
@@ -18,7 +18,6 @@ use Rattle.ffa_model.specs.declared.limits.TheConstants.{MOST_RAM}
 use Rattle.ffa_model.specs.Access.{access, held_by, right_by, right_of, transaction_at}
 use Rattle.ffa_model.specs.Calls.{Stepped}
 use Rattle.ffa_model.specs.Elsewhere.{as_run_by, state_after_as, step_as}
-use Rattle.ffa_model.specs.Lists.{is_in_run}
 use Rattle.ffa_model.specs.Manifest.{is_ram_base}
 use Rattle.ffa_model.specs.Memory.{access_at, accessed, fault_of, page_bytes, page_of_address, page_with, store_fault, stored, written, written_pages}
 use Rattle.ffa_model.specs.Ram.{with_bytes}
@@ -27,9 +26,8 @@ use Rattle.ffa_model.specs.SoundState.{IsSoundState, are_bytes}
 use Rattle.ffa_model.specs.State.{State, Page, Transaction, page_at}
 use Rattle.ffa_model.proofs.Accesses.{length-map_at}
 use Rattle.ffa_model.proofs.CallAccesses.{access-written}
-use Rattle.ffa_model.proofs.Runs.{in-run, run-wider, to-run}
 use Rattle.ffa_laws.specs.Readable.{blank, blank_where}
-use Rattle.ffa_laws.specs.Stores.{run_stores, stores, with_bytes_of}
+use Rattle.ffa_laws.specs.Stores.{AreWritten, MayAllStore, all_stores, is_among, stores, with_bytes_of}
 use Rattle.ffa_laws.proofs.Blanks.{at-blanked}
 use Rattle.ffa_laws.proofs.ByteLists.{length-with_bytes}
 use Rattle.ffa_laws.proofs.ElsewhereLaws.{step_as-rests, step_as-runs}
@@ -233,64 +231,61 @@ none-none : (o : Option Page) → None ≡ blank_where true o → o ≡ None
 none-none None is = refl
 none-none (Some q) is = absurd (none-some _ is)
 
--- who differs from t in bytes of pages in a row alone, and stores there what t has, is t
-pub run-stored : (n : ℕ) (s t : State) (e first : ℕ) → IsSoundState s → IsSoundState t → blank (is_in_run first n) s ≡ blank (is_in_run first n) t
-    → ((p : ℕ) → is_in_run first n p ≡ true → may_store (access s e p) ≡ true) → state_after_as s (run_stores e t first n) ≡ t
-run-stored zero s t e first sound good same may =
-    sym (nothing-hidden s) ∙ same ∙ nothing-hidden t
+-- one page more is as in t
+next-alike : (s t : State) (first : ℕ) (others : ℕ → Bool) (bytes : List ℕ) → blank (λ p. first == p || others p) s ≡ blank (λ p. first == p || others p) t → first < length s.pages
+    → given bytes (page_at s first) ≡ page_at t first → blank others (with_bytes_of s first bytes) ≡ blank others t
+next-alike s t first others bytes same within is = λ i. record (same i) {
+  pages =
+      map_at-alike (λ p page. blank_where (others p) page) (λ p page. blank_where (others p) page)
+      (set s.pages first (given bytes (page_at s first))) t.pages None None
+      (length-set s.pages first (given bytes (page_at s first)) ∙ sym (length-map_at _ s.pages) ∙ ap (λ (x : State). length x.pages) same ∙ length-map_at _ t.pages)
+      each i;
+}
   where
-    nobody : (p : ℕ) → is_in_run first 0 p ≡ false
-    nobody p = false_from_ne_true (is_in_run first 0 p) (λ is. let (low, high) = in-run first 0 p is in absurd (omega (arith, low, high)))
+    each : (p : ℕ) → blank_where (others p) (get_or (set s.pages first (given bytes (page_at s first))) p None) ≡ blank_where (others p) (page_at t p)
+    each p = elim (cases_eq p first) [
+      | inl at ↦
+          ap (blank_where (others p))
+          (subst (λ (q : ℕ). get_or (set s.pages first (given bytes (page_at s first))) q None ≡ page_at t q) (sym at)
+          (get_or-set_same s.pages first (given bytes (page_at s first)) None within ∙ is))
+      | inr other ↦
+          ap (blank_where (others p)) (get_or-set_other s.pages first p (given bytes (page_at s first)) None other)
+          ∙ subst (λ (b : Bool). blank_where b (page_at s p) ≡ blank_where b (page_at t p))
+          (ap (λ (b : Bool). b || others p) (ne_eqb first p (λ is. other (sym is)))) (page-alike (λ q. first == q || others q) s t same p)
+    ]
 
-    nothing-hidden : (x : State) → blank (is_in_run first 0) x ≡ x
-    nothing-hidden x = ap (λ (ps : List (Option Page)). record x { pages = ps })
-        (map_at-id (λ p page. blank_where (is_in_run first 0 p) page) x.pages None (λ p. ap (λ (b : Bool). blank_where b (page_at x p)) (nobody p)))
-run-stored (suc n) s t e first sound good same may =
-    let here : is_in_run first (suc n) first ≡ true = to-run first (suc n) first (omega arith) (omega arith) in
+may-given : (xs : List (ℕ × ℕ)) (s : State) (q : ℕ) (bytes : List ℕ) → q < length s.pages → MayAllStore s xs → MayAllStore (with_bytes_of s q bytes) xs
+may-given [] s q bytes within may = tt
+may-given (x ∷ xs) s q bytes within (known, one, may) = (known, ap may_store (access-given s q bytes x.0 x.1 within) ∙ one, may-given xs s q bytes within may)
+
+-- who differs from t in bytes of pages alone, into which endpoints store what t has, is t
+pub all-stored : (xs : List (ℕ × ℕ)) (s t : State) → IsSoundState s → IsSoundState t → blank (is_among xs) s ≡ blank (is_among xs) t → MayAllStore s xs
+    → state_after_as s (all_stores t xs) ≡ t
+all-stored [] s t sound good same may = sym (nothing-hidden s) ∙ same ∙ nothing-hidden t
+  where
+    nothing-hidden : (x : State) → blank (is_among []) x ≡ x
+    nothing-hidden x = ap (λ (ps : List (Option Page)). record x { pages = ps }) (map_at-id (λ p page. blank_where (is_among [] p) page) x.pages None (λ p. refl))
+all-stored (x ∷ xs) s t sound good same (known, one, may) =
+    let e : ℕ = x.0 in
+    let first : ℕ = x.1 in
     let base : s.ram_base ≡ t.ram_base = ap (λ (x : State). x.ram_base) same in
-    let within = page-within s e first (may first here) in
+    let within = page-within s e first one in
+    let here : is_among (x ∷ xs) first ≡ true = ap (λ (b : Bool). b || is_among xs first) (eq-eqb first first refl) in
     let alike : blank_where true (page_at s first) ≡ blank_where true (page_at t first) =
-    subst (λ (b : Bool). blank_where b (page_at s first) ≡ blank_where b (page_at t first)) here (page-alike (is_in_run first (suc n)) s t same first) in
-    let some : page_at t first ≡ None → ⊥ = λ none. some-there s e first (page_at s first) refl (may first here)
+    subst (λ (b : Bool). blank_where b (page_at s first) ≡ blank_where b (page_at t first)) here (page-alike (is_among (x ∷ xs)) s t same first) in
+    let some : (page_at t first ≡ None → ⊥) = λ none. some-there s e first (page_at s first) refl one
     (none-none (page_at s first) (sym (alike ∙ ap (blank_where true) none))) in
     let (size, are) = page-sound t first good (page_at t first) refl some in
-    let one : state_after_as s (stores e (t.ram_base + 4096 * first) (page_bytes t first)) ≡ with_bytes_of s first (page_bytes t first) =
+    let stored : state_after_as s (stores e (t.ram_base + 4096 * first) (page_bytes t first)) ≡ with_bytes_of s first (page_bytes t first) =
     ap (λ (b : ℕ). state_after_as s (stores e (b + 4096 * first) (page_bytes t first))) (sym base)
-    ∙ bytes-stored s e first (page_bytes t first) sound within (may first here) size are in
-    let next : State = with_bytes_of s first (page_bytes t first) in
-    after-both s (stores e (t.ram_base + 4096 * first) (page_bytes t first)) (run_stores e t (first + 1) n)
-    ∙ ap (λ (x : State). state_after_as x (run_stores e t (first + 1) n)) one
-    ∙ run-stored n next t e (first + 1)
-    (subst IsSoundState one (sound_after_as s (stores e (t.ram_base + 4096 * first) (page_bytes t first)) sound)) good
-    (next-alike s t first n (page_bytes t first) same within
-    (given-alike (page_at s first) (page_at t first) alike))
-    (λ p its. ap may_store (access-given s first (page_bytes t first) e p within) ∙ may p (run-wider first n p its))
-  where
-    next-alike : (s t : State) (first n : ℕ) (bytes : List ℕ) → blank (is_in_run first (suc n)) s ≡ blank (is_in_run first (suc n)) t → first < length s.pages
-        → given bytes (page_at s first) ≡ page_at t first → blank (is_in_run (first + 1) n) (with_bytes_of s first bytes) ≡ blank (is_in_run (first + 1) n) t
-    next-alike s t first n bytes same within is = λ i. record (same i) {
-      pages =
-          map_at-alike (λ p page. blank_where (is_in_run (first + 1) n p) page) (λ p page. blank_where (is_in_run (first + 1) n p) page)
-          (set s.pages first (given bytes (page_at s first))) t.pages None None
-          (length-set s.pages first (given bytes (page_at s first)) ∙ sym (length-map_at _ s.pages) ∙ ap (λ (x : State). length x.pages) same ∙ length-map_at _ t.pages)
-          each i;
-    }
-      where
-        each : (p : ℕ) → blank_where (is_in_run (first + 1) n p) (get_or (set s.pages first (given bytes (page_at s first))) p None) ≡ blank_where (is_in_run (first + 1) n p) (page_at t p)
-        each p = elim (cases_eq p first) [
-          | inl at ↦
-              ap (blank_where (is_in_run (first + 1) n p))
-              (subst (λ (q : ℕ). get_or (set s.pages first (given bytes (page_at s first))) q None ≡ page_at t q) (sym at)
-              (get_or-set_same s.pages first (given bytes (page_at s first)) None within ∙ is))
-          | inr other ↦
-              ap (blank_where (is_in_run (first + 1) n p)) (get_or-set_other s.pages first p (given bytes (page_at s first)) None other)
-              ∙ subst (λ (b : Bool). blank_where b (page_at s p) ≡ blank_where b (page_at t p)) (rest p other) (page-alike (is_in_run first (suc n)) s t same p)
-        ]
-          where
-            rest : (p : ℕ) → p ≢ first → is_in_run first (suc n) p ≡ is_in_run (first + 1) n p
-            rest p other = elim (cases_Bool (is_in_run (first + 1) n p)) [
-              | inl its ↦ run-wider first n p its ∙ sym its
-              | inr off ↦
-                  false_from_ne_true (is_in_run first (suc n) p) (λ its. let (low, high) = in-run first (suc n) p its in
-                  false≢true (sym off ∙ to-run (first + 1) n p (omega (arith, low, other)) (omega (arith, high)))) ∙ sym off
-            ]
+    ∙ bytes-stored s e first (page_bytes t first) sound within one size are in
+    after-both s (stores e (t.ram_base + 4096 * first) (page_bytes t first)) (all_stores t xs)
+    ∙ ap (λ (u : State). state_after_as u (all_stores t xs)) stored
+    ∙ all-stored xs (with_bytes_of s first (page_bytes t first)) t
+    (subst IsSoundState stored (sound_after_as s (stores e (t.ram_base + 4096 * first) (page_bytes t first)) sound)) good
+    (next-alike s t first (is_among xs) (page_bytes t first) same within (given-alike (page_at s first) (page_at t first) alike))
+    (may-given xs s first (page_bytes t first) within may)
+
+-- what others write is stores of theirs
+pub written-stored : (s t : State) → IsSoundState s → (written : AreWritten s t) → state_after_as s (all_stores t written.pages) ≡ t
+written-stored s t sound written = all-stored written.pages s t sound written.sound written.same written.may

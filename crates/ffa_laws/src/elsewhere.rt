@@ -5,7 +5,6 @@ ghost use Rattle.std.specs.Prelude.{ℕ, ◌≡◌, ◌+◌, ◌*◌, ◌<◌, t
 ghost use Rattle.ffa_model.specs.declared.operation.Op.{Op};
 ghost use Rattle.ffa_model.specs.Access.{access};
 ghost use Rattle.ffa_model.specs.Elsewhere.{state_after_as, step_as};
-ghost use Rattle.ffa_model.specs.Lists.{is_in_run};
 ghost use Rattle.ffa_model.specs.Rights.{may_store};
 ghost use Rattle.ffa_model.specs.SoundState.{IsSoundState, are_bytes};
 ghost use Rattle.ffa_model.specs.State.{State, is_known};
@@ -14,9 +13,8 @@ ghost use Rattle.ffa_laws.specs.Elsewhere.{ConfidentialAs, IntegrityAs, OneStepA
 ghost use Rattle.ffa_laws.specs.ElsewhereRuns.{IsolatedAs, are_known};
 ghost use Rattle.ffa_laws.specs.Isolation.{NeverGrow};
 ghost use Rattle.ffa_laws.specs.OwnAccess.{AreApart};
-ghost use Rattle.ffa_laws.specs.Readable.{blank};
 ghost use Rattle.ffa_laws.specs.Steady.{IsSteady};
-ghost use Rattle.ffa_laws.specs.Stores.{run_stores, stores, with_bytes_of};
+ghost use Rattle.ffa_laws.specs.Stores.{AreWritten, all_stores, stores, with_bytes_of};
 
 /// One operation of any endpoint: the runner's is a step. Another endpoint's view changes by the events that the operation
 /// tells it, and the outcome and the own view afterwards depend on the own view alone. Rights don't grow, and a state that
@@ -76,8 +74,6 @@ pub fn bytes_are_stores()
     ensures page { (s : State) (e p : ℕ) (bytes : List ℕ) → IsSoundState s → p < length s.pages
         → may_store (access s e p) ≡ true → length bytes ≡ 4096 → are_bytes bytes
         → state_after_as s (stores e (s.ram_base + 4096 * p) bytes) ≡ with_bytes_of s p bytes }
-    ensures pages { (s t : State) (e first n : ℕ) → IsSoundState s → IsSoundState t
-        → blank (is_in_run first n) s ≡ blank (is_in_run first n) t
-        → ((p : ℕ) → is_in_run first n p ≡ true → may_store (access s e p) ≡ true)
-        → state_after_as s (run_stores e t first n) ≡ t }
+    ensures pages { (s t : State) → IsSoundState s → (written : AreWritten s t)
+        → state_after_as s (all_stores t written.pages) ≡ t }
 {}

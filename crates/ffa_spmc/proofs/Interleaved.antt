@@ -1,10 +1,11 @@
 -- SPDX-License-Identifier: MIT OR Apache-2.0
 -- What others write while operations are done, as stores of who runs.
-use Rattle.std.proofs.Common.{◌≡◌, ◌∙◌, ℕ, zero, suc, ◌+◌, ◌*◌, ◌≤◌, Bool, true, false, cond, List, [], ◌∷◌, ◌++◌, length, get_or, Option, Some, None, refl, sym, ap, subst, arith}
-use Rattle.std.specs.Prelude.{◌==◌}
+use Rattle.std.proofs.Common.{◌≡◌, ◌∙◌, ℕ, zero, suc, ◌+◌, ◌*◌, ◌≤◌, Bool, true, false, cond, List, [], ◌∷◌, ◌++◌, length, get_or, Option, Some, None, refl, sym, ap, subst, arith, inl, inr}
+use Rattle.std.specs.Prelude.{◌==◌, ◌||◌}
 use Rattle.std.specs.Option.{option_and_then, option_map, option_map_or}
 use Rattle.std.specs.List.{list_all}
-use Rattle.std.proofs.lemmas.Bool.{and_from, false≢true}
+use Rattle.std.proofs.lemmas.Bool.{and_from, cases_Bool, cases_eq, eq-eqb, false_from_ne_true, false≢true, ne_eqb}
+use Rattle.std.proofs.Math.Path.{fun_ext}
 use Rattle.std.proofs.lemmas.Bool.Decides.{nat_tests}
 use Rattle.std.proofs.lemmas.List.{append_assoc}
 use Rattle.std.proofs.lemmas.List.Folds.{list_all-append}
@@ -39,20 +40,20 @@ use Rattle.ffa_model.proofs.Runs.{in-run, run-wider, to-run}
 use Rattle.ffa_laws.specs.ElsewhereRuns.{are_known}
 use Rattle.ffa_laws.specs.Isolation.{NeverGrow}
 use Rattle.ffa_laws.specs.Readable.{blank}
-use Rattle.ffa_laws.specs.Reads.{bytes_read, pages_holding, tx_pages_read}
-use Rattle.ffa_laws.specs.Stores.{run_stores, stores}
+use Rattle.ffa_laws.specs.Reads.{bytes_read, pages_holding}
+use Rattle.ffa_laws.specs.Stores.{AreStores, AreWritten, MayAllStore, all_stores, is_among, stores}
 use Rattle.ffa_laws.proofs.ElsewhereLaws.{fixed-step_as, step_as-runner}
 use Rattle.ffa_laws.proofs.ElsewhereRunLaws.{isolated_as, known-as, never_grow_as, sound_after_as}
 use Rattle.ffa_laws.proofs.Form.{served-kept}
 use Rattle.ffa_laws.proofs.Kept.{fixed, step-fixed}
 use Rattle.ffa_laws.proofs.SoundOperations.{step-sound}
 use Rattle.ffa_laws.proofs.SoundSteady.{runner-known, sound-steady}
-use Rattle.ffa_laws.proofs.Stores.{after-both, run-stored}
+use Rattle.ffa_laws.proofs.Stores.{after-both, written-stored}
 use Rattle.ffa_laws.proofs.Writers.{usable-writes}
 use Rattle.ffa_laws.proofs.Written.{at-changed, is_at, with_rx_full}
 use Rattle.ffa_spmc.specs.declared.run.Run.{Run}
 use Rattle.ffa_spmc.specs.Among.{AreDoneReading, IsDoneReading, are_in, front_of, is_in, pages_read}
-use Rattle.ffa_spmc.specs.Interleaved.{AreAmongStores, AreStoresInto, IsInterleaved}
+use Rattle.ffa_spmc.specs.Interleaved.{AreAmongAll, AreAmongStores, AreDoneBetween, AreStoresInto, IsInterleaved, IsRunOfAll}
 use Rattle.ffa_spmc.specs.Snapshot.{Snapshot}
 use Rattle.ffa_spmc.proofs.Readings.{holding-few}
 
@@ -207,11 +208,50 @@ page-few t sound p = of (page_at t p) refl
     of None at = omega arith
     of (Some q) at = let size = (sound.pages p q at).size in omega (arith, size)
 
+-- pages in a row, all beside one endpoint
+abbrev beside : ℕ → ℕ → ℕ → List (ℕ × ℕ)
+beside e first zero = []
+beside e first (suc n) = (e, first) ∷ beside e (first + 1) n
+
+among-beside : (n : ℕ) (e first p : ℕ) → is_among (beside e first n) p ≡ is_in_run first n p
+among-beside zero e first p = sym (false_from_ne_true (is_in_run first 0 p) (λ is. let (low, high) = in-run first 0 p is in absurd (omega (arith, low, high))))
+among-beside (suc n) e first p = ap (λ (b : Bool). first == p || b) (among-beside n e (first + 1) p) ∙ elim (cases_eq first p) [
+  | inl at ↦
+      ap (λ (b : Bool). b || is_in_run (first + 1) n p) (eq-eqb first p at)
+      ∙ sym (to-run first (suc n) p (omega (arith, at)) (omega (arith, at)))
+  | inr off ↦ ap (λ (b : Bool). b || is_in_run (first + 1) n p) (ne_eqb first p off) ∙ elim (cases_Bool (is_in_run (first + 1) n p)) [
+    | inl its ↦ its ∙ sym (run-wider first n p its)
+    | inr out ↦
+        out ∙ sym (false_from_ne_true (is_in_run first (suc n) p) (λ its. let (low, high) = in-run first (suc n) p its in
+        false≢true (sym out ∙ to-run (first + 1) n p (omega (arith, low, off)) (omega (arith, high)))))
+  ]
+]
+
+may-beside : (n : ℕ) (s : State) (e first : ℕ) → is_known s e ≡ true → ((p : ℕ) → is_in_run first n p ≡ true → may_store (access s e p) ≡ true) → MayAllStore s (beside e first n)
+may-beside zero s e first known may = tt
+may-beside (suc n) s e first known may = (
+  known,
+  may first (to-run first (suc n) first (omega arith) (omega arith)),
+  may-beside n s e (first + 1) known (λ p its. may p (run-wider first n p its)),
+)
+
+-- who differs in bytes of a run alone, into which an endpoint may store
+abbrev run-written : (s t : State) (e : ℕ) (run : Run) → IsSoundState t → is_known s e ≡ true → blank (is_in run) s ≡ blank (is_in run) t
+    → ((p : ℕ) → is_in run p ≡ true → may_store (access s e p) ≡ true) → AreWritten s t
+run-written s t e run sound known same may =
+    record {
+      pages = beside e run.first.0 run.count;
+      may = may-beside run.count s e run.first.0 known may;
+      same =
+          subst (λ (f : ℕ → Bool). blank f s ≡ blank f t) (fun_ext (λ p. sym (among-beside run.count e run.first.0 p))) same;
+      sound = sound;
+    }
+
 run-into : (n : ℕ) (e : ℕ) (t : State) → IsSoundState t → (first : ℕ) (named : ℕ → Bool) → ((p : ℕ) → is_in_run first n p ≡ true → named p ≡ true)
-    → AreStoresInto e t.ram_base named (run_stores e t first n)
+    → AreStoresInto e t.ram_base named (all_stores t (beside e first n))
 run-into zero e t sound first named each = tt
 run-into (suc n) e t sound first named each =
-    both-into e t.ram_base named (stores e (t.ram_base + 4096 * first) (page_bytes t first)) (run_stores e t (first + 1) n)
+    both-into e t.ram_base named (stores e (t.ram_base + 4096 * first) (page_bytes t first)) (all_stores t (beside e (first + 1) n))
     (subst (λ (a : ℕ). AreStoresInto e t.ram_base named (stores e a (page_bytes t first))) (omega arith)
     (stores-into (page_bytes t first) e t.ram_base 0 first named (let few = page-few t sound first in omega (arith, few)) (each first (to-run first (suc n) first (omega arith) (omega arith)))))
     (run-into n e t sound (first + 1) named (λ p its. each p (run-wider first n p its)))
@@ -229,6 +269,7 @@ record IsOneAmong (s : State) (op : Op) (told : Outcome) (next : State) : Type 0
   behind : List (ℕ × Op)
   front : AreStoresInto s.runner s.ram_base (are_in (pages_read s op)) before
   back : AreStoresInto s.runner s.ram_base (are_in (pages_read s op)) behind
+  runner : (state_after_as s before).runner ≡ s.runner
   outcome : told ≡ (step (state_after_as s before) op).outcome
   state : state_after_as s (before ++ ((s.runner, op) ∷ behind)) ≡ next
 
@@ -250,6 +291,7 @@ one-among None old op told new sound is done =
       behind = [];
       front = tt;
       back = tt;
+      runner = refl;
       outcome = done.outcome;
       state = ap (λ (t : Stepped). t.state) (step_as-runner old.state op) ∙ sym done.operated.state;
     }
@@ -259,19 +301,22 @@ one-among (Some run) old op told new sound is among =
     let left : State = among.left.state in
     let base : seen.ram_base ≡ s.ram_base = ap (λ (t : State). t.ram_base) (sym among.read.state.same) in
     let runs : seen.runner ≡ s.runner = ap (λ (t : State). t.runner) (sym among.read.state.same) in
-    let before : List (ℕ × Op) = run_stores s.runner seen run.first.0 run.count in
+    let before : List (ℕ × Op) = all_stores seen (beside s.runner run.first.0 run.count) in
     let reads : state_after_as s before ≡ seen =
-    run-stored run.count s seen s.runner run.first.0 sound among.read.sound among.read.state.same (may-before s sound op run is) in
+    written-stored s seen sound (run-written s seen s.runner run among.read.sound (runner-known s sound) among.read.state.same (may-before s sound op run is)) in
     let again : pages_read seen op ≡ Some run = read-same s seen (is_in run) op among.read.state.same ∙ is in
     let acts : left ≡ (step seen op).state = among.done.operated.state in
     let settled : IsSoundState left = subst IsSoundState (sym acts) (step-sound seen among.read.sound op) in
-    let behind : List (ℕ × Op) = run_stores s.runner new.state run.first.0 run.count in
+    let behind : List (ℕ × Op) = all_stores new.state (beside s.runner run.first.0 run.count) in
     let last : ((p : ℕ) → is_in run p ≡ true → may_store (access left s.runner p) ≡ true) = λ p its.
     subst (λ (e : ℕ). may_store (access left e p) ≡ true) runs
     (subst (λ (t : State). may_store (access t seen.runner p) ≡ true) (sym acts)
     (may-behind seen among.read.sound op run again (known-step seen op among.read.sound) p its)) in
     let ends : state_after_as left behind ≡ new.state =
-    run-stored run.count left new.state s.runner run.first.0 settled among.ended.sound among.ended.state.same last in
+    written-stored left new.state settled
+    (run-written left new.state s.runner run among.ended.sound
+    (subst (λ (e : ℕ). is_known left e ≡ true) runs (subst (λ (t : State). is_known t seen.runner ≡ true) (sym acts) (known-step seen op among.read.sound)))
+    among.ended.state.same last) in
     let base' : new.state.ram_base ≡ s.ram_base =
     ap (λ (t : State). t.ram_base) (sym among.ended.state.same) ∙ ap (λ (t : State). t.ram_base) acts ∙ ap (λ (f : List Party × ℕ). f.1) (step-fixed seen op) ∙ base in
     record {
@@ -281,6 +326,7 @@ one-among (Some run) old op told new sound is among =
           (run-into run.count s.runner seen among.read.sound run.first.0 (are_in (pages_read s op)) (λ p its. ap (λ (o : Option Run). are_in o p) is ∙ its));
       back = subst (λ (b : ℕ). AreStoresInto s.runner b (are_in (pages_read s op)) behind) base'
           (run-into run.count s.runner new.state among.ended.sound run.first.0 (are_in (pages_read s op)) (λ p its. ap (λ (o : Option Run). are_in o p) is ∙ its));
+      runner = ap (λ (t : State). t.runner) reads ∙ runs;
       outcome = among.done.outcome ∙ ap (λ (t : State). (step t op).outcome) (sym reads);
       state =
           after-both s before ((s.runner, op) ∷ behind)
@@ -349,6 +395,129 @@ pub interleaved : (ops : List Op) (alone : Bool) (old new : Snapshot) (told : Li
     → IsInterleaved old.state ops told new.state
 interleaved ops alone old new told sound done =
     let all = all-among ops alone old new told sound done in
+    let steady = sound-steady old.state sound in
+    record {
+      list = all.list;
+      among = all.among;
+      state = all.state;
+      isolated = isolated_as old.state all.list steady all.known;
+      never_grow = subst (NeverGrow old.state) all.state (never_grow_as old.state all.list steady all.known);
+    }
+
+-- ---- what is written between two operations
+
+-- stores of who may are stores, and of endpoints of the machine
+into-stores : (e base : ℕ) (named : ℕ → Bool) (xs : List (ℕ × Op)) → AreStoresInto e base named xs → AreStores xs
+into-stores e base named [] into = tt
+into-stores e base named (x ∷ xs) ((address, byte, is, at), into) = ((address, byte, ap (λ (y : ℕ × Op). y.1) is), into-stores e base named xs into)
+
+both-stores : (xs ys : List (ℕ × Op)) → AreStores xs → AreStores ys → AreStores (xs ++ ys)
+both-stores [] ys front back = back
+both-stores (x ∷ xs) ys (one, front) back = (one, both-stores xs ys front back)
+
+page-stores : (bytes : List ℕ) (e address : ℕ) → AreStores (stores e address bytes)
+page-stores [] e address = tt
+page-stores (b ∷ bytes) e address = ((address, b, refl), page-stores bytes e (address + 1))
+
+are-stores : (t : State) (xs : List (ℕ × ℕ)) → AreStores (all_stores t xs)
+are-stores t [] = tt
+are-stores t (x ∷ xs) = both-stores (stores x.0 (t.ram_base + 4096 * x.1) (page_bytes t x.1)) (all_stores t xs) (page-stores (page_bytes t x.1) x.0 (t.ram_base + 4096 * x.1)) (are-stores t xs)
+
+page-known : (s : State) (e : ℕ) → is_known s e ≡ true → (bytes : List ℕ) (address : ℕ) → are_known s (stores e address bytes) ≡ true
+page-known s e known [] address = refl
+page-known s e known (b ∷ bytes) address = and_from (is_known s e) (are_known s (stores e (address + 1) bytes)) known (page-known s e known bytes (address + 1))
+
+all-known : (s t : State) (xs : List (ℕ × ℕ)) → MayAllStore s xs → are_known s (all_stores t xs) ≡ true
+all-known s t [] may = refl
+all-known s t (x ∷ xs) (known, one, may) =
+    known-both s (stores x.0 (t.ram_base + 4096 * x.1) (page_bytes t x.1)) (all_stores t xs)
+    (page-known s x.0 known (page_bytes t x.1) (t.ram_base + 4096 * x.1)) (all-known s t xs may)
+
+-- stores in front of such a list
+more-among : (ops : List Op) (s t : State) (told : List Outcome) (xs ys : List (ℕ × Op)) → AreStores xs → state_after_as s xs ≡ t
+    → AreAmongAll t ops told ys → AreAmongAll s ops told (xs ++ ys)
+more-among [] s t told xs ys stores leads (none, rest) = (none, both-stores xs ys stores rest)
+more-among (op ∷ ops) s t told xs ys stores leads (before, rest, later, is, others, first, among) =
+    let same : state_after_as s (xs ++ before) ≡ state_after_as t before = after-both s xs before ∙ ap (λ (u : State). state_after_as u before) leads in (
+      xs ++ before,
+      rest,
+      later,
+      ap (λ (zs : List (ℕ × Op)). xs ++ zs) is ∙ sym (append_assoc xs before (((state_after_as t before).runner, op) ∷ rest))
+          ∙ ap (λ (u : State). (xs ++ before) ++ ((u.runner, op) ∷ rest)) (sym same),
+      both-stores xs before stores others,
+      first ∙ ap (λ (u : State). (step u op).outcome ∷ later) (sym same),
+      subst (λ (u : State). AreAmongAll (step u op).state ops later rest) (sym same) among,
+    )
+
+record AreAllBetween (s : State) (ops : List Op) (told : List Outcome) (new : State) : Type 0 where
+  list : List (ℕ × Op)
+  among : AreAmongAll s ops told list
+  state : state_after_as s list ≡ new
+  known : are_known s list ≡ true
+
+all-between : (ops : List Op) (old new : Snapshot) (told : List Outcome) → IsSoundState old.state → AreDoneBetween old ops told new → AreAllBetween old.state ops told new.state
+all-between [] old new told sound (none, written) =
+    record {
+      list = all_stores new.state written.pages;
+      among = (none, are-stores new.state written.pages);
+      state = written-stored old.state new.state sound written;
+      known = all-known old.state new.state written.pages written.may;
+    }
+all-between (op ∷ ops) old new told sound (begun, next, outcome, rest, written, first, done, left) =
+    let one = one-among (pages_read begun.state op) begun op outcome next written.sound refl done in
+    let both : List (ℕ × Op) = one.before ++ ((begun.state.runner, op) ∷ one.behind) in
+    let sound' : IsSoundState next.state = subst IsSoundState one.state (sound_after_as begun.state both written.sound) in
+    let later = all-between ops next new rest sound' left in
+    let between : List (ℕ × Op) = all_stores begun.state written.pages in
+    let begins : state_after_as old.state between ≡ begun.state = written-stored old.state begun.state sound written in
+    let acts : State = state_after_as begun.state one.before in
+    let before : List (ℕ × Op) = between ++ one.before in
+    let leads : state_after_as old.state before ≡ acts = after-both old.state between one.before ∙ ap (λ (u : State). state_after_as u one.before) begins in
+    let stepped : (step_as acts begun.state.runner op).state ≡ (step acts op).state =
+    ap (λ (e : ℕ). (step_as acts e op).state) (sym one.runner) ∙ ap (λ (t : Stepped). t.state) (step_as-runner acts op) in
+    let ends : state_after_as (step acts op).state one.behind ≡ next.state =
+    ap (λ (u : State). state_after_as u one.behind) (sym stepped) ∙ sym (after-both begun.state one.before ((begun.state.runner, op) ∷ one.behind)) ∙ one.state in
+    let runner = runner-known begun.state written.sound in
+    let base : ℕ = begun.state.ram_base in
+    let named : (ℕ → Bool) = are_in (pages_read begun.state op) in
+    let front : AreStores one.before = into-stores begun.state.runner base named one.before one.front in
+    let back : AreStores one.behind = into-stores begun.state.runner base named one.behind one.back in
+    let tail : List (ℕ × Op) = one.behind ++ later.list in
+    let whole : List (ℕ × Op) = before ++ (((state_after_as old.state before).runner, op) ∷ tail) in
+    let plain : List (ℕ × Op) = between ++ (both ++ later.list) in
+    let same : plain ≡ whole =
+    ap (λ (zs : List (ℕ × Op)). between ++ zs) (append_assoc one.before ((begun.state.runner, op) ∷ one.behind) later.list)
+    ∙ sym (append_assoc between one.before ((begun.state.runner, op) ∷ tail))
+    ∙ ap (λ (e : ℕ). before ++ ((e, op) ∷ tail)) (sym (ap (λ (u : State). u.runner) leads ∙ one.runner)) in
+    record {
+      list = whole;
+      among = (
+        before,
+        tail,
+        rest,
+        refl,
+        both-stores between one.before (are-stores begun.state written.pages) front,
+        first ∙ ap (λ (o : Outcome). o ∷ rest) one.outcome ∙ ap (λ (u : State). (step u op).outcome ∷ rest) (sym leads),
+        subst (λ (u : State). AreAmongAll (step u op).state ops rest tail) (sym leads)
+            (more-among ops (step acts op).state next.state rest one.behind later.list back ends later.among),
+      );
+      state =
+          ap (state_after_as old.state) (sym same) ∙ after-both old.state between (both ++ later.list)
+          ∙ ap (λ (u : State). state_after_as u (both ++ later.list)) begins
+          ∙ after-both begun.state both later.list ∙ ap (λ (u : State). state_after_as u later.list) one.state ∙ later.state;
+      known =
+          ap (are_known old.state) (sym same)
+          ∙ known-both old.state between (both ++ later.list) (all-known old.state begun.state written.pages written.may)
+          (known-back old.state begun.state (ap fixed (sym begins) ∙ fixed-after between old.state) (both ++ later.list)
+          (known-both begun.state both later.list
+          (known-both begun.state one.before ((begun.state.runner, op) ∷ one.behind) (stores-known begun.state.runner base named begun.state runner one.before one.front)
+          (and_from (is_known begun.state begun.state.runner) (are_known begun.state one.behind) runner (stores-known begun.state.runner base named begun.state runner one.behind one.back)))
+          (known-back begun.state next.state (ap fixed (sym one.state) ∙ fixed-after both begun.state) later.list later.known)));
+    }
+
+pub between : (ops : List Op) (old new : Snapshot) (told : List Outcome) → IsSoundState old.state → AreDoneBetween old ops told new → IsRunOfAll old.state ops told new.state
+between ops old new told sound done =
+    let all = all-between ops old new told sound done in
     let steady = sound-steady old.state sound in
     record {
       list = all.list;

@@ -7,6 +7,7 @@ ghost use Rattle.ffa_model.specs.declared.operation.Outcome.{Outcome};
 ghost use Rattle.ffa_model.specs.Agreement.{Agrees};
 ghost use Rattle.ffa_model.specs.SoundState.{IsSoundState};
 ghost use Rattle.ffa_laws.specs.Isolation.{NeverGrow};
+ghost use Rattle.ffa_spmc.specs.Interleaved.{AreDoneBetween, IsRunOfAll};
 ghost use Rattle.ffa_spmc.specs.Meanwhile.{AreDoneAmid, LeavesAmid};
 ghost use Rattle.ffa_spmc.specs.Operated.{IsOperated, IsOperatedAs};
 ghost use Rattle.ffa_spmc.specs.Snapshot.{Snapshot};
@@ -23,4 +24,8 @@ pub fn left_among_others()
     // A list of operations, between which others write too: the state stays sound, and rights never grow.
     ensures list { (old : Snapshot) (ops : List Op) (told : List Outcome) (new : Snapshot) → IsSoundState old.state
         → AreDoneAmid old ops told new → IsSoundState new.state × NeverGrow old.state new.state }
+    // Where others write to the runner's TX while operations are done, and between them into whatever they may, all is a list of
+    // operations of endpoints, what others write being stores: isolated, with rights that never grow.
+    ensures isolated { (old : Snapshot) (ops : List Op) (told : List Outcome) (new : Snapshot) → IsSoundState old.state
+        → AreDoneBetween old ops told new → IsRunOfAll old.state ops told new.state }
 {}

@@ -1,4 +1,5 @@
 -- SPDX-License-Identifier: MIT OR Apache-2.0
+use Rattle.ffa_spmc.proofs.Interleaved.{between}
 use Rattle.ffa_spmc.proofs.Left.{left-operated, left-operated_as, safe-amid}
 use Rattle.ffa_spmc.proofs.meanwhile.left_among_others.Goals as goal
 
@@ -10,3 +11,6 @@ returns-clause-operated_as c = left-operated_as
 
 pub returns-clause-list : goal.returns-clause-list
 returns-clause-list c = safe-amid
+
+pub returns-clause-isolated : goal.returns-clause-isolated
+returns-clause-isolated c old ops told new = between ops old new told
