@@ -5,7 +5,6 @@ use Rattle.ffa_model.specs.declared.operation.Act.{Act}
 use Rattle.ffa_model.specs.declared.operation.Act.TheVariants.{Operate, Interrupt}
 use Rattle.ffa_model.specs.declared.operation.Effect.{Effect}
 use Rattle.ffa_model.specs.declared.operation.Effect.TheVariants as effects
-use Rattle.ffa_model.specs.declared.operation.Op.{Op}
 use Rattle.ffa_model.specs.declared.operation.Outcome.{Outcome}
 use Rattle.ffa_model.specs.Numbers.{Identifier}
 use Rattle.ffa_model.specs.Processors.{ArePlaced, Shared, are_there, shared_after, shared_after_all, state_on, step_resuming}
