@@ -44,7 +44,7 @@ static enum hrtimer_restart ring(struct hrtimer *timer)
 	return HRTIMER_RESTART;
 }
 
-static void count(struct worker *of, unsigned int *good, int error)
+static void note(struct worker *of, unsigned int *good, int error)
 {
 	*good += !error;
 	of->busy += error == -EBUSY;
@@ -66,7 +66,7 @@ static void share_once(struct worker *of, struct pieces *pieces)
 	u64 handle;
 	int error = send_pieces(pieces, &share, &handle);
 
-	count(of, &of->shares, error ? error : reclaim(handle, 0));
+	note(of, &of->shares, error ? error : reclaim(handle, 0));
 }
 
 /* The first of the others has the second partition for itself. */
@@ -80,7 +80,7 @@ static int run_other(void *data)
 		struct ffa_send_direct_data asked = { .data1 = turn };
 
 		if (of == &others[0])
-			count(of, &of->requests, ask(&second, WORK_ADD, &asked));
+			note(of, &of->requests, ask(&second, WORK_ADD, &asked));
 		if (pieces)
 			share_once(of, pieces);
 		if (turn % ASKED_IN == 0)
@@ -112,7 +112,7 @@ static int run_first(void *data)
 			continue;
 		ns += ktime_get_ns() - begin;
 		rings_meanwhile += READ_ONCE(rings) - before;
-		count(&first, &first.requests, error);
+		note(&first, &first.requests, error);
 	}
 	hrtimer_cancel(&timer);
 	kthread_complete_and_exit(&first.done, 0);
