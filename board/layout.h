@@ -49,7 +49,8 @@
 
 /* Questions of a generator, which x0 is: of the machine and of itself; of the page x2 that the endpoint at place x1 had at first; of the
  * notice x1, which x2 to x7 are then; and another in its stead. x0 answers with the seed, and with the page or 0. */
-#define ASK_MACHINE 0 /* x1 its place, x2 how many endpoints, x3 RAM's first byte, x4 RAM's pages, x5 the page of its program, x6 of the normal world's on another processor */
+#define ASK_MACHINE 0 /* x1 its place, x2 how many endpoints, x3 RAM's first byte, x4 RAM's pages, x5 the page of its program, x6 that of the
+                       * normal world's on another processor */
 #define ASK_PAGE 1
 #define ASK_NOTICE 2
 #define TELL_NOTICE 3

@@ -38,7 +38,7 @@ static bool scripted[GORSEPLUMB_MOST_PROCESSORS];
 
 static bool has_lock(void) { return __atomic_load_n(&holder, __ATOMIC_SEQ_CST) == this_processor() + 1; }
 
-/* Two partitions or more run. */
+/* Whether another processor runs a partition. */
 static bool others_work(struct board *of) {
     for (uint32_t i = 0; i < scene_processors(); i++) {
         if (i != this_processor() && of->places[i] != 0) return true;
