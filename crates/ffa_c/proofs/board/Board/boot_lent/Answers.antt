@@ -2,7 +2,7 @@
 use Rattle.std.proofs.Common.{subst, sym}
 use Rattle.ffa_manifest.specs.Document.{parts_of}
 use Rattle.ffa_lent.specs.LentRam.{ram_of}
-use Rattle.ffa_spmc.specs.Snapshot.{Snapshot}
+use Rattle.ffa_spmc.specs.Clustered.{Clustered}
 use Rattle.ffa_c.specs.declared.board.FirstBytes.{FirstBytes}
 use Rattle.ffa_c.specs.Booting.{IsFirst, IsFirstBy, IsFirstHeld}
 use Rattle.ffa_c.proofs.board.Board.boot_lent.Goals.{in-Cleared, in-Kept}
@@ -14,23 +14,23 @@ returns-clause-first c =
     let parts = parts_of c.args.manifest.now in
     elim c.match-bytes.branch [
       | in-Cleared w ↦
-          subst (λ (b : FirstBytes). IsFirstBy b pages parts c.match-bytes.machine) (sym w.in-Cleared.is)
-          (subst (λ (s : Snapshot). IsFirst parts s) (sym w.machine-is) (record {
-            state = w.boot_in-machine.ensures.booted.state;
-            agrees = w.boot_in-machine.ensures.booted.agrees;
-            words = w.boot_in-machine.ensures.booted.words;
-            cleared = w.boot_in-machine.ensures.booted.cleared;
-            sound = w.boot_in-machine.ensures.booted.sound;
-            told = w.boot_in-machine.ensures.told;
+          subst (λ (b : FirstBytes). IsFirstBy b pages parts c.match-bytes.cluster.machine) (sym w.in-Cleared.is)
+          (subst (λ (x : Clustered). IsFirst parts x.machine) (sym w.cluster-is) (record {
+            state = w.boot_in-cluster.ensures.booted.state;
+            agrees = w.boot_in-cluster.ensures.booted.agrees;
+            words = w.boot_in-cluster.ensures.booted.words;
+            cleared = w.boot_in-cluster.ensures.booted.cleared;
+            sound = w.boot_in-cluster.ensures.booted.sound;
+            told = w.boot_in-cluster.ensures.told;
           }))
       | in-Kept w ↦
-          subst (λ (b : FirstBytes). IsFirstBy b pages parts c.match-bytes.machine) (sym w.in-Kept.is)
-          (subst (λ (s : Snapshot). IsFirstHeld pages parts s) (sym w.machine-is) (record {
-            state = w.boot_held_in-machine.ensures.booted.state;
-            agrees = w.boot_held_in-machine.ensures.booted.agrees;
-            words = w.boot_held_in-machine.ensures.booted.words;
-            cleared = w.boot_held_in-machine.ensures.booted.cleared;
-            sound = w.boot_held_in-machine.ensures.booted.sound;
-            told = w.boot_held_in-machine.ensures.told;
+          subst (λ (b : FirstBytes). IsFirstBy b pages parts c.match-bytes.cluster.machine) (sym w.in-Kept.is)
+          (subst (λ (x : Clustered). IsFirstHeld pages parts x.machine) (sym w.cluster-is) (record {
+            state = w.boot_held_in-cluster.ensures.booted.state;
+            agrees = w.boot_held_in-cluster.ensures.booted.agrees;
+            words = w.boot_held_in-cluster.ensures.booted.words;
+            cleared = w.boot_held_in-cluster.ensures.booted.cleared;
+            sound = w.boot_held_in-cluster.ensures.booted.sound;
+            told = w.boot_held_in-cluster.ensures.told;
           }))
     ]
