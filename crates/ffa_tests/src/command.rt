@@ -70,6 +70,7 @@ fn push_command(words: &mut String, request: &Request<'_>) -> Result<(), AllocEr
             let (manifest, seed, lines) = (options.manifest, options.seed, options.lines);
             write!(words, "generate {manifest} {seed} {lines}")
         }
+        Request::Test(options) => write!(words, "test {}", options.folder),
     }
 }
 
@@ -105,6 +106,7 @@ fn push_options(words: &mut String, request: &Request<'_>) -> Result<(), AllocEr
         }
         Request::Layout { regions, .. } => push_flags(words, &[("regions", regions)]),
         Request::Generate(options) => push_flags(words, &[("count", options.count)]),
+        Request::Test(options) => push_flags(words, &[("tap", options.tap)]),
         Request::Check { .. } | Request::Descriptor { .. } => Ok(()),
     }
 }
@@ -115,10 +117,12 @@ fn push_purpose(words: &mut String, purpose: Purpose<'_>) -> Result<(), AllocErr
         Purpose::Print {
             text,
             strict,
+            keep_going,
             interactive,
         } => {
             push_text(words, text)?;
-            push_flags(words, &[("strict", strict), ("interactive", interactive)])
+            push_flags(words, &[("strict", strict), ("keep-going", keep_going)])?;
+            push_flags(words, &[("interactive", interactive)])
         }
         Purpose::Record => Ok(()),
         Purpose::Compare { text, .. } => push_text(words, text),
@@ -200,6 +204,8 @@ ffaplay demo first.trace --explain --names => demo first.trace --names --explain
 ffaplay run --verbose row.toml first.trace => run row.toml first.trace --verbose
 ffaplay run --strict row.toml first.trace => run row.toml first.trace --strict
 ffaplay demo first.trace --strict --names => demo first.trace --names --strict
+ffaplay run --keep-going row.toml first.trace => run row.toml first.trace --keep-going
+ffaplay demo --keep-going --strict first.trace => demo first.trace --strict --keep-going
 ffaplay demo --tlb first.trace => demo first.trace --tlb
 ffaplay demo first.trace --tlb --frames => demo first.trace --frames --tlb
 ffaplay demo --names - --number --line-buffered => demo - --line-buffered --number --names --at-once
@@ -245,6 +251,9 @@ ffaplay generate row.toml --lines= => ValueValidation
 ffaplay generate row.toml --seed 0x10000000000000000 => ValueValidation
 ffaplay generate row.toml --seed 18446744073709551616 => ValueValidation
 ffaplay generate row.toml --strict => UnknownArgument
+ffaplay test rows => test rows
+ffaplay test - --tap => test - --tap
+ffaplay test => MissingRequiredArgument
 ";
     check(&rt, rt.alloc(), rows)
 }

@@ -18,7 +18,7 @@ use Rattle.play_arguments.specs.declared.command_line.Source.{Source}
 use Rattle.play_arguments.specs.declared.command_line.Source.TheVariants.{BuiltIn, File}
 use Rattle.play_arguments.specs.declared.command_line.TextOptions.{TextOptions}
 use Rattle.play_arguments.specs.declared.command_line.Request.{Request}
-use Rattle.play_arguments.specs.declared.command_line.Request.TheVariants.{Play, Check, Layout, Descriptor, Generate}
+use Rattle.play_arguments.specs.declared.command_line.Request.TheVariants.{Play, Check, Layout, Descriptor, Generate, Test}
 
 -- a path that has to be given
 abbrev pub path_rule : Text → Rule
@@ -60,9 +60,9 @@ with_form_flags app = with_flag (codes "explain") (with_flag (codes "names") (wi
 abbrev pub with_text_flags : App → App
 with_text_flags app = with_form_flags (with_flag (codes "line-buffered") app)
 
--- where a play ends: at a guard that isn't met, and not at a bad line
+-- where a play ends: at a guard that isn't met, or at none, and not at a bad line
 abbrev pub with_end_flags : App → App
-with_end_flags app = with_flag (codes "interactive") (with_flag (codes "strict") app)
+with_end_flags app = with_flag (codes "interactive") (with_flag (codes "keep-going") (with_flag (codes "strict") app))
 
 abbrev pub with_verbose : App → App
 with_verbose app = with_flag (codes "verbose") app
@@ -126,6 +126,13 @@ unfoldable pub picture_app : App
 picture_app =
     with_verbose (with_flag (codes "page") (with_rows (with_trace (with_manifest (new_app (codes "picture"))))))
 
+-- a folder of traces, and how it is told what came of them
+abbrev pub with_folder : App → App
+with_folder app = with_rule app (path_rule (codes "folder"))
+
+unfoldable pub test_app : App
+test_app = with_flag (codes "tap") (with_folder (new_app (codes "test")))
+
 -- the program, which has a version and has to be given a command
 unfoldable pub bare : App
 bare =
@@ -146,7 +153,9 @@ abbrev pub with_writers : App → App
 with_writers app = with_subcommand (with_subcommand app descriptor_app.top) generate_app.top
 
 unfoldable pub program : App
-program = with_subcommand (with_writers (with_manifests (with_texts (with_plays bare)))) picture_app.top
+program =
+    let made = with_writers (with_manifests (with_texts (with_plays bare))) in
+    with_subcommand (with_subcommand made picture_app.top) test_app.top
 
 -- what a descriptor is to hold, in words
 pub record Described : Type 0 where
@@ -177,13 +186,13 @@ words_of w = record {
 
 -- what a trace is played for
 pub data Aim : Type 0 where
-  print : TextOptions → (strict interactive : Bool) → Aim
+  print : TextOptions → (strict keep_going interactive : Bool) → Aim
   record_trace : Aim
   compare : (expected : Text) → TextOptions → Aim
   draw : PictureOptions → Aim
 
 abbrev pub aim_of : Purpose → Aim
-aim_of (Print text strict interactive) = print text strict interactive
+aim_of (Print text strict keep_going interactive) = print text strict keep_going interactive
 aim_of Record = record_trace
 aim_of (Compare expected text) = compare expected.now text
 aim_of (Draw drawing) = draw drawing
@@ -200,6 +209,7 @@ pub data Ask : Type 0 where
   layout : Text → (regions verbose : Bool) → Ask
   descriptor : Described → Ask
   generate : Text → (seed lines : ℕ) → (count verbose : Bool) → Ask
+  test : (folder : Text) → (tap : Bool) → Ask
 
 abbrev pub ask_of : Request → Ask
 ask_of (Play o) = play (path_of o.source) o.trace.now o.machine (aim_of o.purpose) o.verbose
@@ -207,6 +217,7 @@ ask_of (Check manifest verbose) = check manifest.now verbose
 ask_of (Layout manifest regions verbose) = layout manifest.now regions verbose
 ask_of (Descriptor words) = descriptor (words_of words)
 ask_of (Generate o) = generate o.manifest.now o.seed o.lines o.count o.verbose
+ask_of (Test o) = test o.folder.now o.tap
 
 -- the path of the manifest that is asked for, that of the trace, and that of the expected text
 abbrev pub manifest_of : Ask → Option Text
@@ -215,6 +226,7 @@ manifest_of (check manifest verbose) = Some manifest
 manifest_of (layout manifest regions verbose) = Some manifest
 manifest_of (descriptor words) = None
 manifest_of (generate manifest seed lines count verbose) = Some manifest
+manifest_of (test folder tap) = None
 
 abbrev pub trace_of : Ask → Option Text
 trace_of (play manifest trace machine aim verbose) = Some trace
@@ -231,6 +243,16 @@ verbose_of (check manifest verbose) = verbose
 verbose_of (layout manifest regions verbose) = verbose
 verbose_of (descriptor words) = false
 verbose_of (generate manifest seed lines count verbose) = verbose
+verbose_of (test folder tap) = false
+
+-- the same, of which more is to be said, where it can be
+abbrev pub said_more : Ask → Ask
+said_more (play manifest trace machine aim verbose) = play manifest trace machine aim true
+said_more (check manifest verbose) = check manifest true
+said_more (layout manifest regions verbose) = layout manifest regions true
+said_more (descriptor words) = descriptor words
+said_more (generate manifest seed lines count verbose) = generate manifest seed lines count true
+said_more (test folder tap) = test folder tap
 
 -- whether a path is given and is `-`, which stands for standard input
 unfoldable pub is_input : Option Text → Bool
@@ -238,7 +260,7 @@ is_input path = option_map_or (λ p. bytes_eq p (codes "-")) path false
 
 -- whether each text is to be written before more of the trace is read
 abbrev pub answers_at_once : Ask → Bool
-answers_at_once (play manifest trace machine (print text strict interactive) verbose) =
+answers_at_once (play manifest trace machine (print text strict keep_going interactive) verbose) =
     text.line_buffered || (interactive || is_input (Some trace))
 answers_at_once _ = false
 
@@ -246,9 +268,10 @@ answers_at_once _ = false
 unfoldable pub reads_once : Ask → Bool
 reads_once ask = nat_le (count_by is_input (manifest_of ask ∷ trace_of ask ∷ expected_of ask ∷ [])) 1
 
--- flags that exclude one another: a play that ends at a guard that isn't met, and one that lives on
+-- flags that exclude one another: a play that checks guards isn't one that lives on behind a bad line
 abbrev pub excludes_none : Ask → Bool
-excludes_none (play manifest trace machine (print text strict interactive) verbose) = not (strict && interactive)
+excludes_none (play manifest trace machine (print text strict keep_going interactive) verbose) =
+    not ((strict || keep_going) && interactive)
 excludes_none _ = true
 
 -- whether a flag was given
@@ -295,7 +318,9 @@ number_in id rows = option_and_then number_of (first_of id rows)
 
 -- what a trace is to be played for
 unfoldable pub print_in : List Row → Aim
-print_in rows = print (text_in rows) (is_given (codes "strict") rows) (is_given (codes "interactive") rows)
+print_in rows =
+    print (text_in rows) (is_given (codes "strict") rows) (is_given (codes "keep-going") rows)
+    (is_given (codes "interactive") rows)
 
 unfoldable pub compare_in : List Row → Option Aim
 compare_in rows = do
@@ -360,6 +385,11 @@ generate_in rows = do
   lines ← number_in (codes "lines") rows
   Some (generate manifest seed lines (is_given (codes "count") rows) (is_given (codes "verbose") rows))
 
+unfoldable pub test_in : List Row → Option Ask
+test_in rows = do
+  folder ← first_of (codes "folder") rows
+  Some (test folder (is_given (codes "tap") rows))
+
 unfoldable pub ask_in : Text → List Row → Option Ask
 ask_in name rows =
     if bytes_eq name (codes "run") then play_file_in rows (print_in rows)
@@ -371,6 +401,7 @@ ask_in name rows =
     else if bytes_eq name (codes "layout") then layout_in rows
     else if bytes_eq name (codes "descriptor") then descriptor_in rows
     else if bytes_eq name (codes "generate") then generate_in rows
+    else if bytes_eq name (codes "test") then test_in rows
     else None
 
 -- what the command that was met asks for, by its name and its matches

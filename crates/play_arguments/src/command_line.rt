@@ -3,7 +3,7 @@
 ghost use Rattle.std.specs.Prelude.{◌≡◌, option_map, codes, drop, nat_eq, true};
 ghost use Rattle.std.specs.List.{starts_with};
 ghost use Rattle.clap.specs.Words.{found_of, first_of, rows_of, subcommand_rows_of};
-ghost use Rattle.play_arguments.specs.Commands.{aim_of, ask_of, path_of, words_of, manifest_of, trace_of, expected_of, verbose_of, answers_at_once, is_input, reads_once, asked_in, is_given, number_of, numeral_of, machine_in, text_in, words_in, ask_in, ask_met, number_in, print_in, compare_in, draw_in, play_in, play_file_in, check_in, layout_in, descriptor_in, generate_in, excludes_none};
+ghost use Rattle.play_arguments.specs.Commands.{aim_of, ask_of, path_of, words_of, manifest_of, trace_of, expected_of, verbose_of, answers_at_once, is_input, reads_once, asked_in, is_given, number_of, numeral_of, machine_in, text_in, words_in, ask_in, ask_met, number_in, print_in, compare_in, draw_in, play_in, play_file_in, check_in, layout_in, descriptor_in, generate_in, test_in, said_more, excludes_none};
 
 use clap::ArgMatches;
 
@@ -112,11 +112,12 @@ impl<'a> Source<'a> {
 /// What a trace is played for.
 #[derive(Clone, Copy)]
 pub enum Purpose<'a> {
-    /// To print its text. Where `strict` is set, the trace's guards are checked; where `interactive` is set, a bad line is
-    /// told and the play goes on; at most one of them is.
+    /// To print its text. Where `strict` is set, the trace's guards are checked, up to the first that isn't met, and where
+    /// `keep_going` is set, all of them. Where `interactive` is set, neither is: a bad line is told, and the play goes on.
     Print {
         text: TextOptions,
         strict: bool,
+        keep_going: bool,
         interactive: bool,
     },
     /// To print it with the guards of its own play.
@@ -154,6 +155,15 @@ pub struct GenerateOptions<'a> {
     pub verbose: bool,
 }
 
+/// Traces to test: all of a folder.
+#[derive(Clone, Copy)]
+pub struct TestOptions<'a> {
+    /// The folder's path.
+    pub folder: &'a str,
+    /// What came of each is told as the Test Anything Protocol has it.
+    pub tap: bool,
+}
+
 /// A command with its paths, which are words of the command line, and what its flags say.
 ///
 /// At most one of its paths is `STANDARD_INPUT`. Where `verbose` is set, more is said on standard error of what is refused.
@@ -178,6 +188,8 @@ pub enum Request<'a> {
     },
     /// To print a trace of so many lines for the machine of a manifest, or how often its calls and accesses ended in which way.
     Generate(GenerateOptions<'a>),
+    /// To play the traces of a folder, each with its guards.
+    Test(TestOptions<'a>),
 }
 
 impl<'a> Request<'a> {
@@ -189,7 +201,7 @@ impl<'a> Request<'a> {
             Request::Play(options) => options.source.path(),
             Request::Check { manifest, .. } | Request::Layout { manifest, .. } => Some(manifest),
             Request::Generate(options) => Some(options.manifest),
-            Request::Descriptor { .. } => None,
+            Request::Descriptor { .. } | Request::Test(_) => None,
         }
     }
 
@@ -226,7 +238,7 @@ impl<'a> Request<'a> {
             Request::Play(options) => options.verbose,
             Request::Check { verbose, .. } | Request::Layout { verbose, .. } => verbose,
             Request::Generate(options) => options.verbose,
-            Request::Descriptor { .. } => false,
+            Request::Descriptor { .. } | Request::Test(_) => false,
         }
     }
 
@@ -263,7 +275,37 @@ impl<'a> Request<'a> {
         u8::from(manifest) + u8::from(trace) + u8::from(expected) <= 1
     }
 
-    // Whether its flags go together: a play that ends at the first guard that isn't met isn't one that lives on.
+    /// The same command, of which more is to be said of what is refused, where it can be.
+    pub fn said_more(self) -> Request<'a>
+        ensures { ask_of result ≡ said_more (ask_of self.entry) }
+    {
+        match self {
+            Request::Play(options) => Request::Play(PlayOptions {
+                verbose: true,
+                ..options
+            }),
+            Request::Check { manifest, .. } => Request::Check {
+                manifest,
+                verbose: true,
+            },
+            Request::Layout {
+                manifest,
+                regions,
+                ..
+            } => Request::Layout {
+                manifest,
+                regions,
+                verbose: true,
+            },
+            Request::Generate(options) => Request::Generate(GenerateOptions {
+                verbose: true,
+                ..options
+            }),
+            Request::Descriptor { .. } | Request::Test(_) => self,
+        }
+    }
+
+    // Whether its flags go together: a play that checks guards isn't one that lives on behind a bad line.
     fn excludes_none(&self) -> bool
         ensures { result ≡ excludes_none (ask_of self.now) }
     {
@@ -272,12 +314,13 @@ impl<'a> Request<'a> {
                 PlayOptions {
                     purpose: Purpose::Print {
                         strict,
+                        keep_going,
                         interactive,
                         ..
                     },
                     ..
                 },
-            ) => !(strict && interactive),
+            ) => !((strict || keep_going) && interactive),
             _ => true,
         }
     }
@@ -380,6 +423,7 @@ fn print_in<'a>(matches: &ArgMatches<'a>) -> Purpose<'a>
     Purpose::Print {
         text: text_in(matches),
         strict: is_given(matches, "strict"),
+        keep_going: is_given(matches, "keep-going"),
         interactive: is_given(matches, "interactive"),
     }
 }
@@ -495,6 +539,16 @@ fn generate_in<'a>(matches: &ArgMatches<'a>) -> Option<Request<'a>>
     }))
 }
 
+#[tactic(auto, unfolding(crate::specs::Commands::test_in))]
+fn test_in<'a>(matches: &ArgMatches<'a>) -> Option<Request<'a>>
+    ensures { option_map ask_of result ≡ test_in (rows_of (found_of matches.now)) }
+{
+    Some(Request::Test(TestOptions {
+        folder: text_of(matches, "folder")?,
+        tap: is_given(matches, "tap"),
+    }))
+}
+
 #[tactic(auto, unfolding(crate::specs::Commands::ask_in))]
 fn request_in<'a>(name: &str, matches: &ArgMatches<'a>) -> Option<Request<'a>>
     ensures { option_map ask_of result ≡ ask_in name.now (rows_of (found_of matches.now)) }
@@ -517,6 +571,8 @@ fn request_in<'a>(name: &str, matches: &ArgMatches<'a>) -> Option<Request<'a>>
         descriptor_in(matches)
     } else if name == "generate" {
         generate_in(matches)
+    } else if name == "test" {
+        test_in(matches)
     } else {
         None
     }

@@ -13,7 +13,7 @@ pub use clap::error::ErrorKind;
 use clap::{ArgMatches, Command, Error};
 pub use command_line::{
     DescriptorWords, GenerateOptions, MachineOptions, PictureOptions, PlayOptions, Purpose,
-    Request, STANDARD_INPUT, Source, TextOptions,
+    Request, STANDARD_INPUT, Source, TestOptions, TextOptions,
 };
 pub use program::{TOOLCHAIN, VERSION};
 use std::alloc::{AllocError, Global};
@@ -62,7 +62,8 @@ fn read_matches<'a>(
 // What is wrong with words in which `clap` finds no fault, and which ask for nothing.
 fn refusal(command: &mut Command<'_>, matches: &ArgMatches<'_>) -> Result<Error, AllocError> {
     let twice = "'-' stands for standard input, which can be given once only";
-    let flags = "'--strict' ends a play that '--interactive' would have live on: give one of them";
+    let flags =
+        "'--strict' and '--keep-going' check guards, and '--interactive' none: leave that out, or them";
     match command_line::request_of(matches) {
         Some(request) if request.reads_once() => {
             command.error(ErrorKind::ArgumentConflict, flags)

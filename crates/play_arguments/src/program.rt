@@ -24,7 +24,7 @@ Status:
    2  a line is none of a trace
    3  a file can't be read, the output can't be written or memory is short
    4  the trace's text is another than expected
-   5  a guard of the trace isn't met
+   5  a guard of the trace isn't met, or a trace that is tested fails
   64  the words make no sense
 
 Manual: docs/USING.md";
@@ -113,6 +113,11 @@ const STRICT: Word = Word::Flag {
     help: "Checks guards: `#= TEXT`, which the line before prints, and `#@ ENDPOINT`, which runs",
 };
 
+const KEEP_GOING: Word = Word::Flag {
+    id: "keep-going",
+    help: "Checks guards, and goes on at one that isn't met",
+};
+
 const INTERACTIVE: Word = Word::Flag {
     id: "interactive",
     help: "Tells of a bad line, and goes on; writes the text of each line at once",
@@ -136,6 +141,7 @@ const RUN: Entry = Entry {
         NAMES,
         EXPLAIN,
         STRICT,
+        KEEP_GOING,
         INTERACTIVE,
         VERBOSE,
     ],
@@ -153,6 +159,7 @@ const DEMO: Entry = Entry {
         NAMES,
         EXPLAIN,
         STRICT,
+        KEEP_GOING,
         INTERACTIVE,
         VERBOSE,
     ],
@@ -270,6 +277,22 @@ const GENERATE: Entry = Entry {
     words: &[MANIFEST, SEED, LINES, COUNT, VERBOSE],
 };
 
+const FOLDER: Word = Word::Path {
+    id: "folder",
+    help: "The folder: of each of its files NAME.trace the manifest is NAME.toml, or else machine.toml",
+};
+
+const TAP: Word = Word::Flag {
+    id: "tap",
+    help: "Tells what came of each as the Test Anything Protocol has it",
+};
+
+const TEST: Entry = Entry {
+    name: "test",
+    about: "Plays the traces of a folder, and checks their guards",
+    words: &[FOLDER, TAP],
+};
+
 const EVERY: Word = Word::Number {
     id: "every",
     help: "A row for each line whose number is a multiple of this; with 0 for each that changes a cell",
@@ -372,14 +395,14 @@ fn with_commands<'a>(alloc: Global, entries: &[Entry<'a>]) -> Result<Command<'a>
 }
 
 /// The program's command line.
-#[tactic(auto, unfolding(crate::specs::Commands::program, crate::specs::Commands::run_app, crate::specs::Commands::demo_app, crate::specs::Commands::record_app, crate::specs::Commands::compare_app, crate::specs::Commands::check_app, crate::specs::Commands::layout_app, crate::specs::Commands::descriptor_app, crate::specs::Commands::generate_app, crate::specs::Commands::picture_app))]
+#[tactic(auto, unfolding(crate::specs::Commands::program, crate::specs::Commands::run_app, crate::specs::Commands::demo_app, crate::specs::Commands::record_app, crate::specs::Commands::compare_app, crate::specs::Commands::check_app, crate::specs::Commands::layout_app, crate::specs::Commands::descriptor_app, crate::specs::Commands::generate_app, crate::specs::Commands::picture_app, crate::specs::Commands::test_app))]
 pub(crate) fn program<'a>(alloc: Global) -> Result<Command<'a>, AllocError>
     ensures { IfOk result (λ c. app_of c ≡ program) }
 {
     with_commands(
         alloc,
         &[
-            RUN, DEMO, RECORD, COMPARE, CHECK, LAYOUT, DESCRIPTOR, GENERATE, PICTURE,
+            RUN, DEMO, RECORD, COMPARE, CHECK, LAYOUT, DESCRIPTOR, GENERATE, PICTURE, TEST,
         ],
     )
 }

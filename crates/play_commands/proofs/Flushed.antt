@@ -47,6 +47,7 @@ module _ (ran : Ran) (holds : Option (List ℕ)) (kept : Keeps ran.streams.holds
   done_by task.Plain start p = played p
   done_by (task.Formed form) start p = played p
   done_by (task.Guarded form) start p = played p
+  done_by (task.GuardedToEnd form) start p = played p
   done_by task.Recorded start p = record { lines = p.lines; each = p.each; all = p.all; written = written _ p.written; replays = p.replays }
   done_by (task.Session form) start p = record { lines = p.lines; rest = p.rest; each = p.each; single = p.single; all = p.all; written = written _ p.written }
   done_by (task.Compare expected form) start (p, still) = (p, quiet still)
@@ -57,6 +58,7 @@ module _ (ran : Ran) (holds : Option (List ℕ)) (kept : Keeps ran.streams.holds
   stops_by task.Plain start n (lines, ends, p, met) = (lines, ends, written _ p, met)
   stops_by (task.Formed form) start n (lines, ends, p, met) = (lines, ends, written _ p, met)
   stops_by (task.Guarded form) start n (lines, ends, p, met) = (lines, ends, written _ p, met)
+  stops_by (task.GuardedToEnd form) start n (lines, ends, p, met) = (lines, ends, written _ p, met)
   stops_by task.Recorded start n (lines, ends, p) = (lines, ends, written _ p)
   stops_by (task.Session form) start n never = absurd never
   stops_by (task.Compare expected form) start n (p, still) = (p, quiet still)
@@ -78,6 +80,8 @@ module _ (ran : Ran) (holds : Option (List ℕ)) (kept : Keeps ran.streams.holds
     unmet = p.unmet;
     written = written _ p.written;
   }
+  unmet_by (task.GuardedToEnd form) start n p =
+      record { lines = p.lines; each = p.each; all = p.all; more = p.more; unmet = p.unmet; written = written _ p.written }
   unmet_by other start n p = p
 
   overfull_by : (t : KnownTask) (start : State) (most : ℕ) → OverfullBy t start ran.streams most → OverfullBy t start (with_holds ran holds).streams most
@@ -95,6 +99,7 @@ module _ (ran : Ran) (holds : Option (List ℕ)) (kept : Keeps ran.streams.holds
   done (request.Layout manifest regions verbose) (parts, is, p) = (parts, is, written _ p)
   done (request.Descriptor words) (said, is, (text, grows, p)) = (said, is, (text, grows, written _ p))
   done (request.Generate o) (parts, is, p) = (parts, is, λ prints. wrote (p prints))
+  done (request.Test o) p = quiet p
 
   stops : (request : Request) (n : ℕ) → StopsAt request ran n → StopsAt request (with_holds ran holds) n
   stops (request.Play o) n p = leaves o (λ t start. stops_by t start n) p

@@ -88,13 +88,14 @@ pub record Played (o : PlayOptions) (ran : Ran) (Left : KnownTask → State → 
   pub serves : IsTaskFor o.purpose ran.expected task
   pub left : Left task (first_of parts)
 
--- a command was done, on whichever machine
+-- a command was done, on whichever machine; a test comes to plays, which are commands of their own
 abbrev pub IsDone : Request → Ran → Type 0
 IsDone (request.Play o) ran = Played o ran (λ task start. IsDoneBy task start ran.streams)
 IsDone (request.Check manifest verbose) ran = IsChecked ran.manifest ran.streams.held ran.streams.holds
 IsDone (request.Layout manifest regions verbose) ran = IsLaidOut regions ran.manifest ran.streams.held ran.streams.holds
 IsDone (request.Descriptor words) ran = IsSaid words ran.streams.held ran.streams.holds
 IsDone (request.Generate o) ran = IsMade o.lines o.count ran.manifest ran.streams.held ran.streams.holds
+IsDone (request.Test o) ran = IsQuiet ran
 
 -- a command's play stopped at line n
 abbrev pub StopsAt : Request → Ran → ℕ → Type 0
@@ -110,7 +111,7 @@ abbrev pub Differs : Request → Ran → Type 0
 Differs (request.Play o) ran = Played o ran (λ task start. DiffersBy task start ran.streams.trace)
 Differs other ran = ⊥
 
--- a play stopped at a guard that isn't met, in line n
+-- a play has a guard that isn't met, in line n
 abbrev pub UnmetAt : Request → Ran → ℕ → Type 0
 UnmetAt (request.Play o) ran n = Played o ran (λ task start. UnmetBy task start ran.streams n)
 UnmetAt other ran n = ⊥

@@ -92,10 +92,14 @@ fn is_strict(request: &Request<'_>) -> bool
     match *request {
         Request::Play(
             PlayOptions {
-                purpose: Purpose::Print { strict, .. },
+                purpose: Purpose::Print {
+                    strict,
+                    keep_going,
+                    ..
+                },
                 ..
             },
-        ) => strict,
+        ) => strict || keep_going,
         _ => false,
     }
 }
@@ -148,6 +152,8 @@ impl<M: Machines, A: Allocator + Copy> Program<M, A> {
             } => lay_out(alloc, path, manifest, regions, out, notes),
             Request::Descriptor { words } => describe(self.alloc, &words, out),
             Request::Generate(options) => self.generate(options, manifest, out, notes),
+            // Its traces are played as commands of their own.
+            Request::Test(_) => Ok(()),
         }
     }
 }

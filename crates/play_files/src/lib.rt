@@ -5,7 +5,9 @@
 
 mod commands;
 mod input;
+mod output;
 mod running;
+mod testing;
 
 pub use commands::{Commands, Files};
 pub use running::run;

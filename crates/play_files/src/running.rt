@@ -2,21 +2,26 @@
 //! The program: its words are read, its files opened, and both handed on.
 use crate::commands::{Commands, Files};
 use crate::input::Input;
+use crate::output::{Output, Told};
+use crate::testing::test;
 use play_arguments::{ErrorKind, Request, STANDARD_INPUT, request};
 use std::alloc::AllocError;
 use std::env::Env;
-use std::io::{BufWriter, Read, Write};
+use std::io::{BufWriter, IsTerminal, Read, Write};
 use std::{env, fs, io};
 
 /// How many bytes of output are gathered before they are written.
 const OUTPUT: usize = 65536;
 
+/// The status with which the program ends where nobody reads its output: that which a shell has of one that SIGPIPE ends.
+const CLOSED: u8 = 141;
+
 /// Runs the program with these standard streams, and answers the status with which it ends.
 pub fn run<
-    H: AllocGlobal + Env + fs::Files + Print + Eprint,
+    H: AllocGlobal + Env + fs::Files + Print + Eprint + Clone + Drop,
     S: Read + Copy + Drop,
     W: Write + Drop,
-    E: Write,
+    E: Write + IsTerminal,
     C: Commands,
 >(rt: &H, input: S, out: W, err: &mut E, commands: &C) -> u8 {
     match status(rt, input, out, err, commands) {
@@ -33,10 +38,10 @@ fn no_memory<H: Eprint>(rt: &H) -> u8 {
 
 // Reads the command line, and does what it asks for.
 fn status<
-    H: AllocGlobal + Env + fs::Files + Print + Eprint,
+    H: AllocGlobal + Env + fs::Files + Print + Eprint + Clone + Drop,
     S: Read + Copy + Drop,
     W: Write + Drop,
-    E: Write,
+    E: Write + IsTerminal,
     C: Commands,
 >(rt: &H, input: S, out: W, err: &mut E, commands: &C) -> Result<u8, AllocError> {
     let alloc = rt.alloc();
@@ -51,6 +56,14 @@ fn status<
     let args: Vec<String> = args.collect(alloc)?;
     let words: Vec<&str> = args.iter().map(|word| word.as_str()).collect(alloc)?;
     match request(alloc, words.as_slice()) {
+        Ok(Request::Test(options)) => {
+            let mut out = out;
+            test(rt, input, &mut out, err, commands, options)
+        }
+        // Who reads what is told at a terminal is told more.
+        Ok(request) if err.is_terminal() => {
+            carry_out(rt, input, out, err, commands, &request.said_more())
+        }
         Ok(request) => carry_out(rt, input, out, err, commands, &request),
         Err(error) => match error.kind() {
             ErrorKind::OutOfMemory => Err(AllocError),
@@ -66,8 +79,8 @@ fn status<
     }
 }
 
-// Opens the files, and does what was asked for.
-fn carry_out<
+/// Opens the files, and does what was asked for. Where nobody reads the output, nothing is told of that.
+pub(crate) fn carry_out<
     H: AllocGlobal + fs::Files,
     S: Read + Copy + Drop,
     W: Write + Drop,
@@ -94,8 +107,29 @@ fn carry_out<
     };
     // With no room nothing is gathered: each write goes to standard output at once.
     let room = if request.answers_at_once() { 0 } else { OUTPUT };
-    let mut out = BufWriter::with_capacity(alloc, room, out).map_err(|_| AllocError)?;
-    Ok(commands.perform(request, files, &mut out, err))
+    let mut out = BufWriter::with_capacity(
+        alloc,
+        room,
+        Output {
+            out,
+            is_closed: false,
+        },
+    )
+    .map_err(|_| AllocError)?;
+    if request.answers_at_once() {
+        return Ok(commands.perform(request, files, &mut out, err));
+    }
+    let mut told = Told {
+        err,
+        kept: Vec::new(alloc),
+    };
+    let status = commands.perform(request, files, &mut out, &mut told);
+    let Told { err, kept } = told;
+    if status == 3 && out.get_ref().is_closed {
+        return Ok(CLOSED);
+    }
+    let _ = err.write_all(&kept);
+    Ok(status)
 }
 
 // What reads the file at a path, where one is named.

@@ -1,7 +1,7 @@
 -- SPDX-License-Identifier: MIT OR Apache-2.0
 -- Guards, as lines come one after another.
 use Rattle.std.proofs.Common.{◌≡◌, ◌+◌, ◌≤◌, ◌<◌, ℕ, true, false, List, [], ◌∷◌, ◌++◌, length, Option, None, Some, Ok, Err, inl, inr, sym, ap, ◌∙◌, subst, arith, append_assoc, length-append, refl}
-use Rattle.std.specs.Prelude.{not, filter, ◌⊎◌}
+use Rattle.std.specs.Prelude.{Bool, not, filter, ◌⊎◌, ◌&&◌, ◌||◌}
 use Rattle.std.specs.List.{list_all}
 use Rattle.std.specs.Option.{option_map_or}
 use Rattle.std.specs.Io.KnownBytes.{Appends, Consumes}
@@ -15,15 +15,17 @@ use Rattle.play_syntax.specs.TraceText.{hex, line_text, text_of, after_all}
 use Rattle.play_player.proofs.Runs.{joined-append}
 use Rattle.play_syntax.specs.declared.output.PlayError.{PlayError}
 use Rattle.play_syntax.specs.declared.output.PlayError.TheVariants.{Read, Write, NoMemory, BadLine}
-use Rattle.play_forms.specs.Asking.{Asked, came_by, unasked_by}
+use Rattle.play_forms.specs.Asking.{Asked, Misses, came_by, unasked_by}
 use Rattle.play_forms.specs.Followed.{Followed}
-use Rattle.play_forms.specs.Guards.{AreMet, GuardedIn, IsFound, IsMet, IsUnasked, Leaves, Tallies, are_silent, asking_among, asks_line, first_line, guard_of, guards_among, is_guard, is_near, near_from, prints, speaks}
+use Rattle.play_forms.specs.Guards.{AreMet, GuardedIn, IsFound, IsMet, IsUnasked, Leaves, Tallies, are_silent, asking_among, asks_line, first_line, guard_of, guards_among, is_guard, is_near, near_from, prints, speaks, wanted_of}
+use Rattle.play_forms.specs.Hints.{hint_of}
 use Rattle.play_forms.specs.Patterns.{came_of, line_came, meets, nothing}
 use Rattle.play_forms.specs.Reading.{TakesLine}
 use Rattle.play_forms.specs.Steps.{PrintsLine}
 use Rattle.play_forms.specs.declared.form.Form.{Form}
 use Rattle.play_forms.specs.declared.guards.Asks.{Asks}
 use Rattle.play_forms.specs.declared.guards.Asks.TheVariants.{Printed, Runner}
+use Rattle.play_forms.specs.declared.hint.Hint.{Hint}
 use Rattle.play_forms.specs.declared.patterns.Came.{Came}
 use Rattle.play_forms.proofs.Follows.{ends_at, fails_to_write}
 use Rattle.play_forms.proofs.WordsFit.{first_of_lines}
@@ -49,7 +51,7 @@ split_last (x ∷ lines) last (c ∷ front) line back same =
     of head (inr (more, are)) = inr (more, ap (λ l. l ∷ lines) head ∙ ap (λ ls. c ∷ ls) are)
 
 -- no line that prints is among silent ones
-loud_inside : (front : List (List ℕ)) (line : List ℕ) (back : List (List ℕ)) → prints line ≡ true → are_silent (front ++ line ∷ back) ≡ true → ⊥
+pub loud_inside : (front : List (List ℕ)) (line : List ℕ) (back : List (List ℕ)) → prints line ≡ true → are_silent (front ++ line ∷ back) ≡ true → ⊥
 loud_inside front line back loud silent =
     let rest : are_silent (line ∷ back) ≡ true = (and_parts (are_silent front) (are_silent (line ∷ back)) (sym (list_all-append (λ l. not (prints l)) front (line ∷ back)) ∙ silent)).1 in
     let other : not (prints line) ≡ true = (and_parts (not (prints line)) (are_silent back) rest).0 in
@@ -57,7 +59,7 @@ loud_inside front line back loud silent =
     absurd cc
 
 -- the last line that prints
-same_last : (front : List (List ℕ)) (line : List ℕ) (back front₂ : List (List ℕ)) (line₂ : List ℕ) (back₂ : List (List ℕ)) → front ++ line ∷ back ≡ front₂ ++ line₂ ∷ back₂
+pub same_last : (front : List (List ℕ)) (line : List ℕ) (back front₂ : List (List ℕ)) (line₂ : List ℕ) (back₂ : List (List ℕ)) → front ++ line ∷ back ≡ front₂ ++ line₂ ∷ back₂
     → prints line ≡ true → are_silent back ≡ true → prints line₂ ≡ true → are_silent back₂ ≡ true → (front ≡ front₂) × (line ≡ line₂) × (back ≡ back₂)
 same_last [] line back [] line₂ back₂ same loud silent loud₂ silent₂ = (refl, cc, cc)
 same_last [] line back (c ∷ front₂) line₂ back₂ same loud silent loud₂ silent₂ =
@@ -91,7 +93,7 @@ same_behind (x ∷ xs) (y ∷ ys) r s each singly count same =
     let both = line_same x y (joined xs ++ r) (joined ys ++ s) one.0 other.0 (sym (append_assoc x (feed ∷ joined xs) r) ∙ same ∙ append_assoc y (feed ∷ joined ys) s) in
     same_behind xs ys r s one.1 other.1 (omega (arith, count)) both.1
 
-same_rest : (start : State) (lines : List (List ℕ)) (came coming : Came) (rest other : List ℕ) → Leaves start lines came rest → Leaves start lines coming other → (came ≡ coming) × (rest ≡ other)
+pub same_rest : (start : State) (lines : List (List ℕ)) (came coming : Came) (rest other : List ℕ) → Leaves start lines came rest → Leaves start lines coming other → (came ≡ coming) × (rest ≡ other)
 same_rest start lines came coming rest other a b =
     let last = same_last a.before a.last a.behind b.before b.last b.behind (sym a.whole ∙ b.whole) a.loud a.silent b.loud b.silent in
     let texts : joined a.asked ++ rest ≡ joined b.asked ++ other =
@@ -116,7 +118,7 @@ met_more start lines last met one = λ front line back guard same is. of front l
     of front line guard is (inr (more, are)) = met front line more guard are is
 
 module _ (start mid : State) (lines : List (List ℕ)) (state : mid ≡ after_all start lines) (came : Came) (old : List ℕ) (unasked : IsUnasked start lines came old) where
-  met_now : (guard : Asks × List ℕ) (new found : List ℕ) → Asked mid (Some guard) came old new found (Ok None) → IsMet start lines guard
+  pub met_now : (guard : Asks × List ℕ) (new found : List ℕ) → Asked mid (Some guard) came old new found (Ok None) → IsMet start lines guard
   met_now (Printed, wants) new found (line, is, single, meets) = of unasked
     where
       of : IsUnasked start lines came old → IsMet start lines (Printed, wants)
@@ -128,7 +130,7 @@ module _ (start mid : State) (lines : List (List ℕ)) (state : mid ≡ after_al
   guards_more met line new found is =
       met_more start lines line met (λ guard same. met_now guard new found (subst (λ g. Asked mid g came old new found (Ok None)) same is))
 
-  unmet_printed : (wants : List ℕ) → ((line rest : List ℕ) → old ≡ line ++ feed ∷ rest → has_no_feed line ≡ true → meets came wants line ≡ true → ⊥) → IsMet start lines (Printed, wants) → ⊥
+  pub unmet_printed : (wants : List ℕ) → Misses wants came old → IsMet start lines (Printed, wants) → ⊥
   unmet_printed wants other (coming, line, rest, met, single, meeting) = of unasked
     where
       of : IsUnasked start lines came old → ⊥
@@ -172,7 +174,7 @@ pub record TakesOff (line old new : List ℕ) : Type 0 where
   pub is : old ≡ joined own ++ new
 
 -- what a guard that is met takes off
-taken_off : (s : State) (line : List ℕ) (guard : Option (Asks × List ℕ)) (came : Came) (old new found : List ℕ) → guard_of line ≡ guard → Asked s guard came old new found (Ok None) → TakesOff line old new
+pub taken_off : (s : State) (line : List ℕ) (guard : Option (Asks × List ℕ)) (came : Came) (old new found : List ℕ) → guard_of line ≡ guard → Asked s guard came old new found (Ok None) → TakesOff line old new
 taken_off s line None came old new found same is = record { own = []; each = refl; count = rw same refl; is = sym is }
 taken_off s line (Some (Printed, wants)) came old new found same (first, is, single, meets) = record {
   own = first ∷ [];
@@ -218,6 +220,21 @@ unasked_more start mid lines state line skip came coming old between new found i
     (subst (IsUnasked start (lines ++ line ∷ []) came) (sym makes)
     (unasked_silent start lines line came old between (ap (λ l. option_map_or speaks l false) (sym is)) (taken_off mid line (guard_of line) came old between found refl asks) unasked))
 
+-- whether text was printed
+pub loud_more : (lines : List (List ℕ)) (line : List ℕ) (meant : Line) (before after : Bool) → before ≡ not (are_silent lines) → Some meant ≡ line_of line → after ≡ (speaks meant || before)
+    → after ≡ not (are_silent (lines ++ line ∷ []))
+loud_more lines line meant before after was is goes =
+    let own : prints line ≡ speaks meant = ap (λ l. option_map_or speaks l false) (sym is) in
+    let more : are_silent (lines ++ line ∷ []) ≡ (are_silent lines && are_silent (line ∷ [])) = list_all-append (λ l. not (prints l)) lines (line ∷ []) in
+    goes ∙ ap (λ b. speaks meant || b) was ∙ either (speaks meant) (are_silent lines)
+    ∙ sym (ap not (more ∙ ap (λ b. are_silent lines && (not b && true)) own))
+  where
+    either : (a b : Bool) → (a || not b) ≡ not (b && (not a && true))
+    either true true = refl
+    either true false = refl
+    either false true = refl
+    either false false = refl
+
 -- COUNTS
 
 pub tallies_none : (met : ℕ) (near : List ℕ) → met ≡ 0 → near ≡ [] → Tallies [] met near
@@ -231,7 +248,7 @@ near_split n x xs ys more = of (cases_Bool (is_near x))
     of (inl so) = rw so (ap (λ ns. n ∷ ns) more)
     of (inr other) = rw other more
 
-near_from-append : (n : ℕ) (xs ys : List (List ℕ)) → near_from n (xs ++ ys) ≡ near_from n xs ++ near_from (n + length xs) ys
+pub near_from-append : (n : ℕ) (xs ys : List (List ℕ)) → near_from n (xs ++ ys) ≡ near_from n xs ++ near_from (n + length xs) ys
 near_from-append n [] ys = ap (λ k. near_from k ys) (omega arith)
 near_from-append n (x ∷ xs) ys =
     let count : n + 1 + length xs ≡ n + length (x ∷ xs) = omega arith in
@@ -252,7 +269,7 @@ one_more_guard line lines few = of (cases_Bool (is_guard line))
     of (inl so) = rw so (omega (arith, few))
     of (inr other) = rw other (omega (arith, few))
 
-few_guards : (lines : List (List ℕ)) → guards_among lines ≤ length lines
+pub few_guards : (lines : List (List ℕ)) → guards_among lines ≤ length lines
 few_guards [] = omega arith
 few_guards (line ∷ lines) = one_more_guard line lines (few_guards lines)
 
@@ -263,13 +280,13 @@ fewer_met lines met near number counts count = let few = few_guards lines in ome
 
 module _ (form : Form) (start mid : State) (had has : Option (List ℕ)) (lines : List (List ℕ)) (text : List ℕ) (f : Followed form start mid had has lines text) (number : ℕ) (count : number ≡ 1 + length lines) (met : AreMet start lines) (tallied : ℕ) (near : List ℕ) (counts : Tallies lines tallied near) where
   -- at a guard that isn't met
-  pub breaks : (then : Option (List ℕ)) (line : List ℕ) (came : Came) (old new found : List ℕ) (asks : Asks) → Consumes has then (line ++ feed ∷ []) → has_no_feed line ≡ true → IsUnasked start lines came old
-      → Asked mid (guard_of line) came old new found (Ok (Some asks)) → (held holds : Option (List ℕ)) → Appends held holds text → GuardedIn form start mid held holds had then line found tallied near (Ok (Some (record { number = number; asks = asks })))
-  breaks then line came old new found asks read single unasked is held holds written = of (guard_of line) refl is
+  pub breaks : (then : Option (List ℕ)) (line : List ℕ) (came : Came) (old new found : List ℕ) (asks : Asks) (hint : Option Hint) → hint ≡ hint_of asks (wanted_of line) found (not (are_silent lines)) → Consumes has then (line ++ feed ∷ []) → has_no_feed line ≡ true → IsUnasked start lines came old
+      → Asked mid (guard_of line) came old new found (Ok (Some asks)) → (held holds : Option (List ℕ)) → Appends held holds text → GuardedIn form start mid held holds had then line found tallied near (Ok (Some (record { number = number; asks = asks; hint = hint })))
+  breaks then line came old new found asks hint hinted read single unasked is held holds written = of (guard_of line) refl is
     where
-      at : (a : Asks) (wants : List ℕ) → guard_of line ≡ Some (a, wants) → (IsMet start lines (a, wants) → ⊥) → IsFound start lines (a, wants) found
-          → GuardedIn form start mid held holds had then line found tallied near (Ok (Some (record { number = number; asks = a })))
-      at a wants guard unmet is_found = (
+      at : (a : Asks) (wants : List ℕ) → guard_of line ≡ Some (a, wants) → (IsMet start lines (a, wants) → ⊥) → IsFound start lines (a, wants) found → hint ≡ hint_of a wants found (not (are_silent lines))
+          → GuardedIn form start mid held holds had then line found tallied near (Ok (Some (record { number = number; asks = a; hint = hint })))
+      at a wants guard unmet is_found is_hint = (
         text,
         record {
           left = has;
@@ -284,21 +301,27 @@ module _ (form : Form) (start mid : State) (had has : Option (List ℕ)) (lines 
           unmet = unmet;
           is_next = count;
           finds = is_found;
+          hints = is_hint;
         },
         written,
         counts,
       )
 
+      hint_at : (a : Asks) (wants : List ℕ) → guard_of line ≡ Some (a, wants) → asks ≡ a → hint ≡ hint_of a wants found (not (are_silent lines))
+      hint_at a wants guard kind =
+          hinted ∙ ap (λ k. hint_of k (wanted_of line) found (not (are_silent lines))) kind
+          ∙ ap (λ o. hint_of a (option_map_or (λ g. g.1) o line) found (not (are_silent lines))) guard
+
       of : (guard : Option (Asks × List ℕ)) → guard_of line ≡ guard → Asked mid guard came old new found (Ok (Some asks))
-          → GuardedIn form start mid held holds had then line found tallied near (Ok (Some (record { number = number; asks = asks })))
+          → GuardedIn form start mid held holds had then line found tallied near (Ok (Some (record { number = number; asks = asks; hint = hint })))
       of None same is = absurd is
       of (Some (Printed, wants)) same (its_kind, both) =
-          subst (λ a. GuardedIn form start mid held holds had then line found tallied near (Ok (Some (record { number = number; asks = a })))) (sym its_kind)
-          (at Printed wants same (unmet_printed start mid lines f.state came old unasked wants both.0) (came, old, unasked, both.1))
-      of (Some (Runner, wants)) same (its_kind, both) =
+          subst (λ a. GuardedIn form start mid held holds had then line found tallied near (Ok (Some (record { number = number; asks = a; hint = hint })))) (sym its_kind)
+          (at Printed wants same (unmet_printed start mid lines f.state came old unasked wants both.0) (came, old, unasked, both.1) (hint_at Printed wants same its_kind))
+      of (Some (Runner, wants)) same (its_kind, differs, stays) =
           let runs : hex 4 mid.runner ≡ hex 4 (after_all start lines).runner = ap (λ s. hex 4 s.runner) f.state in
-          subst (λ a. GuardedIn form start mid held holds had then line found tallied near (Ok (Some (record { number = number; asks = a })))) (sym its_kind)
-          (at Runner wants same (λ is. both.0 (is ∙ sym runs)) (both.1 ∙ runs))
+          subst (λ a. GuardedIn form start mid held holds had then line found tallied near (Ok (Some (record { number = number; asks = a; hint = hint })))) (sym its_kind)
+          (at Runner wants same (λ is. differs.0 (is ∙ sym runs)) (differs.1 ∙ runs) (hint_at Runner wants same its_kind))
 
   -- at what isn't taken
   pub untaken_guarded : (e : PlayError) (then : Option (List ℕ)) (bytes : List ℕ) → TakesLine has then bytes number (Err e)

@@ -12,6 +12,7 @@ pub mod Meetings
 pub mod Plain
 pub mod PrintedWords
 pub mod ReadLines
+pub mod Sifts
 pub mod Singles
 pub mod MendLines
 pub mod ReasonLines

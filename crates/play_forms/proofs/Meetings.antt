@@ -1,6 +1,6 @@
 -- SPDX-License-Identifier: MIT OR Apache-2.0
 -- Whether the line at the front of a text meets what is wanted.
-use Rattle.std.proofs.Common.{◌≡◌, ℕ, ◌+◌, true, false, List, [], ◌∷◌, ◌++◌, None, Some, Ok, sym, ap, ◌∙◌, take, drop}
+use Rattle.std.proofs.Common.{◌≡◌, ℕ, ◌+◌, true, false, List, [], ◌∷◌, ◌++◌, None, Some, Ok, sym, ap, ◌∙◌, take, drop, refl}
 use Rattle.std.specs.Prelude.{◌==◌, ◌||◌, option_map, position}
 use Rattle.std.specs.Option.{option_map_or}
 use Rattle.std.specs.Str.{bytes_eq}
@@ -24,7 +24,7 @@ meets_other came text line found other is =
 module _ (wants : List ℕ) (came : Came) (old : List ℕ) where
   -- no line is left
   pub asked_none : (found : List ℕ) → position (λ c. c == feed) old ≡ None → found ≡ [] → AsksPrinted wants came old old found (Ok false)
-  asked_none found is none = (λ line rest same single meeting. never line (sym (ap first_line same ∙ first_of_lines line rest single) ∙ first), none ∙ sym (ap (λ o. option_map_or (told (pattern_of wants) came) o []) first))
+  asked_none found is none = (λ line rest same single meeting. never line (sym (ap first_line same ∙ first_of_lines line rest single) ∙ first), none ∙ sym (ap (λ o. option_map_or (told (pattern_of wants) came) o []) first), refl)
     where
       first : first_line old ≡ None
       first = ap (option_map (λ end. take end old)) is
@@ -37,10 +37,11 @@ module _ (wants : List ℕ) (came : Came) (old : List ℕ) where
     pub asked_met : (new found : List ℕ) → meets came wants (take end old) ≡ true → new ≡ drop (end + 1) old → AsksPrinted wants came old new found (Ok true)
     asked_met new found met is = (take end old, ends.whole ∙ ap (λ rest. take end old ++ feed ∷ rest) (sym is), ends.single, met)
 
-    pub asked_unmet : (new found : List ℕ) → meets came wants (take end old) ≡ false → found ≡ told (pattern_of wants) came (take end old) → AsksPrinted wants came old new found (Ok false)
-    asked_unmet new found unmet is = (
+    pub asked_unmet : (found : List ℕ) → meets came wants (take end old) ≡ false → found ≡ told (pattern_of wants) came (take end old) → AsksPrinted wants came old old found (Ok false)
+    asked_unmet found unmet is = (
       λ line rest same single meeting. never line (sym ends.first ∙ ap first_line same ∙ first_of_lines line rest single) meeting,
       is ∙ sym (ap (λ o. option_map_or (told (pattern_of wants) came) o []) ends.first),
+      refl,
     )
       where
         never : (line : List ℕ) → Some (take end old) ≡ Some line → meets came wants line ≡ true → ⊥

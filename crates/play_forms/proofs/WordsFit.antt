@@ -88,6 +88,26 @@ ends_line text end is =
       inside = at.1;
     }
 
+-- no LF stands in a text that none ends
+free_more : (c : ℕ) (text : List ℕ) → (position_or_len (λ x. x == feed) text ≡ length text → has_no_feed text ≡ true)
+    → position_or_len (λ x. x == feed) (c ∷ text) ≡ length (c ∷ text) → has_no_feed (c ∷ text) ≡ true
+free_more c text more whole = of (cases_Bool (not (c == feed)))
+  where
+    of : (not (c == feed) ≡ true) ⊎ (not (c == feed) ≡ false) → has_no_feed (c ∷ text) ≡ true
+    of (inl so) =
+        let one : position_or_len (λ x. x == feed) (c ∷ text) ≡ 1 + position_or_len (λ x. x == feed) text = rw so (omega arith) in
+        and_from _ _ so (more (omega (arith, whole, one)))
+    of (inr other) =
+        let none : position_or_len (λ x. x == feed) (c ∷ text) ≡ 0 = rw other refl in
+        absurd (omega (arith, whole, none))
+
+free_of_feed : (text : List ℕ) → position_or_len (λ x. x == feed) text ≡ length text → has_no_feed text ≡ true
+free_of_feed [] whole = refl
+free_of_feed (c ∷ text) whole = free_more c text (free_of_feed text) whole
+
+pub no_line_ends : (text : List ℕ) → position (λ c. c == feed) text ≡ None → has_no_feed text ≡ true
+no_line_ends text is = free_of_feed text (position_none (λ c. c == feed) text is)
+
 -- WORDS
 
 pub cut_some : (text : List ℕ) (end : ℕ) → position (λ c. c == space) text ≡ Some end → words_of text ≡ take end text ∷ words_of (drop (end + 1) text)

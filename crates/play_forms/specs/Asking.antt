@@ -49,14 +49,18 @@ SaysCame now line outcome before came =
 -- What follows speaks of what was unasked before and now (`old`, `new`), and of what was found in place of what is
 -- wanted.
 
+-- no line that meets what is wanted begins this text, which came to that
+abbrev pub Misses : List ℕ → Came → List ℕ → Type 0
+Misses wants came old =
+    (line rest : List ℕ) → old ≡ line ++ feed ∷ rest → has_no_feed line ≡ true → meets came wants line ≡ true → ⊥
+
 -- a line is wanted of a printed text that came to this: one that meets what is wanted begins the text, and was taken
--- off, or none does
+-- off, or none does, and the text stays
 abbrev pub AsksPrinted : List ℕ → Came → List ℕ → List ℕ → List ℕ → Result Bool PlayError → Type 0
 AsksPrinted wants came old new found (Ok true) =
     (line : List ℕ) × (old ≡ line ++ feed ∷ new) × (has_no_feed line ≡ true) × (meets came wants line ≡ true)
 AsksPrinted wants came old new found (Ok false) =
-    ((line rest : List ℕ) → old ≡ line ++ feed ∷ rest → has_no_feed line ≡ true → meets came wants line ≡ true → ⊥)
-    × (found ≡ told_first wants came old)
+    Misses wants came old × (found ≡ told_first wants came old) × (new ≡ old)
 AsksPrinted wants came old new found (Err e) = e ≡ NoMemory
 
 -- an identifier is wanted of the endpoint that runs
@@ -76,7 +80,7 @@ Asked s (Some (Printed, wants)) came old new found (Ok (Some asks)) =
     (asks ≡ Printed) × AsksPrinted wants came old new found (Ok false)
 Asked s (Some (Runner, wants)) came old new found (Ok None) = AsksRunner s wants found (Ok true) × (new ≡ old)
 Asked s (Some (Runner, wants)) came old new found (Ok (Some asks)) =
-    (asks ≡ Runner) × AsksRunner s wants found (Ok false)
+    (asks ≡ Runner) × AsksRunner s wants found (Ok false) × (new ≡ old)
 
 -- what is unasked behind a line that was done: its own text, or what was, where it says nothing
 abbrev pub unasked_by : State → Line → List ℕ → List ℕ

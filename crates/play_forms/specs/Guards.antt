@@ -15,6 +15,7 @@ use Rattle.play_forms.specs.declared.guards.Asks.TheVariants.{Printed, Runner}
 use Rattle.play_forms.specs.declared.guards.Breach.{Breach}
 use Rattle.play_forms.specs.declared.patterns.Came.{Came}
 use Rattle.play_forms.specs.Followed.{Followed, EndsBadly, FailsToWrite}
+use Rattle.play_forms.specs.Hints.{hint_of}
 use Rattle.play_forms.specs.Patterns.{came_of, meets, pattern_of, told}
 use Rattle.play_forms.specs.Reading.{ReadsNoLine}
 
@@ -33,6 +34,15 @@ guard_of line =
 
 abbrev pub is_guard : List ℕ → Bool
 is_guard line = is_some (guard_of line)
+
+-- the text that it wants
+abbrev pub wanted_of : List ℕ → List ℕ
+wanted_of line = option_map_or (λ guard. guard.1) (guard_of line) line
+
+-- the breach at a guard in the line of this number, where this is found, and where text was printed before
+abbrev pub breach_of : ℕ → Asks → List ℕ → List ℕ → Bool → Breach
+breach_of number asks line found printed =
+    record { number = number; asks = asks; hint = hint_of asks (wanted_of line) found printed }
 
 -- whether a guard asks for a printed line
 abbrev pub asks_line : Option (Asks × List ℕ) → Bool
@@ -147,6 +157,7 @@ pub record Breaks (form : Form) (start now : State) (had : Option (List ℕ)) (t
   pub unmet : IsMet start lines (breach.asks, wants) → ⊥
   pub is_next : breach.number ≡ 1 + length lines
   pub finds : IsFound start lines (breach.asks, wants) found
+  pub hints : breach.hint ≡ hint_of breach.asks wants found (not (are_silent lines))
 
 -- so many of these lines are guards, and these are the numbers of those that are nearly guards
 abbrev pub Tallies : List (List ℕ) → ℕ → List ℕ → Type 0

@@ -70,12 +70,18 @@ abbrev pub told_by_name : Option Outcome → List ℕ → List ℕ
 told_by_name (Some (Regs runner x)) line = named x line
 told_by_name other line = line
 
--- what a line tells that came to this: itself, or its names, or the number of the check that refuses it
+-- a check, by its number; and behind a name, with a space before it, where there is one
+abbrev pub check_text : ℕ → List ℕ
+check_text number = codes "check " ++ decimal number
+
+abbrev pub check_behind : Option ℕ → List ℕ
+check_behind check = option_map_or (λ number. spaced (check_text number)) check []
+
+-- what a line tells that came to this: itself, or its names with the check that refuses it, or that check alone
 abbrev pub told : Pattern → Came → List ℕ → List ℕ
 told Words came line = line
-told Name came line = told_by_name came.outcome line
-told Check came line =
-    option_map_or (λ number. codes "check " ++ decimal number) came.check (told_by_name came.outcome line)
+told Name came line = told_by_name came.outcome line ++ check_behind came.check
+told Check came line = option_map_or check_text came.check (told_by_name came.outcome line)
 
 -- WHETHER IT MEETS A TEXT
 

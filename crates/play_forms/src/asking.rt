@@ -74,7 +74,7 @@ pub(crate) fn first_feed(text: &[u8]) -> Option<usize>
     text.iter().position(|c| *c == b'\n')
 }
 
-fn take_front<A: Allocator>(text: &mut Vec<u8, A>, end: usize)
+pub(crate) fn take_front<A: Allocator>(text: &mut Vec<u8, A>, end: usize)
     requires { end ≤ length text.old.items }
     ensures { text.new.items ≡ drop end text.old.items }
 {

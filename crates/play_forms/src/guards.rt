@@ -1,14 +1,15 @@
 // SPDX-License-Identifier: MIT OR Apache-2.0
 //! A play that checks guards: comments that ask what the line before them printed, or which endpoint runs.
-ghost use Rattle.std.specs.Prelude.{◌≡◌, ◌==◌, ◌+◌, ◌<◌, IfErr, OnOk, [], ◌∷◌, ◌++◌, not, option_map, position};
+ghost use Rattle.std.specs.Prelude.{◌≡◌, ◌==◌, ◌+◌, ◌<◌, IfErr, OnOk, [], ◌∷◌, ◌++◌, ◌||◌, false, not, option_map, position};
 ghost use Rattle.play_syntax.specs.TraceLines.{space};
 ghost use Rattle.play_syntax.specs.Lines.{meant};
 ghost use Rattle.play_forms.specs.Asking.{came_by, unasked_by};
-ghost use Rattle.play_forms.specs.Guards.{GuardedIn, behind_spaces, guard_of, guards_among, is_near, near_from, without_space};
+ghost use Rattle.play_forms.specs.Guards.{GuardedIn, behind_spaces, breach_of, guard_of, guards_among, is_near, near_from, speaks, wanted_of, without_space};
 ghost use Rattle.play_forms.specs.Steps.{PrintsLine};
 
 use crate::asking::unmet;
 use crate::form::{Form, make_text};
+use crate::hint::{Hint, hint_of};
 use crate::patterns::Came;
 use crate::read::Lines;
 use ffa_playable::Playable;
@@ -34,6 +35,8 @@ pub struct Breach {
     pub number: u64,
     /// What it asks about.
     pub asks: Asks,
+    /// What more there is to say of it than what is found.
+    pub hint: Option<Hint>,
 }
 
 /// What a line asks, and the text that it wants, if it is a guard. One space before the text is none of it.
@@ -61,32 +64,59 @@ fn without_space(text: &[u8]) -> &[u8]
 pub struct Tally<A: Allocator> {
     /// How many were met.
     pub met: u64,
+    /// The numbers of the lines of those that aren't, counted from 1.
+    pub unmet: Vec<u64, A>,
     /// The numbers of the lines that are nearly guards, counted from 1.
     pub near: Vec<u64, A>,
 }
 
-impl<A: Allocator> Tally<A> {
+impl<A: Allocator + Copy> Tally<A> {
     /// Of no lines.
     pub fn new(alloc: A) -> Tally<A>
         ensures none { result.met ≡ 0 }
+        ensures all { result.unmet.items ≡ [] }
         ensures empty { result.near.items ≡ [] }
     {
         Tally {
             met: 0,
+            unmet: Vec::new(alloc),
             near: Vec::new(alloc),
         }
     }
 
     // Counts the line of this number, which is no guard or one that is met.
-    fn count(&mut self, number: u64, line: &[u8]) -> Result<(), PlayError>
+    pub(crate) fn count(&mut self, number: u64, line: &[u8]) -> Result<(), PlayError>
         requires { self.old.met < number }
         ensures met { OnOk result (self.new.met ≡ self.old.met + guards_among (line.now ∷ [])) }
+        ensures unmet { OnOk result (self.new.unmet.items ≡ self.old.unmet.items) }
         ensures near { OnOk result (self.new.near.items ≡ self.old.near.items ++ near_from number (line.now ∷ [])) }
         ensures failed { IfErr result (λ e. e ≡ PlayError.NoMemory) }
     {
         if guard_text(line).is_some() {
             self.met += 1;
         }
+        self.note_near(number, line)
+    }
+
+    // Counts the line of this number, which is a guard that isn't met.
+    pub(crate) fn miss(&mut self, number: u64, line: &[u8]) -> Result<(), PlayError>
+        ensures met { OnOk result (self.new.met ≡ self.old.met) }
+        ensures unmet { OnOk result (self.new.unmet.items ≡ self.old.unmet.items ++ number ∷ []) }
+        ensures near { OnOk result (self.new.near.items ≡ self.old.near.items ++ near_from number (line.now ∷ [])) }
+        ensures failed { IfErr result (λ e. e ≡ PlayError.NoMemory) }
+    {
+        match self.unmet.push(number) {
+            Ok(()) => self.note_near(number, line),
+            Err(_) => Err(PlayError::NoMemory),
+        }
+    }
+
+    fn note_near(&mut self, number: u64, line: &[u8]) -> Result<(), PlayError>
+        ensures met { OnOk result (self.new.met ≡ self.old.met) }
+        ensures unmet { OnOk result (self.new.unmet.items ≡ self.old.unmet.items) }
+        ensures near { OnOk result (self.new.near.items ≡ self.old.near.items ++ near_from number (line.now ∷ [])) }
+        ensures failed { IfErr result (λ e. e ≡ PlayError.NoMemory) }
+    {
         if is_nearly_guard(line) {
             return self.near.push(number).map_err(|_| PlayError::NoMemory);
         }
@@ -149,7 +179,7 @@ pub fn play_guarded<P: Playable, A: Allocator + Copy, R: BufRead, W: Write>(
     let mut lines = Lines::new();
     while let Some((number, line)) = lines.next(reader, bytes)? {
         if let Some(asks) = unmet(player, bytes, unasked.came, &mut unasked.text, found)? {
-            return Ok(Some(Breach { number, asks }));
+            return Ok(Some(breach_at(number, asks, bytes, found, unasked.printed)));
         }
         tally.count(number, bytes)?;
         print_asked(
@@ -166,27 +196,49 @@ pub fn play_guarded<P: Playable, A: Allocator + Copy, R: BufRead, W: Write>(
     Ok(None)
 }
 
-// What the last line that prints came to, and what no guard has asked for of its text.
+/// The guard that the line of this number is and that isn't met, where this is found, and where text was printed before.
+pub(crate) fn breach_at(number: u64, asks: Asks, line: &[u8], found: &[u8], printed: bool) -> Breach
+    ensures { result ≡ breach_of number asks line.now found.now printed }
+{
+    let hint = hint_of(asks, wanted_text(line), found, printed);
+    Breach { number, asks, hint }
+}
+
+/// The text that a line wants that is a guard.
+pub fn wanted_text(line: &[u8]) -> &[u8]
+    ensures { result.now ≡ wanted_of line.now }
+{
+    match guard_text(line) {
+        Some((_, text)) => text,
+        None => line,
+    }
+}
+
+/// What the last line that prints came to, and what no guard has asked for of its text.
 #[derive(Drop)]
-struct Unasked<A: Allocator> {
-    text: Vec<u8, A>,
-    came: Came,
+pub(crate) struct Unasked<A: Allocator> {
+    pub(crate) text: Vec<u8, A>,
+    pub(crate) came: Came,
+    /// Whether there is a line that prints.
+    pub(crate) printed: bool,
 }
 
 impl<A: Allocator> Unasked<A> {
-    // Nothing yet.
-    fn new(alloc: A) -> Unasked<A>
-        ensures { result.text.items ≡ [] }
+    /// Nothing yet.
+    pub(crate) fn new(alloc: A) -> Unasked<A>
+        ensures none { result.text.items ≡ [] }
+        ensures silent { result.printed ≡ false }
     {
         Unasked {
             text: Vec::new(alloc),
             came: Came::NOTHING,
+            printed: false,
         }
     }
 }
 
-// Does a line and writes its text, which it makes in `text`. The plain text is unasked, where there is one.
-fn print_asked<P: Playable, A: Allocator + Copy, W: Write>(
+/// Does a line and writes its text, which it makes in `text`. The plain text is unasked, where there is one.
+pub(crate) fn print_asked<P: Playable, A: Allocator + Copy, W: Write>(
     player: &mut Player<P>,
     alloc: A,
     form: Form,
@@ -201,11 +253,13 @@ fn print_asked<P: Playable, A: Allocator + Copy, W: Write>(
         PrintsLine form player.old.state player.new.state number (meant line.now) held holds result }
     ensures said { OnOk result (unasked.new.text.items ≡ unasked_by player.old.state (meant line.now) unasked.old.text.items) }
     ensures came { OnOk result (unasked.new.came ≡ came_by player.old.state (meant line.now) unasked.old.came) }
+    ensures loud { OnOk result (unasked.new.printed ≡ (speaks (meant line.now) || unasked.old.printed)) }
 {
     if let Line::Nothing = line {
         return Ok(());
     }
     let outcome = make_text(player, alloc, form, number, line, &mut unasked.text, text)?;
     unasked.came = unasked.came.behind(player, line, outcome);
+    unasked.printed = true;
     output::write_text(writer, text.bytes()?)
 }

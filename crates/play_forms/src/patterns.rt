@@ -1,12 +1,13 @@
 // SPDX-License-Identifier: MIT OR Apache-2.0
 //! What a guard wants of a printed line: to be its text, or to fit a pattern.
-ghost use Rattle.std.specs.Prelude.{◌≡◌, ◌++◌, ◌==◌, ◌<◌, IfErr, IfSome, OnOk, codes, decimal, length, not, option_map, position};
+ghost use Rattle.std.specs.Prelude.{◌≡◌, ◌++◌, ◌==◌, ◌<◌, IfErr, IfSome, OnOk, length, not, option_map, position};
 ghost use Rattle.ffa_abi.specs.Names.{call_name_of};
 ghost use Rattle.play_syntax.specs.Lines.{meant};
 ghost use Rattle.play_syntax.specs.TraceLines.{space, words_of};
 ghost use Rattle.play_reasons.specs.Drafts.{Puts};
 ghost use Rattle.play_forms.specs.Asking.{AreWords, SaysCame, SaysCheck};
-ghost use Rattle.play_forms.specs.Patterns.{fit, fits, is_alike, meets, named, pattern_of, told, told_by_name, without_zeros};
+ghost use Rattle.play_forms.specs.Hints.{begins_line};
+ghost use Rattle.play_forms.specs.Patterns.{check_behind, check_text, fit, fits, is_alike, meets, named, pattern_of, told, told_by_name, without_zeros};
 
 use crate::reason::is_refused;
 use ffa_abi::{call_name, low};
@@ -23,7 +24,8 @@ use std::alloc::Allocator;
 pub enum Pattern {
     /// The words of the printed line.
     Words,
-    /// The name of the call that the line's registers are, and that of their error: `FFA_ERROR DENIED`.
+    /// The name of the call that the line's registers are, that of their error, and the number of the check by which the call
+    /// is refused: `FFA_ERROR DENIED check 12`.
     Name,
     /// The number of the check by which the call is refused: `check 12`.
     Check,
@@ -111,17 +113,34 @@ pub(crate) fn put_told<A: Allocator + Copy>(
     match (pattern, came.check) {
         (Pattern::Words, _) => text.put_bytes(line),
         (Pattern::Check, Some(number)) => put_check(&mut text, number),
-        (Pattern::Name, _) | (Pattern::Check, None) => put_named(came.outcome, line, &mut text),
+        (Pattern::Check, None) => put_named(came.outcome, line, &mut text),
+        (Pattern::Name, check) => put_name_and_check(came.outcome, check, line, &mut text),
     }
     *found = text.end()?;
     Ok(())
 }
 
 fn put_check<A: Allocator>(text: &mut Draft<A>, number: usize)
-    ensures { Puts text.old text.new (codes "check " ++ decimal number) }
+    ensures { Puts text.old text.new (check_text number) }
 {
     text.put("check ");
     text.put_shown(&number);
+}
+
+// Puts the names of registers, or the line, where there are none, and behind it the check that refuses the call.
+fn put_name_and_check<A: Allocator>(
+    outcome: Option<Outcome>,
+    check: Option<usize>,
+    line: &[u8],
+    text: &mut Draft<A>,
+)
+    ensures { Puts text.old text.new (told_by_name outcome line.now ++ check_behind check) }
+{
+    put_named(outcome, line, text);
+    if let Some(number) = check {
+        text.put(" ");
+        put_check(text, number);
+    }
 }
 
 // Puts the names of registers, or the line, where there are none.
@@ -161,6 +180,13 @@ fn text_fits(text: &[u8], line: &[u8]) -> bool
         Some(front) => words_fit(numbers, true, front, line),
         None => words_fit(numbers, text.starts_with(b"FFA_"), text, line),
     }
+}
+
+/// Whether a line begins with the words of a text.
+pub(crate) fn begins_line(text: &[u8], line: &[u8]) -> bool
+    ensures { result ≡ begins_line text.now line.now }
+{
+    words_fit(text.starts_with(b"regs "), true, text, line)
 }
 
 // Whether words are those of a line, which may go on behind them where they are loose. Numbers that are missing are 0.
@@ -203,7 +229,7 @@ fn cut_word(text: &[u8]) -> (&[u8], Option<&[u8]>)
     }
 }
 
-fn first_space(text: &[u8]) -> Option<usize>
+pub(crate) fn first_space(text: &[u8]) -> Option<usize>
     ensures { result ≡ position (λ c. c == space) text.now }
 {
     text.iter().position(|c| *c == b' ')

@@ -27,8 +27,14 @@ pub enum WordFault {
     Empty,
     /// The first word is no command.
     UnknownCommand,
+    /// The first word asks for help.
+    Help,
+    /// The first word asks that the play end.
+    Quit,
     /// A number is wanted, and a byte of the word is no hexadecimal digit.
     NoNumber,
+    /// A number is wanted, and the word has `0x` in front of its digits.
+    Prefix,
     /// The number has so many digits, which are more than 16.
     LongNumber(usize),
     /// The bytes to load are none of 1, 2, 4 and 8.
@@ -104,10 +110,11 @@ fn command_named(name: &[u8]) -> Option<Command> {
 }
 
 fn name_fault(name: &[u8]) -> WordFault {
-    if name.is_empty() {
-        WordFault::Empty
-    } else {
-        WordFault::UnknownCommand
+    match name {
+        b"" => WordFault::Empty,
+        b"help" => WordFault::Help,
+        b"quit" | b"exit" => WordFault::Quit,
+        _ => WordFault::UnknownCommand,
     }
 }
 
@@ -128,11 +135,22 @@ fn word_fault(command: Command, place: usize, word: &[u8]) -> Option<WordFault> 
 
 fn number_fault(word: &[u8]) -> Option<WordFault> {
     if !word.iter().all(u8::is_ascii_hexdigit) {
-        Some(WordFault::NoNumber)
+        Some(digit_fault(word))
     } else if word.len() > 16 {
         Some(WordFault::LongNumber(word.len()))
     } else {
         None
+    }
+}
+
+// What is wrong with a word that has another byte than digits.
+fn digit_fault(word: &[u8]) -> WordFault {
+    match word {
+        [b'0', b'x' | b'X', digits @ ..]
+            if !digits.is_empty() && digits.iter().all(u8::is_ascii_hexdigit) => {
+            WordFault::Prefix
+        }
+        _ => WordFault::NoNumber,
     }
 }
 
@@ -145,7 +163,7 @@ fn size_fault(word: &[u8]) -> Option<WordFault> {
 
 fn value_fault(word: &[u8]) -> Option<WordFault> {
     if !word.iter().all(u8::is_ascii_hexdigit) {
-        return Some(WordFault::NoNumber);
+        return Some(digit_fault(word));
     }
     match word.len() {
         2 | 4 | 8 | 16 => None,
@@ -199,7 +217,13 @@ impl fmt::Display for WordFault {
         match self {
             WordFault::Empty => write!(f, "an empty word"),
             WordFault::UnknownCommand => write!(f, "an unknown command"),
+            WordFault::Help => write!(
+                f,
+                "a line is call X0 .. X7, load A N, store A V, fetch A, show or audit, in hexadecimal"
+            ),
+            WordFault::Quit => write!(f, "the end of the input ends a session, as Ctrl+D does"),
             WordFault::NoNumber => write!(f, "no hexadecimal number"),
+            WordFault::Prefix => write!(f, "a number is written without 0x"),
             WordFault::LongNumber(digits) => {
                 write!(f, "a number of {digits} digits, where 16 are the most")
             }

@@ -15,3 +15,7 @@ near_text numbers = flat_map near_line numbers
 -- so many guards were met
 abbrev pub met_text : ℕ → List ℕ
 met_text met = codes "ffaplay: guards met: " ++ ended (decimal met)
+
+-- so many weren't
+abbrev pub unmet_text : ℕ → List ℕ
+unmet_text unmet = codes "ffaplay: guards not met: " ++ ended (decimal unmet)

@@ -16,6 +16,7 @@ use Rattle.play_forms.specs.Compared.{Compared, NeverPrints, StopsInLast, unexpl
 use Rattle.play_forms.specs.Followed as followed
 use Rattle.play_forms.specs.Forms.{plain, text_in}
 use Rattle.play_forms.specs.Guards.{GuardedIn, guards_among, near_from}
+use Rattle.play_forms.specs.Past.{SiftedIn, UnmetAmong}
 use Rattle.play_forms.specs.Recorded.{RecordedIn}
 use Rattle.play_report.specs.Guarded.{met_text, near_text}
 use Rattle.play_forms.specs.declared.guards.Breach.{Breach}
@@ -23,6 +24,7 @@ use Rattle.play_forms.specs.Reading.{IsAll}
 use Rattle.play_forms.specs.Sessions.{Conversed, SessionIn}
 use Rattle.play_forms.specs.declared.comparison.CompareError.TheVariants as compare_error
 use Rattle.play_forms.proofs.Plain.{plain_text}
+use Rattle.play_forms.proofs.Sifts.{all_met}
 use Rattle.play_picture.specs.Paging.{Paging}
 use Rattle.play_page.specs.declared.page.Page.{Page}
 use Rattle.play_picture.specs.Pictured.{Pictured}
@@ -34,9 +36,9 @@ use Rattle.play_picture.proofs.Bare.{bare_large}
 use Rattle.play_report.specs.Failures.{IsDifference, failure_of}
 use Rattle.play_report.specs.declared.failure.Failure.{Failure}
 use Rattle.play_report.specs.declared.failure.Failure.TheVariants.{Manifest, BadLine, Read, Write, NoMemory, Differs, Unmet, Words, Unfit, TooManyRows}
-use Rattle.play_tasks.specs.Plays.{EndsBadly, IsDrawn, IsHeld, IsPlayed, IsRecorded, IsStopped, IsCutShort, IsUnmet, IsOverfull, PrintsExpected, Streams, TellsGuards, PlayFails}
+use Rattle.play_tasks.specs.Plays.{EndsBadly, EndsGuards, IsDrawn, IsHeld, IsPlayed, IsRecorded, IsStopped, IsCutShort, IsUnmet, IsUnmetInAll, IsOverfull, PlayFails, Plays, PrintsExpected, Streams, TellsGuards}
 use Rattle.play_tasks.specs.declared.task.Expected.{Expected}
-use Rattle.play_tasks.specs.declared.task.Task.TheVariants.{Plain, Formed, Guarded, Recorded, Session, Compare, Drawn, Paged}
+use Rattle.play_tasks.specs.declared.task.Task.TheVariants.{Plain, Formed, Guarded, GuardedToEnd, Recorded, Session, Compare, Drawn, Paged}
 
 -- BYTES THAT A READER HAD, AND THAT A WRITER HOLDS
 
@@ -252,6 +254,56 @@ guarded_failed form start now held holds had has line found met near path fault 
 guarded_failed form start now held holds had has line found met near path fault play_error.NoMemory p = tt
 guarded_failed form start now held holds had has line found met near path fault (play_error.BadLine n) (said, e, written, are_met, counts) =
     (e.lines, ends_badly form start now had said line n e, subst (Appends held holds) e.followed.said written, λ strict. are_met)
+
+-- PLAYS PAST GUARDS
+
+pub sifted_whole : {X : Type 0} (x : X) (form : Form) (start now : State) (held holds had has : Option (List ℕ)) (line : List ℕ) (met : ℕ) (near unmet : List ℕ) → SiftedIn form start now held holds had has line met near unmet (Ok x)
+    → unmet ≡ [] → IsPlayed true form start (passed had held holds)
+sifted_whole x form start now held holds had has line met near unmet (left, lines, said, f, ended, written, sift) none = record {
+  lines = lines;
+  each = f.each;
+  all = all_consumed had left (joined lines) f.read ended;
+  written = subst (Appends held holds) f.said written;
+  guards = λ strict. all_met start lines (subst (UnmetAmong start [] lines) none sift.guards);
+}
+
+pub sifted_unmet : {X : Type 0} (x : X) (form : Form) (start now : State) (held holds had has : Option (List ℕ)) (line : List ℕ) (met : ℕ) (near unmet : List ℕ) → SiftedIn form start now held holds had has line met near unmet (Ok x)
+    → (n : ℕ) (more : List ℕ) → unmet ≡ n ∷ more → IsUnmetInAll form start (passed had held holds) n
+sifted_unmet x form start now held holds had has line met near unmet (left, lines, said, f, ended, written, sift) n more is = record {
+  lines = lines;
+  each = f.each;
+  all = all_consumed had left (joined lines) f.read ended;
+  more = more;
+  unmet = subst (UnmetAmong start [] lines) is sift.guards;
+  written = subst (Appends held holds) f.said written;
+}
+
+-- what such a play comes to
+pub sifted_ended : {X : Type 0} (x : X) (form : Form) (start now : State) (held holds had has : Option (List ℕ)) (line : List ℕ) (met : ℕ) (near unmet : List ℕ) → SiftedIn form start now held holds had has line met near unmet (Ok x)
+    → (path : Bor (List ℕ)) (result : Result (Unit {0}) Failure) → EndsGuards unmet result → Plays (GuardedToEnd form) path start (passed had held holds) result
+sifted_ended x form start now held holds had has line met near unmet sifted path (Ok done) none =
+    record { played = sifted_whole x form start now held holds had has line met near unmet sifted none; failed = tt }
+sifted_ended x form start now held holds had has line met near unmet sifted path (Err (Unmet n)) (more, is) =
+    record { played = tt; failed = sifted_unmet x form start now held holds had has line met near unmet sifted n more is }
+sifted_ended x form start now held holds had has line met near unmet sifted path (Err NoMemory) is = record { played = tt; failed = tt }
+sifted_ended x form start now held holds had has line met near unmet sifted path (Err Write) is = record { played = tt; failed = tt }
+sifted_ended x form start now held holds had has line met near unmet sifted path (Err Differs) is = absurd cc
+sifted_ended x form start now held holds had has line met near unmet sifted path (Err (Manifest cause)) is = absurd cc
+sifted_ended x form start now held holds had has line met near unmet sifted path (Err (BadLine n fault)) is = absurd cc
+sifted_ended x form start now held holds had has line met near unmet sifted path (Err (Read told)) is = absurd cc
+sifted_ended x form start now held holds had has line met near unmet sifted path (Err (Words fault)) is = absurd cc
+sifted_ended x form start now held holds had has line met near unmet sifted path (Err (Unfit cause)) is = absurd cc
+sifted_ended x form start now held holds had has line met near unmet sifted path (Err (TooManyRows most)) is = absurd cc
+
+pub sifted_failed : (form : Form) (start now : State) (held holds had has : Option (List ℕ)) (line : List ℕ) (met : ℕ) (near unmet : List ℕ) (path : Bor (List ℕ)) (fault : Option LineFault) (error : PlayError)
+    → SiftedIn {X = Unit {0}} form start now held holds had has line met near unmet (Err error)
+    → PlayFails (GuardedToEnd form) path start (passed had held holds) (failure_of (Read path) fault error)
+sifted_failed form start now held holds had has line met near unmet path fault play_error.Read (left, lines, said, f, unended, written, sift) =
+    inl ((lines, (f.each, (left, f.read)), subst (Appends held holds) f.said written, λ strict. absurd cc), refl)
+sifted_failed form start now held holds had has line met near unmet path fault play_error.Write p = tt
+sifted_failed form start now held holds had has line met near unmet path fault play_error.NoMemory p = tt
+sifted_failed form start now held holds had has line met near unmet path fault (play_error.BadLine n) (said, e, written, sift) =
+    (e.lines, ends_badly form start now had said line n e, subst (Appends held holds) e.followed.said written, λ strict. absurd cc)
 
 -- RECORDS
 

@@ -1,7 +1,7 @@
 -- SPDX-License-Identifier: MIT OR Apache-2.0
 -- What a task leaves that was done with a trace.
 use denote.Ref.{Bor}
-use Rattle.std.specs.Prelude.{◌≡◌, ◌==◌, ◌⊎◌, ℕ, ◌+◌, Bool, true, false, List, ◌∷◌, ◌++◌, length, Option, Some, Result, IfErr, OnOk, ⊤, if◌then◌else◌}
+use Rattle.std.specs.Prelude.{◌≡◌, ◌==◌, ◌⊎◌, ℕ, ◌+◌, Bool, true, false, List, [], ◌∷◌, ◌++◌, length, Option, Some, Result, Ok, Err, IfErr, OnOk, ⊤, if◌then◌else◌}
 use Rattle.std.specs.Io.KnownBytes.{Appends, Consumes, Keeps}
 use Rattle.std.specs.List.{list_all}
 use Rattle.ffa_model.specs.State.{State}
@@ -14,6 +14,7 @@ use Rattle.play_forms.specs.declared.guards.Asks.{Asks}
 use Rattle.play_forms.specs.Compared.{NeverPrints, StopsInLast, unexplained}
 use Rattle.play_forms.specs.Forms.{plain, text_in}
 use Rattle.play_forms.specs.Guards.{AreMet, IsMet, guard_of, guards_among, near_from}
+use Rattle.play_forms.specs.Past.{UnmetAmong}
 use Rattle.play_forms.specs.Reading.{IsAll, IsBadLine}
 use Rattle.play_forms.specs.Recorded.{Replays, recorded}
 use Rattle.play_forms.specs.Sessions.{good_text_in}
@@ -103,6 +104,22 @@ pub record IsUnmet (form : Form) (start : State) (streams : Streams) (n : ℕ) :
   pub is_guard : guard_of line ≡ Some guard
   pub unmet : IsMet start lines guard → ⊥
   pub written : Appends streams.held streams.holds (text_in form 1 start lines)
+
+-- a play checked all guards: what its reader had are lines, their text was written, and of the guards among them some
+-- aren't met, of which line n is the first
+pub record IsUnmetInAll (form : Form) (start : State) (streams : Streams) (n : ℕ) : Type 0 where
+  pub lines : List (List ℕ)
+  pub each : are_lines lines ≡ true
+  pub all : IsAll streams.trace (joined lines)
+  pub more : List ℕ
+  pub unmet : UnmetAmong start [] lines (n ∷ more)
+  pub written : Appends streams.held streams.holds (text_in form 1 start lines)
+
+-- what a play comes to that checked all guards, where these are the numbers of the lines of those that aren't met
+abbrev pub EndsGuards : List ℕ → Result (Unit {0}) Failure → Type 0
+EndsGuards unmet (Ok done) = unmet ≡ []
+EndsGuards unmet (Err (failure.Unmet n)) = (more : List ℕ) × (unmet ≡ n ∷ more)
+EndsGuards unmet (Err other) = other ≡ failure.NoMemory
 
 -- what was said of a trace's guards when it was played to its end: which of its lines are nearly guards, and how many
 -- guards it has, which all are met
@@ -215,6 +232,7 @@ abbrev pub IsDoneBy : KnownTask → State → Streams → Type 0
 IsDoneBy task.Plain start streams = IsPlayed false plain start streams
 IsDoneBy (task.Formed form) start streams = IsPlayed false form start streams
 IsDoneBy (task.Guarded form) start streams = IsPlayed true form start streams
+IsDoneBy (task.GuardedToEnd form) start streams = IsPlayed true form start streams
 IsDoneBy task.Recorded start streams = IsRecorded start streams
 IsDoneBy (task.Session form) start streams = IsHeld form start streams
 IsDoneBy (task.Compare expected form) start streams =
@@ -228,6 +246,7 @@ abbrev pub StopsBy : KnownTask → State → Streams → ℕ → Type 0
 StopsBy task.Plain start streams n = IsStopped false plain start streams n
 StopsBy (task.Formed form) start streams n = IsStopped false form start streams n
 StopsBy (task.Guarded form) start streams n = IsStopped true form start streams n
+StopsBy (task.GuardedToEnd form) start streams n = IsStopped false form start streams n
 StopsBy task.Recorded start streams n = IsRecordStopped start streams n
 StopsBy (task.Session form) start streams n = ⊥
 StopsBy (task.Compare expected form) start streams n =
@@ -240,6 +259,7 @@ abbrev pub UnreadBy : KnownTask → State → Streams → Type 0
 UnreadBy task.Plain start streams = IsUnread false plain start streams
 UnreadBy (task.Formed form) start streams = IsUnread false form start streams
 UnreadBy (task.Guarded form) start streams = IsUnread true form start streams
+UnreadBy (task.GuardedToEnd form) start streams = IsUnread false form start streams
 UnreadBy task.Recorded start streams = IsRecordUnread start streams
 UnreadBy (task.Session form) start streams = IsUnheard form start streams
 UnreadBy (task.Compare expected form) start streams =
@@ -260,9 +280,10 @@ DiffersBy (task.Compare expected form) start trace =
     NeverPrints (unexplained form) start trace expected.reader
 DiffersBy other start trace = ⊥
 
--- a task met a guard that isn't met, in line n
+-- a guard isn't met, in line n
 abbrev pub UnmetBy : KnownTask → State → Streams → ℕ → Type 0
 UnmetBy (task.Guarded form) start streams n = IsUnmet form start streams n
+UnmetBy (task.GuardedToEnd form) start streams n = IsUnmetInAll form start streams n
 UnmetBy other start streams n = ⊥
 
 -- a task would draw more rows than this many

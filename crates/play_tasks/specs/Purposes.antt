@@ -1,6 +1,6 @@
 -- SPDX-License-Identifier: MIT OR Apache-2.0
 -- Which task serves what a trace is played for.
-use Rattle.std.specs.Prelude.{◌≡◌, ◌&&◌, not, Bool, true, false, List, ℕ, Option, Some, ⊤}
+use Rattle.std.specs.Prelude.{◌≡◌, ◌&&◌, ◌||◌, not, Bool, true, false, List, ℕ, Option, Some, ⊤}
 use Rattle.play_arguments.specs.declared.command_line.Purpose.{Purpose}
 use Rattle.play_arguments.specs.declared.command_line.Purpose.TheVariants as purpose
 use Rattle.play_forms.specs.declared.form.Form.{Form}
@@ -23,6 +23,7 @@ abbrev pub known : {R : Type 0} → (R → Option (List ℕ)) → Task R → Kno
 known remaining task.Plain = task.Plain
 known remaining (task.Formed form) = task.Formed form
 known remaining (task.Guarded form) = task.Guarded form
+known remaining (task.GuardedToEnd form) = task.GuardedToEnd form
 known remaining task.Recorded = task.Recorded
 known remaining (task.Session form) = task.Session form
 known remaining (task.Compare expected form) = comparison_of remaining expected form
@@ -31,23 +32,26 @@ known remaining task.Paged = task.Paged
 
 -- whether a purpose is a session, which tells of bad lines and goes on: guards are checked of none
 abbrev pub is_session_for : Purpose → Bool
-is_session_for (purpose.Print text strict interactive) = interactive && not strict
+is_session_for (purpose.Print text strict keep_going interactive) = interactive && not (strict || keep_going)
 is_session_for other = false
 
 -- whether a purpose is to check the guards of a trace
 abbrev pub is_strict_for : Purpose → Bool
-is_strict_for (purpose.Print text strict interactive) = strict
+is_strict_for (purpose.Print text strict keep_going interactive) = strict || keep_going
 is_strict_for other = false
 
 -- a task serves a purpose, where this is known of what reads the expected text, if that could be opened
 abbrev pub IsTaskFor : Purpose → (expected : Option (Option (List ℕ))) → KnownTask → Type 0
-IsTaskFor (purpose.Print text strict interactive) opened task.Plain =
-    (strict ≡ false) × (interactive ≡ false) × (form_of text ≡ plain)
-IsTaskFor (purpose.Print text strict interactive) opened (task.Formed form) =
-    (strict ≡ false) × (interactive ≡ false) × (form_of text ≡ form)
-IsTaskFor (purpose.Print text strict interactive) opened (task.Guarded form) = (strict ≡ true) × (form_of text ≡ form)
-IsTaskFor (purpose.Print text strict interactive) opened (task.Session form) =
-    (strict ≡ false) × (interactive ≡ true) × (form_of text ≡ form)
+IsTaskFor (purpose.Print text strict keep_going interactive) opened task.Plain =
+    (strict ≡ false) × (keep_going ≡ false) × (interactive ≡ false) × (form_of text ≡ plain)
+IsTaskFor (purpose.Print text strict keep_going interactive) opened (task.Formed form) =
+    (strict ≡ false) × (keep_going ≡ false) × (interactive ≡ false) × (form_of text ≡ form)
+IsTaskFor (purpose.Print text strict keep_going interactive) opened (task.Guarded form) =
+    (strict ≡ true) × (keep_going ≡ false) × (form_of text ≡ form)
+IsTaskFor (purpose.Print text strict keep_going interactive) opened (task.GuardedToEnd form) =
+    (keep_going ≡ true) × (form_of text ≡ form)
+IsTaskFor (purpose.Print text strict keep_going interactive) opened (task.Session form) =
+    (strict ≡ false) × (keep_going ≡ false) × (interactive ≡ true) × (form_of text ≡ form)
 IsTaskFor purpose.Record opened task.Recorded = ⊤
 IsTaskFor (purpose.Compare path text) opened (task.Compare expected form) =
     (opened ≡ Some expected.reader) × (path ≡ expected.path) × (form_of text ≡ form)

@@ -2,12 +2,12 @@
 //! Plays of a trace: its text printed as the player prints it or in a form, or its picture.
 ghost use Rattle.std.specs.Prelude.{◌≡◌, ◌⊎◌, IfErr, IfOk, OnOk};
 ghost use Rattle.std.specs.Io.Buffered.{reader_remaining};
-ghost use Rattle.play_tasks.specs.Plays.{Plays, TellsGuards, streams_of};
+ghost use Rattle.play_tasks.specs.Plays.{EndsGuards, Plays, TellsGuards, streams_of};
 
 use crate::task::{Task, Trace};
 use ffa_playable::Playable;
 use play_drawing::Keep;
-use play_forms::{Breach, Form, Tally, guard_text};
+use play_forms::{Breach, Form, Tally, put_unmet};
 use play_picture::picture_of;
 use play_player::Player;
 use play_report::{Failure, print_picture, tell_met, tell_near, tell_unmet};
@@ -110,11 +110,62 @@ fn tell_breach<A: Allocator>(
 ) -> Failure<'static>
     ensures { (result ≡ Failure.Unmet breach.number) ⊎ (result ≡ Failure.NoMemory) }
 {
-    let wanted = match guard_text(line) {
-        Some((_, wanted)) => wanted,
-        None => line,
-    };
-    tell_unmet(told, breach.number, wanted, found)
+    match put_unmet(told, &breach, line, found) {
+        Ok(()) => Failure::Unmet(breach.number),
+        Err(_) => Failure::NoMemory,
+    }
+}
+
+/// Plays a trace past guards that aren't met, which `told` says. It says which comments are nearly guards, however the play
+/// ends, and at its end how many guards were met, and where some weren't how many.
+pub(crate) fn play_past_guards<'a, A: Allocator + Copy, P: Playable, R: Read + Drop, W: Write>(
+    player: &mut Player<P>,
+    alloc: A,
+    form: Form,
+    trace: Trace<'a, R>,
+    out: &mut W,
+    told: &mut Vec<u8, A>,
+) -> Result<(), Failure<'a>>
+    ensures { let streams = streams_of R.remaining trace.entry.reader W.contents out.old out.new in
+        Plays (Task.GuardedToEnd form) trace.entry.path player.old.state streams result }
+{
+    let Trace { path, reader } = trace;
+    let mut reader = buffer(alloc, reader)?;
+    let mut line = Vec::new(alloc);
+    let mut tally = Tally::new(alloc);
+    let played = play_forms::play_past_guards(
+        player,
+        alloc,
+        form,
+        &mut reader,
+        out,
+        &mut line,
+        told,
+        &mut tally,
+    );
+    tell_near(told, &tally.near)?;
+    match played {
+        Ok(()) => end_guards(told, tally.met, &tally.unmet),
+        Err(error) => Err(Failure::of_line(path, error, &line)),
+    }
+}
+
+// Says in `told` how many guards were met, and answers the first of those that weren't, whose numbers these are.
+fn end_guards<A: Allocator>(
+    told: &mut Vec<u8, A>,
+    met: u64,
+    unmet: &[u64],
+) -> Result<(), Failure<'static>>
+    ensures { EndsGuards unmet.now result }
+{
+    tell_met(told, met)?;
+    match *unmet {
+        [] => Ok(()),
+        [first, ..] => {
+            tell_unmet(told, unmet.len())?;
+            Err(Failure::Unmet(first))
+        }
+    }
 }
 
 /// Plays a trace, and prints it with the guards of its play.

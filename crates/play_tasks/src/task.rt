@@ -7,7 +7,9 @@ ghost use Rattle.play_tasks.specs.Purposes.{IsTaskFor, LacksItsText, is_session_
 use crate::comparing::compare;
 use crate::machines::Play;
 use crate::paging::print_page;
-use crate::playing::{draw, play_guarded, play_in_form, play_plainly, play_session, record};
+use crate::playing::{
+    draw, play_guarded, play_in_form, play_past_guards, play_plainly, play_session, record,
+};
 use ffa_playable::Playable;
 use play_arguments::{PictureOptions, Purpose, TextOptions};
 use play_drawing::Keep;
@@ -24,8 +26,11 @@ pub enum Task<'a, R> {
     Plain,
     /// Its text is printed in a form. What is wrong with a bad line is looked for.
     Formed(Form),
-    /// Its text is printed in a form, and the trace's guards are checked. What is wrong with a bad line is looked for.
+    /// Its text is printed in a form, and the trace's guards are checked, up to the first that isn't met. What is wrong with
+    /// a bad line is looked for.
     Guarded(Form),
+    /// Its text is printed in a form, and all of the trace's guards are checked. What is wrong with a bad line is looked for.
+    GuardedToEnd(Form),
     /// It is printed with the guards of its play. What is wrong with a bad line is looked for.
     Recorded,
     /// Its text is printed in a form. Bad lines are told at once, and the play goes on.
@@ -81,10 +86,13 @@ impl<'a, R: Read + Drop> Task<'a, R> {
             Purpose::Print {
                 text,
                 strict,
+                keep_going,
                 interactive,
             } => {
                 let form = form_of(text);
-                if strict {
+                if keep_going {
+                    Ok(Task::GuardedToEnd(form))
+                } else if strict {
                     Ok(Task::Guarded(form))
                 } else if interactive {
                     Ok(Task::Session(form))
@@ -150,6 +158,7 @@ pub fn do_task<'a, A: Allocator + Copy, P: Playable, R: Read + Drop, W: Write, E
         Task::Plain => play_plainly(player, alloc, trace, out),
         Task::Formed(form) => play_in_form(player, alloc, form, trace, out),
         Task::Guarded(form) => play_guarded(player, alloc, form, trace, out, told),
+        Task::GuardedToEnd(form) => play_past_guards(player, alloc, form, trace, out, told),
         Task::Recorded => record(player, alloc, trace, out),
         Task::Session(form) => play_session(player, alloc, form, trace, out, err),
         Task::Compare { expected, form } => compare(player, alloc, expected, form, trace, out),

@@ -31,6 +31,7 @@ const TEXT: TextOptions = TextOptions {
 const PRINT: Purpose<'static> = Purpose::Print {
     text: TEXT,
     strict: false,
+    keep_going: false,
     interactive: false,
 };
 

@@ -28,6 +28,7 @@ const SESSION: Request<'static> = Request::Play(PlayOptions {
     purpose: Purpose::Print {
         text: TEXT,
         strict: false,
+        keep_going: false,
         interactive: true,
     },
     verbose: false,

@@ -38,4 +38,4 @@ returns-else-is_met g c =
     let own : c.put_told.new.found.items ≡ told (pattern_of wants) came line = c.in_ok-put_told.ensures.written ∙ ap (λ p. told p came line) c.of.ensures in
     let unmet : meets came wants (take end old) ≡ false = ap (λ t. meets came wants (take end t)) (sym c.deref-2.ensures.value) ∙ sym (c.is_met-is_met.ensures came (c.deref-3.ensures.value ∙ own)) ∙ c.if-is_met.false in
     subst (λ b. AsksPrinted wants came old old c.put_told.new.found.items (Ok b)) (sym c.if-is_met.false)
-    (asked_unmet wants came old end (ends_line old end at) old c.put_told.new.found.items unmet (own ∙ ap (λ t. told (pattern_of wants) came (take end t)) c.deref-2.ensures.value))
+    (asked_unmet wants came old end (ends_line old end at) c.put_told.new.found.items unmet (own ∙ ap (λ t. told (pattern_of wants) came (take end t)) c.deref-2.ensures.value))

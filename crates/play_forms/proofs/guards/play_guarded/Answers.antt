@@ -1,14 +1,15 @@
 -- SPDX-License-Identifier: MIT OR Apache-2.0
-use Rattle.std.proofs.Common.{◌≡◌, ◌+◌, ◌++◌, ◌∷◌, [], Ok, ◌∙◌, sym, subst, arith, length-append, refl}
+use Rattle.std.proofs.Common.{◌≡◌, ◌+◌, ◌++◌, ◌∷◌, [], Ok, Some, ◌∙◌, ap, sym, subst, arith, length-append, refl}
 use Rattle.std.proofs.KnownBytes.{Appends-nil, Appends-trans}
 use Rattle.std.proofs.lemmas.Result.{err_from_is_err_and}
 use Rattle.play_syntax.specs.Lines.{meant}
 use Rattle.play_forms.specs.Asking.{Asked}
 use Rattle.play_forms.specs.Forms.{line_text_in}
-use Rattle.play_forms.specs.Guards.{IsUnasked, guard_of, guards_among, near_from}
+use Rattle.play_forms.specs.Guards.{GuardedIn, IsUnasked, breach_of, guard_of, guards_among, near_from, wanted_of}
+use Rattle.play_forms.specs.Hints.{hint_of}
 use Rattle.play_forms.specs.Reading.{TakesNext}
 use Rattle.play_forms.proofs.Follows.{followed_none, followed_more}
-use Rattle.play_forms.proofs.Guarding.{breaks, fewer_met, guards_more, met_none, tallies_more, tallies_none, unasked_more, unasked_none, untaken_guarded, unwritten_guarded}
+use Rattle.play_forms.proofs.Guarding.{breaks, fewer_met, guards_more, loud_more, met_none, tallies_more, tallies_none, unasked_more, unasked_none, untaken_guarded, unwritten_guarded}
 use Rattle.play_forms.proofs.guards.play_guarded.Goals as goal
 
 pub loop-text-init : goal.loop-text-init
@@ -19,8 +20,9 @@ loop-text-init g c = (
   Appends-nil _,
   omega (arith, c.new-lines.ensures),
   met_none _,
-  subst (IsUnasked c.args.player.now.state [] c.new-unasked.result.came) (sym c.new-unasked.ensures) (unasked_none c.args.player.now.state c.new-unasked.result.came),
+  subst (IsUnasked c.args.player.now.state [] c.new-unasked.result.came) (sym c.new-unasked.ensures.none) (unasked_none c.args.player.now.state c.new-unasked.result.came),
   tallies_none _ _ c.requires.none c.requires.empty,
+  c.new-unasked.ensures.silent,
 )
 
 pub returns-in_err-number : goal.returns-in_err-number
@@ -39,11 +41,24 @@ count-requires g c =
 pub returns-in-Some-2 : goal.returns-in-Some-2
 returns-in-Some-2 g c =
     let i = c.loop-text.invariant in
+    let tally = c.loop-text.tally in
+    let number = c.in-Some.number in
+    let asks = c.in-Some-2.asks in
+    let printed = c.loop-text.unasked.printed in
+    let found = c.unmet.new.found.items in
     let one = subst (λ o. TakesNext c.loop-text.lines.number c.next.new.self.number (g.R.Read.remaining c.loop-text.reader) (g.R.Read.remaining c.next.new.reader) c.next.new.bytes.items (Ok o)) c.in-Some.is c.in_ok-number.ensures in
     let line = c.next.new.bytes.items in
     let answer = subst (λ l. Asked c.loop-text.player.state (guard_of l) c.loop-text.unasked.came c.loop-text.unasked.text.items c.unmet.new.unasked.items c.unmet.new.found.items (Ok c.in_ok-asks.field-0)) c.deref.ensures.value c.in_ok-asks.ensures in
     let unmet = subst (λ o. Asked c.loop-text.player.state (guard_of line) c.loop-text.unasked.came c.loop-text.unasked.text.items c.unmet.new.unasked.items c.unmet.new.found.items (Ok o)) c.in-Some-2.is answer in
-    breaks _ _ _ _ _ i.0 i.1 i.2 c.in-Some.number (one.0 ∙ i.4) i.5 c.loop-text.tally.met c.loop-text.tally.near.items i.7 _ line _ _ _ _ c.in-Some-2.asks one.2.0 one.2.1 i.6 unmet (g.W.Write.contents c.args.writer.now) (g.W.Write.contents c.loop-text.writer) i.3
+    let held = g.W.Write.contents c.args.writer.now in
+    let holds = g.W.Write.contents c.loop-text.writer in
+    let had = g.R.Read.remaining c.args.reader.now in
+    let has = g.R.Read.remaining c.next.new.reader in
+    let made : c.breach_at.result ≡ breach_of number asks line found printed =
+    c.breach_at.ensures ∙ ap (λ l. breach_of number asks l c.deref-in-Some-2-2.result.now printed) c.deref-in-Some-2.ensures.value
+    ∙ ap (λ f. breach_of number asks line f printed) c.deref-in-Some-2-2.ensures.value in
+    subst (λ b. GuardedIn c.args.form c.args.player.now.state c.loop-text.player.state held holds had has line found tally.met tally.near.items (Ok (Some b))) (sym made)
+    (breaks _ _ _ _ _ i.0 i.1 i.2 number (one.0 ∙ i.4) i.5 tally.met tally.near.items i.7 _ line _ _ _ _ asks (hint_of asks (wanted_of line) found printed) (ap (hint_of asks (wanted_of line) found) i.8) one.2.0 one.2.1 i.6 unmet held holds i.3)
 
 pub returns-in_err-print_asked : goal.returns-in_err-print_asked
 returns-in_err-print_asked g c =
@@ -79,4 +94,5 @@ loop-text-preserved g c =
       guards_more c.args.player.now.state c.loop-text.player.state i.0 i.2.state c.loop-text.unasked.came c.loop-text.unasked.text.items i.6 i.5 line c.unmet.new.unasked.items c.unmet.new.found.items met,
       unasked_more c.args.player.now.state c.loop-text.player.state i.0 i.2.state line (meant c.in-Some.line) c.loop-text.unasked.came c.print_asked.new.unasked.came c.loop-text.unasked.text.items c.unmet.new.unasked.items c.print_asked.new.unasked.text.items c.unmet.new.found.items one.2.2 i.6 met made.said made.came,
       tallies_more i.0 c.loop-text.tally.met c.loop-text.tally.near.items c.in-Some.number line c.count.new.self.met c.count.new.self.near.items i.7 (one.0 ∙ i.4) counts nears,
+      loud_more i.0 line (meant c.in-Some.line) c.loop-text.unasked.printed c.print_asked.new.unasked.printed i.8 one.2.2 made.loud,
     )

@@ -1,0 +1,225 @@
+// SPDX-License-Identifier: MIT OR Apache-2.0
+//! Traces that are tested: all of a folder, each played with its guards.
+use crate::commands::Commands;
+use crate::running::carry_out;
+use play_arguments::{
+    MachineOptions, PlayOptions, Purpose, Request, Source, TestOptions, TextOptions,
+};
+use std::alloc::AllocError;
+use std::io::{ErrorKind, Read, Write};
+use std::{fs, io};
+
+/// How the text of a trace is made that is tested, and compared with its guards alone.
+const TEXT: TextOptions = TextOptions {
+    line_buffered: false,
+    number: false,
+    names: false,
+    explain: false,
+};
+
+/// Plays each trace of a folder on the machine of its manifest, past guards that aren't met, and prints what came of it: a line
+/// for each in the order of their names, under one that failed what was told of it, and how many passed.
+pub(crate) fn test<
+    H: AllocGlobal + fs::Files + Clone + Drop,
+    S: Read + Copy + Drop,
+    W: Write,
+    E: Write,
+    C: Commands,
+>(
+    rt: &H,
+    input: S,
+    out: &mut W,
+    err: &mut E,
+    commands: &C,
+    options: TestOptions<'_>,
+) -> Result<u8, AllocError> {
+    let names = match traces_in(rt, options.folder) {
+        Ok(names) => names,
+        Err(error) if error.kind() == ErrorKind::OutOfMemory => return Err(AllocError),
+        Err(_) => {
+            let _ = writeln!(err, "ffaplay: cannot read {}", options.folder);
+            return Ok(3);
+        }
+    };
+    if names.is_empty() {
+        let _ = writeln!(err, "ffaplay: no trace in {}", options.folder);
+        return Ok(3);
+    }
+    let mut report = Report::new(options.tap);
+    match play_all(
+        rt,
+        input,
+        out,
+        commands,
+        options.folder,
+        &names,
+        &mut report,
+    ) {
+        Ok(()) => Ok(report.status()),
+        Err(error) if error.kind() == ErrorKind::OutOfMemory => Err(AllocError),
+        Err(_) => {
+            let _ = writeln!(err, "ffaplay: cannot write");
+            Ok(3)
+        }
+    }
+}
+
+// Plays them one by one, and prints what came of each, and of all.
+fn play_all<
+    H: AllocGlobal + fs::Files + Clone + Drop,
+    S: Read + Copy + Drop,
+    W: Write,
+    C: Commands,
+>(
+    rt: &H,
+    input: S,
+    out: &mut W,
+    commands: &C,
+    folder: &str,
+    names: &[String],
+    report: &mut Report,
+) -> io::Result<()> {
+    let alloc = rt.alloc();
+    report.begin(names.len(), out)?;
+    for name in names {
+        let mut told = Vec::new(alloc);
+        let status = play_one(rt, input, commands, folder, name.as_str(), &mut told)?;
+        report.put(name.as_str(), status, &told, out)?;
+    }
+    report.end(out)
+}
+
+// Plays a trace of a folder, and answers the status with which that ends.
+fn play_one<H: AllocGlobal + fs::Files + Clone + Drop, S: Read + Copy + Drop, C: Commands>(
+    rt: &H,
+    input: S,
+    commands: &C,
+    folder: &str,
+    name: &str,
+    told: &mut Vec<u8>,
+) -> io::Result<u8> {
+    let alloc = rt.alloc();
+    let trace = format!(in alloc; "{folder}/{name}{ENDING}")?;
+    let own = format!(in alloc; "{folder}/{name}.toml")?;
+    let manifest = if fs::metadata(rt, own.as_str()).is_ok() {
+        own
+    } else {
+        format!(in alloc; "{folder}/machine.toml")?
+    };
+    let request = play_of(manifest.as_str(), trace.as_str());
+    Ok(carry_out(rt, input, io::sink(), told, commands, &request)?)
+}
+
+// To play a trace past guards that aren't met.
+fn play_of<'a>(manifest: &'a str, trace: &'a str) -> Request<'a> {
+    Request::Play(PlayOptions {
+        source: Source::File(manifest),
+        trace,
+        machine: MachineOptions {
+            frames: false,
+            tlb: false,
+        },
+        purpose: Purpose::Print {
+            text: TEXT,
+            strict: true,
+            keep_going: true,
+            interactive: false,
+        },
+        verbose: true,
+    })
+}
+
+// What the names of traces end in.
+const ENDING: &str = ".trace";
+
+// The names of the traces in a folder, without their endings, in order.
+fn traces_in<H: AllocGlobal + fs::Files + Clone + Drop>(
+    rt: &H,
+    folder: &str,
+) -> io::Result<Vec<String>> {
+    let alloc = rt.alloc();
+    let mut names = Vec::new(alloc);
+    for entry in fs::read_dir(rt, folder)? {
+        let entry = entry?;
+        if let Some(name) = entry.file_name().strip_suffix(ENDING) {
+            names.push(String::from_str(alloc, name)?)?;
+        }
+    }
+    names.sort_unstable();
+    Ok(names)
+}
+
+// What came of the traces so far.
+#[derive(Drop)]
+struct Report {
+    tap: bool,
+    passed: usize,
+    failed: usize,
+}
+
+impl Report {
+    fn new(tap: bool) -> Report {
+        Report {
+            tap,
+            passed: 0,
+            failed: 0,
+        }
+    }
+
+    fn begin<W: Write>(&self, count: usize, out: &mut W) -> io::Result<()> {
+        if self.tap {
+            writeln!(out, "TAP version 14\n1..{count}")?;
+        }
+        Ok(())
+    }
+
+    fn put<W: Write>(
+        &mut self,
+        name: &str,
+        status: u8,
+        told: &[u8],
+        out: &mut W,
+    ) -> io::Result<()> {
+        let passed = status == 0;
+        if passed {
+            self.passed = usize::saturating_add(self.passed, 1);
+        } else {
+            self.failed = usize::saturating_add(self.failed, 1);
+        }
+        let number = usize::saturating_add(self.passed, self.failed);
+        match (self.tap, passed) {
+            (true, true) => writeln!(out, "ok {number} - {name}")?,
+            (true, false) => writeln!(out, "not ok {number} - {name}")?,
+            (false, true) => writeln!(out, "{name}: ok")?,
+            (false, false) => writeln!(out, "{name}: FAILED, with status {status}")?,
+        }
+        if !passed {
+            put_told(if self.tap { "# " } else { "  " }, told, out)?;
+        }
+        out.flush()
+    }
+
+    fn end<W: Write>(&self, out: &mut W) -> io::Result<()> {
+        if !self.tap {
+            let (passed, failed) = (self.passed, self.failed);
+            writeln!(out, "{passed} passed, {failed} failed")?;
+        }
+        out.flush()
+    }
+
+    fn status(&self) -> u8 {
+        if self.failed == 0 { 0 } else { 5 }
+    }
+}
+
+// Writes the lines that were told, each with this in front.
+fn put_told<W: Write>(front: &str, told: &[u8], out: &mut W) -> io::Result<()> {
+    for line in told.split(|byte| *byte == b'\n') {
+        if !line.is_empty() {
+            out.write_all(front.as_bytes())?;
+            out.write_all(line)?;
+            out.write_all(b"\n")?;
+        }
+    }
+    Ok(())
+}

@@ -1,0 +1,78 @@
+-- SPDX-License-Identifier: MIT OR Apache-2.0
+-- What more there is to say of a guard that isn't met than what is found.
+use Rattle.std.specs.Prelude.{ℕ, ◌==◌, Bool, true, false, not, ◌&&◌, ◌||◌, nat_eq, nat_le, List, [], ◌∷◌, codes, drop, length, take, Option, None, Some, if◌then◌else◌}
+use Rattle.std.specs.List.{list_all, list_any, position_or_len, starts_with}
+use Rattle.std.specs.Str.{bytes_eq}
+use Rattle.ffa_abi.specs.Names.{answer_names}
+use Rattle.ffa_model.specs.declared.rows.TheConstants.{CALLS}
+use Rattle.play_syntax.specs.TraceLines.{space, words_of}
+use Rattle.play_forms.specs.Patterns.{fit}
+use Rattle.play_forms.specs.declared.guards.Asks.{Asks}
+use Rattle.play_forms.specs.declared.guards.Asks.TheVariants.{Printed, Runner}
+use Rattle.play_forms.specs.declared.hint.Hint.{Hint}
+use Rattle.play_forms.specs.declared.hint.Hint.TheVariants.{Bad, Taken, Open}
+
+-- WHICH TEXTS CAN BE MET
+
+abbrev pub first_word : List ℕ → List ℕ
+first_word text = take (position_or_len (λ c. c == space) text) text
+
+abbrev pub are_digits : List ℕ → Bool
+are_digits word = list_all (λ c. nat_le 48 c && nat_le c 57) word
+
+abbrev pub are_upper_digits : List ℕ → Bool
+are_upper_digits word = list_all (λ c. (nat_le 48 c && nat_le c 57) || (nat_le 65 c && nat_le c 70)) word
+
+-- `..`, or a decimal number without zeros in front
+abbrev pub is_check : List ℕ → Bool
+is_check word =
+    bytes_eq word (codes "..")
+    || (nat_le 1 (length word) && (not (starts_with nat_eq word (codes "0")) && are_digits word))
+
+-- the name of what a caller sees and is no call, or of a call
+abbrev pub is_answer_name : List ℕ → Bool
+is_answer_name word = list_any (λ row. bytes_eq word row.1) answer_names
+
+abbrev pub is_row_name : List ℕ → Bool
+is_row_name word = list_any (λ row. bytes_eq word row.1.now) CALLS.now
+
+abbrev pub is_call_name : List ℕ → Bool
+is_call_name word = is_answer_name word || is_row_name word
+
+-- a word with which the line of an outcome begins, or one of those of `show` and `audit`
+abbrev pub begins_outcome : List ℕ → Bool
+begins_outcome word =
+    list_any (bytes_eq word) (codes "regs" ∷ codes "data" ∷ codes "done" ∷ codes "fault" ∷ [])
+
+abbrev pub begins_listing : List ℕ → Bool
+begins_listing word =
+    list_any (bytes_eq word)
+    (codes "runner" ∷ codes "pages" ∷ codes "cert" ∷ codes "root" ∷ codes "agrees" ∷ codes "differs" ∷ [])
+
+abbrev pub is_opening : List ℕ → Bool
+is_opening word = begins_outcome word || begins_listing word
+
+-- some line that is printed may meet a text, by its first words
+abbrev pub can_be_met : List ℕ → Bool
+can_be_met text =
+    if starts_with nat_eq text (codes "check ") then is_check (first_word (drop 6 text))
+    else if starts_with nat_eq text (codes "FFA_") then is_call_name (first_word text)
+    else is_opening (first_word text)
+
+-- a text is written as an endpoint's identifier is
+abbrev pub is_runner : List ℕ → Bool
+is_runner text = (length text == 4) && are_upper_digits text
+
+-- WHAT IS SAID
+
+-- a line begins with the words of a text, whose numbers may lack zeros where it begins with `regs `
+abbrev pub begins_line : List ℕ → List ℕ → Bool
+begins_line text line = fit (starts_with nat_eq text (codes "regs ")) true (words_of text) (words_of line)
+
+-- of a guard that isn't met, where this is found, and where text was printed before
+abbrev pub hint_of : Asks → List ℕ → List ℕ → (printed : Bool) → Option Hint
+hint_of Runner wants found printed = if is_runner wants then None else Some Bad
+hint_of Printed wants [] printed =
+    if not (can_be_met wants) then Some Bad else if printed then Some Taken else None
+hint_of Printed wants (c ∷ found) printed =
+    if not (can_be_met wants) then Some Bad else if begins_line wants (c ∷ found) then Some Open else None
