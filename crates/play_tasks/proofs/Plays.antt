@@ -1,7 +1,7 @@
 -- SPDX-License-Identifier: MIT OR Apache-2.0
 -- What a play leaves, for the one who asked for it.
-use Rattle.std.proofs.Common.{◌≡◌, ◌⊎◌, Bor, Bool, true, false, List, [], ◌∷◌, ◌++◌, ℕ, Option, None, Some, Ok, Err, Result, inl, inr, refl, ap, sym, ◌∙◌, subst, append_assoc, append-nil}
-use Rattle.std.specs.Prelude.{OnOk, unwrap_or}
+use Rattle.std.proofs.Common.{◌≡◌, ◌⊎◌, Bor, Bool, true, false, List, [], ◌∷◌, ◌++◌, ℕ, Option, None, Some, Ok, Err, Result, inl, inr, refl, ap, sym, ◌∙◌, subst, append_assoc, append-nil, arith, length, ◌≤◌}
+use Rattle.std.specs.Prelude.{slice_index_or, OnOk, unwrap_or}
 use Rattle.std.specs.Io.KnownBytes.{Appends, Consumes, IsAtEnd, Keeps, prepend_known}
 use Rattle.std.proofs.KnownBytes.{Consumes-trans}
 use Rattle.ffa_model.specs.State.{State}
@@ -277,6 +277,11 @@ sifted_unmet x form start now held holds had has line met near unmet (left, line
   unmet = subst (UnmetAmong start [] lines) is sift.guards;
   written = subst (Appends held holds) f.said written;
 }
+
+-- a list that isn't empty is its first and the rest
+pub first_rest : (xs : List ℕ) → 1 ≤ length xs → (rest : List ℕ) × (xs ≡ slice_index_or xs 0 0 ∷ rest)
+first_rest [] some = absurd (omega (arith, some))
+first_rest (x ∷ xs) some = (xs, refl)
 
 -- what such a play comes to
 pub sifted_ended : {X : Type 0} (x : X) (form : Form) (start now : State) (held holds had has : Option (List ℕ)) (line : List ℕ) (met : ℕ) (near unmet : List ℕ) → SiftedIn form start now held holds had has line met near unmet (Ok x)
