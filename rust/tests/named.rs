@@ -38,7 +38,8 @@ fn calls_and_answers() {
     assert_eq!(told(success, Some(Function::PartitionInfoGet)), "FFA_SUCCESS count=1 size=2");
     let pending = "FFA_SUCCESS partitions=200000001 normal_world=400000003 manager=5";
     assert_eq!(told(success, Some(Function::NotificationGet)), pending);
-    assert_eq!(decode(&registers([0x8400_0062]), None), None);
+    assert_eq!(told(registers([0x8400_0062, 0x8001_0000]), None), "FFA_INTERRUPT partition=8001 context=0");
+    assert_eq!(decode(&registers([0x8400_008F]), None), None);
     assert_eq!(format!("{:?}", decode(&registers([0x8400_0069]), None)), "Some(Named(FFA_ID_GET))");
 }
 
