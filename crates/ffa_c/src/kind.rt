@@ -13,9 +13,7 @@ ghost use Rattle.ffa_c.specs.Runs.{run_at};
 use crate::codes::{EXECUTE, NOTHING, READ, WRITE};
 use crate::outcome::COutcome;
 use ffa_lent::LentRam;
-use ffa_model::{
-    CertRun, Data, EndpointId, MOST_ENDPOINTS, MOST_PROCESSORS, Op, PageNo, Rights,
-};
+use ffa_model::{CertRun, Data, EndpointId, MOST_ENDPOINTS, MOST_PROCESSORS, Op, PageNo, Rights};
 use ffa_physmem::{FlatRam, PhysMem};
 use ffa_spmc::{Cluster, Given, Machine, Ready, Store};
 use ffa_tlb::NoTlb;

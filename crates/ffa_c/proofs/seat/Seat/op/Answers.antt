@@ -1,6 +1,5 @@
 -- SPDX-License-Identifier: MIT OR Apache-2.0
 use Rattle.std.proofs.Common.{◌≡◌, ◌∙◌, Some, ap, sym}
-use Rattle.ffa_c.specs.Boarded.{Boarded}
 use Rattle.ffa_c.proofs.Boards.{kept-apart}
 use Rattle.ffa_c.proofs.seat.Seat.op.Goals as goal
 

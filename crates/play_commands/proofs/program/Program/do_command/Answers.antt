@@ -23,8 +23,8 @@ returns-in-Layout-clause-does g c =
     let done : OnOk c.lay_out.result (IsDone c.args.request.now given) = rw c.in-Layout.is c.lay_out.ensures.done in
     unplayed c.args.request.now (ap needs_manifest c.in-Layout.is) (ap needs_trace c.in-Layout.is) given c.lay_out.result done c.lay_out.ensures.failed
 
-pub returns-clause-does : goal.returns-clause-does
-returns-clause-does g c =
+pub returns-in-Generate-clause-does : goal.returns-in-Generate-clause-does
+returns-in-Generate-clause-does g c =
     let given = ran g.R.Read.remaining c.args.files g.W.Write.contents c.args.out.now c.generate.new.out in
     let done : OnOk c.generate.result (IsDone c.args.request.now given) = rw c.in-Generate.is c.generate.ensures.done in
     unplayed c.args.request.now (ap needs_manifest c.in-Generate.is) (ap needs_trace c.in-Generate.is) given c.generate.result done c.generate.ensures.failed
