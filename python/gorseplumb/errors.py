@@ -96,15 +96,19 @@ class BadLine(GorseplumbError, ValueError):
 
 
 class GuardUnmet(GorseplumbError, AssertionError):
-    """A guard of a trace asks for another text than there is."""
+    """A guard of a trace asks for another text than there is. It `is_bad` where nothing that is printed meets it; `hint` is
+    what more there is to say."""
 
-    def __init__(self, number: int, wanted: str, got: str | None) -> None:
+    def __init__(self, number: int, wanted: str, got: str | None, *, is_bad: bool = False, hint: str | None = None) -> None:
         super().__init__(number, wanted, got)
         self.number, self.wanted, self.got = number, wanted, got
+        self.is_bad, self.hint = is_bad, hint
 
     def __str__(self) -> str:
         told = "nothing" if self.got is None else f'"{self.got}"'
-        return f'line {self.number}: wanted "{self.wanted}", got {told}'
+        name = "bad guard: " if self.is_bad else ""
+        hint = f": {self.hint}" if self.hint else ""
+        return f'line {self.number}: {name}wanted "{self.wanted}", got {told}{hint}'
 
 
 class NotRecordable(GorseplumbError):

@@ -8,6 +8,7 @@ from dataclasses import dataclass
 from pathlib import Path
 from typing import Iterable, Iterator, Literal, Union
 
+from .codes import Function
 from .errors import BadLine, GuardUnmet
 from .machine import Machine
 from .misuse import file_hint
@@ -26,7 +27,20 @@ _WORDS = re.compile(
     f"|fetch ({_HEX}{{1,16}})"
 )
 _NUMBER = re.compile(f"{_HEX}+")
+_RUNNER = re.compile("[0-9A-F]{4}")
+_CHECK = re.compile(r"\.\.|[1-9][0-9]*")
+_OPENINGS = frozenset({"regs", "data", "done", "fault", "runner", "pages", "cert", "root", "agrees", "differs"})
 _REGISTERS = ("regs", "runner", *(f"x{place}" for place in range(8)))
+
+
+def _can_be_met(text: str) -> bool:
+    """Whether some line that the program prints may meet a guard's text, by its first words."""
+    if text.startswith("check "):
+        return bool(_CHECK.fullmatch(text.removeprefix("check ").partition(" ")[0]))
+    word = text.partition(" ")[0]
+    if text.startswith("FFA_"):
+        return any(word == function.call_name for function in Function)
+    return word in _OPENINGS
 
 
 def parse(line: str) -> Command | None:
@@ -130,6 +144,7 @@ class Player:
     def __init__(self, machine: Machine, *, strict: bool = False, explain: bool = False) -> None:
         self.machine, self.strict, self.explain = machine, strict, explain
         self._unasked: list[str] = []
+        self._printed = False
 
     def play(self, trace: Trace) -> Iterator[Printed]:
         """What each line gives that prints something. A bad line is raised when it is reached, and with `strict` so is
@@ -141,7 +156,7 @@ class Player:
                 raise BadLine(wrong.why, wrong.column, number) from None
             if command is not None:
                 printed = self._do(number, line, command)
-                self._unasked = list(printed.text)
+                self._unasked, self._printed = list(printed.text), True
                 yield printed
             elif self.strict:
                 self._guard(number, line)
@@ -168,7 +183,16 @@ class Player:
         else:
             return
         if got != wanted:
-            raise GuardUnmet(number, wanted, got)
+            raise self._unmet(number, line.startswith("#@"), wanted, got)
+
+    def _unmet(self, number: int, asks_runner: bool, wanted: str, got: str | None) -> GuardUnmet:
+        can_be_met = bool(_RUNNER.fullmatch(wanted)) if asks_runner else _can_be_met(wanted)
+        hint = None
+        if not can_be_met:
+            hint = "nothing that is printed meets it"
+        elif got is None and self._printed:
+            hint = "an earlier guard took that line"
+        return GuardUnmet(number, wanted, got, is_bad=not can_be_met, hint=hint)
 
 
 def play(

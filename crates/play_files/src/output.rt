@@ -34,8 +34,8 @@ impl<W> Output<W> {
     }
 }
 
-/// What is told, which is kept back until it is known whether anybody reads the output. What there is no memory for is told at
-/// once.
+/// What is told, which is kept back until it is known whether anybody reads the output. Where there is no memory for more it is
+/// told at once, behind what was kept.
 pub(crate) struct Told<'a, E, A: Allocator> {
     pub(crate) err: &'a mut E,
     pub(crate) kept: Vec<u8, A>,
@@ -43,10 +43,12 @@ pub(crate) struct Told<'a, E, A: Allocator> {
 
 impl<E: Write, A: Allocator> Write for Told<'_, E, A> {
     fn write(&mut self, buf: &[u8]) -> io::Result<usize> {
-        match self.kept.extend_from_slice(buf) {
-            Ok(()) => Ok(buf.len()),
-            Err(_) => self.err.write(buf),
+        if self.kept.extend_from_slice(buf).is_ok() {
+            return Ok(buf.len());
         }
+        self.err.write_all(&self.kept)?;
+        self.kept.clear();
+        self.err.write(buf)
     }
 
     fn flush(&mut self) -> io::Result<()> {
