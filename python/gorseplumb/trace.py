@@ -27,6 +27,11 @@ _WORDS = re.compile(
     f"|fetch ({_HEX}{{1,16}})"
 )
 _NUMBER = re.compile(f"{_HEX}+")
+_PREFIXED = re.compile(f"0[xX]{_HEX}+")
+_OF_SESSIONS = {
+    "help": "a line is call X0 .. X7, load A N, store A V, fetch A, show or audit, in hexadecimal",
+    "quit": "the end of the input ends a session, as Ctrl+D does",
+}
 _RUNNER = re.compile("[0-9A-F]{4}")
 _CHECK = re.compile(r"\.\.|[1-9][0-9]*")
 _OPENINGS = frozenset({"regs", "data", "done", "fault", "runner", "pages", "cert", "root", "agrees", "differs"})
@@ -72,7 +77,7 @@ def _fault(line: str) -> BadLine:
         return BadLine("a CR before the line's end")
     command, *words = line.split(" ")
     if command not in ("call", "load", "store", "fetch", "show", "audit"):
-        return BadLine("an unknown command" if command else "an empty word", 1)
+        return BadLine(_OF_SESSIONS.get(command, "an unknown command") if command else "an empty word", 1)
     column = len(command) + 2
     for place, word in enumerate(words, 1):
         why = _word_fault(command, place, word)
@@ -94,7 +99,8 @@ def _word_fault(command: str, place: int, word: str) -> str | None:
     if command == "load" and place == 2:
         return None if word in ("1", "2", "4", "8") else "a size that is none of 1, 2, 4 and 8"
     if _NUMBER.fullmatch(word) is None:
-        return "no hexadecimal number"
+        prefixed = _PREFIXED.fullmatch(word) is not None
+        return "a number is written without 0x" if prefixed else "no hexadecimal number"
     if command == "store" and place == 2:
         return None if len(word) in (2, 4, 8, 16) else _digits_fault(len(word))
     return f"a number of {len(word)} digits, where 16 are the most" if len(word) > 16 else None
