@@ -47,24 +47,14 @@ needs() {
     command -v rt >/dev/null || fail "there is no rt, the toolchain's command: README.md says what is needed"
 }
 
-# Sets `archive` to the core's archive for AArch64, for another target, or for AArch64 with general registers alone: the one that stands
-# ready in the folder ARCHIVES, or the repository's own, which is made: make_archive REPOSITORY [TARGET | --general-registers]
+# Sets `archive` to the core's archive for AArch64, or for another target: the one that stands ready in the folder ARCHIVES, or the repository's own,
+# which is made: make_archive REPOSITORY [TARGET]
 make_archive() {
-    local target=aarch64-unknown-linux-gnu folder flags=()
-    case ${2:-} in
-    --*)
-        flags=("$2")
-        folder=$target-${2#--}
-        ;;
-    *)
-        target=${2:-$target}
-        folder=$target
-        ;;
-    esac
-    archive=${ARCHIVES:-}/$folder/libgorseplumb.a
+    local target=${2:-aarch64-unknown-linux-gnu}
+    archive=${ARCHIVES:-}/$target/libgorseplumb.a
     if [[ -e $archive ]]; then return; fi
-    archive=$1/out/$folder/libgorseplumb.a
-    "$1/c/archive" --target "$target" "${flags[@]}" >&2 || fail "the archive isn't made, c/archive ended with $?"
+    archive=$1/out/$target/libgorseplumb.a
+    "$1/c/archive" --target $target >&2 || fail "the archive isn't made, c/archive ended with $?"
 }
 
 # Builds what plays traces of several processors, which the program doesn't: c/play.c over the archive for this machine, as $to/judge. It is told

@@ -16,6 +16,9 @@
 #define VERSION UINT32_C(0x80000008)
 #define VERSION_ANSWER UINT32_C(0x80000009)
 
+/* The normal world's vector registers, and the registers of the call on its way, of each processor. */
+static struct context contexts[2];
+
 void second_start(void);
 
 static void set(uint64_t *x, uint64_t x0, uint64_t x1, uint64_t x2, uint64_t x3) {
@@ -44,22 +47,22 @@ static void serve_message(struct board *board, uint64_t *x) {
 
 static bool is_message(const uint64_t *x) { return (uint32_t)x[0] == FFA_MSG_SEND_DIRECT_REQ && (uint32_t)x[1] >> 16 == DISPATCHER; }
 
-static void register_second(uint64_t *x) {
-    set(x, FFA_SECONDARY_EP_REGISTER, (uint64_t)(uintptr_t)second_start, 0, 0);
-    to_normal_world(x);
-    if ((uint32_t)x[0] != (FFA_SUCCESS | WITH_64_BITS)) stop("the dispatcher doesn't take where other processors begin");
+static void register_second(struct context *context) {
+    set(context->x, FFA_SECONDARY_EP_REGISTER, (uint64_t)(uintptr_t)second_start, 0, 0);
+    to_normal_world(context);
+    if ((uint32_t)context->x[0] != (FFA_SUCCESS | WITH_64_BITS)) stop("the dispatcher doesn't take where other processors begin");
 }
 
 /* The first FFA_MSG_WAIT of a processor says that it is ready. */
 _Noreturn void serve_normal_world(struct board *board, bool first) {
-    uint64_t x[8];
-    if (first) register_second(x);
-    set(x, FFA_MSG_WAIT, 0, 0, 0);
+    struct context *context = &contexts[first ? 0 : 1];
+    if (first) register_second(context);
+    set(context->x, FFA_MSG_WAIT, 0, 0, 0);
     for (;;) {
         has_processor(NORMAL_WORLD);
-        to_normal_world(x);
+        to_normal_world(context);
         has_processor(FIRMWARE);
-        if (is_message(x)) serve_message(board, x);
-        else serve_call_of_normal_world(board, x);
+        if (is_message(context->x)) serve_message(board, context->x);
+        else serve_call_of_normal_world(board, context->x);
     }
 }

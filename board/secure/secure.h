@@ -19,16 +19,8 @@ void serve_call_of_normal_world(struct board *board, uint64_t *x);
 /* Gives this processor to the normal world, and serves it from then on. The first one says where others begin. */
 _Noreturn void serve_normal_world(struct board *board, bool first);
 
-/* x0 to x7 go to the dispatcher; then they are its next call. */
-void to_normal_world(uint64_t *x);
-
-/* Vector registers, which are the normal world's but while a partition runs: the firmware uses general registers alone. */
-struct vectors {
-    uint64_t fpcr, fpsr;
-    uint64_t q[64];
-};
-void take_vectors(struct vectors *vectors);
-void give_vectors(const struct vectors *vectors);
+/* x0 to x7 go to the dispatcher, with the vector registers of the normal world; then they are its next call. */
+void to_normal_world(struct context *normal_world);
 
 /* What TF-A's test partition asks of its manager and the core doesn't do: a call that is answered beside it, the line to which the partition
  * prints, and the NS bit in a retrieve's response. Each says whether it was that, and does nothing in a firmware for other partitions. */
