@@ -52,7 +52,7 @@ use Rattle.ffa_laws.proofs.Views.{kept_none}
 use Rattle.ffa_laws.proofs.Publics.{told-of}
 
 -- ---- lists of events
-bare-append : (e : ℕ) (v : State) (xs ys : List Event) → AreBare e v xs → AreBare e (apply_all e v xs) ys → AreBare e v (xs ++ ys)
+pub bare-append : (e : ℕ) (v : State) (xs ys : List Event) → AreBare e v xs → AreBare e (apply_all e v xs) ys → AreBare e v (xs ++ ys)
 bare-append e v [] ys one two = two
 bare-append e v (x ∷ xs) ys one two = (one.0, bare-append e (apply e v x) xs ys one.1 two)
 
@@ -115,7 +115,7 @@ public-seen e s = λ i. record { runner = s.runner; statuses = s.statuses; works
     go [] f same = refl
     go (b ∷ bs) f same = λ i. same 0 b i ∷ go bs (λ j. f (suc j)) (λ j. same (suc j)) i
 
-bare-public : (e : ℕ) (s next : State) (told : List Event) → view e next ≡ apply_all e (view e s) (told ++ public_change s next) → AreBare e (apply_all e (view e s) told) (public_change s next)
+pub bare-public : (e : ℕ) (s next : State) (told : List Event) → view e next ≡ apply_all e (view e s) (told ++ public_change s next) → AreBare e (apply_all e (view e s) told) (public_change s next)
 bare-public e s next told =
     elim (same_public (public_part s) (public_part next))
     as (λ b. view e next ≡ apply_all e (view e s) (told ++ told-of b) → AreBare e (apply_all e (view e s) told) (told-of b)) [

@@ -72,4 +72,5 @@ pub mod ElsewhereLaws
 pub mod ElsewhereRunLaws
 pub mod Stores
 pub mod ProcessorLaws
+pub mod ProcessorRights
 pub mod ProcessorRunLaws

@@ -41,7 +41,7 @@ use Rattle.ffa_laws.proofs.Views.{shown, view-page, view-transaction}
 use Rattle.ffa_laws.proofs.Publics.{either-public}
 
 -- ---- lists of events
-met-append : (e : ℕ) (v : State) (xs ys : List Event) → AreMet e v xs → AreMet e (apply_all e v xs) ys → AreMet e v (xs ++ ys)
+pub met-append : (e : ℕ) (v : State) (xs ys : List Event) → AreMet e v xs → AreMet e (apply_all e v xs) ys → AreMet e v (xs ++ ys)
 met-append e v [] ys one two = two
 met-append e v (x ∷ xs) ys one two = (one.0, met-append e (apply e v x) xs ys one.1 two)
 

@@ -59,7 +59,7 @@ use Rattle.ffa_laws.proofs.Views.{shown, view-transaction}
 use Rattle.ffa_laws.proofs.Publics.{told-of}
 
 -- ---- lists of events
-news-append : (e : ℕ) (v : State) (xs ys : List Event) → AreNews e v xs → AreNews e (apply_all e v xs) ys → AreNews e v (xs ++ ys)
+pub news-append : (e : ℕ) (v : State) (xs ys : List Event) → AreNews e v xs → AreNews e (apply_all e v xs) ys → AreNews e v (xs ++ ys)
 news-append e v [] ys one two = two
 news-append e v (x ∷ xs) ys one two = (one.0, news-append e (apply e v x) xs ys one.1 two)
 
@@ -183,7 +183,7 @@ public-told e (x ∷ es) v all =
     let (here, rest) = and_parts (not (is_public x)) (list_all (λ event. not (is_public event)) es) all in
     public-told e es (apply e v x) rest ∙ public-applied e v x (negated (is_public x) here)
 
-news-public : (e : ℕ) (s next : State) (told : List Event) → list_all (λ event. not (is_public event)) told ≡ true
+pub news-public : (e : ℕ) (s next : State) (told : List Event) → list_all (λ event. not (is_public event)) told ≡ true
     → view e next ≡ apply_all e (view e s) (told ++ public_change s next) → AreNews e (apply_all e (view e s) told) (public_change s next)
 news-public e s next told private =
     elim (same_public (public_part s) (public_part next))

@@ -133,7 +133,7 @@ module _ (processors : Processors) (p : ℕ) where
     | false ↦ other-switched e s (left_status s.runner) (runner_on processors p)
   ]
 
-  on-known : (e : ℕ) (s : State) → is_known (on processors p s) e ≡ is_known s e
+  pub on-known : (e : ℕ) (s : State) → is_known (on processors p s) e ≡ is_known s e
   on-known e s = elim (processors.current == p) as (λ b. is_known (cond b s (moved_to s (runner_on processors p))) e ≡ is_known s e) [ true ↦ refl | false ↦ refl ]
 
   pub on-steady : (s : State) → IsSteady s → HasRunner processors p s → IsSteady (on processors p s)

@@ -14,4 +14,6 @@ pub use isolation::{
     confidential, first_is_sound, integrity, loans, one_call, one_step, only_writers, own_access,
     reads_no_more, rights_never_grow, run_integrity, silence, sound_is_steady, whole_run,
 };
-pub use processors::{one_chain, one_effect, one_interrupt, one_operation, whole_run_on};
+pub use processors::{
+    one_chain, one_effect, one_interrupt, one_operation, rights_on, whole_run_on,
+};

@@ -11,7 +11,8 @@ ghost use Rattle.ffa_model.specs.Sound.{IsSound};
 ghost use Rattle.ffa_model.specs.SoundState.{IsSoundState};
 ghost use Rattle.ffa_model.specs.State.{State};
 ghost use Rattle.ffa_laws.specs.Isolation.{NeverGrow};
-ghost use Rattle.ffa_laws.specs.Processors.{HasRunner, OneEffect, OneInterrupt, OneOperation};
+ghost use Rattle.ffa_laws.specs.OwnAccess.{AreApart};
+ghost use Rattle.ffa_laws.specs.Processors.{ConfidentialInterrupt, ConfidentialOn, HasRunner, IntegrityOn, OneEffect, OneInterrupt, OneOperation, OnlyWritersOn, OwnAccessOn, SilenceOn};
 ghost use Rattle.ffa_laws.specs.ProcessorRuns.{IsSoundShared, IsolatedOn};
 ghost use Rattle.ffa_laws.specs.Steady.{IsSteady};
 
@@ -37,7 +38,25 @@ pub fn one_operation()
     ensures sound { (processors : Processors) (p : ℕ) (s : State) (op : Op) → p < length processors.runners
         → ArePlaced processors s → IsSoundState s → IsSoundState (step_on processors p s op).state }
     ensures placed { (processors : Processors) (p : ℕ) (s : State) (op : Op) → p < length processors.runners
-        → ArePlaced processors s → IsSoundState s → ArePlaced (turned processors p s) (step_on processors p s op).state }
+        → ArePlaced processors s → IsSoundState s
+        → ArePlaced (turned processors p s) (step_on processors p s op).state }
+{}
+
+/// An operation of a processor does with bytes, access, what is told and what can be read, from the state before, what a step
+/// does; the laws of access and of what can be read are of states in which nobody is offered what it sent itself. And an
+/// interrupt changes what can be read by what it tells alone.
+pub fn rights_on()
+    ensures integrity { (processors : Processors) (p : ℕ) (s : State) (op : Op) → p < length processors.runners
+        → ArePlaced processors s → IsSoundState s → IntegrityOn processors p s op }
+    ensures only_writers { (processors : Processors) (p : ℕ) (s : State) (op : Op) → p < length processors.runners
+        → ArePlaced processors s → IsSoundState s → OnlyWritersOn processors p s op }
+    ensures own_access { (processors : Processors) (p : ℕ) (s : State) (op : Op) → p < length processors.runners
+        → ArePlaced processors s → IsSoundState s → AreApart s → OwnAccessOn processors p s op }
+    ensures silence { (processors : Processors) (p : ℕ) (s : State) (op : Op) → p < length processors.runners
+        → ArePlaced processors s → IsSoundState s → SilenceOn processors p s op }
+    ensures confidential { (processors : Processors) (p : ℕ) (s : State) (op : Op) → p < length processors.runners
+        → ArePlaced processors s → IsSoundState s → AreApart s → ConfidentialOn processors p s op }
+    ensures interrupt { (processors : Processors) (p : ℕ) (s : State) → ConfidentialInterrupt processors p s }
 {}
 
 /// Where no partition was preempted or runs elsewhere, as where interrupts and other processors are not used, sound run states

@@ -31,8 +31,10 @@ use Rattle.ffa_model.specs.SoundState.{IsSoundState}
 use Rattle.ffa_model.specs.State.{State}
 use Rattle.ffa_model.proofs.Processors.{moved-goes, placed-still, turned-placed}
 use Rattle.ffa_laws.specs.Isolation.{NeverGrow}
-use Rattle.ffa_laws.specs.Processors.{OneOperation}
+use Rattle.ffa_laws.specs.OwnAccess.{AreApart}
+use Rattle.ffa_laws.specs.Processors.{ConfidentialOn, IntegrityOn, OneOperation, OnlyWritersOn, OwnAccessOn, SilenceOn}
 use Rattle.ffa_laws.proofs.ProcessorLaws.{effect-elsewhere, has-runner, interrupt-placed, on-sound-state, one_operation, operation-placed, operation_never_grows}
+use Rattle.ffa_laws.proofs.ProcessorRights.{confidential-on, integrity-on, only-writers-on, own-access-on, silence-on}
 use Rattle.ffa_laws.proofs.ElsewhereLaws.{step_as-rests, step_as-runs}
 use Rattle.ffa_laws.proofs.Form.{accessed-kept}
 use Rattle.ffa_laws.proofs.SoundLaws.{same-elsewhere}
@@ -272,3 +274,22 @@ pub operation-now : (now : Clustered) (p : ℕ) (op : Op) → ArePlaced now.proc
 operation-now now p op placed sound low =
     let count = placed.count in
     one_operation now.processors p op now.machine.state (sound-steady now.machine.state sound) (has-runner now.processors p now.machine.state (omega (arith, count, low)) placed sound)
+
+module _ (now : Clustered) (p : ℕ) (op : Op) (placed : ArePlaced now.processors now.machine.state) (sound : IsSoundState now.machine.state) (low : p < MOST_PROCESSORS) where
+  within-range : p < length now.processors.runners
+  within-range = let count = placed.count in omega (arith, count, low)
+
+  pub integrity-there : IntegrityOn now.processors p now.machine.state op
+  integrity-there = integrity-on now.processors p now.machine.state op within-range placed sound
+
+  pub silence-there : SilenceOn now.processors p now.machine.state op
+  silence-there = silence-on now.processors p now.machine.state op within-range placed sound
+
+  pub writers-there : OnlyWritersOn now.processors p now.machine.state op
+  writers-there = only-writers-on now.processors p now.machine.state op within-range placed sound
+
+  pub access-there : AreApart now.machine.state → OwnAccessOn now.processors p now.machine.state op
+  access-there = own-access-on now.processors p now.machine.state op within-range placed sound
+
+  pub confidential-there : AreApart now.machine.state → ConfidentialOn now.processors p now.machine.state op
+  confidential-there = confidential-on now.processors p now.machine.state op within-range placed sound

@@ -8,7 +8,8 @@ ghost use Rattle.ffa_model.specs.Processors.{ArePlaced, IsHere, first_processors
 ghost use Rattle.ffa_model.specs.Ram.{zero_ram};
 ghost use Rattle.ffa_model.specs.SoundState.{IsSoundState};
 ghost use Rattle.ffa_laws.specs.Isolation.{NeverGrow};
-ghost use Rattle.ffa_laws.specs.Processors.{OneInterrupt, OneOperation};
+ghost use Rattle.ffa_laws.specs.OwnAccess.{AreApart};
+ghost use Rattle.ffa_laws.specs.Processors.{ConfidentialInterrupt, ConfidentialOn, IntegrityOn, OneInterrupt, OneOperation, OnlyWritersOn, OwnAccessOn, SilenceOn};
 ghost use Rattle.ffa_spmc.specs.Booted.{IsBooted, IsBootedHeld};
 ghost use Rattle.ffa_spmc.specs.Cached.{AreWalks};
 ghost use Rattle.ffa_spmc.specs.Clustered.{IsEffected, in_state, seen_by};
@@ -54,7 +55,8 @@ impl<M: PhysMem + Drop, T: Translations + Drop, S: Store> Model for Cluster<M, T
       processors = record { current = c.current; runners = map (λ (e : EndpointId). e.0) c.runners.items };
     } };
 
-    ghost invariant = { λ c. ArePlaced (record { current = c.current; runners = map (λ (e : EndpointId). e.0) c.runners.items }) c.machine.state };
+    ghost invariant = { λ c. ArePlaced
+        (record { current = c.current; runners = map (λ (e : EndpointId). e.0) c.runners.items }) c.machine.state };
 }
 
 impl<M: PhysMem + Drop, T: Translations + Drop> Cluster<M, T> {
@@ -178,7 +180,8 @@ impl<M: PhysMem + Drop, T: Translations + Drop, S: Store> Cluster<M, T, S> {
         requires { processor < MOST_PROCESSORS }
         // The effect and the next state are those of the small machine.
         ensures effect { result ≡ (step_on self.old.processors processor self.old.machine.state op.now).effect }
-        ensures state { self.new.machine.state ≡ (step_on self.old.processors processor self.old.machine.state op.now).state }
+        ensures state { self.new.machine.state
+            ≡ (step_on self.old.processors processor self.old.machine.state op.now).state }
         ensures processors { self.new.processors ≡ turned self.old.processors processor self.old.machine.state }
 
         // All that `Machine::op` promises holds of it; or a preempted partition goes on, and all but the run states is as it was.
@@ -187,9 +190,15 @@ impl<M: PhysMem + Drop, T: Translations + Drop, S: Store> Cluster<M, T, S> {
         ensures sound { IsSoundState self.new.machine.state }
         ensures walks { AreWalks self.new.machine }
 
-        // What another endpoint learns than the one that the processor runs is in its events, what that one sees depends on its
-        // view and on who runs there alone, and rights don't grow.
+        // What another endpoint learns than the one that the processor runs is in its events, and what that one sees depends on
+        // its view and on who runs there alone. Bytes, access, what is told and what can be read are from the state before what
+        // they are of a step, and rights don't grow.
         ensures step { OneOperation self.old.processors processor self.old.machine.state op.now }
+        ensures integrity { IntegrityOn self.old.processors processor self.old.machine.state op.now }
+        ensures silence { SilenceOn self.old.processors processor self.old.machine.state op.now }
+        ensures confidential { ConfidentialOn self.old.processors processor self.old.machine.state op.now }
+        ensures own_access { OwnAccessOn self.old.processors processor self.old.machine.state op.now }
+        ensures only_writers { OnlyWritersOn self.old.processors processor self.old.machine.state op.now }
         ensures never_grow { NeverGrow self.old.machine.state self.new.machine.state }
     {
         // Proof step: processors and state fit together.
@@ -211,6 +220,7 @@ impl<M: PhysMem + Drop, T: Translations + Drop, S: Store> Cluster<M, T, S> {
 
         // What an endpoint learns of it is in its events, and what the normal world sees depends on who runs there alone.
         ensures step { OneInterrupt (on self.old.processors processor self.old.machine.state) }
+        ensures confidential { ConfidentialInterrupt self.old.processors processor self.old.machine.state }
     {
         // Proof step: processors and state fit together.
         self.holds();
@@ -224,6 +234,7 @@ impl<M: PhysMem + Drop, T: Translations + Drop, S: Store> Cluster<M, T, S> {
         ensures placed { ArePlaced self.now.processors self.now.machine.state }
         ensures agrees { Agrees self.now.machine.ram self.now.machine.state }
         ensures sound { IsSoundState self.now.machine.state }
+        ensures apart { AreApart self.now.machine.state }
         ensures walks { AreWalks self.now.machine }
     {
         self.machine.holds();

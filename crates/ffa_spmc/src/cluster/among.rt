@@ -26,8 +26,8 @@ impl<M: Observed + Drop, T: Translations + Drop, S: Store> Cluster<M, T, S> {
         // It is done as `Machine::op_among_others` does it in the machine as the processor sees it; or a preempted partition goes
         // on, and all but the run states is as it was. Where nobody else writes, it is done by what stands in memory.
         ensures done { IsEffectedAmong (seen_by processor self.old) op.now result self.new.machine }
-        ensures alone { M.is_alone ≡ true
-            → IsEffectedAlone (on self.old.processors processor self.old.machine.state) op.now result self.new.machine.state }
+        ensures alone { M.is_alone ≡ true → IsEffectedAlone (on self.old.processors processor self.old.machine.state)
+            op.now result self.new.machine.state }
         ensures agrees { Agrees self.new.machine.ram self.new.machine.state }
         ensures sound { IsSoundState self.new.machine.state }
         ensures walks { AreWalks self.new.machine }
@@ -41,7 +41,8 @@ impl<M: Observed + Drop, T: Translations + Drop, S: Store> Cluster<M, T, S> {
 
     /// An operation of whoever runs on the processor of the last one, as `op_here`, while others may write to its TX.
     pub fn op_here_among_others(&mut self, op: &Op) -> Outcome
-        ensures done { IsDoneReading (pages_read self.old.machine.state op.now) self.old.machine op.now result self.new.machine }
+        ensures done { IsDoneReading (pages_read self.old.machine.state op.now)
+            self.old.machine op.now result self.new.machine }
         ensures alone { M.is_alone ≡ true → IsDoneAlone self.old.machine.state op.now result self.new.machine.state }
         ensures agrees { Agrees self.new.machine.ram self.new.machine.state }
         ensures sound { IsSoundState self.new.machine.state }
@@ -65,8 +66,8 @@ impl<M: Observed + Drop, T: Translations + Drop, S: Store> Cluster<M, T, S> {
         }
     }
 
-    /// Does acts one after another, each of the processor beside it, while others may write to the TX of whoever it runs, and fills
-    /// in what comes of them.
+    /// Does acts one after another, each of the processor beside it, while others may write to the TX of whoever it runs, and
+    /// fills in what comes of them.
     pub fn run_among_others(&mut self, acts: &[(usize, Act)], filled: &mut [Effect])
         requires length { length acts.now ≡ length filled.old }
         requires within { are_processors acts.now ≡ true }

@@ -44,13 +44,18 @@ impl<M: PhysMem + Drop, T: Translations + Drop, S: Store> Cluster<M, T, S> {
         ensures agrees { Agrees self.new.machine.ram self.new.machine.state }
         ensures refused { is_refusal result ≡ true → self.new.machine ≡ self.old.machine }
         ensures unowned { KeepsUnowned self.old.machine.state self.old.machine.ram self.new.machine.ram }
-        ensures moments { AreMoments self.old.machine.state self.old.machine.ram self.new.machine.ram self.old.machine.past self.new.machine.past }
-        ensures mixtures { StayMixed self.old.machine.state self.old.machine.ram self.new.machine.ram self.old.machine.past self.new.machine.past }
+        ensures moments { AreMoments self.old.machine.state self.old.machine.ram self.new.machine.ram
+            self.old.machine.past self.new.machine.past }
+        ensures mixtures { StayMixed self.old.machine.state self.old.machine.ram self.new.machine.ram
+            self.old.machine.past self.new.machine.past }
         ensures walks { AreWalks self.new.machine }
         ensures forgotten { AreForgotten self.old.machine self.new.machine }
-        ensures kept { is_miss (run_by endpoint.0 self.old.machine) op.now ≡ false → AreKept self.old.machine self.new.machine }
-        ensures others { AreSameOrGone self.old.machine self.new.machine (is_accessed (as_run_by endpoint.0 self.old.machine.state) op.now) }
-        ensures telling { IsTelling op.now self.old.machine.state self.new.machine.state self.old.machine.told self.new.machine.told }
+        ensures kept { is_miss (run_by endpoint.0 self.old.machine) op.now ≡ false
+            → AreKept self.old.machine self.new.machine }
+        ensures others { AreSameOrGone self.old.machine self.new.machine
+            (is_accessed (as_run_by endpoint.0 self.old.machine.state) op.now) }
+        ensures telling { IsTelling op.now self.old.machine.state self.new.machine.state
+            self.old.machine.told self.new.machine.told }
         ensures sound { IsSoundState self.new.machine.state }
         ensures step { OneStepAs self.old.machine.state endpoint.0 op.now }
         ensures integrity { IntegrityAs self.old.machine.state endpoint.0 op.now }

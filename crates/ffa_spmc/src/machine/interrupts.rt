@@ -9,6 +9,7 @@ ghost use Rattle.ffa_model.specs.declared.schedule.Status.TheVariants.{Blocked};
 ghost use Rattle.ffa_model.specs.RunStates.{schedule_of, scheduled};
 ghost use Rattle.ffa_model.specs.Sound.{MayGoOn, MayStop};
 ghost use Rattle.ffa_model.specs.SoundState.{IsSoundState};
+ghost use Rattle.ffa_laws.specs.OwnAccess.{AreApart};
 ghost use Rattle.ffa_spmc.specs.Cached.{AreWalks};
 ghost use Rattle.ffa_spmc.specs.Clustered.{IsEffected, IsEffectedAlone, IsEffectedAmong, in_state};
 ghost use Rattle.ffa_spmc.specs.Unowned.{KeepsUnowned};
@@ -90,6 +91,7 @@ impl<M: PhysMem + Drop, T: Translations + Drop, S: Store> Machine<M, T, S> {
     pub(crate) fn holds(&self)
         ensures agrees { Agrees self.now.ram self.now.state }
         ensures sound { IsSoundState self.now.state }
+        ensures apart { AreApart self.now.state }
         ensures walks { AreWalks self.now }
     {
         self.manager.holds();

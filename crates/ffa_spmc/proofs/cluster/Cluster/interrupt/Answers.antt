@@ -2,6 +2,7 @@
 use Rattle.std.proofs.Common.{ap}
 use Rattle.ffa_model.specs.Processors.{on}
 use Rattle.ffa_laws.proofs.ProcessorLaws.{one_interrupt}
+use Rattle.ffa_laws.proofs.ProcessorRights.{confidential-interrupt}
 use Rattle.ffa_spmc.specs.Clustered.{Clustered}
 use Rattle.ffa_spmc.specs.Snapshot.{Snapshot}
 use Rattle.ffa_spmc.proofs.Clusters.{kept_as, placed-interrupted}
@@ -15,3 +16,6 @@ invariant_of-self g c =
 
 pub returns-clause-step : goal.returns-clause-step
 returns-clause-step g c = one_interrupt (on c.args.self.now.processors c.args.processor c.args.self.now.machine.state)
+
+pub returns-clause-confidential : goal.returns-clause-confidential
+returns-clause-confidential g c = confidential-interrupt c.args.self.now.processors c.args.processor c.args.self.now.machine.state
