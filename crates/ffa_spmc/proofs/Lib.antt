@@ -12,6 +12,7 @@ pub mod Agreements
 pub mod Certificates
 pub mod Stores
 pub mod Readings
+pub mod Readers
 pub mod Besides
 pub mod Amongs
 pub mod Machines

@@ -1,14 +1,16 @@
 -- SPDX-License-Identifier: MIT OR Apache-2.0
 -- An operation while other processors of its runner write to the runner's TX: which pages of TX it reads, and that it does
 -- what an operation does that finds there what one reading of these pages gave.
-use Rattle.std.specs.Prelude.{◌≡◌, ℕ, ◌==◌, Bool, true, false, List, [], ◌∷◌, Option, Some, None, if◌then◌else◌}
+use Rattle.std.specs.Prelude.{◌≡◌, ℕ, ◌==◌, ◌||◌, Bool, true, false, List, [], ◌∷◌, Option, Some, None, if◌then◌else◌}
+use Rattle.std.specs.List.{list_any}
 use Rattle.std.specs.Option.{option_and_then}
+use Rattle.ffa_model.specs.declared.function.TheConstants.{FFA_MEM_DONATE, FFA_MEM_LEND, FFA_MEM_RELINQUISH, FFA_MEM_RETRIEVE_REQ, FFA_MEM_SHARE, FFA_MSG_SEND2}
 use Rattle.ffa_model.specs.declared.operation.Op.{Op}
 use Rattle.ffa_model.specs.declared.operation.Op.TheVariants.{Call}
 use Rattle.ffa_model.specs.declared.operation.Outcome.{Outcome}
 use Rattle.ffa_model.specs.Agreement.{Agrees}
 use Rattle.ffa_model.specs.Lists.{is_in_run}
-use Rattle.ffa_model.specs.Registers.{decode}
+use Rattle.ffa_model.specs.Registers.{decode, wide_of}
 use Rattle.ffa_model.specs.SoundState.{IsSoundState}
 use Rattle.ffa_model.specs.State.{State, Buffers, buffers_of}
 use Rattle.ffa_model.specs.Step.{step}
@@ -35,6 +37,13 @@ abbrev pub pages_read : State → Op → Option Run
 pages_read s (Call x) =
     option_and_then (λ (b : Buffers). front_of b (tx_pages_read b (decode x))) (buffers_of s s.runner)
 pages_read s op = None
+
+-- whether a number is that of a call that reads TX, in either form
+abbrev pub reads_tx : ℕ → Bool
+reads_tx w0 =
+    list_any (λ function. w0 == function)
+    (FFA_MSG_SEND2 ∷ FFA_MEM_DONATE ∷ FFA_MEM_LEND ∷ FFA_MEM_SHARE ∷ FFA_MEM_RETRIEVE_REQ ∷ FFA_MEM_RELINQUISH ∷ [])
+    || list_any (λ function. w0 == wide_of function) (FFA_MEM_DONATE ∷ FFA_MEM_LEND ∷ FFA_MEM_SHARE ∷ FFA_MEM_RETRIEVE_REQ ∷ [])
 
 abbrev pub is_in : Run → ℕ → Bool
 is_in run p = is_in_run run.first.0 run.count p

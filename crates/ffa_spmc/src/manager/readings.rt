@@ -7,18 +7,41 @@ ghost use Rattle.ffa_model.specs.SoundState.{are_bytes};
 ghost use Rattle.ffa_model.specs.State.{page_at};
 ghost use Rattle.ffa_physmem.specs.Moments.{IsBeside, IsReading, One};
 ghost use Rattle.ffa_laws.specs.Reads.{AreBeside, bytes_read, pages_holding};
-ghost use Rattle.ffa_spmc.specs.Among.{is_in, pages_read};
+ghost use Rattle.ffa_spmc.specs.Among.{is_in, pages_read, reads_tx};
 ghost use Rattle.ffa_spmc.specs.Moments.{AreMoments};
 ghost use Rattle.ffa_spmc.specs.Unowned.{pages_of_tables};
 
 use super::Manager;
 use crate::run::Run;
 use crate::storage::Store;
+use ffa_model::function::{
+    FFA_MEM_DONATE, FFA_MEM_DONATE_64, FFA_MEM_LEND, FFA_MEM_LEND_64, FFA_MEM_RELINQUISH,
+    FFA_MEM_RETRIEVE_REQ, FFA_MEM_RETRIEVE_REQ_64, FFA_MEM_SHARE, FFA_MEM_SHARE_64, FFA_MSG_SEND2,
+};
 use ffa_model::{Call, Op, PageNo};
 use ffa_physmem::{Observed, PAGE_SIZE, PhysMem};
 
 // The bytes that the descriptor of FFA_MEM_RELINQUISH has.
 const RELINQUISH_BYTES: usize = 18;
+
+// Whether a call reads TX, by its number: where it doesn't, its arguments aren't looked at here.
+fn reads_tx(number: u32) -> bool
+    ensures { result ≡ reads_tx number }
+{
+    matches!(
+        number,
+        FFA_MSG_SEND2
+            | FFA_MEM_DONATE
+            | FFA_MEM_DONATE_64
+            | FFA_MEM_LEND
+            | FFA_MEM_LEND_64
+            | FFA_MEM_SHARE
+            | FFA_MEM_SHARE_64
+            | FFA_MEM_RETRIEVE_REQ
+            | FFA_MEM_RETRIEVE_REQ_64
+            | FFA_MEM_RELINQUISH
+    )
+}
 
 // How many bytes of a TX of so many a call reads.
 fn bytes_read(call: &Call, room: usize) -> usize
@@ -110,6 +133,9 @@ impl<M: PhysMem + Drop, S: Store> Manager<M, S> {
         ensures owned { IfSome result (λ run. (p : ℕ) → is_in run p ≡ true → IsSome (page_at self.now.state p)) }
     {
         let Op::Call(x) = op else { return None };
+        if !reads_tx(ffa_abi::low(x[0])) {
+            return None;
+        }
         let mapped = self.kept.buffers.of(self.kept.chain.runner())?;
         let bytes = bytes_read(&ffa_abi::decode(*x), mapped.room());
         let count = pages_holding(mapped.pages, bytes);

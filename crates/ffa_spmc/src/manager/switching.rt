@@ -10,6 +10,7 @@ ghost use Rattle.ffa_model.specs.Sound.{MayGoOn, MayStop};
 
 use super::Manager;
 use crate::storage::Store;
+use ffa_model::function::FFA_RUN;
 use ffa_model::{Call, EndpointId, Op, Status};
 use ffa_physmem::PhysMem;
 
@@ -27,10 +28,11 @@ impl<M: PhysMem + Drop, S: Store> Manager<M, S> {
     pub(crate) fn resumed_by(&self, op: &Op) -> Option<EndpointId>
         ensures { option_map (λ (e : EndpointId). e.0) result ≡ resumed_by self.now.state op.now }
     {
-        match *op {
-            Op::Call(x) => self.resumed_by_call(ffa_abi::decode(x)),
-            Op::Load { .. } | Op::Store { .. } | Op::Fetch { .. } => None,
+        let Op::Call(x) = op else { return None };
+        if ffa_abi::low(x[0]) != FFA_RUN {
+            return None;
         }
+        self.resumed_by_call(ffa_abi::decode(*x))
     }
 
     // So of a call.
