@@ -321,7 +321,11 @@ struct gorseplumb_outcome gorseplumb_fetch_as(struct gorseplumb_machine *machine
  * booted the normal world runs on all. One thing is as above no more: FFA_RUN of a partition that an interrupt had stopped
  * lets it go on, on this processor, and answers GORSEPLUMB_KIND_RESUMED; above that partition is busy. Where there is no
  * such processor the answer is GORSEPLUMB_KIND_NO_PROCESSOR. Everything that names no processor is of the one that did
- * the last operation or took the last interrupt, at first of 0: so who has one processor needs none of these. */
+ * the last operation or took the last interrupt, at first of 0: so who has one processor needs none of these.
+ *
+ * Three calls of the normal world are served here alone: FFA_NOTIFICATION_INFO_GET (84000083, C4000083), with FFA_FEATURES
+ * of it; FFA_NOTIFICATION_BITMAP_CREATE for up to GORSEPLUMB_MOST_PROCESSORS contexts; and FFA_NOTIFICATION_GET in any of
+ * as many. */
 struct gorseplumb_outcome gorseplumb_call_on(struct gorseplumb_machine *machine, uint32_t processor,
                                              const struct gorseplumb_registers *registers);
 struct gorseplumb_outcome gorseplumb_load_on(struct gorseplumb_machine *machine, uint32_t processor, uint64_t address, uint32_t size);
@@ -417,6 +421,10 @@ bool gorseplumb_cert_run(const struct gorseplumb_machine *machine, uint32_t page
  * what its processor's interrupt is to be sent for, without a look at each call. False: there is none, no such
  * endpoint, or no machine. */
 bool gorseplumb_pending(const struct gorseplumb_machine *machine, uint16_t endpoint);
+
+/* Whether the normal world's schedule receiver interrupt is to be pending: a notification is pending of an endpoint that
+ * no FFA_NOTIFICATION_INFO_GET has told it of since. False too: there is no machine. */
+bool gorseplumb_schedule_due(const struct gorseplumb_machine *machine);
 
 /* Copies the bytes of a page of RAM: true. False: there is no machine, or a machine without such a page, which the
  * answer doesn't tell apart, and `bytes` stays. */

@@ -1,7 +1,8 @@
 /* SPDX-License-Identifier: MIT OR Apache-2.0 */
 /* Interrupts, and a machine that several processors run, in RAM of the heap and in lent pages: a timer preempts a partition, which
- * goes on on another processor and is busy elsewhere; each of two processors runs a partition; one lends a page meanwhile; and what
- * is answered where there is no machine or no such processor. Numbers and answers are by reasoning from the standard, as in test.c. */
+ * goes on on another processor and is busy elsewhere; each of two processors runs a partition; one lends a page meanwhile; the
+ * normal world is told whose notifications are pending; and what is answered where there is no machine or no such processor.
+ * Numbers and answers are by reasoning from the standard, as in test.c. */
 #include <stdio.h>
 #include <string.h>
 #include "../board/calls.h"
@@ -148,6 +149,61 @@ static void a_chain(void) {
     CHECK(gorseplumb_runner_on(&machine, 4) == 0);
 }
 
+/* The normal world is told once of each endpoint with a notification pending, also of one that doesn't wait, and again where the
+ * bit was got and is set again. It names execution contexts, of which there are as many as processors. */
+static void notices(void) {
+    const uint64_t info_get = 0x84000083, info_get_64 = 0xC4000083, success_64 = 0xC4000061;
+    const uint64_t no_data = (uint32_t)-9, invalid = (uint32_t)GORSEPLUMB_ERROR_INVALID_PARAMETERS;
+    const uint64_t unsupported = (uint32_t)GORSEPLUMB_ERROR_NOT_SUPPORTED, denied = (uint32_t)GORSEPLUMB_ERROR_DENIED;
+
+    SEES(CALL_ON(0, FFA_FEATURES, info_get), 0, FFA_SUCCESS);
+    SEES(CALL_ON(0, FFA_FEATURES, info_get_64), 0, FFA_SUCCESS);
+    SEES(CALL(FFA_FEATURES, info_get), 0, FFA_ERROR, 0, unsupported);
+    SEES(CALL_ON(1, info_get), 0, FFA_ERROR, 0, no_data);
+    SEES(CALL(FFA_NOTIFICATION_BITMAP_CREATE, 0, 4), 0, FFA_ERROR, 0, invalid);
+    SEES(CALL_ON(1, FFA_NOTIFICATION_BITMAP_CREATE, 0, 0), 0, FFA_ERROR, 0, invalid);
+    SEES(CALL_ON(1, FFA_NOTIFICATION_BITMAP_CREATE, 0, 9), 0, FFA_ERROR, 0, invalid);
+    SEES(CALL_ON(1, FFA_NOTIFICATION_BITMAP_CREATE, 0, 8), 0, FFA_SUCCESS);
+    SEES(CALL_ON(1, FFA_NOTIFICATION_BITMAP_CREATE, 0, 2), 0, FFA_ERROR, 0, denied);
+
+    /* 8001 lets the normal world set bit 3, and is stopped */
+    SEES(CALL_ON(0, FFA_RUN, 0x80010000), 0x8001, FFA_RUN, 0x80010000);
+    SEES(CALL_ON(0, FFA_NOTIFICATION_BIND, 0x00008001, 0, 8), 0x8001, FFA_SUCCESS);
+    SEES(CALL_ON(0, info_get), 0x8001, FFA_ERROR, 0, unsupported);
+    SEES(CALL_ON(0, FFA_FEATURES, info_get), 0x8001, FFA_ERROR, 0, unsupported);
+    SEES(gorseplumb_interrupt(&machine, 0), 0, FFA_INTERRUPT, 0x80010000);
+    CHECK(!gorseplumb_schedule_due(&machine));
+    SEES(CALL_ON(1, FFA_NOTIFICATION_SET, 0x00008001, 0, 8), 0, FFA_SUCCESS);
+    CHECK(gorseplumb_schedule_due(&machine));
+    SEES(CALL(info_get), 0, FFA_ERROR, 0, unsupported);
+    CHECK(gorseplumb_schedule_due(&machine));
+    SEES(CALL_ON(2, info_get_64), 0, success_64, 0, 0x80, 0x8001);
+    CHECK(!gorseplumb_schedule_due(&machine) && gorseplumb_pending(&machine, 0x8001));
+    SEES(CALL_ON(2, info_get_64), 0, FFA_ERROR, 0, no_data);
+    SEES(CALL_ON(1, FFA_NOTIFICATION_SET, 0x00008001, 0, 8), 0, FFA_SUCCESS);
+    CHECK(!gorseplumb_schedule_due(&machine));
+
+    /* it goes on, gets the bit, and it is set again; and it sets one of the normal world */
+    is_plain(CALL_ON(2, FFA_RUN, 0x80010000), GORSEPLUMB_KIND_RESUMED, 0x8001);
+    SEES(CALL_ON(2, FFA_NOTIFICATION_GET, 0x8001, 7), 0x8001, FFA_SUCCESS, 0, 0, 0, 8);
+    SEES(CALL_ON(1, FFA_NOTIFICATION_SET, 0x00008001, 0, 8), 0, FFA_SUCCESS);
+    SEES(CALL_ON(1, FFA_NOTIFICATION_BIND, 0x80010000, 0, 0, 0x80000000), 0, FFA_SUCCESS);
+    SEES(CALL_ON(2, FFA_NOTIFICATION_SET, 0x80010000, 0, 0, 0x80000000), 0x8001, FFA_SUCCESS);
+    CHECK(gorseplumb_schedule_due(&machine));
+    SEES(CALL_ON(1, info_get), 0, FFA_SUCCESS, 0, 0x100, 0x80010000);
+    CHECK(!gorseplumb_schedule_due(&machine));
+
+    /* what a call that names no processor gets counts too */
+    SEES(gorseplumb_call_as(&machine, 0, &GORSEPLUMB_REGISTERS(FFA_NOTIFICATION_GET, 0x00050000, 7)), 0, FFA_ERROR, 0, invalid);
+    SEES(CALL_ON(1, FFA_NOTIFICATION_GET, 0x00080000, 7), 0, FFA_ERROR, 0, invalid);
+    SEES(CALL_ON(1, FFA_NOTIFICATION_GET, 0x00050000, 7), 0, FFA_SUCCESS, 0, 0, 0x80000000);
+    SEES(CALL_ON(2, FFA_NOTIFICATION_GET, 0x00018001, 7), 0x8001, FFA_ERROR, 0, invalid);
+    SEES(CALL(FFA_NOTIFICATION_GET, 0x8001, 7), 0x8001, FFA_SUCCESS, 0, 0, 0, 8);
+    SEES(CALL_ON(1, FFA_NOTIFICATION_SET, 0x00008001, 0, 8), 0, FFA_SUCCESS);
+    SEES(CALL_ON(1, info_get), 0, FFA_SUCCESS, 0, 0x80, 0x8001);
+    SEES(CALL_ON(2, FFA_MSG_WAIT), 0, FFA_MSG_WAIT, 0x80010000);
+}
+
 /* Where there is no such processor nothing is done, and none stands for another. */
 static void no_processor(void) {
     SEES(CALL_ON(7, FFA_RUN, 0x80010000), 0x8001, FFA_RUN, 0x80010000);
@@ -173,7 +229,7 @@ static void no_machine(void) {
     is_plain(gorseplumb_store_on(&machine, 0, 0x40010000, 8, 1), GORSEPLUMB_KIND_NO_MACHINE, 0);
     is_plain(gorseplumb_fetch_on(&machine, 0, 0x40010000), GORSEPLUMB_KIND_NO_MACHINE, 0);
     is_plain(gorseplumb_load_on(&machine, 0, 0x40010000, 16), GORSEPLUMB_KIND_BAD_SIZE, 0);
-    CHECK(gorseplumb_runner_on(&machine, 0) == GORSEPLUMB_NOTHING);
+    CHECK(gorseplumb_runner_on(&machine, 0) == GORSEPLUMB_NOTHING && !gorseplumb_schedule_due(&machine));
 }
 
 static void scenes(void) {
@@ -182,6 +238,7 @@ static void scenes(void) {
     two_partitions();
     a_lend();
     a_chain();
+    notices();
     no_processor();
     CHECK(asked == 0); /* no operation and no interrupt takes memory */
 }

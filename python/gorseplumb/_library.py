@@ -153,6 +153,7 @@ _DECLARED: dict[str, tuple[Any, ...]] = {
     "owner": (c_uint32, _MACHINE, c_uint32),
     "access": (c_uint32, _MACHINE, c_uint16, c_uint32),
     "pending": (c_bool, _MACHINE, c_uint16),
+    "schedule_due": (c_bool, _MACHINE),
     "read_page": (c_bool, _MACHINE, c_uint32, c_void_p),
     "ram_base": (c_uint32, _MACHINE),
     "ram_blocks": (c_uint32, _MACHINE),

@@ -124,6 +124,12 @@ class Questions:
         self._check_endpoint(endpoint)
         return bool(library.pending(self._raw, endpoint))
 
+    def schedule_due(self) -> bool:
+        """Whether the normal world's schedule receiver interrupt is to be pending: a notification is pending of an endpoint that no
+        FFA_NOTIFICATION_INFO_GET has told it of since."""
+        self._check_alive()
+        return bool(library.schedule_due(self._raw))
+
     def root(self, endpoint: int) -> int:
         """The address of an endpoint's level 1 table."""
         self._check_endpoint(endpoint)

@@ -50,6 +50,24 @@ def test_each_processor_runs_a_partition(partitions: Machine) -> None:
     assert partitions.call_on(0, *RUN_8002) == Resumed(0x8002)
 
 
+def test_the_normal_world_is_told_once_whose_notifications_are_pending(partitions: Machine) -> None:
+    info_get, info_get_64, success_64 = 0x84000083, 0xC4000083, 0xC4000061
+    no_data = told(0, Function.FFA_ERROR, 0, 0xFFFFFFF7)
+    done = told(0, Function.FFA_SUCCESS)
+    assert partitions.call_on(2, Function.FFA_FEATURES, info_get_64) == done
+    assert partitions.call_on(2, Function.FFA_NOTIFICATION_BITMAP_CREATE, 0, 4) == done
+    assert partitions.call_on(2, info_get) == no_data and not partitions.schedule_due()
+    assert partitions.call_on(2, Function.FFA_NOTIFICATION_BIND, 0x80010000, 0, 1) == done
+    partitions.call_on(0, *RUN_8001)
+    partitions.call_on(0, Function.FFA_NOTIFICATION_SET, 0x80010000, 0, 1)
+    assert partitions.schedule_due()
+    assert partitions.call_on(2, info_get_64) == told(0, success_64, 0, 0x80)
+    assert partitions.call_on(2, info_get_64) == no_data and not partitions.schedule_due()
+    assert partitions.call_on(2, Function.FFA_NOTIFICATION_GET, 0x00020000, 7) == told(0, Function.FFA_SUCCESS, 0, 1)
+    partitions.call_on(0, Function.FFA_NOTIFICATION_SET, 0x80010000, 0, 1)
+    assert partitions.call_on(2, info_get) == told(0, Function.FFA_SUCCESS, 0, 0x80)
+
+
 def test_there_are_eight_processors(partitions: Machine) -> None:
     asked: list[Callable[[int], object]] = [
         partitions.interrupt,

@@ -44,6 +44,14 @@ impl<R: Ram> Machine<R> {
         unsafe { raw::gorseplumb_pending(self.asked(), endpoint.0) }
     }
 
+    /// Whether the normal world's schedule receiver interrupt is to be pending: a notification is pending of an endpoint
+    /// that no FFA_NOTIFICATION_INFO_GET has told it of since.
+    #[inline]
+    #[must_use]
+    pub fn schedule_due(&self) -> bool {
+        unsafe { raw::gorseplumb_schedule_due(self.asked()) }
+    }
+
     /// Copies the bytes of a page of RAM, whoever may reach it: whether there is such a page. Else `bytes` stay.
     #[must_use]
     pub fn read_page(&self, page: u32, bytes: &mut Page) -> bool {

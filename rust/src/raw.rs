@@ -255,6 +255,7 @@ extern "C" {
     pub fn gorseplumb_owner(machine: *const Machine, page: u32) -> u32;
     pub fn gorseplumb_access(machine: *const Machine, endpoint: u16, page: u32) -> u32;
     pub fn gorseplumb_pending(machine: *const Machine, endpoint: u16) -> bool;
+    pub fn gorseplumb_schedule_due(machine: *const Machine) -> bool;
     pub fn gorseplumb_read_page(machine: *const Machine, page: u32, bytes: *mut crate::Page) -> bool;
 
     pub fn gorseplumb_free(machine: *mut Machine, lent: *mut Lent) -> u32;

@@ -57,11 +57,27 @@ fn each_processor_runs_a_partition<R: Ram>(machine: &mut Machine<R>) {
     assert!(Processor::all().all(|it| machine.runner_on(it) == Id::NORMAL_WORLD));
 }
 
+fn the_normal_world_is_told_whom_to_run<R: Ram>(machine: &mut Machine<R>) {
+    let info_get: Registers = [0x8400_0083, 0, 0, 0, 0, 0, 0, 0];
+    let bit_of_the_normal_world = [0x8001_0000, 0, 1];
+    let is_done = |effect: Effect| assert_eq!(effect.answer().unwrap().function(), Some(Function::Success));
+    is_done(machine.call_on(P1, &Function::NotificationBitmapCreate.with([0, 8])));
+    is_done(machine.call_on(P1, &Function::NotificationBind.with(bit_of_the_normal_world)));
+    machine.call_on(P0, &run(FIRST));
+    assert!(!machine.schedule_due());
+    is_done(machine.call_on(P0, &Function::NotificationSet.with(bit_of_the_normal_world)));
+    assert!(machine.schedule_due());
+    let told = machine.call_on(P1, &info_get);
+    assert_eq!(told.answer().unwrap().registers()[..], Function::Success.with([0, 0x80])[..]);
+    assert!(!machine.schedule_due());
+}
+
 #[test]
 fn on_the_heap() {
     let mut machine = Machine::boot(&MACHINE).unwrap();
     is_preempted_and_goes_on_elsewhere(&mut machine);
     each_processor_runs_a_partition(&mut machine);
+    the_normal_world_is_told_whom_to_run(&mut machine);
 }
 
 #[test]
@@ -70,6 +86,7 @@ fn in_lent_pages() {
     let mut machine = Machine::boot_lent(&MACHINE, &mut pages).unwrap();
     is_preempted_and_goes_on_elsewhere(&mut machine);
     each_processor_runs_a_partition(&mut machine);
+    the_normal_world_is_told_whom_to_run(&mut machine);
 }
 
 #[test]

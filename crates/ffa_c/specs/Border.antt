@@ -24,6 +24,7 @@ use Rattle.ffa_laws.specs.OwnAccess.{OwnAccess}
 use Rattle.ffa_laws.specs.Readable.{Confidential}
 use Rattle.ffa_laws.specs.Silence.{Silence}
 use Rattle.ffa_laws.specs.Writers.{OnlyWriters}
+use Rattle.ffa_notify.specs.Notices.{is_due}
 use Rattle.ffa_spmc.specs.AccessChange.{IsTelling}
 use Rattle.ffa_spmc.specs.Among.{IsDoneAlone, IsDoneReading, pages_read}
 use Rattle.ffa_spmc.specs.Mixtures.{StayMixed}
@@ -31,7 +32,7 @@ use Rattle.ffa_spmc.specs.Moments.{AreMoments}
 use Rattle.ffa_spmc.specs.Snapshot.{Snapshot}
 use Rattle.ffa_spmc.specs.Unowned.{KeepsUnowned}
 use Rattle.ffa_c.specs.declared.outcome.COutcome.{COutcome}
-use Rattle.ffa_c.specs.Boarded.{Boarded}
+use Rattle.ffa_c.specs.Boarded.{Boarded, followed}
 
 abbrev pub fault_number : FaultKind → ℕ
 fault_number Translation = 1
@@ -107,7 +108,7 @@ HasDoneIn true old new op told = HasDoneAmong old new op told
 abbrev pub Operated : Option Boarded → Option Boarded → Op → COutcome → Type 0
 Operated None new op told = (new ≡ None) × (told ≡ nothing_done 4)
 Operated (Some old) new op told =
-    (s : Snapshot) × (new ≡ Some (record old { machine = s }))
+    (s : Snapshot) × (new ≡ Some (followed old s))
     × HasDoneIn old.is_lent old.machine s op told
 
 -- the size of so many bytes
@@ -149,3 +150,8 @@ has_page (Some b) page = nat_lt page (length b.machine.ram.pages)
 abbrev pub is_pending_for : ℕ → Option Boarded → Bool
 is_pending_for endpoint None = false
 is_pending_for endpoint (Some b) = has_pending (notifications_of b.machine.state) endpoint
+
+-- whether there is a machine of which the normal world is to be told that an endpoint has notifications pending
+abbrev pub is_due_in : Option Boarded → Bool
+is_due_in None = false
+is_due_in (Some b) = is_due b.notices (notifications_of b.machine.state)

@@ -16,7 +16,7 @@ use Rattle.ffa_spmc.specs.Moments.{AreMoments}
 use Rattle.ffa_spmc.specs.Snapshot.{Snapshot}
 use Rattle.ffa_spmc.specs.Unowned.{KeepsUnowned}
 use Rattle.ffa_c.specs.declared.outcome.COutcome.{COutcome}
-use Rattle.ffa_c.specs.Boarded.{Boarded}
+use Rattle.ffa_c.specs.Boarded.{Boarded, followed}
 use Rattle.ffa_c.specs.Border.{Operated, nothing_done, packed, size_at}
 
 -- an operation of an endpoint was done as the machine's own call promises it, and C was told the outcome
@@ -46,7 +46,7 @@ OperatedAs (Some old) new e op told =
     (is_known old.machine.state e ≡ false → (new ≡ Some old) × (told ≡ nothing_done 6))
     × (is_known old.machine.state e ≡ true → old.machine.state.runner ≡ e → Operated (Some old) new op told)
     × (is_known old.machine.state e ≡ true → old.machine.state.runner ≢ e
-    → (s : Snapshot) × (new ≡ Some (record old { machine = s })) × HasActed old.machine s e op told)
+    → (s : Snapshot) × (new ≡ Some (followed old s)) × HasActed old.machine s e op told)
 
 -- the same of an access of so many bytes, where those are a size
 abbrev pub OperatedAtAs : Option Size → Option Boarded → Option Boarded → ℕ → (Size → Op) → COutcome → Type 0

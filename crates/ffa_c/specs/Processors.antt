@@ -7,11 +7,15 @@ use Rattle.ffa_model.specs.declared.operation.Effect.TheVariants.{Outcome, Resum
 use Rattle.ffa_model.specs.declared.operation.Op.{Op}
 use Rattle.ffa_model.specs.declared.operation.Size.{Size}
 use Rattle.ffa_model.specs.Agreement.{Agrees}
+use Rattle.ffa_model.specs.Notifications.{notifications_of}
 use Rattle.ffa_model.specs.Processors.{interrupt_on, on, step_on, turned}
 use Rattle.ffa_model.specs.SoundState.{IsSoundState}
 use Rattle.ffa_laws.specs.Isolation.{NeverGrow}
 use Rattle.ffa_laws.specs.Processors.{OneOperation}
 use Rattle.ffa_spmc.specs.Clustered.{Clustered, IsEffected, IsEffectedAlone, IsEffectedAmong, in_state, seen_by}
+use Rattle.ffa_notify.specs.Notices.{Told}
+use Rattle.ffa_spmc.specs.Noticed.{in_one_context, notice_asked, noticed, told_after}
+use Rattle.ffa_spmc.specs.declared.notices.Notice.{Notice}
 use Rattle.ffa_spmc.specs.Unowned.{KeepsUnowned}
 use Rattle.ffa_c.specs.declared.outcome.COutcome.{COutcome}
 use Rattle.ffa_c.specs.Boarded.{Boarded, boarded_by, cluster_of}
@@ -22,33 +26,51 @@ abbrev pub packed_effect : Effect → COutcome
 packed_effect (Outcome outcome) = packed outcome
 packed_effect (Resumed e) = record (plain_outcome 7 0) { runner = e.0 }
 
--- an operation of a processor was done as the machine's own call promises it, and C was told what it came to
-pub record HasDoneOn (p : ℕ) (old new : Clustered) (op : Op) (told : COutcome) : Type 0 where
-  pub outcome : told ≡ packed_effect (step_on old.processors p old.machine.state op).effect
-  pub state : new.machine.state ≡ (step_on old.processors p old.machine.state op).state
+-- what an operation of a processor asks about notices, if it does
+abbrev pub asked_on : Clustered → ℕ → Op → Option Notice
+asked_on old p op = notice_asked (on old.processors p old.machine.state).runner op
+
+-- and what the normal world has been told of behind it
+abbrev pub notices_after : Told → Clustered → ℕ → Op → Clustered → Told
+notices_after notices old p op new = told_after notices (notifications_of new.machine.state) (asked_on old p op)
+
+-- what C is told, of notices and of what it came to in the machine
+abbrev pub packed_notice : Told → Clustered → ℕ → Op → Clustered → Effect → COutcome
+packed_notice notices old p op new effect =
+    packed_effect (noticed notices (notifications_of new.machine.state) (asked_on old p op) effect)
+
+-- what an operation of a processor, in one context, comes to in the machine
+abbrev pub effect_on : Clustered → ℕ → Op → Effect
+effect_on old p op = (step_on old.processors p old.machine.state (in_one_context op)).effect
+
+-- An operation of a processor was done, in one context, as the machine's own call promises it, and C was told what it came to, or
+-- the notice.
+pub record HasDoneOn (notices : Told) (p : ℕ) (old new : Clustered) (op : Op) (told : COutcome) : Type 0 where
+  pub outcome : told ≡ packed_notice notices old p op new (effect_on old p op)
+  pub state : new.machine.state ≡ (step_on old.processors p old.machine.state (in_one_context op)).state
   pub processors : new.processors ≡ turned old.processors p old.machine.state
-  pub done : IsEffected (seen_by p old) op (step_on old.processors p old.machine.state op).effect new.machine
+  pub done : IsEffected (seen_by p old) (in_one_context op) (effect_on old p op) new.machine
   pub agrees : Agrees new.machine.ram new.machine.state
   pub sound : IsSoundState new.machine.state
-  pub alone : OneOperation old.processors p old.machine.state op
+  pub alone : OneOperation old.processors p old.machine.state (in_one_context op)
   pub never_grow : NeverGrow old.machine.state new.machine.state
 
 -- so it was while others may have written to the TX of whoever runs there
-pub record HasDoneAmongOn (p : ℕ) (old new : Clustered) (op : Op) (told : COutcome) : Type 0 where
+pub record HasDoneAmongOn (notices : Told) (p : ℕ) (old new : Clustered) (op : Op) (told : COutcome) : Type 0 where
   pub effect : Effect
-  pub is_told : told ≡ packed_effect effect
-  pub done : IsEffectedAmong (seen_by p old) op effect new.machine
+  pub is_told : told ≡ packed_notice notices old p op new effect
+  pub done : IsEffectedAmong (seen_by p old) (in_one_context op) effect new.machine
   -- as far as contracts see nobody else wrote meanwhile, so it was done by what stood in memory
-  pub alone : IsEffectedAlone (on old.processors p old.machine.state) op effect new.machine.state
+  pub alone : IsEffectedAlone (on old.processors p old.machine.state) (in_one_context op) effect new.machine.state
   pub processors : new.processors ≡ turned old.processors p old.machine.state
   pub agrees : Agrees new.machine.ram new.machine.state
   pub unowned : KeepsUnowned old.machine.state old.machine.ram new.machine.ram
   pub sound : IsSoundState new.machine.state
 
 -- by whose the RAM is: others may write to RAM that is lent
-abbrev pub HasDoneInOn : Bool → ℕ → Clustered → Clustered → Op → COutcome → Type 0
-HasDoneInOn false p old new op told = HasDoneOn p old new op told
-HasDoneInOn true p old new op told = HasDoneAmongOn p old new op told
+abbrev pub HasDoneInOn : Bool → Told → ℕ → Clustered → Clustered → Op → COutcome → Type 0
+HasDoneInOn false notices p old new op told = HasDoneOn notices p old new op told
+HasDoneInOn true notices p old new op told = HasDoneAmongOn notices p old new op told
 
 -- a processor took an interrupt, and C was told the outcome
 pub record HasInterrupted (p : ℕ) (old new : Clustered) (told : COutcome) : Type 0 where
@@ -66,7 +88,8 @@ OperatedOn None new p op told = (new ≡ None) × (told ≡ nothing_done 4)
 OperatedOn (Some old) new p op told =
     (MOST_PROCESSORS ≤ p → (new ≡ Some old) × (told ≡ nothing_done 8))
     × (p < MOST_PROCESSORS
-    → (c : Clustered) × (new ≡ Some (boarded_by c old.is_lent)) × HasDoneInOn old.is_lent p (cluster_of old) c op told)
+    → (c : Clustered) × (new ≡ Some (boarded_by c old.is_lent (notices_after old.notices (cluster_of old) p op c)))
+    × HasDoneInOn old.is_lent old.notices p (cluster_of old) c op told)
 
 -- the same of an access of so many bytes, where those are a size
 abbrev pub OperatedAtOn : Option Size → Option Boarded → Option Boarded → ℕ → (Size → Op) → COutcome → Type 0
@@ -82,7 +105,7 @@ Interrupted None new p told = (new ≡ None) × (told ≡ nothing_done 4)
 Interrupted (Some old) new p told =
     (MOST_PROCESSORS ≤ p → (new ≡ Some old) × (told ≡ nothing_done 8))
     × (p < MOST_PROCESSORS
-    → (c : Clustered) × (new ≡ Some (boarded_by c old.is_lent)) × HasInterrupted p (cluster_of old) c told)
+    → (c : Clustered) × (new ≡ Some (boarded_by c old.is_lent old.notices)) × HasInterrupted p (cluster_of old) c told)
 
 -- who runs on a processor, where there are a machine and such a processor
 abbrev pub running_on : ℕ → Option Boarded → ℕ

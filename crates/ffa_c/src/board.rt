@@ -1,6 +1,7 @@
 // SPDX-License-Identifier: MIT OR Apache-2.0
 //! A machine with the outcomes that C sees, whichever RAM it has.
 ghost use Rattle.std.specs.Prelude.{◌≡◌, ◌≢◌, ◌<◌, ◌≤◌, ◌*◌, ◌↔◌, IsTrue, true, false, length, is_some};
+ghost use Rattle.std.specs.FinSet as finite_set;
 ghost use Rattle.ffa_model.specs.declared.limits.TheConstants.{MOST_PROCESSORS};
 ghost use Rattle.ffa_model.specs.Access.{access};
 ghost use Rattle.ffa_model.specs.Agreement.{Agrees, blocks_of, roots_of};
@@ -14,12 +15,13 @@ ghost use Rattle.ffa_model.specs.Step.{step};
 ghost use Rattle.ffa_model.specs.Why.{granted, why};
 ghost use Rattle.ffa_manifest.specs.Document.{parts_of};
 ghost use Rattle.ffa_spmc.specs.Storages.{IsRoomFor};
+ghost use Rattle.ffa_notify.specs.Notices.{is_due, still_told};
 ghost use Rattle.ffa_c.specs.Boarded.{cluster_of};
 ghost use Rattle.ffa_c.specs.Booting.{IsFirst, IsFirstBy};
 ghost use Rattle.ffa_c.specs.Border.{HasDoneIn, access_code, nothing_done, owner_number, root_number};
 ghost use Rattle.ffa_c.specs.Changes.{with_all_told};
 ghost use Rattle.ffa_c.specs.Elsewhere.{HasActed};
-ghost use Rattle.ffa_c.specs.Processors.{HasDoneInOn, HasInterrupted};
+ghost use Rattle.ffa_c.specs.Processors.{HasDoneInOn, HasInterrupted, notices_after};
 ghost use Rattle.ffa_c.specs.Runs.{run_at};
 
 use crate::codes::KIND_NO_ENDPOINT;
@@ -33,6 +35,7 @@ use ffa_memshare::Changed;
 use ffa_model::{
     CertRun, EndpointId, Grant, MOST_ENDPOINTS, MOST_PROCESSORS, Manifest, Op, PageNo, Why,
 };
+use ffa_notify::Told;
 use ffa_physmem::{FlatRam, PhysMem};
 use ffa_spmc::{Cluster, Given, Ready, Storage};
 use ffa_tlb::NoTlb;
@@ -73,6 +76,8 @@ pub enum FirstBytes {
 #[derive(Drop)]
 pub struct Board {
     kind: BoardMachine,
+    // What the normal world has been told of notifications.
+    notices: Told,
 }
 
 impl Model for Board {
@@ -82,7 +87,7 @@ impl Model for Board {
 
     ghost coded = { coded_boarded };
 
-    ghost view = { λ b. boarded b.kind };
+    ghost view = { λ b. boarded b.kind b.notices };
 }
 
 impl Board {
@@ -93,10 +98,14 @@ impl Board {
             ⟦<FlatRam as PhysMem>⟧.ram ram ≡ zero_ram manifest.now.ram_base.0 pages }
         ensures first { IsFirst (parts_of manifest.now) result.machine }
         ensures processors { result.processors ≡ first_processors }
+        ensures notices { result.notices ≡ finite_set.empty }
         ensures kind { result.is_lent ≡ false }
     {
         let kind = BoardMachine::Heap(Cluster::boot_cleared_in(storage, manifest, ram, NoTlb));
-        Board { kind }
+        Board {
+            kind,
+            notices: Told::nothing(),
+        }
     }
 
     /// The machine of a manifest in its first state, in RAM that is lent, which it clears, or whose regions keep their
@@ -112,6 +121,7 @@ impl Board {
         requires size { length (⟦<LentRam as PhysMem>⟧.ram ram).pages ≡ 512 * manifest.now.ram_blocks }
         ensures first { IsFirstBy bytes (⟦<LentRam as PhysMem>⟧.ram ram).pages (parts_of manifest.now) result.machine }
         ensures processors { result.processors ≡ first_processors }
+        ensures notices { result.notices ≡ finite_set.empty }
         ensures kind { result.is_lent ≡ true }
     {
         let cluster = match bytes {
@@ -120,6 +130,7 @@ impl Board {
         };
         Board {
             kind: BoardMachine::Lent(cluster),
+            notices: Told::nothing(),
         }
     }
 
@@ -151,25 +162,38 @@ impl Board {
     /// is the one that did the last operation.
     pub fn op(&mut self, op: &Op) -> COutcome
         ensures done { HasDoneIn self.old.is_lent self.old.machine self.new.machine op.now result }
+        ensures notices { self.new.notices ≡ still_told self.old.notices (notifications_of self.new.machine.state) }
         ensures processors { self.new.processors ≡ self.old.processors }
         ensures kind { self.new.is_lent ≡ self.old.is_lent }
     {
         match &mut self.kind {
-            BoardMachine::Heap(cluster) => done_by(cluster, op),
-            BoardMachine::Lent(cluster) => done_among(cluster, op),
+            BoardMachine::Heap(cluster) => done_by(cluster, &mut self.notices, op),
+            BoardMachine::Lent(cluster) => done_among(cluster, &mut self.notices, op),
         }
+    }
+
+    /// Whether the normal world is to be told that an endpoint has notifications pending.
+    pub fn is_due(&self) -> bool
+        ensures { result ≡ is_due self.now.notices (notifications_of self.now.machine.state) }
+    {
+        either!(&self.kind, cluster => cluster.is_due(&self.notices))
     }
 
     /// Does one operation of whoever runs on a processor, to whose TX others may write at the same time where the RAM is
     /// lent.
     pub fn op_on(&mut self, processor: usize, op: &Op) -> COutcome
         requires { processor < MOST_PROCESSORS }
-        ensures done { HasDoneInOn self.old.is_lent processor (cluster_of self.old) (cluster_of self.new) op.now result }
+        ensures done { HasDoneInOn self.old.is_lent self.old.notices processor (cluster_of self.old) (cluster_of self.new)
+            op.now result }
+        ensures notices { let old = cluster_of self.old in let new = cluster_of self.new in
+            self.new.notices ≡ notices_after self.old.notices old processor op.now new }
         ensures kind { self.new.is_lent ≡ self.old.is_lent }
     {
         match &mut self.kind {
-            BoardMachine::Heap(cluster) => done_on(cluster, processor, op),
-            BoardMachine::Lent(cluster) => done_among_on(cluster, processor, op),
+            BoardMachine::Heap(cluster) => done_on(cluster, &mut self.notices, processor, op),
+            BoardMachine::Lent(cluster) => {
+                done_among_on(cluster, &mut self.notices, processor, op)
+            }
         }
     }
 
@@ -177,6 +201,7 @@ impl Board {
     pub fn interrupt(&mut self, processor: usize) -> COutcome
         requires { processor < MOST_PROCESSORS }
         ensures done { HasInterrupted processor (cluster_of self.old) (cluster_of self.new) result }
+        ensures notices { self.new.notices ≡ self.old.notices }
         ensures kind { self.new.is_lent ≡ self.old.is_lent }
     {
         either!(&mut self.kind, cluster => interrupted_by(cluster, processor))
@@ -199,6 +224,8 @@ impl Board {
             → HasDoneIn self.old.is_lent self.old.machine self.new.machine op.now result }
         ensures other { is_known self.old.machine.state endpoint.0 ≡ true → self.old.machine.state.runner ≢ endpoint.0
             → HasActed self.old.machine self.new.machine endpoint.0 op.now result }
+        ensures notices { is_known self.old.machine.state endpoint.0 ≡ true
+            → self.new.notices ≡ still_told self.old.notices (notifications_of self.new.machine.state) }
         ensures processors { self.new.processors ≡ self.old.processors }
         ensures kind { self.new.is_lent ≡ self.old.is_lent }
     {
@@ -208,7 +235,7 @@ impl Board {
         if u32::from(endpoint.0) == self.runner() {
             return self.op(op);
         }
-        either!(&mut self.kind, cluster => acted_by(cluster, endpoint, op))
+        either!(&mut self.kind, cluster => acted_by(cluster, &mut self.notices, endpoint, op))
     }
 
     /// Whose access to which pages the last call on memory that was done has changed: told once.

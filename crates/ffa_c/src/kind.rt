@@ -4,16 +4,19 @@ ghost use Rattle.std.specs.Prelude.{◌≡◌, ◌<◌, ◌≤◌, ◌↔◌, Is
 ghost use Rattle.ffa_model.specs.declared.limits.TheConstants.{MOST_PROCESSORS};
 ghost use Rattle.ffa_model.specs.Agreement.{Agrees, roots_of};
 ghost use Rattle.ffa_model.specs.Certified.{IsCertified};
+ghost use Rattle.ffa_model.specs.Notifications.{notifications_of};
 ghost use Rattle.ffa_model.specs.State.{is_known};
+ghost use Rattle.ffa_notify.specs.Notices.{still_told};
 ghost use Rattle.ffa_c.specs.Border.{HasDone, HasDoneAmong, access_code, exec_code, level_code, owner_number, root_number};
 ghost use Rattle.ffa_c.specs.Elsewhere.{HasActed};
-ghost use Rattle.ffa_c.specs.Processors.{HasDoneAmongOn, HasDoneOn, HasInterrupted};
+ghost use Rattle.ffa_c.specs.Processors.{HasDoneAmongOn, HasDoneOn, HasInterrupted, notices_after};
 ghost use Rattle.ffa_c.specs.Runs.{run_at};
 
 use crate::codes::{EXECUTE, NOTHING, READ, WRITE};
 use crate::outcome::COutcome;
 use ffa_lent::LentRam;
 use ffa_model::{CertRun, Data, EndpointId, MOST_ENDPOINTS, MOST_PROCESSORS, Op, PageNo, Rights};
+use ffa_notify::Told;
 use ffa_physmem::{FlatRam, PhysMem};
 use ffa_spmc::{Cluster, Given, Machine, Ready, Store};
 use ffa_tlb::NoTlb;
@@ -32,61 +35,80 @@ pub enum BoardMachine {
 #[inline]
 pub(crate) fn done_by<M: PhysMem + Drop, S: Store>(
     cluster: &mut Cluster<M, NoTlb, S>,
+    notices: &mut Told,
     op: &Op,
 ) -> COutcome
     ensures done { HasDone cluster.old.machine cluster.new.machine op.now result }
     ensures processors { cluster.new.processors ≡ cluster.old.processors }
+    ensures notices { notices.new ≡ still_told notices.old (notifications_of cluster.new.machine.state) }
 {
-    COutcome::of(&cluster.op_here(op))
+    let outcome = cluster.op_here(op);
+    cluster.follow(notices);
+    COutcome::of(&outcome)
 }
 
 /// The same over RAM that is lent, while others may write to the runner's TX.
 #[inline]
-pub(crate) fn done_among<S: Store>(cluster: &mut Cluster<LentRam, NoTlb, S>, op: &Op) -> COutcome
+pub(crate) fn done_among<S: Store>(
+    cluster: &mut Cluster<LentRam, NoTlb, S>,
+    notices: &mut Told,
+    op: &Op,
+) -> COutcome
     ensures done { HasDoneAmong cluster.old.machine cluster.new.machine op.now result }
     ensures processors { cluster.new.processors ≡ cluster.old.processors }
+    ensures notices { notices.new ≡ still_told notices.old (notifications_of cluster.new.machine.state) }
 {
-    COutcome::of(&cluster.op_here_among_others(op))
+    let outcome = cluster.op_here_among_others(op);
+    cluster.follow(notices);
+    COutcome::of(&outcome)
 }
 
 /// An operation of an endpoint of a machine, whoever runs, with the outcome for C.
 #[inline]
 pub(crate) fn acted_by<M: PhysMem + Drop, S: Store>(
     cluster: &mut Cluster<M, NoTlb, S>,
+    notices: &mut Told,
     endpoint: EndpointId,
     op: &Op,
 ) -> COutcome
     requires { is_known cluster.old.machine.state endpoint.0 ≡ true }
     ensures done { HasActed cluster.old.machine cluster.new.machine endpoint.0 op.now result }
     ensures processors { cluster.new.processors ≡ cluster.old.processors }
+    ensures notices { notices.new ≡ still_told notices.old (notifications_of cluster.new.machine.state) }
 {
-    COutcome::of(&cluster.op_as(endpoint, op))
+    let outcome = cluster.op_as(endpoint, op);
+    cluster.follow(notices);
+    COutcome::of(&outcome)
 }
 
 /// An operation of a processor, with what C is told of it.
 #[inline]
 pub(crate) fn done_on<M: PhysMem + Drop, S: Store>(
     cluster: &mut Cluster<M, NoTlb, S>,
+    notices: &mut Told,
     processor: usize,
     op: &Op,
 ) -> COutcome
     requires { processor < MOST_PROCESSORS }
-    ensures { HasDoneOn processor cluster.old cluster.new op.now result }
+    ensures done { HasDoneOn notices.old processor cluster.old cluster.new op.now result }
+    ensures notices { notices.new ≡ notices_after notices.old cluster.old processor op.now cluster.new }
 {
-    COutcome::of_effect(&cluster.op(processor, op))
+    COutcome::of_effect(&cluster.op_noticing(notices, processor, op))
 }
 
 /// The same over RAM that is lent, while others may write to the TX of whoever runs there.
 #[inline]
 pub(crate) fn done_among_on<S: Store>(
     cluster: &mut Cluster<LentRam, NoTlb, S>,
+    notices: &mut Told,
     processor: usize,
     op: &Op,
 ) -> COutcome
     requires { processor < MOST_PROCESSORS }
-    ensures { HasDoneAmongOn processor cluster.old cluster.new op.now result }
+    ensures done { HasDoneAmongOn notices.old processor cluster.old cluster.new op.now result }
+    ensures notices { notices.new ≡ notices_after notices.old cluster.old processor op.now cluster.new }
 {
-    COutcome::of_effect(&cluster.op_among_others(processor, op))
+    COutcome::of_effect(&cluster.op_noticing_among_others(notices, processor, op))
 }
 
 /// An interrupt that a processor takes, with what C is told of it.

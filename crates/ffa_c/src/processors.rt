@@ -10,7 +10,8 @@ use crate::machine::CMachine;
 use crate::outcome::COutcome;
 use ffa_model::{MOST_PROCESSORS, Op};
 
-/// A call of whoever runs on a processor, with eight registers.
+/// A call of whoever runs on a processor, with eight registers. To the normal world FFA_NOTIFICATION_INFO_GET and FFA_FEATURES of
+/// it are served here too, and bitmaps of notifications may be for as many contexts as there are processors.
 #[unsafe(no_mangle)]
 pub extern "C" fn gorseplumb_call_on(
     machine: &mut CMachine,

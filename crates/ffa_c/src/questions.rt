@@ -4,7 +4,7 @@ ghost use Rattle.std.specs.Prelude.{◌≡◌, Some, None, IfSome, length, true,
 ghost use Rattle.ffa_model.specs.Access.{access};
 ghost use Rattle.ffa_model.specs.Agreement.{blocks_of};
 ghost use Rattle.ffa_model.specs.Ram.{page_of};
-ghost use Rattle.ffa_c.specs.Border.{access_code, asked, has_page, is_pending_for, owner_number, root_number};
+ghost use Rattle.ffa_c.specs.Border.{access_code, asked, has_page, is_due_in, is_pending_for, owner_number, root_number};
 
 use crate::codes::NOTHING;
 use crate::machine::CMachine;
@@ -115,6 +115,20 @@ pub extern "C" fn gorseplumb_pending(machine: &mut CMachine, endpoint: u16) -> b
 {
     if machine.live {
         machine.held.board().has_pending(endpoint)
+    } else {
+        false
+    }
+}
+
+/// Whether the normal world is to be told that an endpoint has notifications pending: whether its interrupt that schedules
+/// receivers is to be pending.
+#[unsafe(no_mangle)]
+pub extern "C" fn gorseplumb_schedule_due(machine: &mut CMachine) -> bool
+    ensures same { machine.new.held.value ≡ machine.old.held.value }
+    ensures value { result ≡ is_due_in machine.old.held.value }
+{
+    if machine.live {
+        machine.held.board().is_due()
     } else {
         false
     }

@@ -9,3 +9,4 @@ pub mod Views
 pub mod Boots
 pub mod Least
 pub mod SetGuards
+pub mod ToldWords

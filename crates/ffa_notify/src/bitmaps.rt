@@ -2,11 +2,12 @@
 //! Who has bitmaps, which bits are bound to whom, and which are pending.
 ghost use Rattle.std.specs.Prelude.{◌≡◌, ◌<◌, ◌≤◌, ℕ, true, false, length, replicate, if◌then◌else◌};
 ghost use Rattle.std.specs.FinSet as finite_set;
+ghost use Rattle.ffa_model.specs.declared.limits.TheConstants.{MOST_ENDPOINTS};
 ghost use Rattle.ffa_model.specs.Bits.{bits_of, is_set};
 ghost use Rattle.ffa_model.specs.Identifiers.{place};
 ghost use Rattle.ffa_model.specs.Notifications.{class_of, has_bitmaps_in, is_bound, is_pending, with_bitmaps, with_bound, with_pending, without_bitmaps, without_bound, without_pending};
 ghost use Rattle.ffa_model.specs.State.{is_known_among};
-ghost use Rattle.ffa_notify.specs.Stored.{class_number};
+ghost use Rattle.ffa_notify.specs.Stored.{class_number, pending_in};
 
 use crate::class::Class;
 use crate::words::{CLASSES, MOST_BOUND, MOST_PENDING, clear_asked, clear_front};
@@ -75,6 +76,13 @@ impl Bitmaps {
         ensures { (k : ℕ) → k < 64 → is_set k result ≡ is_pending self.now receiver.0 (class_number class) k }
     {
         self.pending[CLASSES * receiver.place() + class.number()]
+    }
+
+    // The words of pending bits, of each receiver one for each class.
+    pub(crate) fn pending_words(&self) -> &[u64]
+        ensures { pending_in MOST_ENDPOINTS result.now ≡ self.now.pending }
+    {
+        self.pending.as_slice()
     }
 
     // Lets a sender set these bits of a receiver.

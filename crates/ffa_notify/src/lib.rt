@@ -10,6 +10,8 @@ mod first;
 mod mends;
 mod questions;
 mod reasons;
+mod told;
 mod words;
 
 pub use bitmaps::Bitmaps;
+pub use told::{NO_DATA, Told, info_registers};

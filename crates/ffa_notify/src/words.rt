@@ -1,6 +1,7 @@
 // SPDX-License-Identifier: MIT OR Apache-2.0
 //! Words of bits.
 ghost use Rattle.std.specs.Prelude.{◌≡◌, ℕ, ◌+◌, ◌≤◌, nat_lt, not, length, slice_index, if◌then◌else◌};
+ghost use Rattle.std.specs.Int.RustNames.{bit_and};
 ghost use Rattle.std.specs.List.{list_all};
 ghost use Rattle.ffa_notify.specs.Stored.{is_asked};
 
@@ -39,4 +40,34 @@ pub(crate) fn clear_asked(words: &mut [u64], first: usize, flags: u32)
             words[first + class] = 0;
         }
     }
+}
+
+// Makes words those of others, and what has no word there 0.
+pub(crate) fn copy_words(words: &mut [u64], others: &[u64])
+    ensures count { length words.new ≡ length words.old }
+    ensures copied { (k : ℕ) → slice_index words.new k
+        ≡ (if nat_lt k (length words.old) then slice_index others.now k else slice_index words.old k) }
+{
+    for place in 0..words.len() {
+        words[place] = word_at(others, place);
+    }
+}
+
+// Of words keeps the bits that others have too.
+pub(crate) fn keep_common(words: &mut [u64], others: &[u64])
+    ensures count { length words.new ≡ length words.old }
+    ensures common { (k : ℕ) → slice_index words.new k
+        ≡ (if nat_lt k (length words.old) then bit_and (slice_index words.old k) (slice_index others.now k)
+        else slice_index words.old k) }
+{
+    for place in 0..words.len() {
+        words[place] &= word_at(others, place);
+    }
+}
+
+// The word at a place, and behind the last 0.
+pub(crate) fn word_at(words: &[u64], place: usize) -> u64
+    ensures { result ≡ slice_index words.now place }
+{
+    if place < words.len() { words[place] } else { 0 }
 }

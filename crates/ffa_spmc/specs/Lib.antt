@@ -24,3 +24,4 @@ pub mod Mixtures
 pub mod Moments
 pub mod Meanwhile
 pub mod Clustered
+pub mod Noticed

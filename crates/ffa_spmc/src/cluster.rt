@@ -19,6 +19,7 @@ ghost use Rattle.ffa_spmc.specs.Storages.{IsRoomFor};
 mod among;
 mod here;
 mod lists;
+mod noticing;
 
 use crate::machine::Machine;
 use crate::storage::{Inline, Storage, Store};

@@ -42,6 +42,7 @@ use crate::manager::{Manager, clear_rest};
 use crate::storage::{Inline, Storage, Store};
 use ffa_memshare::{Changed, News};
 use ffa_model::{EndpointId, Manifest, Op, Outcome, PageNo, Rights};
+use ffa_notify::Bitmaps;
 use ffa_physmem::PhysMem;
 use ffa_tlb::{NoTlb, Translations};
 use std::marker::Model;
@@ -321,6 +322,13 @@ impl<M: PhysMem + Drop, T: Translations + Drop, S: Store> Machine<M, T, S> {
         ensures { result ≡ has_pending (notifications_of self.now.state) endpoint.0 }
     {
         self.manager.has_pending(endpoint)
+    }
+
+    /// Who has bitmaps of notifications, and which bits are bound and pending.
+    pub fn bitmaps(&self) -> &Bitmaps
+        ensures { result.now ≡ notifications_of self.now.state }
+    {
+        self.manager.bitmaps()
     }
 
     /// Does one operation of the runner. A refusal, which is FFA_ERROR or a fault, changes nothing.

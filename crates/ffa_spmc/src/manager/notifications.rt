@@ -8,6 +8,7 @@ use super::Manager;
 use crate::replies::{done_or_error, reply_or_error};
 use crate::storage::Store;
 use ffa_model::{EndpointId, Home, NotificationBits, Reply};
+use ffa_notify::Bitmaps;
 use ffa_physmem::PhysMem;
 
 impl<M: PhysMem + Drop, S: Store> Manager<M, S> {
@@ -16,6 +17,13 @@ impl<M: PhysMem + Drop, S: Store> Manager<M, S> {
         ensures { result ≡ has_pending (notifications_of self.now.state) endpoint.0 }
     {
         endpoint.is_among(self.endpoints()) && self.kept.records.get().bitmaps.has_pending(endpoint)
+    }
+
+    // Who has bitmaps, and which bits are bound and pending.
+    pub(crate) fn bitmaps(&self) -> &Bitmaps
+        ensures { result.now ≡ notifications_of self.now.state }
+    {
+        &self.kept.records.get().bitmaps
     }
 
     // FFA_NOTIFICATION_BITMAP_CREATE of the runner.

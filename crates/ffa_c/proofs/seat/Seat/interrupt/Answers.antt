@@ -10,5 +10,5 @@ returns-clause-done c =
     let was : c.args.self.now ≡ Some c.in-Some.board = sym c.self.view_is ∙ c.in-Some.is in
     rw was (
       λ past. absurd (omega (arith, past, c.requires.processor)),
-      λ within. (cluster_of new, kept-kind c.in-Some.board new c.interrupt.ensures.kind, c.interrupt.ensures.done),
+      λ within. (cluster_of new, kept-kind c.in-Some.board new c.in-Some.board.notices c.interrupt.ensures.kind c.interrupt.ensures.notices, c.interrupt.ensures.done),
     )

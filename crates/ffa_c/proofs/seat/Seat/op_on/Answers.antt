@@ -10,5 +10,5 @@ returns-clause-done c =
     let was : c.args.self.now ≡ Some c.in-Some.board = sym c.self.view_is ∙ c.in-Some.is in
     rw was (
       λ past. absurd (omega (arith, past, c.requires.processor)),
-      λ within. (cluster_of new, kept-kind c.in-Some.board new c.op_on.ensures.kind, c.op_on.ensures.done),
+      λ within. (cluster_of new, kept-kind c.in-Some.board new _ c.op_on.ensures.kind c.op_on.ensures.notices, c.op_on.ensures.done),
     )
