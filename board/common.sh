@@ -47,21 +47,14 @@ needs() {
     command -v rt >/dev/null || fail "there is no rt, the toolchain's command: README.md says what is needed"
 }
 
-# Sets `archive` to the core's archive for AArch64, or for another target: the one that stands ready in the folder ARCHIVES, or the repository's own,
-# which is made: make_archive REPOSITORY [TARGET]
+# Sets `archive` to the core's archive for AArch64: the one that stands ready in the folder ARCHIVES, or the repository's own, which is made:
+# make_archive REPOSITORY
 make_archive() {
-    local target=${2:-aarch64-unknown-linux-gnu}
+    local target=aarch64-unknown-linux-gnu
     archive=${ARCHIVES:-}/$target/libgorseplumb.a
     if [[ -e $archive ]]; then return; fi
     archive=$1/out/$target/libgorseplumb.a
     "$1/c/archive" --target $target >&2 || fail "the archive isn't made, c/archive ended with $?"
-}
-
-# Builds what plays traces of several processors, which the program doesn't: c/play.c over the archive for this machine, as $to/judge. It is told
-# `several`, a manifest and a trace: build_judge REPOSITORY
-build_judge() {
-    make_archive "$1" x86_64-unknown-linux-gnu
-    gcc -std=c11 -Wall -Wextra -Werror -O2 "-I$1/c" "$1"/c/{play,heap}.c "$archive" -o "$to/judge"
 }
 
 # A file that QEMU puts somewhere, as two of its words: loader FILE ADDRESS

@@ -7,7 +7,7 @@ me=board
 . "$(dirname "${BASH_SOURCE[0]}")/common.sh"
 scenes=$board/scenes
 several=$board/several
-packages=(qemu-system-arm gcc-aarch64-linux-gnu gcc libc6-dev)
+packages=(qemu-system-arm gcc-aarch64-linux-gnu)
 
 usage() {
     cat <<'HELP'
@@ -16,7 +16,7 @@ board/run.sh [--install] [--keep FOLDER] [--seed N] [--operations N] [--rounds N
 
 Runs all scenes on QEMU's machine `virt`, and compares. It takes some minutes, and longer where the core is proved first.
 
-  --install             installs Debian's packages for it first: qemu-system-arm, gcc-aarch64-linux-gnu, gcc and libc6-dev
+  --install             installs Debian's packages for it first: qemu-system-arm and gcc-aarch64-linux-gnu
   --keep FOLDER         leaves what each scene printed in this folder: FIRMWARE-PROCESSOR-SCENE.uart, and its .trace, .found and .expected
   --seed N              the seed of operations that are made up; 1 where none is given
   --operations N        how many of them; 10000 where nothing is given
@@ -56,7 +56,7 @@ is_count "$operations" || refuse "the number of operations is one below a thousa
 is_count "$rounds" || refuse "the number of rounds is one below a thousand million, and not $rounds"
 ((${#breaks[@]} < 2)) || refuse "one --break at a time"
 if [[ $install ]]; then install_packages "${packages[@]}"; fi
-needs "${packages[*]}" $compiler $copier $emulator gcc
+needs "${packages[*]}" $compiler $copier $emulator
 if [[ $keep ]]; then mkdir -p "$keep"; fi
 to=$(mktemp -d)
 trap 'rm -rf "$to"' EXIT
@@ -85,13 +85,16 @@ build_several() {
         "${of_scenes[@]/%/.c}" "${shared[@]}" "$board"/{program,generator,own_table}.S "$archive" -o "$to/$name.elf"
 }
 
-# Runs a scene, and has the program play what was done, or the judge where several processors did: play FIRMWARE PROCESSOR MANIFEST SCENE, true where
+# Runs a scene, and has the program play what was done: play FIRMWARE PROCESSOR MANIFEST SCENE, true where
 # both print the same. What the program printed is in $to/expected.
 play() {
     local devices memory=256M processors=1 machine=virt,virtualization=on judge=("$player" run)
     if [[ $1 == high ]]; then memory=3G; fi
     if is_watched "$4"; then processors=2; fi
-    if is_several "$4"; then processors=$(sed -n 's/^processors //p' "$4") machine+=,gic-version=3 judge=("$to/judge" several); fi
+    if is_several "$4"; then
+        processors=$(sed -n 's/^processors //p' "$4") machine+=,gic-version=3
+        judge+=(--processors "$processors")
+    fi
     mapfile -t devices < <(loader "$3" 48000000 && loader "$4" 49000000)
     emulate -kernel "$to/$1.elf" -machine $machine -accel tcg,thread=multi -smp "$processors" -cpu "$2" -m $memory "${devices[@]}"
     "${judge[@]}" "$3" "$to/trace" >"$to/expected" || fail "the program doesn't play what $(basename "$4") did"
@@ -137,17 +140,16 @@ difference() {
 
 # One scene on one firmware and one processor, which has to agree: agree FIRMWARE PROCESSOR MANIFEST SCENE
 agree() {
-    local name by=program
+    local name
     name=$(basename "$4")
-    if is_several "$4"; then by=judge; fi
     if ! play "$@"; then
-        echo "$name: $1 on $2 differs from the $by (< the $by, > the processor):" >&2
+        echo "$name: $1 on $2 differs from the program (< the program, > the processor):" >&2
         difference >&2
         fail "$name differs"
     fi
     whole "$4" || fail "$name: $1 on $2 left lines out"
     echo "$name: $1 on $2: $(wc -l <"$to/trace") operations, $(count fault "$to/found") faults," \
-        "$(count fetch "$to/trace") fetches: as the $by prints them"
+        "$(count fetch "$to/trace") fetches: as the program prints them"
     sed -n 's/^= the/the/p' "$to/uart"
 }
 
@@ -254,7 +256,6 @@ find_break() {
     esac
 }
 
-build_judge "$top"
 make_archive "$top"
 [[ -n ${FFAPLAY:-} ]] || "$top/ffaplay" prove
 make_scenes

@@ -120,6 +120,18 @@ plays() {
     echo "$name: five traces and $(wc -l <"$to/generated") generated lines, on the heap's RAM, on lent pages, and by processor 0 of several: as the program prints them"
 }
 
+# Plays the generated lines, of which some are each of another processor, with interrupts: turns NAME COMMAND..
+turns() {
+    local name=$1 machine=$top/examples/partitions.toml
+    shift
+    awk 'NR % 29 == 0 { printf "on %d\n", NR / 29 % 8 } NR % 13 == 0 { print "interrupt" } { print }' "$to/generated" >"$to/trace"
+    "$player" run --processors 8 "$machine" "$to/trace" >"$to/expected"
+    "$@" several "$machine" "$to/trace" >"$to/played"
+    cmp "$to/expected" "$to/played" || { echo "$name: lines of eight processors differ" >&2; exit 1; }
+    echo "$name: $(grep -c '^interrupt' "$to/trace") interrupts among these lines on eight processors, behind which $(grep -c '^resumed' "$to/played")" \
+        "times a partition went on: as the program prints them"
+}
+
 # Whether play tells each reason of the generated lines, and those of each check that a table of tests has, as the program does: explains
 # NAME PLAY
 explains() {
@@ -154,6 +166,7 @@ for compiler in gcc clang; do
     "$to/example"
     $compiler $strict $sanitized "$here/play.c" "$here/heap.c" "$native" -o "$to/play"
     plays "$compiler, sanitized" "$to/play"
+    turns "$compiler, sanitized" "$to/play"
     explains "$compiler, sanitized" "$to/play"
     bare="$strict -O2 -ffreestanding -fno-stack-protector -nostdlib -static"
     $compiler $bare "$here"/{freestanding,array,bytes,settle}.c "$native" -o "$to/whole"
@@ -216,6 +229,7 @@ if has aarch64-linux-gnu-gcc && has qemu-aarch64-static && make_archive aarch64-
     stores AArch64 aarch64-linux-gnu-objdump "$to/test"
     $arm "$here/play.c" "$here/heap.c" "$made" -o "$to/play"
     plays AArch64 qemu-aarch64-static "$to/play"
+    turns AArch64 qemu-aarch64-static "$to/play"
     bare="-ffreestanding -fno-stack-protector -nostdlib -Wl,--gc-sections"
     $arm $bare "$here"/{freestanding,array,bytes,settle}.c "$made" -o "$to/free"
     qemu-aarch64-static "$to/free"

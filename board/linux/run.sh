@@ -7,7 +7,7 @@ me=board/linux
 . "$(dirname "${BASH_SOURCE[0]}")/../common.sh"
 here=$board/linux
 . "$here/common.sh"
-packages=(qemu-system-arm gcc-aarch64-linux-gnu binutils-aarch64-linux-gnu device-tree-compiler gcc libc6-dev)
+packages=(qemu-system-arm gcc-aarch64-linux-gnu binutils-aarch64-linux-gnu device-tree-compiler)
 flags+=("-I$here")
 
 # Where QEMU puts images, each in pages of its endpoint: RAM of the machine is 40000000 to 43FFFFFF, and Linux has 40200000 to 43DFFFFF. It has the
@@ -54,7 +54,7 @@ done
 [[ -z $limits || -e $top/limits/$limits.edit ]] || refuse "there are no limits $limits"
 is_count "$rounds" || refuse "the number of rounds is one below a thousand million, and not $rounds"
 if [[ $install ]]; then install_packages "${packages[@]}"; fi
-needs "${packages[*]}" $compiler $copier $emulator dtc gcc
+needs "${packages[*]}" $compiler $copier $emulator dtc
 mkdir -p "$work" ${keep:+"$keep"}
 work=$(cd "$work" && pwd)
 to=$(mktemp -d)
@@ -104,24 +104,23 @@ run() {
 # What was printed, and why the core refused what it refused.
 keep_run() {
     local kind
-    if [[ ${judge[1]} == run ]]; then "$player" run --explain --names "$to/manifest" "$to/trace"; fi >"$to/explained"
+    "${judge[@]}" --explain --names "$to/manifest" "$to/trace" >"$to/explained"
     for kind in uart linux trace found expected explained; do cp "$to/$kind" "$keep/$1.$kind"; done
 }
 
 # Judges what was run: judge NAME SECTION.., of expected.txt
 judge() {
-    local lacks name=$1 by=program
+    local lacks name=$1
     shift
-    if [[ ${judge[1]} == several ]]; then by=judge; fi
     if ! cmp -s "$to/expected" "$to/found"; then
         { diff "$to/expected" "$to/found" || true; } | sed -n 1,10p >&2
-        fail "$name: the core answered Linux otherwise than the $by (< the $by, > the core)"
+        fail "$name: the core answered Linux otherwise than the program (< the program, > the core)"
     fi
     lacks=$(missing "$@")
     [[ -z $lacks ]] || { tail -n 30 "$to/linux" >&2; fail "$name: Linux doesn't say: $lacks"; }
     if grep 'FAILED' "$to/linux" >&2; then fail "$name: something that Linux tried came out otherwise"; fi
     has_end || fail "$name: the board didn't come to its end"
-    echo "$name: $(grep -c '^call' "$to/trace") calls as the $by prints them, $(grep -c 'ffa_try: ok' "$to/linux") things that the driver tried," \
+    echo "$name: $(grep -c '^call' "$to/trace") calls as the program prints them, $(grep -c 'ffa_try: ok' "$to/linux") things that the driver tried," \
         "$(sed -n 's/^# \(settled .*\)/\1/p' "$to/linux"), $emulated s"
 }
 
@@ -166,9 +165,9 @@ busy() {
 }
 
 # Linux on so many processors, on each of which a partition may run and is stopped by what is due there: a partition that works long for one, and
-# threads that all work at once. The program doesn't play what several processors did: try_several NUMBER PROCESSOR
+# threads that all work at once: try_several NUMBER PROCESSOR
 try_several() {
-    local judge=("$to/judge" several) redistributors found
+    local judge=("$player" run --processors "$1") redistributors found
     redistributors=$(printf %X $((0x20000 * $1)))
     build_tree smc "$1" ffa_try.works=20 "ffa_try.random=$rounds"
     limit=1800 run "$1-processors" several -cpu "$2" -smp "$1" -accel tcg,thread=multi
@@ -182,8 +181,6 @@ try_several() {
 
 all_several() {
     build several -DSEVERAL=1
-    build_judge "$repository"
-    make_archive "$repository"
     try_several 2 "$1"
     try_several 4 "$1"
 }

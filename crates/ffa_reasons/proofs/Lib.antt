@@ -1,4 +1,5 @@
 -- SPDX-License-Identifier: MIT OR Apache-2.0
 mod Checked
-mod Told
 mod Mended
+mod OnTurn
+mod Told

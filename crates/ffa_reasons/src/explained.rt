@@ -1,7 +1,9 @@
 // SPDX-License-Identifier: MIT OR Apache-2.0
-//! The machine as a player sees it.
+//! The machine that one processor runs, as a player sees it.
+ghost use Rattle.ffa_playable.specs.Bench.{alone};
+
 use ffa_mend::Mend;
-use ffa_model::{Address, CertRun, EndpointId, Op, Outcome, PageNo, Rights, Why};
+use ffa_model::{Address, CertRun, Effect, EndpointId, Op, Outcome, PageNo, Rights, Why};
 use ffa_physmem::PhysMem;
 use ffa_playable::{Playable, Readable};
 use ffa_spmc::{Inline, Machine, Store};
@@ -14,11 +16,22 @@ pub struct Explained<M: PhysMem + Drop, T: Translations + Drop = NoTlb, S: Store
 );
 
 impl<M: PhysMem + Drop, T: Translations + Drop, S: Store> Playable for Explained<M, T, S> {
-    ghost state = { λ machine. machine.0.state };
+    ghost bench = { λ machine. alone machine.0.state };
 
     #[inline(always)]
-    fn op(&mut self, op: &Op) -> Outcome {
-        self.0.op(op)
+    fn op(&mut self, op: &Op) -> Effect {
+        Effect::Outcome(self.0.op(op))
+    }
+
+    #[inline(always)]
+    fn processors(&self) -> Option<usize> {
+        None
+    }
+
+    fn turn(&mut self, _processor: usize) {}
+
+    fn interrupt(&mut self) -> Outcome {
+        Outcome::Done
     }
 
     fn why(&self, op: &Op) -> Option<Why> {

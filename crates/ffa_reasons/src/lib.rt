@@ -11,7 +11,9 @@ mod mends;
 mod reasons;
 mod refusals;
 mod registers;
+mod several;
 mod telling;
 
 pub use explained::Explained;
-pub use telling::{grant_of, mend, why};
+pub use several::ExplainedCluster;
+pub use telling::{grant_of, mend, why, why_resuming};

@@ -1,15 +1,17 @@
 // SPDX-License-Identifier: MIT OR Apache-2.0
 //! Why an operation of the runner would be refused now, and by what an endpoint has its access to a page.
-ghost use Rattle.std.specs.Prelude.{◌≡◌, IfSome, is_some};
+ghost use Rattle.std.specs.Prelude.{◌≡◌, IfSome, None, false, is_some, if◌then◌else◌};
 ghost use Rattle.ffa_model.specs.Access.{access};
+ghost use Rattle.ffa_model.specs.Processors.{resumed_by, resumed_by_call, step_resuming};
 ghost use Rattle.ffa_model.specs.Refusals.{is_refusal};
 ghost use Rattle.ffa_model.specs.Step.{step};
 ghost use Rattle.ffa_model.specs.Why.{granted, outcome_of, why, why_fault};
 ghost use Rattle.ffa_mend.specs.Mend.{address_of, call_of, mend_why};
+ghost use Rattle.ffa_playable.specs.Bench.{is_refused};
 
 use crate::reasons::Reasons;
 use ffa_mend::Mend;
-use ffa_model::{Call, EndpointId, FaultKind, Grant, Op, PageNo, Why};
+use ffa_model::{Call, Effect, EndpointId, FaultKind, Grant, Op, PageNo, Why};
 use ffa_physmem::PhysMem;
 use ffa_spmc::{Machine, Store};
 use ffa_tlb::Translations;
@@ -30,6 +32,24 @@ pub fn why<M: PhysMem + Drop, T: Translations + Drop, S: Store>(
         ≡ outcome_of machine.now.state reason) }
 {
     Reasons::of(machine).why(op)
+}
+
+/// The same where partitions may be preempted: FFA_RUN of one that was lets it go on, and isn't refused.
+/// `Machine::op_resuming` does the operation where this answers nothing. It changes nothing and takes no memory.
+pub fn why_resuming<M: PhysMem + Drop, T: Translations + Drop, S: Store>(
+    machine: &Machine<M, T, S>,
+    op: &Op,
+) -> Option<Why>
+    ensures why { result ≡ (if is_some (resumed_by machine.now.state op.now) then None else why machine.now.state op.now) }
+    ensures refused { is_some result ≡ is_refused (step_resuming machine.now.state op.now).effect }
+    ensures outcome { IfSome result (λ reason. (step_resuming machine.now.state op.now).effect
+        ≡ Effect.Outcome (outcome_of machine.now.state reason)) }
+{
+    if Reasons::of(machine).lets_go_on(op) {
+        None
+    } else {
+        why(machine, op)
+    }
 }
 
 /// What is to be mended where an operation of the runner is refused for this reason, beside what the reason names: a buffer, a
@@ -76,6 +96,26 @@ impl<M: PhysMem + Drop, T: Translations + Drop, S: Store> Reasons<'_, M, T, S> {
                 value: _,
             } => self.why_fault(addr, self.store_fault(addr, size)),
             Op::Fetch { addr } => self.why_fault(addr, self.fetch_fault(addr)),
+        }
+    }
+
+    // Whether an operation lets a preempted partition go on.
+    fn lets_go_on(&self, op: &Op) -> bool
+        ensures { result ≡ is_some (resumed_by self.now op.now) }
+    {
+        match *op {
+            Op::Call(x) => self.call_lets_go_on(ffa_abi::decode(x)),
+            Op::Load { .. } | Op::Store { .. } | Op::Fetch { .. } => false,
+        }
+    }
+
+    // Whether a call does.
+    fn call_lets_go_on(&self, call: Call) -> bool
+        ensures { result ≡ is_some (resumed_by_call self.now call) }
+    {
+        match call {
+            Call::Run { target, context } => self.parts.chain.may_resume(target, context),
+            _ => false,
         }
     }
 

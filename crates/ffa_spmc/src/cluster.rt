@@ -241,8 +241,8 @@ impl<M: PhysMem + Drop, T: Translations + Drop, S: Store> Cluster<M, T, S> {
         self.machine.holds();
     }
 
-    // A processor is to do an operation: the machine is as that one sees it.
-    fn turn_to(&mut self, processor: usize)
+    /// A processor is to do an operation: the machine is as that one sees it.
+    pub fn turn_to(&mut self, processor: usize)
         requires { processor < MOST_PROCESSORS }
         ensures machine { self.new.machine ≡ seen_by processor self.old }
         ensures processors { self.new.processors ≡ turned self.old.processors processor self.old.machine.state }

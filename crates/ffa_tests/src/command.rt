@@ -19,7 +19,15 @@ fn push_flags(words: &mut String, flags: &[(&str, bool)]) -> Result<(), AllocErr
 }
 
 fn push_machine(words: &mut String, machine: MachineOptions) -> Result<(), AllocError> {
-    push_flags(words, &[("frames", machine.frames), ("tlb", machine.tlb)])
+    push_flags(words, &[("frames", machine.frames), ("tlb", machine.tlb)])?;
+    push_processors(words, machine.processors)
+}
+
+fn push_processors(words: &mut String, processors: Option<usize>) -> Result<(), AllocError> {
+    match processors {
+        Some(count) => write!(words, " processors {count}"),
+        None => Ok(()),
+    }
 }
 
 fn push_text(words: &mut String, text: TextOptions) -> Result<(), AllocError> {
@@ -106,7 +114,10 @@ fn push_options(words: &mut String, request: &Request<'_>) -> Result<(), AllocEr
         }
         Request::Layout { regions, .. } => push_flags(words, &[("regions", regions)]),
         Request::Generate(options) => push_flags(words, &[("count", options.count)]),
-        Request::Test(options) => push_flags(words, &[("tap", options.tap)]),
+        Request::Test(options) => {
+            push_flags(words, &[("tap", options.tap)])?;
+            push_processors(words, options.processors)
+        }
         Request::Check { .. } | Request::Descriptor { .. } => Ok(()),
     }
 }
@@ -218,6 +229,17 @@ ffaplay record --tlb row.toml first.trace => record row.toml first.trace --tlb
 ffaplay record row.toml - --verbose --frames => record row.toml - --frames --verbose
 ffaplay run row.toml first.trace --interactive => run row.toml first.trace --interactive --at-once
 ffaplay demo --interactive first.trace --number => demo first.trace --number --interactive --at-once
+ffaplay run --processors 2 row.toml first.trace => run row.toml first.trace processors 2
+ffaplay demo first.trace --processors=8 --tlb => demo first.trace --tlb processors 8
+ffaplay record row.toml --processors 1 first.trace => record row.toml first.trace processors 1
+ffaplay compare a b c --processors 0x3 => compare a b c processors 3
+ffaplay picture a b --processors 4 --page => picture a b 0 0 processors 4 --page
+ffaplay test rows --processors 2 => test rows processors 2
+ffaplay run --processors 0 row.toml first.trace => ValueValidation
+ffaplay run --processors 9 row.toml first.trace => ValueValidation
+ffaplay test --processors two rows => ValueValidation
+ffaplay check --processors 2 row.toml => UnknownArgument
+ffaplay generate --processors 2 row.toml => UnknownArgument
 ffaplay check --verbose row.toml => check row.toml --verbose
 ffaplay layout row.toml --verbose => layout row.toml --verbose
 ffaplay layout --regions row.toml => layout row.toml --regions

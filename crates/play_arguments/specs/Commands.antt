@@ -6,6 +6,7 @@ use Rattle.std.specs.List.{count_by, list_all, starts_with}
 use Rattle.std.specs.Str.{bytes_eq}
 use Rattle.std.specs.Str.Parse.{digits_value, without_leading_plus}
 use Rattle.std.specs.Option.{option_map_or}
+use Rattle.ffa_model.specs.declared.limits.TheConstants.{MOST_PROCESSORS}
 use Rattle.clap.specs.Words.{App, HasKind, Row, Rule, Text, fault_of, first_of, new_app, new_rule, subcommand_of, with_rule, with_subcommand}
 use Rattle.clap.specs.declared.builder.action.ArgAction.TheVariants.{Set, SetTrue}
 use Rattle.clap.specs.declared.error.Error.{Error}
@@ -48,9 +49,17 @@ with_expected app = with_rule app (path_rule (codes "expected"))
 abbrev pub with_flag : Text → App → App
 with_flag id app = with_rule app (flag_rule id)
 
--- how the machine is built: with RAM in frames, and with a cache of translations
+-- a value that need not be given
+abbrev pub with_optional : Text → App → App
+with_optional id app = with_rule app (value_rule id)
+
+-- how many processors run the machine
+abbrev pub with_processors : App → App
+with_processors app = with_optional (codes "processors") app
+
+-- how the machine is built: with RAM in frames, with a cache of translations, and for so many processors
 abbrev pub with_machine_flags : App → App
-with_machine_flags app = with_flag (codes "tlb") (with_flag (codes "frames") app)
+with_machine_flags app = with_processors (with_flag (codes "tlb") (with_flag (codes "frames") app))
 
 -- what stands in a text: numbers of lines, names, and the reasons of refusals
 abbrev pub with_form_flags : App → App
@@ -89,9 +98,6 @@ unfoldable pub layout_app : App
 layout_app = with_verbose (with_flag (codes "regions") (with_manifest (new_app (codes "layout"))))
 
 -- what a descriptor is for and where TX stands, and what it is to hold
-abbrev pub with_optional : Text → App → App
-with_optional id app = with_rule app (value_rule id)
-
 abbrev pub with_place : App → App
 with_place app = with_optional (codes "tx") (with_rule app (path_rule (codes "kind")))
 
@@ -124,14 +130,15 @@ with_rows app =
 
 unfoldable pub picture_app : App
 picture_app =
-    with_verbose (with_flag (codes "page") (with_rows (with_trace (with_manifest (new_app (codes "picture"))))))
+    with_verbose
+    (with_processors (with_flag (codes "page") (with_rows (with_trace (with_manifest (new_app (codes "picture")))))))
 
--- a folder of traces, and how it is told what came of them
+-- a folder of traces, how it is told what came of them, and how many processors run each machine
 abbrev pub with_folder : App → App
 with_folder app = with_rule app (path_rule (codes "folder"))
 
 unfoldable pub test_app : App
-test_app = with_flag (codes "tap") (with_folder (new_app (codes "test")))
+test_app = with_processors (with_flag (codes "tap") (with_folder (new_app (codes "test"))))
 
 -- the program, which has a version and has to be given a command
 unfoldable pub bare : App
@@ -209,7 +216,7 @@ pub data Ask : Type 0 where
   layout : Text → (regions verbose : Bool) → Ask
   descriptor : Described → Ask
   generate : Text → (seed lines : ℕ) → (count verbose : Bool) → Ask
-  test : (folder : Text) → (tap : Bool) → Ask
+  test : (folder : Text) → (tap : Bool) → (processors : Option ℕ) → Ask
 
 abbrev pub ask_of : Request → Ask
 ask_of (Play o) = play (path_of o.source) o.trace.now o.machine (aim_of o.purpose) o.verbose
@@ -217,7 +224,7 @@ ask_of (Check manifest verbose) = check manifest.now verbose
 ask_of (Layout manifest regions verbose) = layout manifest.now regions verbose
 ask_of (Descriptor words) = descriptor (words_of words)
 ask_of (Generate o) = generate o.manifest.now o.seed o.lines o.count o.verbose
-ask_of (Test o) = test o.folder.now o.tap
+ask_of (Test o) = test o.folder.now o.tap o.processors
 
 -- the path of the manifest that is asked for, that of the trace, and that of the expected text
 abbrev pub manifest_of : Ask → Option Text
@@ -226,7 +233,7 @@ manifest_of (check manifest verbose) = Some manifest
 manifest_of (layout manifest regions verbose) = Some manifest
 manifest_of (descriptor words) = None
 manifest_of (generate manifest seed lines count verbose) = Some manifest
-manifest_of (test folder tap) = None
+manifest_of (test folder tap processors) = None
 
 abbrev pub trace_of : Ask → Option Text
 trace_of (play manifest trace machine aim verbose) = Some trace
@@ -243,7 +250,7 @@ verbose_of (check manifest verbose) = verbose
 verbose_of (layout manifest regions verbose) = verbose
 verbose_of (descriptor words) = false
 verbose_of (generate manifest seed lines count verbose) = verbose
-verbose_of (test folder tap) = false
+verbose_of (test folder tap processors) = false
 
 -- the same, of which more is to be said, where it can be
 abbrev pub said_more : Ask → Ask
@@ -252,7 +259,7 @@ said_more (check manifest verbose) = check manifest true
 said_more (layout manifest regions verbose) = layout manifest regions true
 said_more (descriptor words) = descriptor words
 said_more (generate manifest seed lines count verbose) = generate manifest seed lines count true
-said_more (test folder tap) = test folder tap
+said_more (test folder tap processors) = test folder tap processors
 
 -- whether a path is given and is `-`, which stands for standard input
 unfoldable pub is_input : Option Text → Bool
@@ -295,9 +302,21 @@ unfoldable pub number_of : Text → Option ℕ
 number_of text =
     if starts_with nat_eq text (codes "0x") then numeral_of 16 (drop 2 text) else numeral_of 10 text
 
+-- how many processors a word says, of which there is room for so many
+unfoldable pub count_of : Text → Option ℕ
+count_of text = option_and_then (λ n. if nat_lt 0 n && nat_le n MOST_PROCESSORS then Some n else None) (number_of text)
+
+-- the processors that were asked for, if any were
+unfoldable pub processors_in : List Row → Option (Option ℕ)
+processors_in rows = option_map_or (λ text. option_map Some (count_of text)) (first_of (codes "processors") rows) (Some None)
+
 -- what the flags of a command say
-unfoldable pub machine_in : List Row → MachineOptions
-machine_in rows = record { frames = is_given (codes "frames") rows; tlb = is_given (codes "tlb") rows }
+unfoldable pub machine_in : List Row → Option ℕ → MachineOptions
+machine_in rows processors = record {
+  frames = is_given (codes "frames") rows;
+  tlb = is_given (codes "tlb") rows;
+  processors = processors;
+}
 
 unfoldable pub text_in : List Row → TextOptions
 text_in rows = record {
@@ -342,7 +361,8 @@ draw_in rows = do
 unfoldable pub play_in : List Row → (manifest : Option Text) → Aim → Option Ask
 play_in rows manifest aim = do
   trace ← first_of (codes "trace") rows
-  Some (play manifest trace (machine_in rows) aim (is_given (codes "verbose") rows))
+  processors ← processors_in rows
+  Some (play manifest trace (machine_in rows processors) aim (is_given (codes "verbose") rows))
 
 unfoldable pub play_file_in : List Row → Aim → Option Ask
 play_file_in rows aim = do
@@ -388,7 +408,8 @@ generate_in rows = do
 unfoldable pub test_in : List Row → Option Ask
 test_in rows = do
   folder ← first_of (codes "folder") rows
-  Some (test folder (is_given (codes "tap") rows))
+  processors ← processors_in rows
+  Some (test folder (is_given (codes "tap") rows) processors)
 
 unfoldable pub ask_in : Text → List Row → Option Ask
 ask_in name rows =

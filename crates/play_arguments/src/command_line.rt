@@ -3,9 +3,10 @@
 ghost use Rattle.std.specs.Prelude.{◌≡◌, option_map, codes, drop, nat_eq, true};
 ghost use Rattle.std.specs.List.{starts_with};
 ghost use Rattle.clap.specs.Words.{found_of, first_of, rows_of, subcommand_rows_of};
-ghost use Rattle.play_arguments.specs.Commands.{aim_of, ask_of, path_of, words_of, manifest_of, trace_of, expected_of, verbose_of, answers_at_once, is_input, reads_once, asked_in, is_given, number_of, numeral_of, machine_in, text_in, words_in, ask_in, ask_met, number_in, print_in, compare_in, draw_in, play_in, play_file_in, check_in, layout_in, descriptor_in, generate_in, test_in, said_more, excludes_none};
+ghost use Rattle.play_arguments.specs.Commands.{aim_of, ask_of, path_of, words_of, manifest_of, trace_of, expected_of, verbose_of, answers_at_once, is_input, reads_once, asked_in, is_given, number_of, numeral_of, machine_in, text_in, words_in, ask_in, ask_met, number_in, print_in, compare_in, draw_in, play_in, play_file_in, count_of, processors_in, check_in, layout_in, descriptor_in, generate_in, test_in, said_more, excludes_none};
 
 use clap::ArgMatches;
+use ffa_model::MOST_PROCESSORS;
 
 // The words that are numbers, with what they take.
 const NUMBERS: [(&str, &str); 4] = [
@@ -37,6 +38,8 @@ pub struct MachineOptions {
     pub frames: bool,
     /// The last few translations of addresses are held, as a TLB does.
     pub tlb: bool,
+    /// So many processors run it, from 1 to 8; where it is nothing, one runs it alone, and a trace names none.
+    pub processors: Option<usize>,
 }
 
 /// How the text of a play is written.
@@ -162,6 +165,8 @@ pub struct TestOptions<'a> {
     pub folder: &'a str,
     /// What came of each is told as the Test Anything Protocol has it.
     pub tap: bool,
+    /// So many processors run each machine, as `MachineOptions` has it.
+    pub processors: Option<usize>,
 }
 
 /// A command with its paths, which are words of the command line, and what its flags say.
@@ -384,7 +389,10 @@ pub(crate) fn unread_number(matches: &ArgMatches<'_>) -> Option<&'static str> {
             return Some(wanted);
         }
     }
-    None
+    match processors_in(inner) {
+        Some(_) => None,
+        None => Some("'--processors' takes a number from 1 to 8"),
+    }
 }
 
 // The number that was given, or that stands for one that wasn't.
@@ -394,13 +402,36 @@ fn number_in(matches: &ArgMatches<'_>, id: &str) -> Option<u64>
     read_number(text_of(matches, id)?)
 }
 
+// How many processors a text says, of which there is room for so many.
+#[tactic(auto, unfolding(crate::specs::Commands::count_of))]
+fn read_count(text: &str) -> Option<usize>
+    ensures { result ≡ count_of text.now }
+{
+    match read_number(text) {
+        Some(count) if 0 < count && count <= MOST_PROCESSORS as u64 => Some(count as usize),
+        _ => None,
+    }
+}
+
+// The processors that were asked for, if any were.
+#[tactic(auto, unfolding(crate::specs::Commands::processors_in))]
+fn processors_in(matches: &ArgMatches<'_>) -> Option<Option<usize>>
+    ensures { result ≡ processors_in (rows_of (found_of matches.now)) }
+{
+    match text_of(matches, "processors") {
+        Some(text) => read_count(text).map(Some),
+        None => Some(None),
+    }
+}
+
 #[tactic(auto, unfolding(crate::specs::Commands::machine_in))]
-fn machine_in(matches: &ArgMatches<'_>) -> MachineOptions
-    ensures { result ≡ machine_in (rows_of (found_of matches.now)) }
+fn machine_in(matches: &ArgMatches<'_>, processors: Option<usize>) -> MachineOptions
+    ensures { result ≡ machine_in (rows_of (found_of matches.now)) processors }
 {
     MachineOptions {
         frames: is_given(matches, "frames"),
         tlb: is_given(matches, "tlb"),
+        processors,
     }
 }
 
@@ -460,10 +491,12 @@ fn play_in<'a>(
     ensures { option_map ask_of result
         ≡ play_in (rows_of (found_of matches.now)) (path_of source.entry) (aim_of purpose.entry) }
 {
+    let trace = text_of(matches, "trace")?;
+    let processors = processors_in(matches)?;
     Some(Request::Play(PlayOptions {
         source,
-        trace: text_of(matches, "trace")?,
-        machine: machine_in(matches),
+        trace,
+        machine: machine_in(matches, processors),
         purpose,
         verbose: is_given(matches, "verbose"),
     }))
@@ -546,6 +579,7 @@ fn test_in<'a>(matches: &ArgMatches<'a>) -> Option<Request<'a>>
     Some(Request::Test(TestOptions {
         folder: text_of(matches, "folder")?,
         tap: is_given(matches, "tap"),
+        processors: processors_in(matches)?,
     }))
 }
 

@@ -88,6 +88,11 @@ const TLB: Word = Word::Flag {
     help: "Holds the last few translations of addresses, as a TLB does",
 };
 
+const PROCESSORS: Word = Word::Value {
+    id: "processors",
+    help: "How many processors run the machine, from 1 to 8: a trace may then have `on N` and `interrupt`",
+};
+
 const LINE_BUFFERED: Word = Word::Flag {
     id: "line-buffered",
     help: "Writes the text of each line before more of the trace is read",
@@ -136,6 +141,7 @@ const RUN: Entry = Entry {
         TRACE,
         FRAMES,
         TLB,
+        PROCESSORS,
         LINE_BUFFERED,
         NUMBER,
         NAMES,
@@ -154,6 +160,7 @@ const DEMO: Entry = Entry {
         TRACE,
         FRAMES,
         TLB,
+        PROCESSORS,
         LINE_BUFFERED,
         NUMBER,
         NAMES,
@@ -168,14 +175,14 @@ const DEMO: Entry = Entry {
 const RECORD: Entry = Entry {
     name: "record",
     about: "Prints a trace with the guards of its own play on the machine of a manifest",
-    words: &[MANIFEST, TRACE, FRAMES, TLB, VERBOSE],
+    words: &[MANIFEST, TRACE, FRAMES, TLB, PROCESSORS, VERBOSE],
 };
 
 const COMPARE: Entry = Entry {
     name: "compare",
     about: "Compares what a trace prints with what is expected",
     words: &[
-        MANIFEST, TRACE, EXPECTED, FRAMES, TLB, NUMBER, NAMES, EXPLAIN, VERBOSE,
+        MANIFEST, TRACE, EXPECTED, FRAMES, TLB, PROCESSORS, NUMBER, NAMES, EXPLAIN, VERBOSE,
     ],
 };
 
@@ -290,7 +297,7 @@ const TAP: Word = Word::Flag {
 const TEST: Entry = Entry {
     name: "test",
     about: "Plays the traces of a folder, and checks their guards",
-    words: &[FOLDER, TAP],
+    words: &[FOLDER, TAP, PROCESSORS],
 };
 
 const EVERY: Word = Word::Number {
@@ -318,7 +325,9 @@ const PAGE: Word = Word::Flag {
 const PICTURE: Entry = Entry {
     name: "picture",
     about: "Prints a picture, as SVG, of who reaches which page along a trace",
-    words: &[MANIFEST, TRACE, EVERY, WIDTH, REFUSED, PAGE, VERBOSE],
+    words: &[
+        MANIFEST, TRACE, EVERY, WIDTH, REFUSED, PAGE, PROCESSORS, VERBOSE,
+    ],
 };
 
 fn arg<'a>(alloc: Global, word: &Word<'a>) -> Arg<'a>

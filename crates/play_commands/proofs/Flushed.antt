@@ -2,7 +2,7 @@
 -- What a command left, behind a flush: known bytes stay as they were.
 use Rattle.std.proofs.Common.{◌∙◌, Bool, List, ℕ, Option, None, Some}
 use Rattle.std.specs.Io.KnownBytes.{Appends, Keeps}
-use Rattle.ffa_model.specs.State.{State}
+use Rattle.ffa_playable.specs.Bench.{Bench}
 use Rattle.play_arguments.specs.declared.command_line.PlayOptions.{PlayOptions}
 use Rattle.play_arguments.specs.declared.command_line.Request.{Request}
 use Rattle.play_arguments.specs.declared.command_line.Request.TheVariants as request
@@ -37,13 +37,13 @@ module _ (ran : Ran) (holds : Option (List ℕ)) (kept : Keeps ran.streams.holds
   pub quiet : IsQuiet ran → IsQuiet (with_holds ran holds)
   quiet = quiet_on ran.streams.held ran.streams.holds holds kept
 
-  played : {strict : Bool} {form : Form} {start : State} → IsPlayed strict form start ran.streams → IsPlayed strict form start (with_holds ran holds).streams
+  played : {strict : Bool} {form : Form} {start : Bench} → IsPlayed strict form start ran.streams → IsPlayed strict form start (with_holds ran holds).streams
   played p = record { lines = p.lines; each = p.each; all = p.all; written = written _ p.written; guards = p.guards }
 
   wrote : {count : ℕ} → Wrote count ran.streams.held ran.streams.holds → Wrote count ran.streams.held holds
   wrote p = record { lines = p.lines; good = p.good; number = p.number; written = written _ p.written }
 
-  done_by : (t : KnownTask) (start : State) → IsDoneBy t start ran.streams → IsDoneBy t start (with_holds ran holds).streams
+  done_by : (t : KnownTask) (start : Bench) → IsDoneBy t start ran.streams → IsDoneBy t start (with_holds ran holds).streams
   done_by task.Plain start p = played p
   done_by (task.Formed form) start p = played p
   done_by (task.Guarded form) start p = played p
@@ -54,7 +54,7 @@ module _ (ran : Ran) (holds : Option (List ℕ)) (kept : Keeps ran.streams.holds
   done_by (task.Drawn keep width) start (p, picture) = (p, record { front = picture.front; written = written _ picture.written })
   done_by task.Paged start (p, page) = (p, record { rest = page.rest; inert = page.inert; written = written _ page.written })
 
-  stops_by : (t : KnownTask) (start : State) (n : ℕ) → StopsBy t start ran.streams n → StopsBy t start (with_holds ran holds).streams n
+  stops_by : (t : KnownTask) (start : Bench) (n : ℕ) → StopsBy t start ran.streams n → StopsBy t start (with_holds ran holds).streams n
   stops_by task.Plain start n (lines, ends, p, met) = (lines, ends, written _ p, met)
   stops_by (task.Formed form) start n (lines, ends, p, met) = (lines, ends, written _ p, met)
   stops_by (task.Guarded form) start n (lines, ends, p, met) = (lines, ends, written _ p, met)
@@ -65,7 +65,7 @@ module _ (ran : Ran) (holds : Option (List ℕ)) (kept : Keeps ran.streams.holds
   stops_by (task.Drawn keep width) start n (lines, ends, still) = (lines, ends, quiet still)
   stops_by task.Paged start n (lines, ends, still) = (lines, ends, quiet still)
 
-  unmet_by : (t : KnownTask) (start : State) (n : ℕ) → UnmetBy t start ran.streams n → UnmetBy t start (with_holds ran holds).streams n
+  unmet_by : (t : KnownTask) (start : Bench) (n : ℕ) → UnmetBy t start ran.streams n → UnmetBy t start (with_holds ran holds).streams n
   unmet_by (task.Guarded form) start n p = record {
     lines = p.lines;
     line = p.line;
@@ -84,12 +84,12 @@ module _ (ran : Ran) (holds : Option (List ℕ)) (kept : Keeps ran.streams.holds
       record { lines = p.lines; each = p.each; all = p.all; more = p.more; unmet = p.unmet; written = written _ p.written }
   unmet_by other start n p = p
 
-  overfull_by : (t : KnownTask) (start : State) (most : ℕ) → OverfullBy t start ran.streams most → OverfullBy t start (with_holds ran holds).streams most
+  overfull_by : (t : KnownTask) (start : Bench) (most : ℕ) → OverfullBy t start ran.streams most → OverfullBy t start (with_holds ran holds).streams most
   overfull_by (task.Drawn keep width) start most (lines, began, few, still) = (lines, began, few, quiet still)
   overfull_by other start most p = p
 
   -- a play that left one thing left another
-  leaves : (o : PlayOptions) {L M : KnownTask → State → Type 0} → ((t : KnownTask) (start : State) → L t start → M t start) → Played o ran L
+  leaves : (o : PlayOptions) {L M : KnownTask → Bench → Type 0} → ((t : KnownTask) (start : Bench) → L t start → M t start) → Played o ran L
       → Played o (with_holds ran holds) M
   leaves o f p = record { parts = p.parts; source = p.source; task = p.task; serves = p.serves; left = f _ _ p.left }
 

@@ -4,7 +4,7 @@ use Rattle.std.proofs.Common.{◌≡◌, Bor, true, false, List, ℕ, Option, No
 use Rattle.std.specs.Prelude.{IfErr, OnOk, is_some}
 use Rattle.std.specs.Io.KnownBytes.{Keeps}
 use Rattle.ffa_manifest.specs.Document.{Parts}
-use Rattle.ffa_model.specs.State.{State}
+use Rattle.ffa_playable.specs.Bench.{Bench}
 use Rattle.play_report.specs.Descriptors.{FailsToSay, IsSaid}
 use Rattle.play_report.specs.Failures.{status_of}
 use Rattle.play_report.specs.Manifests.{FailsUnplayed, IsAccepted}
@@ -18,6 +18,7 @@ use Rattle.play_arguments.specs.declared.command_line.Source.TheVariants.{BuiltI
 use Rattle.play_arguments.specs.declared.command_line.Request.{Request}
 use Rattle.play_arguments.specs.declared.command_line.Request.TheVariants as request
 use Rattle.play_tasks.specs.Plays.{KnownTask, OverfullBy, PlayFails, Plays, Streams}
+use Rattle.play_tasks.specs.Starts.{begun_by}
 use Rattle.play_tasks.specs.Purposes.{IsTaskFor}
 use Rattle.play_tasks.specs.declared.task.Task.TheVariants.{Drawn}
 use Rattle.play_commands.specs.Performed.{Does, FailsFor, FailsToName, HasParts, IsDone, IsQuiet, IsRead, Played, Ran, SomeBadLine, SomeUnmetGuard, first_of, needs_manifest, needs_trace}
@@ -62,7 +63,7 @@ accepted : (source : Source) (manifest : Option (List ℕ)) (parts : Parts) → 
 accepted BuiltIn manifest parts built needed = absurd cc
 accepted (File path) manifest parts is needed = (parts, is)
 
-overfull_quiet : (task : KnownTask) (start : State) (streams : Streams) (most : ℕ) → OverfullBy task start streams most → Keeps streams.held streams.holds
+overfull_quiet : (task : KnownTask) (start : Bench) (streams : Streams) (most : ℕ) → OverfullBy task start streams most → Keeps streams.held streams.holds
 overfull_quiet (Drawn keep width) start streams most over = over.3
 overfull_quiet other start streams most never = absurd never
 
@@ -76,20 +77,23 @@ could_read (Unmet n) = refl
 could_read other = tt
 
 module _ (o : PlayOptions) (manifest : Option (List ℕ)) (expected : Option (Option (List ℕ))) (streams : Streams) (parts : Parts) (source : HasParts o.source manifest parts) (task : KnownTask) (serves : IsTaskFor o.purpose expected task) where
-  leaving : {L : KnownTask → State → Type 0} → L task (first_of parts) → Played o (opened manifest expected streams) L
+  begun : Bench
+  begun = begun_by o.machine.processors (first_of parts)
+
+  leaving : {L : KnownTask → Bench → Type 0} → L task begun → Played o (opened manifest expected streams) L
   leaving left = record { parts = parts; source = source; task = task; serves = serves; left = left }
 
-  play_fails : (trace : Bor (List ℕ)) (failure : Failure) → PlayFails task trace (first_of parts) streams failure → FailsFor (request.Play o) (opened manifest expected streams) failure
+  play_fails : (trace : Bor (List ℕ)) (failure : Failure) → PlayFails task trace begun streams failure → FailsFor (request.Play o) (opened manifest expected streams) failure
   play_fails trace (BadLine n fault) stops = leaving stops
   play_fails trace (Read path) any = tt
   play_fails trace Write any = accepted o.source manifest parts source
   play_fails trace NoMemory any = tt
   play_fails trace Differs differs = leaving differs
   play_fails trace (Unmet n) unmet = leaving unmet
-  play_fails trace (TooManyRows most) over = ((most, leaving over), overfull_quiet task (first_of parts) streams most over)
+  play_fails trace (TooManyRows most) over = ((most, leaving over), overfull_quiet task begun streams most over)
   play_fails trace other never = absurd never
 
-  pub play_does : (trace : Bor (List ℕ)) (result : Result (Unit {0}) Failure) → Plays task trace (first_of parts) streams result → Does (request.Play o) (opened manifest expected streams) result
+  pub play_does : (trace : Bor (List ℕ)) (result : Result (Unit {0}) Failure) → Plays task trace begun streams result → Does (request.Play o) (opened manifest expected streams) result
   play_does trace (Ok x) plays = record { done = leaving plays.played; opened = λ needed. refl; failed = tt; read = tt }
   play_does trace (Err failure) plays = record { done = tt; opened = tt; failed = play_fails trace failure plays.failed; read = could_read failure }
 

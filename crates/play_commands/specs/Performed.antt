@@ -5,6 +5,7 @@ use Rattle.std.specs.Option.{option_and_then}
 use Rattle.std.specs.Io.KnownBytes.{Keeps}
 use Rattle.ffa_model.specs.State.{State}
 use Rattle.ffa_model.specs.First.{first}
+use Rattle.ffa_playable.specs.Bench.{Bench}
 use Rattle.play_demo.specs.Machine.{built_in_endpoints}
 use Rattle.ffa_manifest.specs.Document.{Parts}
 use Rattle.play_writer.specs.declared.unfit.Unfit.{Unfit}
@@ -15,6 +16,7 @@ use Rattle.play_report.specs.Manifests.{Describes, FailsUnplayed, IsAccepted, Is
 use Rattle.play_report.specs.declared.failure.Failure.{Failure}
 use Rattle.play_report.specs.declared.failure.Failure.TheVariants as failure
 use Rattle.play_tasks.specs.Plays.{DiffersBy, IsDoneBy, KnownTask, OverfullBy, StopsBy, Streams, UnmetBy, streams_of}
+use Rattle.play_tasks.specs.Starts.{begun_by}
 use Rattle.play_tasks.specs.Purposes.{IsTaskFor, is_session_for, is_strict_for}
 use Rattle.play_arguments.specs.Commands.{ask_of, manifest_of, trace_of}
 use Rattle.play_arguments.specs.declared.command_line.PlayOptions.{PlayOptions}
@@ -80,13 +82,14 @@ abbrev pub HasParts : Source → (manifest : Option (List ℕ)) → Parts → Ty
 HasParts source.BuiltIn manifest parts = parts ≡ built_in_parts
 HasParts (source.File path) manifest parts = Describes manifest parts
 
--- a trace was played on the machine of its source, by a task that serves its purpose, and left this
-pub record Played (o : PlayOptions) (ran : Ran) (Left : KnownTask → State → Type 0) : Type 0 where
+-- a trace was played on the machine of its source, by as many processors as are asked for, by a task that serves its
+-- purpose, and left this
+pub record Played (o : PlayOptions) (ran : Ran) (Left : KnownTask → Bench → Type 0) : Type 0 where
   pub parts : Parts
   pub source : HasParts o.source ran.manifest parts
   pub task : KnownTask
   pub serves : IsTaskFor o.purpose ran.expected task
-  pub left : Left task (first_of parts)
+  pub left : Left task (begun_by o.machine.processors (first_of parts))
 
 -- a command was done, on whichever machine; a test comes to plays, which are commands of their own
 abbrev pub IsDone : Request → Ran → Type 0

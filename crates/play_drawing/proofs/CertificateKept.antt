@@ -12,21 +12,28 @@ use Rattle.std.proofs.lemmas.Option.{none-some, same_Some}
 use Rattle.ffa_model.specs.declared.call.Call as calls
 use Rattle.ffa_model.specs.declared.call.Call.TheVariants.{PartitionInfoGet, MemDonate, MemLend, MemShare, MemRetrieve, MemRelinquish, MemReclaim, MsgSend2}
 use Rattle.ffa_model.specs.declared.certificate.CertRun.{CertRun}
+use Rattle.ffa_model.specs.declared.function.TheConstants.{FFA_INTERRUPT}
 use Rattle.ffa_model.specs.declared.limits.TheConstants.{MOST_ENDPOINTS}
+use Rattle.ffa_model.specs.declared.operation.Op.{Op}
 use Rattle.ffa_model.specs.declared.operation.Op.TheVariants.{Call, Load, Store, Fetch}
 use Rattle.ffa_model.specs.declared.operation.Outcome.TheVariants.{Data, Done}
 use Rattle.ffa_model.specs.declared.rights.Rights.{Rights}
+use Rattle.ffa_model.specs.declared.schedule.Status.{Status}
+use Rattle.ffa_model.specs.declared.schedule.Status.TheVariants.{Blocked, Preempted}
 use Rattle.ffa_model.specs.Access.{access, first_handle, handle_at, held_by, is_naming, right_by, right_of, transaction_at}
 use Rattle.ffa_model.specs.Alike.{is_alike, is_same_right}
 use Rattle.ffa_model.specs.Buffers.{filled, filled_pages}
+use Rattle.ffa_model.specs.Calls.{replied}
 use Rattle.ffa_model.specs.Certificate.{access_by_place, are_as_one, certificate, is_same_handle, last_from, run_from, runs_from}
 use Rattle.ffa_model.specs.Identifiers.{identifier}
 use Rattle.ffa_model.specs.Lists.{listed}
 use Rattle.ffa_model.specs.Memory.{fetch_fault, number_at, read_fault, size_of, store_fault, stored}
 use Rattle.ffa_model.specs.Messages.{header_in, message_in, tx_bytes}
+use Rattle.ffa_model.specs.Processors as processors
 use Rattle.ffa_model.specs.Refusals.{is_refusal}
 use Rattle.ffa_model.specs.Registers.{decode}
 use Rattle.ffa_model.specs.Rights.{is_share}
+use Rattle.ffa_model.specs.RunStates.{scheduled}
 use Rattle.ffa_model.specs.Setup.{info_bytes, is_count_alone, uuid_bytes}
 use Rattle.ffa_model.specs.State.{State, Page, Party, Transaction, buffers_of, owner_of, page_at, version_of}
 use Rattle.ffa_model.specs.Step.{serve, service, step}
@@ -34,8 +41,9 @@ use Rattle.ffa_model.proofs.Reasons.{refused-unchanged}
 use Rattle.ffa_laws.proofs.Changes.{AreRewritten, same_owner, standing, unwritten}
 use Rattle.ffa_laws.proofs.Form.{accessed-kept, served-kept}
 use Rattle.ffa_laws.proofs.Written.{rewritten-filled, rewritten-written}
-use Rattle.play_syntax.specs.Lines.{outcome_of}
-use Rattle.play_syntax.specs.TraceLines.{Line, operate, show, audit, skip}
+use Rattle.ffa_playable.specs.Bench.{Bench, Several, interrupted_by, operated_by, turned_by}
+use Rattle.play_syntax.specs.Lines.{outcome_in, outcome_of}
+use Rattle.play_syntax.specs.TraceLines.{Line, operate, show, audit, skip, turn, interrupt}
 use Rattle.play_syntax.specs.TraceText.{line_after}
 use Rattle.play_drawing.specs.Effects.{gives_or_takes, is_memory_call}
 
@@ -150,17 +158,64 @@ module _ (s : State) where
   called x true true memory is none = ap certificate (refused-unchanged s (Call x) is)
   called x true false memory is none = absurd (true≢false none)
 
-  -- a line that is no call on memory transactions, or is refused, leaves the certificate
-  pub certificate-kept : (line : Line) → gives_or_takes line (outcome_of s line) ≡ false → certificate (line_after s line) ≡ certificate s
-  certificate-kept (operate (Call x)) none = called x (is_memory_call (decode x)) (is_refusal (step s (Call x)).outcome) refl refl none
-  certificate-kept (operate (Load address size)) none =
+  -- an operation that is no call on memory transactions, or is refused, leaves the certificate
+  step-kept : (op : Op) → gives_or_takes (operate op) (Some (step s op).outcome) ≡ false → certificate (step s op).state ≡ certificate s
+  step-kept (Call x) none = called x (is_memory_call (decode x)) (is_refusal (step s (Call x)).outcome) refl refl none
+  step-kept (Load address size) none =
       left-certificate s _ (accessed-kept (IsLeft s) s s (Data (number_at s address (size_of size))) (read_fault s address (size_of size)) still (λ none. still))
-  certificate-kept (operate (Store address size value)) none =
+  step-kept (Store address size value) none =
       left-certificate s _
       (accessed-kept (IsLeft s) s (stored s address (little_bytes (size_of size) value)) Done (store_fault s address (size_of size)) still
       (λ none. record { parties = refl; base = refl; transactions = refl; pages = rewritten-written s.pages _ _ (little_bytes (size_of size) value) }))
-  certificate-kept (operate (Fetch address)) none =
+  step-kept (Fetch address) none =
       left-certificate s _ (accessed-kept (IsLeft s) s s (Data (number_at s address 4)) (fetch_fault s address) still (λ none. still))
-  certificate-kept show none = refl
-  certificate-kept audit none = refl
-  certificate-kept skip none = refl
+
+  -- that another endpoint runs leaves it
+  switched-kept : (status : Status) (e : ℕ) → certificate (processors.with_switch s status e) ≡ certificate s
+  switched-kept status e = left-certificate s _ (record { parties = refl; base = refl; transactions = refl; pages = unwritten s.pages })
+
+  -- and so does an operation that lets a preempted partition go on
+  effected-kept : (op : Op) (resumed : Option ℕ) → gives_or_takes (operate op) (outcome_in (processors.effected s op resumed).effect) ≡ false
+      → certificate (processors.effected s op resumed).state ≡ certificate s
+  effected-kept op None none = step-kept op none
+  effected-kept op (Some e) none = switched-kept Blocked e
+
+  operated-kept : (several : Option Several) (op : Op) → gives_or_takes (operate op) (outcome_in (operated_by several s op).effect) ≡ false
+      → certificate (operated_by several s op).state ≡ certificate s
+  operated-kept None op none = step-kept op none
+  operated-kept (Some x) op none = effected-kept op (processors.resumed_by s op) none
+
+  interrupted-kept : (several : Option Several) → certificate (interrupted_by several s).state ≡ certificate s
+  interrupted-kept None = refl
+  interrupted-kept (Some x) = of (s.runner == 0)
+    where
+      of : (normal : Bool) → certificate (if normal then record { state = s; outcome = Done } else replied (processors.with_switch s Preempted 0) (scheduled FFA_INTERRUPT s.runner)).state ≡ certificate s
+      of true = refl
+      of false = switched-kept Preempted 0
+
+  on-kept : (x : processors.Processors) (p : ℕ) → certificate (processors.on x p s) ≡ certificate s
+  on-kept x p = of (x.current == p)
+    where
+      of : (same : Bool) → certificate (if same then s else processors.moved_to s (processors.runner_on x p)) ≡ certificate s
+      of true = refl
+      of false = switched-kept _ _
+
+  turned-kept : (several : Option Several) (p : ℕ) → certificate (turned_by several s p).state ≡ certificate s
+  turned-kept None p = refl
+  turned-kept (Some x) p = of (nat_lt p x.count)
+    where
+      named : Bench
+      named = record { state = processors.on x.processors p s; several = Some (record { count = x.count; processors = processors.turned x.processors p s }) }
+
+      of : (is : Bool) → certificate ((λ (b : Bench). b.state) (if is then named else record { state = s; several = Some x })) ≡ certificate s
+      of true = on-kept x.processors p
+      of false = refl
+
+-- a line that is no call on memory transactions, or is refused, leaves the certificate
+pub certificate-kept : (b : Bench) (line : Line) → gives_or_takes line (outcome_of b line) ≡ false → certificate (line_after b line).state ≡ certificate b.state
+certificate-kept b (operate op) none = operated-kept b.state b.several op none
+certificate-kept b show none = refl
+certificate-kept b audit none = refl
+certificate-kept b skip none = refl
+certificate-kept b (turn processor) none = turned-kept b.state b.several processor
+certificate-kept b interrupt none = interrupted-kept b.state b.several

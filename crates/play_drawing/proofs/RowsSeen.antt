@@ -5,6 +5,7 @@ use Rattle.std.specs.Prelude.{IfOk}
 use Rattle.ffa_model.specs.declared.certificate.CertRun.{CertRun}
 use Rattle.ffa_model.specs.Certificate.{certificate}
 use Rattle.ffa_model.specs.State.{State}
+use Rattle.ffa_playable.specs.Bench.{Bench}
 use Rattle.play_syntax.specs.declared.output.PlayError.{PlayError}
 use Rattle.play_drawing.specs.declared.row.Keep.{Keep}
 use Rattle.play_drawing.specs.declared.row.Pace.{Pace}
@@ -13,8 +14,8 @@ use Rattle.play_drawing.specs.declared.row.Row.{Row}
 use Rattle.play_drawing.specs.Rows.{AreFirst, AreRows, IsLatest, IsPaced, IsRowOf, PutsRow, begun}
 
 -- a row by itself, by what was asked of the machine
-pub row_alone : {A : Type 0} (start : State) (runner : ℕ) (runs : List CertRun) (row : Row A) (r : Result (Vec (Row A) A) PlayError)
-    → runner ≡ start.runner → runs ≡ certificate start → IsRowOf 0 [] runner false runs row → IfOk r (λ rows. rows.items ≡ row ∷ [])
+pub row_alone : {A : Type 0} (start : Bench) (runner : ℕ) (runs : List CertRun) (row : Row A) (r : Result (Vec (Row A) A) PlayError)
+    → runner ≡ start.state.runner → runs ≡ certificate start.state → IsRowOf 0 [] runner false runs row → IfOk r (λ rows. rows.items ≡ row ∷ [])
     → IfOk r (λ rows. AreFirst start rows.items)
 row_alone start runner runs row (Err e) who all is one = tt
 row_alone start runner runs row (Ok rows) who all is one = λ keep.

@@ -8,6 +8,7 @@ use Rattle.std.proofs.lemmas.Option.{same_Some}
 use Rattle.ffa_model.specs.declared.certificate.CertRun.{CertRun}
 use Rattle.ffa_model.specs.Certificate.{certificate}
 use Rattle.ffa_model.specs.State.{State}
+use Rattle.ffa_playable.specs.Bench.{Bench}
 use Rattle.play_drawing.specs.declared.cell.Cell.{Cell}
 use Rattle.play_drawing.specs.declared.column.Column.{Column}
 use Rattle.play_drawing.specs.declared.row.Row.{Row}
@@ -37,7 +38,7 @@ All-flat_map P f (x ∷ xs) each = All-append P (f x) (flat_map f xs) (All-head 
 
 -- CELLS
 
-module _ {A : Type 0} (start : State) (lines : List (List ℕ)) where
+module _ {A : Type 0} (start : Bench) (lines : List (List ℕ)) where
   -- a cell of a row that has the certificate behind its line
   cell-so : (row : Row A) (column : Column) → IsRowAmong start lines row → LieInOne column.first.0 column.last.0 row → (cell : Cell) → cell_of row column ≡ Some cell → IsSo start lines cell
   cell-so row column among lie cell is =

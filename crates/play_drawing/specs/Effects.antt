@@ -8,18 +8,18 @@ use Rattle.ffa_model.specs.declared.operation.Op.TheVariants.{Call}
 use Rattle.ffa_model.specs.declared.operation.Outcome.{Outcome}
 use Rattle.ffa_model.specs.Refusals.{is_refusal}
 use Rattle.ffa_model.specs.Registers.{decode}
-use Rattle.ffa_model.specs.State.{State}
+use Rattle.ffa_playable.specs.Bench.{Bench, processors_of}
 use Rattle.play_syntax.specs.Lines.{outcome_of}
-use Rattle.play_syntax.specs.TraceLines.{Line, operate, line_of}
+use Rattle.play_syntax.specs.TraceLines.{Line, operate, line_in}
 
 -- a line is a call, and it came to FFA_ERROR
 abbrev pub is_refused_call : Line → Option Outcome → Bool
 is_refused_call (operate (Call x)) (Some outcome) = is_refusal outcome
 is_refused_call line outcome = false
 
--- the same of the bytes of a line that is done in a state
-abbrev pub is_refused : State → List ℕ → Bool
-is_refused s bytes = option_map_or (λ line. is_refused_call line (outcome_of s line)) (line_of bytes) false
+-- the same of the bytes of a line that is done there
+abbrev pub is_refused : Bench → List ℕ → Bool
+is_refused b bytes = option_map_or (λ line. is_refused_call line (outcome_of b line)) (line_in (processors_of b) bytes) false
 
 -- the calls on memory transactions
 abbrev pub is_memory_call : calls.Call → Bool

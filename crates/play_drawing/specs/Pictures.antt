@@ -3,6 +3,7 @@
 use Rattle.std.specs.Prelude.{◌≡◌, ◌≤◌, ℕ, List, length}
 use Rattle.std.specs.List.{All, filter_map, flat_map}
 use Rattle.ffa_model.specs.State.{State}
+use Rattle.ffa_playable.specs.Bench.{Bench}
 use Rattle.play_drawing.specs.declared.cell.Cell.{Cell}
 use Rattle.play_drawing.specs.declared.picture.Picture.{Picture}
 use Rattle.play_drawing.specs.declared.row.Keep.{Keep}
@@ -11,13 +12,13 @@ use Rattle.play_drawing.specs.Columns.{AreColumns}
 use Rattle.play_drawing.specs.Rows.{AreRows, state_behind}
 
 -- what a cell says is so of each of its pages behind the line of its row
-abbrev pub IsSo : State → List (List ℕ) → Cell → Type 0
+abbrev pub IsSo : Bench → List (List ℕ) → Cell → Type 0
 IsSo start lines cell =
     (p : ℕ) → cell.pages.first.0 ≤ p → p ≤ cell.pages.last.0 → TellsPage (state_behind start lines cell.number) cell p
 
--- the picture of lines that were done from a state on, which left the machine in another
-pub record IsPicture {A : Type 0} (keep : Keep) (start now : State) (lines : List (List ℕ)) (picture : Picture A)
-    : Type 0 where
+-- the picture of lines that were done from a start on, which left the machine in a state
+pub record IsPicture {A : Type 0} (keep : Keep) (start : Bench) (now : State) (lines : List (List ℕ))
+    (picture : Picture A) : Type 0 where
   pub base : picture.base.0 ≡ now.ram_base
   pub endpoints : picture.endpoints ≡ length now.parties
   pub rows : AreRows keep start lines picture.rows.items

@@ -4,6 +4,7 @@ use Rattle.std.specs.Prelude.{◌≡◌, ◌≢◌, ◌≤◌, ◌⊎◌, ℕ, �
 use Rattle.ffa_model.specs.declared.certificate.CertRun.{CertRun}
 use Rattle.ffa_model.specs.Certificate.{certificate}
 use Rattle.ffa_model.specs.State.{State}
+use Rattle.ffa_playable.specs.Bench.{Bench}
 use Rattle.play_syntax.specs.TraceText.{after_all}
 use Rattle.play_drawing.specs.declared.row.Keep.{Keep}
 use Rattle.play_drawing.specs.declared.row.Pace.{Pace}
@@ -46,21 +47,21 @@ PutsRow {A} keep n bytes runner refused before behind old new =
     × ((row : Row A) × IsRowOf n bytes runner refused behind row × (new ≡ old ++ row ∷ [])))
     ⊎ ((HasRow keep n refused before behind → ⊥) × (new ≡ old))
 
--- a line is to have a row, behind others that are done from a state on
-abbrev pub HasRowBehind : Keep → State → List (List ℕ) → List ℕ → Type 0
+-- a line is to have a row, behind others that are done from a start on
+abbrev pub HasRowBehind : Keep → Bench → List (List ℕ) → List ℕ → Type 0
 HasRowBehind keep start lines line =
     let before = after_all start lines in
     let behind = after_all start (lines ++ line ∷ []) in
-    HasRow keep (1 + length lines) (is_refused before line) (certificate before) (certificate behind)
+    HasRow keep (1 + length lines) (is_refused before line) (certificate before.state) (certificate behind.state)
 
--- the rows of lines that are done from a state on: that of the beginning, and then those of the lines that are to have
+-- the rows of lines that are done from a start on: that of the beginning, and then those of the lines that are to have
 -- one, in order
-pub data AreRows {A : Type 0} (keep : Keep) (start : State) : List (List ℕ) → List (Row A) → Type 0 where
-  begun : (row : Row A) → IsRow 0 [] false start row → AreRows keep start [] (row ∷ [])
+pub data AreRows {A : Type 0} (keep : Keep) (start : Bench) : List (List ℕ) → List (Row A) → Type 0 where
+  begun : (row : Row A) → IsRow 0 [] false start.state row → AreRows keep start [] (row ∷ [])
   with_row :
       (lines : List (List ℕ)) (rows : List (Row A)) (line : List ℕ) (row : Row A) → AreRows keep start lines rows
       → HasRowBehind keep start lines line
-      → IsRow (1 + length lines) line (is_refused (after_all start lines) line) (after_all start (lines ++ line ∷ [])) row
+      → IsRow (1 + length lines) line (is_refused (after_all start lines) line) (after_all start (lines ++ line ∷ [])).state row
       → AreRows keep start (lines ++ line ∷ []) (rows ++ row ∷ [])
   without :
       (lines : List (List ℕ)) (rows : List (Row A)) (line : List ℕ) → AreRows keep start lines rows
@@ -68,15 +69,15 @@ pub data AreRows {A : Type 0} (keep : Keep) (start : State) : List (List ℕ) �
       → AreRows keep start (lines ++ line ∷ []) rows
 
 -- the rows before a line is done, whichever lines have one
-abbrev pub AreFirst : {A : Type 0} → State → List (Row A) → Type 0
+abbrev pub AreFirst : {A : Type 0} → Bench → List (Row A) → Type 0
 AreFirst start rows = (keep : Keep) → AreRows keep start [] rows
 
--- the state behind the line of a number, of lines that are done from a state on; that of number 0 is the beginning
-abbrev pub state_behind : State → List (List ℕ) → ℕ → State
-state_behind start lines n = after_all start (take n lines)
+-- the state behind the line of a number, of lines that are done from a start on; that of number 0 is the beginning
+abbrev pub state_behind : Bench → List (List ℕ) → ℕ → State
+state_behind start lines n = (after_all start (take n lines)).state
 
 -- a row is of one of these lines or of the beginning, and has the certificate behind it
-pub record IsRowAmong {A : Type 0} (start : State) (lines : List (List ℕ)) (row : Row A) : Type 0 where
+pub record IsRowAmong {A : Type 0} (start : Bench) (lines : List (List ℕ)) (row : Row A) : Type 0 where
   pub number : row.number ≤ length lines
   pub runner : row.runner.0 ≡ (state_behind start lines row.number).runner
   pub runs : row.runs.items ≡ certificate (state_behind start lines row.number)

@@ -2,7 +2,7 @@
 //! What a line did, as far as its row rests on it, by what came of its operation.
 ghost use Rattle.std.specs.Prelude.{◌≡◌, false};
 ghost use Rattle.ffa_model.specs.Certificate.{certificate};
-ghost use Rattle.ffa_model.specs.State.{State};
+ghost use Rattle.ffa_playable.specs.Bench.{Bench};
 ghost use Rattle.play_syntax.specs.Lines.{meant, outcome_of};
 ghost use Rattle.play_syntax.specs.TraceText.{line_after};
 ghost use Rattle.play_drawing.specs.Effects.{gives_or_takes, is_memory_call, is_refused_call};
@@ -22,11 +22,11 @@ pub fn is_refused_call(line: &Line, outcome: Option<Outcome>) -> bool
 }
 
 /// Whether a line may have changed the certificate, by what came of it: the calls on memory transactions do that, where
-/// they aren't refused, and nothing else.
+/// they aren't refused, and nothing else: neither a turn nor an interrupt.
 pub fn may_change(line: &Line, outcome: Option<Outcome>) -> bool
     ensures value { result ≡ gives_or_takes (meant line.now) outcome }
-    ensures kept { (s : State) → outcome ≡ outcome_of s (meant line.now) → result ≡ false
-        → certificate (line_after s (meant line.now)) ≡ certificate s }
+    ensures kept { (b : Bench) → outcome ≡ outcome_of b (meant line.now) → result ≡ false
+        → certificate (line_after b (meant line.now)).state ≡ certificate b.state }
 {
     gives_or_takes(line, outcome)
 }

@@ -46,15 +46,7 @@ pub(crate) fn test<
         return Ok(3);
     }
     let mut report = Report::new(options.tap);
-    match play_all(
-        rt,
-        input,
-        out,
-        commands,
-        options.folder,
-        &names,
-        &mut report,
-    ) {
+    match play_all(rt, input, out, commands, options, &names, &mut report) {
         Ok(()) => Ok(report.status()),
         Err(error) if error.kind() == ErrorKind::OutOfMemory => Err(AllocError),
         Err(_) => {
@@ -75,7 +67,7 @@ fn play_all<
     input: S,
     out: &mut W,
     commands: &C,
-    folder: &str,
+    options: TestOptions<'_>,
     names: &[String],
     report: &mut Report,
 ) -> io::Result<()> {
@@ -83,7 +75,7 @@ fn play_all<
     report.begin(names.len(), out)?;
     for name in names {
         let mut told = Vec::new(alloc);
-        let status = play_one(rt, input, commands, folder, name.as_str(), &mut told)?;
+        let status = play_one(rt, input, commands, options, name.as_str(), &mut told)?;
         report.put(name.as_str(), status, &told, out)?;
     }
     report.end(out)
@@ -94,11 +86,11 @@ fn play_one<H: AllocGlobal + fs::Files + Clone + Drop, S: Read + Copy + Drop, C:
     rt: &H,
     input: S,
     commands: &C,
-    folder: &str,
+    options: TestOptions<'_>,
     name: &str,
     told: &mut Vec<u8>,
 ) -> io::Result<u8> {
-    let alloc = rt.alloc();
+    let (alloc, folder) = (rt.alloc(), options.folder);
     let trace = format!(in alloc; "{folder}/{name}{ENDING}")?;
     let own = format!(in alloc; "{folder}/{name}.toml")?;
     let manifest = if fs::metadata(rt, own.as_str()).is_ok() {
@@ -106,18 +98,19 @@ fn play_one<H: AllocGlobal + fs::Files + Clone + Drop, S: Read + Copy + Drop, C:
     } else {
         format!(in alloc; "{folder}/machine.toml")?
     };
-    let request = play_of(manifest.as_str(), trace.as_str());
+    let request = play_of(manifest.as_str(), trace.as_str(), options.processors);
     Ok(carry_out(rt, input, io::sink(), told, commands, &request)?)
 }
 
-// To play a trace past guards that aren't met.
-fn play_of<'a>(manifest: &'a str, trace: &'a str) -> Request<'a> {
+// To play a trace past guards that aren't met, on a machine that so many processors run, or one alone.
+fn play_of<'a>(manifest: &'a str, trace: &'a str, processors: Option<usize>) -> Request<'a> {
     Request::Play(PlayOptions {
         source: Source::File(manifest),
         trace,
         machine: MachineOptions {
             frames: false,
             tlb: false,
+            processors,
         },
         purpose: Purpose::Print {
             text: TEXT,

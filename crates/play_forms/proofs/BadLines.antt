@@ -6,7 +6,7 @@ use Rattle.std.specs.Io.KnownBytes.{Appends, Consumes, IsAtEnd, Keeps}
 use Rattle.std.specs.List.{list_all}
 use Rattle.std.proofs.KnownBytes.{Appends-kept, Appends-nil, Appends-trans, Keeps-refl}
 use Rattle.play_syntax.specs.Output.{Writes}
-use Rattle.play_syntax.specs.TraceLines.{Line, feed, has_no_feed, joined, line_of}
+use Rattle.play_syntax.specs.TraceLines.{Line, feed, has_no_feed, joined, line_in}
 use Rattle.play_syntax.specs.declared.output.PlayError.{PlayError}
 use Rattle.play_syntax.specs.declared.output.PlayError.TheVariants.{Read, Write, NoMemory, BadLine}
 use Rattle.play_forms.specs.Reading.{IsAll, ReadsLine}
@@ -16,53 +16,53 @@ use Rattle.play_forms.specs.SessionSteps.{AnswersTelling, HearsTelling, TellsBad
 -- ONE LINE
 
 -- what is told was written, or a front of it
-pub written_told : (number : ℕ) (bytes text : List ℕ) (held holds : Option (List ℕ)) (r : Result (Unit {0}) PlayError) → TellsOf number bytes text → Writes held holds text r
-    → TellsBadLine number bytes held holds r
-written_told number bytes text held holds (Ok x) tells written = (text, tells, written)
-written_told number bytes text held holds (Err Write) tells began = (text, tells, began)
-written_told number bytes text held holds (Err Read) tells never = absurd never
-written_told number bytes text held holds (Err NoMemory) tells never = absurd never
-written_told number bytes text held holds (Err (BadLine n)) tells never = absurd never
+pub written_told : (processors : Option ℕ) (number : ℕ) (bytes text : List ℕ) (held holds : Option (List ℕ)) (r : Result (Unit {0}) PlayError) → TellsOf processors number bytes text → Writes held holds text r
+    → TellsBadLine processors number bytes held holds r
+written_told processors number bytes text held holds (Ok x) tells written = (text, tells, written)
+written_told processors number bytes text held holds (Err Write) tells began = (text, tells, began)
+written_told processors number bytes text held holds (Err Read) tells never = absurd never
+written_told processors number bytes text held holds (Err NoMemory) tells never = absurd never
+written_told processors number bytes text held holds (Err (BadLine n)) tells never = absurd never
 
 -- what is told whole isn't lost
-pub whole_told : (number : ℕ) (bytes : List ℕ) (held holds : Option (List ℕ)) → TellsBadLine {X = Unit {0}} number bytes held holds (Ok tt)
-    → TellsOrLoses {X = Unit {0}} number bytes held holds (Ok tt)
-whole_told number bytes held holds (text, tells, written) = (text, ([], subst (TellsOf number bytes) (sym (append-nil text)) tells), written)
+pub whole_told : (processors : Option ℕ) (number : ℕ) (bytes : List ℕ) (held holds : Option (List ℕ)) → TellsBadLine {X = Unit {0}} processors number bytes held holds (Ok tt)
+    → TellsOrLoses {X = Unit {0}} processors number bytes held holds (Ok tt)
+whole_told processors number bytes held holds (text, tells, written) = (text, ([], subst (TellsOf processors number bytes) (sym (append-nil text)) tells), written)
 
 -- a good line was done, and nothing told
-pub good_told : (bytes : List ℕ) (number : ℕ) (held : Option (List ℕ)) (line : Line) → Some line ≡ line_of bytes → (r : Result (Unit {0}) PlayError)
-    → AnswersTelling bytes number held held r
-good_told bytes number held line is (Ok x) = ([], inl (ap is_some (sym is), refl), Appends-nil held)
-good_told bytes number held line is (Err e) = Keeps-refl held
+pub good_told : (processors : Option ℕ) (bytes : List ℕ) (number : ℕ) (held : Option (List ℕ)) (line : Line) → Some line ≡ line_in processors bytes → (r : Result (Unit {0}) PlayError)
+    → AnswersTelling processors bytes number held held r
+good_told processors bytes number held line is (Ok x) = ([], inl (ap is_some (sym is), refl), Appends-nil held)
+good_told processors bytes number held line is (Err e) = Keeps-refl held
 
 -- a bad line was told
-pub bad_told : (bytes : List ℕ) (number : ℕ) (held holds : Option (List ℕ)) → None ≡ line_of bytes → (r : Result (Unit {0}) PlayError)
-    → TellsOrLoses number (bytes ++ feed ∷ []) held holds r → AnswersTelling bytes number held holds r
-bad_told bytes number held holds none (Ok x) (said, told, written) = (said, inr (ap is_some (sym none), told), written)
-bad_told bytes number held holds none (Err NoMemory) kept = kept
-bad_told bytes number held holds none (Err Read) never = absurd never
-bad_told bytes number held holds none (Err Write) never = absurd never
-bad_told bytes number held holds none (Err (BadLine n)) never = absurd never
+pub bad_told : (processors : Option ℕ) (bytes : List ℕ) (number : ℕ) (held holds : Option (List ℕ)) → None ≡ line_in processors bytes → (r : Result (Unit {0}) PlayError)
+    → TellsOrLoses processors number (bytes ++ feed ∷ []) held holds r → AnswersTelling processors bytes number held holds r
+bad_told processors bytes number held holds none (Ok x) (said, told, written) = (said, inr (ap is_some (sym none), told), written)
+bad_told processors bytes number held holds none (Err NoMemory) kept = kept
+bad_told processors bytes number held holds none (Err Read) never = absurd never
+bad_told processors bytes number held holds none (Err Write) never = absurd never
+bad_told processors bytes number held holds none (Err (BadLine n)) never = absurd never
 
 no_rest : (left : Option (List ℕ)) → IsAtEnd left → IsAll left []
 no_rest None ended = tt
 no_rest (Some xs) ended = ended
 
 -- nothing was told of what was read
-pub read_told : (had has : Option (List ℕ)) (line : List ℕ) (number : ℕ) (held : Option (List ℕ)) (r : Result Bool PlayError) → ReadsLine had has line number r → HearsTelling had number held held r
-read_told had has line number held (Ok true) r = Keeps-refl held
-read_told had has line number held (Ok false) r = ([], [], no_rest had r, refl, inl (refl, refl), Appends-nil held)
-read_told had has line number held (Err e) r = Keeps-refl held
+pub read_told : (processors : Option ℕ) (had has : Option (List ℕ)) (line : List ℕ) (number : ℕ) (held : Option (List ℕ)) (r : Result Bool PlayError) → ReadsLine had has line number r → HearsTelling processors had number held held r
+read_told processors had has line number held (Ok true) r = Keeps-refl held
+read_told processors had has line number held (Ok false) r = ([], [], no_rest had r, refl, inl (refl, refl), Appends-nil held)
+read_told processors had has line number held (Err e) r = Keeps-refl held
 
 -- the rest was told
-pub rest_told : (had has : Option (List ℕ)) (line : List ℕ) (number n : ℕ) (held holds : Option (List ℕ)) → ReadsLine had has line number (Err (BadLine n))
-    → TellsOrLoses {X = Unit {0}} number line held holds (Ok tt) → HearsTelling had number held holds (Ok false)
-rest_told had has line number n held holds (is, all, single, some) (said, told, written) = (line, said, all, single, inr (some, told), written)
+pub rest_told : (processors : Option ℕ) (had has : Option (List ℕ)) (line : List ℕ) (number n : ℕ) (held holds : Option (List ℕ)) → ReadsLine had has line number (Err (BadLine n))
+    → TellsOrLoses {X = Unit {0}} processors number line held holds (Ok tt) → HearsTelling processors had number held holds (Ok false)
+rest_told processors had has line number n held holds (is, all, single, some) (said, told, written) = (line, said, all, single, inr (some, told), written)
 
 -- there is a line
-pub heard_told : (had : Option (List ℕ)) (number : ℕ) (held holds : Option (List ℕ)) (b : Bool) → b ≡ true → HearsTelling had number held holds (Ok b) → Keeps held holds
-heard_told had number held holds true h r = r
-heard_told had number held holds false h r = absurd cc
+pub heard_told : (processors : Option ℕ) (had : Option (List ℕ)) (number : ℕ) (held holds : Option (List ℕ)) (b : Bool) → b ≡ true → HearsTelling processors had number held holds (Ok b) → Keeps held holds
+heard_told processors had number held holds true h r = r
+heard_told processors had number held holds false h r = absurd cc
 
 -- ALL LINES
 
@@ -71,33 +71,33 @@ behind_all None has before rest c all = tt
 behind_all (Some xs) None before rest c all = absurd c
 behind_all (Some xs) (Some ys) before rest c all = c ∙ ap (λ l. before ++ l) all
 
-told_from : (number : ℕ) (lines : List (List ℕ)) (line said own : List ℕ) → ToldOfAll number lines said → ToldOfLine (number + length lines) line own
-    → ToldOfAll number (lines ++ line ∷ []) (said ++ own)
-told_from number [] line said own none told =
+told_from : (processors : Option ℕ) (number : ℕ) (lines : List (List ℕ)) (line said own : List ℕ) → ToldOfAll processors number lines said → ToldOfLine processors (number + length lines) line own
+    → ToldOfAll processors number (lines ++ line ∷ []) (said ++ own)
+told_from processors number [] line said own none told =
     let count : number + length {A = List ℕ} [] ≡ number = omega arith in
-    (own, [], ap (λ l. l ++ own) none ∙ sym (append-nil own), subst (λ n. ToldOfLine n line own) count told, refl)
-told_from number (first ∷ lines) line said own (its, more, is, what, rest) told =
+    (own, [], ap (λ l. l ++ own) none ∙ sym (append-nil own), subst (λ n. ToldOfLine processors n line own) count told, refl)
+told_from processors number (first ∷ lines) line said own (its, more, is, what, rest) told =
     let count : number + length (first ∷ lines) ≡ number + 1 + length lines = omega arith in (
       its,
       more ++ own,
       ap (λ l. l ++ own) is ∙ append_assoc its more own,
       what,
-      told_from (number + 1) lines line more own rest (subst (λ n. ToldOfLine n line own) count told),
+      told_from processors (number + 1) lines line more own rest (subst (λ n. ToldOfLine processors n line own) count told),
     )
 
 -- This was told of these lines, which were read.
-module _ (had has : Option (List ℕ)) (lines : List (List ℕ)) (each : list_all has_no_feed lines ≡ true) (read : Consumes had has (joined lines)) (number : ℕ) (count : number ≡ 1 + length lines) (held mid : Option (List ℕ)) (said : List ℕ) (told : ToldOfAll 1 lines said) (written : Appends held mid said) where
+module _ (processors : Option ℕ) (had has : Option (List ℕ)) (lines : List (List ℕ)) (each : list_all has_no_feed lines ≡ true) (read : Consumes had has (joined lines)) (number : ℕ) (count : number ≡ 1 + length lines) (held mid : Option (List ℕ)) (said : List ℕ) (told : ToldOfAll processors 1 lines said) (written : Appends held mid said) where
   -- and of one line more
-  pub told_more : (line : List ℕ) (heard holds : Option (List ℕ)) → Keeps mid heard → AnswersTelling {X = Unit {0}} line number heard holds (Ok tt)
-      → (all : List ℕ) × ToldOfAll 1 (lines ++ line ∷ []) all × Appends held holds all
+  pub told_more : (line : List ℕ) (heard holds : Option (List ℕ)) → Keeps mid heard → AnswersTelling {X = Unit {0}} processors line number heard holds (Ok tt)
+      → (all : List ℕ) × ToldOfAll processors 1 (lines ++ line ∷ []) all × Appends held holds all
   told_more line heard holds kept (own, what, more) = (
     said ++ own,
-    told_from 1 lines line said own told (subst (λ n. ToldOfLine n line own) count what),
+    told_from processors 1 lines line said own told (subst (λ n. ToldOfLine processors n line own) count what),
     Appends-trans held heard holds said own (Appends-kept held mid heard said written kept) more,
   )
 
   -- no line is left
-  pub over_told : (holds : Option (List ℕ)) (b : Bool) → b ≡ false → HearsTelling has number mid holds (Ok b) → TellsBadLines {X = Unit {0}} had held holds (Ok tt)
+  pub over_told : (holds : Option (List ℕ)) (b : Bool) → b ≡ false → HearsTelling processors has number mid holds (Ok b) → TellsBadLines {X = Unit {0}} processors had held holds (Ok tt)
   over_told holds true h r = absurd cc
   over_told holds false h (rest, last, all, single, what, more) = (
     lines,
@@ -105,11 +105,11 @@ module _ (had has : Option (List ℕ)) (lines : List (List ℕ)) (each : list_al
     each,
     single,
     behind_all had has (joined lines) rest read all,
-    (said, last, told, subst (λ n. ToldOfRest n rest last) count what, Appends-trans held mid holds said last written more),
+    (said, last, told, subst (λ n. ToldOfRest processors n rest last) count what, Appends-trans held mid holds said last written more),
   )
 
   -- no more could be read or written
-  pub cut_told : (e : PlayError) (holds : Option (List ℕ)) → Keeps mid holds → TellsBadLines {X = Unit {0}} had held holds (Err e)
+  pub cut_told : (e : PlayError) (holds : Option (List ℕ)) → Keeps mid holds → TellsBadLines {X = Unit {0}} processors had held holds (Err e)
   cut_told Read holds kept = (lines, has, each, read, (said, told, Appends-kept held mid holds said written kept))
   cut_told Write holds kept = (lines, has, each, read, (said, told, Appends-kept held mid holds said written kept))
   cut_told NoMemory holds kept = tt

@@ -1,39 +1,33 @@
 -- SPDX-License-Identifier: MIT OR Apache-2.0
 -- By which check a call is refused, asked behind it: a refusal changes nothing.
-use Rattle.std.proofs.Common.{◌≡◌, ℕ, Bool, List, true, false, Option, None, Some, sym, ap, ◌∙◌, refl}
+use Rattle.std.proofs.Common.{◌≡◌, ℕ, List, true, false, Option, None, sym, ap, ◌∙◌, refl}
 use Rattle.std.specs.Option.{option_map_or}
 use Rattle.ffa_model.specs.declared.operation.Op.{Op}
 use Rattle.ffa_model.specs.declared.operation.Op.TheVariants.{Call, Load, Store, Fetch}
 use Rattle.ffa_model.specs.declared.operation.Outcome.{Outcome}
 use Rattle.ffa_model.specs.declared.why.Why.{Why}
 use Rattle.ffa_model.specs.Refusals.{is_refusal}
-use Rattle.ffa_model.specs.State.{State}
-use Rattle.ffa_model.specs.Step.{step}
-use Rattle.ffa_model.specs.Why.{why}
-use Rattle.ffa_model.proofs.Reasons.{refused-unchanged, why-not}
+use Rattle.ffa_playable.specs.Bench.{Bench, why_of}
 use Rattle.play_forms.specs.Asking.{SaysCheck}
 use Rattle.play_forms.specs.Patterns.{check_in, check_of}
+use Rattle.play_forms.proofs.Behind.{done-unexplained, refused-stays}
 
 -- no operation that is done is refused by a check
-check_none : (s : State) (op : Op) → why s op ≡ None → None ≡ check_of s op
+check_none : (s : Bench) (op : Op) → why_of s op ≡ None → None ≡ check_of s op
 check_none s (Call x) none = sym (ap (check_in x) none)
 check_none s (Load address size) none = refl
 check_none s (Store address size value) none = refl
 check_none s (Fetch address) none = refl
 
--- what came of an operation refuses it, or doesn't
-came_refused : (outcome : Option Outcome) (came : Outcome) (b : Bool) → outcome ≡ Some came → option_map_or is_refusal outcome false ≡ b → is_refusal came ≡ b
-came_refused outcome came b is refused = ap (λ o. option_map_or is_refusal o false) (sym is) ∙ refused
-
-pub done_unchecked : (now : State) (op : Op) (outcome : Option Outcome) → option_map_or is_refusal outcome false ≡ false → SaysCheck now op outcome None
-done_unchecked now op outcome done = λ start next comes. check_none start op (why-not start op (came_refused outcome (step start op).outcome false comes done))
+pub done_unchecked : (now : Bench) (op : Op) (outcome : Option Outcome) → option_map_or is_refusal outcome false ≡ false → SaysCheck now op outcome None
+done_unchecked now op outcome done = λ start next comes. check_none start op (done-unexplained start op (ap (λ o. option_map_or is_refusal o false) (sym comes) ∙ done))
 
 -- one that is refused stands as it was found
-pub refused_checked : (now : State) (op : Op) (outcome : Option Outcome) (check : Option ℕ) → option_map_or is_refusal outcome false ≡ true → check ≡ check_of now op → SaysCheck now op outcome check
+pub refused_checked : (now : Bench) (op : Op) (outcome : Option Outcome) (check : Option ℕ) → option_map_or is_refusal outcome false ≡ true → check ≡ check_of now op → SaysCheck now op outcome check
 refused_checked now op outcome check refused tells =
-    λ start next comes. tells ∙ ap (λ s. check_of s op) (next ∙ refused-unchanged start op (came_refused outcome (step start op).outcome true comes refused))
+    λ start next comes. tells ∙ ap (λ s. check_of s op) (next ∙ refused-stays start op (ap (λ o. option_map_or is_refusal o false) (sym comes) ∙ refused))
 
 -- a call, by what the machine answers
-pub check_answered : (now : State) (op : Op) (x : List ℕ) (answer : Option Why) (check : Option ℕ) → op ≡ Call x → answer ≡ why now op → check ≡ check_in x answer → check ≡ check_of now op
+pub check_answered : (now : Bench) (op : Op) (x : List ℕ) (answer : Option Why) (check : Option ℕ) → op ≡ Call x → answer ≡ why_of now op → check ≡ check_in x answer → check ≡ check_of now op
 check_answered now op x answer check is answers tells =
-    tells ∙ ap (check_in x) (answers ∙ ap (why now) is) ∙ ap (check_of now) (sym is)
+    tells ∙ ap (check_in x) (answers ∙ ap (why_of now) is) ∙ ap (check_of now) (sym is)

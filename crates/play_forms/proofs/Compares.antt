@@ -8,8 +8,8 @@ use Rattle.std.specs.List.{list_all}
 use Rattle.std.proofs.KnownBytes.{Consumes-trans}
 use Rattle.std.proofs.lemmas.Bool.{and_from}
 use Rattle.std.proofs.lemmas.List.Folds.{list_all-append}
-use Rattle.ffa_model.specs.State.{State}
-use Rattle.play_syntax.specs.TraceLines.{Line, feed, has_no_feed, joined, line_of}
+use Rattle.ffa_playable.specs.Bench.{Bench, processors_of}
+use Rattle.play_syntax.specs.TraceLines.{Line, feed, has_no_feed, joined, line_in}
 use Rattle.play_syntax.specs.TraceText.{after, line_after}
 use Rattle.play_syntax.specs.declared.output.PlayError.{PlayError}
 use Rattle.play_syntax.specs.declared.output.PlayError.TheVariants.{Read, Write, NoMemory, BadLine}
@@ -24,6 +24,7 @@ use Rattle.play_forms.specs.declared.comparison.CompareError.{CompareError}
 use Rattle.play_forms.specs.declared.comparison.CompareError.TheVariants.{Play, Expected}
 use Rattle.play_forms.specs.declared.comparison.Mismatch.{Mismatch}
 use Rattle.play_forms.specs.declared.form.Form.{Form}
+use Rattle.play_forms.proofs.Behind.{meant-behind}
 use Rattle.play_forms.proofs.Follows.{ends_at, followed_more, own_text}
 
 all_alike : (wants unread : Option (List ℕ)) (printed : List ℕ) → Consumes wants unread printed → IfSome unread (λ bytes. bytes ≡ []) → IsAll wants printed
@@ -32,8 +33,8 @@ all_alike (Some xs) None printed c none = absurd c
 all_alike (Some xs) (Some ys) printed c none = c ∙ ap (λ l. printed ++ l) none ∙ append-nil printed
 
 -- These lines were done, and their text, of these rows, was read of the expected text.
-module _ (form : Form) (start mid : State) (had has wants unread : Option (List ℕ)) (lines : List (List ℕ)) (printed : List ℕ) (rows : List (List ℕ)) (f : Followed (unexplained form) start mid had has lines printed) (whole : printed ≡ joined rows) (each : list_all has_no_feed rows ≡ true) (alike : Consumes wants unread printed) (number : ℕ) (count : number ≡ 1 + length lines) (read : ℕ) (counted : read ≡ length rows) where
-  pub untaken_compared : (e : PlayError) (then rests : Option (List ℕ)) (bytes text wanted : List ℕ) → TakesLine has then bytes number (Err e) → Compared form start mid had then wants rests bytes text wanted (Err (Play e))
+module _ (form : Form) (start mid : Bench) (had has wants unread : Option (List ℕ)) (lines : List (List ℕ)) (printed : List ℕ) (rows : List (List ℕ)) (f : Followed (unexplained form) start mid had has lines printed) (whole : printed ≡ joined rows) (each : list_all has_no_feed rows ≡ true) (alike : Consumes wants unread printed) (number : ℕ) (count : number ≡ 1 + length lines) (read : ℕ) (counted : read ≡ length rows) where
+  pub untaken_compared : (e : PlayError) (then rests : Option (List ℕ)) (bytes text wanted : List ℕ) → TakesLine (processors_of start) has then bytes number (Err e) → Compared form start mid had then wants rests bytes text wanted (Err (Play e))
   untaken_compared Read then rests bytes text wanted r = (has, lines, printed, unread, alike, f, r)
   untaken_compared Write then rests bytes text wanted r = absurd r
   untaken_compared NoMemory then rests bytes text wanted r = tt
@@ -41,19 +42,20 @@ module _ (form : Form) (start mid : State) (had has wants unread : Option (List 
       (printed, unread, alike, subst (EndsBadly (unexplained form) start mid had printed bytes) (sym is) (ends_at (unexplained form) start mid had has lines printed f number count bytes bad))
 
   -- one line more was done
-  module _ (now : State) (then : Option (List ℕ)) (line : List ℕ) (meant : Line) (taken : Consumes has then (line ++ feed ∷ [])) (single : has_no_feed line ≡ true) (is : Some meant ≡ line_of line) where
+  module _ (now : Bench) (then : Option (List ℕ)) (line : List ℕ) (meant : Line) (taken : Consumes has then (line ++ feed ∷ [])) (single : has_no_feed line ≡ true) (is : Some meant ≡ line_in (processors_of start) line) where
     next_is : (text told : List ℕ) (behind : List (List ℕ)) → 1 ≤ length behind → now ≡ line_after mid meant → text ≡ line_text_in (unexplained form) number mid meant → told ≡ reason_if form.explain mid meant → (n : ℕ) → n ≡ number
         → IsNext form n told mid now has line text behind
     unfolding after text_of_in
     next_is text told behind some next makes why n same =
+        let at = meant-behind start mid lines f.state line (Some meant) is in
         inl (
           then,
           taken,
-          and_from _ _ single (ap is_some (sym is)),
-          next ∙ ap (λ l. option_map_or (line_after mid) l mid) is,
-          makes ∙ ap (λ l. option_map_or (line_text_in (unexplained form) number mid) l []) is ∙ ap (λ k. text_of_in (unexplained form) k mid line) (sym same),
+          and_from _ _ single (ap is_some (sym at)),
+          next ∙ ap (λ l. option_map_or (line_after mid) l mid) at,
+          makes ∙ ap (λ l. option_map_or (line_text_in (unexplained form) number mid) l []) at ∙ ap (λ k. text_of_in (unexplained form) k mid line) (sym same),
           some,
-          why ∙ ap (λ l. option_map_or (reason_if form.explain mid) l []) is,
+          why ∙ ap (λ l. option_map_or (reason_if form.explain mid) l []) at,
         )
 
     -- its text differs

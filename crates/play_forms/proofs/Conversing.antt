@@ -8,8 +8,8 @@ use Rattle.std.specs.List.{list_all}
 use Rattle.std.proofs.KnownBytes.{Appends-nil, Consumes-trans}
 use Rattle.std.proofs.lemmas.Bool.{and_from, cases_Bool}
 use Rattle.std.proofs.lemmas.List.Folds.{list_all-append}
-use Rattle.ffa_model.specs.State.{State}
-use Rattle.play_syntax.specs.TraceLines.{Line, feed, has_no_feed, is_good, joined, line_of}
+use Rattle.ffa_playable.specs.Bench.{Bench, processors_of}
+use Rattle.play_syntax.specs.TraceLines.{Line, feed, has_no_feed, is_good, joined, line_in}
 use Rattle.play_syntax.specs.TraceText.{after, after_all, line_after, line_text, text, text_of}
 use Rattle.play_syntax.specs.Output.{TookFront}
 use Rattle.play_syntax.specs.declared.output.PlayError.{PlayError}
@@ -23,37 +23,60 @@ use Rattle.play_forms.specs.Steps.{PrintsLine}
 use Rattle.play_forms.specs.declared.form.Form.{Form}
 use Rattle.play_forms.proofs.CutOff.{cuts_text}
 use Rattle.play_forms.proofs.Follows.{after_one, text_one}
-
 -- BAD LINES
+use Rattle.play_syntax.proofs.Benches.{processors-after}
+use Rattle.play_forms.proofs.Behind.{processors-behind}
 
 no_line : (line : Option Line) → is_some line ≡ false → line ≡ None
 no_line None bad = refl
 no_line (Some line) bad = absurd cc
 
-pub bad_after : (s : State) (line : List ℕ) → is_good line ≡ false → after s line ≡ s
+pub bad_after : (s : Bench) (line : List ℕ) → is_good (processors_of s) line ≡ false → after s line ≡ s
 unfolding after
-bad_after s line bad = ap (λ l. option_map_or (line_after s) l s) (no_line (line_of line) bad)
+bad_after s line bad = ap (λ l. option_map_or (line_after s) l s) (no_line (line_in (processors_of s) line) bad)
 
-pub bad_text_in : (form : Form) (n : ℕ) (s : State) (line : List ℕ) → is_good line ≡ false → text_of_in form n s line ≡ []
+pub bad_text_in : (form : Form) (n : ℕ) (s : Bench) (line : List ℕ) → is_good (processors_of s) line ≡ false → text_of_in form n s line ≡ []
 unfolding text_of_in
-bad_text_in form n s line bad = ap (λ l. option_map_or (line_text_in form n s) l []) (no_line (line_of line) bad)
+bad_text_in form n s line bad = ap (λ l. option_map_or (line_text_in form n s) l []) (no_line (line_in (processors_of s) line) bad)
 
-bad_text : (s : State) (line : List ℕ) → is_good line ≡ false → text_of s line ≡ []
+bad_text : (s : Bench) (line : List ℕ) → is_good (processors_of s) line ≡ false → text_of s line ≡ []
 unfolding text_of
-bad_text s line bad = ap (λ l. option_map_or (line_text s) l []) (no_line (line_of line) bad)
+bad_text s line bad = ap (λ l. option_map_or (line_text s) l []) (no_line (line_in (processors_of s) line) bad)
 
-good_after : (s : State) (lines : List (List ℕ)) → after_all s lines ≡ after_all s (good_lines lines)
-good_after s [] = refl
-good_after s (line ∷ lines) =
-    elim (cases_Bool (is_good line)) [
-      | inl good ↦ rw good (good_after (after s line) lines)
-      | inr bad ↦ rw bad (ap (λ t. after_all t lines) (bad_after s line bad) ∙ good_after s lines)
-    ]
+-- of a trace of so many processors
+module _ (processors : Option ℕ) where
+  bad_there : (s : Bench) → processors_of s ≡ processors → (line : List ℕ) → is_good processors line ≡ false → is_good (processors_of s) line ≡ false
+  bad_there s is line bad = ap (λ p. is_good p line) is ∙ bad
 
-good_text : (form : Form) (n : ℕ) (s : State) (lines : List (List ℕ)) → text_in form n s lines ≡ good_text_in form n s lines
+  good_after_in : (s : Bench) → processors_of s ≡ processors → (lines : List (List ℕ)) → after_all s lines ≡ after_all s (good_lines processors lines)
+  good_after_in s is [] = refl
+  good_after_in s is (line ∷ lines) =
+      elim (cases_Bool (is_good processors line)) [
+        | inl good ↦ rw good (good_after_in (after s line) (processors-after s line ∙ is) lines)
+        | inr bad ↦ rw bad (ap (λ t. after_all t lines) (bad_after s line (bad_there s is line bad)) ∙ good_after_in s is lines)
+      ]
+
+  plain_text_in : (s : Bench) → processors_of s ≡ processors → (lines : List (List ℕ)) → text s lines ≡ text s (good_lines processors lines)
+  plain_text_in s is [] = refl
+  plain_text_in s is (line ∷ lines) =
+      elim (cases_Bool (is_good processors line)) [
+        | inl good ↦ rw good (ap (λ t. text_of s line ++ t) (plain_text_in (after s line) (processors-after s line ∙ is) lines))
+        | inr bad ↦
+            rw bad
+            (ap (λ t. t ++ text (after s line) lines) (bad_text s line (bad_there s is line bad)) ∙ ap (λ t. text t lines) (bad_after s line (bad_there s is line bad))
+            ∙ plain_text_in s is lines)
+      ]
+
+good_after : (s : Bench) (lines : List (List ℕ)) → after_all s lines ≡ after_all s (good_lines (processors_of s) lines)
+good_after s lines = good_after_in (processors_of s) s refl lines
+
+plain_text : (s : Bench) (lines : List (List ℕ)) → text s lines ≡ text s (good_lines (processors_of s) lines)
+plain_text s lines = plain_text_in (processors_of s) s refl lines
+
+good_text : (form : Form) (n : ℕ) (s : Bench) (lines : List (List ℕ)) → text_in form n s lines ≡ good_text_in form n s lines
 good_text form n s [] = refl
 good_text form n s (line ∷ lines) =
-    elim (cases_Bool (is_good line)) [
+    elim (cases_Bool (is_good (processors_of s) line)) [
       | inl good ↦ rw good (ap (λ t. text_of_in form n s line ++ t) (good_text form (n + 1) (after s line) lines))
       | inr bad ↦
           rw bad
@@ -61,18 +84,10 @@ good_text form n s (line ∷ lines) =
           ∙ good_text form (n + 1) s lines)
     ]
 
-plain_text : (s : State) (lines : List (List ℕ)) → text s lines ≡ text s (good_lines lines)
-plain_text s [] = refl
-plain_text s (line ∷ lines) =
-    elim (cases_Bool (is_good line)) [
-      | inl good ↦ rw good (ap (λ t. text_of s line ++ t) (plain_text (after s line) lines))
-      | inr bad ↦ rw bad (ap (λ t. t ++ text (after s line) lines) (bad_text s line bad) ∙ ap (λ t. text t lines) (bad_after s line bad) ∙ plain_text s lines)
-    ]
-
 -- ONE LINE
 
 -- a line that is taken was done and written, or wasn't written whole
-pub answers_good : (form : Form) (start now : State) (number : ℕ) (bytes : List ℕ) (line : Line) (held holds : Option (List ℕ)) → Some line ≡ line_of bytes
+pub answers_good : (form : Form) (start now : Bench) (number : ℕ) (bytes : List ℕ) (line : Line) (held holds : Option (List ℕ)) → Some line ≡ line_in (processors_of start) bytes
     → (r : Result (Unit {0}) PlayError) → PrintsLine form start now number line held holds r → AnswersLine form start now number bytes held holds r
 unfolding after text_of_in
 answers_good form start now number bytes line held holds is (Ok x) (next, written) = (
@@ -89,10 +104,10 @@ answers_good form start now number bytes line held holds is (Err NoMemory) r = t
 answers_good form start now number bytes line held holds is (Err (BadLine n)) r = absurd r
 
 -- a bad line was told, or there is no memory for that
-pub answers_bad : (form : Form) (start : State) (number : ℕ) (bytes : List ℕ) (held : Option (List ℕ)) → None ≡ line_of bytes
-    → (before after : Option (List ℕ)) (r : Result (Unit {0}) PlayError) → TellsOrLoses number (bytes ++ feed ∷ []) before after r → AnswersLine form start start number bytes held held r
+pub answers_bad : (form : Form) (start : Bench) (number : ℕ) (bytes : List ℕ) (held : Option (List ℕ)) → None ≡ line_in (processors_of start) bytes
+    → (before after : Option (List ℕ)) (r : Result (Unit {0}) PlayError) → TellsOrLoses (processors_of start) number (bytes ++ feed ∷ []) before after r → AnswersLine form start start number bytes held held r
 answers_bad form start number bytes held none before after (Ok x) told =
-    let bad : is_good bytes ≡ false = ap is_some (sym none) in
+    let bad : is_good (processors_of start) bytes ≡ false = ap is_some (sym none) in
     (sym (bad_after start bytes bad), subst (Appends held held) (sym (bad_text_in form number start bytes bad)) (Appends-nil held))
 answers_bad form start number bytes held none before after (Err NoMemory) kept = tt
 answers_bad form start number bytes held none before after (Err Read) never = absurd never
@@ -113,7 +128,7 @@ over had has line number false h r = r
 -- A SESSION
 
 -- These lines were read, good ones and bad ones.
-module _ (form : Form) (start mid : State) (had has : Option (List ℕ)) (lines : List (List ℕ)) (printed : List ℕ) (each : list_all has_no_feed lines ≡ true) (read : Consumes had has (joined lines)) (state : mid ≡ after_all start lines) (said : printed ≡ text_in form 1 start lines) where
+module _ (form : Form) (start mid : Bench) (had has : Option (List ℕ)) (lines : List (List ℕ)) (printed : List ℕ) (each : list_all has_no_feed lines ≡ true) (read : Consumes had has (joined lines)) (state : mid ≡ after_all start lines) (said : printed ≡ text_in form 1 start lines) where
   pub conversed : Conversed form start mid had has lines printed
   conversed =
       let is = said ∙ good_text form 1 start lines in
@@ -133,7 +148,7 @@ module _ (form : Form) (start mid : State) (had has : Option (List ℕ)) (lines 
   unheard (BadLine n) then bytes number held holds written r = absurd r
 
   -- one more
-  module _ (now : State) (then : Option (List ℕ)) (line : List ℕ) (number : ℕ) (count : number ≡ 1 + length lines) (taken : Consumes has then (line ++ feed ∷ [])) (single : has_no_feed line ≡ true) where
+  module _ (now : Bench) (then : Option (List ℕ)) (line : List ℕ) (number : ℕ) (count : number ≡ 1 + length lines) (taken : Consumes has then (line ++ feed ∷ [])) (single : has_no_feed line ≡ true) where
     more_each : list_all has_no_feed (lines ++ line ∷ []) ≡ true
     more_each = list_all-append has_no_feed lines (line ∷ []) ∙ and_from _ _ each (and_from _ _ single refl)
 
@@ -162,7 +177,7 @@ module _ (form : Form) (start mid : State) (had has : Option (List ℕ)) (lines 
       printed = printed ++ text_of_in form number mid line;
       between = between;
       conversed = conversed_more;
-      good = good;
+      good = ap (λ p. is_good p line) (sym (processors-behind start mid lines state)) ∙ good;
       written = subst (Appends held between) (said ∙ good_text form 1 start lines) written;
       began = subst (TookFront between holds) (own_is ∙ ap (λ s. text_of_in form (1 + length lines) s line) (good_after start lines)) began;
     }

@@ -8,7 +8,10 @@ use Rattle.std.proofs.lemmas.Bool.{and_from, cases_Bool}
 use Rattle.std.proofs.lemmas.List.Folds.{list_all-append}
 use Rattle.ffa_model.specs.declared.rights.Rights.{Rights}
 use Rattle.ffa_model.specs.declared.certificate.CertRun.{CertRun}
+use Rattle.ffa_model.specs.declared.operation.Effect.{Effect}
+use Rattle.ffa_model.specs.declared.operation.Effect.TheVariants as effects
 use Rattle.ffa_model.specs.declared.operation.Op.{Op}
+use Rattle.ffa_model.specs.declared.operation.Op.TheVariants.{Call}
 use Rattle.ffa_model.specs.declared.operation.Outcome.{Outcome}
 use Rattle.ffa_model.specs.declared.operation.Outcome.TheVariants.{Regs, Data, Done, Fault}
 use Rattle.ffa_model.specs.declared.operation.FaultKind.{FaultKind}
@@ -17,14 +20,14 @@ use Rattle.ffa_model.specs.declared.function.TheConstants.{FFA_ERROR}
 use Rattle.ffa_model.specs.Registers.{low}
 use Rattle.ffa_model.specs.Rights.{may_write}
 use Rattle.ffa_model.specs.State.{State, identifiers, owner_of, address_of}
+use Rattle.ffa_playable.specs.Bench.{Bench, effect_of, outcome_of_interrupt, processors_of}
 use Rattle.ffa_model.specs.Access.{access}
 use Rattle.ffa_model.specs.Agreement.{root}
 use Rattle.ffa_model.specs.Certificate.{certificate}
 use Rattle.ffa_model.specs.Identifiers.{identifier}
-use Rattle.ffa_model.specs.Step.{step}
-use Rattle.play_syntax.specs.TraceLines.{Line, operate, show, audit, skip, feed, space, has_no_feed, line_of}
-use Rattle.play_syntax.specs.TraceText.{hex, spaced, ended, fault_name, bytes_moved, outcome_words, outcome_text, rights_text, runs_of, run_text, runner_text, show_text, cert_text, root_text, handle_text, cert_run_text, audit_text, line_text, text_of, text, after}
-use Rattle.play_syntax.specs.Lines.{outcome_of}
+use Rattle.play_syntax.specs.TraceLines.{Line, operate, show, audit, skip, turn, interrupt, feed, space, has_no_feed, line_in}
+use Rattle.play_syntax.specs.TraceText.{hex, spaced, ended, fault_name, bytes_moved, outcome_words, outcome_text, resumed_text, effect_text, rights_text, runs_of, run_text, runner_text, show_text, cert_text, root_text, handle_text, cert_run_text, audit_text, line_text, text_of, text, after}
+use Rattle.play_syntax.specs.Lines.{outcome_in, outcome_of}
 use Rattle.ffa_abi.specs.Names.{error_names, name_in, call_name_of, error_name_of}
 use Rattle.play_reasons.specs.Marks.{names_mark}
 use Rattle.play_forms.specs.Cut.{CutsTo, cut_names}
@@ -132,6 +135,17 @@ outcome_cuts form n op (Data value) = unnamed_cuts form n op (Data value)
 outcome_cuts form n op Done = unnamed_cuts form n op Done
 outcome_cuts form n op (Fault kind) = unnamed_cuts form n op (Fault kind)
 
+resumed_cuts : (form : Form) (n e : ℕ) → CutsTo (number_in form n ++ resumed_text e) (resumed_text e)
+resumed_cuts form n e =
+    let words = codes "resumed" ++ spaced (hex 4 e) in
+    let inner : IsInner words = inner_hex 4 e in
+    cuts_line form n words words (inner_single words inner) refl (cut_names-inner words inner)
+
+effect_cuts : (form : Form) (n : ℕ) (op : Op) (effect : Effect)
+    → CutsTo (number_in form n ++ named_in form (outcome_in effect) (effect_text op effect)) (effect_text op effect)
+effect_cuts form n op (effects.Outcome outcome) = outcome_cuts form n op outcome
+effect_cuts form n op (effects.Resumed e) = resumed_cuts form n e.0
+
 run_cuts : (s : State) (run : ℕ × ℕ) → CutsTo (run_text s run) (run_text s run)
 unfolding run_text
 run_cuts s run =
@@ -190,6 +204,10 @@ audit_cuts form n s =
 outcome_some : (op : Op) (outcome : Outcome) → length (outcome_text op outcome) ≢ 0
 outcome_some op outcome none = absurd (omega (arith, none, length-append (outcome_words op outcome) (feed ∷ [])))
 
+effect_some : (op : Op) (effect : Effect) → length (effect_text op effect) ≢ 0
+effect_some op (effects.Outcome outcome) none = outcome_some op outcome none
+effect_some op (effects.Resumed e) none = absurd (omega (arith, none))
+
 show_some : (s : State) → length (show_text s) ≢ 0
 unfolding show_text runner_text
 show_some s none = absurd (omega (arith, none))
@@ -199,7 +217,7 @@ unfolding audit_text cert_text
 audit_some s none = absurd (omega (arith, none))
 
 -- with a line of a reason behind it, where one is asked for
-spoken_cuts : (form : Form) (n : ℕ) (s : State) (line : Line) → length (line_text s line) ≢ 0 → CutsTo (number_in form n ++ named_in form (outcome_of s line) (line_text s line)) (line_text s line)
+spoken_cuts : (form : Form) (n : ℕ) (s : Bench) (line : Line) → length (line_text s line) ≢ 0 → CutsTo (number_in form n ++ named_in form (outcome_of s line) (line_text s line)) (line_text s line)
     → CutsTo (line_text_in form n s line) (line_text s line)
 spoken_cuts form n s line some own =
     let front = number_in form n ++ named_in form (outcome_of s line) (line_text s line) in
@@ -207,23 +225,26 @@ spoken_cuts form n s line some own =
     subst (λ t. CutsTo t (line_text s line)) (sym (dressed_some form n (outcome_of s line) reason (line_text s line) some))
     (subst (CutsTo (front ++ reason)) (append-nil (line_text s line)) (cuts_append front (line_text s line) reason [] own (reason_cuts form.explain s line)))
 
-pub line_cuts : (form : Form) (n : ℕ) (s : State) (line : Option Line) → CutsTo (option_map_or (line_text_in form n s) line []) (option_map_or (line_text s) line [])
+pub line_cuts : (form : Form) (n : ℕ) (s : Bench) (line : Option Line) → CutsTo (option_map_or (line_text_in form n s) line []) (option_map_or (line_text s) line [])
 line_cuts form n s None = cuts_none
-line_cuts form n s (Some (operate op)) = spoken_cuts form n s (operate op) (outcome_some op (step s op).outcome) (outcome_cuts form n op (step s op).outcome)
-line_cuts form n s (Some show) = spoken_cuts form n s show (show_some s) (show_cuts form n s)
-line_cuts form n s (Some audit) = spoken_cuts form n s audit (audit_some s) (audit_cuts form n s)
+line_cuts form n s (Some (operate op)) = spoken_cuts form n s (operate op) (effect_some op (effect_of s op)) (effect_cuts form n op (effect_of s op))
+line_cuts form n s (Some show) = spoken_cuts form n s show (show_some s.state) (show_cuts form n s.state)
+line_cuts form n s (Some audit) = spoken_cuts form n s audit (audit_some s.state) (audit_cuts form n s.state)
 line_cuts form n s (Some skip) = cuts_none
+line_cuts form n s (Some (turn processor)) = cuts_none
+line_cuts form n s (Some interrupt) =
+    spoken_cuts form n s interrupt (outcome_some (Call []) (outcome_of_interrupt s)) (outcome_cuts form n (Call []) (outcome_of_interrupt s))
 
-cuts_of : (form : Form) (n : ℕ) (s : State) (bytes : List ℕ) → CutsTo (text_of_in form n s bytes) (text_of s bytes)
+cuts_of : (form : Form) (n : ℕ) (s : Bench) (bytes : List ℕ) → CutsTo (text_of_in form n s bytes) (text_of s bytes)
 unfolding text_of_in text_of
-cuts_of form n s bytes = line_cuts form n s (line_of bytes)
+cuts_of form n s bytes = line_cuts form n s (line_in (processors_of s) bytes)
 
 -- whatever the form, the numbers and the lines
-pub cuts_text : (form : Form) (n : ℕ) (s : State) (lines : List (List ℕ)) → CutsTo (text_in form n s lines) (text s lines)
+pub cuts_text : (form : Form) (n : ℕ) (s : Bench) (lines : List (List ℕ)) → CutsTo (text_in form n s lines) (text s lines)
 cuts_text form n s [] = cuts_none
 cuts_text form n s (line ∷ lines) =
     cuts_append (text_of_in form n s line) (text_of s line) (text_in form (n + 1) (after s line) lines) (text (after s line) lines) (cuts_of form n s line)
     (cuts_text form (n + 1) (after s line) lines)
 
-pub cuts_printed : (form : Form) (s : State) (lines : List (List ℕ)) (printed : List ℕ) → printed ≡ text_in form 1 s lines → CutsTo printed (text s lines)
+pub cuts_printed : (form : Form) (s : Bench) (lines : List (List ℕ)) (printed : List ℕ) → printed ≡ text_in form 1 s lines → CutsTo printed (text s lines)
 cuts_printed form s lines printed said = subst (λ t. CutsTo t (text s lines)) (sym said) (cuts_text form 1 s lines)

@@ -6,7 +6,7 @@ use Rattle.std.proofs.Math.Seq.{take-append_seam}
 use Rattle.ffa_model.specs.declared.endpoint.EndpointId.{EndpointId}
 use Rattle.ffa_model.specs.declared.operation.Outcome.{Outcome}
 use Rattle.ffa_model.specs.declared.operation.Outcome.TheVariants.{Regs}
-use Rattle.ffa_model.specs.State.{State}
+use Rattle.ffa_playable.specs.Bench.{Bench}
 use Rattle.play_syntax.specs.TraceLines.{Line, feed}
 use Rattle.play_syntax.specs.TraceText.{ended, line_text}
 use Rattle.play_syntax.specs.Lines.{outcome_of}
@@ -45,7 +45,7 @@ parts_put form number outcome reason said some old numbered named new first seco
 -- A LINE
 
 -- a line was done that said this, and of which this came
-pub is_dressed : (s : State) (line : Line) (outcome : Option Outcome) (said : List ℕ) → said ≡ line_text s line → outcome ≡ outcome_of s line → (form : Form) (number : ℕ) (reason : List ℕ)
+pub is_dressed : (s : Bench) (line : Line) (outcome : Option Outcome) (said : List ℕ) → said ≡ line_text s line → outcome ≡ outcome_of s line → (form : Form) (number : ℕ) (reason : List ℕ)
     → reason ≡ reason_if form.explain s line → (new : Option (List ℕ)) → Puts (Some []) new (dressed form number outcome reason said) → IfSome new (λ text. text ≡ line_text_in form number s line)
 is_dressed s line outcome said says came form number reason why None put = tt
 is_dressed s line outcome said says came form number reason why (Some text) put =

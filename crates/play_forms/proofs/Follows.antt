@@ -6,8 +6,8 @@ use Rattle.std.specs.Option.{option_map_or}
 use Rattle.std.specs.Io.KnownBytes.{Appends, Consumes}
 use Rattle.std.proofs.KnownBytes.{Consumes-nil, Consumes-trans}
 use Rattle.std.proofs.lemmas.List.Folds.{list_all-append}
-use Rattle.ffa_model.specs.State.{State}
-use Rattle.play_syntax.specs.TraceLines.{Line, feed, line_of, is_good, is_line, has_no_feed, joined}
+use Rattle.ffa_playable.specs.Bench.{Bench, processors_of}
+use Rattle.play_syntax.specs.TraceLines.{Line, feed, line_in, is_good, is_line, has_no_feed, joined}
 use Rattle.play_syntax.specs.TraceText.{line_after, after, after_all}
 use Rattle.play_player.proofs.Runs.{joined-append}
 use Rattle.play_syntax.specs.Output.{TookFront}
@@ -20,15 +20,16 @@ use Rattle.play_forms.proofs.CutOff.{cuts_printed}
 use Rattle.play_forms.specs.Reading.{IsBadLine, TakesLine}
 use Rattle.play_forms.specs.Steps.{PrintsLine}
 use Rattle.play_forms.specs.declared.form.Form.{Form}
+use Rattle.play_forms.proofs.Behind.{meant-behind}
 
-pub followed_none : (form : Form) (s : State) (had : Option (List ℕ)) → Followed form s s had had [] []
+pub followed_none : (form : Form) (s : Bench) (had : Option (List ℕ)) → Followed form s s had had [] []
 followed_none form s had = record { each = refl; read = Consumes-nil had; state = refl; said = refl; cut = cuts_none }
 
-pub after_one : (s : State) (lines : List (List ℕ)) (line : List ℕ) → after_all s (lines ++ line ∷ []) ≡ after (after_all s lines) line
+pub after_one : (s : Bench) (lines : List (List ℕ)) (line : List ℕ) → after_all s (lines ++ line ∷ []) ≡ after (after_all s lines) line
 after_one s [] line = refl
 after_one s (l ∷ ls) line = after_one (after s l) ls line
 
-pub text_one : (form : Form) (n : ℕ) (s : State) (lines : List (List ℕ)) (line : List ℕ)
+pub text_one : (form : Form) (n : ℕ) (s : Bench) (lines : List (List ℕ)) (line : List ℕ)
     → text_in form n s (lines ++ line ∷ []) ≡ text_in form n s lines ++ text_of_in form (n + length lines) (after_all s lines) line
 text_one form n s [] line = append-nil _ ∙ ap (λ k. text_of_in form k s line) (omega arith)
 text_one form n s (l ∷ ls) line =
@@ -37,25 +38,26 @@ text_one form n s (l ∷ ls) line =
     ∙ sym (append_assoc (text_of_in form n s l) (text_in form (n + 1) (after s l) ls) _)
     ∙ ap (λ k. text_in form n s (l ∷ ls) ++ text_of_in form k (after_all s (l ∷ ls)) line) count
 
-module _ (form : Form) (start mid : State) (had has : Option (List ℕ)) (lines : List (List ℕ)) (text : List ℕ) (f : Followed form start mid had has lines text) (number : ℕ) (count : number ≡ 1 + length lines) where
+module _ (form : Form) (start mid : Bench) (had has : Option (List ℕ)) (lines : List (List ℕ)) (text : List ℕ) (f : Followed form start mid had has lines text) (number : ℕ) (count : number ≡ 1 + length lines) where
   -- what a line more prints
-  pub own_text : (line : List ℕ) (meant : Line) → Some meant ≡ line_of line → line_text_in form number mid meant ≡ text_of_in form (1 + length lines) (after_all start lines) line
+  pub own_text : (line : List ℕ) (meant : Line) → Some meant ≡ line_in (processors_of start) line → line_text_in form number mid meant ≡ text_of_in form (1 + length lines) (after_all start lines) line
   unfolding text_of_in
   own_text line meant is =
-      let own : line_text_in form number mid meant ≡ text_of_in form number mid line = ap (λ l. option_map_or (line_text_in form number mid) l []) is in
+      let own : line_text_in form number mid meant ≡ text_of_in form number mid line =
+      ap (λ l. option_map_or (line_text_in form number mid) l []) (meant-behind start mid lines f.state line (Some meant) is) in
       own ∙ ap (λ n. text_of_in form n mid line) count ∙ ap (λ s. text_of_in form (1 + length lines) s line) f.state
 
   -- a line more
-  pub followed_more : (now : State) (then : Option (List ℕ)) (line : List ℕ) (meant : Line) (said : List ℕ) → Consumes has then (line ++ feed ∷ []) → has_no_feed line ≡ true
-      → Some meant ≡ line_of line → now ≡ line_after mid meant → said ≡ line_text_in form number mid meant → Followed form start now had then (lines ++ line ∷ []) (text ++ said)
+  pub followed_more : (now : Bench) (then : Option (List ℕ)) (line : List ℕ) (meant : Line) (said : List ℕ) → Consumes has then (line ++ feed ∷ []) → has_no_feed line ≡ true
+      → Some meant ≡ line_in (processors_of start) line → now ≡ line_after mid meant → said ≡ line_text_in form number mid meant → Followed form start now had then (lines ++ line ∷ []) (text ++ said)
   unfolding after
   followed_more now then line meant said read single is next makes = record {
     each =
-        let good : is_good line ≡ true = ap is_some (sym is) in
-        list_all-append is_line lines (line ∷ []) ∙ rw (f.each, single, good) refl;
+        let good : is_good (processors_of start) line ≡ true = ap is_some (sym is) in
+        list_all-append (is_line (processors_of start)) lines (line ∷ []) ∙ rw (f.each, single, good) refl;
     read = subst (Consumes had then) (sym (joined-append lines (line ∷ []))) (Consumes-trans had has then (joined lines) (line ++ feed ∷ []) f.read read);
     state =
-        next ∙ ap (λ l. option_map_or (line_after mid) l mid) is ∙ ap (λ s. after s line) f.state ∙ sym (after_one start lines line);
+        next ∙ ap (λ l. option_map_or (line_after mid) l mid) (meant-behind start mid lines f.state line (Some meant) is) ∙ ap (λ s. after s line) f.state ∙ sym (after_one start lines line);
     said = whole;
     cut = cuts_printed form start (lines ++ line ∷ []) (text ++ said) whole;
   }
@@ -65,11 +67,11 @@ module _ (form : Form) (start mid : State) (had has : Option (List ℕ)) (lines 
           ap (λ t. t ++ said) f.said ∙ ap (λ t. text_in form 1 start lines ++ t) (makes ∙ own_text line meant is) ∙ sym (text_one form 1 start lines line)
 
   -- a bad line
-  abbrev pub ends_at : (bytes : List ℕ) → IsBadLine has bytes → EndsBadly form start mid had text bytes number
+  abbrev pub ends_at : (bytes : List ℕ) → IsBadLine (processors_of start) has bytes → EndsBadly form start mid had text bytes number
   ends_at bytes bad = record { left = has; lines = lines; followed = f; is_next = count; bad = bad }
 
   -- a line that was done, of whose text a beginning was written
-  abbrev pub fails_to_write : (now : State) (then : Option (List ℕ)) (line : List ℕ) (meant : Line) → Consumes has then (line ++ feed ∷ []) → has_no_feed line ≡ true → Some meant ≡ line_of line
+  abbrev pub fails_to_write : (now : Bench) (then : Option (List ℕ)) (line : List ℕ) (meant : Line) → Consumes has then (line ++ feed ∷ []) → has_no_feed line ≡ true → Some meant ≡ line_in (processors_of start) line
       → now ≡ line_after mid meant → (held between holds : Option (List ℕ)) → Appends held between text → TookFront between holds (line_text_in form number mid meant)
       → FailsToWrite form start now held holds had
   fails_to_write now then line meant read single is next held between holds written began = record {
@@ -84,7 +86,7 @@ module _ (form : Form) (start mid : State) (had has : Option (List ℕ)) (lines 
   }
 
   -- what was read isn't taken
-  pub untaken_played : (e : PlayError) (then : Option (List ℕ)) (bytes : List ℕ) → TakesLine has then bytes number (Err e)
+  pub untaken_played : (e : PlayError) (then : Option (List ℕ)) (bytes : List ℕ) → TakesLine (processors_of start) has then bytes number (Err e)
       → (held holds : Option (List ℕ)) → Appends held holds text → PlayedIn {X = Unit {0}} form start mid held holds had then bytes (Err e)
   untaken_played Read then bytes r held holds written = (has, lines, text, f, r, written)
   untaken_played Write then bytes r held holds written = absurd r
@@ -93,7 +95,7 @@ module _ (form : Form) (start mid : State) (had has : Option (List ℕ)) (lines 
       (text, subst (EndsBadly form start mid had text bytes) (sym is) (ends_at bytes bad), written)
 
   -- what was done isn't written whole
-  pub unwritten_played : (e : PlayError) (now : State) (then : Option (List ℕ)) (line : List ℕ) (meant : Line) → Consumes has then (line ++ feed ∷ []) → has_no_feed line ≡ true → Some meant ≡ line_of line
+  pub unwritten_played : (e : PlayError) (now : Bench) (then : Option (List ℕ)) (line : List ℕ) (meant : Line) → Consumes has then (line ++ feed ∷ []) → has_no_feed line ≡ true → Some meant ≡ line_in (processors_of start) line
       → (held between holds : Option (List ℕ)) → Appends held between text → PrintsLine {X = Unit {0}} form mid now number meant between holds (Err e)
       → PlayedIn {X = Unit {0}} form start now held holds had then line (Err e)
   unwritten_played Read now then line meant read single is held between holds written r = absurd r

@@ -1,5 +1,6 @@
 -- SPDX-License-Identifier: MIT OR Apache-2.0
 pub mod BadLines
+pub mod Behind
 pub mod Cames
 pub mod Compares
 pub mod Conversing

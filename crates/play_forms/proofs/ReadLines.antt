@@ -9,7 +9,7 @@ use Rattle.std.proofs.KnownBytes.{Consumes-nil}
 use Rattle.std.proofs.lemmas.Bool.{cases_Bool, eqb-true}
 use Rattle.std.proofs.lemmas.List.Folds.{list_all-append}
 use Rattle.std.proofs.Math.Seq.{take-append_seam}
-use Rattle.play_syntax.specs.TraceLines.{feed, has_no_feed, line_of}
+use Rattle.play_syntax.specs.TraceLines.{feed, has_no_feed, line_in}
 use Rattle.play_syntax.specs.declared.lines.Line.{Line}
 use Rattle.play_syntax.specs.declared.output.PlayError.{PlayError}
 use Rattle.play_syntax.specs.declared.output.PlayError.TheVariants.{Read, Write, NoMemory, BadLine}
@@ -97,18 +97,18 @@ one_line had has line number true h r = r
 one_line had has line number false h r = absurd cc
 
 -- none was read
-pub unread_untaken : (had has : Option (List ℕ)) (line : List ℕ) (number : ℕ) (e : PlayError) → ReadsLine had has line number (Err e) → TakesLine had has line number (Err e)
-unread_untaken had has line number Read r = r
-unread_untaken had has line number Write r = absurd r
-unread_untaken had has line number NoMemory r = tt
-unread_untaken had has line number (BadLine n) (is, all, single, some) = (is, inr (single, some, all))
+pub unread_untaken : (processors : Option ℕ) (had has : Option (List ℕ)) (line : List ℕ) (number : ℕ) (e : PlayError) → ReadsLine had has line number (Err e) → TakesLine processors had has line number (Err e)
+unread_untaken processors had has line number Read r = r
+unread_untaken processors had has line number Write r = absurd r
+unread_untaken processors had has line number NoMemory r = tt
+unread_untaken processors had has line number (BadLine n) (is, all, single, some) = (is, inr (single, some, all))
 
 -- what was read up to its LF is none of the format
-pub refused_untaken : (had has : Option (List ℕ)) (line bytes : List ℕ) (number : ℕ) (r : Result (Option Line) PlayError) → Consumes had has (line ++ feed ∷ []) → has_no_feed line ≡ true
-    → None ≡ line_of line → Refuses line bytes number r → TakesLine had has bytes number r
-refused_untaken had has line bytes number (Ok taken) read single none r = absurd r
-refused_untaken had has line bytes number (Err Read) read single none r = absurd r
-refused_untaken had has line bytes number (Err Write) read single none r = absurd r
-refused_untaken had has line bytes number (Err NoMemory) read single none r = tt
-refused_untaken had has line bytes number (Err (BadLine n)) read single none (is, back) =
+pub refused_untaken : (processors : Option ℕ) (had has : Option (List ℕ)) (line bytes : List ℕ) (number : ℕ) (r : Result (Option Line) PlayError) → Consumes had has (line ++ feed ∷ []) → has_no_feed line ≡ true
+    → None ≡ line_in processors line → Refuses line bytes number r → TakesLine processors had has bytes number r
+refused_untaken processors had has line bytes number (Ok taken) read single none r = absurd r
+refused_untaken processors had has line bytes number (Err Read) read single none r = absurd r
+refused_untaken processors had has line bytes number (Err Write) read single none r = absurd r
+refused_untaken processors had has line bytes number (Err NoMemory) read single none r = tt
+refused_untaken processors had has line bytes number (Err (BadLine n)) read single none (is, back) =
     (is, inl (line, has, back, single, ap is_some (sym none), subst (Consumes had has) (sym back) read))

@@ -19,10 +19,9 @@ use Rattle.ffa_model.specs.declared.why.Obstacle.TheVariants as obstacles
 use Rattle.ffa_model.specs.declared.why.Why.{Why}
 use Rattle.ffa_model.specs.declared.why.Why.TheVariants.{Refused, Fault}
 use Rattle.ffa_model.specs.Registers.{low}
-use Rattle.ffa_model.specs.State.{State}
-use Rattle.play_syntax.specs.TraceLines.{Line, operate, show, audit, skip, has_no_feed}
+use Rattle.ffa_playable.specs.Bench.{Bench, why_of}
+use Rattle.play_syntax.specs.TraceLines.{Line, operate, show, audit, skip, turn, interrupt, has_no_feed}
 use Rattle.play_syntax.specs.TraceText.{bytes_moved, hex}
-use Rattle.ffa_model.specs.Why.{why}
 use Rattle.ffa_abi.specs.Names.{call_name_of}
 use Rattle.ffa_abi.specs.Widths.{is_read_whole}
 use Rattle.play_reasons.specs.Checks.{number_of}
@@ -201,12 +200,14 @@ some_cuts : (base : ℕ) (op : Op) (mend : Option Mend) (reason : Option Why) �
 some_cuts base op mend None = cuts_none
 some_cuts base op mend (Some reason) = line_cuts base op reason mend
 
-told_cuts : (s : State) (line : Line) → CutsTo (reason_text s line) []
-told_cuts s (operate op) = some_cuts s.ram_base op (mend s op) (why s op)
+told_cuts : (s : Bench) (line : Line) → CutsTo (reason_text s line) []
+told_cuts s (operate op) = some_cuts s.state.ram_base op (mend s.state op) (why_of s op)
 told_cuts s show = cuts_none
 told_cuts s audit = cuts_none
 told_cuts s skip = cuts_none
+told_cuts s (turn processor) = cuts_none
+told_cuts s interrupt = cuts_none
 
-pub reason_cuts : (explain : Bool) (s : State) (line : Line) → CutsTo (reason_if explain s line) []
+pub reason_cuts : (explain : Bool) (s : Bench) (line : Line) → CutsTo (reason_if explain s line) []
 reason_cuts true s line = told_cuts s line
 reason_cuts false s line = cuts_none

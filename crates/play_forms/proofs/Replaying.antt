@@ -11,8 +11,8 @@ use Rattle.std.proofs.lemmas.Bool.{and_parts, and_from, cases_Bool, eqb-true, no
 use Rattle.std.proofs.lemmas.List.Folds.{list_all-append}
 use Rattle.std.proofs.lemmas.Slice.Eq.{bytes_eq-Decides}
 use Rattle.std.proofs.Math.Seq.{take-length}
-use Rattle.ffa_model.specs.State.{State}
-use Rattle.play_syntax.specs.TraceLines.{Line, operate, show, audit, skip, feed, hash, has_no_feed, is_good, is_line, are_lines, joined, line_of}
+use Rattle.ffa_playable.specs.Bench.{Bench, processors_of}
+use Rattle.play_syntax.specs.TraceLines.{Line, operate, show, audit, skip, turn, interrupt, feed, hash, has_no_feed, is_good, is_line, are_lines, joined, line_in, line_of}
 use Rattle.play_syntax.specs.TraceText.{after, after_all, line_after, line_text, text, text_of}
 use Rattle.play_syntax.specs.Output.{TookFront}
 use Rattle.play_player.proofs.Runs.{joined-append}
@@ -25,6 +25,7 @@ use Rattle.play_forms.specs.Patterns.{line_came, meets}
 use Rattle.play_forms.specs.Reading.{TakesLine}
 use Rattle.play_forms.specs.Recorded.{RecordedIn, RecordsLine, Replays, guard_for, line_recorded, lines_in, onto_line, recorded}
 use Rattle.play_forms.specs.declared.patterns.Came.{Came}
+use Rattle.play_forms.proofs.Behind.{meant-behind}
 use Rattle.play_forms.proofs.CutOff.{cuts_text}
 use Rattle.play_forms.proofs.Follows.{after_one, ends_at, followed_more}
 use Rattle.play_forms.proofs.Guarding.{guards_more, met_more, met_none, unasked_loud, unasked_more}
@@ -74,9 +75,10 @@ guards_itself : (came : Came) (line : List ℕ) → meets came line line ≡ tru
 unfolding meets
 guards_itself came line = or_left (bytes_eq line line) _ ((bytes_eq-Decides line line).1 refl)
 
-guard_is_skip : (printed : List ℕ) → Some skip ≡ line_of (guard_for printed)
-unfolding line_of
-guard_is_skip printed = refl
+guard_is_skip : (processors : Option ℕ) (printed : List ℕ) → Some skip ≡ line_in processors (guard_for printed)
+unfolding line_of line_in
+guard_is_skip None printed = refl
+guard_is_skip (Some count) printed = refl
 
 -- a guard is a comment
 hash_first : (c : ℕ) (line : List ℕ) → is_guard (c ∷ line) ≡ true → c ≡ hash
@@ -89,59 +91,65 @@ hash_first c line guards = of (cases_Bool (nat_eq 35 c))
         let both : true ≡ false = sym guards ∙ none in
         absurd cc
 
-comment_is_skip : (line : List ℕ) → line_of (hash ∷ line) ≡ Some skip
-unfolding line_of
-comment_is_skip line = refl
+comment_is_skip : (processors : Option ℕ) (line : List ℕ) → line_in processors (hash ∷ line) ≡ Some skip
+unfolding line_of line_in
+comment_is_skip None line = refl
+comment_is_skip (Some count) line = refl
 
-guard_skips : (line : List ℕ) → is_guard line ≡ true → line_of line ≡ Some skip
-guard_skips [] guards = absurd (cc guards)
-guard_skips (c ∷ line) guards = ap (λ d. line_of (d ∷ line)) (hash_first c line guards) ∙ comment_is_skip line
+guard_skips : (processors : Option ℕ) (line : List ℕ) → is_guard line ≡ true → line_in processors line ≡ Some skip
+guard_skips processors [] guards = absurd (cc guards)
+guard_skips processors (c ∷ line) guards = ap (λ d. line_in processors (d ∷ line)) (hash_first c line guards) ∙ comment_is_skip processors line
 
-after_skip : (s : State) (line : List ℕ) → line_of line ≡ Some skip → after s line ≡ s
+after_skip : (s : Bench) (line : List ℕ) → line_in (processors_of s) line ≡ Some skip → after s line ≡ s
 unfolding after
 after_skip s line is = ap (λ l. option_map_or (line_after s) l s) is
 
-text_skip : (s : State) (line : List ℕ) → line_of line ≡ Some skip → text_of s line ≡ []
+text_skip : (s : Bench) (line : List ℕ) → line_in (processors_of s) line ≡ Some skip → text_of s line ≡ []
 unfolding text_of
 text_skip s line is = ap (λ l. option_map_or (line_text s) l []) is
 
-text_meant : (s : State) (line : List ℕ) (meant : Line) → Some meant ≡ line_of line → line_text s meant ≡ text_of s line
+text_turn : (s : Bench) (line : List ℕ) (processor : ℕ) → Some (turn processor) ≡ line_in (processors_of s) line → text_of s line ≡ []
+unfolding text_of
+text_turn s line processor is = ap (λ l. option_map_or (line_text s) l []) (sym is)
+
+text_meant : (s : Bench) (line : List ℕ) (meant : Line) → Some meant ≡ line_in (processors_of s) line → line_text s meant ≡ text_of s line
 unfolding text_of
 text_meant s line meant is = ap (λ l. option_map_or (line_text s) l []) is
 
-after_meant : (s : State) (line : List ℕ) (meant : Line) → Some meant ≡ line_of line → line_after s meant ≡ after s line
+after_meant : (s : Bench) (line : List ℕ) (meant : Line) → Some meant ≡ line_in (processors_of s) line → line_after s meant ≡ after s line
 unfolding after
 after_meant s line meant is = ap (λ l. option_map_or (line_after s) l s) is
 
-text_last : (s : State) (lines : List (List ℕ)) (line : List ℕ) → text s (lines ++ line ∷ []) ≡ text s lines ++ text_of (after_all s lines) line
+text_last : (s : Bench) (lines : List (List ℕ)) (line : List ℕ) → text s (lines ++ line ∷ []) ≡ text s lines ++ text_of (after_all s lines) line
 text_last s [] line = append-nil (text_of s line)
 text_last s (l ∷ lines) line = ap (λ t. text_of s l ++ t) (text_last (after s l) lines line) ∙ sym (append_assoc (text_of s l) (text (after s l) lines) (text_of (after_all (after s l) lines) line))
 
 -- WHAT IS WRITTEN SO FAR
 
--- these lines leave this state, and print this, and their guards are met
-pub record Stands (start : State) (written : List (List ℕ)) (mid : State) (said : List ℕ) : Type 0 where
-  pub each : are_lines written ≡ true
+-- these lines leave this, and print this, and their guards are met
+pub record Stands (start : Bench) (written : List (List ℕ)) (mid : Bench) (said : List ℕ) : Type 0 where
+  pub each : are_lines (processors_of start) written ≡ true
   pub leaves : after_all start written ≡ mid
   pub prints : text start written ≡ said
   pub met : AreMet start written
 
-stands_none : (start : State) → Stands start [] start []
+stands_none : (start : Bench) → Stands start [] start []
 stands_none start = record { each = refl; leaves = refl; prints = refl; met = met_none start }
 
 -- with guards for lines that are unasked
-stands_guards : (start : State) (written : List (List ℕ)) (mid : State) (said : List ℕ) (came : Came) (printed : List (List ℕ)) → list_all has_no_feed printed ≡ true → Stands start written mid said
+stands_guards : (start : Bench) (written : List (List ℕ)) (mid : Bench) (said : List ℕ) (came : Came) (printed : List (List ℕ)) → list_all has_no_feed printed ≡ true → Stands start written mid said
     → IsUnasked start written came (joined printed) → Stands start (written ++ map guard_for printed) mid said
 stands_guards start written mid said came [] each stands unasked = subst (λ w. Stands start w mid said) (sym (append-nil written)) stands
 stands_guards start written mid said came (line ∷ lines) each stands unasked =
     let parts = and_parts (has_no_feed line) (list_all has_no_feed lines) each in
     let guard = guard_for line in
-    let skips = guard_is_skip line in
+    let skips = guard_is_skip (processors_of start) line in
+    let skips_there = sym (guard_is_skip (processors_of (after_all start written)) line) in
     let state : mid ≡ after_all start written = sym stands.leaves in
     let one : Stands start (written ++ guard ∷ []) mid said = record {
-      each = list_all-append is_line written (guard ∷ []) ∙ and_from _ _ stands.each (and_from _ _ (and_from _ _ parts.0 (ap is_some (sym skips))) refl);
-      leaves = after_one start written guard ∙ after_skip (after_all start written) guard (sym skips) ∙ stands.leaves;
-      prints = text_last start written guard ∙ ap (λ t. text start written ++ t) (text_skip (after_all start written) guard (sym skips)) ∙ append-nil (text start written) ∙ stands.prints;
+      each = list_all-append (is_line (processors_of start)) written (guard ∷ []) ∙ and_from _ _ stands.each (and_from _ _ (and_from _ _ parts.0 (ap is_some (sym skips))) refl);
+      leaves = after_one start written guard ∙ after_skip (after_all start written) guard skips_there ∙ stands.leaves;
+      prints = text_last start written guard ∙ ap (λ t. text start written ++ t) (text_skip (after_all start written) guard skips_there) ∙ append-nil (text start written) ∙ stands.prints;
       met = guards_more start mid written state came (joined (line ∷ lines)) unasked stands.met guard (joined lines) [] (line, refl, parts.0, guards_itself came line);
     } in
     let more : IsUnasked start (written ++ guard ∷ []) came (joined lines) =
@@ -150,10 +158,10 @@ stands_guards start written mid said came (line ∷ lines) each stands unasked =
     (stands_guards start (written ++ guard ∷ []) mid said came lines parts.1 one more)
 
 -- with a line that is no guard
-stands_line : (start : State) (written : List (List ℕ)) (mid : State) (said line : List ℕ) → is_line line ≡ true → is_guard line ≡ false → Stands start written mid said
+stands_line : (start : Bench) (written : List (List ℕ)) (mid : Bench) (said line : List ℕ) → is_line (processors_of start) line ≡ true → is_guard line ≡ false → Stands start written mid said
     → Stands start (written ++ line ∷ []) (after mid line) (said ++ text_of mid line)
 stands_line start written mid said line good other stands = record {
-  each = list_all-append is_line written (line ∷ []) ∙ and_from _ _ stands.each (and_from _ _ good refl);
+  each = list_all-append (is_line (processors_of start)) written (line ∷ []) ∙ and_from _ _ stands.each (and_from _ _ good refl);
   leaves = after_one start written line ∙ ap (λ s. after s line) stands.leaves;
   prints = text_last start written line ∙ ap (λ t. t ++ text_of (after_all start written) line) stands.prints ∙ ap (λ s. said ++ text_of s line) stands.leaves;
   met = met_more start written line stands.met (λ guard is. absurd (never (ap is_some (sym is) ∙ other)));
@@ -163,7 +171,7 @@ stands_line start written mid said line good other stands = record {
     never same = cc
 
 -- with the line and its guards
-stands_loud : (start : State) (written : List (List ℕ)) (mid : State) (said line : List ℕ) (meant : Line) → Some meant ≡ line_of line → is_line line ≡ true → is_guard line ≡ false
+stands_loud : (start : Bench) (written : List (List ℕ)) (mid : Bench) (said line : List ℕ) (meant : Line) → Some meant ≡ line_in (processors_of start) line → is_line (processors_of start) line ≡ true → is_guard line ≡ false
     → IsUnasked start (written ++ line ∷ []) (line_came mid meant) (line_text mid meant) → Stands start written mid said
     → Stands start (written ++ line ∷ map guard_for (lines_in (text_of mid line))) (after mid line) (said ++ text_of mid line)
 stands_loud start written mid said line meant is good other unasked stands =
@@ -171,16 +179,23 @@ stands_loud start written mid said line meant is good other unasked stands =
     let whole : text_of mid line ≡ joined cuts.lines = sym (append-nil (text_of mid line)) ∙ sym (plain_text 1 mid (line ∷ [])) ∙ cuts.whole in
     let printed : lines_in (text_of mid line) ≡ cuts.lines = ap lines_in whole ∙ lines_in-joined cuts.lines cuts.each in
     let left : IsUnasked start (written ++ line ∷ []) (line_came mid meant) (joined cuts.lines) =
-    subst (IsUnasked start (written ++ line ∷ []) (line_came mid meant)) (text_meant mid line meant is ∙ whole) unasked in
+    subst (IsUnasked start (written ++ line ∷ []) (line_came mid meant)) (text_meant mid line meant (meant-behind start mid written (sym stands.leaves) line (Some meant) is) ∙ whole) unasked in
     subst (λ w. Stands start w (after mid line) (said ++ text_of mid line))
     (append_assoc written (line ∷ []) (map guard_for cuts.lines) ∙ ap (λ ls. written ++ line ∷ map guard_for ls) (sym printed))
     (stands_guards start (written ++ line ∷ []) (after mid line) (said ++ text_of mid line) (line_came mid meant) cuts.lines cuts.each (stands_line start written mid said line good other stands) left)
 
-stands_meant : (start : State) (written : List (List ℕ)) (mid : State) (said line : List ℕ) (meant : Option Line) → meant ≡ line_of line → is_line line ≡ true → is_guard line ≡ false → Stands start written mid said
+-- with a line that prints nothing
+stands_silent : (start : Bench) (written : List (List ℕ)) (mid : Bench) (said line : List ℕ) → text_of mid line ≡ [] → is_line (processors_of start) line ≡ true → is_guard line ≡ false → Stands start written mid said
+    → Stands start (written ++ line ∷ map guard_for (lines_in (text_of mid line))) (after mid line) (said ++ text_of mid line)
+stands_silent start written mid said line none good other stands =
+    let silent : lines_in (text_of mid line) ≡ [] = ap lines_in none in
+    subst (λ ls. Stands start (written ++ line ∷ map guard_for ls) (after mid line) (said ++ text_of mid line)) (sym silent) (stands_line start written mid said line good other stands)
+
+stands_meant : (start : Bench) (written : List (List ℕ)) (mid : Bench) (said line : List ℕ) (meant : Option Line) → meant ≡ line_in (processors_of start) line → is_line (processors_of start) line ≡ true → is_guard line ≡ false → Stands start written mid said
     → Stands start (written ++ line ∷ map guard_for (lines_in (text_of mid line))) (after mid line) (said ++ text_of mid line)
 stands_meant start written mid said line None is good other stands =
-    let none : is_good line ≡ false = ap is_some (sym is) in
-    let both : false ≡ true = sym none ∙ (and_parts (has_no_feed line) (is_good line) good).1 in
+    let none : is_good (processors_of start) line ≡ false = ap is_some (sym is) in
+    let both : false ≡ true = sym none ∙ (and_parts (has_no_feed line) (is_good (processors_of start) line) good).1 in
     absurd cc
 stands_meant start written mid said line (Some (operate op)) is good other stands =
     stands_loud start written mid said line (operate op) is good other (unasked_loud start mid written (sym stands.leaves) line (operate op) (line_came mid (operate op)) (line_text mid (operate op)) is refl refl refl) stands
@@ -189,56 +204,59 @@ stands_meant start written mid said line (Some show) is good other stands =
 stands_meant start written mid said line (Some audit) is good other stands =
     stands_loud start written mid said line audit is good other (unasked_loud start mid written (sym stands.leaves) line audit (line_came mid audit) (line_text mid audit) is refl refl refl) stands
 stands_meant start written mid said line (Some skip) is good other stands =
-    let silent : lines_in (text_of mid line) ≡ [] = ap lines_in (text_skip mid line (sym is)) in
-    subst (λ ls. Stands start (written ++ line ∷ map guard_for ls) (after mid line) (said ++ text_of mid line)) (sym silent) (stands_line start written mid said line good other stands)
+    stands_silent start written mid said line (text_skip mid line (sym (meant-behind start mid written (sym stands.leaves) line (Some skip) is))) good other stands
+stands_meant start written mid said line (Some (turn processor)) is good other stands =
+    stands_silent start written mid said line (text_turn mid line processor (meant-behind start mid written (sym stands.leaves) line (Some (turn processor)) is)) good other stands
+stands_meant start written mid said line (Some interrupt) is good other stands =
+    stands_loud start written mid said line interrupt is good other (unasked_loud start mid written (sym stands.leaves) line interrupt (line_came mid interrupt) (line_text mid interrupt) is refl refl refl) stands
 
-stands_one : (start : State) (written : List (List ℕ)) (mid : State) (said line : List ℕ) → is_line line ≡ true → Stands start written mid said
+stands_one : (start : Bench) (written : List (List ℕ)) (mid : Bench) (said line : List ℕ) → is_line (processors_of start) line ≡ true → Stands start written mid said
     → Stands start (written ++ line_recorded line (text_of mid line)) (after mid line) (said ++ text_of mid line)
 stands_one start written mid said line good stands = of (cases_Bool (is_guard line))
   where
     of : (is_guard line ≡ true) ⊎ (is_guard line ≡ false) → Stands start (written ++ line_recorded line (text_of mid line)) (after mid line) (said ++ text_of mid line)
     of (inl guards) =
         let none : line_recorded line (text_of mid line) ≡ [] = rw guards refl in
-        let skips = guard_skips line guards in
+        let skips = guard_skips (processors_of mid) line guards in
         let stays : Stands start written (after mid line) said = subst (λ s. Stands start written s said) (sym (after_skip mid line skips)) stands in
         let silent : said ≡ said ++ text_of mid line = sym (append-nil said) ∙ ap (λ t. said ++ t) (sym (text_skip mid line skips)) in
         subst (λ w. Stands start w (after mid line) (said ++ text_of mid line)) (sym (append-nil written) ∙ ap (λ ls. written ++ ls) (sym none))
         (subst (Stands start written (after mid line)) silent stays)
     of (inr other) =
         let own : line_recorded line (text_of mid line) ≡ line ∷ map guard_for (lines_in (text_of mid line)) = rw other refl in
-        subst (λ ls. Stands start (written ++ ls) (after mid line) (said ++ text_of mid line)) (sym own) (stands_meant start written mid said line (line_of line) refl good other stands)
+        subst (λ ls. Stands start (written ++ ls) (after mid line) (said ++ text_of mid line)) (sym own) (stands_meant start written mid said line (line_in (processors_of start) line) refl good other stands)
 
-stands_all : (start : State) (written : List (List ℕ)) (mid : State) (said : List ℕ) (lines : List (List ℕ)) → are_lines lines ≡ true → Stands start written mid said
+stands_all : (start : Bench) (written : List (List ℕ)) (mid : Bench) (said : List ℕ) (lines : List (List ℕ)) → are_lines (processors_of start) lines ≡ true → Stands start written mid said
     → Stands start (written ++ recorded mid lines) (after_all mid lines) (said ++ text mid lines)
 stands_all start written mid said [] each stands =
     subst (λ w. Stands start w mid (said ++ [])) (sym (append-nil written)) (subst (Stands start written mid) (sym (append-nil said)) stands)
 stands_all start written mid said (line ∷ lines) each stands =
-    let parts = and_parts (is_line line) (are_lines lines) each in
+    let parts = and_parts (is_line (processors_of start) line) (are_lines (processors_of start) lines) each in
     let own = line_recorded line (text_of mid line) in
     let more = stands_all start (written ++ own) (after mid line) (said ++ text_of mid line) lines parts.1 (stands_one start written mid said line parts.0 stands) in
     subst (λ w. Stands start w (after_all mid (line ∷ lines)) (said ++ text mid (line ∷ lines))) (append_assoc written own (recorded (after mid line) lines))
     (subst (Stands start ((written ++ own) ++ recorded (after mid line) lines) (after_all mid (line ∷ lines))) (append_assoc said (text_of mid line) (text (after mid line) lines)) more)
 
 -- what is written of a trace plays as the trace, and all its guards are met
-pub replays : (start : State) (lines : List (List ℕ)) → are_lines lines ≡ true → Replays start lines
+pub replays : (start : Bench) (lines : List (List ℕ)) → are_lines (processors_of start) lines ≡ true → Replays start lines
 replays start lines each =
     let stands = stands_all start [] start [] lines each (stands_none start) in
     record { each = stands.each; prints = stands.prints; leaves = stands.leaves; met = stands.met }
 
 -- A RECORD
 
-pub recorded-last : (s : State) (lines : List (List ℕ)) (line : List ℕ) → recorded s (lines ++ line ∷ []) ≡ recorded s lines ++ line_recorded line (text_of (after_all s lines) line)
+pub recorded-last : (s : Bench) (lines : List (List ℕ)) (line : List ℕ) → recorded s (lines ++ line ∷ []) ≡ recorded s lines ++ line_recorded line (text_of (after_all s lines) line)
 recorded-last s [] line = append-nil (line_recorded line (text_of s line))
 recorded-last s (l ∷ lines) line =
     ap (λ ls. line_recorded l (text_of s l) ++ ls) (recorded-last (after s l) lines line)
     ∙ sym (append_assoc (line_recorded l (text_of s l)) (recorded (after s l) lines) (line_recorded line (text_of (after_all (after s l) lines) line)))
 
-module _ (start mid : State) (had has : Option (List ℕ)) (lines : List (List ℕ)) (said : List ℕ) (f : Followed plain start mid had has lines said) (number : ℕ) (count : number ≡ 1 + length lines) where
+module _ (start mid : Bench) (had has : Option (List ℕ)) (lines : List (List ℕ)) (said : List ℕ) (f : Followed plain start mid had has lines said) (number : ℕ) (count : number ≡ 1 + length lines) where
   -- what is written of a line more
-  pub own_record : (line : List ℕ) (meant : Line) → Some meant ≡ line_of line → line_recorded line (line_text mid meant) ≡ line_recorded line (text_of (after_all start lines) line)
-  own_record line meant is = ap (line_recorded line) (text_meant mid line meant is ∙ ap (λ s. text_of s line) f.state)
+  pub own_record : (line : List ℕ) (meant : Line) → Some meant ≡ line_in (processors_of start) line → line_recorded line (line_text mid meant) ≡ line_recorded line (text_of (after_all start lines) line)
+  own_record line meant is = ap (line_recorded line) (text_meant mid line meant (meant-behind start mid lines f.state line (Some meant) is) ∙ ap (λ s. text_of s line) f.state)
 
-  pub written_more : (held between holds : Option (List ℕ)) (line : List ℕ) (meant : Line) → Some meant ≡ line_of line → Appends held between (joined (recorded start lines))
+  pub written_more : (held between holds : Option (List ℕ)) (line : List ℕ) (meant : Line) → Some meant ≡ line_in (processors_of start) line → Appends held between (joined (recorded start lines))
       → Appends between holds (joined (line_recorded line (line_text mid meant))) → Appends held holds (joined (recorded start (lines ++ line ∷ [])))
   written_more held between holds line meant is before behind =
       let own = line_recorded line (text_of (after_all start lines) line) in
@@ -246,7 +264,7 @@ module _ (start mid : State) (had has : Option (List ℕ)) (lines : List (List �
       (Appends-trans held between holds (joined (recorded start lines)) (joined own) before (subst (λ ls. Appends between holds (joined ls)) (own_record line meant is) behind))
 
   -- at what isn't taken
-  pub untaken_recorded : (e : PlayError) (then : Option (List ℕ)) (bytes : List ℕ) → TakesLine has then bytes number (Err e)
+  pub untaken_recorded : (e : PlayError) (then : Option (List ℕ)) (bytes : List ℕ) → TakesLine (processors_of start) has then bytes number (Err e)
       → (held holds : Option (List ℕ)) → Appends held holds (joined (recorded start lines)) → RecordedIn {X = Unit {0}} start mid held holds had then bytes (Err e)
   untaken_recorded Read then bytes r held holds written = (has, lines, said, f, r, written, replays start lines f.each)
   untaken_recorded Write then bytes r held holds written = absurd r
@@ -255,7 +273,7 @@ module _ (start mid : State) (had has : Option (List ℕ)) (lines : List (List �
       (said, ends_at plain start mid had has lines said f n (is ∙ count) bytes bad, written, replays start lines f.each)
 
   -- at what isn't written whole
-  pub unwritten_recorded : (e : PlayError) (now : State) (then : Option (List ℕ)) (line : List ℕ) (meant : Line) → Consumes has then (line ++ feed ∷ []) → has_no_feed line ≡ true → Some meant ≡ line_of line
+  pub unwritten_recorded : (e : PlayError) (now : Bench) (then : Option (List ℕ)) (line : List ℕ) (meant : Line) → Consumes has then (line ++ feed ∷ []) → has_no_feed line ≡ true → Some meant ≡ line_in (processors_of start) line
       → (held between holds : Option (List ℕ)) → Appends held between (joined (recorded start lines)) → RecordsLine {X = Unit {0}} mid now line meant between holds (Err e)
       → RecordedIn {X = Unit {0}} start now held holds had then line (Err e)
   unwritten_recorded Read now then line meant read single is held between holds written r = absurd r

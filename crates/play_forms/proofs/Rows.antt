@@ -10,7 +10,7 @@ use Rattle.std.specs.List.{list_all}
 use Rattle.std.proofs.BufReadLemmas.{take_through-nil}
 use Rattle.std.proofs.lemmas.Bool.{and_parts, not-true, eq-eqb}
 use Rattle.std.proofs.lemmas.List.Folds.{list_all-append}
-use Rattle.ffa_model.specs.State.{State}
+use Rattle.ffa_playable.specs.Bench.{Bench}
 use Rattle.play_syntax.specs.TraceLines.{Line, feed, has_no_feed, joined}
 use Rattle.play_player.proofs.Runs.{joined-append}
 use Rattle.play_forms.specs.Comparing.{AreRows, EndsRow, Parts, ReadsRow, TakesText}
@@ -24,7 +24,7 @@ use Rattle.play_forms.proofs.CutOff.{line_cuts}
 use Rattle.play_forms.proofs.ReadLines.{front_free, unended_free}
 
 -- a line's text, in whichever form, is lines
-pub text_rows : (form : Form) (n : ℕ) (s : State) (line : Line) (text : List ℕ) → text ≡ line_text_in form n s line → AreRows text
+pub text_rows : (form : Form) (n : ℕ) (s : Bench) (line : Line) (text : List ℕ) → text ≡ line_text_in form n s line → AreRows text
 text_rows form n s line text is =
     let cut = line_cuts form n s (Some line) in
     (cut.lines, is ∙ cut.whole, cut.each)

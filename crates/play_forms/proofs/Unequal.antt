@@ -7,7 +7,7 @@ use Rattle.std.specs.Io.KnownBytes.{Consumes}
 use Rattle.std.proofs.lemmas.Bool.{and_parts, and_from}
 use Rattle.std.proofs.lemmas.List.{append_cancel_left}
 use Rattle.std.proofs.lemmas.List.Folds.{list_all-append}
-use Rattle.ffa_model.specs.State.{State}
+use Rattle.ffa_playable.specs.Bench.{Bench, processors_of}
 use Rattle.play_syntax.specs.TraceLines.{feed, has_no_feed, is_good, is_line, are_lines, joined}
 use Rattle.play_syntax.specs.TraceText.{after, after_all}
 use Rattle.play_player.proofs.Runs.{joined-append}
@@ -20,22 +20,24 @@ use Rattle.play_reasons.specs.Reasons.{told_line}
 use Rattle.play_forms.specs.Forms.{text_in, text_of_in}
 use Rattle.play_forms.specs.declared.comparison.Mismatch.{Mismatch}
 use Rattle.play_forms.specs.declared.form.Form.{Form}
+use Rattle.play_forms.proofs.Behind.{processors-behind}
 
-line_single : (line : List ℕ) (lines : List (List ℕ)) → are_lines (line ∷ lines) ≡ true → has_no_feed line ≡ true
-line_single line lines each = (and_parts (has_no_feed line) (is_good line) (and_parts (is_line line) (are_lines lines) each).0).0
+line_single : (processors : Option ℕ) (line : List ℕ) (lines : List (List ℕ)) → are_lines processors (line ∷ lines) ≡ true → has_no_feed line ≡ true
+line_single processors line lines each =
+    (and_parts (has_no_feed line) (is_good processors line) (and_parts (is_line processors line) (are_lines processors lines) each).0).0
 
 -- lines that begin as these do
-same_lines : (lines others : List (List ℕ)) (rest : List ℕ) → are_lines lines ≡ true → are_lines others ≡ true → joined lines ++ rest ≡ joined others
+same_lines : (processors : Option ℕ) (lines others : List (List ℕ)) (rest : List ℕ) → are_lines processors lines ≡ true → are_lines processors others ≡ true → joined lines ++ rest ≡ joined others
     → (more : List (List ℕ)) × (others ≡ lines ++ more) × (rest ≡ joined more)
-same_lines [] others rest p q same = (others, refl, same)
-same_lines (line ∷ lines) [] rest p q same =
+same_lines processors [] others rest p q same = (others, refl, same)
+same_lines processors (line ∷ lines) [] rest p q same =
     absurd (omega (arith, ap length same, length-append (line ++ feed ∷ joined lines) rest, length-append line (feed ∷ joined lines)))
-same_lines (line ∷ lines) (other ∷ others) rest p q same =
-    let both = same_first line other (joined lines ++ rest) (joined others) (line_single line lines p) (line_single other others q) (sym (append_assoc line (feed ∷ joined lines) rest) ∙ same) in
-    let next = same_lines lines others rest (and_parts (is_line line) (are_lines lines) p).1 (and_parts (is_line other) (are_lines others) q).1 both.1 in
+same_lines processors (line ∷ lines) (other ∷ others) rest p q same =
+    let both = same_first line other (joined lines ++ rest) (joined others) (line_single processors line lines p) (line_single processors other others q) (sym (append_assoc line (feed ∷ joined lines) rest) ∙ same) in
+    let next = same_lines processors lines others rest (and_parts (is_line processors line) (are_lines processors lines) p).1 (and_parts (is_line processors other) (are_lines processors others) q).1 both.1 in
     (next.0, ap (λ l. l ∷ others) (sym both.0) ∙ ap (λ ls. line ∷ ls) next.1, next.2)
 
-text_in-append : (form : Form) (n : ℕ) (s : State) (lines more : List (List ℕ)) → text_in form n s (lines ++ more) ≡ text_in form n s lines ++ text_in form (n + length lines) (after_all s lines) more
+text_in-append : (form : Form) (n : ℕ) (s : Bench) (lines more : List (List ℕ)) → text_in form n s (lines ++ more) ≡ text_in form n s lines ++ text_in form (n + length lines) (after_all s lines) more
 text_in-append form n s [] more = ap (λ k. text_in form k s more) (omega arith)
 text_in-append form n s (line ∷ lines) more =
     let count : n + 1 + length lines ≡ n + length (line ∷ lines) = omega arith in
@@ -44,23 +46,24 @@ text_in-append form n s (line ∷ lines) more =
     ∙ ap (λ k. text_in form n s (line ∷ lines) ++ text_in form k (after_all s (line ∷ lines)) more) count
 
 -- Of a trace of which these lines were done, and what is next prints this text, the lines print both, and more.
-module _ (form : Form) (start : State) (trace printed text : List ℕ) (lines others : List (List ℕ)) (each : are_lines lines ≡ true) (each_other : are_lines others ≡ true) (told : trace ≡ joined others) (said : printed ≡ text_in form 1 start lines) where
+module _ (form : Form) (start : Bench) (trace printed text : List ℕ) (lines others : List (List ℕ)) (each : are_lines (processors_of start) lines ≡ true) (each_other : are_lines (processors_of start) others ≡ true) (told : trace ≡ joined others) (said : printed ≡ text_in form 1 start lines) where
   -- no line is left
   prints_all : trace ≡ joined lines → text_in form 1 start others ≡ printed ++ [] ++ []
   prints_all read =
-      let more = same_lines lines others [] each each_other (append-nil (joined lines) ∙ sym read ∙ told) in
+      let more = same_lines (processors_of start) lines others [] each each_other (append-nil (joined lines) ∙ sym read ∙ told) in
       let none : more.0 ≡ [] = no_row more.0 (sym more.2) in
       ap (text_in form 1 start) (more.1 ∙ ap (λ ls. lines ++ ls) none ∙ append-nil lines) ∙ sym said ∙ sym (append-nil printed) ∙ sym (append-nil (printed ++ []))
 
   -- a line was done
-  prints_line : (number : ℕ) (state : State) (line after_line : List ℕ) → number ≡ 1 + length lines → state ≡ after_all start lines → trace ≡ joined lines ++ ((line ++ feed ∷ []) ++ after_line) → is_line line ≡ true
+  prints_line : (number : ℕ) (state : Bench) (line after_line : List ℕ) → number ≡ 1 + length lines → state ≡ after_all start lines → trace ≡ joined lines ++ ((line ++ feed ∷ []) ++ after_line) → is_line (processors_of state) line ≡ true
       → text ≡ text_of_in form number state line → (rest : List ℕ) × (text_in form 1 start others ≡ printed ++ text ++ rest)
   prints_line number state line after_line count is read good own =
       let front = lines ++ line ∷ [] in
       let begins : joined front ++ after_line ≡ joined others =
       ap (λ t. t ++ after_line) (joined-append lines (line ∷ [])) ∙ append_assoc (joined lines) (line ++ feed ∷ []) after_line ∙ sym read ∙ told in
-      let all : are_lines front ≡ true = list_all-append is_line lines (line ∷ []) ∙ and_from _ _ each (and_from _ _ good refl) in
-      let found = same_lines front others after_line all each_other begins in
+      let own_good : is_line (processors_of start) line ≡ true = ap (λ p. is_line p line) (sym (processors-behind start state lines is)) ∙ good in
+      let all : are_lines (processors_of start) front ≡ true = list_all-append (is_line (processors_of start)) lines (line ∷ []) ∙ and_from _ _ each (and_from _ _ own_good refl) in
+      let found = same_lines (processors_of start) front others after_line all each_other begins in
       let rest = text_in form (1 + length front) (after_all start front) found.0 in
       let last : text_of_in form (1 + length lines) (after_all start lines) line ≡ text =
       ap (λ n. text_of_in form n (after_all start lines) line) (sym count) ∙ ap (λ s. text_of_in form number s line) (sym is) ∙ sym own in
@@ -81,14 +84,14 @@ goes_on expected printed text more rest rows behind is whole alike =
     (sym alike ∙ is ∙ ap (λ t. t ++ rest) (whole ∙ joined-append rows behind) ∙ append_assoc (joined rows) (joined behind) rest)
 
 -- where a text differs, none of the lines that the bytes can be print what is expected
-pub never_prints : (form : Form) (start now : State) (had wants : Option (List ℕ)) (bytes text wanted : List ℕ) (mismatch : Mismatch) → DiffersAt form start now had wants bytes text wanted mismatch → NeverPrints (unexplained form) start had wants
+pub never_prints : (form : Form) (start now : Bench) (had wants : Option (List ℕ)) (bytes text wanted : List ℕ) (mismatch : Mismatch) → DiffersAt form start now had wants bytes text wanted mismatch → NeverPrints (unexplained form) start had wants
 never_prints form start now None wants bytes text wanted mismatch d = tt
 never_prints form start now (Some trace) None bytes text wanted mismatch d = tt
 never_prints form start now (Some trace) (Some expected) bytes text wanted mismatch d = λ others each told same. of d.left d.followed.read d.is_next d.more d.alike d.next others each told same
   where
     of : (left : Option (List ℕ)) → Consumes (Some trace) left (joined d.lines) → IsNext form mismatch.number (told_line mismatch.reason) d.state now left bytes text d.behind
         → (more : Option (List ℕ)) → Consumes (Some expected) more (joined d.rows) → IfSome more (λ rest. wanted ≡ take_through feed rest)
-        → (others : List (List ℕ)) → are_lines others ≡ true → trace ≡ joined others → text_in (unexplained form) 1 start others ≡ expected → ⊥
+        → (others : List (List ℕ)) → are_lines (processors_of start) others ≡ true → trace ≡ joined others → text_in (unexplained form) 1 start others ≡ expected → ⊥
     of None read is_next more alike next others each told same = absurd read
     of (Some unread) read is_next None alike next others each told same = absurd alike
     of (Some unread) read (inr (none, stays, no_text, no_rows)) (Some more) alike next others each told same =
@@ -102,12 +105,12 @@ never_prints form start now (Some trace) (Some expected) bytes text wanted misma
         let is : more ≡ joined d.behind ++ prints.0 = goes_on expected d.printed text more prints.0 d.rows d.behind (sym same ∙ prints.1) d.whole alike in
         d.other (next ∙ ap (take_through feed) is ∙ reads_next d.behind prints.0 (parts_each d.rows d.behind d.each).1 (λ none. absurd (omega (arith, ap length none, some))))
 
-pub compared_unequal : (form : Form) (start now : State) (had has wants unread : Option (List ℕ)) (bytes text wanted : List ℕ) (mismatch : Option Mismatch) → Compared form start now had has wants unread bytes text wanted (Ok mismatch)
+pub compared_unequal : (form : Form) (start now : Bench) (had has wants unread : Option (List ℕ)) (bytes text wanted : List ℕ) (mismatch : Option Mismatch) → Compared form start now had has wants unread bytes text wanted (Ok mismatch)
     → IfSome mismatch (λ _. NeverPrints (unexplained form) start had wants)
 compared_unequal form start now had has wants unread bytes text wanted None d = tt
 compared_unequal form start now had has wants unread bytes text wanted (Some mismatch) d = never_prints form start now had wants bytes text wanted mismatch d
 
-pub result_unequal : (form : Form) (start now : State) (had has wants unread : Option (List ℕ)) (bytes text wanted : List ℕ) (r : Result (Option Mismatch) CompareError) → Compared form start now had has wants unread bytes text wanted r
+pub result_unequal : (form : Form) (start now : Bench) (had has wants unread : Option (List ℕ)) (bytes text wanted : List ℕ) (r : Result (Option Mismatch) CompareError) → Compared form start now had has wants unread bytes text wanted r
     → IfOk r (λ d. IfSome d (λ _. NeverPrints (unexplained form) start had wants))
 result_unequal form start now had has wants unread bytes text wanted (Ok mismatch) d = compared_unequal form start now had has wants unread bytes text wanted mismatch d
 result_unequal form start now had has wants unread bytes text wanted (Err e) d = tt

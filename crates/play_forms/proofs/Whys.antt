@@ -7,48 +7,45 @@ use Rattle.ffa_model.specs.declared.operation.Op.{Op}
 use Rattle.ffa_model.specs.declared.operation.Outcome.{Outcome}
 use Rattle.ffa_model.specs.declared.why.Why.{Why}
 use Rattle.ffa_model.specs.Refusals.{is_refusal}
-use Rattle.ffa_model.specs.State.{State}
-use Rattle.ffa_model.specs.Step.{step}
-use Rattle.ffa_model.specs.Why.{why}
+use Rattle.ffa_playable.specs.Bench.{Bench, why_of}
 use Rattle.ffa_mend.specs.declared.Mend.{Mend}
 use Rattle.ffa_mend.specs.Mend.{mend}
-use Rattle.ffa_model.proofs.Reasons.{refused-unchanged, why-not}
-use Rattle.play_syntax.specs.TraceLines.{Line, operate, show, audit, skip}
+use Rattle.play_syntax.specs.TraceLines.{Line, operate, show, audit, skip, turn, interrupt}
 use Rattle.play_reasons.specs.Reasons.{reason_if, reason_line, reason_text, told_line}
 use Rattle.play_reasons.specs.declared.reason.Reason.{Reason}
 use Rattle.play_forms.specs.Steps.{SaysWhy}
+use Rattle.play_forms.proofs.Behind.{done-unexplained, refused-stays}
 
--- what came of an operation refuses it, or doesn't
-came_refused : (outcome : Option Outcome) (came : Outcome) (b : Bool) → outcome ≡ Some came → option_map_or is_refusal outcome false ≡ b → is_refusal came ≡ b
-came_refused outcome came b is refused = ap (λ o. option_map_or is_refusal o false) (sym is) ∙ refused
-
-pub says_unasked : (explain : Bool) (now : State) (line : Line) (outcome : Option Outcome) → explain ≡ false → SaysWhy explain now line outcome None
+pub says_unasked : (explain : Bool) (now : Bench) (line : Line) (outcome : Option Outcome) → explain ≡ false → SaysWhy explain now line outcome None
 says_unasked explain now line outcome unasked = λ start next came. ap (λ b. reason_if b start line) (sym unasked)
 
 -- no operation that is done has a reason
-pub says_nothing : (explain : Bool) (now : State) (line : Line) (outcome : Option Outcome) → option_map_or is_refusal outcome false ≡ false → SaysWhy explain now line outcome None
+pub says_nothing : (explain : Bool) (now : Bench) (line : Line) (outcome : Option Outcome) → option_map_or is_refusal outcome false ≡ false → SaysWhy explain now line outcome None
 says_nothing false now line outcome plain = λ start next came. refl
 says_nothing true now (operate op) outcome plain =
-    λ start next came. ap (λ o. option_map_or (λ reason. reason_line start.ram_base op reason (mend start op)) o []) (sym (why-not start op (came_refused outcome (step start op).outcome false came plain)))
+    λ start next came. ap (λ o. option_map_or (λ reason. reason_line start.state.ram_base op reason (mend start.state op)) o [])
+    (sym (done-unexplained start op (ap (λ o. option_map_or is_refusal o false) (sym came) ∙ plain)))
 says_nothing true now show outcome plain = λ start next came. refl
 says_nothing true now audit outcome plain = λ start next came. refl
 says_nothing true now skip outcome plain = λ start next came. refl
+says_nothing true now (turn processor) outcome plain = λ start next came. refl
+says_nothing true now interrupt outcome plain = λ start next came. refl
 
 -- one that is refused has the reason that the machine gives behind it
-module _ (explain : Bool) (now : State) (op : Op) (outcome : Option Outcome) (asked : explain ≡ true) (refused : option_map_or is_refusal outcome false ≡ true) where
+module _ (explain : Bool) (now : Bench) (op : Op) (outcome : Option Outcome) (asked : explain ≡ true) (refused : option_map_or is_refusal outcome false ≡ true) where
   as_before : (reason : Option Reason) → told_line reason ≡ reason_text now (operate op) → SaysWhy explain now (operate op) outcome reason
   as_before reason tells =
       λ start next came.
-      let stays : now ≡ start = next ∙ refused-unchanged start op (came_refused outcome (step start op).outcome true came refused) in
+      let stays : now ≡ start = next ∙ refused-stays start op (ap (λ o. option_map_or is_refusal o false) (sym came) ∙ refused) in
       tells ∙ ap (λ s. reason_text s (operate op)) stays ∙ ap (λ b. reason_if b start (operate op)) (sym asked)
 
-  pub says_why : (base : Address) (reason : Why) (its : Option Mend) → base.0 ≡ now.ram_base → Some reason ≡ why now op → its ≡ mend now op
+  pub says_why : (base : Address) (reason : Why) (its : Option Mend) → base.0 ≡ now.state.ram_base → Some reason ≡ why_of now op → its ≡ mend now.state op
       → SaysWhy explain now (operate op) outcome (Some (record { base = base; op = op; why = reason; mend = its }))
   says_why base reason its begins is mended =
       as_before (Some (record { base = base; op = op; why = reason; mend = its }))
       (ap (λ b. reason_line b op reason its) begins
-      ∙ ap (reason_line now.ram_base op reason) mended
-      ∙ ap (λ o. option_map_or (λ reason. reason_line now.ram_base op reason (mend now op)) o []) is)
+      ∙ ap (reason_line now.state.ram_base op reason) mended
+      ∙ ap (λ o. option_map_or (λ reason. reason_line now.state.ram_base op reason (mend now.state op)) o []) is)
 
-  pub says_none : None ≡ why now op → SaysWhy explain now (operate op) outcome None
-  says_none is = as_before None (ap (λ o. option_map_or (λ reason. reason_line now.ram_base op reason (mend now op)) o []) is)
+  pub says_none : None ≡ why_of now op → SaysWhy explain now (operate op) outcome None
+  says_none is = as_before None (ap (λ o. option_map_or (λ reason. reason_line now.state.ram_base op reason (mend now.state op)) o []) is)

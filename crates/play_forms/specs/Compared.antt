@@ -4,7 +4,7 @@ use Rattle.std.specs.Prelude.{◌≡◌, ◌≢◌, ◌≤◌, ◌⊎◌, ℕ, �
 use Rattle.std.specs.Io.BufRead.{take_through}
 use Rattle.std.specs.Io.KnownBytes.{Consumes, IsAtEnd}
 use Rattle.std.specs.List.{list_all}
-use Rattle.ffa_model.specs.State.{State}
+use Rattle.ffa_playable.specs.Bench.{Bench, processors_of}
 use Rattle.play_syntax.specs.TraceLines.{feed, has_no_feed, is_line, are_lines, joined}
 use Rattle.play_syntax.specs.TraceText.{after, after_all}
 use Rattle.play_syntax.specs.declared.output.PlayError.TheVariants.{Read, Write, NoMemory, BadLine}
@@ -26,24 +26,24 @@ abbrev pub next_row : List (List ℕ) → List ℕ
 next_row [] = []
 next_row (row ∷ rows) = row ++ feed ∷ []
 
--- What follows speaks of the machine's state before and now (`start`, `now`), of what was unread of the trace before,
+-- What follows speaks of what is played on before and now (`start`, `now`), of what was unread of the trace before,
 -- and is (`had`, `has`), and of what was unread of the expected text before (`wants`). Last come what was read of the
 -- trace last, the text of that line, and what was read of the expected text last.
 
 -- the next line was done, which has this number and these bytes, and this is its text, of which these rows are left, and
 -- why its operation is refused is told where that is asked for; or no line is left, and no text
-abbrev pub IsNext : Form → ℕ → List ℕ → State → State → Option (List ℕ) → List ℕ → List ℕ → List (List ℕ) → Type 0
+abbrev pub IsNext : Form → ℕ → List ℕ → Bench → Bench → Option (List ℕ) → List ℕ → List ℕ → List (List ℕ) → Type 0
 IsNext form number told state now left bytes text behind =
-    ((after_line : Option (List ℕ)) × Consumes left after_line (bytes ++ feed ∷ []) × (is_line bytes ≡ true)
-    × (now ≡ after state bytes) × (text ≡ text_of_in (unexplained form) number state bytes) × (1 ≤ length behind)
+    ((after_line : Option (List ℕ)) × Consumes left after_line (bytes ++ feed ∷ [])
+    × (is_line (processors_of state) bytes ≡ true) × (now ≡ after state bytes) × (text ≡ text_of_in (unexplained form) number state bytes) × (1 ≤ length behind)
     × (told ≡ reason_of_bytes form.explain state bytes))
     ⊎ (IsAtEnd left × (now ≡ state) × (text ≡ []) × (behind ≡ []))
 
 -- These lines were done and print this, and what is next prints this text. The first rows of both together begin what
 -- is expected, and then the next row of the expected text, which is `wanted`, is another than the next of those behind.
-pub record DiffersAt (form : Form) (start now : State) (had wants : Option (List ℕ)) (bytes text wanted : List ℕ)
+pub record DiffersAt (form : Form) (start now : Bench) (had wants : Option (List ℕ)) (bytes text wanted : List ℕ)
     (mismatch : Mismatch) : Type 0 where
-  pub state : State
+  pub state : Bench
   pub left : Option (List ℕ)
   pub lines : List (List ℕ)
   pub printed : List ℕ
@@ -63,7 +63,7 @@ pub record DiffersAt (form : Form) (start now : State) (had wants : Option (List
 
 -- of the text of these lines this was found: the text of all but the last one, and a front of the last one's text, of
 -- which a rest is left
-pub record StopsInLast (form : Form) (start : State) (lines : List (List ℕ)) (found : List ℕ) : Type 0 where
+pub record StopsInLast (form : Form) (start : Bench) (lines : List (List ℕ)) (found : List ℕ) : Type 0 where
   pub before : List (List ℕ)
   pub last : List ℕ
   pub front : List ℕ
@@ -75,7 +75,7 @@ pub record StopsInLast (form : Form) (start : State) (lines : List (List ℕ)) (
 
 -- The expected text could be read no further, of which this is unread now. These lines were done. It begins with what was
 -- found of their text, which is all of it where no line is left, and no row behind that was read whole.
-pub record FailsToMatch (form : Form) (start now : State) (had wants unread : Option (List ℕ)) : Type 0 where
+pub record FailsToMatch (form : Form) (start now : Bench) (had wants unread : Option (List ℕ)) : Type 0 where
   pub left : Option (List ℕ)
   pub lines : List (List ℕ)
   pub printed : List ℕ
@@ -89,7 +89,7 @@ pub record FailsToMatch (form : Form) (start now : State) (had wants unread : Op
 -- A comparison: the whole text is what is expected, or it differs, or a line is bad, or no more could be read of the
 -- trace, of which each line that was read whole was done, or of the expected text, of which `unread` is unread now. It
 -- writes nothing, and of what it leaves where there is no memory nothing is said.
-abbrev pub Compared : Form → State → State → (had has wants unread : Option (List ℕ)) → (bytes text wanted : List ℕ)
+abbrev pub Compared : Form → Bench → Bench → (had has wants unread : Option (List ℕ)) → (bytes text wanted : List ℕ)
     → Result (Option Mismatch) CompareError → Type 0
 Compared form start now had has wants unread bytes text wanted (Ok None) =
     (left : Option (List ℕ)) × (lines : List (List ℕ)) × (printed : List ℕ)
@@ -109,8 +109,9 @@ Compared form start now had has wants unread bytes text wanted (Err Expected) =
     FailsToMatch (unexplained form) start now had wants unread
 
 -- of all lines that a reader of known bytes can give, none print what is expected
-abbrev pub NeverPrints : Form → State → (had wants : Option (List ℕ)) → Type 0
+abbrev pub NeverPrints : Form → Bench → (had wants : Option (List ℕ)) → Type 0
 NeverPrints form start None wants = ⊤
 NeverPrints form start (Some trace) None = ⊤
 NeverPrints form start (Some trace) (Some expected) =
-    (lines : List (List ℕ)) → are_lines lines ≡ true → trace ≡ joined lines → text_in form 1 start lines ≢ expected
+    (lines : List (List ℕ)) → are_lines (processors_of start) lines ≡ true → trace ≡ joined lines
+    → text_in form 1 start lines ≢ expected

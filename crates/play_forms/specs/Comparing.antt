@@ -6,7 +6,7 @@ use Rattle.std.specs.Io.{StopsAt}
 use Rattle.std.specs.Io.BufRead.{take_through}
 use Rattle.std.specs.Io.KnownBytes.{Consumes}
 use Rattle.std.specs.List.{list_all}
-use Rattle.ffa_model.specs.State.{State}
+use Rattle.ffa_playable.specs.Bench.{Bench}
 use Rattle.play_syntax.specs.TraceLines.{Line, feed, has_no_feed, joined}
 use Rattle.play_syntax.specs.TraceText.{line_after}
 use Rattle.play_syntax.specs.declared.output.PlayError.TheVariants.{NoMemory}
@@ -68,7 +68,7 @@ TakesText wants has old new text wanted (Err Expected) =
     × Consumes wants more front × ReadsNoLine more has
 
 -- a line was done, and its text was read of what is expected, or differs
-abbrev pub ComparesLine : Form → State → State → ℕ → Line → (wants has : Option (List ℕ)) (old new : ℕ)
+abbrev pub ComparesLine : Form → Bench → Bench → ℕ → Line → (wants has : Option (List ℕ)) (old new : ℕ)
     (text wanted : List ℕ) → Result (Option Mismatch) CompareError → Type 0
 ComparesLine form start now number line wants has old new text wanted (Ok None) =
     (now ≡ line_after start line) × (text ≡ line_text_in (unexplained form) number start line)

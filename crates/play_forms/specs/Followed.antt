@@ -2,7 +2,7 @@
 -- What a play line by line leaves.
 use Rattle.std.specs.Prelude.{◌≡◌, ℕ, ◌+◌, true, List, [], ◌∷◌, ◌++◌, length, Option, Result, Ok, Err, ⊤}
 use Rattle.std.specs.Io.KnownBytes.{Appends, Consumes, IsAtEnd}
-use Rattle.ffa_model.specs.State.{State}
+use Rattle.ffa_playable.specs.Bench.{Bench, processors_of}
 use Rattle.play_syntax.specs.TraceLines.{are_lines, joined}
 use Rattle.play_syntax.specs.TraceText.{after_all, text}
 use Rattle.play_syntax.specs.Output.{TookFront}
@@ -13,30 +13,30 @@ use Rattle.play_forms.specs.Cut.{CutsTo}
 use Rattle.play_forms.specs.Forms.{text_in, text_of_in}
 use Rattle.play_forms.specs.Reading.{IsBadLine, ReadsNoLine}
 
--- What follows speaks of the machine's state before and now (`start`, `now`), of what was unread in the reader before
+-- What follows speaks of what is played on before and now (`start`, `now`), of what was unread in the reader before
 -- and after, and of what the writer held before, and holds.
 
 -- these lines were read and done, and this is their text, of which the plain text is left when numbers and names are
 -- cut off
-pub record Followed (form : Form) (start now : State) (had has : Option (List ℕ)) (lines : List (List ℕ))
+pub record Followed (form : Form) (start now : Bench) (had has : Option (List ℕ)) (lines : List (List ℕ))
     (printed : List ℕ) : Type 0 where
-  pub each : are_lines lines ≡ true
+  pub each : are_lines (processors_of start) lines ≡ true
   pub read : Consumes had has (joined lines)
   pub state : now ≡ after_all start lines
   pub said : printed ≡ text_in form 1 start lines
   pub cut : CutsTo printed (text start lines)
 
 -- These lines were done, and nothing more: the one behind them is bad. Its number is this, and its bytes are these.
-pub record EndsBadly (form : Form) (start now : State) (had : Option (List ℕ)) (text bytes : List ℕ) (number : ℕ)
+pub record EndsBadly (form : Form) (start now : Bench) (had : Option (List ℕ)) (text bytes : List ℕ) (number : ℕ)
     : Type 0 where
   pub left : Option (List ℕ)
   pub lines : List (List ℕ)
   pub followed : Followed form start now had left lines text
   pub is_next : number ≡ 1 + length lines
-  pub bad : IsBadLine left bytes
+  pub bad : IsBadLine (processors_of start) left bytes
 
 -- these lines were done and their text was written, and so was the last one, of whose text the writer took a beginning
-pub record FailsToWrite (form : Form) (start now : State) (held holds had : Option (List ℕ)) : Type 0 where
+pub record FailsToWrite (form : Form) (start now : Bench) (held holds had : Option (List ℕ)) : Type 0 where
   pub left : Option (List ℕ)
   pub lines : List (List ℕ)
   pub last : List ℕ
@@ -48,7 +48,7 @@ pub record FailsToWrite (form : Form) (start now : State) (held holds had : Opti
 
 -- A play that writes each text: whole, or up to a bad line, or as far as could be read, where each line that was read
 -- whole was done, or as far as could be written. Of what it leaves where there is no memory nothing is said.
-abbrev pub PlayedIn : {X : Type 0} → Form → State → State → (held holds had has : Option (List ℕ)) → List ℕ
+abbrev pub PlayedIn : {X : Type 0} → Form → Bench → Bench → (held holds had has : Option (List ℕ)) → List ℕ
     → Result X PlayError → Type 0
 PlayedIn form start now held holds had has bytes (Ok _) =
     (left : Option (List ℕ)) × (lines : List (List ℕ)) × (text : List ℕ)

@@ -4,8 +4,8 @@ use Rattle.std.specs.Prelude.{◌≡◌, ℕ, ◌+◌, ◌-◌, false, List, [],
 use Rattle.std.specs.Option.{option_map_or}
 use Rattle.ffa_model.specs.declared.operation.Outcome.{Outcome}
 use Rattle.ffa_model.specs.declared.operation.Outcome.TheVariants.{Regs}
-use Rattle.ffa_model.specs.State.{State}
-use Rattle.play_syntax.specs.TraceLines.{Line, line_of}
+use Rattle.ffa_playable.specs.Bench.{Bench, processors_of}
+use Rattle.play_syntax.specs.TraceLines.{Line, line_in}
 use Rattle.play_syntax.specs.TraceText.{line_text, line_after, after, ended}
 use Rattle.play_syntax.specs.Lines.{outcome_of}
 use Rattle.play_syntax.specs.declared.output.PlayError.{PlayError}
@@ -34,22 +34,22 @@ dressed form number outcome reason [] = []
 dressed form number outcome reason (c ∷ said) =
     number_in form number ++ named_in form outcome (c ∷ said) ++ reason
 
--- what a line of this number prints: why its operation is refused is asked of the state in which it is done
-abbrev pub line_text_in : Form → ℕ → State → Line → List ℕ
+-- what a line of this number prints: why its operation is refused is asked where it is done
+abbrev pub line_text_in : Form → ℕ → Bench → Line → List ℕ
 line_text_in form number s line =
     dressed form number (outcome_of s line) (reason_if form.explain s line) (line_text s line)
 
 -- the same of the bytes of a line
-unfoldable pub text_of_in : Form → ℕ → State → List ℕ → List ℕ
-text_of_in form number s bytes = option_map_or (line_text_in form number s) (line_of bytes) []
+unfoldable pub text_of_in : Form → ℕ → Bench → List ℕ → List ℕ
+text_of_in form number s bytes = option_map_or (line_text_in form number s) (line_in (processors_of s) bytes) []
 
 -- what lines print one after another, of which the first has this number
-abbrev pub text_in : Form → ℕ → State → List (List ℕ) → List ℕ
+abbrev pub text_in : Form → ℕ → Bench → List (List ℕ) → List ℕ
 text_in form number s [] = []
 text_in form number s (line ∷ lines) = text_of_in form number s line ++ text_in form (number + 1) (after s line) lines
 
 -- a line was done, this is its plain text, and this came of it; or there is no memory for its text
-abbrev pub DoesLine : State → State → Line → List ℕ → Result (Option Outcome) PlayError → Type 0
+abbrev pub DoesLine : Bench → Bench → Line → List ℕ → Result (Option Outcome) PlayError → Type 0
 DoesLine start now line said (Ok outcome) =
     (now ≡ line_after start line) × (said ≡ line_text start line) × (outcome ≡ outcome_of start line)
 DoesLine start now line said (Err e) = e ≡ NoMemory

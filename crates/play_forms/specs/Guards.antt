@@ -4,8 +4,8 @@ use Rattle.std.specs.Prelude.{◌≡◌, ℕ, ◌+◌, Bool, true, false, not, �
 use Rattle.std.specs.Io.KnownBytes.{Appends, Consumes, IsAtEnd}
 use Rattle.std.specs.List.{list_all, position_or_len, starts_with}
 use Rattle.std.specs.Option.{option_map_or}
-use Rattle.ffa_model.specs.State.{State}
-use Rattle.play_syntax.specs.TraceLines.{Line, operate, show, audit, skip, feed, space, has_no_feed, line_of, joined}
+use Rattle.ffa_playable.specs.Bench.{Bench, processors_of}
+use Rattle.play_syntax.specs.TraceLines.{Line, operate, show, audit, skip, turn, interrupt, feed, space, has_no_feed, line_in, joined}
 use Rattle.play_syntax.specs.TraceText.{hex, text_of, after_all}
 use Rattle.play_syntax.specs.declared.output.PlayError.{PlayError}
 use Rattle.play_syntax.specs.declared.output.PlayError.TheVariants.{Read, Write, NoMemory, BadLine}
@@ -39,10 +39,11 @@ is_guard line = is_some (guard_of line)
 abbrev pub wanted_of : List ℕ → List ℕ
 wanted_of line = option_map_or (λ guard. guard.1) (guard_of line) line
 
--- the breach at a guard in the line of this number, where this is found, and where text was printed before
-abbrev pub breach_of : ℕ → Asks → List ℕ → List ℕ → Bool → Breach
-breach_of number asks line found printed =
-    record { number = number; asks = asks; hint = hint_of asks (wanted_of line) found printed }
+-- the breach at a guard in the line of this number in a trace of so many processors, where this is found, and where text
+-- was printed before
+abbrev pub breach_of : Option ℕ → ℕ → Asks → List ℕ → List ℕ → Bool → Breach
+breach_of processors number asks line found printed =
+    record { number = number; asks = asks; hint = hint_of processors asks (wanted_of line) found printed }
 
 -- whether a guard asks for a printed line
 abbrev pub asks_line : Option (Asks × List ℕ) → Bool
@@ -76,28 +77,30 @@ near_from number (line ∷ lines) =
 
 -- WHAT IS UNASKED
 
--- operations, `show` and `audit` print, and no other line does
+-- operations, interrupts, `show` and `audit` print, and no other line does
 abbrev pub speaks : Line → Bool
 speaks (operate op) = true
 speaks show = true
 speaks audit = true
 speaks skip = false
+speaks (turn processor) = false
+speaks interrupt = true
 
-abbrev pub prints : List ℕ → Bool
-prints line = option_map_or speaks (line_of line) false
+abbrev pub prints : Option ℕ → List ℕ → Bool
+prints processors line = option_map_or speaks (line_in processors line) false
 
-abbrev pub are_silent : List (List ℕ) → Bool
-are_silent lines = list_all (λ line. not (prints line)) lines
+abbrev pub are_silent : Option ℕ → List (List ℕ) → Bool
+are_silent processors lines = list_all (λ line. not (prints processors line)) lines
 
 -- The last of these lines that prints came to this, and printed lines and then this rest: each guard behind it has asked
 -- for one of the lines.
-pub record Leaves (start : State) (lines : List (List ℕ)) (came : Came) (rest : List ℕ) : Type 0 where
+pub record Leaves (start : Bench) (lines : List (List ℕ)) (came : Came) (rest : List ℕ) : Type 0 where
   pub before : List (List ℕ)
   pub last : List ℕ
   pub behind : List (List ℕ)
   pub whole : lines ≡ before ++ last ∷ behind
-  pub loud : prints last ≡ true
-  pub silent : are_silent behind ≡ true
+  pub loud : prints (processors_of start) last ≡ true
+  pub silent : are_silent (processors_of start) behind ≡ true
   pub comes : came ≡ came_of (after_all start before) last
   pub asked : List (List ℕ)
   pub each : list_all has_no_feed asked ≡ true
@@ -105,20 +108,21 @@ pub record Leaves (start : State) (lines : List (List ℕ)) (came : Came) (rest 
   pub said : text_of (after_all start before) last ≡ joined asked ++ rest
 
 -- what no guard among these lines has asked for: that rest, or nothing where none of them prints
-abbrev pub IsUnasked : State → List (List ℕ) → Came → List ℕ → Type 0
-IsUnasked start lines came rest = Leaves start lines came rest ⊎ ((are_silent lines ≡ true) × (rest ≡ []))
+abbrev pub IsUnasked : Bench → List (List ℕ) → Came → List ℕ → Type 0
+IsUnasked start lines came rest =
+    Leaves start lines came rest ⊎ ((are_silent (processors_of start) lines ≡ true) × (rest ≡ []))
 
 -- WHICH GUARDS ARE MET
 
 -- a guard behind these lines is met: the first line of the rest meets its text, or its text is the identifier of the
 -- endpoint that runs
-abbrev pub IsMet : State → List (List ℕ) → Asks × List ℕ → Type 0
+abbrev pub IsMet : Bench → List (List ℕ) → Asks × List ℕ → Type 0
 IsMet start lines (Printed, text) =
     (came : Came) × (line : List ℕ) × (rest : List ℕ) × Leaves start lines came (line ++ feed ∷ rest)
     × (has_no_feed line ≡ true) × (meets came text line ≡ true)
-IsMet start lines (Runner, text) = text ≡ hex 4 (after_all start lines).runner
+IsMet start lines (Runner, text) = text ≡ hex 4 (after_all start lines).state.runner
 
-abbrev pub AreMet : State → List (List ℕ) → Type 0
+abbrev pub AreMet : Bench → List (List ℕ) → Type 0
 AreMet start lines =
     (front : List (List ℕ)) (line : List ℕ) (back : List (List ℕ)) (guard : Asks × List ℕ)
     → lines ≡ front ++ line ∷ back → guard_of line ≡ Some guard → IsMet start front guard
@@ -132,18 +136,18 @@ abbrev pub told_first : List ℕ → Came → List ℕ → List ℕ
 told_first wants came text = option_map_or (told (pattern_of wants) came) (first_line text) []
 
 -- what a guard behind these lines finds
-abbrev pub IsFound : State → List (List ℕ) → Asks × List ℕ → List ℕ → Type 0
+abbrev pub IsFound : Bench → List (List ℕ) → Asks × List ℕ → List ℕ → Type 0
 IsFound start lines (Printed, wants) found =
     (came : Came) × (rest : List ℕ) × IsUnasked start lines came rest × (found ≡ told_first wants came rest)
-IsFound start lines (Runner, wants) found = found ≡ hex 4 (after_all start lines).runner
+IsFound start lines (Runner, wants) found = found ≡ hex 4 (after_all start lines).state.runner
 
 -- A PLAY
 
--- What follows speaks of the machine's state before and now (`start`, `now`), and of what was unread in the reader
+-- What follows speaks of what is played on before and now (`start`, `now`), and of what was unread in the reader
 -- before, and is (`had`, `has`).
 
 -- these guards were met, and the line that was read behind them is one that isn't
-pub record Breaks (form : Form) (start now : State) (had : Option (List ℕ)) (text bytes found : List ℕ)
+pub record Breaks (form : Form) (start now : Bench) (had : Option (List ℕ)) (text bytes found : List ℕ)
     (breach : Breach) : Type 0 where
   pub left : Option (List ℕ)
   pub after_guard : Option (List ℕ)
@@ -157,7 +161,7 @@ pub record Breaks (form : Form) (start now : State) (had : Option (List ℕ)) (t
   pub unmet : IsMet start lines (breach.asks, wants) → ⊥
   pub is_next : breach.number ≡ 1 + length lines
   pub finds : IsFound start lines (breach.asks, wants) found
-  pub hints : breach.hint ≡ hint_of breach.asks wants found (not (are_silent lines))
+  pub hints : breach.hint ≡ hint_of (processors_of start) breach.asks wants found (not (are_silent (processors_of start) lines))
 
 -- so many of these lines are guards, and these are the numbers of those that are nearly guards
 abbrev pub Tallies : List (List ℕ) → ℕ → List ℕ → Type 0
@@ -167,7 +171,7 @@ Tallies lines met near = (met ≡ guards_among lines) × (near ≡ near_from 1 l
 -- far as could be read, where each line that was read whole was done, or as far as could be written. All guards of these
 -- lines were met, so many they are, and these are nearly guards. Of what it leaves where there is no memory nothing is
 -- said.
-abbrev pub GuardedIn : Form → State → State → (held holds had has : Option (List ℕ)) → List ℕ → List ℕ → ℕ → List ℕ
+abbrev pub GuardedIn : Form → Bench → Bench → (held holds had has : Option (List ℕ)) → List ℕ → List ℕ → ℕ → List ℕ
     → Result (Option Breach) PlayError → Type 0
 GuardedIn form start now held holds had has bytes found met near (Ok None) =
     (left : Option (List ℕ)) × (lines : List (List ℕ)) × (text : List ℕ)

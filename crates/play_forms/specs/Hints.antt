@@ -1,6 +1,6 @@
 -- SPDX-License-Identifier: MIT OR Apache-2.0
 -- What more there is to say of a guard that isn't met than what is found.
-use Rattle.std.specs.Prelude.{ℕ, ◌==◌, Bool, true, false, not, ◌&&◌, ◌||◌, nat_eq, nat_le, List, [], ◌∷◌, codes, drop, length, take, Option, None, Some, if◌then◌else◌}
+use Rattle.std.specs.Prelude.{ℕ, ◌==◌, Bool, true, not, ◌&&◌, ◌||◌, nat_eq, nat_le, List, [], ◌∷◌, codes, drop, is_some, length, take, Option, None, Some, if◌then◌else◌}
 use Rattle.std.specs.List.{list_all, list_any, position_or_len, starts_with}
 use Rattle.std.specs.Str.{bytes_eq}
 use Rattle.ffa_abi.specs.Names.{answer_names}
@@ -39,25 +39,29 @@ is_row_name word = list_any (λ row. bytes_eq word row.1.now) CALLS.now
 abbrev pub is_call_name : List ℕ → Bool
 is_call_name word = is_answer_name word || is_row_name word
 
--- a word with which the line of an outcome begins, or one of those of `show` and `audit`
+-- a word with which the line of an outcome begins, or that of a partition that goes on, which only one of several processors
+-- lets go on, or one of the lines of `show` and `audit`
 abbrev pub begins_outcome : List ℕ → Bool
 begins_outcome word =
     list_any (bytes_eq word) (codes "regs" ∷ codes "data" ∷ codes "done" ∷ codes "fault" ∷ [])
+
+abbrev pub begins_resumed : Option ℕ → List ℕ → Bool
+begins_resumed processors word = is_some processors && bytes_eq word (codes "resumed")
 
 abbrev pub begins_listing : List ℕ → Bool
 begins_listing word =
     list_any (bytes_eq word)
     (codes "runner" ∷ codes "pages" ∷ codes "cert" ∷ codes "root" ∷ codes "agrees" ∷ codes "differs" ∷ [])
 
-abbrev pub is_opening : List ℕ → Bool
-is_opening word = begins_outcome word || begins_listing word
+abbrev pub is_opening : Option ℕ → List ℕ → Bool
+is_opening processors word = begins_outcome word || (begins_resumed processors word || begins_listing word)
 
--- some line that is printed may meet a text, by its first words
-abbrev pub can_be_met : List ℕ → Bool
-can_be_met text =
+-- some line that is printed in a trace of so many processors may meet a text, by its first words
+abbrev pub can_be_met : Option ℕ → List ℕ → Bool
+can_be_met processors text =
     if starts_with nat_eq text (codes "check ") then is_check (first_word (drop 6 text))
     else if starts_with nat_eq text (codes "FFA_") then is_call_name (first_word text)
-    else is_opening (first_word text)
+    else is_opening processors (first_word text)
 
 -- a text is written as an endpoint's identifier is
 abbrev pub is_runner : List ℕ → Bool
@@ -69,10 +73,10 @@ is_runner text = (length text == 4) && are_upper_digits text
 abbrev pub begins_line : List ℕ → List ℕ → Bool
 begins_line text line = fit (starts_with nat_eq text (codes "regs ")) true (words_of text) (words_of line)
 
--- of a guard that isn't met, where this is found, and where text was printed before
-abbrev pub hint_of : Asks → List ℕ → List ℕ → (printed : Bool) → Option Hint
-hint_of Runner wants found printed = if is_runner wants then None else Some Bad
-hint_of Printed wants [] printed =
-    if not (can_be_met wants) then Some Bad else if printed then Some Taken else None
-hint_of Printed wants (c ∷ found) printed =
-    if not (can_be_met wants) then Some Bad else if begins_line wants (c ∷ found) then Some Open else None
+-- of a guard that isn't met in a trace of so many processors, where this is found, and where text was printed before
+abbrev pub hint_of : Option ℕ → Asks → List ℕ → List ℕ → (printed : Bool) → Option Hint
+hint_of processors Runner wants found printed = if is_runner wants then None else Some Bad
+hint_of processors Printed wants [] printed =
+    if not (can_be_met processors wants) then Some Bad else if printed then Some Taken else None
+hint_of processors Printed wants (c ∷ found) printed =
+    if not (can_be_met processors wants) then Some Bad else if begins_line wants (c ∷ found) then Some Open else None

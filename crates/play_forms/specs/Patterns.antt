@@ -12,11 +12,10 @@ use Rattle.ffa_model.specs.declared.operation.Outcome.TheVariants.{Regs}
 use Rattle.ffa_model.specs.declared.why.Why.{Why}
 use Rattle.ffa_model.specs.declared.why.Why.TheVariants.{Refused, Fault}
 use Rattle.ffa_model.specs.Registers.{low}
-use Rattle.ffa_model.specs.State.{State}
-use Rattle.ffa_model.specs.Step.{step}
-use Rattle.ffa_model.specs.Why.{why}
-use Rattle.play_syntax.specs.TraceLines.{Line, operate, show, audit, skip, line_of, words_of}
+use Rattle.ffa_playable.specs.Bench.{Bench, processors_of, why_of}
+use Rattle.play_syntax.specs.TraceLines.{Line, operate, show, audit, skip, turn, interrupt, line_in, words_of}
 use Rattle.play_syntax.specs.TraceText.{spaced}
+use Rattle.play_syntax.specs.Lines.{outcome_of}
 use Rattle.play_reasons.specs.Checks.{number_of}
 use Rattle.play_forms.specs.declared.patterns.Came.{Came}
 use Rattle.play_forms.specs.declared.patterns.Pattern.{Pattern}
@@ -30,8 +29,8 @@ check_in x None = None
 check_in x (Some (Refused refusal about)) = number_of (low (slice_index x 0)) refusal
 check_in x (Some (Fault kind obstacle)) = None
 
-abbrev pub check_of : State → Op → Option ℕ
-check_of s (Call x) = check_in x (why s (Call x))
+abbrev pub check_of : Bench → Op → Option ℕ
+check_of s (Call x) = check_in x (why_of s (Call x))
 check_of s (Load address size) = None
 check_of s (Store address size value) = None
 check_of s (Fetch address) = None
@@ -39,15 +38,17 @@ check_of s (Fetch address) = None
 abbrev pub nothing : Came
 nothing = record { outcome = None; check = None }
 
--- what a line comes to in this state: its outcome, and the number of the check that refuses its call
-abbrev pub line_came : State → Line → Came
-line_came s (operate op) = record { outcome = Some (step s op).outcome; check = check_of s op }
+-- what a line comes to there: its outcome, where it has one, and the number of the check that refuses its call
+abbrev pub line_came : Bench → Line → Came
+line_came s (operate op) = record { outcome = outcome_of s (operate op); check = check_of s op }
 line_came s show = nothing
 line_came s audit = nothing
 line_came s skip = nothing
+line_came s (turn processor) = nothing
+line_came s interrupt = record { outcome = outcome_of s interrupt; check = None }
 
-unfoldable pub came_of : State → List ℕ → Came
-came_of s bytes = option_map_or (line_came s) (line_of bytes) nothing
+unfoldable pub came_of : Bench → List ℕ → Came
+came_of s bytes = option_map_or (line_came s) (line_in (processors_of s) bytes) nothing
 
 -- WHAT A TEXT IS COMPARED WITH
 

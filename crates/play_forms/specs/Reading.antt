@@ -2,7 +2,7 @@
 -- What reading a line leaves.
 use Rattle.std.specs.Prelude.{◌≡◌, ◌≢◌, ◌≤◌, ◌⊎◌, ℕ, ◌+◌, Bool, true, false, List, [], ◌∷◌, ◌++◌, length, Option, None, Some, Result, Ok, Err, ⊤}
 use Rattle.std.specs.Io.KnownBytes.{Consumes, IsAtEnd}
-use Rattle.play_syntax.specs.TraceLines.{feed, has_no_feed, is_good, line_of}
+use Rattle.play_syntax.specs.TraceLines.{feed, has_no_feed, is_good, line_in}
 use Rattle.play_syntax.specs.Lines.{meant}
 use Rattle.play_syntax.specs.declared.lines.Line.{Line}
 use Rattle.play_syntax.specs.declared.output.PlayError.{PlayError}
@@ -48,30 +48,31 @@ TakesWhole old new (Err NoMemory) = ⊥
 TakesWhole old new (Err Write) = ⊥
 TakesWhole old new (Err (BadLine n)) = ⊥
 
--- what is unread begins with these bytes, which are a line that is none of the format, and its LF; or they are all of
--- it, and no LF ends them
-abbrev pub IsBadLine : Option (List ℕ) → List ℕ → Type 0
-IsBadLine left bytes =
+-- what is unread begins with these bytes, which are a line that is none of a trace of so many processors, and its LF; or
+-- they are all of it, and no LF ends them
+abbrev pub IsBadLine : Option ℕ → Option (List ℕ) → List ℕ → Type 0
+IsBadLine processors left bytes =
     ((bad : List ℕ) × (rest : Option (List ℕ)) × (bytes ≡ bad ++ feed ∷ []) × (has_no_feed bad ≡ true)
-    × (is_good bad ≡ false) × Consumes left rest bytes)
+    × (is_good processors bad ≡ false) × Consumes left rest bytes)
     ⊎ ((has_no_feed bytes ≡ true) × (1 ≤ length bytes) × IsAll left bytes)
 
--- A line was read and is taken, and these are its bytes without its LF; or the reader was at its end; or a bad line was
--- read, which has this number, and these are its bytes; or no line could be read.
-abbrev pub TakesLine : Option (List ℕ) → Option (List ℕ) → List ℕ → ℕ → Result (Option Line) PlayError → Type 0
-TakesLine had has bytes number (Ok None) = IsAtEnd had
-TakesLine had has bytes number (Ok (Some line)) =
-    Consumes had has (bytes ++ feed ∷ []) × (has_no_feed bytes ≡ true) × (Some (meant line) ≡ line_of bytes)
-TakesLine had has bytes number (Err (BadLine n)) = (n ≡ number) × IsBadLine had bytes
-TakesLine had has bytes number (Err Read) = ReadsNoLine had has
-TakesLine had has bytes number (Err NoMemory) = ⊤
-TakesLine had has bytes number (Err Write) = ⊥
+-- A line of a trace of so many processors was read and is taken, and these are its bytes without its LF; or the reader was at
+-- its end; or a bad line was read, which has this number, and these are its bytes; or no line could be read.
+abbrev pub TakesLine : Option ℕ → Option (List ℕ) → Option (List ℕ) → List ℕ → ℕ → Result (Option Line) PlayError → Type 0
+TakesLine processors had has bytes number (Ok None) = IsAtEnd had
+TakesLine processors had has bytes number (Ok (Some line)) =
+    Consumes had has (bytes ++ feed ∷ []) × (has_no_feed bytes ≡ true) × (Some (meant line) ≡ line_in processors bytes)
+TakesLine processors had has bytes number (Err (BadLine n)) = (n ≡ number) × IsBadLine processors had bytes
+TakesLine processors had has bytes number (Err Read) = ReadsNoLine had has
+TakesLine processors had has bytes number (Err NoMemory) = ⊤
+TakesLine processors had has bytes number (Err Write) = ⊥
 
 -- The line that has this number was read and taken, and the next has the next; or the reader was at its end; or a bad
 -- line was read, or none can be.
-abbrev pub TakesNext : ℕ → ℕ → Option (List ℕ) → Option (List ℕ) → List ℕ → Result (Option (ℕ × Line)) PlayError
-    → Type 0
-TakesNext number next had has bytes (Ok None) = (next ≡ number) × TakesLine had has bytes number (Ok None)
-TakesNext number next had has bytes (Ok (Some (its, line))) =
-    (its ≡ number) × (next ≡ 1 + number) × TakesLine had has bytes number (Ok (Some line))
-TakesNext number next had has bytes (Err e) = TakesLine had has bytes number (Err e)
+abbrev pub TakesNext : Option ℕ → ℕ → ℕ → Option (List ℕ) → Option (List ℕ) → List ℕ
+    → Result (Option (ℕ × Line)) PlayError → Type 0
+TakesNext processors number next had has bytes (Ok None) =
+    (next ≡ number) × TakesLine processors had has bytes number (Ok None)
+TakesNext processors number next had has bytes (Ok (Some (its, line))) =
+    (its ≡ number) × (next ≡ 1 + number) × TakesLine processors had has bytes number (Ok (Some line))
+TakesNext processors number next had has bytes (Err e) = TakesLine processors had has bytes number (Err e)

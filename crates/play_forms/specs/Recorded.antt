@@ -2,7 +2,7 @@
 -- A trace, written with the guards of its own play.
 use Rattle.std.specs.Prelude.{◌≡◌, ◌==◌, ℕ, true, List, [], ◌∷◌, ◌++◌, codes, map, Option, Result, Ok, Err, ⊤, if◌then◌else◌}
 use Rattle.std.specs.Io.KnownBytes.{Appends, IsAtEnd}
-use Rattle.ffa_model.specs.State.{State}
+use Rattle.ffa_playable.specs.Bench.{Bench, processors_of}
 use Rattle.play_syntax.specs.TraceLines.{Line, feed, are_lines, joined}
 use Rattle.play_syntax.specs.TraceText.{after, after_all, line_after, line_text, text, text_of}
 use Rattle.play_syntax.specs.Output.{TookFront}
@@ -33,22 +33,22 @@ abbrev pub line_recorded : List ℕ → List ℕ → List (List ℕ)
 line_recorded line printed = if is_guard line then [] else line ∷ map guard_for (lines_in printed)
 
 -- the lines that are written of these lines
-abbrev pub recorded : State → List (List ℕ) → List (List ℕ)
+abbrev pub recorded : Bench → List (List ℕ) → List (List ℕ)
 recorded s [] = []
 recorded s (line ∷ lines) = line_recorded line (text_of s line) ++ recorded (after s line) lines
 
--- what is written is lines that play as these do: they print the same and leave the same state, and their guards are
+-- what is written is lines that play as these do: they print the same and leave all the same, and their guards are
 -- met
-pub record Replays (start : State) (lines : List (List ℕ)) : Type 0 where
-  pub each : are_lines (recorded start lines) ≡ true
+pub record Replays (start : Bench) (lines : List (List ℕ)) : Type 0 where
+  pub each : are_lines (processors_of start) (recorded start lines) ≡ true
   pub prints : text start (recorded start lines) ≡ text start lines
   pub leaves : after_all start (recorded start lines) ≡ after_all start lines
   pub met : AreMet start (recorded start lines)
 
--- A RECORD, from this state, by what was unread in the reader, and by what the writer held and holds
+-- A RECORD, from here, by what was unread in the reader, and by what the writer held and holds
 
 -- what is written of these lines was written, and a beginning of what is written of the last one
-pub record FailsToRecord (start now : State) (held holds had : Option (List ℕ)) : Type 0 where
+pub record FailsToRecord (start now : Bench) (held holds had : Option (List ℕ)) : Type 0 where
   pub left : Option (List ℕ)
   pub lines : List (List ℕ)
   pub last : List ℕ
@@ -60,7 +60,7 @@ pub record FailsToRecord (start now : State) (held holds had : Option (List ℕ)
 
 -- The trace was recorded: whole, or up to a bad line, or as far as could be read, where each line that was read whole was
 -- done, or as far as could be written. Of what is left where there is no memory nothing is said.
-abbrev pub RecordedIn : {X : Type 0} → State → State → (held holds had has : Option (List ℕ)) → List ℕ
+abbrev pub RecordedIn : {X : Type 0} → Bench → Bench → (held holds had has : Option (List ℕ)) → List ℕ
     → Result X PlayError → Type 0
 RecordedIn start now held holds had has bytes (Ok _) =
     (left : Option (List ℕ)) × (lines : List (List ℕ)) × (said : List ℕ)
@@ -79,7 +79,7 @@ RecordedIn start now held holds had has bytes (Err NoMemory) = ⊤
 -- WHAT A PRIVATE FUNCTION PROMISES
 
 -- a line was done, and what is written of it was written, or a beginning
-abbrev pub RecordsLine : {X : Type 0} → State → State → List ℕ → Line → Option (List ℕ) → Option (List ℕ)
+abbrev pub RecordsLine : {X : Type 0} → Bench → Bench → List ℕ → Line → Option (List ℕ) → Option (List ℕ)
     → Result X PlayError → Type 0
 RecordsLine start now bytes line held holds (Ok _) =
     (now ≡ line_after start line) × Appends held holds (joined (line_recorded bytes (line_text start line)))

@@ -3,7 +3,7 @@
 use Rattle.std.specs.Prelude.{◌≡◌, ◌≤◌, ◌⊎◌, ◌↔◌, ℕ, ◌+◌, true, false, List, [], ◌∷◌, ◌++◌, codes, decimal, filter, length, Option, None, Some, IsNone, Result, Ok, Err, ⊤, if◌then◌else◌}
 use Rattle.std.specs.Io.KnownBytes.{Appends, Consumes, IsAtEnd}
 use Rattle.std.specs.List.{list_all}
-use Rattle.ffa_model.specs.State.{State}
+use Rattle.ffa_playable.specs.Bench.{Bench, processors_of}
 use Rattle.play_syntax.specs.TraceLines.{feed, has_no_feed, is_good, joined}
 use Rattle.play_syntax.specs.TraceText.{after, after_all, text}
 use Rattle.play_syntax.specs.Output.{TookFront}
@@ -18,30 +18,30 @@ use Rattle.play_forms.specs.Cut.{CutsTo}
 use Rattle.play_forms.specs.Forms.{text_of_in}
 use Rattle.play_forms.specs.Reading.{IsAll, ReadsNoLine}
 
--- the good ones of these lines, in order
-abbrev pub good_lines : List (List ℕ) → List (List ℕ)
-good_lines lines = filter is_good lines
+-- the good ones of these lines of a trace of so many processors, in order
+abbrev pub good_lines : Option ℕ → List (List ℕ) → List (List ℕ)
+good_lines processors lines = filter (is_good processors) lines
 
 -- what the good ones of these lines print, of which the first has this number: a bad one counts, and isn't done
-abbrev pub good_text_in : Form → ℕ → State → List (List ℕ) → List ℕ
+abbrev pub good_text_in : Form → ℕ → Bench → List (List ℕ) → List ℕ
 good_text_in form number s [] = []
 good_text_in form number s (line ∷ lines) =
-    if is_good line
+    if is_good (processors_of s) line
     then text_of_in form number s line ++ good_text_in form (number + 1) (after s line) lines
     else good_text_in form (number + 1) s lines
 
--- What follows speaks of the machine's state before and now (`start`, `now`), of what was unread in the reader before
+-- What follows speaks of what is played on before and now (`start`, `now`), of what was unread in the reader before
 -- and after, and of what the writer held before, and holds.
 
 -- These lines were read, and the good ones were done, and no other. This is their text, of which their plain text is left
 -- when numbers and names are cut off.
-pub record Conversed (form : Form) (start now : State) (had has : Option (List ℕ)) (lines : List (List ℕ))
+pub record Conversed (form : Form) (start now : Bench) (had has : Option (List ℕ)) (lines : List (List ℕ))
     (printed : List ℕ) : Type 0 where
   pub each : list_all has_no_feed lines ≡ true
   pub read : Consumes had has (joined lines)
-  pub state : now ≡ after_all start (good_lines lines)
+  pub state : now ≡ after_all start (good_lines (processors_of start) lines)
   pub said : printed ≡ good_text_in form 1 start lines
-  pub cut : CutsTo printed (text start (good_lines lines))
+  pub cut : CutsTo printed (text start (good_lines (processors_of start) lines))
 
 -- nothing is left, or a rest that no LF ends
 abbrev pub IsOver : Option (List ℕ) → Type 0
@@ -50,20 +50,22 @@ IsOver left =
 
 -- these lines were read and their text was written, and so was a good one behind them, of whose text the writer took a
 -- beginning
-pub record FailsToAnswer (form : Form) (start now : State) (held holds had : Option (List ℕ)) : Type 0 where
+pub record FailsToAnswer (form : Form) (start now : Bench) (held holds had : Option (List ℕ)) : Type 0 where
   pub left : Option (List ℕ)
   pub lines : List (List ℕ)
   pub last : List ℕ
   pub printed : List ℕ
   pub between : Option (List ℕ)
   pub conversed : Conversed form start now had left (lines ++ last ∷ []) printed
-  pub good : is_good last ≡ true
+  pub good : is_good (processors_of start) last ≡ true
   pub written : Appends held between (good_text_in form 1 start lines)
-  pub began : TookFront between holds (text_of_in form (1 + length lines) (after_all start (good_lines lines)) last)
+  pub began :
+      TookFront between holds
+      (text_of_in form (1 + length lines) (after_all start (good_lines (processors_of start) lines)) last)
 
 -- A session: whole, or as far as could be read, where these are all lines that were read whole, or as far as could be
 -- written. Of what it leaves where there is no memory nothing is said.
-abbrev pub SessionIn : {X : Type 0} → Form → State → State → (held holds had has : Option (List ℕ))
+abbrev pub SessionIn : {X : Type 0} → Form → Bench → Bench → (held holds had has : Option (List ℕ))
     → Result X PlayError → Type 0
 SessionIn form start now held holds had has (Ok _) =
     (left : Option (List ℕ)) × (lines : List (List ℕ)) × (printed : List ℕ)
@@ -93,47 +95,50 @@ cause_text (Some fault) = joint_of fault ++ fault_words fault ++ codes "\n"
 abbrev pub bad_line_text : ℕ → Option LineFault → List ℕ
 bad_line_text number fault = codes "ffaplay: line " ++ decimal number ++ cause_text fault
 
--- this is told of the line of this number, whose bytes are these, with its LF where it has one: there is nothing wrong
--- just with a whole line
-abbrev pub TellsOf : ℕ → List ℕ → List ℕ → Type 0
-TellsOf number bytes text =
-    (fault : Option LineFault) × (IsNone fault ↔ IsWhole bytes) × (text ≡ bad_line_text number fault)
+-- this is told of the line of this number in a trace of so many processors, whose bytes are these, with its LF where it has
+-- one: there is nothing wrong just with a whole line
+abbrev pub TellsOf : Option ℕ → ℕ → List ℕ → List ℕ → Type 0
+TellsOf processors number bytes text =
+    (fault : Option LineFault) × (IsNone fault ↔ IsWhole processors bytes) × (text ≡ bad_line_text number fault)
 
 -- this was told of it: all that is told, or a front of that, where the writer failed
-abbrev pub ToldOf : ℕ → List ℕ → List ℕ → Type 0
-ToldOf number bytes said = (lost : List ℕ) × TellsOf number bytes (said ++ lost)
+abbrev pub ToldOf : Option ℕ → ℕ → List ℕ → List ℕ → Type 0
+ToldOf processors number bytes said = (lost : List ℕ) × TellsOf processors number bytes (said ++ lost)
 
 -- this was told of a line that was read whole: nothing of a good one
-abbrev pub ToldOfLine : ℕ → List ℕ → List ℕ → Type 0
-ToldOfLine number line said =
-    ((is_good line ≡ true) × (said ≡ []))
-    ⊎ ((is_good line ≡ false) × ToldOf number (line ++ feed ∷ []) said)
+abbrev pub ToldOfLine : Option ℕ → ℕ → List ℕ → List ℕ → Type 0
+ToldOfLine processors number line said =
+    ((is_good processors line ≡ true) × (said ≡ []))
+    ⊎ ((is_good processors line ≡ false) × ToldOf processors number (line ++ feed ∷ []) said)
 
 -- this was told of these lines, of each in order, of which the first has this number
-abbrev pub ToldOfAll : ℕ → List (List ℕ) → List ℕ → Type 0
-ToldOfAll number [] said = said ≡ []
-ToldOfAll number (line ∷ lines) said =
-    (own more : List ℕ) × (said ≡ own ++ more) × ToldOfLine number line own × ToldOfAll (number + 1) lines more
+abbrev pub ToldOfAll : Option ℕ → ℕ → List (List ℕ) → List ℕ → Type 0
+ToldOfAll processors number [] said = said ≡ []
+ToldOfAll processors number (line ∷ lines) said =
+    (own more : List ℕ) × (said ≡ own ++ more) × ToldOfLine processors number line own
+    × ToldOfAll processors (number + 1) lines more
 
 -- this was told of a rest that no LF ends, if there is one
-abbrev pub ToldOfRest : ℕ → List ℕ → List ℕ → Type 0
-ToldOfRest number rest said = ((rest ≡ []) × (said ≡ [])) ⊎ ((1 ≤ length rest) × ToldOf number rest said)
+abbrev pub ToldOfRest : Option ℕ → ℕ → List ℕ → List ℕ → Type 0
+ToldOfRest processors number rest said =
+    ((rest ≡ []) × (said ≡ [])) ⊎ ((1 ≤ length rest) × ToldOf processors number rest said)
 
 -- lines were read, and this was told of them
-abbrev pub ToldOfRead : (had held holds : Option (List ℕ)) → Type 0
-ToldOfRead had held holds =
+abbrev pub ToldOfRead : Option ℕ → (had held holds : Option (List ℕ)) → Type 0
+ToldOfRead processors had held holds =
     (lines : List (List ℕ)) × (left : Option (List ℕ)) × (list_all has_no_feed lines ≡ true)
-    × Consumes had left (joined lines) × ((said : List ℕ) × ToldOfAll 1 lines said × Appends held holds said)
+    × Consumes had left (joined lines) × ((said : List ℕ) × ToldOfAll processors 1 lines said × Appends held holds said)
 
--- What a session told, by what was unread in the reader before, and by what `told` held and holds: of all lines that the
--- reader had, and of the rest that no LF ends; or, where it could read or write no further, of lines that it had read.
-abbrev pub TellsBadLines : {X : Type 0} → (had held holds : Option (List ℕ)) → Result X PlayError → Type 0
-TellsBadLines had held holds (Ok _) =
+-- What a session told in a trace of so many processors, by what was unread in the reader before, and by what `told` held and
+-- holds: of all lines that the reader had, and of the rest that no LF ends; or, where it could read or write no further, of
+-- lines that it had read.
+abbrev pub TellsBadLines : {X : Type 0} → Option ℕ → (had held holds : Option (List ℕ)) → Result X PlayError → Type 0
+TellsBadLines processors had held holds (Ok _) =
     (lines : List (List ℕ)) × (rest : List ℕ) × (list_all has_no_feed lines ≡ true) × (has_no_feed rest ≡ true)
     × IsAll had (joined lines ++ rest)
-    × ((said last : List ℕ) × ToldOfAll 1 lines said × ToldOfRest (1 + length lines) rest last
+    × ((said last : List ℕ) × ToldOfAll processors 1 lines said × ToldOfRest processors (1 + length lines) rest last
     × Appends held holds (said ++ last))
-TellsBadLines had held holds (Err Read) = ToldOfRead had held holds
-TellsBadLines had held holds (Err Write) = ToldOfRead had held holds
-TellsBadLines had held holds (Err NoMemory) = ⊤
-TellsBadLines had held holds (Err (BadLine n)) = ⊤
+TellsBadLines processors had held holds (Err Read) = ToldOfRead processors had held holds
+TellsBadLines processors had held holds (Err Write) = ToldOfRead processors had held holds
+TellsBadLines processors had held holds (Err NoMemory) = ⊤
+TellsBadLines processors had held holds (Err (BadLine n)) = ⊤

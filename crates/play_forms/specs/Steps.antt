@@ -3,7 +3,7 @@
 -- The steps of a play line by line, which private functions promise one another.
 use Rattle.std.specs.Prelude.{◌≡◌, ℕ, Bool, List, [], ◌∷◌, ◌++◌, Option, Result, Ok, Err, ⊤}
 use Rattle.std.specs.Io.KnownBytes.{Appends}
-use Rattle.ffa_model.specs.State.{State}
+use Rattle.ffa_playable.specs.Bench.{Bench}
 use Rattle.ffa_model.specs.declared.operation.Outcome.{Outcome}
 use Rattle.play_syntax.specs.TraceLines.{Line, feed}
 use Rattle.play_syntax.specs.TraceText.{line_after}
@@ -16,20 +16,19 @@ use Rattle.play_reasons.specs.declared.reason.Reason.{Reason}
 use Rattle.play_forms.specs.declared.form.Form.{Form}
 use Rattle.play_forms.specs.Forms.{line_text_in}
 
--- What follows speaks of the machine's state before and now (`start`, `now`), of what the writer held before, and holds,
+-- What follows speaks of what is played on before and now (`start`, `now`), of what the writer held before, and holds,
 -- and of the bytes of a line before and now (`old`, `new`).
 
 -- OF A LINE'S TEXT
 
--- whichever state a line was done in, where this came of its operation: the reason is that of the operation in that
--- state
-abbrev pub SaysWhy : Bool → State → Line → Option Outcome → Option Reason → Type 0
+-- wherever a line was done, where this came of its operation: the reason is that of the operation there
+abbrev pub SaysWhy : Bool → Bench → Line → Option Outcome → Option Reason → Type 0
 SaysWhy explain now line outcome reason =
-    (start : State) → now ≡ line_after start line → outcome ≡ outcome_of start line
+    (start : Bench) → now ≡ line_after start line → outcome ≡ outcome_of start line
     → told_line reason ≡ reason_if explain start line
 
 -- a line was done, and its text was written, or a beginning of it
-abbrev pub PrintsLine : {X : Type 0} → Form → State → State → ℕ → Line → Option (List ℕ) → Option (List ℕ)
+abbrev pub PrintsLine : {X : Type 0} → Form → Bench → Bench → ℕ → Line → Option (List ℕ) → Option (List ℕ)
     → Result X PlayError → Type 0
 PrintsLine form start now number line held holds (Ok _) =
     (now ≡ line_after start line) × Appends held holds (line_text_in form number start line)

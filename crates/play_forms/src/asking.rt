@@ -22,7 +22,7 @@ pub(crate) fn unmet<P: Playable, A: Allocator + Copy>(
     unasked: &mut Vec<u8, A>,
     found: &mut Vec<u8, A>,
 ) -> Result<Option<Asks>, PlayError>
-    ensures { Asked player.now.state (guard_of line.now) came unasked.old.items unasked.new.items found.new.items result }
+    ensures { Asked player.now.bench (guard_of line.now) came unasked.old.items unasked.new.items found.new.items result }
 {
     let Some((asks, wants)) = guard_text(line) else {
         return Ok(None);
@@ -60,7 +60,7 @@ fn ask_runner<P: Playable, A: Allocator>(
     wants: &[u8],
     found: &mut Vec<u8, A>,
 ) -> Result<bool, PlayError>
-    ensures { AsksRunner player.now.state wants.now found.new.items result }
+    ensures { AsksRunner player.now.bench wants.now found.new.items result }
 {
     let mut runner = Text::new();
     text::push_digits(&mut runner, 4, u64::from(player.machine().runner().0));

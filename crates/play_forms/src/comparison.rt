@@ -101,13 +101,13 @@ pub fn compare<P: Playable, A: Allocator + Copy, R: BufRead, E: BufRead>(
         let has = R.remaining reader.new in
         let wants = E.remaining expected.old in
         let unread = E.remaining expected.new in
-        let now = player.new.state in
-        Compared form player.old.state now had has wants unread sides.new.line.items sides.new.text.items sides.new.expected.items result }
+        let now = player.new.bench in
+        Compared form player.old.bench now had has wants unread sides.new.line.items sides.new.text.items sides.new.expected.items result }
     ensures unequal { let had = R.remaining reader.old in
         let wants = E.remaining expected.old in
-        IfOk result (λ d. IfSome d (λ _. NeverPrints (unexplained form) player.old.state had wants)) }
+        IfOk result (λ d. IfSome d (λ _. NeverPrints (unexplained form) player.old.bench had wants)) }
 {
-    let mut lines = Lines::new();
+    let mut lines = Lines::new(player.processors());
     let mut rows = Rows { read: 0 };
     while let Some((number, line)) = lines.next(reader, &mut sides.line)? {
         if let Some(mismatch) = rows.compare_line(
@@ -141,8 +141,8 @@ impl Rows {
     ) -> Result<Option<Mismatch>, CompareError>
         ensures compared { let wants = E.remaining expected.old in
             let has = E.remaining expected.new in
-            let start = player.old.state in
-            let now = player.new.state in
+            let start = player.old.bench in
+            let now = player.new.bench in
             ComparesLine form start now number (meant line.now) wants has self.old.read self.new.read sides.new.text.items sides.new.expected.items result }
         ensures line { sides.new.line.items ≡ sides.old.line.items }
     {

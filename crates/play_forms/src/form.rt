@@ -54,8 +54,8 @@ pub(crate) fn make_text<P: Playable, A: Allocator + Copy>(
     said: &mut Vec<u8, A>,
     text: &mut Draft<A>,
 ) -> Result<Option<Outcome>, PlayError>
-    ensures done { DoesLine player.old.state player.new.state (meant line.now) said.new.items result }
-    ensures made { OnOk result (IfSome text.new (λ t. t ≡ line_text_in form number player.old.state (meant line.now))) }
+    ensures done { DoesLine player.old.bench player.new.bench (meant line.now) said.new.items result }
+    ensures made { OnOk result (IfSome text.new (λ t. t ≡ line_text_in form number player.old.bench (meant line.now))) }
 {
     let outcome = do_line(player, alloc, line, said)?;
     let reason = reason_of(player, form.explain, line, outcome);
@@ -71,7 +71,7 @@ pub(crate) fn do_line<P: Playable, A: Allocator + Copy>(
     line: &Line,
     said: &mut Vec<u8, A>,
 ) -> Result<Option<Outcome>, PlayError>
-    ensures { DoesLine player.old.state player.new.state (meant line.now) said.new.items result }
+    ensures { DoesLine player.old.bench player.new.bench (meant line.now) said.new.items result }
 {
     said.clear();
     // A text in memory takes all that there is memory for.

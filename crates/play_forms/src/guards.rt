@@ -8,7 +8,7 @@ ghost use Rattle.play_forms.specs.Guards.{GuardedIn, behind_spaces, breach_of, g
 ghost use Rattle.play_forms.specs.Steps.{PrintsLine};
 
 use crate::asking::unmet;
-use crate::form::{Form, make_text};
+use crate::form::{Form, do_line, make_text};
 use crate::hint::{Hint, hint_of};
 use crate::patterns::Came;
 use crate::read::Lines;
@@ -172,14 +172,15 @@ pub fn play_guarded<P: Playable, A: Allocator + Copy, R: BufRead, W: Write>(
         let had = R.remaining reader.old in
         let has = R.remaining reader.new in
         let near = tally.new.near.items in
-        GuardedIn form player.old.state player.new.state held holds had has bytes.new.items found.new.items tally.new.met near result }
+        GuardedIn form player.old.bench player.new.bench held holds had has bytes.new.items found.new.items tally.new.met near result }
 {
     let mut unasked = Unasked::new(alloc);
     let mut text = Draft::new(alloc);
-    let mut lines = Lines::new();
+    let mut lines = Lines::new(player.processors());
     while let Some((number, line)) = lines.next(reader, bytes)? {
         if let Some(asks) = unmet(player, bytes, unasked.came, &mut unasked.text, found)? {
-            return Ok(Some(breach_at(number, asks, bytes, found, unasked.printed)));
+            let printed = unasked.printed;
+            return Ok(Some(breach_at(lines.processors, number, asks, bytes, found, printed)));
         }
         tally.count(number, bytes)?;
         print_asked(
@@ -196,11 +197,19 @@ pub fn play_guarded<P: Playable, A: Allocator + Copy, R: BufRead, W: Write>(
     Ok(None)
 }
 
-/// The guard that the line of this number is and that isn't met, where this is found, and where text was printed before.
-pub(crate) fn breach_at(number: u64, asks: Asks, line: &[u8], found: &[u8], printed: bool) -> Breach
-    ensures { result ≡ breach_of number asks line.now found.now printed }
+/// The guard that the line of this number is and that isn't met in a trace of so many processors, where this is found, and
+/// where text was printed before.
+pub(crate) fn breach_at(
+    processors: Option<usize>,
+    number: u64,
+    asks: Asks,
+    line: &[u8],
+    found: &[u8],
+    printed: bool,
+) -> Breach
+    ensures { result ≡ breach_of processors number asks line.now found.now printed }
 {
-    let hint = hint_of(asks, wanted_text(line), found, printed);
+    let hint = hint_of(processors, asks, wanted_text(line), found, printed);
     Breach { number, asks, hint }
 }
 
@@ -250,12 +259,13 @@ pub(crate) fn print_asked<P: Playable, A: Allocator + Copy, W: Write>(
 ) -> Result<(), PlayError>
     ensures printed { let held = W.contents writer.old in
         let holds = W.contents writer.new in
-        PrintsLine form player.old.state player.new.state number (meant line.now) held holds result }
-    ensures said { OnOk result (unasked.new.text.items ≡ unasked_by player.old.state (meant line.now) unasked.old.text.items) }
-    ensures came { OnOk result (unasked.new.came ≡ came_by player.old.state (meant line.now) unasked.old.came) }
+        PrintsLine form player.old.bench player.new.bench number (meant line.now) held holds result }
+    ensures said { OnOk result (unasked.new.text.items ≡ unasked_by player.old.bench (meant line.now) unasked.old.text.items) }
+    ensures came { OnOk result (unasked.new.came ≡ came_by player.old.bench (meant line.now) unasked.old.came) }
     ensures loud { OnOk result (unasked.new.printed ≡ (speaks (meant line.now) || unasked.old.printed)) }
 {
-    if let Line::Nothing = line {
+    if let Line::Nothing | Line::Turn(_) = line {
+        do_line(player, alloc, line, &mut Vec::new(alloc))?;
         return Ok(());
     }
     let outcome = make_text(player, alloc, form, number, line, &mut unasked.text, text)?;

@@ -1,7 +1,7 @@
 // SPDX-License-Identifier: MIT OR Apache-2.0
 //! What more there is to say of a guard that isn't met than what is found.
 ghost use Rattle.std.specs.Prelude.{◌≡◌};
-ghost use Rattle.play_forms.specs.Hints.{are_digits, are_upper_digits, begins_listing, begins_outcome, can_be_met, first_word, hint_of, is_answer_name, is_call_name, is_check, is_opening, is_row_name, is_runner};
+ghost use Rattle.play_forms.specs.Hints.{are_digits, are_upper_digits, begins_listing, begins_outcome, begins_resumed, can_be_met, first_word, hint_of, is_answer_name, is_call_name, is_check, is_opening, is_row_name, is_runner};
 
 use crate::guards::Asks;
 use crate::patterns::{begins_line, first_space};
@@ -18,22 +18,33 @@ pub enum Hint {
     Open,
 }
 
-/// What more there is to say of a guard that isn't met, by what it asks about and its text, where this is found, and where
-/// text was printed before.
-pub(crate) fn hint_of(asks: Asks, wants: &[u8], found: &[u8], printed: bool) -> Option<Hint>
-    ensures { result ≡ hint_of asks wants.now found.now printed }
+/// What more there is to say of a guard that isn't met in a trace of so many processors, by what it asks about and its text,
+/// where this is found, and where text was printed before.
+pub(crate) fn hint_of(
+    processors: Option<usize>,
+    asks: Asks,
+    wants: &[u8],
+    found: &[u8],
+    printed: bool,
+) -> Option<Hint>
+    ensures { result ≡ hint_of processors asks wants.now found.now printed }
 {
     match asks {
         Asks::Runner if is_runner(wants) => None,
         Asks::Runner => Some(Hint::Bad),
-        Asks::Printed => hint_of_text(wants, found, printed),
+        Asks::Printed => hint_of_text(processors, wants, found, printed),
     }
 }
 
-fn hint_of_text(wants: &[u8], found: &[u8], printed: bool) -> Option<Hint>
-    ensures { result ≡ hint_of Asks.Printed wants.now found.now printed }
+fn hint_of_text(
+    processors: Option<usize>,
+    wants: &[u8],
+    found: &[u8],
+    printed: bool,
+) -> Option<Hint>
+    ensures { result ≡ hint_of processors Asks.Printed wants.now found.now printed }
 {
-    if !can_be_met(wants) {
+    if !can_be_met(processors, wants) {
         return Some(Hint::Bad);
     }
     match found {
@@ -44,15 +55,15 @@ fn hint_of_text(wants: &[u8], found: &[u8], printed: bool) -> Option<Hint>
     }
 }
 
-fn can_be_met(text: &[u8]) -> bool
-    ensures { result ≡ can_be_met text.now }
+fn can_be_met(processors: Option<usize>, text: &[u8]) -> bool
+    ensures { result ≡ can_be_met processors text.now }
 {
     if text.starts_with(b"check ") {
         is_check(first_word(&text[6..]))
     } else if text.starts_with(b"FFA_") {
         is_call_name(first_word(text))
     } else {
-        is_opening(first_word(text))
+        is_opening(processors, first_word(text))
     }
 }
 
@@ -100,10 +111,17 @@ fn is_row_name(word: &[u8]) -> bool
 }
 
 // Whether a printed line begins with a word.
-fn is_opening(word: &[u8]) -> bool
-    ensures { result ≡ is_opening word.now }
+fn is_opening(processors: Option<usize>, word: &[u8]) -> bool
+    ensures { result ≡ is_opening processors word.now }
 {
-    begins_outcome(word) || begins_listing(word)
+    begins_outcome(word) || begins_resumed(processors, word) || begins_listing(word)
+}
+
+// Whether the line of a partition that goes on begins with it, as one does only where several processors run the machine.
+fn begins_resumed(processors: Option<usize>, word: &[u8]) -> bool
+    ensures { result ≡ begins_resumed processors word.now }
+{
+    processors.is_some() && word == b"resumed".as_slice()
 }
 
 fn begins_outcome(word: &[u8]) -> bool

@@ -41,11 +41,11 @@ pub fn play_past_guards<P: Playable, A: Allocator + Copy, R: BufRead, W: Write>(
         let has = R.remaining reader.new in
         let near = tally.new.near.items in
         let unmet = tally.new.unmet.items in
-        SiftedIn form player.old.state player.new.state held holds had has bytes.new.items tally.new.met near unmet result }
+        SiftedIn form player.old.bench player.new.bench held holds had has bytes.new.items tally.new.met near unmet result }
 {
     let mut unasked = Unasked::new(alloc);
     let (mut text, mut found) = (Draft::new(alloc), Vec::new(alloc));
-    let mut lines = Lines::new();
+    let mut lines = Lines::new(player.processors());
     while let Some((number, line)) = lines.next(reader, bytes)? {
         sift(player, number, bytes, &mut unasked, &mut found, told, tally)?;
         print_asked(
@@ -76,7 +76,7 @@ fn sift<P: Playable, A: Allocator + Copy>(
     requires { tally.old.met < number }
     ensures sifted { let before = tally.old.unmet.items in
         let after = tally.new.unmet.items in
-        OnOk result (IsSifted player.now.state number line.now unasked.old.came unasked.old.text.items unasked.new.text.items before after) }
+        OnOk result (IsSifted player.now.bench number line.now unasked.old.came unasked.old.text.items unasked.new.text.items before after) }
     ensures came { OnOk result (unasked.new.came ≡ unasked.old.came) }
     ensures counted { let before = tally.old.met + length tally.old.unmet.items in
         OnOk result (tally.new.met + length tally.new.unmet.items ≡ before + guards_among (line.now ∷ [])) }
@@ -86,7 +86,8 @@ fn sift<P: Playable, A: Allocator + Copy>(
     let Some(asks) = unmet(player, line, unasked.came, &mut unasked.text, found)? else {
         return tally.count(number, line);
     };
-    let breach = breach_at(number, asks, line, found, unasked.printed);
+    let processors = player.processors();
+    let breach = breach_at(processors, number, asks, line, found, unasked.printed);
     put_unmet(told, &breach, line, found)?;
     if let Asks::Printed = asks {
         take_line(&mut unasked.text);

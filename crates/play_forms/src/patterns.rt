@@ -49,7 +49,7 @@ impl Pattern {
 /// What a line came to, beside its text.
 #[derive(Clone, Copy)]
 pub struct Came {
-    /// The outcome of the operation that the line is.
+    /// The outcome of the operation that the line is, or of the interrupt. Where a partition goes on there is none.
     pub outcome: Option<Outcome>,
     /// The number of the check by which its call is refused.
     pub check: Option<usize>,
@@ -69,11 +69,15 @@ impl Came {
         line: &Line,
         outcome: Option<Outcome>,
     ) -> Came
-        ensures { SaysCame player.now.state (meant line.now) outcome self result }
+        ensures { SaysCame player.now.bench (meant line.now) outcome self result }
     {
         match line {
-            Line::Nothing => self,
+            Line::Nothing | Line::Turn(_) => self,
             Line::Show | Line::Audit => Came::NOTHING,
+            Line::Interrupt => Came {
+                outcome,
+                check: None,
+            },
             Line::Operation(op) => Came {
                 outcome,
                 check: check_of(player, op, outcome),
@@ -85,7 +89,7 @@ impl Came {
 // The number of the check by which an operation that was done is refused, where it is a call and this was its outcome. A
 // refusal changes nothing, so the machine still stands as the operation found it.
 fn check_of<P: Playable>(player: &Player<P>, op: &Op, outcome: Option<Outcome>) -> Option<usize>
-    ensures { SaysCheck player.now.state op.now outcome result }
+    ensures { SaysCheck player.now.bench op.now outcome result }
 {
     if !is_refused(outcome) {
         return None;

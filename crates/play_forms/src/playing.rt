@@ -31,10 +31,10 @@ pub fn play<P: Playable, A: Allocator + Copy, R: BufRead, W: Write>(
         let holds = W.contents writer.new in
         let had = R.remaining reader.old in
         let has = R.remaining reader.new in
-        PlayedIn form player.old.state player.new.state held holds had has bytes.new.items result }
+        PlayedIn form player.old.bench player.new.bench held holds had has bytes.new.items result }
 {
     let mut texts = Texts::new(alloc);
-    let mut lines = Lines::new();
+    let mut lines = Lines::new(player.processors());
     while let Some((number, line)) = lines.next(reader, bytes)? {
         print_line(player, alloc, form, number, &line, writer, &mut texts)?;
     }
@@ -53,7 +53,7 @@ pub(crate) fn print_line<P: Playable, A: Allocator + Copy, W: Write>(
 ) -> Result<(), PlayError>
     ensures { let held = W.contents writer.old in
         let holds = W.contents writer.new in
-        PrintsLine form player.old.state player.new.state number (meant line.now) held holds result }
+        PrintsLine form player.old.bench player.new.bench number (meant line.now) held holds result }
 {
     let Texts { said, text } = texts;
     make_text(player, alloc, form, number, line, said, text)?;

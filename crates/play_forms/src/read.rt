@@ -61,14 +61,20 @@ fn take_whole<A: Allocator>(line: &mut Vec<u8, A>) -> Result<bool, PlayError>
 pub struct Lines {
     /// The number of the line that is read next, counted from 1.
     pub number: u64,
+    /// How many processors the trace may name; nothing where one alone runs the machine.
+    pub processors: Option<usize>,
 }
 
 impl Lines {
-    /// The lines of a trace of which none was read.
-    pub fn new() -> Lines
-        ensures { result.number ≡ 1 }
+    /// The lines of a trace of so many processors of which none was read.
+    pub fn new(processors: Option<usize>) -> Lines
+        ensures number { result.number ≡ 1 }
+        ensures processors { result.processors ≡ processors }
     {
-        Lines { number: 1 }
+        Lines {
+            number: 1,
+            processors,
+        }
     }
 
     /// Reads the next line, and answers its number and what it is, or nothing where the reader is at its end.
@@ -81,15 +87,16 @@ impl Lines {
         reader: &mut R,
         bytes: &mut Vec<u8, A>,
     ) -> Result<Option<(u64, Line)>, PlayError>
-        ensures { let had = R.remaining reader.old in
+        ensures taken { let had = R.remaining reader.old in
             let has = R.remaining reader.new in
-            TakesNext self.old.number self.new.number had has bytes.new.items result }
+            TakesNext self.old.processors self.old.number self.new.number had has bytes.new.items result }
+        ensures processors { self.new.processors ≡ self.old.processors }
     {
         let number = self.number;
         if number == u64::MAX {
             return Err(PlayError::Read);
         }
-        let Some(line) = take_line(reader, bytes, number)? else {
+        let Some(line) = take_line(self.processors, reader, bytes, number)? else {
             return Ok(None);
         };
         self.number += 1;
@@ -99,18 +106,19 @@ impl Lines {
 
 // Reads the line of this number, and answers what it is, or nothing where the reader is at its end.
 fn take_line<A: Allocator, R: BufRead>(
+    processors: Option<usize>,
     reader: &mut R,
     bytes: &mut Vec<u8, A>,
     number: u64,
 ) -> Result<Option<Line>, PlayError>
     ensures { let had = R.remaining reader.old in
         let has = R.remaining reader.new in
-        TakesLine had has bytes.new.items number result }
+        TakesLine processors had has bytes.new.items number result }
 {
     if !next_line(reader, bytes, number)? {
         return Ok(None);
     }
-    match Line::read(bytes) {
+    match Line::read_in(processors, bytes) {
         Some(line) => Ok(Some(line)),
         None => refuse(bytes, number),
     }

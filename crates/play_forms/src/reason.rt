@@ -20,7 +20,7 @@ pub(crate) fn reason_of<P: Playable>(
     line: &Line,
     outcome: Option<Outcome>,
 ) -> Option<Reason>
-    ensures { SaysWhy explain player.now.state (meant line.now) outcome result }
+    ensures { SaysWhy explain player.now.bench (meant line.now) outcome result }
 {
     if !explain || !is_refused(outcome) {
         return None;
@@ -37,7 +37,7 @@ pub(crate) fn reason_of<P: Playable>(
                 mend,
             })
         }
-        Line::Show | Line::Audit | Line::Nothing => None,
+        Line::Show | Line::Audit | Line::Nothing | Line::Turn(_) | Line::Interrupt => None,
     }
 }
 

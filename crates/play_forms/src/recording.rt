@@ -35,10 +35,10 @@ pub fn record<P: Playable, A: Allocator + Copy, R: BufRead, W: Write>(
         let holds = W.contents writer.new in
         let had = R.remaining reader.old in
         let has = R.remaining reader.new in
-        RecordedIn player.old.state player.new.state held holds had has bytes.new.items result }
+        RecordedIn player.old.bench player.new.bench held holds had has bytes.new.items result }
 {
     let mut texts = Texts::new(alloc);
-    let mut lines = Lines::new();
+    let mut lines = Lines::new(player.processors());
     while let Some((_, line)) = lines.next(reader, bytes)? {
         record_line(player, alloc, bytes, &line, writer, &mut texts)?;
     }
@@ -56,7 +56,7 @@ fn record_line<P: Playable, A: Allocator + Copy, W: Write>(
 ) -> Result<(), PlayError>
     ensures { let held = W.contents writer.old in
         let holds = W.contents writer.new in
-        RecordsLine player.old.state player.new.state bytes.now (meant line.now) held holds result }
+        RecordsLine player.old.bench player.new.bench bytes.now (meant line.now) held holds result }
 {
     let Texts { said, text } = texts;
     do_line(player, alloc, line, said)?;

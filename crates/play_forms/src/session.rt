@@ -1,6 +1,7 @@
 // SPDX-License-Identifier: MIT OR Apache-2.0
 //! A session: a play that tells of a bad line and goes on.
 ghost use Rattle.std.specs.Prelude.{◌≡◌, ◌++◌, ◌∷◌, []};
+ghost use Rattle.ffa_playable.specs.Bench.{processors_of};
 ghost use Rattle.play_syntax.specs.TraceLines.{feed};
 ghost use Rattle.play_reasons.specs.Drafts.{Puts};
 ghost use Rattle.play_forms.specs.Sessions.{SessionIn, TellsBadLines, bad_line_text, cause_text, joint_of};
@@ -38,12 +39,20 @@ pub fn play_session<P: Playable, A: Allocator + Copy, R: BufRead, W: Write, E: W
         let holds = W.contents writer.new in
         let had = R.remaining reader.old in
         let has = R.remaining reader.new in
-        SessionIn form player.old.state player.new.state held holds had has result }
-    ensures told { TellsBadLines (R.remaining reader.old) (E.contents told.old) (E.contents told.new) result }
+        SessionIn form player.old.bench player.new.bench held holds had has result }
+    ensures told { TellsBadLines (processors_of player.old.bench) (R.remaining reader.old) (E.contents told.old) (E.contents told.new) result }
 {
     let (mut bytes, mut texts) = (Vec::new(alloc), Texts::new(alloc));
+    let processors = player.processors();
     let mut number = 1;
-    while hear_line(reader, &mut bytes, number, told, &mut texts.text)? {
+    while hear_line(
+        processors,
+        reader,
+        &mut bytes,
+        number,
+        told,
+        &mut texts.text,
+    )? {
         answer_line(
             player, alloc, form, number, &mut bytes, writer, told, &mut texts,
         )?;
@@ -55,6 +64,7 @@ pub fn play_session<P: Playable, A: Allocator + Copy, R: BufRead, W: Write, E: W
 // Reads the line of this number, and answers whether there is one. A rest that no LF ends is told, and is none. No more
 // lines are read than can be counted.
 fn hear_line<A: Allocator, R: BufRead, E: Write>(
+    processors: Option<usize>,
     reader: &mut R,
     bytes: &mut Vec<u8, A>,
     number: u64,
@@ -64,14 +74,14 @@ fn hear_line<A: Allocator, R: BufRead, E: Write>(
     ensures heard { let had = R.remaining reader.old in
         let has = R.remaining reader.new in
         HearsLine had has bytes.new.items number result }
-    ensures told { HearsTelling (R.remaining reader.old) number (E.contents told.old) (E.contents told.new) result }
+    ensures told { HearsTelling processors (R.remaining reader.old) number (E.contents told.old) (E.contents told.new) result }
 {
     if number == u64::MAX {
         return Err(PlayError::Read);
     }
     match next_line(reader, bytes, number) {
         Err(PlayError::BadLine(_)) => {
-            tell_or_lose(told, number, bytes, text)?;
+            tell_or_lose(processors, told, number, bytes, text)?;
             Ok(false)
         }
         read => read,
@@ -91,40 +101,43 @@ fn answer_line<P: Playable, A: Allocator + Copy, W: Write, E: Write>(
 ) -> Result<(), PlayError>
     ensures done { let held = W.contents writer.old in
         let holds = W.contents writer.new in
-        AnswersLine form player.old.state player.new.state number bytes.old.items held holds result }
-    ensures told { AnswersTelling bytes.old.items number (E.contents told.old) (E.contents told.new) result }
+        AnswersLine form player.old.bench player.new.bench number bytes.old.items held holds result }
+    ensures told { AnswersTelling (processors_of player.old.bench) bytes.old.items number (E.contents told.old) (E.contents told.new) result }
 {
-    match Line::read(bytes) {
+    let processors = player.processors();
+    match Line::read_in(processors, bytes) {
         Some(line) => print_line(player, alloc, form, number, &line, writer, texts),
-        None => refuse_line(bytes, number, told, &mut texts.text),
+        None => refuse_line(processors, bytes, number, told, &mut texts.text),
     }
 }
 
 // Tells that a line is bad, once its LF is put back, since what is wrong is looked for in a line as the trace has it.
 fn refuse_line<A: Allocator, E: Write>(
+    processors: Option<usize>,
     bytes: &mut Vec<u8, A>,
     number: u64,
     told: &mut E,
     text: &mut Draft<A>,
 ) -> Result<(), PlayError>
-    ensures { TellsOrLoses number (bytes.old.items ++ feed ∷ []) (E.contents told.old) (E.contents told.new) result }
+    ensures { TellsOrLoses processors number (bytes.old.items ++ feed ∷ []) (E.contents told.old) (E.contents told.new) result }
 {
     match bytes.push(b'\n') {
-        Ok(()) => tell_or_lose(told, number, bytes, text),
+        Ok(()) => tell_or_lose(processors, told, number, bytes, text),
         Err(_) => Err(PlayError::NoMemory),
     }
 }
 
 // Tells where a line is bad. What can't be told is lost.
 fn tell_or_lose<A: Allocator, E: Write>(
+    processors: Option<usize>,
     told: &mut E,
     number: u64,
     line: &[u8],
     text: &mut Draft<A>,
 ) -> Result<(), PlayError>
-    ensures { TellsOrLoses number line.now (E.contents told.old) (E.contents told.new) result }
+    ensures { TellsOrLoses processors number line.now (E.contents told.old) (E.contents told.new) result }
 {
-    match tell_bad_line(told, number, line, text) {
+    match tell_bad_line(processors, told, number, line, text) {
         Ok(()) => Ok(()),
         Err(PlayError::Write) => Ok(()),
         Err(error) => Err(error),
@@ -133,15 +146,16 @@ fn tell_or_lose<A: Allocator, E: Write>(
 
 // Tells where a line is bad. It makes what it tells in `text`.
 fn tell_bad_line<A: Allocator, E: Write>(
+    processors: Option<usize>,
     told: &mut E,
     number: u64,
     line: &[u8],
     text: &mut Draft<A>,
 ) -> Result<(), PlayError>
-    ensures { TellsBadLine number line.now (E.contents told.old) (E.contents told.new) result }
+    ensures { TellsBadLine processors number line.now (E.contents told.old) (E.contents told.new) result }
 {
     text.clear();
-    put_bad_line(text, number, line_fault(line));
+    put_bad_line(text, number, line_fault(processors, line));
     output::write_text(told, text.bytes()?)
 }
 

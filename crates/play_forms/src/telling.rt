@@ -21,7 +21,7 @@ pub fn tell_line<P: Playable, A: Allocator + Copy>(
     said: &mut Vec<u8, A>,
     reason: &mut Vec<u8, A>,
 ) -> Result<Option<Outcome>, PlayError>
-    ensures { TellsLine player.old.state player.new.state (meant line.now) said.new.items reason.new.items result }
+    ensures { TellsLine player.old.bench player.new.bench (meant line.now) said.new.items reason.new.items result }
 {
     let outcome = do_line(player, alloc, line, said)?;
     let mut told = Draft::over(reason);

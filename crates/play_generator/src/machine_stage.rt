@@ -3,7 +3,7 @@
 ghost use Rattle.std.specs.Prelude.{◌<◌, length, IfSome};
 
 use ffa_model::function::FFA_ERROR;
-use ffa_model::{EndpointId, Manifest, Op, Outcome, PageNo, Rights, Why};
+use ffa_model::{Effect, EndpointId, Manifest, Op, Outcome, PageNo, Rights, Why};
 use ffa_playable::Readable;
 use play_scenes::{PAGE, Stage};
 use play_transcript::{Counts, GenerateError, TraceEntry, actor_of, fit_store};
@@ -29,7 +29,7 @@ fn is_error(outcome: &Outcome) -> bool {
 
 // The page at an address.
 fn page_at<M: Readable>(machine: &M, address: u64) -> Option<PageNo>
-    ensures { IfSome result (λ page. page.0 < length (M.state machine.now).pages) }
+    ensures { IfSome result (λ page. page.0 < length (M.bench machine.now).state.pages) }
 {
     let base = u64::from(machine.ram_base().0);
     let offset = address.checked_sub(base)?;
@@ -104,9 +104,13 @@ impl<M: Readable, A: Allocator + Copy> Stage for MachineStage<M, A> {
         if !self.add(TraceEntry::Operation(op)) {
             return None;
         }
-        let outcome = self.machine.op(&op);
-        self.count(&op, &outcome);
-        Some(outcome)
+        match self.machine.op(&op) {
+            Effect::Outcome(outcome) => {
+                self.count(&op, &outcome);
+                Some(outcome)
+            }
+            Effect::Resumed(_) => None,
+        }
     }
 
     fn actor_of(&self, turn: u64) -> EndpointId {

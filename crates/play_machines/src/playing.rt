@@ -1,15 +1,16 @@
 // SPDX-License-Identifier: MIT OR Apache-2.0
-//! Plays of a trace in RAM that is all zeros, with the cache that is asked for.
-ghost use Rattle.std.specs.Prelude.{◌≡◌, ◌*◌, false};
+//! Plays of a trace in RAM that is all zeros, with the cache and by the processors that are asked for.
+ghost use Rattle.std.specs.Prelude.{◌≡◌, ◌≤◌, ◌*◌, false};
+ghost use Rattle.ffa_model.specs.declared.limits.TheConstants.{MOST_PROCESSORS};
 ghost use Rattle.ffa_model.specs.Ram.{zero_ram};
 ghost use Rattle.play_tasks.specs.Plays.{Plays, streams_of, talks};
 ghost use Rattle.play_tasks.specs.Purposes.{known};
-ghost use Rattle.play_tasks.specs.Starts.{start_of};
+ghost use Rattle.play_tasks.specs.Starts.{processors_for, start_of};
 
-use ffa_model::Manifest;
+use ffa_model::{MOST_PROCESSORS, Manifest};
 use ffa_physmem::PhysMem;
-use ffa_reasons::Explained;
-use ffa_spmc::{Machine, Storage};
+use ffa_reasons::{Explained, ExplainedCluster};
+use ffa_spmc::{Cluster, Machine, Storage};
 use ffa_tlb::{InTurn, NoTlb, Tlb, Translations};
 use play_player::Player;
 use play_report::Failure;
@@ -38,7 +39,7 @@ pub(crate) fn play_in<
 ) -> Result<(), Failure<'a>>
     requires { M.ram ram ≡ zero_ram manifest.now.ram_base.0 (512 * manifest.now.ram_blocks) }
     ensures played { let streams = streams_of R.remaining play.entry.trace.reader W.contents out.old out.new in
-        Plays (known R.remaining play.entry.task) play.entry.trace.path (start_of manifest.now) streams result }
+        Plays (known R.remaining play.entry.task) play.entry.trace.path (start_of play.entry.machine.processors manifest.now) streams result }
     ensures quiet { talks play.entry.task ≡ false → err.new ≡ err.old }
 {
     if play.machine.tlb {
@@ -49,7 +50,7 @@ pub(crate) fn play_in<
     }
 }
 
-// Plays on a machine that boots in this RAM, which is all zeros, with this cache.
+// Plays on a machine that boots in this RAM, which is all zeros, with this cache, and that one processor runs or several do.
 fn play_with<
     'a,
     M: PhysMem + Drop,
@@ -69,14 +70,33 @@ fn play_with<
 ) -> Result<(), Failure<'a>>
     requires { M.ram ram ≡ zero_ram manifest.now.ram_base.0 (512 * manifest.now.ram_blocks) }
     ensures played { let streams = streams_of R.remaining play.entry.trace.reader W.contents out.old out.new in
-        Plays (known R.remaining play.entry.task) play.entry.trace.path (start_of manifest.now) streams result }
+        Plays (known R.remaining play.entry.task) play.entry.trace.path (start_of play.entry.machine.processors manifest.now) streams result }
     ensures quiet { talks play.entry.task ≡ false → err.new ≡ err.old }
 {
-    match Storage::allocate_for(play.alloc, manifest) {
-        Ok(storage) => {
+    let Ok(storage) = Storage::allocate_for(play.alloc, manifest) else {
+        return Err(Failure::NoMemory);
+    };
+    match play.machine.processors {
+        None => {
             let machine = Machine::boot_cleared_in(storage, manifest, ram, cache);
             do_task(&mut Player::new(Explained(machine)), play, out, err, told)
         }
-        Err(_) => Err(Failure::NoMemory),
+        Some(count) => {
+            let cluster = Cluster::boot_cleared_in(storage, manifest, ram, cache);
+            let machine = ExplainedCluster::of(cluster, processors_for(count));
+            do_task(&mut Player::new(machine), play, out, err, told)
+        }
+    }
+}
+
+// As many processors, where there is room for so many.
+fn processors_for(count: usize) -> usize
+    ensures number { result ≡ processors_for count }
+    ensures few { result ≤ MOST_PROCESSORS }
+{
+    if count <= MOST_PROCESSORS {
+        count
+    } else {
+        MOST_PROCESSORS
     }
 }

@@ -7,6 +7,7 @@ use Rattle.std.proofs.lemmas.List.{get_or-map, length-map, map-append}
 use Rattle.std.proofs.lemmas.List.Elements.{All-map}
 use Rattle.ffa_model.specs.declared.certificate.CertRun.{CertRun}
 use Rattle.ffa_model.specs.State.{State}
+use Rattle.ffa_playable.specs.Bench.{Bench}
 use Rattle.play_drawing.specs.declared.column.Column.{Column}
 use Rattle.play_drawing.specs.declared.row.Keep.{Keep}
 use Rattle.play_drawing.specs.declared.row.Row.{Row}
@@ -24,7 +25,7 @@ bare row = record { number = row.number; line = bare_items row.line; runner = ro
 bare_row : {A : Type 0} (n : ℕ) (bytes : List ℕ) (now : ℕ) (error : Bool) (behind : List CertRun) (row : Row A) → IsRowOf n bytes now error behind row → IsRowOf n bytes now error behind (bare row)
 bare_row n bytes now error behind row is = record { number = is.number; line = is.line; runner = is.runner; refused = is.refused; runs = is.runs }
 
-bare_rows : {A : Type 0} (keep : Keep) (start : State) (lines : List (List ℕ)) (rows : List (Row A)) → AreRows keep start lines rows → AreRows keep start lines (map bare rows)
+bare_rows : {A : Type 0} (keep : Keep) (start : Bench) (lines : List (List ℕ)) (rows : List (Row A)) → AreRows keep start lines rows → AreRows keep start lines (map bare rows)
 bare_rows keep start lines rows (begun row is) = begun (bare row) (bare_row _ _ _ _ _ row is)
 bare_rows keep start lines rows (with_row ls rs line row are has is) =
     subst (AreRows keep start (ls ++ line ∷ [])) (sym (map-append bare rs (row ∷ []))) (with_row ls (map bare rs) line (bare row) (bare_rows keep start ls rs are) has (bare_row _ _ _ _ _ row is))
@@ -47,7 +48,7 @@ bare_columns rows pages p [] (inr any) = inr (bare_any (IsUnsaid p) rows any)
 bare_columns rows pages p (column ∷ columns) (is, one, more) =
     (is, bare_column rows pages p column.last.0 one, bare_columns rows pages (column.last.0 + 1) columns more)
 
-pub bare_large : {A : Type 0} (keep : Keep) (start now : State) (lines : List (List ℕ)) (large : TooLarge) → IsTooLarge A keep start now lines large
+pub bare_large : {A : Type 0} (keep : Keep) (start : Bench) (now : State) (lines : List (List ℕ)) (large : TooLarge) → IsTooLarge A keep start now lines large
     → IsTooLarge (Unit {0}) keep start now lines (record { most = large.most })
 bare_large keep start now lines large is = record {
   rows = map bare is.rows;

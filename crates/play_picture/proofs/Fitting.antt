@@ -5,6 +5,7 @@ use Rattle.std.specs.Prelude.{◌⊎◌}
 use Rattle.std.proofs.lemmas.List.{length_push}
 use Rattle.ffa_model.specs.Certificate.{certificate}
 use Rattle.ffa_model.specs.State.{State}
+use Rattle.ffa_playable.specs.Bench.{Bench}
 use Rattle.play_drawing.specs.declared.row.Keep.{Keep}
 use Rattle.play_drawing.specs.declared.row.Row.{Row}
 use Rattle.play_drawing.specs.Rows.{AreRows, begun, with_row, without}
@@ -13,7 +14,7 @@ use Rattle.play_picture.specs.declared.seen.Seen.{Seen}
 use Rattle.play_picture.specs.Watching.{IsTooLarge}
 
 -- there are no more rows than lines, but for that of the beginning
-pub rows_few : {A : Type 0} (keep : Keep) (start : State) (lines : List (List ℕ)) (rows : List (Row A)) → AreRows keep start lines rows → length rows ≤ 1 + length lines
+pub rows_few : {A : Type 0} (keep : Keep) (start : Bench) (lines : List (List ℕ)) (rows : List (Row A)) → AreRows keep start lines rows → length rows ≤ 1 + length lines
 rows_few keep start lines rows (begun row is) = omega arith
 rows_few keep start lines rows (with_row ls rs line row are has is) =
     let few = rows_few keep start ls rs are in
@@ -27,7 +28,7 @@ pub one_fits : (cells : ℕ) → 1 ≤ most_rows cells
 one_fits cells = omega arith
 
 -- more rows than fit, where those before the last line fitted: the certificate was made anew for the last one
-pub too_large : {A : Type 0} (keep : Keep) (start now : State) (lines : List (List ℕ)) (old new : Seen A) (most : ℕ) → AreRows keep start lines new.rows.items
+pub too_large : {A : Type 0} (keep : Keep) (start : Bench) (now : State) (lines : List (List ℕ)) (old new : Seen A) (most : ℕ) → AreRows keep start lines new.rows.items
     → length old.rows.items ≤ most_rows (length old.latest.items) → most ≡ most_rows (length new.latest.items) → most < length new.rows.items
     → (new.latest.items ≡ certificate now) ⊎ (new ≡ old) → IsTooLarge A keep start now lines (record { most = most })
 too_large {A} keep start now lines old new most are fits is more anew = record {

@@ -33,11 +33,11 @@ pub fn watch_page<P: Playable, A: Allocator + Copy, R: BufRead>(
 ) -> Result<Page<A>, PlayError>
     ensures { let had = R.remaining reader.old in
         let has = R.remaining reader.new in
-        Paging player.old.state player.new.state had has bytes.new.items result }
+        Paging player.old.bench player.new.bench had has bytes.new.items result }
 {
     let mut seen = Seen::begin(player, alloc)?;
     let mut entries = Vec::new(alloc);
-    let mut lines = Lines::new();
+    let mut lines = Lines::new(player.processors());
     while let Some((number, line)) = lines.next(reader, bytes)? {
         let outcome = tell(player, alloc, &line, bytes, &mut entries)?;
         seen.see(player, alloc, CHANGES, number, &line, bytes, outcome)?;
@@ -59,12 +59,12 @@ fn tell<P: Playable, A: Allocator + Copy>(
     bytes: &[u8],
     entries: &mut Vec<Entry<A>, A>,
 ) -> Result<Option<Outcome>, PlayError>
-    ensures state { OnOk result (player.new.state ≡ line_after player.old.state (meant line.now)) }
-    ensures entry { let runner = player.new.state.runner in
+    ensures state { OnOk result (player.new.bench ≡ line_after player.old.bench (meant line.now)) }
+    ensures entry { let runner = player.new.bench.state.runner in
         let old = entries.old.items in
         let new = entries.new.items in
-        OnOk result (TellsEntry player.old.state runner (meant line.now) bytes.now old new) }
-    ensures outcome { IfOk result (λ outcome. outcome ≡ outcome_of player.old.state (meant line.now)) }
+        OnOk result (TellsEntry player.old.bench runner (meant line.now) bytes.now old new) }
+    ensures outcome { IfOk result (λ outcome. outcome ≡ outcome_of player.old.bench (meant line.now)) }
     ensures failed { IfErr result (λ e. e ≡ PlayError.NoMemory) }
 {
     let (mut text, mut reason) = (Vec::new(alloc), Vec::new(alloc));

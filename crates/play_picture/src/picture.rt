@@ -2,7 +2,7 @@
 //! The picture of a trace.
 ghost use Rattle.std.specs.Prelude.{◌≡◌, IfErr, IfOk, OnOk, List, ℕ, Option};
 ghost use Rattle.std.specs.Io.KnownBytes.{IsAtEnd};
-ghost use Rattle.ffa_model.specs.State.{State};
+ghost use Rattle.ffa_playable.specs.Bench.{Bench};
 ghost use Rattle.play_syntax.specs.Lines.{meant, outcome_of};
 ghost use Rattle.play_syntax.specs.TraceText.{line_after};
 ghost use Rattle.play_drawing.specs.declared.row.Keep.{Keep};
@@ -37,10 +37,10 @@ pub fn picture_of<P: Playable, A: Allocator + Copy, R: BufRead>(
 ) -> Result<Result<Picture<A>, TooLarge>, PlayError>
     ensures { let had = R.remaining reader.old in
         let has = R.remaining reader.new in
-        Pictured keep player.old.state player.new.state had has bytes.new.items result }
+        Pictured keep player.old.bench player.new.bench had has bytes.new.items result }
 {
     let mut seen = Seen::begin(player, alloc)?;
-    let mut lines = Lines::new();
+    let mut lines = Lines::new(player.processors());
     while let Some((number, line)) = lines.next(reader, bytes)? {
         let outcome = follow(player, alloc, &line)?;
         seen.see(player, alloc, keep, number, &line, bytes, outcome)?;
@@ -58,8 +58,8 @@ fn follow<P: Playable, A: Allocator + Copy>(
     alloc: A,
     line: &Line,
 ) -> Result<Option<Outcome>, PlayError>
-    ensures state { OnOk result (player.new.state ≡ line_after player.old.state (meant line.now)) }
-    ensures outcome { IfOk result (λ outcome. outcome ≡ outcome_of player.old.state (meant line.now)) }
+    ensures state { OnOk result (player.new.bench ≡ line_after player.old.bench (meant line.now)) }
+    ensures outcome { IfOk result (λ outcome. outcome ≡ outcome_of player.old.bench (meant line.now)) }
     ensures failed { IfErr result (λ e. e ≡ PlayError.NoMemory) }
 {
     // The sink takes all that is written.
@@ -74,8 +74,8 @@ fn draw<P: Playable, A: Allocator + Copy>(
     alloc: A,
     rows: Vec<Row<A>, A>,
 ) -> Result<Result<Picture<A>, TooLarge>, PlayError>
-    ensures drawn { let now = P.state machine.now in
-        (keep : Keep) → (start : State) → (left : Option (List ℕ)) → (lines : List (List ℕ)) → IsAtEnd left
+    ensures drawn { let now = P.bench machine.now in
+        (keep : Keep) → (start : Bench) → (left : Option (List ℕ)) → (lines : List (List ℕ)) → IsAtEnd left
         → AreRows keep start lines rows.items → IfOk result (Draws keep start now left lines) }
     ensures failed { IfErr result (λ e. e ≡ PlayError.NoMemory) }
 {

@@ -24,8 +24,8 @@ pub(crate) struct Seen<A: Allocator> {
 impl<A: Allocator + Copy> Seen<A> {
     /// The row of the beginning.
     pub(crate) fn begin<P: Playable>(player: &Player<P>, alloc: A) -> Result<Seen<A>, PlayError>
-        ensures rows { IfOk result (λ seen. AreFirst player.now.state seen.rows.items) }
-        ensures latest { IfOk result (λ seen. seen.latest.items ≡ certificate player.now.state) }
+        ensures rows { IfOk result (λ seen. AreFirst player.now.bench seen.rows.items) }
+        ensures latest { IfOk result (λ seen. seen.latest.items ≡ certificate player.now.bench.state) }
         ensures failed { IfErr result (λ e. e ≡ PlayError.NoMemory) }
     {
         let latest = certificate_of(player, alloc)?;
@@ -50,9 +50,9 @@ impl<A: Allocator + Copy> Seen<A> {
         bytes: &[u8],
         outcome: Option<Outcome>,
     ) -> Result<(), PlayError>
-        ensures seen { let now = player.now.state in
+        ensures seen { let now = player.now.bench in
             OnOk result (SeesLine keep number (meant line.now) bytes.now outcome now self.old self.new) }
-        ensures anew { OnOk result ((self.new.latest.items ≡ certificate player.now.state) ⊎ (self.new ≡ self.old)) }
+        ensures anew { OnOk result ((self.new.latest.items ≡ certificate player.now.bench.state) ⊎ (self.new ≡ self.old)) }
         ensures failed { IfErr result (λ e. e ≡ PlayError.NoMemory) }
     {
         let refused = is_refused_call(line, outcome);
@@ -79,7 +79,7 @@ fn certificate_of<P: Playable, A: Allocator>(
     player: &Player<P>,
     alloc: A,
 ) -> Result<Vec<CertRun, A>, PlayError>
-    ensures runs { IfOk result (λ runs. runs.items ≡ certificate player.now.state) }
+    ensures runs { IfOk result (λ runs. runs.items ≡ certificate player.now.bench.state) }
     ensures failed { IfErr result (λ e. e ≡ PlayError.NoMemory) }
 {
     certificate::runs(player.machine(), alloc).map_err(|_| PlayError::NoMemory)

@@ -6,14 +6,14 @@ use Rattle.std.proofs.lemmas.List.{drop_more}
 use Rattle.std.proofs.lemmas.List.Folds.{list_all-append}
 use Rattle.std.proofs.lemmas.List.Quantifiers.{position-Some}
 use Rattle.std.proofs.lemmas.Bool.{eqb-true}
-use Rattle.ffa_model.specs.State.{State}
-use Rattle.play_syntax.specs.TraceLines.{feed, joined, has_no_feed}
+use Rattle.ffa_playable.specs.Bench.{Bench}
+use Rattle.play_syntax.specs.TraceLines.{feed, joined, has_no_feed, is_good}
 use Rattle.play_player.specs.Played.{most_lines}
 use Rattle.play_player.specs.Feeding.{LineDone, LineEnded, Kept, IsNumbered, Feeding, Fed}
 use Rattle.play_syntax.specs.declared.output.PlayError.{PlayError}
 use Rattle.play_syntax.specs.declared.output.PlayError.TheVariants.{Read, Write, NoMemory, BadLine}
 use Rattle.play_player.proofs.Positions.{none_pass, none_before}
-use Rattle.play_player.proofs.Runs.{joined-append, did_none, did_more, did_one, did_kept}
+use Rattle.play_player.proofs.Runs.{joined-append, did_none, did_more, did_one, did_kept, did_processors}
 
 -- where the first LF stands
 pub split_at : (rest : List ℕ) (end : ℕ) → Some end ≡ position (λ c. c == feed) rest → rest ≡ take end rest ++ feed ∷ drop (end + 1) rest
@@ -41,12 +41,12 @@ line_ended ls l rest =
     ap (λ x. joined ls ++ x) (sym (append_assoc l (feed ∷ []) rest)) ∙ sym (append_assoc (joined ls) (l ++ feed ∷ []) rest) ∙ ap (λ x. x ++ rest) (sym (joined-append ls (l ∷ [])))
 
 -- where a loop over the bytes stands: `gone` were taken, and `rest` are left
-pub record Taking (start now : State) (held holds : Option (List ℕ)) (number next : ℕ) (old bytes begun rest : List ℕ) : Type 0 where
+pub record Taking (start now : Bench) (held holds : Option (List ℕ)) (number next : ℕ) (old bytes begun rest : List ℕ) : Type 0 where
   pub gone : List ℕ
   pub split : bytes ≡ gone ++ rest
   pub fed : Feeding start now held holds number next (old ++ gone) begun
 
-pub taking_none : (s : State) (a : Option (List ℕ)) (number : ℕ) (old bytes : List ℕ) → has_no_feed old ≡ true → IsNumbered number old
+pub taking_none : (s : Bench) (a : Option (List ℕ)) (number : ℕ) (old bytes : List ℕ) → has_no_feed old ≡ true → IsNumbered number old
     → Taking s s a a number number old bytes old bytes
 taking_none s a number old bytes free numbered = record {
   gone = [];
@@ -54,9 +54,9 @@ taking_none s a number old bytes free numbered = record {
   fed = record { lines = []; did = did_none s a; whole = append-nil old; unended = free; counted = omega arith; numbered = numbered };
 }
 
-module _ (s m : State) (a b : Option (List ℕ)) (number next : ℕ) (old bytes begun rest : List ℕ) (t : Taking s m a b number next old bytes begun rest) where
+module _ (s m : Bench) (a b : Option (List ℕ)) (number next : ℕ) (old bytes begun rest : List ℕ) (t : Taking s m a b number next old bytes begun rest) where
   -- a line that can be counted ended, and was done
-  pub line_done : (n : State) (c : Option (List ℕ)) (end : ℕ) → Some end ≡ position (λ c. c == feed) rest → next ≤ most_lines → LineDone {X = Unit {0}} m n b c next (begun ++ take end rest) (Ok tt)
+  pub line_done : (n : Bench) (c : Option (List ℕ)) (end : ℕ) → Some end ≡ position (λ c. c == feed) rest → next ≤ most_lines → LineDone {X = Unit {0}} m n b c next (begun ++ take end rest) (Ok tt)
       → Taking s n a c number (next + 1) old bytes [] (drop (end + 1) rest)
   line_done n c end h can (good, state, written) =
       let free = no_feed-append begun (take end rest) t.fed.unended (piece_free rest end h) in record {
@@ -89,7 +89,7 @@ module _ (s m : State) (a b : Option (List ℕ)) (number next : ℕ) (old bytes 
   front_some end some = omega (arith, some, length-append begun (take end rest), length-append begun rest, length-append (take end rest) (drop end rest), ap length (take-append-drop end rest))
 
   -- a line that can be counted ended, and it failed
-  pub line_failed : (n : State) (c : Option (List ℕ)) (e : PlayError) (end last : ℕ) (left : List ℕ) → Some end ≡ position (λ c. c == feed) rest → next ≤ most_lines
+  pub line_failed : (n : Bench) (c : Option (List ℕ)) (e : PlayError) (end last : ℕ) (left : List ℕ) → Some end ≡ position (λ c. c == feed) rest → next ≤ most_lines
       → LineEnded {X = Unit {0}} m n b c next (begun ++ take end rest) (Err e) → Fed {X = Unit {0}} s n a c number last (old ++ bytes) left (Err e)
   line_failed n c Read end last left h can l = absurd l
   line_failed n c Write end last left h can l = (
@@ -123,7 +123,7 @@ module _ (s m : State) (a b : Option (List ℕ)) (number next : ℕ) (old bytes 
     l.1 ∙ t.fed.counted,
     omega (arith, can, l.1),
     no_feed-append begun (take end rest) t.fed.unended (piece_free rest end h),
-    l.0,
+    ap (λ count. is_good count (begun ++ take end rest)) (sym (did_processors t.fed.did)) ∙ l.0,
   )
 
   -- no more lines can be counted, and there are bytes behind

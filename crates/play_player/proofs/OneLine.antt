@@ -5,18 +5,19 @@ use Rattle.std.specs.Prelude.{is_some, MatchResult}
 use Rattle.std.specs.Option.{option_map_or}
 use Rattle.std.specs.Io.KnownBytes.{Appends, Keeps}
 use Rattle.std.proofs.KnownBytes.{Appends-nil}
-use Rattle.ffa_model.specs.State.{State}
-use Rattle.play_syntax.specs.TraceLines.{Line, skip, line_of, is_good}
+use Rattle.ffa_playable.specs.Bench.{Bench, processors_of}
+use Rattle.play_syntax.specs.TraceLines.{Line, skip, line_of, line_in, is_good}
 use Rattle.play_syntax.specs.TraceText.{line_text, line_after, text_of, after}
 use Rattle.ffa_model.specs.declared.operation.Outcome.{Outcome}
 use Rattle.play_syntax.specs.Output.{TookFront, Writes}
 use Rattle.play_player.specs.Feeding.{LineDone, LineEnded}
 use Rattle.play_syntax.specs.Lines.{Answered}
+use Rattle.play_syntax.proofs.LineActs.{audit_in, good_in}
 use Rattle.play_syntax.specs.declared.output.PlayError.{PlayError}
 use Rattle.play_syntax.specs.declared.output.PlayError.TheVariants.{Read, Write, NoMemory, BadLine}
 
-module _ (start now : State) (held holds : Option (List ℕ)) (number : ℕ) (bytes : List ℕ) (line : Line) (is : Some line ≡ line_of bytes) (next : now ≡ line_after start line) where
-  means : is_good bytes ≡ true
+module _ (start now : Bench) (held holds : Option (List ℕ)) (number : ℕ) (bytes : List ℕ) (line : Line) (is : Some line ≡ line_in (processors_of start) bytes) (next : now ≡ line_after start line) where
+  means : is_good (processors_of start) bytes ≡ true
   means = ap is_some (sym is)
 
   state_is : now ≡ after start bytes
@@ -35,16 +36,16 @@ module _ (start now : State) (held holds : Option (List ℕ)) (number : ℕ) (by
   line_written (Err (BadLine n)) w = absurd w
 
 -- a line that was read was answered
-pub line_answered : (start now : State) (held holds : Option (List ℕ)) (number : ℕ) (bytes : List ℕ) (line : Line) → Some line ≡ line_of bytes
+pub line_answered : (start now : Bench) (held holds : Option (List ℕ)) (number : ℕ) (bytes : List ℕ) (line : Line) → Some line ≡ line_in (processors_of start) bytes
     → (r : Result (Option Outcome) PlayError) → Answered start now held holds line r → MatchResult r (λ o. LineDone {X = Unit {0}} start now held holds number bytes (Ok tt)) (λ e. LineDone {X = Unit {0}} start now held holds number bytes (Err e))
 line_answered start now held holds number bytes line is (Ok outcome) (next, written, came) = line_written start now held holds number bytes line is next (Ok tt) written
 line_answered start now held holds number bytes line is (Err Read) a = absurd a
 line_answered start now held holds number bytes line is (Err Write) (next, written) = line_written start now held holds number bytes line is next (Err Write) written
-line_answered start now held holds number bytes line is (Err NoMemory) (asks, same, kept) = (sym is ∙ ap (λ l. Some l) asks, same, kept)
+line_answered start now held holds number bytes line is (Err NoMemory) (asks, same, kept) = (sym (audit_in (processors_of start) bytes (ap (λ l. Some l) (sym asks) ∙ is)), same, kept)
 line_answered start now held holds number bytes line is (Err (BadLine n)) a = absurd a
 
 -- a line whose bytes needed no memory
-pub line_ended : (start now : State) (held holds : Option (List ℕ)) (number : ℕ) (bytes : List ℕ) (r : Result (Unit {0}) PlayError)
+pub line_ended : (start now : Bench) (held holds : Option (List ℕ)) (number : ℕ) (bytes : List ℕ) (r : Result (Unit {0}) PlayError)
     → LineDone start now held holds number bytes r → LineEnded start now held holds number bytes r
 unfolding line_of
 line_ended start now held holds number bytes (Ok x) d = d
@@ -55,11 +56,11 @@ line_ended start now held holds number (c ∷ bytes) (Err NoMemory) (asks, same,
 line_ended start now held holds number bytes (Err (BadLine n)) d = d
 
 -- an empty line or a comment
-pub line_skipped : (s : State) (a : Option (List ℕ)) (number : ℕ) (bytes : List ℕ) → Some skip ≡ line_of bytes → LineDone {X = Unit {0}} s s a a number bytes (Ok tt)
-line_skipped s a number bytes is = line_written s s a a number bytes skip is refl (Ok tt) (Appends-nil a)
+pub line_skipped : (s : Bench) (a : Option (List ℕ)) (number : ℕ) (bytes : List ℕ) → Some skip ≡ line_of bytes → LineDone {X = Unit {0}} s s a a number bytes (Ok tt)
+line_skipped s a number bytes is = line_written s s a a number bytes skip (good_in (processors_of s) bytes skip is) refl (Ok tt) (Appends-nil a)
 
 -- what is no line
-pub line_bad : (s : State) (a : Option (List ℕ)) (number : ℕ) (bytes : List ℕ) → None ≡ line_of bytes → LineDone {X = Unit {0}} s s a a number bytes (Err (BadLine number))
+pub line_bad : (s : Bench) (a : Option (List ℕ)) (number : ℕ) (bytes : List ℕ) → None ≡ line_in (processors_of s) bytes → LineDone {X = Unit {0}} s s a a number bytes (Err (BadLine number))
 line_bad s a number bytes is = (ap is_some (sym is), refl, refl, kept a)
   where
     kept : (a : Option (List ℕ)) → Keeps a a

@@ -4,13 +4,13 @@ use Rattle.std.proofs.Common.{◌≡◌, inl, inr, ℕ, List, [], ◌∷◌, ◌
 use Rattle.std.specs.Io.KnownBytes.{Consumes, IsAtEnd}
 use Rattle.std.proofs.KnownBytes.{Consumes-nil, Consumes-trans}
 use Rattle.std.proofs.lemmas.List.{nil_from_length}
-use Rattle.ffa_model.specs.State.{State}
-use Rattle.play_syntax.specs.TraceLines.{feed, joined}
+use Rattle.ffa_playable.specs.Bench.{Bench}
+use Rattle.play_syntax.specs.TraceLines.{feed, joined, is_good}
 use Rattle.play_player.specs.Feeding.{Feeding, StopsIn}
 use Rattle.play_player.specs.Played.{Played}
 use Rattle.play_syntax.specs.declared.output.PlayError.{PlayError}
 use Rattle.play_syntax.specs.declared.output.PlayError.TheVariants.{Read, Write, NoMemory, BadLine}
-use Rattle.play_player.proofs.Runs.{joined-append, did_none, did_more, began_more}
+use Rattle.play_player.proofs.Runs.{joined-append, did_none, did_more, did_processors, began_more}
 
 -- the lines before, and then these bytes
 lines_more : (ls ms : List (List ℕ)) (seen line chunk rest : List ℕ) → seen ≡ joined ls ++ line → line ++ chunk ≡ joined ms ++ rest → seen ++ chunk ≡ joined (ls ++ ms) ++ rest
@@ -18,21 +18,21 @@ lines_more ls ms seen line chunk rest p q =
     ap (λ x. x ++ chunk) p ∙ append_assoc (joined ls) line chunk ∙ ap (λ x. joined ls ++ x) q ∙ sym (append_assoc (joined ls) (joined ms) rest) ∙ ap (λ x. x ++ rest) (sym (joined-append ls ms))
 
 -- what a play has read and done so far
-pub record Playing (start now : State) (held holds had has : Option (List ℕ)) (number : ℕ) (begun : List ℕ) : Type 0 where
+pub record Playing (start now : Bench) (held holds had has : Option (List ℕ)) (number : ℕ) (begun : List ℕ) : Type 0 where
   pub seen : List ℕ
   pub read : Consumes had has seen
   pub fed : Feeding start now held holds 1 number seen begun
 
-pub playing_none : (s : State) (held had : Option (List ℕ)) → Playing s s held held had had 1 []
+pub playing_none : (s : Bench) (held had : Option (List ℕ)) → Playing s s held held had had 1 []
 playing_none s held had = record {
   seen = [];
   read = Consumes-nil had;
   fed = record { lines = []; did = did_none s held; whole = refl; unended = refl; counted = omega arith; numbered = (omega arith, λ some. omega arith) };
 }
 
-module _ (s m : State) (a b had has : Option (List ℕ)) (number : ℕ) (begun : List ℕ) (p : Playing s m a b had has number begun) where
+module _ (s m : Bench) (a b had has : Option (List ℕ)) (number : ℕ) (begun : List ℕ) (p : Playing s m a b had has number begun) where
   -- a block more
-  pub block_more : (n : State) (c then : Option (List ℕ)) (next : ℕ) (block left : List ℕ) → Consumes has then block → Feeding m n b c number next (begun ++ block) left
+  pub block_more : (n : Bench) (c then : Option (List ℕ)) (next : ℕ) (block left : List ℕ) → Consumes has then block → Feeding m n b c number next (begun ++ block) left
       → Playing s n a c had then next left
   block_more n c then next block left read q = record {
     seen = p.seen ++ block;
@@ -48,7 +48,7 @@ module _ (s m : State) (a b had has : Option (List ℕ)) (number : ℕ) (begun :
   }
 
   -- a block that failed
-  pub block_failed : (n : State) (c : Option (List ℕ)) (e : PlayError) (then : Option (List ℕ)) (block : List ℕ) → Consumes has then block
+  pub block_failed : (n : Bench) (c : Option (List ℕ)) (e : PlayError) (then : Option (List ℕ)) (block : List ℕ) → Consumes has then block
       → StopsIn m n b c number (begun ++ block) e → Played {X = Unit {0}} s n a c had then (Err e)
   block_failed n c Read then block read (ms, more, did, whole, full, some) = (
     p.fed.lines ++ ms,
@@ -83,7 +83,7 @@ module _ (s m : State) (a b had has : Option (List ℕ)) (number : ℕ) (begun :
     omega (arith, p.fed.counted, place, length-append p.fed.lines ms),
     can,
     free,
-    inl ((more, refl), wrong),
+    inl ((more, refl), ap (λ count. is_good count bad) (sym (did_processors p.fed.did)) ∙ wrong),
   )
 
   -- a read gave nothing, and no line has begun

@@ -23,7 +23,7 @@ pub(crate) fn write_audit<P: Playable, A: Allocator, W: Write>(
     alloc: A,
     writer: &mut W,
 ) -> Result<(), PlayError>
-    ensures { WritesIfRoom (W.contents writer.old) (W.contents writer.new) (audit_text (P.state machine.now)) result }
+    ensures { WritesIfRoom (W.contents writer.old) (W.contents writer.new) (audit_text (P.bench machine.now).state) result }
 {
     match runs(machine, alloc) {
         Ok(runs) => write_certificate(machine, runs.as_slice(), writer),
@@ -33,7 +33,7 @@ pub(crate) fn write_audit<P: Playable, A: Allocator, W: Write>(
 
 /// The runs of the machine's pages, one behind the other: its certificate.
 pub fn runs<P: Playable, A: Allocator>(machine: &P, alloc: A) -> Result<Vec<CertRun, A>, AllocError>
-    ensures { IfOk result (λ runs. runs.items ≡ certificate (P.state machine.now)) }
+    ensures { IfOk result (λ runs. runs.items ≡ certificate (P.bench machine.now).state) }
 {
     let mut runs = Vec::new(alloc);
     let pages = machine.ram_pages();
@@ -52,8 +52,8 @@ fn write_certificate<P: Playable, W: Write>(
     runs: &[CertRun],
     writer: &mut W,
 ) -> Result<(), PlayError>
-    requires { runs.now ≡ certificate (P.state machine.now) }
-    ensures { Writes (W.contents writer.old) (W.contents writer.new) (audit_text (P.state machine.now)) result }
+    requires { runs.now ≡ certificate (P.bench machine.now).state }
+    ensures { Writes (W.contents writer.old) (W.contents writer.new) (audit_text (P.bench machine.now).state) result }
 {
     let mut text = Text::new();
     push_cert(&mut text, machine);
@@ -71,7 +71,7 @@ fn write_runs<P: Playable, W: Write>(
 ) -> Result<(), PlayError>
     ensures { let held = W.contents writer.old in
         let holds = W.contents writer.new in
-        Writes held holds (flat_map (cert_run_text (P.state machine.now)) runs.now) result }
+        Writes held holds (flat_map (cert_run_text (P.bench machine.now).state) runs.now) result }
 {
     let mut text = Text::new();
     for run in runs {
@@ -84,7 +84,7 @@ fn write_runs<P: Playable, W: Write>(
 
 // The last line of the machine's certificate.
 fn verdict<P: Playable>(machine: &P, runs: &[CertRun]) -> &'static [u8]
-    requires { runs.now ≡ certificate (P.state machine.now) }
+    requires { runs.now ≡ certificate (P.bench machine.now).state }
     ensures { result.now ≡ ended (codes "agrees") }
 {
     if machine.audit(runs) {
@@ -98,7 +98,7 @@ fn verdict<P: Playable>(machine: &P, runs: &[CertRun]) -> &'static [u8]
 #[tactic(auto, unfolding(play_syntax::specs::TraceText::cert_text))]
 fn push_cert<P: Playable>(text: &mut Text, machine: &P)
     requires { text.old.items ≡ [] }
-    ensures items { text.new.items ≡ cert_text (P.state machine.now) }
+    ensures items { text.new.items ≡ cert_text (P.bench machine.now).state }
     ensures len { array_vec_len text.new ≡ 25 }
 {
     let base = u64::from(machine.ram_base().0);
@@ -113,7 +113,7 @@ fn push_cert<P: Playable>(text: &mut Text, machine: &P)
 // Appends the line of each endpoint's level 1 table.
 fn push_roots<P: Playable>(text: &mut Text, machine: &P)
     requires { array_vec_len text.old ≤ 64 }
-    ensures { let s = P.state machine.now in
+    ensures { let s = (P.bench machine.now).state in
         text.new.items ≡ text.old.items ++ flat_map (root_text s) (range_with_len 0 (length s.parties)) }
 {
     for place in 0..machine.endpoints() {
@@ -126,7 +126,7 @@ fn push_roots<P: Playable>(text: &mut Text, machine: &P)
 fn push_root<P: Playable>(text: &mut Text, machine: &P, place: usize)
     requires room { array_vec_len text.old + 19 ≤ CAPACITY }
     requires place { place < MOST_ENDPOINTS }
-    ensures items { text.new.items ≡ text.old.items ++ root_text (P.state machine.now) place }
+    ensures items { text.new.items ≡ text.old.items ++ root_text (P.bench machine.now).state place }
     ensures len { array_vec_len text.new ≡ array_vec_len text.old + 19 }
 {
     text::push_word(text, b"root");
@@ -139,7 +139,7 @@ fn push_root<P: Playable>(text: &mut Text, machine: &P, place: usize)
 // before.
 fn root_at<P: Playable>(machine: &P, place: usize) -> u64
     requires { place < MOST_ENDPOINTS }
-    ensures { result ≡ root (P.state machine.now) place }
+    ensures { result ≡ root (P.bench machine.now).state place }
 {
     let blocks = u64::from(machine.ram_pages() / 512);
     u64::from(machine.ram_base().0) + 4096 * (place as u64 * (2 + blocks))
@@ -149,7 +149,7 @@ fn root_at<P: Playable>(machine: &P, place: usize) -> u64
 #[tactic(auto, unfolding(play_syntax::specs::TraceText::cert_run_text))]
 fn push_run<P: Playable>(text: &mut Text, machine: &P, run: &CertRun)
     requires { text.old.items ≡ [] }
-    ensures { text.new.items ≡ cert_run_text (P.state machine.now) run.now }
+    ensures { text.new.items ≡ cert_run_text (P.bench machine.now).state run.now }
 {
     let base = u64::from(machine.ram_base().0);
     text::push_word(text, b"pages");

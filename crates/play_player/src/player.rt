@@ -2,17 +2,17 @@
 //! The player of traces.
 ghost use Rattle.std.specs.Prelude.{◌≡◌, ◌*◌, codes, ◌==◌, true, [], ◌++◌, position, IfErr, IfOk, OnOk};
 ghost use Rattle.std.specs.List.{flat_map};
-ghost use Rattle.play_syntax.specs.TraceLines.{feed, has_no_feed};
+ghost use Rattle.play_syntax.specs.TraceLines.{feed, has_no_feed, operate};
 ghost use Rattle.ffa_model.specs.Memory.{size_of};
-ghost use Rattle.ffa_model.specs.Step.{step};
-ghost use Rattle.play_syntax.specs.TraceText.{hex, spaced, ended, outcome_text};
+ghost use Rattle.ffa_playable.specs.Bench.{after_op, effect_of, processors_of};
+ghost use Rattle.play_syntax.specs.TraceText.{effect_text, ended, hex, interrupt_text, outcome_text, resumed_text, spaced};
 ghost use Rattle.play_player.specs.Feeding.{LineDone, LineEnded, Kept, IsNumbered, Fed, Feeding, StopsIn};
 ghost use Rattle.play_syntax.specs.Lines.{Answered, meant};
 ghost use Rattle.play_syntax.specs.Output.{Writes};
 ghost use Rattle.play_player.specs.Played.{Played};
 
 use crate::{certificate, show};
-use ffa_model::{Op, Outcome, Size};
+use ffa_model::{Effect, EndpointId, Op, Outcome, Size};
 use ffa_playable::Playable;
 use memchr::memchr;
 use play_syntax::{Line, PlayError, line, output, text};
@@ -23,7 +23,7 @@ use std::marker::Model;
 /// How many bytes a play asks of its reader at a time.
 const BLOCK: usize = 65536;
 
-/// Plays traces on a machine. Contracts see the state in which that stands.
+/// Plays traces on a machine. Contracts see how that stands, and the processors, where several run it.
 #[derive(Drop)]
 pub struct Player<P: Playable> {
     machine: P,
@@ -36,7 +36,7 @@ impl<P: Playable> Model for Player<P> {
 
     ghost coded = { coded_standing };
 
-    ghost view = { λ player. record { state = P.state player.machine } };
+    ghost view = { λ player. record { bench = P.bench player.machine } };
 }
 
 /// The bytes of a line whose LF hasn't come yet, and the line's number.
@@ -66,16 +66,23 @@ impl<A: Allocator> Begun<A> {
 impl<P: Playable> Player<P> {
     /// A player on this machine, as it is.
     pub fn new(machine: P) -> Player<P>
-        ensures { result.state ≡ P.state machine }
+        ensures { result.bench ≡ P.bench machine }
     {
         Player { machine }
     }
 
     /// The machine, as the lines so far left it.
     pub fn machine(&self) -> &P
-        ensures { P.state result.now ≡ self.now.state }
+        ensures { P.bench result.now ≡ self.now.bench }
     {
         &self.machine
+    }
+
+    /// How many processors a trace may name: nothing where one alone runs the machine.
+    pub fn processors(&self) -> Option<usize>
+        ensures { result ≡ processors_of self.now.bench }
+    {
+        self.machine.processors()
     }
 
     /// Does the lines that the reader gives, one after another, and writes the text of each before the next is done.
@@ -91,12 +98,13 @@ impl<P: Playable> Player<P> {
             let holds = W.contents writer.new in
             let had = R.remaining reader.old in
             let has = R.remaining reader.new in
-            Played self.old.state self.new.state held holds had has result }
+            Played self.old.bench self.new.bench held holds had has result }
     {
         self.play_in(alloc, reader, writer)
     }
 
-    /// Does a line, and writes its text. It answers what came of the operation that the line is.
+    /// Does a line, and writes its text. It answers the outcome of the operation or the interrupt that the line is, but
+    /// none where a preempted partition goes on.
     ///
     /// Only `Line::Audit` wants memory: where that is refused, nothing is done and nothing is written.
     pub fn line<A: Allocator + Copy, W: Write>(
@@ -107,7 +115,7 @@ impl<P: Playable> Player<P> {
     ) -> Result<Option<Outcome>, PlayError>
         ensures { let held = W.contents writer.old in
             let holds = W.contents writer.new in
-            Answered self.old.state self.new.state held holds (meant line.now) result }
+            Answered self.old.bench self.new.bench held holds (meant line.now) result }
     {
         answer(&mut self.machine, alloc, writer, line)
     }
@@ -124,14 +132,14 @@ impl<P: Playable> Player<P> {
         bytes: &[u8],
         writer: &mut W,
     ) -> Result<Begun<A>, PlayError>
-        ensures fed { let start = self.old.state in
-            let now = self.new.state in
+        ensures fed { let start = self.old.bench in
+            let now = self.new.bench in
             let held = W.contents writer.old in
             let holds = W.contents writer.new in
             let all = begun.bytes.items ++ bytes.now in
             IfOk result (λ next. Feeding start now held holds begun.number next.number all next.bytes.items) }
-        ensures failed { let start = self.old.state in
-            let now = self.new.state in
+        ensures failed { let start = self.old.bench in
+            let now = self.new.bench in
             let held = W.contents writer.old in
             let holds = W.contents writer.new in
             IfErr result (StopsIn start now held holds begun.number (begun.bytes.items ++ bytes.now)) }
@@ -151,7 +159,7 @@ impl<P: Playable> Player<P> {
             let holds = W.contents writer.new in
             let had = R.remaining reader.old in
             let has = R.remaining reader.new in
-            Played self.old.state self.new.state held holds had has result }
+            Played self.old.bench self.new.bench held holds had has result }
     {
         play_lines(&mut self.machine, alloc, reader, writer)
     }
@@ -169,7 +177,7 @@ fn play_lines<P: Playable, A: Allocator + Copy, R: Read, W: Write>(
         let holds = W.contents writer.new in
         let had = R.remaining reader.old in
         let has = R.remaining reader.new in
-        Played (P.state machine.old) (P.state machine.new) held holds had has result }
+        Played (P.bench machine.old) (P.bench machine.new) held holds had has result }
 {
     let mut begun = Begun::new(alloc);
     let mut block = [0; BLOCK];
@@ -191,14 +199,14 @@ fn feed<P: Playable, A: Allocator + Copy, W: Write>(
     begun: Begun<A>,
     bytes: &[u8],
 ) -> Result<Begun<A>, PlayError>
-    ensures fed { let start = P.state machine.old in
-        let now = P.state machine.new in
+    ensures fed { let start = P.bench machine.old in
+        let now = P.bench machine.new in
         let held = W.contents writer.old in
         let holds = W.contents writer.new in
         let all = begun.bytes.items ++ bytes.now in
         IfOk result (λ next. Feeding start now held holds begun.number next.number all next.bytes.items) }
-    ensures failed { let start = P.state machine.old in
-        let now = P.state machine.new in
+    ensures failed { let start = P.bench machine.old in
+        let now = P.bench machine.new in
         let held = W.contents writer.old in
         let holds = W.contents writer.new in
         IfErr result (StopsIn start now held holds begun.number (begun.bytes.items ++ bytes.now)) }
@@ -226,8 +234,8 @@ fn do_lines<P: Playable, A: Allocator + Copy, W: Write>(
 ) -> Result<(), PlayError>
     requires unended { has_no_feed begun.old.items ≡ true }
     requires numbered { IsNumbered number.old begun.old.items }
-    ensures { let start = P.state machine.old in
-        let now = P.state machine.new in
+    ensures { let start = P.bench machine.old in
+        let now = P.bench machine.new in
         let held = W.contents writer.old in
         let holds = W.contents writer.new in
         Fed start now held holds number.old number.new (begun.old.items ++ bytes.now) begun.new.items result }
@@ -272,8 +280,8 @@ fn end_line<P: Playable, A: Allocator + Copy, W: Write>(
     number: u64,
     piece: &[u8],
 ) -> Result<(), PlayError>
-    ensures line { let start = P.state machine.old in
-        let now = P.state machine.new in
+    ensures line { let start = P.bench machine.old in
+        let now = P.bench machine.new in
         let held = W.contents writer.old in
         let holds = W.contents writer.new in
         LineEnded start now held holds number (begun.old.items ++ piece.now) result }
@@ -300,7 +308,7 @@ fn do_line<P: Playable, A: Allocator + Copy, W: Write>(
 ) -> Result<(), PlayError>
     ensures { let held = W.contents writer.old in
         let holds = W.contents writer.new in
-        LineDone (P.state machine.old) (P.state machine.new) held holds number bytes.now result }
+        LineDone (P.bench machine.old) (P.bench machine.new) held holds number bytes.now result }
 {
     match bytes {
         [] | [b'#', ..] => Ok(()),
@@ -321,8 +329,8 @@ fn do_call<P: Playable, W: Write>(
     number: u64,
     words: &[u8],
 ) -> Result<(), PlayError>
-    ensures { let start = P.state machine.old in
-        let now = P.state machine.new in
+    ensures { let start = P.bench machine.old in
+        let now = P.bench machine.new in
         let held = W.contents writer.old in
         let holds = W.contents writer.new in
         LineDone start now held holds number (codes "call " ++ words.now) result }
@@ -343,8 +351,8 @@ fn do_load<P: Playable, W: Write>(
     number: u64,
     words: &[u8],
 ) -> Result<(), PlayError>
-    ensures { let start = P.state machine.old in
-        let now = P.state machine.new in
+    ensures { let start = P.bench machine.old in
+        let now = P.bench machine.new in
         let held = W.contents writer.old in
         let holds = W.contents writer.new in
         LineDone start now held holds number (codes "load " ++ words.now) result }
@@ -363,8 +371,8 @@ fn do_store<P: Playable, W: Write>(
     number: u64,
     words: &[u8],
 ) -> Result<(), PlayError>
-    ensures { let start = P.state machine.old in
-        let now = P.state machine.new in
+    ensures { let start = P.bench machine.old in
+        let now = P.bench machine.new in
         let held = W.contents writer.old in
         let holds = W.contents writer.new in
         LineDone start now held holds number (codes "store " ++ words.now) result }
@@ -386,9 +394,9 @@ fn do_other<P: Playable, A: Allocator + Copy, W: Write>(
 ) -> Result<(), PlayError>
     ensures { let held = W.contents writer.old in
         let holds = W.contents writer.new in
-        LineDone (P.state machine.old) (P.state machine.new) held holds number bytes.now result }
+        LineDone (P.bench machine.old) (P.bench machine.new) held holds number bytes.now result }
 {
-    match Line::read(bytes) {
+    match Line::read_in(machine.processors(), bytes) {
         Some(line) => {
             answer(machine, alloc, writer, &line)?;
             Ok(())
@@ -397,7 +405,7 @@ fn do_other<P: Playable, A: Allocator + Copy, W: Write>(
     }
 }
 
-// Does a line that was read, and writes its text. It answers what came of the operation that the line is.
+// Does a line that was read, and writes its text. It answers the outcome, if it has one.
 fn answer<P: Playable, A: Allocator + Copy, W: Write>(
     machine: &mut P,
     alloc: A,
@@ -406,30 +414,75 @@ fn answer<P: Playable, A: Allocator + Copy, W: Write>(
 ) -> Result<Option<Outcome>, PlayError>
     ensures { let held = W.contents writer.old in
         let holds = W.contents writer.new in
-        Answered (P.state machine.old) (P.state machine.new) held holds (meant line.now) result }
+        Answered (P.bench machine.old) (P.bench machine.new) held holds (meant line.now) result }
 {
     match *line {
-        Line::Operation(op) => {
-            let outcome = machine.op(&op);
-            write_outcome(writer, &op, &outcome)?;
-            Ok(Some(outcome))
-        }
+        Line::Operation(op) => operate_and_tell(machine, writer, &op),
         Line::Show => show::write_show(machine, writer).map(|()| None),
         Line::Audit => certificate::write_audit(machine, alloc, writer).map(|()| None),
         Line::Nothing => Ok(None),
+        Line::Turn(processor) => {
+            machine.turn(processor);
+            Ok(None)
+        }
+        Line::Interrupt => {
+            let outcome = machine.interrupt();
+            write_interrupt(writer, &outcome)?;
+            Ok(Some(outcome))
+        }
+    }
+}
+
+// Does an operation, writes what comes of it, and answers the outcome, if it has one.
+fn operate_and_tell<P: Playable, W: Write>(
+    machine: &mut P,
+    writer: &mut W,
+    op: &Op,
+) -> Result<Option<Outcome>, PlayError>
+    ensures { let held = W.contents writer.old in
+        let holds = W.contents writer.new in
+        Answered (P.bench machine.old) (P.bench machine.new) held holds (operate op.now) result }
+{
+    match machine.op(op) {
+        Effect::Outcome(outcome) => {
+            write_outcome(writer, op, &outcome)?;
+            Ok(Some(outcome))
+        }
+        Effect::Resumed(partition) => {
+            write_resumed(writer, partition)?;
+            Ok(None)
+        }
     }
 }
 
 // Does an operation, and writes what comes of it.
 #[inline(always)]
 fn operate<P: Playable, W: Write>(machine: &mut P, writer: &mut W, op: &Op) -> Result<(), PlayError>
-    ensures state { P.state machine.new ≡ (step (P.state machine.old) op.now).state }
+    ensures bench { P.bench machine.new ≡ after_op (P.bench machine.old) op.now }
     ensures text { let held = W.contents writer.old in
         let holds = W.contents writer.new in
-        Writes held holds (outcome_text op.now (step (P.state machine.old) op.now).outcome) result }
+        Writes held holds (effect_text op.now (effect_of (P.bench machine.old) op.now)) result }
 {
-    let outcome = machine.op(op);
-    write_outcome(writer, op, &outcome)
+    match machine.op(op) {
+        Effect::Outcome(outcome) => write_outcome(writer, op, &outcome),
+        Effect::Resumed(partition) => write_resumed(writer, partition),
+    }
+}
+
+// Writes that a partition goes on.
+#[inline(never)]
+fn write_resumed<W: Write>(writer: &mut W, partition: EndpointId) -> Result<(), PlayError>
+    ensures { Writes (W.contents writer.old) (W.contents writer.new) (resumed_text partition.0) result }
+{
+    output::write_text(writer, &text::resumed_line(partition.0))
+}
+
+// Writes what an interrupt comes to, as a call that comes to the same.
+#[inline(never)]
+fn write_interrupt<W: Write>(writer: &mut W, outcome: &Outcome) -> Result<(), PlayError>
+    ensures { Writes (W.contents writer.old) (W.contents writer.new) (interrupt_text outcome.now) result }
+{
+    write_outcome(writer, &Op::Call([0; 8]), outcome)
 }
 
 // Writes what an operation with this outcome prints. It is inlined, though plays on machines of four kinds call it.

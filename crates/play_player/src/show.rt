@@ -19,7 +19,7 @@ use std::io::Write;
 
 /// Writes the runner, and the longest runs of pages that have one owner and one access of each endpoint.
 pub fn write_show<P: Playable, W: Write>(machine: &P, writer: &mut W) -> Result<(), PlayError>
-    ensures { Writes (W.contents writer.old) (W.contents writer.new) (show_text (P.state machine.now)) result }
+    ensures { Writes (W.contents writer.old) (W.contents writer.new) (show_text (P.bench machine.now).state) result }
 {
     let mut text = Text::new();
     push_runner(&mut text, machine);
@@ -39,7 +39,7 @@ pub fn write_show<P: Playable, W: Write>(machine: &P, writer: &mut W) -> Result<
 #[tactic(auto, unfolding(play_syntax::specs::TraceText::runner_text))]
 fn push_runner<P: Playable>(text: &mut Text, machine: &P)
     requires { text.old.items ≡ [] }
-    ensures { text.new.items ≡ runner_text (P.state machine.now) }
+    ensures { text.new.items ≡ runner_text (P.bench machine.now).state }
 {
     text::push_word(text, b"runner");
     text::push_hex(text, 4, u64::from(machine.runner().0));
@@ -50,9 +50,9 @@ fn push_runner<P: Playable>(text: &mut Text, machine: &P)
 #[tactic(auto, unfolding(play_syntax::specs::TraceText::run_text))]
 fn push_run<P: Playable>(text: &mut Text, machine: &P, first: u32, last: u32)
     requires empty { text.old.items ≡ [] }
-    requires first { first < length (P.state machine.now).pages }
-    requires last { last < length (P.state machine.now).pages }
-    ensures { text.new.items ≡ run_text (P.state machine.now) (first, last) }
+    requires first { first < length (P.bench machine.now).state.pages }
+    requires last { last < length (P.bench machine.now).state.pages }
+    ensures { text.new.items ≡ run_text (P.bench machine.now).state (first, last) }
 {
     let Address(base) = machine.ram_base();
     let owner = machine.owner_of(PageNo(first));
@@ -67,7 +67,7 @@ fn push_run<P: Playable>(text: &mut Text, machine: &P, first: u32, last: u32)
 // Appends the access of each endpoint to a page.
 fn push_accesses<P: Playable>(text: &mut Text, machine: &P, page: PageNo)
     requires { array_vec_len text.old ≤ 64 }
-    ensures items { let s = P.state machine.now in
+    ensures items { let s = (P.bench machine.now).state in
         text.new.items ≡ text.old.items ++ flat_map (λ e. spaced (rights_text (access s e page.0))) (identifiers s) }
     ensures room { array_vec_len text.new < CAPACITY }
 {
@@ -79,15 +79,15 @@ fn push_accesses<P: Playable>(text: &mut Text, machine: &P, page: PageNo)
 // The access of the endpoint at a place in the manifest.
 fn access<P: Playable>(machine: &P, place: usize, page: PageNo) -> Option<Rights>
     requires { place < MOST_ENDPOINTS }
-    ensures { result ≡ access (P.state machine.now) (identifier place) page.0 }
+    ensures { result ≡ access (P.bench machine.now).state (identifier place) page.0 }
 {
     machine.access(EndpointId::at(place), page)
 }
 
 // Whether a run of pages ends with this one.
 fn ends_run<P: Playable>(machine: &P, page: u32) -> bool
-    requires { page < length (P.state machine.now).pages }
-    ensures { result ≡ ends_run (P.state machine.now) page }
+    requires { page < length (P.bench machine.now).state.pages }
+    ensures { result ≡ ends_run (P.bench machine.now).state page }
 {
     let pages = machine.ram_pages();
     page + 1 == pages || !is_alike(machine, PageNo(page), PageNo(page + 1))
@@ -96,15 +96,15 @@ fn ends_run<P: Playable>(machine: &P, page: u32) -> bool
 // Whether two pages have the same owner, and each endpoint has the same access to both.
 #[tactic(auto, unfolding(ffa_model::specs::Alike::is_alike))]
 fn is_alike<P: Playable>(machine: &P, page: PageNo, other: PageNo) -> bool
-    requires page { page.0 < length (P.state machine.now).pages }
-    requires other { other.0 < length (P.state machine.now).pages }
-    ensures { result ≡ is_alike (P.state machine.now) page.0 other.0 }
+    requires page { page.0 < length (P.bench machine.now).state.pages }
+    requires other { other.0 < length (P.bench machine.now).state.pages }
+    ensures { result ≡ is_alike (P.bench machine.now).state page.0 other.0 }
 {
     machine.owner_of(page) == machine.owner_of(other) && has_same_accesses(machine, page, other)
 }
 
 fn has_same_accesses<P: Playable>(machine: &P, page: PageNo, other: PageNo) -> bool
-    ensures { let s = P.state machine.now in
+    ensures { let s = (P.bench machine.now).state in
         result ≡ list_all (λ e. is_same_right (access s e page.0) (access s e other.0)) (identifiers s) }
 {
     for place in 0..machine.endpoints() {

@@ -4,7 +4,7 @@ use Rattle.std.specs.Prelude.{◌==◌, ℕ, List, ◌++◌, codes, decimal, if�
 use Rattle.play_reasons.specs.declared.fault.LineFault.{LineFault}
 use Rattle.play_reasons.specs.declared.fault.LineFault.TheVariants.{NoEnd, CarriageReturn, Words, Whole}
 use Rattle.play_reasons.specs.declared.fault.WordFault.{WordFault}
-use Rattle.play_reasons.specs.declared.fault.WordFault.TheVariants.{Empty, UnknownCommand, Help, Quit, NoNumber, Prefix, LongNumber, Size, Digits, Registers, Missing, TooMany}
+use Rattle.play_reasons.specs.declared.fault.WordFault.TheVariants.{Empty, UnknownCommand, Help, HelpOnSeveral, Quit, NoNumber, Prefix, LongNumber, Size, Digits, Registers, Processor, Missing, TooMany}
 
 -- that the value to store has so many digits
 abbrev pub digits_words : ℕ → List ℕ
@@ -17,6 +17,8 @@ word_fault_words Empty = codes "an empty word"
 word_fault_words UnknownCommand = codes "an unknown command"
 word_fault_words Help =
     codes "a line is call X0 .. X7, load A N, store A V, fetch A, show or audit, in hexadecimal"
+word_fault_words HelpOnSeveral =
+    codes "a line is call X0 .. X7, load A N, store A V, fetch A, show, audit, on N or interrupt, in hexadecimal"
 word_fault_words Quit = codes "the end of the input ends a session, as Ctrl+D does"
 word_fault_words NoNumber = codes "no hexadecimal number"
 word_fault_words Prefix = codes "a number is written without 0x"
@@ -25,6 +27,7 @@ word_fault_words (LongNumber digits) =
 word_fault_words Size = codes "a size that is none of 1, 2, 4 and 8"
 word_fault_words (Digits digits) = digits_words digits
 word_fault_words (Registers count) = decimal count ++ codes " registers, where a call has 1 to 8"
+word_fault_words (Processor count) = codes "no processor of " ++ decimal count ++ codes ", which count from 0"
 word_fault_words Missing = codes "a word is missing"
 word_fault_words TooMany = codes "a word too many"
 

@@ -17,10 +17,9 @@ use Rattle.ffa_model.specs.declared.why.Obstacle.TheVariants as obstacles
 use Rattle.ffa_model.specs.declared.why.Why.{Why}
 use Rattle.ffa_model.specs.declared.why.Why.TheVariants.{Refused, Fault}
 use Rattle.ffa_model.specs.Registers.{low}
-use Rattle.ffa_model.specs.State.{State}
-use Rattle.play_syntax.specs.TraceLines.{Line, operate, show, audit, skip, line_of}
+use Rattle.ffa_playable.specs.Bench.{Bench, processors_of, why_of}
+use Rattle.play_syntax.specs.TraceLines.{Line, operate, show, audit, skip, turn, interrupt, line_in}
 use Rattle.play_syntax.specs.TraceText.{bytes_moved, ended, hex}
-use Rattle.ffa_model.specs.Why.{why}
 use Rattle.ffa_model.specs.Words.{words_of}
 use Rattle.ffa_mend.specs.declared.Mend.{Mend}
 use Rattle.ffa_mend.specs.Mend.{address_of, call_of, mend}
@@ -163,19 +162,22 @@ why_text base op (Fault kind obstacle) = address_text (address_of op) ++ fault_t
 unfoldable pub reason_line : ℕ → Op → Why → Option Mend → List ℕ
 reason_line base op reason mend = ended (reason_mark ++ why_text base op reason ++ mended_text mend)
 
--- what stands under the text of a line, where it is an operation that is refused in this state, with what is to be mended
-abbrev pub reason_text : State → Line → List ℕ
-reason_text s (operate op) = option_map_or (λ reason. reason_line s.ram_base op reason (mend s op)) (why s op) []
-reason_text s show = []
-reason_text s audit = []
-reason_text s skip = []
+-- what stands under the text of a line, where it is an operation that is refused there, with what is to be mended
+abbrev pub reason_text : Bench → Line → List ℕ
+reason_text b (operate op) =
+    option_map_or (λ reason. reason_line b.state.ram_base op reason (mend b.state op)) (why_of b op) []
+reason_text b show = []
+reason_text b audit = []
+reason_text b skip = []
+reason_text b (turn processor) = []
+reason_text b interrupt = []
 
 -- where that is asked for
-abbrev pub reason_if : Bool → State → Line → List ℕ
-reason_if explain s line = if explain then reason_text s line else []
+abbrev pub reason_if : Bool → Bench → Line → List ℕ
+reason_if explain b line = if explain then reason_text b line else []
 
-abbrev pub reason_of_bytes : Bool → State → List ℕ → List ℕ
-reason_of_bytes explain s bytes = option_map_or (reason_if explain s) (line_of bytes) []
+abbrev pub reason_of_bytes : Bool → Bench → List ℕ → List ℕ
+reason_of_bytes explain b bytes = option_map_or (reason_if explain b) (line_in (processors_of b) bytes) []
 
 -- the line of a reason that is told, if one is
 abbrev pub told_line : Option Reason → List ℕ

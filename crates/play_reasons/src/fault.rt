@@ -3,7 +3,7 @@
 ghost use Rattle.std.specs.Prelude.{IsNone, ◌↔◌};
 ghost use Rattle.play_reasons.specs.Whole.{IsWhole};
 
-use play_syntax::Line;
+use play_syntax::{Line, line};
 use std::fmt;
 
 /// What is wrong first with a line of a trace. It prints as one line.
@@ -27,8 +27,10 @@ pub enum WordFault {
     Empty,
     /// The first word is no command.
     UnknownCommand,
-    /// The first word asks for help.
+    /// The first word asks for help, in a trace of one processor.
     Help,
+    /// The first word asks for help, in a trace of several.
+    HelpOnSeveral,
     /// The first word asks that the play end.
     Quit,
     /// A number is wanted, and a byte of the word is no hexadecimal digit.
@@ -43,25 +45,27 @@ pub enum WordFault {
     Digits(usize),
     /// A call has so many registers, which are none of 1 to 8.
     Registers(usize),
+    /// The number is of no processor, of which there are so many, from 0 on.
+    Processor(usize),
     /// The command wants a word more.
     Missing,
     /// The command wants no such word.
     TooMany,
 }
 
-/// Says what is wrong first with a line as it stands in a trace, with the LF that ends it where there is one. Words are
-/// read from the left, and that some are missing, or are too many registers, comes behind what is wrong with one of
-/// them.
-pub fn line_fault(bytes: &[u8]) -> Option<LineFault>
-    ensures { IsNone result ↔ IsWhole bytes.now }
+/// Says what is wrong first with a line as it stands in a trace of so many processors, or of one alone, with the LF that
+/// ends it where there is one. Words are read from the left, and that some are missing, or are too many registers, comes
+/// behind what is wrong with one of them.
+pub fn line_fault(processors: Option<usize>, bytes: &[u8]) -> Option<LineFault>
+    ensures { IsNone result ↔ IsWhole processors bytes.now }
 {
     let Some(line) = bytes.strip_suffix(b"\n") else {
         return Some(LineFault::NoEnd);
     };
-    match Line::read(line) {
+    match Line::read_in(processors, line) {
         Some(_) => None,
         None if line.ends_with(b"\r") => Some(LineFault::CarriageReturn),
-        None => Some(words_fault(line)),
+        None => Some(words_fault(processors, line)),
     }
 }
 
@@ -71,16 +75,18 @@ enum Command {
     Load,
     Store,
     Fetch,
-    // `show` or `audit`.
+    // `show` or `audit`, or `interrupt` in a trace of several processors.
     Bare,
+    // `on`, in a trace of so many processors.
+    On(usize),
 }
 
 // What is wrong with the words of a line that isn't taken.
-fn words_fault(line: &[u8]) -> LineFault {
+fn words_fault(processors: Option<usize>, line: &[u8]) -> LineFault {
     let mut words = line.split(|b| *b == b' ');
     let name = words.next().unwrap_or(line);
-    let Some(command) = command_named(name) else {
-        let cause = name_fault(name);
+    let Some(command) = command_named(processors, name) else {
+        let cause = name_fault(processors, name);
         return LineFault::Words { column: 1, cause };
     };
     let mut column = usize::saturating_add(name.len(), 2);
@@ -98,20 +104,30 @@ fn words_fault(line: &[u8]) -> LineFault {
     count_fault(command, count, ninth, line.len())
 }
 
-fn command_named(name: &[u8]) -> Option<Command> {
+fn command_named(processors: Option<usize>, name: &[u8]) -> Option<Command> {
     match name {
         b"call" => Some(Command::Call),
         b"load" => Some(Command::Load),
         b"store" => Some(Command::Store),
         b"fetch" => Some(Command::Fetch),
         b"show" | b"audit" => Some(Command::Bare),
+        _ => act_named(processors?, name),
+    }
+}
+
+// A command of a trace of so many processors, that one of one processor doesn't have.
+fn act_named(count: usize, name: &[u8]) -> Option<Command> {
+    match name {
+        b"on" => Some(Command::On(count)),
+        b"interrupt" => Some(Command::Bare),
         _ => None,
     }
 }
 
-fn name_fault(name: &[u8]) -> WordFault {
+fn name_fault(processors: Option<usize>, name: &[u8]) -> WordFault {
     match name {
         b"" => WordFault::Empty,
+        b"help" if processors.is_some() => WordFault::HelpOnSeveral,
         b"help" => WordFault::Help,
         b"quit" | b"exit" => WordFault::Quit,
         _ => WordFault::UnknownCommand,
@@ -126,6 +142,7 @@ fn word_fault(command: Command, place: usize, word: &[u8]) -> Option<WordFault> 
     match (command, place) {
         (Command::Load, 2) => size_fault(word),
         (Command::Store, 2) => value_fault(word),
+        (Command::On(count), 1) => processor_fault(count, word),
         (Command::Call, _) | (Command::Load | Command::Store | Command::Fetch, 1) => {
             number_fault(word)
         }
@@ -171,6 +188,15 @@ fn value_fault(word: &[u8]) -> Option<WordFault> {
     }
 }
 
+// What is wrong with the number of one of so many processors.
+fn processor_fault(count: usize, word: &[u8]) -> Option<WordFault> {
+    match line::processor(word) {
+        Some(processor) if processor < count as u64 => None,
+        Some(_) => Some(WordFault::Processor(count)),
+        None => number_fault(word),
+    }
+}
+
 // What is wrong with a line of so many bytes, with so many words behind the command, of which each is as it should be.
 // The ninth word stands at this column.
 fn count_fault(command: Command, count: usize, ninth: usize, bytes: usize) -> LineFault {
@@ -183,7 +209,7 @@ fn count_fault(command: Command, count: usize, ninth: usize, bytes: usize) -> Li
             },
             cause: WordFault::Registers(count),
         },
-        Command::Load | Command::Store | Command::Fetch => LineFault::Words {
+        Command::Load | Command::Store | Command::Fetch | Command::On(_) => LineFault::Words {
             column: usize::saturating_add(bytes, 1),
             cause: WordFault::Missing,
         },
@@ -221,6 +247,10 @@ impl fmt::Display for WordFault {
                 f,
                 "a line is call X0 .. X7, load A N, store A V, fetch A, show or audit, in hexadecimal"
             ),
+            WordFault::HelpOnSeveral => write!(
+                f,
+                "a line is call X0 .. X7, load A N, store A V, fetch A, show, audit, on N or interrupt, in hexadecimal"
+            ),
             WordFault::Quit => write!(f, "the end of the input ends a session, as Ctrl+D does"),
             WordFault::NoNumber => write!(f, "no hexadecimal number"),
             WordFault::Prefix => write!(f, "a number is written without 0x"),
@@ -239,6 +269,9 @@ impl fmt::Display for WordFault {
             }
             WordFault::Registers(count) => {
                 write!(f, "{count} registers, where a call has 1 to 8")
+            }
+            WordFault::Processor(count) => {
+                write!(f, "no processor of {count}, which count from 0")
             }
             WordFault::Missing => write!(f, "a word is missing"),
             WordFault::TooMany => write!(f, "a word too many"),

@@ -72,10 +72,15 @@ impl<'a> Failure<'a> {
         }
     }
 
-    /// The same, where these are the bytes of the line at which it did.
-    pub fn of_line(path: &'a str, error: PlayError, line: &[u8]) -> Failure<'a>
+    /// The same, where these are the bytes of the line at which it did, in a trace of so many processors.
+    pub fn of_line(
+        path: &'a str,
+        error: PlayError,
+        processors: Option<usize>,
+        line: &[u8],
+    ) -> Failure<'a>
         ensures { StopsFor (Failure.Read path.entry) error result }
     {
-        Failure::of_play(path, error, line_fault(line))
+        Failure::of_play(path, error, line_fault(processors, line))
     }
 }

@@ -1,6 +1,8 @@
 -- SPDX-License-Identifier: MIT OR Apache-2.0
+pub mod Benches
 mod DigitTable
 pub mod Fronts
+pub mod LineActs
 pub mod LineCommands
 pub mod LineNumbers
 pub mod LineRegisters

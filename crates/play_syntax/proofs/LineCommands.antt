@@ -183,11 +183,11 @@ comment_line [] some is = absurd (omega (arith, some))
 comment_line (c ∷ bytes) some is = rw (eq-eqb c hash is) refl
 
 -- a line of none of the commands
-chosen : (b : Bool) (x y : Option Line) → (b ≡ true → None ≡ x) → None ≡ y → None ≡ (if b then x else y)
+pub chosen : (b : Bool) (x y : Option Line) → (b ≡ true → None ≡ x) → None ≡ y → None ≡ (if b then x else y)
 chosen true x y p q = p refl
 chosen false x y p q = q
 
-same : (xs ys : List ℕ) → bytes_eq xs ys ≡ true → xs ≡ ys
+pub same : (xs ys : List ℕ) → bytes_eq xs ys ≡ true → xs ≡ ys
 same xs ys = (bytes_eq-Decides xs ys).0
 
 named : (name : List ℕ) (words : List (List ℕ)) → (name ≡ codes "call" → None ≡ call_of words) → (name ≡ codes "load" → None ≡ load_of words)

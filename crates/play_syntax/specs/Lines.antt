@@ -2,14 +2,15 @@
 -- A line by itself, and what answering it leaves.
 use Rattle.std.specs.Prelude.{◌≡◌, List, ℕ, Option, Some, None, Result, Ok, Err}
 use Rattle.std.specs.Io.KnownBytes.{Appends, Keeps}
-use Rattle.ffa_model.specs.State.{State}
-use Rattle.ffa_model.specs.Step.{step}
+use Rattle.ffa_model.specs.declared.operation.Effect.{Effect}
+use Rattle.ffa_model.specs.declared.operation.Effect.TheVariants as effects
+use Rattle.ffa_playable.specs.Bench.{Bench, effect_of, outcome_of_interrupt}
 use Rattle.play_syntax.specs.TraceLines as trace
 use Rattle.play_syntax.specs.TraceText.{line_text, line_after}
 use Rattle.ffa_model.specs.declared.operation.Outcome.{Outcome}
 use Rattle.play_syntax.specs.Output.{TookFront}
 use Rattle.play_syntax.specs.declared.lines.Line.{Line}
-use Rattle.play_syntax.specs.declared.lines.Line.TheVariants.{Operation, Show, Audit, Nothing}
+use Rattle.play_syntax.specs.declared.lines.Line.TheVariants.{Operation, Show, Audit, Nothing, Turn, Interrupt}
 use Rattle.play_syntax.specs.declared.output.PlayError.{PlayError}
 use Rattle.play_syntax.specs.declared.output.PlayError.TheVariants.{Read, Write, NoMemory, BadLine}
 
@@ -19,18 +20,27 @@ meant (Operation op) = trace.operate op
 meant Show = trace.show
 meant Audit = trace.audit
 meant Nothing = trace.skip
+meant (Turn processor) = trace.turn processor
+meant Interrupt = trace.interrupt
 
--- what comes of the operation that a line is
-abbrev pub outcome_of : State → trace.Line → Option Outcome
-outcome_of s (trace.operate op) = Some (step s op).outcome
-outcome_of s trace.show = None
-outcome_of s trace.audit = None
-outcome_of s trace.skip = None
+-- who goes on with registers of its own sees none of an outcome
+abbrev pub outcome_in : Effect → Option Outcome
+outcome_in (effects.Outcome outcome) = Some outcome
+outcome_in (effects.Resumed e) = None
 
--- What follows speaks of the machine's state before and now (`start`, `now`), and of what the writer held and holds. A
+-- what comes of the operation that a line is, or of an interrupt
+abbrev pub outcome_of : Bench → trace.Line → Option Outcome
+outcome_of b (trace.operate op) = outcome_in (effect_of b op)
+outcome_of b trace.show = None
+outcome_of b trace.audit = None
+outcome_of b trace.skip = None
+outcome_of b (trace.turn processor) = None
+outcome_of b trace.interrupt = Some (outcome_of_interrupt b)
+
+-- What follows speaks of what is played on before and now (`start`, `now`), and of what the writer held and holds. A
 -- line was done and its text was written, or a beginning of it; or there is no memory for it, and nothing was done and
 -- nothing written. No other line than `audit` wants memory.
-abbrev pub Answered : State → State → Option (List ℕ) → Option (List ℕ) → trace.Line → Result (Option Outcome) PlayError
+abbrev pub Answered : Bench → Bench → Option (List ℕ) → Option (List ℕ) → trace.Line → Result (Option Outcome) PlayError
     → Type 0
 Answered start now held holds line (Ok outcome) =
     (now ≡ line_after start line) × Appends held holds (line_text start line) × (outcome ≡ outcome_of start line)

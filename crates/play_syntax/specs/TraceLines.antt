@@ -1,6 +1,7 @@
 -- SPDX-License-Identifier: MIT OR Apache-2.0
 -- The lines of a trace: which bytes, without the LF that ends them, are which line.
-use Rattle.std.specs.Prelude.{ℕ, ◌+◌, ◌-◌, ◌*◌, ◌==◌, Bool, not, ◌&&◌, List, [], ◌∷◌, ◌++◌, length, replicate, fold, codes, Option, Some, None, is_some, if◌then◌else◌, option_and_then, option_map}
+use Rattle.std.specs.Prelude.{ℕ, ◌+◌, ◌-◌, ◌*◌, ◌==◌, Bool, not, ◌&&◌, List, [], ◌∷◌, ◌++◌, length, replicate, fold, codes, Option, Some, None, is_some, if◌then◌else◌, nat_lt, option_and_then, option_map}
+use Rattle.std.specs.Option.{option_or}
 use Rattle.std.specs.Str.{bytes_eq}
 use Rattle.std.specs.List.{list_all, slice_split}
 use Rattle.ffa_model.specs.Manifest.{is_from_to}
@@ -19,12 +20,15 @@ space = 32
 abbrev pub hash : ℕ
 hash = 35
 
--- an operation of the runner, the table of accesses, the certificate, or nothing
+-- an operation of the runner, the table of accesses, the certificate, or nothing; and where several processors run the machine,
+-- the turn of one, or an interrupt that the one on turn takes
 pub data Line : Type 0 where
   operate : (op : Op) → Line
   show : Line
   audit : Line
   skip : Line
+  turn : (processor : ℕ) → Line
+  interrupt : Line
 
 -- NUMBERS
 
@@ -131,20 +135,45 @@ unfoldable pub line_of : List ℕ → Option Line
 line_of [] = Some skip
 line_of (c ∷ bytes) = if c == hash then Some skip else command_of (words_of (c ∷ bytes))
 
+-- SEVERAL PROCESSORS
+
+-- `on N`, of so many processors
+unfoldable pub turn_of : ℕ → List (List ℕ) → Option Line
+turn_of count (n ∷ []) = option_and_then (λ p. if nat_lt p count then Some (turn p) else None) (number_of n)
+turn_of count _ = None
+
+-- `interrupt`
+unfoldable pub interrupt_of : List (List ℕ) → Option Line
+interrupt_of [] = Some interrupt
+interrupt_of _ = None
+
+-- a name and what follows it, in a trace of so many processors
+abbrev pub act_of : ℕ → List (List ℕ) → Option Line
+act_of count [] = None
+act_of count (name ∷ words) =
+    if bytes_eq name (codes "on") then turn_of count words
+    else if bytes_eq name (codes "interrupt") then interrupt_of words
+    else None
+
+-- the line that these bytes are in a trace of so many processors, or where one alone runs the machine
+unfoldable pub line_in : Option ℕ → List ℕ → Option Line
+line_in None bytes = line_of bytes
+line_in (Some count) bytes = option_or (line_of bytes) (act_of count (words_of bytes))
+
 -- whether the bytes are a line that is taken, where they have no LF
-abbrev pub is_good : List ℕ → Bool
-is_good bytes = is_some (line_of bytes)
+abbrev pub is_good : Option ℕ → List ℕ → Bool
+is_good processors bytes = is_some (line_in processors bytes)
 
 -- INPUTS
 
 abbrev pub has_no_feed : List ℕ → Bool
 has_no_feed bytes = list_all (λ c. not (c == feed)) bytes
 
-abbrev pub is_line : List ℕ → Bool
-is_line bytes = has_no_feed bytes && is_good bytes
+abbrev pub is_line : Option ℕ → List ℕ → Bool
+is_line processors bytes = has_no_feed bytes && is_good processors bytes
 
-abbrev pub are_lines : List (List ℕ) → Bool
-are_lines lines = list_all is_line lines
+abbrev pub are_lines : Option ℕ → List (List ℕ) → Bool
+are_lines processors lines = list_all (is_line processors) lines
 
 -- lines, each with the LF that ends it
 abbrev pub joined : List (List ℕ) → List ℕ

@@ -5,6 +5,8 @@ use Rattle.std.specs.List.{flat_map, range_with_len}
 use Rattle.std.specs.Option.{option_map_or}
 use Rattle.ffa_model.specs.declared.rights.Rights.{Rights}
 use Rattle.ffa_model.specs.declared.certificate.CertRun.{CertRun}
+use Rattle.ffa_model.specs.declared.operation.Effect.{Effect}
+use Rattle.ffa_model.specs.declared.operation.Effect.TheVariants as effects
 use Rattle.ffa_model.specs.declared.operation.Op.{Op}
 use Rattle.ffa_model.specs.declared.operation.Op.TheVariants.{Call, Load, Store, Fetch}
 use Rattle.ffa_model.specs.declared.operation.Outcome.{Outcome}
@@ -19,8 +21,8 @@ use Rattle.ffa_model.specs.Alike.{is_alike}
 use Rattle.ffa_model.specs.Certificate.{certificate}
 use Rattle.ffa_model.specs.Identifiers.{identifier}
 use Rattle.ffa_model.specs.Memory.{size_of}
-use Rattle.ffa_model.specs.Step.{step}
-use Rattle.play_syntax.specs.TraceLines.{Line, operate, show, audit, skip, feed, space, line_of}
+use Rattle.ffa_playable.specs.Bench.{Bench, after_interrupt, after_op, effect_of, outcome_of_interrupt, processors_of, turned_to}
+use Rattle.play_syntax.specs.TraceLines.{Line, operate, show, audit, skip, turn, interrupt, feed, space, line_in}
 
 -- WORDS
 
@@ -65,6 +67,18 @@ outcome_words op (Fault fault) = codes "fault" ++ spaced (fault_name fault)
 
 abbrev pub outcome_text : Op → Outcome → List ℕ
 outcome_text op outcome = ended (outcome_words op outcome)
+
+-- a partition that was preempted goes on
+abbrev pub resumed_text : ℕ → List ℕ
+resumed_text e = ended (codes "resumed" ++ spaced (hex 4 e))
+
+abbrev pub effect_text : Op → Effect → List ℕ
+effect_text op (effects.Outcome outcome) = outcome_text op outcome
+effect_text op (effects.Resumed e) = resumed_text e.0
+
+-- an interrupt prints what a call does that comes to the same
+abbrev pub interrupt_text : Outcome → List ℕ
+interrupt_text outcome = outcome_text (Call []) outcome
 
 -- THE TABLE OF ACCESSES
 
@@ -135,31 +149,35 @@ audit_text s =
 
 -- LINES
 
--- what a line prints, and the state after it
-abbrev pub line_text : State → Line → List ℕ
-line_text s (operate op) = outcome_text op (step s op).outcome
-line_text s show = show_text s
-line_text s audit = audit_text s
-line_text s skip = []
+-- what a line prints, and what is behind it
+abbrev pub line_text : Bench → Line → List ℕ
+line_text b (operate op) = effect_text op (effect_of b op)
+line_text b show = show_text b.state
+line_text b audit = audit_text b.state
+line_text b skip = []
+line_text b (turn processor) = []
+line_text b interrupt = interrupt_text (outcome_of_interrupt b)
 
-abbrev pub line_after : State → Line → State
-line_after s (operate op) = (step s op).state
-line_after s show = s
-line_after s audit = s
-line_after s skip = s
+abbrev pub line_after : Bench → Line → Bench
+line_after b (operate op) = after_op b op
+line_after b show = b
+line_after b audit = b
+line_after b skip = b
+line_after b (turn processor) = turned_to b processor
+line_after b interrupt = after_interrupt b
 
 -- the same of the bytes of a line; what is no line prints and does nothing
-unfoldable pub text_of : State → List ℕ → List ℕ
-text_of s bytes = option_map_or (line_text s) (line_of bytes) []
+unfoldable pub text_of : Bench → List ℕ → List ℕ
+text_of b bytes = option_map_or (line_text b) (line_in (processors_of b) bytes) []
 
-unfoldable pub after : State → List ℕ → State
-after s bytes = option_map_or (line_after s) (line_of bytes) s
+unfoldable pub after : Bench → List ℕ → Bench
+after b bytes = option_map_or (line_after b) (line_in (processors_of b) bytes) b
 
--- what the lines print one after another, and the state after them
-abbrev pub text : State → List (List ℕ) → List ℕ
-text s [] = []
-text s (line ∷ lines) = text_of s line ++ text (after s line) lines
+-- what the lines print one after another, and what is behind them
+abbrev pub text : Bench → List (List ℕ) → List ℕ
+text b [] = []
+text b (line ∷ lines) = text_of b line ++ text (after b line) lines
 
-abbrev pub after_all : State → List (List ℕ) → State
-after_all s [] = s
-after_all s (line ∷ lines) = after_all (after s line) lines
+abbrev pub after_all : Bench → List (List ℕ) → Bench
+after_all b [] = b
+after_all b (line ∷ lines) = after_all (after b line) lines

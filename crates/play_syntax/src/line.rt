@@ -1,8 +1,8 @@
 // SPDX-License-Identifier: MIT OR Apache-2.0
 //! The words of a trace's lines. Each function is inlined, though plays on machines of four kinds call it.
-ghost use Rattle.std.specs.Prelude.{◌≡◌, ◌<◌, ◌≤◌, ◌+◌, ◌*◌, ◌^◌, length, replicate, Some, None, option_map, if◌then◌else◌};
+ghost use Rattle.std.specs.Prelude.{◌≡◌, ◌<◌, ◌≤◌, ◌+◌, ◌*◌, ◌^◌, ℕ, length, nat_lt, replicate, Some, None, option_and_then, option_map, if◌then◌else◌};
 ghost use Rattle.ffa_model.specs.declared.operation.Op.TheVariants.{Call, Load, Store, Fetch};
-ghost use Rattle.play_syntax.specs.TraceLines.{operate, size_named, size_written, call_of, load_of, store_of, fetch_of, words_of};
+ghost use Rattle.play_syntax.specs.TraceLines.{operate, size_named, size_written, call_of, load_of, store_of, fetch_of, turn, turn_of, words_of};
 ghost use Rattle.play_syntax.specs.Parsed.{AreDigits, GoesOn, IsFront, IsStored, value_at, value_of};
 
 use ffa_model::Size;
@@ -156,6 +156,16 @@ pub fn fetch(words: &[u8]) -> Option<u64>
 {
     match read_front(words) {
         Front::Last(addr) => Some(addr),
+        Front::More(_, _) | Front::Other => None,
+    }
+}
+
+/// The number of a processor.
+pub fn processor(words: &[u8]) -> Option<u64>
+    ensures { (count : ℕ) → option_and_then (λ p. if nat_lt p count then Some (turn p) else None) result ≡ turn_of count (words_of words.now) }
+{
+    match read_front(words) {
+        Front::Last(processor) => Some(processor),
         Front::More(_, _) | Front::Other => None,
     }
 }

@@ -3,7 +3,7 @@
 ghost use Rattle.std.specs.Prelude.{◌≡◌, ◌+◌, ◌*◌, ◌/◌, ◌%◌, ◌^◌, ◌<◌, ◌≤◌, ◌++◌, length, take, drop, codes};
 ghost use Rattle.std.specs.List.{flat_map};
 ghost use Rattle.arrayvec.specs.ArrayVec.{array_vec_len};
-ghost use Rattle.play_syntax.specs.TraceText.{digit, hex, spaced, ended, fault_name, rights_text};
+ghost use Rattle.play_syntax.specs.TraceText.{digit, hex, spaced, ended, fault_name, rights_text, resumed_text};
 
 use arrayvec::ArrayVec;
 use ffa_model::{Data, FaultKind, MOST_ENDPOINTS, Rights};
@@ -208,6 +208,17 @@ fn register_word(value: u64) -> [u8; 17]
     let a = two_digits(value, 0);
     [
         b' ', h.0, h.1, g.0, g.1, f.0, f.1, e.0, e.1, d.0, d.1, c.0, c.1, b.0, b.1, a.0, a.1,
+    ]
+}
+
+/// The line of a preempted partition that goes on.
+pub fn resumed_line(partition: u16) -> [u8; 13]
+    ensures { result ≡ resumed_text partition }
+{
+    let b = two_digits(u64::from(partition), 1);
+    let a = two_digits(u64::from(partition), 0);
+    [
+        b'r', b'e', b's', b'u', b'm', b'e', b'd', b' ', b.0, b.1, a.0, a.1, b'\n',
     ]
 }
 

@@ -4,7 +4,7 @@ use Rattle.std.proofs.Common.{◌≡◌, ◌⊎◌, Bor, Bool, true, false, List
 use Rattle.std.specs.Prelude.{slice_index_or, OnOk, unwrap_or}
 use Rattle.std.specs.Io.KnownBytes.{Appends, Consumes, IsAtEnd, Keeps, prepend_known}
 use Rattle.std.proofs.KnownBytes.{Consumes-trans}
-use Rattle.ffa_model.specs.State.{State}
+use Rattle.ffa_playable.specs.Bench.{Bench, processors_of}
 use Rattle.play_syntax.specs.TraceLines.{feed, has_no_feed, joined}
 use Rattle.play_syntax.specs.TraceText.{text}
 use Rattle.play_player.specs.Played.{Played}
@@ -75,11 +75,11 @@ never_strict strict = absurd cc
 
 -- THE PLAYER'S OWN PLAY
 
-written_plainly : (start : State) (held holds : Option (List ℕ)) (lines : List (List ℕ)) → Appends held holds (text start lines)
+written_plainly : (start : Bench) (held holds : Option (List ℕ)) (lines : List (List ℕ)) → Appends held holds (text start lines)
     → Appends held holds (text_in plain 1 start lines)
 written_plainly start held holds lines written = subst (Appends held holds) (sym (plain_text 1 start lines)) written
 
-pub played_whole : {X : Type 0} (x : X) (start now : State) (held holds had has : Option (List ℕ)) → Played start now held holds had has (Ok x) → IsPlayed false plain start (passed had held holds)
+pub played_whole : {X : Type 0} (x : X) (start now : Bench) (held holds had has : Option (List ℕ)) → Played start now held holds had has (Ok x) → IsPlayed false plain start (passed had held holds)
 played_whole x start now held holds had has (lines, did, consumed, ended, counted) = record {
   lines = lines;
   each = did.each;
@@ -102,7 +102,7 @@ ends_with : (has : Option (List ℕ)) (bytes : List ℕ) → IsAtEnd has → IsA
 ends_with None bytes ended = tt
 ends_with (Some ys) bytes ended = ap (λ l. bytes ++ l) ended ∙ append-nil bytes
 
-played_to : (start now : State) (held holds had has : Option (List ℕ)) (n : ℕ) → Played {X = Unit {0}} start now held holds had has (Err (play_error.BadLine n)) → IsStopped false plain start (passed had held holds) n
+played_to : (start now : Bench) (held holds had has : Option (List ℕ)) (n : ℕ) → Played {X = Unit {0}} start now held holds had has (Err (play_error.BadLine n)) → IsStopped false plain start (passed had held holds) n
 played_to start now held holds had has n (lines, bad, more, did, consumed, number, counted, single, inl ((next, more_is), wrong)) = (
   lines,
   record {
@@ -131,7 +131,7 @@ played_to start now held holds had has n (lines, bad, more, did, consumed, numbe
       never_strict,
     )
 
-pub play_failed : (start now : State) (held holds had has : Option (List ℕ)) (path : Bor (List ℕ)) (fault : Option LineFault) (error : PlayError)
+pub play_failed : (start now : Bench) (held holds had has : Option (List ℕ)) (path : Bor (List ℕ)) (fault : Option LineFault) (error : PlayError)
     → Played {X = Unit {0}} start now held holds had has (Err error) → PlayFails Plain path start (passed had held holds) (failure_of (Read path) fault error)
 play_failed start now held holds had has path fault play_error.Read (lines, more, did, consumed, counted, ended) =
     inl ((lines, (did.each, (prepend_known more has, before_read had has (joined lines) more consumed)), written_plainly start held holds lines did.written, never_strict), refl)
@@ -141,7 +141,7 @@ play_failed start now held holds had has path fault (play_error.BadLine n) p = p
 
 -- PLAYS IN A FORM, AND COMPARISONS
 
-ends_badly : (form : Form) (start now : State) (had : Option (List ℕ)) (said bytes : List ℕ) (n : ℕ) → (e : followed.EndsBadly form start now had said bytes n) → EndsBadly had e.lines n
+ends_badly : (form : Form) (start now : Bench) (had : Option (List ℕ)) (said bytes : List ℕ) (n : ℕ) → (e : followed.EndsBadly form start now had said bytes n) → EndsBadly (processors_of start) had e.lines n
 ends_badly form start now had said bytes n e = record {
   left = e.left;
   bytes = bytes;
@@ -151,7 +151,7 @@ ends_badly form start now had said bytes n e = record {
   bad = e.bad;
 }
 
-pub formed_whole : {X : Type 0} (x : X) (form : Form) (start now : State) (held holds had has : Option (List ℕ)) (bytes : List ℕ) → followed.PlayedIn form start now held holds had has bytes (Ok x) → IsPlayed false form start (passed had held holds)
+pub formed_whole : {X : Type 0} (x : X) (form : Form) (start now : Bench) (held holds had has : Option (List ℕ)) (bytes : List ℕ) → followed.PlayedIn form start now held holds had has bytes (Ok x) → IsPlayed false form start (passed had held holds)
 formed_whole x form start now held holds had has bytes (left, lines, said, f, ended, written) = record {
   lines = lines;
   each = f.each;
@@ -160,7 +160,7 @@ formed_whole x form start now held holds had has bytes (left, lines, said, f, en
   guards = never_strict;
 }
 
-pub formed_failed : (form : Form) (start now : State) (held holds had has : Option (List ℕ)) (bytes : List ℕ) (path : Bor (List ℕ)) (fault : Option LineFault) (error : PlayError)
+pub formed_failed : (form : Form) (start now : Bench) (held holds had has : Option (List ℕ)) (bytes : List ℕ) (path : Bor (List ℕ)) (fault : Option LineFault) (error : PlayError)
     → followed.PlayedIn {X = Unit {0}} form start now held holds had has bytes (Err error)
     → PlayFails (Formed form) path start (passed had held holds) (failure_of (Read path) fault error)
 formed_failed form start now held holds had has bytes path fault play_error.Read (left, lines, said, f, unended, written) =
@@ -176,32 +176,32 @@ pub always_ok : {T E P : Type 0} (r : Result T E) → P → OnOk r P
 always_ok (Ok x) p = p
 always_ok (Err e) p = tt
 
-pub drawn_whole : {A : Type 0} (picture : Picture A) (keep : Keep) (start now : State) (had has : Option (List ℕ)) (bytes : List ℕ) → Pictured keep start now had has bytes (Ok (Ok picture)) → IsDrawn had
+pub drawn_whole : {A : Type 0} (picture : Picture A) (keep : Keep) (start now : Bench) (had has : Option (List ℕ)) (bytes : List ℕ) → Pictured keep start now had has bytes (Ok (Ok picture)) → IsDrawn (processors_of start) had
 drawn_whole picture keep start now had has bytes (left, lines, said, f, (ended, is, fits)) = record { lines = lines; each = f.each; all = all_consumed had left (joined lines) f.read ended }
 
-pub drawn_over : (A : Type 0) (large : TooLarge) (keep : Keep) (start now : State) (held had has : Option (List ℕ)) (bytes : List ℕ) → Pictured {A = A} keep start now had has bytes (Ok (Err large))
+pub drawn_over : (A : Type 0) (large : TooLarge) (keep : Keep) (start now : Bench) (held had has : Option (List ℕ)) (bytes : List ℕ) → Pictured {A = A} keep start now had has bytes (Ok (Err large))
     → IsOverfull keep start (passed had held held) large.most
 drawn_over A large keep start now held had has bytes (left, lines, said, f, is) =
-    (lines, (f.each, (left, f.read)), subst (λ s. IsTooLarge (Unit {0}) keep start s lines (record { most = large.most })) f.state (bare_large keep start now lines large is), kept held)
+    (lines, (f.each, (left, f.read)), subst (λ (b : Bench). IsTooLarge (Unit {0}) keep start b.state lines (record { most = large.most })) f.state (bare_large keep start now.state lines large is), kept held)
 
-pub drawn_failed : (A : Type 0) (keep : Keep) (width : ℕ) (start now : State) (held had has : Option (List ℕ)) (bytes : List ℕ) (path : Bor (List ℕ)) (fault : Option LineFault) (error : PlayError)
+pub drawn_failed : (A : Type 0) (keep : Keep) (width : ℕ) (start now : Bench) (held had has : Option (List ℕ)) (bytes : List ℕ) (path : Bor (List ℕ)) (fault : Option LineFault) (error : PlayError)
     → Pictured {A = A} keep start now had has bytes (Err error) → PlayFails (Drawn keep width) path start (passed had held held) (failure_of (Read path) fault error)
 drawn_failed A keep width start now held had has bytes path fault play_error.Read p = inl (kept held, refl)
 drawn_failed A keep width start now held had has bytes path fault play_error.Write p = absurd p
 drawn_failed A keep width start now held had has bytes path fault play_error.NoMemory p = tt
 drawn_failed A keep width start now held had has bytes path fault (play_error.BadLine n) (said, e) = (e.lines, ends_badly plain start now had said bytes n e, kept held)
 
-pub paged_whole : {A : Type 0} (page : Page A) (start now : State) (had has : Option (List ℕ)) (bytes : List ℕ) → Paging start now had has bytes (Ok page) → IsDrawn had
+pub paged_whole : {A : Type 0} (page : Page A) (start now : Bench) (had has : Option (List ℕ)) (bytes : List ℕ) → Paging start now had has bytes (Ok page) → IsDrawn (processors_of start) had
 paged_whole page start now had has bytes (left, lines, said, f, is) = record { lines = lines; each = f.each; all = all_consumed had left (joined lines) f.read is.whole }
 
-pub paged_failed : (A : Type 0) (start now : State) (held had has : Option (List ℕ)) (bytes : List ℕ) (path : Bor (List ℕ)) (fault : Option LineFault) (error : PlayError)
+pub paged_failed : (A : Type 0) (start now : Bench) (held had has : Option (List ℕ)) (bytes : List ℕ) (path : Bor (List ℕ)) (fault : Option LineFault) (error : PlayError)
     → Paging {A = A} start now had has bytes (Err error) → PlayFails Paged path start (passed had held held) (failure_of (Read path) fault error)
 paged_failed A start now held had has bytes path fault play_error.Read p = inl (kept held, refl)
 paged_failed A start now held had has bytes path fault play_error.Write p = absurd p
 paged_failed A start now held had has bytes path fault play_error.NoMemory p = tt
 paged_failed A start now held had has bytes path fault (play_error.BadLine n) (said, e) = (e.lines, ends_badly plain start now had said bytes n e, kept held)
 
-pub guarded_whole : (form : Form) (start now : State) (held holds had has : Option (List ℕ)) (line found : List ℕ) (met : ℕ) (near : List ℕ) → GuardedIn form start now held holds had has line found met near (Ok None)
+pub guarded_whole : (form : Form) (start now : Bench) (held holds had has : Option (List ℕ)) (line found : List ℕ) (met : ℕ) (near : List ℕ) → GuardedIn form start now held holds had has line found met near (Ok None)
     → IsPlayed true form start (passed had held holds)
 guarded_whole form start now held holds had has line found met near (left, lines, said, f, ended, written, are_met, counts) = record {
   lines = lines;
@@ -212,8 +212,8 @@ guarded_whole form start now held holds had has line found met near (left, lines
 }
 
 -- what is said of the guards
-pub guarded_told : (form : Form) (start now : State) (held holds had has : Option (List ℕ)) (line found : List ℕ) (met : ℕ) (near before between after : List ℕ) → GuardedIn form start now held holds had has line found met near (Ok None)
-    → between ≡ before ++ near_text near → after ≡ between ++ met_text met → TellsGuards had before after
+pub guarded_told : (form : Form) (start now : Bench) (held holds had has : Option (List ℕ)) (line found : List ℕ) (met : ℕ) (near before between after : List ℕ) → GuardedIn form start now held holds had has line found met near (Ok None)
+    → between ≡ before ++ near_text near → after ≡ between ++ met_text met → TellsGuards (processors_of start) had before after
 guarded_told form start now held holds had has line found met near before between after (left, lines, said, f, ended, written, are_met, counts) nears tells = record {
   lines = lines;
   all = all_consumed had left (joined lines) f.read ended;
@@ -223,7 +223,7 @@ guarded_told form start now held holds had has line found met near before betwee
       ∙ append_assoc before (near_text (near_from 1 lines)) (met_text (guards_among lines));
 }
 
-pub guarded_unmet : (form : Form) (start now : State) (held holds had has : Option (List ℕ)) (line found : List ℕ) (met : ℕ) (near : List ℕ) (breach : Breach)
+pub guarded_unmet : (form : Form) (start now : Bench) (held holds had has : Option (List ℕ)) (line found : List ℕ) (met : ℕ) (near : List ℕ) (breach : Breach)
     → GuardedIn form start now held holds had has line found met near (Ok (Some breach)) → IsUnmet form start (passed had held holds) breach.number
 guarded_unmet form start now held holds had has line found met near breach (said, b, written, counts) = record {
   lines = b.lines;
@@ -240,12 +240,12 @@ guarded_unmet form start now held holds had has line found met near breach (said
   written = subst (Appends held holds) b.followed.said written;
 }
 
-pub breach_told : (form : Form) (path : Bor (List ℕ)) (start : State) (streams : Streams) (n : ℕ) → IsUnmet form start streams n → (failure : Failure)
+pub breach_told : (form : Form) (path : Bor (List ℕ)) (start : Bench) (streams : Streams) (n : ℕ) → IsUnmet form start streams n → (failure : Failure)
     → (failure ≡ Unmet n) ⊎ (failure ≡ NoMemory) → PlayFails (Guarded form) path start streams failure
 breach_told form path start streams n unmet failure (inl is) = subst (PlayFails (Guarded form) path start streams) (sym is) unmet
 breach_told form path start streams n unmet failure (inr is) = subst (PlayFails (Guarded form) path start streams) (sym is) tt
 
-pub guarded_failed : (form : Form) (start now : State) (held holds had has : Option (List ℕ)) (line found : List ℕ) (met : ℕ) (near : List ℕ) (path : Bor (List ℕ)) (fault : Option LineFault) (error : PlayError)
+pub guarded_failed : (form : Form) (start now : Bench) (held holds had has : Option (List ℕ)) (line found : List ℕ) (met : ℕ) (near : List ℕ) (path : Bor (List ℕ)) (fault : Option LineFault) (error : PlayError)
     → GuardedIn form start now held holds had has line found met near (Err error)
     → PlayFails (Guarded form) path start (passed had held holds) (failure_of (Read path) fault error)
 guarded_failed form start now held holds had has line found met near path fault play_error.Read (left, lines, said, f, unended, written, are_met, counts) =
@@ -257,7 +257,7 @@ guarded_failed form start now held holds had has line found met near path fault 
 
 -- PLAYS PAST GUARDS
 
-pub sifted_whole : {X : Type 0} (x : X) (form : Form) (start now : State) (held holds had has : Option (List ℕ)) (line : List ℕ) (met : ℕ) (near unmet : List ℕ) → SiftedIn form start now held holds had has line met near unmet (Ok x)
+pub sifted_whole : {X : Type 0} (x : X) (form : Form) (start now : Bench) (held holds had has : Option (List ℕ)) (line : List ℕ) (met : ℕ) (near unmet : List ℕ) → SiftedIn form start now held holds had has line met near unmet (Ok x)
     → unmet ≡ [] → IsPlayed true form start (passed had held holds)
 sifted_whole x form start now held holds had has line met near unmet (left, lines, said, f, ended, written, sift) none = record {
   lines = lines;
@@ -267,7 +267,7 @@ sifted_whole x form start now held holds had has line met near unmet (left, line
   guards = λ strict. all_met start lines (subst (UnmetAmong start [] lines) none sift.guards);
 }
 
-pub sifted_unmet : {X : Type 0} (x : X) (form : Form) (start now : State) (held holds had has : Option (List ℕ)) (line : List ℕ) (met : ℕ) (near unmet : List ℕ) → SiftedIn form start now held holds had has line met near unmet (Ok x)
+pub sifted_unmet : {X : Type 0} (x : X) (form : Form) (start now : Bench) (held holds had has : Option (List ℕ)) (line : List ℕ) (met : ℕ) (near unmet : List ℕ) → SiftedIn form start now held holds had has line met near unmet (Ok x)
     → (n : ℕ) (more : List ℕ) → unmet ≡ n ∷ more → IsUnmetInAll form start (passed had held holds) n
 sifted_unmet x form start now held holds had has line met near unmet (left, lines, said, f, ended, written, sift) n more is = record {
   lines = lines;
@@ -284,7 +284,7 @@ first_rest [] some = absurd (omega (arith, some))
 first_rest (x ∷ xs) some = (xs, refl)
 
 -- what such a play comes to
-pub sifted_ended : {X : Type 0} (x : X) (form : Form) (start now : State) (held holds had has : Option (List ℕ)) (line : List ℕ) (met : ℕ) (near unmet : List ℕ) → SiftedIn form start now held holds had has line met near unmet (Ok x)
+pub sifted_ended : {X : Type 0} (x : X) (form : Form) (start now : Bench) (held holds had has : Option (List ℕ)) (line : List ℕ) (met : ℕ) (near unmet : List ℕ) → SiftedIn form start now held holds had has line met near unmet (Ok x)
     → (path : Bor (List ℕ)) (result : Result (Unit {0}) Failure) → EndsGuards unmet result → Plays (GuardedToEnd form) path start (passed had held holds) result
 sifted_ended x form start now held holds had has line met near unmet sifted path (Ok done) none =
     record { played = sifted_whole x form start now held holds had has line met near unmet sifted none; failed = tt }
@@ -300,7 +300,7 @@ sifted_ended x form start now held holds had has line met near unmet sifted path
 sifted_ended x form start now held holds had has line met near unmet sifted path (Err (Unfit cause)) is = absurd cc
 sifted_ended x form start now held holds had has line met near unmet sifted path (Err (TooManyRows most)) is = absurd cc
 
-pub sifted_failed : (form : Form) (start now : State) (held holds had has : Option (List ℕ)) (line : List ℕ) (met : ℕ) (near unmet : List ℕ) (path : Bor (List ℕ)) (fault : Option LineFault) (error : PlayError)
+pub sifted_failed : (form : Form) (start now : Bench) (held holds had has : Option (List ℕ)) (line : List ℕ) (met : ℕ) (near unmet : List ℕ) (path : Bor (List ℕ)) (fault : Option LineFault) (error : PlayError)
     → SiftedIn {X = Unit {0}} form start now held holds had has line met near unmet (Err error)
     → PlayFails (GuardedToEnd form) path start (passed had held holds) (failure_of (Read path) fault error)
 sifted_failed form start now held holds had has line met near unmet path fault play_error.Read (left, lines, said, f, unended, written, sift) =
@@ -312,7 +312,7 @@ sifted_failed form start now held holds had has line met near unmet path fault (
 
 -- RECORDS
 
-pub recorded_whole : {X : Type 0} (x : X) (start now : State) (held holds had has : Option (List ℕ)) (bytes : List ℕ) → RecordedIn start now held holds had has bytes (Ok x) → IsRecorded start (passed had held holds)
+pub recorded_whole : {X : Type 0} (x : X) (start now : Bench) (held holds had has : Option (List ℕ)) (bytes : List ℕ) → RecordedIn start now held holds had has bytes (Ok x) → IsRecorded start (passed had held holds)
 recorded_whole x start now held holds had has bytes (left, lines, said, f, ended, written, replays) = record {
   lines = lines;
   each = f.each;
@@ -321,7 +321,7 @@ recorded_whole x start now held holds had has bytes (left, lines, said, f, ended
   replays = replays;
 }
 
-pub recorded_failed : (start now : State) (held holds had has : Option (List ℕ)) (bytes : List ℕ) (path : Bor (List ℕ)) (fault : Option LineFault) (error : PlayError)
+pub recorded_failed : (start now : Bench) (held holds had has : Option (List ℕ)) (bytes : List ℕ) (path : Bor (List ℕ)) (fault : Option LineFault) (error : PlayError)
     → RecordedIn {X = Unit {0}} start now held holds had has bytes (Err error)
     → PlayFails Recorded path start (passed had held holds) (failure_of (Read path) fault error)
 recorded_failed start now held holds had has bytes path fault play_error.Read (left, lines, said, f, unended, written, replays) =
@@ -333,7 +333,7 @@ recorded_failed start now held holds had has bytes path fault (play_error.BadLin
 
 -- COMPARISONS
 
-pub compared_whole : (form : Form) (start now : State) (had has wants unread : Option (List ℕ)) (bytes said wanted : List ℕ) → Compared form start now had has wants unread bytes said wanted (Ok None) → PrintsExpected (unexplained form) start had wants
+pub compared_whole : (form : Form) (start now : Bench) (had has wants unread : Option (List ℕ)) (bytes said wanted : List ℕ) → Compared form start now had has wants unread bytes said wanted (Ok None) → PrintsExpected (unexplained form) start had wants
 compared_whole form start now had has wants unread bytes said wanted (left, lines, printed, f, ended, all) = record {
   lines = lines;
   each = f.each;
@@ -341,12 +341,12 @@ compared_whole form start now had has wants unread bytes said wanted (left, line
   same = subst (IsAll wants) f.said all;
 }
 
-cut_short : (form : Form) (start now : State) (had has wants unread : Option (List ℕ)) (bytes said wanted : List ℕ) (n : ℕ) → Compared form start now had has wants unread bytes said wanted (Err (compare_error.Play (play_error.BadLine n)))
+cut_short : (form : Form) (start now : Bench) (had has wants unread : Option (List ℕ)) (bytes said wanted : List ℕ) (n : ℕ) → Compared form start now had has wants unread bytes said wanted (Err (compare_error.Play (play_error.BadLine n)))
     → IsCutShort (unexplained form) start had wants n
 cut_short form start now had has wants unread bytes said wanted n (printed, more, alike, e) =
     (e.lines, ends_badly (unexplained form) start now had printed bytes n e, (more, subst (Consumes wants more) e.followed.said alike))
 
-module _ (form : Form) (start now : State) (had has unread held : Option (List ℕ)) (expected : Expected (Option (List ℕ))) (bytes said wanted : List ℕ) where
+module _ (form : Form) (start now : Bench) (had has unread held : Option (List ℕ)) (expected : Expected (Option (List ℕ))) (bytes said wanted : List ℕ) where
   pub compared_failed : (path : Bor (List ℕ)) (fault : Option LineFault) (error : PlayError) → Compared form start now had has expected.reader unread bytes said wanted (Err (compare_error.Play error))
       → PlayFails (Compare expected form) path start (passed had held held) (failure_of (Read path) fault error)
   compared_failed path fault play_error.Read (left, lines, printed, more, alike, f, unended) =
@@ -366,7 +366,7 @@ module _ (form : Form) (start now : State) (had has unread held : Option (List �
       stopped_at (inr stops) = inr stops
 
 -- where a difference was found
-pub differing : (form : Form) (start : State) (streams : Streams) (expected : Expected (Option (List ℕ))) (path : Bor (List ℕ)) → NeverPrints (unexplained form) start streams.trace expected.reader
+pub differing : (form : Form) (start : Bench) (streams : Streams) (expected : Expected (Option (List ℕ))) (path : Bor (List ℕ)) → NeverPrints (unexplained form) start streams.trace expected.reader
     → (failure : Failure) → IsDifference failure → PlayFails (Compare expected form) path start streams failure
 differing form start streams expected path never_prints Differs any = never_prints
 differing form start streams expected path never_prints Write any = tt
@@ -381,7 +381,7 @@ differing form start streams expected path never_prints (TooManyRows most) never
 
 -- SESSIONS
 
-held_of : (form : Form) (start now : State) (held holds had left : Option (List ℕ)) (lines : List (List ℕ)) (said rest : List ℕ) → Conversed form start now had left lines said → Appends held holds said
+held_of : (form : Form) (start now : Bench) (held holds had left : Option (List ℕ)) (lines : List (List ℕ)) (said rest : List ℕ) → Conversed form start now had left lines said → Appends held holds said
     → has_no_feed rest ≡ true → IsAll left rest → IsHeld form start (passed had held holds)
 held_of form start now held holds had left lines said rest heard written single all = record {
   lines = lines;
@@ -401,13 +401,13 @@ no_rest : (left : Option (List ℕ)) → IsAtEnd left → IsAll left []
 no_rest None ended = tt
 no_rest (Some xs) ended = ended
 
-pub held_whole : {X : Type 0} (x : X) (form : Form) (start now : State) (held holds had has : Option (List ℕ)) → SessionIn form start now held holds had has (Ok x) → IsHeld form start (passed had held holds)
+pub held_whole : {X : Type 0} (x : X) (form : Form) (start now : Bench) (held holds had has : Option (List ℕ)) → SessionIn form start now held holds had has (Ok x) → IsHeld form start (passed had held holds)
 held_whole x form start now held holds had has (left, lines, said, heard, inl ended, written) =
     held_of form start now held holds had left lines said [] heard written refl (no_rest left ended)
 held_whole x form start now held holds had has (left, lines, said, heard, inr (rest, single, some, all), written) =
     held_of form start now held holds had left lines said rest heard written single all
 
-pub held_failed : (form : Form) (start now : State) (held holds had has : Option (List ℕ)) (path : Bor (List ℕ)) (fault : Option LineFault) (error : PlayError)
+pub held_failed : (form : Form) (start now : Bench) (held holds had has : Option (List ℕ)) (path : Bor (List ℕ)) (fault : Option LineFault) (error : PlayError)
     → SessionIn {X = Unit {0}} form start now held holds had has (Err error) → PlayFails (Session form) path start (passed had held holds) (failure_of (Read path) fault error)
 held_failed form start now held holds had has path fault play_error.Read (left, lines, said, heard, unended, written) =
     inl ((lines, heard.each, (left, heard.read), subst (Appends held holds) heard.said written), refl)

@@ -4,7 +4,7 @@ use denote.Ref.{Bor}
 use Rattle.std.specs.Prelude.{◌≡◌, ◌==◌, ◌⊎◌, ℕ, ◌+◌, Bool, true, false, List, [], ◌∷◌, ◌++◌, length, Option, Some, Result, Ok, Err, IfErr, OnOk, ⊤, if◌then◌else◌}
 use Rattle.std.specs.Io.KnownBytes.{Appends, Consumes, Keeps}
 use Rattle.std.specs.List.{list_all}
-use Rattle.ffa_model.specs.State.{State}
+use Rattle.ffa_playable.specs.Bench.{Bench, processors_of}
 use Rattle.play_syntax.specs.TraceLines.{feed, has_no_feed, are_lines, joined}
 use Rattle.play_syntax.specs.TraceText.{after_all}
 use Rattle.play_arguments.specs.declared.command_line.PictureOptions.{PictureOptions}
@@ -53,50 +53,51 @@ abbrev pub streams_of : {R W : Type 0} → (R → Option (List ℕ)) → R → (
 streams_of remaining reader contents before after =
     record { trace = remaining reader; held = contents before; holds = contents after }
 
--- PLAYS, from this state, with these streams
+-- PLAYS, from this start, with these streams
 
 -- a trace was played to its end: what its reader had are lines, and their text was written in this form; where the play
 -- is strict, their guards are met
-pub record IsPlayed (strict : Bool) (form : Form) (start : State) (streams : Streams) : Type 0 where
+pub record IsPlayed (strict : Bool) (form : Form) (start : Bench) (streams : Streams) : Type 0 where
   pub lines : List (List ℕ)
-  pub each : are_lines lines ≡ true
+  pub each : are_lines (processors_of start) lines ≡ true
   pub all : IsAll streams.trace (joined lines)
   pub written : Appends streams.held streams.holds (text_in form 1 start lines)
   pub guards : strict ≡ true → AreMet start lines
 
--- the line behind these lines is bad, and this is its number
-pub record EndsBadly (trace : Option (List ℕ)) (lines : List (List ℕ)) (n : ℕ) : Type 0 where
+-- the line behind these lines of a trace of so many processors is bad, and this is its number
+pub record EndsBadly (processors : Option ℕ) (trace : Option (List ℕ)) (lines : List (List ℕ)) (n : ℕ) : Type 0 where
   pub left : Option (List ℕ)
   pub bytes : List ℕ
-  pub each : are_lines lines ≡ true
+  pub each : are_lines processors lines ≡ true
   pub read : Consumes trace left (joined lines)
   pub number : n ≡ 1 + length lines
-  pub bad : IsBadLine left bytes
+  pub bad : IsBadLine processors left bytes
 
 -- a play stopped at line n: the lines before it were done, and their text was written
-abbrev pub IsStopped : Bool → Form → State → Streams → ℕ → Type 0
+abbrev pub IsStopped : Bool → Form → Bench → Streams → ℕ → Type 0
 IsStopped strict form start streams n =
-    (lines : List (List ℕ)) × EndsBadly streams.trace lines n
+    (lines : List (List ℕ)) × EndsBadly (processors_of start) streams.trace lines n
     × Appends streams.held streams.holds (text_in form 1 start lines) × (strict ≡ true → AreMet start lines)
 
--- a trace began with these lines
-abbrev pub BeganWith : (trace : Option (List ℕ)) (lines : List (List ℕ)) → Type 0
-BeganWith trace lines = (are_lines lines ≡ true) × ((left : Option (List ℕ)) × Consumes trace left (joined lines))
+-- a trace of so many processors began with these lines
+abbrev pub BeganWith : Option ℕ → (trace : Option (List ℕ)) (lines : List (List ℕ)) → Type 0
+BeganWith processors trace lines =
+    (are_lines processors lines ≡ true) × ((left : Option (List ℕ)) × Consumes trace left (joined lines))
 
 -- a play could read no further: these lines were done, and their text was written
-abbrev pub IsUnread : Bool → Form → State → Streams → Type 0
+abbrev pub IsUnread : Bool → Form → Bench → Streams → Type 0
 IsUnread strict form start streams =
-    (lines : List (List ℕ)) × BeganWith streams.trace lines
+    (lines : List (List ℕ)) × BeganWith (processors_of start) streams.trace lines
     × Appends streams.held streams.holds (text_in form 1 start lines) × (strict ≡ true → AreMet start lines)
 
 -- a strict play stopped at line n: it is a guard that isn't met, those of the lines before it are, and the text of these
 -- was written
-pub record IsUnmet (form : Form) (start : State) (streams : Streams) (n : ℕ) : Type 0 where
+pub record IsUnmet (form : Form) (start : Bench) (streams : Streams) (n : ℕ) : Type 0 where
   pub lines : List (List ℕ)
   pub line : List ℕ
   pub rest : List ℕ
   pub guard : Asks × List ℕ
-  pub each : are_lines lines ≡ true
+  pub each : are_lines (processors_of start) lines ≡ true
   pub all : IsAll streams.trace (joined lines ++ (line ++ feed ∷ rest))
   pub single : has_no_feed line ≡ true
   pub number : n ≡ 1 + length lines
@@ -107,9 +108,9 @@ pub record IsUnmet (form : Form) (start : State) (streams : Streams) (n : ℕ) :
 
 -- a play checked all guards: what its reader had are lines, their text was written, and of the guards among them some
 -- aren't met, of which line n is the first
-pub record IsUnmetInAll (form : Form) (start : State) (streams : Streams) (n : ℕ) : Type 0 where
+pub record IsUnmetInAll (form : Form) (start : Bench) (streams : Streams) (n : ℕ) : Type 0 where
   pub lines : List (List ℕ)
-  pub each : are_lines lines ≡ true
+  pub each : are_lines (processors_of start) lines ≡ true
   pub all : IsAll streams.trace (joined lines)
   pub more : List ℕ
   pub unmet : UnmetAmong start [] lines (n ∷ more)
@@ -121,38 +122,38 @@ EndsGuards unmet (Ok done) = unmet ≡ []
 EndsGuards unmet (Err (failure.Unmet n)) = (more : List ℕ) × (unmet ≡ n ∷ more)
 EndsGuards unmet (Err other) = other ≡ failure.NoMemory
 
--- what was said of a trace's guards when it was played to its end: which of its lines are nearly guards, and how many
--- guards it has, which all are met
-pub record TellsGuards (trace : Option (List ℕ)) (before after : List ℕ) : Type 0 where
+-- what was said of the guards of a trace of so many processors when it was played to its end: which of its lines are
+-- nearly guards, and how many guards it has, which all are met
+pub record TellsGuards (processors : Option ℕ) (trace : Option (List ℕ)) (before after : List ℕ) : Type 0 where
   pub lines : List (List ℕ)
   pub all : IsAll trace (joined lines)
-  pub each : are_lines lines ≡ true
+  pub each : are_lines processors lines ≡ true
   pub says : after ≡ before ++ (near_text (near_from 1 lines) ++ met_text (guards_among lines))
 
 -- a trace was played to its end, and recorded: what its reader had are lines, and they were written with the guards of
 -- their play
-pub record IsRecorded (start : State) (streams : Streams) : Type 0 where
+pub record IsRecorded (start : Bench) (streams : Streams) : Type 0 where
   pub lines : List (List ℕ)
-  pub each : are_lines lines ≡ true
+  pub each : are_lines (processors_of start) lines ≡ true
   pub all : IsAll streams.trace (joined lines)
   pub written : Appends streams.held streams.holds (joined (recorded start lines))
   pub replays : Replays start lines
 
 -- a record stopped at line n: the lines before it were written with their guards
-abbrev pub IsRecordStopped : State → Streams → ℕ → Type 0
+abbrev pub IsRecordStopped : Bench → Streams → ℕ → Type 0
 IsRecordStopped start streams n =
-    (lines : List (List ℕ)) × EndsBadly streams.trace lines n
+    (lines : List (List ℕ)) × EndsBadly (processors_of start) streams.trace lines n
     × Appends streams.held streams.holds (joined (recorded start lines))
 
 -- a record could read no further
-abbrev pub IsRecordUnread : State → Streams → Type 0
+abbrev pub IsRecordUnread : Bench → Streams → Type 0
 IsRecordUnread start streams =
-    (lines : List (List ℕ)) × BeganWith streams.trace lines
+    (lines : List (List ℕ)) × BeganWith (processors_of start) streams.trace lines
     × Appends streams.held streams.holds (joined (recorded start lines))
 
 -- a session with a trace was held to its end: what its reader had are lines, good and bad, and a rest that no LF ends, and
 -- the text of the good ones was written in this form
-pub record IsHeld (form : Form) (start : State) (streams : Streams) : Type 0 where
+pub record IsHeld (form : Form) (start : Bench) (streams : Streams) : Type 0 where
   pub lines : List (List ℕ)
   pub rest : List ℕ
   pub each : list_all has_no_feed lines ≡ true
@@ -161,58 +162,59 @@ pub record IsHeld (form : Form) (start : State) (streams : Streams) : Type 0 whe
   pub written : Appends streams.held streams.holds (good_text_in form 1 start lines)
 
 -- a session could read no further: the good ones of these lines were done, and their text was written
-abbrev pub IsUnheard : Form → State → Streams → Type 0
+abbrev pub IsUnheard : Form → Bench → Streams → Type 0
 IsUnheard form start streams =
     (lines : List (List ℕ)) × (list_all has_no_feed lines ≡ true)
     × ((left : Option (List ℕ)) × Consumes streams.trace left (joined lines))
     × Appends streams.held streams.holds (good_text_in form 1 start lines)
 
 -- what a trace prints to its end in this form is what is expected
-pub record PrintsExpected (form : Form) (start : State) (trace expected : Option (List ℕ)) : Type 0 where
+pub record PrintsExpected (form : Form) (start : Bench) (trace expected : Option (List ℕ)) : Type 0 where
   pub lines : List (List ℕ)
-  pub each : are_lines lines ≡ true
+  pub each : are_lines (processors_of start) lines ≡ true
   pub all : IsAll trace (joined lines)
   pub same : IsAll expected (text_in form 1 start lines)
 
--- a trace was played to its end, and its picture or its page was written: what its reader had are lines
-pub record IsDrawn (trace : Option (List ℕ)) : Type 0 where
+-- a trace of so many processors was played to its end, and its picture or its page was written: what its reader had are
+-- lines
+pub record IsDrawn (processors : Option ℕ) (trace : Option (List ℕ)) : Type 0 where
   pub lines : List (List ℕ)
-  pub each : are_lines lines ≡ true
+  pub each : are_lines processors lines ≡ true
   pub all : IsAll trace (joined lines)
 
 -- a picture's or a page's play stopped at line n, and nothing was written
-abbrev pub IsUndrawn : Streams → ℕ → Type 0
-IsUndrawn streams n =
-    (lines : List (List ℕ)) × EndsBadly streams.trace lines n × Keeps streams.held streams.holds
+abbrev pub IsUndrawn : Bench → Streams → ℕ → Type 0
+IsUndrawn start streams n =
+    (lines : List (List ℕ)) × EndsBadly (processors_of start) streams.trace lines n × Keeps streams.held streams.holds
 
 -- a picture's play stopped behind lines that have more rows than fit, of which so many do, and nothing was written; rows
 -- are the same in whatever memory they lie, and so in none
-abbrev pub IsOverfull : Keep → State → Streams → ℕ → Type 0
+abbrev pub IsOverfull : Keep → Bench → Streams → ℕ → Type 0
 IsOverfull keep start streams most =
-    (lines : List (List ℕ)) × BeganWith streams.trace lines
-    × IsTooLarge (Unit {0}) keep start (after_all start lines) lines (record { most = most })
+    (lines : List (List ℕ)) × BeganWith (processors_of start) streams.trace lines
+    × IsTooLarge (Unit {0}) keep start (after_all start lines).state lines (record { most = most })
     × Keeps streams.held streams.holds
 
 -- what is expected begins with the text of these lines in this form
-abbrev pub BeginsExpected : Form → State → (expected : Option (List ℕ)) (lines : List (List ℕ)) → Type 0
+abbrev pub BeginsExpected : Form → Bench → (expected : Option (List ℕ)) (lines : List (List ℕ)) → Type 0
 BeginsExpected form start expected lines =
     (more : Option (List ℕ)) × Consumes expected more (text_in form 1 start lines)
 
 -- a comparison stopped at line n: what is expected begins with the text of the lines before it
-abbrev pub IsCutShort : Form → State → (trace expected : Option (List ℕ)) → ℕ → Type 0
+abbrev pub IsCutShort : Form → Bench → (trace expected : Option (List ℕ)) → ℕ → Type 0
 IsCutShort form start trace expected n =
-    (lines : List (List ℕ)) × EndsBadly trace lines n × BeginsExpected form start expected lines
+    (lines : List (List ℕ)) × EndsBadly (processors_of start) trace lines n × BeginsExpected form start expected lines
 
 -- a comparison could read no further of the trace: what is expected begins with the text of the lines before
-abbrev pub IsCutOff : Form → State → (trace expected : Option (List ℕ)) → Type 0
+abbrev pub IsCutOff : Form → Bench → (trace expected : Option (List ℕ)) → Type 0
 IsCutOff form start trace expected =
-    (lines : List (List ℕ)) × BeganWith trace lines × BeginsExpected form start expected lines
+    (lines : List (List ℕ)) × BeganWith (processors_of start) trace lines × BeginsExpected form start expected lines
 
 -- a comparison could read no further of what is expected, which begins with the text of all of the trace's lines; or these
 -- lines were done, and it begins with the text of all but the last one, and a front of that one's text
-abbrev pub IsUnmatched : Form → State → (trace expected : Option (List ℕ)) → Type 0
+abbrev pub IsUnmatched : Form → Bench → (trace expected : Option (List ℕ)) → Type 0
 IsUnmatched form start trace expected =
-    (lines : List (List ℕ)) × BeganWith trace lines
+    (lines : List (List ℕ)) × BeganWith (processors_of start) trace lines
     × ((found : List ℕ) × (more : Option (List ℕ)) × Consumes expected more found
     × ((IsAll trace (joined lines) × (found ≡ text_in form 1 start lines)) ⊎ StopsInLast form start lines found))
 
@@ -228,7 +230,7 @@ abbrev pub KnownTask : Type 0
 KnownTask = Task (Option (List ℕ))
 
 -- a task was done
-abbrev pub IsDoneBy : KnownTask → State → Streams → Type 0
+abbrev pub IsDoneBy : KnownTask → Bench → Streams → Type 0
 IsDoneBy task.Plain start streams = IsPlayed false plain start streams
 IsDoneBy (task.Formed form) start streams = IsPlayed false form start streams
 IsDoneBy (task.Guarded form) start streams = IsPlayed true form start streams
@@ -238,11 +240,11 @@ IsDoneBy (task.Session form) start streams = IsHeld form start streams
 IsDoneBy (task.Compare expected form) start streams =
     PrintsExpected (unexplained form) start streams.trace expected.reader × Keeps streams.held streams.holds
 IsDoneBy (task.Drawn keep width) start streams =
-    IsDrawn streams.trace × WritesPicture streams.held streams.holds
-IsDoneBy task.Paged start streams = IsDrawn streams.trace × WritesPage streams.held streams.holds
+    IsDrawn (processors_of start) streams.trace × WritesPicture streams.held streams.holds
+IsDoneBy task.Paged start streams = IsDrawn (processors_of start) streams.trace × WritesPage streams.held streams.holds
 
 -- a task stopped at line n
-abbrev pub StopsBy : KnownTask → State → Streams → ℕ → Type 0
+abbrev pub StopsBy : KnownTask → Bench → Streams → ℕ → Type 0
 StopsBy task.Plain start streams n = IsStopped false plain start streams n
 StopsBy (task.Formed form) start streams n = IsStopped false form start streams n
 StopsBy (task.Guarded form) start streams n = IsStopped true form start streams n
@@ -251,11 +253,11 @@ StopsBy task.Recorded start streams n = IsRecordStopped start streams n
 StopsBy (task.Session form) start streams n = ⊥
 StopsBy (task.Compare expected form) start streams n =
     IsCutShort (unexplained form) start streams.trace expected.reader n × Keeps streams.held streams.holds
-StopsBy (task.Drawn keep width) start streams n = IsUndrawn streams n
-StopsBy task.Paged start streams n = IsUndrawn streams n
+StopsBy (task.Drawn keep width) start streams n = IsUndrawn start streams n
+StopsBy task.Paged start streams n = IsUndrawn start streams n
 
 -- a task could read no further of its trace
-abbrev pub UnreadBy : KnownTask → State → Streams → Type 0
+abbrev pub UnreadBy : KnownTask → Bench → Streams → Type 0
 UnreadBy task.Plain start streams = IsUnread false plain start streams
 UnreadBy (task.Formed form) start streams = IsUnread false form start streams
 UnreadBy (task.Guarded form) start streams = IsUnread true form start streams
@@ -268,32 +270,32 @@ UnreadBy (task.Drawn keep width) start streams = Keeps streams.held streams.hold
 UnreadBy task.Paged start streams = Keeps streams.held streams.holds
 
 -- a task could read no further of what is expected, whose path this is
-abbrev pub UnmatchedBy : KnownTask → State → Streams → Bor (List ℕ) → Type 0
+abbrev pub UnmatchedBy : KnownTask → Bench → Streams → Bor (List ℕ) → Type 0
 UnmatchedBy (task.Compare expected form) start streams path =
     IsUnmatched (unexplained form) start streams.trace expected.reader × Keeps streams.held streams.holds
     × (path ≡ expected.path)
 UnmatchedBy other start streams path = ⊥
 
 -- a task found another text
-abbrev pub DiffersBy : KnownTask → State → (trace : Option (List ℕ)) → Type 0
+abbrev pub DiffersBy : KnownTask → Bench → (trace : Option (List ℕ)) → Type 0
 DiffersBy (task.Compare expected form) start trace =
     NeverPrints (unexplained form) start trace expected.reader
 DiffersBy other start trace = ⊥
 
 -- a guard isn't met, in line n
-abbrev pub UnmetBy : KnownTask → State → Streams → ℕ → Type 0
+abbrev pub UnmetBy : KnownTask → Bench → Streams → ℕ → Type 0
 UnmetBy (task.Guarded form) start streams n = IsUnmet form start streams n
 UnmetBy (task.GuardedToEnd form) start streams n = IsUnmetInAll form start streams n
 UnmetBy other start streams n = ⊥
 
 -- a task would draw more rows than this many
-abbrev pub OverfullBy : KnownTask → State → Streams → ℕ → Type 0
+abbrev pub OverfullBy : KnownTask → Bench → Streams → ℕ → Type 0
 OverfullBy (task.Drawn keep width) start streams most = IsOverfull keep start streams most
 OverfullBy other start streams most = ⊥
 
 -- a task with the trace at this path fails; a play refuses no manifest, and reads no descriptor. What can't be read is
 -- named: the trace, or what is expected.
-abbrev pub PlayFails : KnownTask → (trace : Bor (List ℕ)) → State → Streams → Failure → Type 0
+abbrev pub PlayFails : KnownTask → (trace : Bor (List ℕ)) → Bench → Streams → Failure → Type 0
 PlayFails task trace start streams (failure.BadLine n fault) = StopsBy task start streams n
 PlayFails task trace start streams (failure.Read path) =
     (UnreadBy task start streams × (path ≡ trace)) ⊎ UnmatchedBy task start streams path
@@ -305,7 +307,7 @@ PlayFails task trace start streams (failure.TooManyRows most) = OverfullBy task 
 PlayFails task trace start streams other = ⊥
 
 -- a task with the trace at this path is done, or fails
-pub record Plays (task : KnownTask) (trace : Bor (List ℕ)) (start : State) (streams : Streams)
+pub record Plays (task : KnownTask) (trace : Bor (List ℕ)) (start : Bench) (streams : Streams)
     (result : Result (Unit {0}) Failure) : Type 0 where
   pub played : OnOk result (IsDoneBy task start streams)
   pub failed : IfErr result (PlayFails task trace start streams)

@@ -23,7 +23,7 @@ pub(crate) fn compare<'a, A: Allocator + Copy, P: Playable, R: Read + Drop, W: W
     out: &mut W,
 ) -> Result<(), Failure<'a>>
     ensures { let streams = streams_of R.remaining trace.entry.reader W.contents out.old out.new in
-        Plays (comparison_of R.remaining expected.entry form) trace.entry.path player.old.state streams result }
+        Plays (comparison_of R.remaining expected.entry form) trace.entry.path player.old.bench streams result }
 {
     let Trace { path, reader } = trace;
     let mut reader = buffer(alloc, reader)?;
@@ -32,7 +32,7 @@ pub(crate) fn compare<'a, A: Allocator + Copy, P: Playable, R: Read + Drop, W: W
     match play_forms::compare(player, alloc, form, &mut reader, &mut wanted, &mut sides) {
         Ok(None) => Ok(()),
         Ok(Some(mismatch)) => Err(tell_difference(alloc, mismatch, &sides, out)),
-        Err(CompareError::Play(error)) => Err(Failure::of_line(path, error, &sides.line)),
+        Err(CompareError::Play(error)) => Err(Failure::of_line(path, error, player.processors(), &sides.line)),
         Err(CompareError::Expected) => Err(Failure::Read(expected.path)),
     }
 }

@@ -27,7 +27,8 @@ pub struct Play<'a, A, R> {
 
 /// What boots the machine of a manifest, and has something done on it.
 pub trait Machines {
-    /// Plays a trace on the machine of this manifest, which is built as is asked for.
+    /// Plays a trace on the machine of this manifest, which is built as is asked for, and which so many processors run as are
+    /// asked for, or one alone.
     fn play<'a, A: Allocator + Copy, R: Read + Drop, W: Write, E: Write>(
         &self,
         play: Play<'a, A, R>,
@@ -37,7 +38,7 @@ pub trait Machines {
         told: &mut Vec<u8, A>,
     ) -> Result<(), Failure<'a>>
         ensures played { let streams = streams_of R.remaining play.entry.trace.reader W.contents out.old out.new in
-            Plays (known R.remaining play.entry.task) play.entry.trace.path (start_of manifest.now) streams result }
+            Plays (known R.remaining play.entry.task) play.entry.trace.path (start_of play.entry.machine.processors manifest.now) streams result }
         ensures quiet { talks play.entry.task ≡ false → err.new ≡ err.old };
 
     /// Writes so many lines of a trace for the machine of this manifest, and answers how often what came. The same seed

@@ -22,14 +22,14 @@ pub(crate) fn print_page<'a, A: Allocator + Copy, P: Playable, R: Read + Drop, W
     out: &mut W,
 ) -> Result<(), Failure<'a>>
     ensures { let streams = streams_of R.remaining trace.entry.reader W.contents out.old out.new in
-        Plays Task.Paged trace.entry.path player.old.state streams result }
+        Plays Task.Paged trace.entry.path player.old.bench streams result }
 {
     let Trace { path, reader } = trace;
     let mut reader = buffer(alloc, reader)?;
     let mut line = Vec::new(alloc);
     match watch_page(player, alloc, &mut reader, &mut line) {
         Ok(page) => write(&page, out),
-        Err(error) => Err(Failure::of_line(path, error, &line)),
+        Err(error) => Err(Failure::of_line(path, error, player.processors(), &line)),
     }
 }
 

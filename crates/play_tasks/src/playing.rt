@@ -2,6 +2,7 @@
 //! Plays of a trace: its text printed as the player prints it or in a form, or its picture.
 ghost use Rattle.std.specs.Prelude.{◌≡◌, ◌⊎◌, IfErr, IfOk, OnOk};
 ghost use Rattle.std.specs.Io.Buffered.{reader_remaining};
+ghost use Rattle.ffa_playable.specs.Bench.{processors_of};
 ghost use Rattle.play_tasks.specs.Plays.{EndsGuards, Plays, TellsGuards, streams_of};
 
 use crate::task::{Task, Trace};
@@ -22,7 +23,7 @@ pub(crate) fn play_plainly<'a, A: Allocator + Copy, P: Playable, R: Read + Drop,
     out: &mut W,
 ) -> Result<(), Failure<'a>>
     ensures { let streams = streams_of R.remaining trace.entry.reader W.contents out.old out.new in
-        Plays Task.Plain trace.entry.path player.old.state streams result }
+        Plays Task.Plain trace.entry.path player.old.bench streams result }
 {
     let Trace { path, mut reader } = trace;
     match player.play_in(alloc, &mut reader, out) {
@@ -54,14 +55,14 @@ pub(crate) fn play_in_form<'a, A: Allocator + Copy, P: Playable, R: Read + Drop,
     out: &mut W,
 ) -> Result<(), Failure<'a>>
     ensures { let streams = streams_of R.remaining trace.entry.reader W.contents out.old out.new in
-        Plays (Task.Formed form) trace.entry.path player.old.state streams result }
+        Plays (Task.Formed form) trace.entry.path player.old.bench streams result }
 {
     let Trace { path, reader } = trace;
     let mut reader = buffer(alloc, reader)?;
     let mut line = Vec::new(alloc);
     match play_forms::play(player, alloc, form, &mut reader, out, &mut line) {
         Ok(()) => Ok(()),
-        Err(error) => Err(Failure::of_line(path, error, &line)),
+        Err(error) => Err(Failure::of_line(path, error, player.processors(), &line)),
     }
 }
 
@@ -76,8 +77,9 @@ pub(crate) fn play_guarded<'a, A: Allocator + Copy, P: Playable, R: Read + Drop,
     told: &mut Vec<u8, A>,
 ) -> Result<(), Failure<'a>>
     ensures played { let streams = streams_of R.remaining trace.entry.reader W.contents out.old out.new in
-        Plays (Task.Guarded form) trace.entry.path player.old.state streams result }
-    ensures told { OnOk result (TellsGuards (R.remaining trace.entry.reader) told.old.items told.new.items) }
+        Plays (Task.Guarded form) trace.entry.path player.old.bench streams result }
+    ensures told { let processors = processors_of player.old.bench in
+        OnOk result (TellsGuards processors (R.remaining trace.entry.reader) told.old.items told.new.items) }
 {
     let Trace { path, reader } = trace;
     let mut reader = buffer(alloc, reader)?;
@@ -97,7 +99,7 @@ pub(crate) fn play_guarded<'a, A: Allocator + Copy, P: Playable, R: Read + Drop,
     match played {
         Ok(None) => tell_met(told, tally.met),
         Ok(Some(breach)) => Err(tell_breach(told, breach, &line, &found)),
-        Err(error) => Err(Failure::of_line(path, error, &line)),
+        Err(error) => Err(Failure::of_line(path, error, player.processors(), &line)),
     }
 }
 
@@ -127,7 +129,7 @@ pub(crate) fn play_past_guards<'a, A: Allocator + Copy, P: Playable, R: Read + D
     told: &mut Vec<u8, A>,
 ) -> Result<(), Failure<'a>>
     ensures { let streams = streams_of R.remaining trace.entry.reader W.contents out.old out.new in
-        Plays (Task.GuardedToEnd form) trace.entry.path player.old.state streams result }
+        Plays (Task.GuardedToEnd form) trace.entry.path player.old.bench streams result }
 {
     let Trace { path, reader } = trace;
     let mut reader = buffer(alloc, reader)?;
@@ -146,7 +148,7 @@ pub(crate) fn play_past_guards<'a, A: Allocator + Copy, P: Playable, R: Read + D
     tell_near(told, &tally.near)?;
     match played {
         Ok(()) => end_guards(told, tally.met, &tally.unmet),
-        Err(error) => Err(Failure::of_line(path, error, &line)),
+        Err(error) => Err(Failure::of_line(path, error, player.processors(), &line)),
     }
 }
 
@@ -176,14 +178,14 @@ pub(crate) fn record<'a, A: Allocator + Copy, P: Playable, R: Read + Drop, W: Wr
     out: &mut W,
 ) -> Result<(), Failure<'a>>
     ensures { let streams = streams_of R.remaining trace.entry.reader W.contents out.old out.new in
-        Plays Task.Recorded trace.entry.path player.old.state streams result }
+        Plays Task.Recorded trace.entry.path player.old.bench streams result }
 {
     let Trace { path, reader } = trace;
     let mut reader = buffer(alloc, reader)?;
     let mut line = Vec::new(alloc);
     match play_forms::record(player, alloc, &mut reader, out, &mut line) {
         Ok(()) => Ok(()),
-        Err(error) => Err(Failure::of_line(path, error, &line)),
+        Err(error) => Err(Failure::of_line(path, error, player.processors(), &line)),
     }
 }
 
@@ -204,7 +206,7 @@ pub(crate) fn play_session<
     err: &mut E,
 ) -> Result<(), Failure<'a>>
     ensures { let streams = streams_of R.remaining trace.entry.reader W.contents out.old out.new in
-        Plays (Task.Session form) trace.entry.path player.old.state streams result }
+        Plays (Task.Session form) trace.entry.path player.old.bench streams result }
 {
     let Trace { path, reader } = trace;
     let mut reader = buffer(alloc, reader)?;
@@ -224,7 +226,7 @@ pub(crate) fn draw<'a, A: Allocator + Copy, P: Playable, R: Read + Drop, W: Writ
     out: &mut W,
 ) -> Result<(), Failure<'a>>
     ensures { let streams = streams_of R.remaining trace.entry.reader W.contents out.old out.new in
-        Plays (Task.Drawn keep width) trace.entry.path player.old.state streams result }
+        Plays (Task.Drawn keep width) trace.entry.path player.old.bench streams result }
 {
     let Trace { path, reader } = trace;
     let mut reader = buffer(alloc, reader)?;
@@ -232,6 +234,6 @@ pub(crate) fn draw<'a, A: Allocator + Copy, P: Playable, R: Read + Drop, W: Writ
     match picture_of(player, alloc, keep, &mut reader, &mut line) {
         Ok(Ok(picture)) => print_picture(&picture, width, out),
         Ok(Err(large)) => Err(Failure::TooManyRows(large.most)),
-        Err(error) => Err(Failure::of_line(path, error, &line)),
+        Err(error) => Err(Failure::of_line(path, error, player.processors(), &line)),
     }
 }

@@ -145,7 +145,7 @@ pub fn do_task<'a, A: Allocator + Copy, P: Playable, R: Read + Drop, W: Write, E
     told: &mut Vec<u8, A>,
 ) -> Result<(), Failure<'a>>
     ensures played { let streams = streams_of R.remaining play.entry.trace.reader W.contents out.old out.new in
-        Plays (known R.remaining play.entry.task) play.entry.trace.path player.old.state streams result }
+        Plays (known R.remaining play.entry.task) play.entry.trace.path player.old.bench streams result }
     ensures quiet { talks play.entry.task ≡ false → err.new ≡ err.old }
 {
     let Play {

@@ -19,6 +19,7 @@ mod sides;
 const MACHINE: MachineOptions = MachineOptions {
     frames: false,
     tlb: false,
+    processors: None,
 };
 
 const TEXT: TextOptions = TextOptions {
@@ -114,7 +115,11 @@ const KINDS: [(bool, bool); 4] = [(false, false), (true, false), (false, true), 
 
 // The same command on a machine of one kind.
 fn on_kind<'a>(request: &Request<'a>, (frames, tlb): (bool, bool)) -> Request<'a> {
-    let machine = MachineOptions { frames, tlb };
+    let machine = MachineOptions {
+        frames,
+        tlb,
+        ..MACHINE
+    };
     match *request {
         Request::Play(options) => Request::Play(PlayOptions { machine, ..options }),
         other => other,

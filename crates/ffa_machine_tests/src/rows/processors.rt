@@ -1,10 +1,11 @@
 // SPDX-License-Identifier: MIT OR Apache-2.0
-//! Interrupts, and several processors. A step begins with the processor that does it.
+//! Interrupts, and several processors, of the machine itself and of a player's. A step begins with the processor that does it.
 use super::elsewhere::is_wanted;
 use super::*;
 use crate::checks::holds_at;
 use ffa_model::{Act, Effect, EndpointId, Op, Outcome};
 use ffa_physmem::{FlatRam, PhysMem};
+use ffa_reasons::ExplainedCluster;
 use ffa_spmc::Cluster;
 use play_syntax::Line;
 
@@ -39,11 +40,17 @@ fn is_effect(alloc: Global, effect: Effect, wanted: &str) -> Result<bool, Fail> 
     }
 }
 
-// Does steps on a fresh machine of the rows.
-fn acts(rt: &impl Abort, alloc: Global, steps: &str) -> Result<(), Fail> {
+// A fresh machine of the rows.
+fn booted_cluster(alloc: Global) -> Result<Cluster<FlatRam>, Fail> {
     let manifest = row_machine();
     let ram = FlatRam::new(alloc, manifest.ram_base, 512 * manifest.ram_blocks)?;
-    let mut cluster = Cluster::boot_with(&manifest, ram, NoTlb);
+    Ok(Cluster::boot_with(&manifest, ram, NoTlb))
+}
+
+// Does steps on a fresh machine of the rows, and plays them as a trace on another.
+fn acts(rt: &impl Abort, alloc: Global, steps: &str) -> Result<(), Fail> {
+    let mut cluster = booted_cluster(alloc)?;
+    let mut player = Player::new(ExplainedCluster::of(booted_cluster(alloc)?, 8));
     for step in steps.lines() {
         let (line, wanted) = step.split_once(" -> ").unwrap_or((step, ""));
         let (processor, line) = line.split_once(' ').unwrap_or(("9", line));
@@ -52,6 +59,10 @@ fn acts(rt: &impl Abort, alloc: Global, steps: &str) -> Result<(), Fail> {
             Some(effect) => holds_at(rt, is_effect(alloc, effect, wanted)?, &step),
             None => holds_at(rt, false, &step),
         }
+        let mut turn = Row::new(alloc);
+        write!(turn.trace, "on {processor}\n{line}\n")?;
+        turn.add(wanted)?;
+        turn.prints(rt, alloc, &mut player)?;
     }
     Ok(())
 }
@@ -64,7 +75,7 @@ fn a_partition_is_preempted(rt: HostRuntime) -> Result<(), Fail> {
 0 call 8400006D 80010000 -> 8001: 8400006D 80010000
 0 interrupt -> 0: 84000062 80010000
 0 call 8400006F 8001 0 AA -> 0: 84000060 0 FFFFFFFC
-0 load 40010000 1 -> data 0
+0 load 40010000 1 -> data 00
 0 call 8400006D 80010001 -> 0: 84000060 0 FFFFFFFE
 0 call 8400006D 80010000 -> resumed 8001
 0 call 84000069 -> 8001: 84000061 0 8001
@@ -110,7 +121,7 @@ fn two_processors(rt: HostRuntime) -> Result<(), Fail> {
 1 store 40030000 5B -> done
 0 load 40030000 1 -> fault translation
 0 call 8400006F 80018002 0 AA -> 8001: 84000060 0 FFFFFFFC
-7 load 40010000 1 -> data 0
+7 load 40010000 1 -> data 00
 1 interrupt -> 0: 84000062 80020000
 0 call 8400006F 80018002 0 AA -> 8001: 84000060 0 FFFFFFFC
 0 call 8400006B -> 0: 8400006B 80010000

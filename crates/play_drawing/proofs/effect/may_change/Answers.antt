@@ -6,5 +6,5 @@ use Rattle.play_drawing.proofs.CertificateKept.{certificate-kept}
 use Rattle.play_drawing.proofs.effect.may_change.Goals as goal
 
 pub returns-clause-kept : goal.returns-clause-kept
-returns-clause-kept c = λ s is none.
-    certificate-kept s (meant c.args.line.now) (sym (ap (gives_or_takes (meant c.args.line.now)) is) ∙ sym c.gives_or_takes.ensures ∙ none)
+returns-clause-kept c = λ b is none.
+    certificate-kept b (meant c.args.line.now) (sym (ap (gives_or_takes (meant c.args.line.now)) is) ∙ sym c.gives_or_takes.ensures ∙ none)

@@ -9,7 +9,7 @@ use Rattle.play_forms.proofs.form.make_text.Goals as goal
 
 pub returns-clause-made : goal.returns-clause-made
 returns-clause-made g c =
-    let start = c.args.player.now.state in
+    let start = c.args.player.now.bench in
     let done = c.in_ok-outcome.ensures in
     let outcome = c.in_ok-outcome.outcome in
     let reason = told_line c.reason_of-reason.result in

@@ -1,12 +1,13 @@
 -- SPDX-License-Identifier: MIT OR Apache-2.0
-use Rattle.std.proofs.Common.{◌≡◌, ◌+◌, ◌++◌, ◌∷◌, [], Ok, ◌∙◌, ap, inl, length, sym, subst, arith, length-append, refl}
+use Rattle.std.proofs.Common.{◌≡◌, ◌+◌, ◌++◌, ◌∷◌, [], Ok, Err, ◌∙◌, ap, inl, length, sym, subst, arith, length-append, refl}
 use Rattle.std.proofs.KnownBytes.{Appends-nil, Appends-trans}
 use Rattle.std.proofs.lemmas.Result.{err_from_is_err_and}
+use Rattle.ffa_playable.specs.Bench.{processors_of}
 use Rattle.play_syntax.specs.Lines.{meant}
 use Rattle.play_forms.specs.Forms.{line_text_in}
 use Rattle.play_forms.specs.Asking.{came_by}
 use Rattle.play_forms.specs.Guards.{IsUnasked, guards_among, near_from}
-use Rattle.play_forms.specs.Reading.{TakesNext}
+use Rattle.play_forms.specs.Reading.{TakesLine, TakesNext}
 use Rattle.play_forms.specs.Sifting.{IsSifted}
 use Rattle.play_forms.proofs.Follows.{followed_none, followed_more}
 use Rattle.play_forms.proofs.Guarding.{unasked_none}
@@ -19,9 +20,10 @@ loop-found-init g c = (
   [],
   followed_none _ _ _,
   Appends-nil _,
-  omega (arith, c.new-lines.ensures),
-  inl (subst (IsUnasked c.args.player.now.state [] c.new-unasked.result.came) (sym c.new-unasked.ensures.none) (unasked_none c.args.player.now.state c.new-unasked.result.came)),
+  omega (arith, c.new-lines.ensures.number),
+  inl (subst (IsUnasked c.args.player.now.bench [] c.new-unasked.result.came) (sym c.new-unasked.ensures.none) (unasked_none c.args.player.now.bench c.new-unasked.result.came)),
   sift_none _ _ _ _ c.requires.none c.requires.all c.requires.empty,
+  c.new-lines.ensures.processors ∙ c.processors.ensures,
 )
 
 pub returns-in_err-number : goal.returns-in_err-number
@@ -29,25 +31,27 @@ returns-in_err-number g c =
     let i = c.loop-found.invariant in
     let tally = c.loop-found.tally in
     let p = err_from_is_err_and c.from_residual.result c.from_residual.ensures.1 in
-    rw (p.1, p.2) (untaken_sifted _ _ _ _ _ i.0 i.1 i.2 c.loop-found.lines.number i.4 tally.met tally.near.items tally.unmet.items i.6 c.in_err-number.field-0.0 (g.R.Read.remaining c.next.new.reader) c.next.new.bytes.items c.in_err-number.ensures
+    rw (p.1, p.2) (untaken_sifted _ _ _ _ _ i.0 i.1 i.2 c.loop-found.lines.number i.4 tally.met tally.near.items tally.unmet.items i.6 c.in_err-number.field-0.0 (g.R.Read.remaining c.next.new.reader) c.next.new.bytes.items (subst (λ p. TakesLine p (g.R.Read.remaining c.loop-found.reader) (g.R.Read.remaining c.next.new.reader) c.next.new.bytes.items c.loop-found.lines.number (Err c.in_err-number.field-0.0)) i.7 c.in_err-number.ensures.taken)
     (g.W.Write.contents c.args.writer.now) (g.W.Write.contents c.loop-found.writer) i.3)
 
 pub sift-requires : goal.sift-requires
 sift-requires g c =
     let i = c.loop-found.invariant in
     let tally = c.loop-found.tally in
-    let one = subst (λ o. TakesNext c.loop-found.lines.number c.next.new.self.number (g.R.Read.remaining c.loop-found.reader) (g.R.Read.remaining c.next.new.reader) c.next.new.bytes.items (Ok o)) c.in-Some.is c.in_ok-number.ensures in
-    sift_fewer c.args.player.now.state i.0 tally.met c.in-Some.number tally.near.items tally.unmet.items i.6 (one.0 ∙ i.4)
+    let one = subst (λ o. TakesNext (processors_of c.args.player.now.bench) c.loop-found.lines.number c.next.new.self.number (g.R.Read.remaining c.loop-found.reader) (g.R.Read.remaining c.next.new.reader) c.next.new.bytes.items (Ok o)) c.in-Some.is
+    (subst (λ p. TakesNext p c.loop-found.lines.number c.next.new.self.number (g.R.Read.remaining c.loop-found.reader) (g.R.Read.remaining c.next.new.reader) c.next.new.bytes.items (Ok c.in_ok-number.field-0)) i.7 c.in_ok-number.ensures.taken) in
+    sift_fewer c.args.player.now.bench i.0 tally.met c.in-Some.number tally.near.items tally.unmet.items i.6 (one.0 ∙ i.4)
 
 pub loop-found-preserved : goal.loop-found-preserved
 loop-found-preserved g c =
     let i = c.loop-found.invariant in
-    let start = c.args.player.now.state in
-    let mid = c.loop-found.player.state in
+    let start = c.args.player.now.bench in
+    let mid = c.loop-found.player.bench in
     let had = c.loop-found.tally in
     let has = c.sift.new.tally in
     let number = c.in-Some.number in
-    let one = subst (λ o. TakesNext c.loop-found.lines.number c.next.new.self.number (g.R.Read.remaining c.loop-found.reader) (g.R.Read.remaining c.next.new.reader) c.next.new.bytes.items (Ok o)) c.in-Some.is c.in_ok-number.ensures in
+    let one = subst (λ o. TakesNext (processors_of c.args.player.now.bench) c.loop-found.lines.number c.next.new.self.number (g.R.Read.remaining c.loop-found.reader) (g.R.Read.remaining c.next.new.reader) c.next.new.bytes.items (Ok o)) c.in-Some.is
+    (subst (λ p. TakesNext p c.loop-found.lines.number c.next.new.self.number (g.R.Read.remaining c.loop-found.reader) (g.R.Read.remaining c.next.new.reader) c.next.new.bytes.items (Ok c.in_ok-number.field-0)) i.7 c.in_ok-number.ensures.taken) in
     let line = c.next.new.bytes.items in
     let unasked = c.loop-found.unasked in
     let sifted = subst (λ l. IsSifted mid number l unasked.came unasked.text.items c.sift.new.unasked.text.items had.unmet.items has.unmet.items) c.deref.ensures.value c.in_ok-sift.ensures.sifted in
@@ -63,6 +67,7 @@ loop-found-preserved g c =
       omega (arith, i.4, one.1, length-append i.0 (line ∷ [])),
       left_more start mid i.0 i.2.state line unasked.came unasked.text.items i.5 number its c.print_asked.new.unasked.came c.sift.new.unasked.text.items c.print_asked.new.unasked.text.items had.unmet.items has.unmet.items one.2.2 sifted made.said comes,
       sift_more start mid i.0 i.2.state line unasked.came unasked.text.items c.sift.new.unasked.text.items i.5 number (one.0 ∙ i.4) had.met had.near.items had.unmet.items i.6 has.met has.near.items has.unmet.items sifted counts nears,
+      c.in_ok-number.ensures.processors ∙ i.7,
     )
 
 pub returns-in_err-print_asked : goal.returns-in_err-print_asked
@@ -70,8 +75,9 @@ returns-in_err-print_asked g c =
     let i = c.loop-found.invariant in
     let had = c.loop-found.tally in
     let has = c.sift.new.tally in
-    let one = subst (λ o. TakesNext c.loop-found.lines.number c.next.new.self.number (g.R.Read.remaining c.loop-found.reader) (g.R.Read.remaining c.next.new.reader) c.next.new.bytes.items (Ok o)) c.in-Some.is c.in_ok-number.ensures in
+    let one = subst (λ o. TakesNext (processors_of c.args.player.now.bench) c.loop-found.lines.number c.next.new.self.number (g.R.Read.remaining c.loop-found.reader) (g.R.Read.remaining c.next.new.reader) c.next.new.bytes.items (Ok o)) c.in-Some.is
+    (subst (λ p. TakesNext p c.loop-found.lines.number c.next.new.self.number (g.R.Read.remaining c.loop-found.reader) (g.R.Read.remaining c.next.new.reader) c.next.new.bytes.items (Ok c.in_ok-number.field-0)) i.7 c.in_ok-number.ensures.taken) in
     let p = err_from_is_err_and c.from_residual-in_err-print_asked.result c.from_residual-in_err-print_asked.ensures.1 in
-    rw (p.1, p.2) (unwritten_sifted _ _ _ _ _ i.0 i.1 i.2 c.in-Some.number (one.0 ∙ i.4) had.met had.near.items had.unmet.items i.6 c.in_err-print_asked.field-0.0 c.print_asked.new.player.state (g.R.Read.remaining c.next.new.reader)
+    rw (p.1, p.2) (unwritten_sifted _ _ _ _ _ i.0 i.1 i.2 c.in-Some.number (one.0 ∙ i.4) had.met had.near.items had.unmet.items i.6 c.in_err-print_asked.field-0.0 c.print_asked.new.player.bench (g.R.Read.remaining c.next.new.reader)
     c.next.new.bytes.items (meant c.in-Some.line) one.2.0 one.2.1 one.2.2 (g.W.Write.contents c.args.writer.now) (g.W.Write.contents c.loop-found.writer) (g.W.Write.contents c.print_asked.new.writer) i.3
     has.met has.near.items has.unmet.items c.in_err-print_asked.ensures.printed)

@@ -1,10 +1,11 @@
 -- SPDX-License-Identifier: MIT OR Apache-2.0
 use Rattle.std.proofs.Common.{◌≡◌, None, Some, sym, ap, ◌∙◌, subst}
-use Rattle.ffa_model.specs.Why.{why}
+use Rattle.ffa_playable.specs.Bench.{Bench, why_of}
 use Rattle.std.specs.Option.{option_and_then}
 use Rattle.ffa_mend.specs.Mend.{mend, mend_why}
 use Rattle.play_syntax.specs.Lines.{meant}
 use Rattle.play_forms.specs.Steps.{SaysWhy}
+use Rattle.play_forms.proofs.Behind.{reason-there}
 use Rattle.play_forms.proofs.Whys.{says_none, says_nothing, says_unasked, says_why}
 use Rattle.play_forms.proofs.reason.reason_of.Goals as goal
 use Rattle.play_forms.proofs.reason.reason_of.Goals.{then-not-explain-via-then-not-explain, then-not-explain-via-else-not-explain+then-not-is_refused}
@@ -19,18 +20,20 @@ returns-then-not-explain g c =
 
 pub returns-in_err-why-in-Operation : goal.returns-in_err-why-in-Operation
 returns-in_err-why-in-Operation g c =
-    let now = c.args.player.now.state in
-    let is : None ≡ why now c.in-Operation.op = c.in_err-why-in-Operation.ensures.why ∙ ap (λ s. why s c.in-Operation.op) c.machine.ensures in
+    let now = c.args.player.now.bench in
+    let is : None ≡ why_of now c.in-Operation.op = c.in_err-why-in-Operation.ensures.why ∙ ap (λ s. why_of s c.in-Operation.op) c.machine.ensures in
     subst (λ reason. SaysWhy c.args.explain now (meant c.args.line.now) c.args.outcome reason) (sym c.from_residual.ensures)
     (subst (λ line. SaysWhy c.args.explain now (meant line) c.args.outcome None) (sym c.in-Operation.is)
     (says_none c.args.explain now c.in-Operation.op c.args.outcome c.if-not-explain.false (sym c.is_refused.ensures ∙ c.if-not-is_refused.false) is))
 
 pub returns-in_ok-why-in-Operation : goal.returns-in_ok-why-in-Operation
 returns-in_ok-why-in-Operation g c =
-    let now = c.args.player.now.state in
+    let now = c.args.player.now.bench in
     let reason = c.in_ok-why-in-Operation.why in
-    let is : Some reason ≡ why now c.in-Operation.op = c.in_ok-why-in-Operation.ensures.why ∙ ap (λ s. why s c.in-Operation.op) c.machine.ensures in
-    let mended : c.mend-mend.result ≡ mend now c.in-Operation.op = c.mend-mend.ensures ∙ ap (λ s. mend_why s c.in-Operation.op reason) c.machine-in-Operation-2.ensures ∙ ap (option_and_then (mend_why now c.in-Operation.op)) is in
-    let begins = c.ram_base-base.ensures.value ∙ ap (λ s. s.ram_base) c.machine-in-Operation.ensures in
+    let is : Some reason ≡ why_of now c.in-Operation.op = c.in_ok-why-in-Operation.ensures.why ∙ ap (λ s. why_of s c.in-Operation.op) c.machine.ensures in
+    let mended : c.mend-mend.result ≡ mend now.state c.in-Operation.op =
+    c.mend-mend.ensures ∙ ap (λ (s : Bench). mend_why s.state c.in-Operation.op reason) c.machine-in-Operation-2.ensures
+    ∙ ap (option_and_then (mend_why now.state c.in-Operation.op)) (reason-there now c.in-Operation.op reason is) in
+    let begins = c.ram_base-base.ensures.value ∙ ap (λ (s : Bench). s.state.ram_base) c.machine-in-Operation.ensures in
     subst (λ line. SaysWhy c.args.explain now (meant line) c.args.outcome (Some (record { base = c.ram_base-base.result; op = c.in-Operation.op; why = reason; mend = c.mend-mend.result }))) (sym c.in-Operation.is)
     (says_why c.args.explain now c.in-Operation.op c.args.outcome c.if-not-explain.false (sym c.is_refused.ensures ∙ c.if-not-is_refused.false) c.ram_base-base.result reason c.mend-mend.result begins is mended)

@@ -8,5 +8,5 @@ pub returns-in_ok-tell_or_lose-in-Err-BadLine-clause-told : goal.returns-in_ok-t
 returns-in_ok-tell_or_lose-in-Err-BadLine-clause-told g c =
     let held = g.E.Write.contents c.args.told.now in
     let holds = g.E.Write.contents c.tell_or_lose.new.told in
-    let told = subst (λ l. TellsOrLoses {X = Unit {0}} c.args.number l held holds (Ok c.in_ok-tell_or_lose-in-Err-BadLine.field-0)) c.deref.ensures.value c.in_ok-tell_or_lose-in-Err-BadLine.ensures in
-    rest_told (g.R.Read.remaining c.args.reader.now) (g.R.Read.remaining c.next_line.new.reader) c.next_line.new.line.items c.args.number c.in-Err-BadLine.field-0-0 held holds (rw c.in-Err-BadLine.field-0-is at c.in-Err-BadLine.ensures) told
+    let told = subst (λ l. TellsOrLoses {X = Unit {0}} c.args.processors c.args.number l held holds (Ok c.in_ok-tell_or_lose-in-Err-BadLine.field-0)) c.deref.ensures.value c.in_ok-tell_or_lose-in-Err-BadLine.ensures in
+    rest_told c.args.processors (g.R.Read.remaining c.args.reader.now) (g.R.Read.remaining c.next_line.new.reader) c.next_line.new.line.items c.args.number c.in-Err-BadLine.field-0-0 held holds (rw c.in-Err-BadLine.field-0-is at c.in-Err-BadLine.ensures) told

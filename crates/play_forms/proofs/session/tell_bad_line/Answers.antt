@@ -6,4 +6,4 @@ use Rattle.play_forms.proofs.session.tell_bad_line.Goals as goal
 pub returns : goal.returns
 returns g c =
     let told = whole _ _ _ _ c.clear.ensures c.in_ok-bytes.ensures.whole c.put_bad_line.ensures in
-    written_told c.args.number c.args.line.now _ _ _ c.write_text.result (c.line_fault.result, c.line_fault.ensures, told) c.write_text.ensures
+    written_told c.args.processors c.args.number c.args.line.now _ _ _ c.write_text.result (c.line_fault.result, c.line_fault.ensures, told) c.write_text.ensures

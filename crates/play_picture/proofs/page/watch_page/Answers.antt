@@ -1,6 +1,8 @@
 -- SPDX-License-Identifier: MIT OR Apache-2.0
-use Rattle.std.proofs.Common.{[]}
+use Rattle.std.proofs.Common.{[], Ok, Err, subst, ◌∙◌, sym}
 use Rattle.std.proofs.lemmas.Result.{err_from_is_err_and}
+use Rattle.play_forms.specs.Reading.{TakesLine, TakesNext}
+use Rattle.play_forms.proofs.Behind.{meant-behind}
 use Rattle.play_picture.specs.Entries.{changes, none}
 use Rattle.play_picture.specs.Paging.{IsPage}
 use Rattle.play_picture.proofs.Entries.{entries_more}
@@ -10,19 +12,20 @@ use Rattle.play_picture.proofs.page.watch_page.Goals as goal
 pub loop-entries-init : goal.loop-entries-init
 loop-entries-init g c =
     let begun = c.in_ok-seen.ensures in
-    ([], sees_none changes _ _ _ c.in_ok-seen.seen c.new-lines.ensures begun.rows begun.latest, rw c.new-entries.ensures.items none)
+    ([], sees_none changes _ _ _ c.in_ok-seen.seen c.new-lines.ensures.number begun.rows begun.latest, c.new-lines.ensures.processors ∙ c.processors.ensures, rw c.new-entries.ensures.items none)
 
 pub returns-in_err-number : goal.returns-in_err-number
 returns-in_err-number g c =
-    let (lines, sees, are) = c.loop-entries.invariant in
+    let (lines, sees, named, are) = c.loop-entries.invariant in
     let p = err_from_is_err_and c.from_residual-in_err-number.result c.from_residual-in_err-number.ensures.1 in
-    rw (p.1, p.2) (watches_untaken sees _ _ (IsPage {A = g.row.A.Denot}) c.in_err-number.field-0.0 c.in_err-number.ensures)
+    rw (p.1, p.2) (watches_untaken sees _ _ (IsPage {A = g.row.A.Denot}) c.in_err-number.field-0.0 (subst (λ p. TakesLine p _ _ _ _ (Err c.in_err-number.field-0.0)) named c.in_err-number.ensures.taken))
 
 pub loop-entries-preserved : goal.loop-entries-preserved
 loop-entries-preserved g c =
-    let (lines, sees, are) = c.loop-entries.invariant in
+    let (lines, sees, named, are) = c.loop-entries.invariant in
     let bytes = c.next.new.bytes.items in
     let told = c.in_ok-outcome.ensures in
-    let more = sees_more sees _ bytes _ c.in-Some.is c.in_ok-number.ensures c.see.new.self told.outcome told.state c.deref-in-Some.ensures.value c.in_ok-see.ensures.seen in
-    let taken = line_taken sees _ bytes _ c.in-Some.is c.in_ok-number.ensures in
-    (_, more, entries_more c.args.player.now.state _ _ lines bytes _ sees.followed.state more.followed.state taken _ _ are c.deref.ensures.value told.entry)
+    let takes = subst (λ p. TakesNext p _ _ _ _ bytes (Ok c.in_ok-number.field-0)) named c.in_ok-number.ensures.taken in
+    let more = sees_more sees _ bytes _ c.in-Some.is takes c.see.new.self told.outcome told.state c.deref-in-Some.ensures.value c.in_ok-see.ensures.seen in
+    let taken = meant-behind c.args.player.now.bench _ lines sees.followed.state bytes _ (line_taken sees _ bytes _ c.in-Some.is takes) in
+    (_, more, c.in_ok-number.ensures.processors ∙ named, entries_more c.args.player.now.bench _ _ lines bytes _ sees.followed.state more.followed.state taken _ _ are c.deref.ensures.value told.entry)

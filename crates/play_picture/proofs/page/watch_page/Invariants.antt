@@ -1,5 +1,6 @@
 -- SPDX-License-Identifier: MIT OR Apache-2.0
-use Rattle.std.proofs.Common.{◌-◌, ◌^◌, ℕ, List}
+use Rattle.std.proofs.Common.{◌≡◌, ◌-◌, ◌^◌, ℕ, List}
+use Rattle.ffa_playable.specs.Bench.{processors_of}
 use Rattle.play_picture.specs.Entries.{AreEntries, changes}
 use Rattle.play_picture.proofs.Watches.{Sees}
 use Rattle.play_picture.proofs.page.watch_page.Given as goal
@@ -8,8 +9,9 @@ use Rattle.play_picture.proofs.page.watch_page.Given as goal
 abbrev pub invariant-loop-entries : goal.invariant-loop-entries
 invariant-loop-entries g l =
     (lines : List (List ℕ))
-    × Sees changes l.fn.player.state l.player.state (g.R.Read.remaining l.fn.reader) (g.R.Read.remaining l.reader) lines l.lines.number l.seen
-    × AreEntries l.fn.player.state lines l.entries.items
+    × Sees changes l.fn.player.bench l.player.bench (g.R.Read.remaining l.fn.reader) (g.R.Read.remaining l.reader) lines l.lines.number l.seen
+    × (l.lines.processors ≡ processors_of l.fn.player.bench)
+    × AreEntries l.fn.player.bench lines l.entries.items
 
 abbrev pub decreases-loop-entries : goal.decreases-loop-entries
 decreases-loop-entries g l = 2 ^ 64 - l.lines.number

@@ -7,7 +7,7 @@ use Rattle.play_player.proofs.certificate.push_roots.Goals as goal
 
 pub loop-place-preserved : goal.loop-place-preserved
 loop-place-preserved g c =
-    let s = g.P.Playable.state c.args.machine.now in
+    let s = (g.P.Playable.bench c.args.machine.now).state in
     record {
       so_far = c.push_root.ensures.items ∙ ap (λ l. l ++ root_text s c.loop-place.place) c.loop-place.invariant.so_far
           ∙ append_assoc c.args.text.now.items (flat_map (root_text s) (range_with_len 0 c.loop-place.place)) (root_text s c.loop-place.place)

@@ -7,7 +7,7 @@ use Rattle.play_player.proofs.certificate.runs.Goals as goal
 
 pub loop-from-init : goal.loop-from-init
 loop-from-init g c =
-    let s = g.P.Playable.state c.args.machine.now in
+    let s = (g.P.Playable.bench c.args.machine.now).state in
     let all : length s.pages - 0 ≡ length s.pages = omega arith in
     record {
       passed = omega (arith, ap length c.new-runs.ensures.items);
@@ -19,20 +19,20 @@ loop-from-init g c =
 
 pub overflow_add-from : goal.overflow_add-from
 overflow_add-from g c =
-    let s = g.P.Playable.state c.args.machine.now in
+    let s = (g.P.Playable.bench c.args.machine.now).state in
     let size = c.ram_pages-pages.ensures in
     omega (arith, c.cert_run-run.ensures.run.inside, size, c.ram_pages-pages.type_inv)
 
 pub loop-from-smaller : goal.loop-from-smaller
 loop-from-smaller g c =
-    let s = g.P.Playable.state c.args.machine.now in
+    let s = (g.P.Playable.bench c.args.machine.now).state in
     let size = c.ram_pages-pages.ensures in
     let lt : c.loop-from.from < length s.pages = omega (arith, c.loop-from-test.true, size) in
     omega (arith, c.cert_run-run.ensures.run.order, lt)
 
 pub loop-from-preserved : goal.loop-from-preserved
 loop-from-preserved g c =
-    let s = g.P.Playable.state c.args.machine.now in
+    let s = (g.P.Playable.bench c.args.machine.now).state in
     let runs = c.loop-from.runs.items in
     let run = c.cert_run-run.result in
     let size = c.ram_pages-pages.ensures in
@@ -53,6 +53,6 @@ loop-from-preserved g c =
 
 pub returns : goal.returns
 returns g c =
-    let s = g.P.Playable.state c.args.machine.now in
+    let s = (g.P.Playable.bench c.args.machine.now).state in
     let size = c.ram_pages-pages.ensures in
     sym (c.loop-from.invariant.all ∙ ap (λ rs. c.loop-from.runs.items ++ rs) (runs_over s c.loop-from.from _ (omega (arith, c.loop-from-test.false, size))) ∙ append-nil c.loop-from.runs.items)

@@ -6,7 +6,7 @@ use Rattle.play_player.proofs.certificate.runs.Given as goal
 -- the runs so far, and those that are left
 abbrev pub invariant-loop-from : goal.invariant-loop-from
 invariant-loop-from g l =
-    let s = g.P.Playable.state l.machine in
+    let s = (g.P.Playable.bench l.machine).state in
     record {
       passed : length l.runs.items ≤ l.from;
       inside : l.from ≤ length s.pages;
@@ -14,4 +14,4 @@ invariant-loop-from g l =
     }
 
 abbrev pub decreases-loop-from : goal.decreases-loop-from
-decreases-loop-from g l = length (g.P.Playable.state l.machine).pages - l.from
+decreases-loop-from g l = length (g.P.Playable.bench l.machine).state.pages - l.from

@@ -9,7 +9,7 @@ use Rattle.play_player.proofs.certificate.write_certificate.Goals as goal
 
 pub returns-in_err-write_text : goal.returns-in_err-write_text
 returns-in_err-write_text g c =
-    let s = g.P.Playable.state c.args.machine.now in
+    let s = (g.P.Playable.bench c.args.machine.now).state in
     let text : c.as_slice.result.now ≡ head s =
     c.as_slice.ensures.value ∙ c.push_roots.ensures ∙ ap (λ l. l ++ flat_map (root_text s) (range_with_len 0 (length s.parties))) c.push_cert.ensures.items
     in
@@ -18,7 +18,7 @@ returns-in_err-write_text g c =
 
 pub returns-in_err-write_runs : goal.returns-in_err-write_runs
 returns-in_err-write_runs g c =
-    let s = g.P.Playable.state c.args.machine.now in
+    let s = (g.P.Playable.bench c.args.machine.now).state in
     let text : c.as_slice.result.now ≡ head s =
     c.as_slice.ensures.value ∙ c.push_roots.ensures ∙ ap (λ l. l ++ flat_map (root_text s) (range_with_len 0 (length s.parties))) c.push_cert.ensures.items
     in
@@ -28,7 +28,7 @@ returns-in_err-write_runs g c =
 
 pub returns : goal.returns
 returns g c =
-    let s = g.P.Playable.state c.args.machine.now in
+    let s = (g.P.Playable.bench c.args.machine.now).state in
     let text : c.as_slice.result.now ≡ head s =
     c.as_slice.ensures.value ∙ c.push_roots.ensures ∙ ap (λ l. l ++ flat_map (root_text s) (range_with_len 0 (length s.parties))) c.push_cert.ensures.items
     in

@@ -8,4 +8,4 @@ use Rattle.play_player.proofs.certificate.write_runs.Given as goal
 -- the runs so far
 abbrev pub invariant-loop-run : goal.invariant-loop-run
 invariant-loop-run g l =
-    Appends (g.W.Write.contents l.fn.writer) (g.W.Write.contents l.writer) (flat_map (cert_run_text (g.P.Playable.state l.machine)) (take l.run-index l.runs))
+    Appends (g.W.Write.contents l.fn.writer) (g.W.Write.contents l.writer) (flat_map (cert_run_text (g.P.Playable.bench l.machine).state) (take l.run-index l.runs))

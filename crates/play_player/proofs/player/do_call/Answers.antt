@@ -3,13 +3,14 @@ use Rattle.std.proofs.Common.{◌∙◌, sym}
 use Rattle.ffa_model.specs.declared.operation.Op.TheVariants.{Call}
 use Rattle.play_syntax.specs.TraceLines.{operate}
 use Rattle.play_syntax.proofs.LineCommands.{call_line}
+use Rattle.play_syntax.proofs.LineActs.{bad_in, call_no_act, good_in}
 use Rattle.play_player.proofs.OneLine.{line_written, line_bad}
 use Rattle.play_player.proofs.player.do_call.Goals as goal
 
 pub returns-then-registers : goal.returns-then-registers
 returns-then-registers g c =
     let is = c.if-registers.ensures ∙ sym (call_line c.args.words.now) in
-    line_written _ _ _ _ c.args.number _ (operate (Call c.registers.new.x)) is c.operate.ensures.state c.operate.result c.operate.ensures.text
+    line_written _ _ _ _ c.args.number _ (operate (Call c.registers.new.x)) (good_in _ _ _ is) c.operate.ensures.bench c.operate.result c.operate.ensures.text
 
 pub returns-else-registers : goal.returns-else-registers
-returns-else-registers g c = line_bad _ _ c.args.number _ (c.if-registers.ensures ∙ sym (call_line c.args.words.now))
+returns-else-registers g c = line_bad _ _ c.args.number _ (bad_in _ _ (call_no_act c.args.words.now) (c.if-registers.ensures ∙ sym (call_line c.args.words.now)))

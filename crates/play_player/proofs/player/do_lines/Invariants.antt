@@ -5,7 +5,7 @@ use Rattle.play_player.proofs.player.do_lines.Given as goal
 
 abbrev pub invariant-loop-number : goal.invariant-loop-number
 invariant-loop-number g l =
-    Taking (g.P.Playable.state l.fn.machine) (g.P.Playable.state l.machine) (g.W.Write.contents l.fn.writer) (g.W.Write.contents l.writer) l.fn.number l.number l.fn.begun.items l.fn.bytes l.begun.items l.rest
+    Taking (g.P.Playable.bench l.fn.machine) (g.P.Playable.bench l.machine) (g.W.Write.contents l.fn.writer) (g.W.Write.contents l.writer) l.fn.number l.number l.fn.begun.items l.fn.bytes l.begun.items l.rest
 
 abbrev pub decreases-loop-number : goal.decreases-loop-number
 decreases-loop-number g l = length l.rest

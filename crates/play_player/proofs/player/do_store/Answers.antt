@@ -3,13 +3,14 @@ use Rattle.std.proofs.Common.{◌∙◌, sym}
 use Rattle.ffa_model.specs.declared.operation.Op.TheVariants.{Store}
 use Rattle.play_syntax.specs.TraceLines.{operate}
 use Rattle.play_syntax.proofs.LineCommands.{store_line}
+use Rattle.play_syntax.proofs.LineActs.{bad_in, store_no_act, good_in}
 use Rattle.play_player.proofs.OneLine.{line_written, line_bad}
 use Rattle.play_player.proofs.player.do_store.Goals as goal
 
 pub returns-in-Some : goal.returns-in-Some
 returns-in-Some g c =
     let is = c.in-Some.ensures ∙ sym (store_line c.args.words.now) in
-    line_written _ _ _ _ c.args.number _ (operate (Store c.in-Some.addr c.in-Some.size c.in-Some.value)) is c.operate.ensures.state c.operate.result c.operate.ensures.text
+    line_written _ _ _ _ c.args.number _ (operate (Store c.in-Some.addr c.in-Some.size c.in-Some.value)) (good_in _ _ _ is) c.operate.ensures.bench c.operate.result c.operate.ensures.text
 
 pub returns-in-None : goal.returns-in-None
-returns-in-None g c = line_bad _ _ c.args.number _ (c.in-None.ensures ∙ sym (store_line c.args.words.now))
+returns-in-None g c = line_bad _ _ c.args.number _ (bad_in _ _ (store_no_act c.args.words.now) (c.in-None.ensures ∙ sym (store_line c.args.words.now)))

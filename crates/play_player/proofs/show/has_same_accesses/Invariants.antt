@@ -10,4 +10,4 @@ use Rattle.play_player.proofs.show.has_same_accesses.Given as goal
 -- the endpoints so far
 abbrev pub invariant-loop-place : goal.invariant-loop-place
 invariant-loop-place g l =
-    list_all (λ e. is_same_right (access (g.P.Playable.state l.machine) e l.page.0) (access (g.P.Playable.state l.machine) e l.other.0)) (listed l.place identifier) ≡ true
+    list_all (λ e. is_same_right (access (g.P.Playable.bench l.machine).state e l.page.0) (access (g.P.Playable.bench l.machine).state e l.other.0)) (listed l.place identifier) ≡ true

@@ -11,6 +11,6 @@ use Rattle.play_player.proofs.show.push_accesses.Given as goal
 -- the endpoints so far
 abbrev pub invariant-loop-place : goal.invariant-loop-place
 invariant-loop-place g l = record {
-  so_far : l.text.items ≡ l.initial.text.items ++ flat_map (λ e. spaced (rights_text (access (g.P.Playable.state l.fn.machine) e l.page.0))) (listed l.place identifier);
+  so_far : l.text.items ≡ l.initial.text.items ++ flat_map (λ e. spaced (rights_text (access (g.P.Playable.bench l.fn.machine).state e l.page.0))) (listed l.place identifier);
   room : array_vec_len l.text ≡ array_vec_len l.initial.text + 4 * l.place;
 }

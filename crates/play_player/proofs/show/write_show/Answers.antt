@@ -23,14 +23,14 @@ loop-last-init g c = record {
 pub returns-in_err-write_text-2 : goal.returns-in_err-write_text-2
 returns-in_err-write_text-2 g c =
     let p = err_from_is_err_and c.from_residual-in_err-write_text-2.result c.from_residual-in_err-write_text-2.ensures.1 in
-    let inside : c.loop-last.last < length (g.P.Playable.state c.args.machine.now).pages = omega (arith, c.ram_pages-last-end.ensures) in
+    let inside : c.loop-last.last < length (g.P.Playable.bench c.args.machine.now).state.pages = omega (arith, c.ram_pages-last-end.ensures) in
     let ended = sym c.ends_run.ensures ∙ c.if-ends_run.true in
     rw (p.1, p.2) (writes_failed c.in_err-write_text-2.field-0.0 _ _ _ _ _ c.in_err-write_text-2.ensures
     (λ w. run_failed _ _ _ _ _ inside c.loop-last.invariant.shown _ ended (subst (TookFront _ _) (c.as_slice-then-ends_run.ensures.value ∙ c.push_run.ensures) w)))
 
 pub loop-last-preserved : goal.loop-last-preserved
 loop-last-preserved g c =
-    let inside : c.loop-last.last < length (g.P.Playable.state c.args.machine.now).pages = omega (arith, c.ram_pages-last-end.ensures) in
+    let inside : c.loop-last.last < length (g.P.Playable.bench c.args.machine.now).state.pages = omega (arith, c.ram_pages-last-end.ensures) in
     elim c.if-ends_run.branch [
       | then-ends_run+in_ok-write_text-2 w ↦ record {
         order = omega (arith, w.first-is);

@@ -6,5 +6,5 @@ use Rattle.play_player.proofs.show.write_show.Given as goal
 abbrev pub invariant-loop-last : goal.invariant-loop-last
 invariant-loop-last g l = record {
   order : l.first ≤ l.last;
-  shown : Showing (g.P.Playable.state l.fn.machine) (g.W.Write.contents l.fn.writer) (g.W.Write.contents l.writer) l.first l.last;
+  shown : Showing (g.P.Playable.bench l.fn.machine).state (g.W.Write.contents l.fn.writer) (g.W.Write.contents l.writer) l.first l.last;
 }

@@ -13,8 +13,8 @@ use Rattle.play_tasks.proofs.comparing.compare.Goals as goal
 pub returns-in-Ok-None : goal.returns-in-Ok-None
 returns-in-Ok-None g c =
     let form = c.args.form in
-    let start = c.args.player.now.state in
-    let now = c.compare.new.player.state in
+    let start = c.args.player.now.bench in
+    let now = c.compare.new.player.bench in
     let sides = c.compare.new.sides in
     let had = reader_remaining g.R.Read.remaining c.in_ok-reader.reader in
     let has = reader_remaining g.R.Read.remaining c.compare.new.reader in
@@ -28,7 +28,7 @@ returns-in-Ok-None g c =
 pub returns-in-Ok-Some : goal.returns-in-Ok-Some
 returns-in-Ok-Some g c =
     let form = c.args.form in
-    let start = c.args.player.now.state in
+    let start = c.args.player.now.bench in
     let held = g.W.Write.contents c.args.out.now in
     let holds = g.W.Write.contents c.tell_difference.new.out in
     let had = reader_remaining g.R.Read.remaining c.in_ok-reader.reader in
@@ -42,8 +42,8 @@ returns-in-Ok-Some g c =
 pub returns-in-Err-Play : goal.returns-in-Err-Play
 returns-in-Err-Play g c =
     let form = c.args.form in
-    let start = c.args.player.now.state in
-    let now = c.compare.new.player.state in
+    let start = c.args.player.now.bench in
+    let now = c.compare.new.player.bench in
     let sides = c.compare.new.sides in
     let held = g.W.Write.contents c.args.out.now in
     let had = reader_remaining g.R.Read.remaining c.in_ok-reader.reader in
@@ -61,8 +61,8 @@ returns-in-Err-Play g c =
 pub returns : goal.returns
 returns g c =
     let form = c.args.form in
-    let start = c.args.player.now.state in
-    let now = c.compare.new.player.state in
+    let start = c.args.player.now.bench in
+    let now = c.compare.new.player.bench in
     let sides = c.compare.new.sides in
     let held = g.W.Write.contents c.args.out.now in
     let had = reader_remaining g.R.Read.remaining c.in_ok-reader.reader in

@@ -1,6 +1,7 @@
 -- SPDX-License-Identifier: MIT OR Apache-2.0
 use Rattle.std.proofs.Common.{None, Ok, Some, ap, subst, ◌∙◌, ◌++◌}
 use Rattle.std.proofs.lemmas.Result.{on_ok_weaker}
+use Rattle.ffa_playable.specs.Bench.{processors_of}
 use Rattle.std.specs.Io.Buffered.{reader_remaining}
 use Rattle.play_forms.specs.Guards.{GuardedIn}
 use Rattle.play_report.specs.Guarded.{near_text}
@@ -10,8 +11,8 @@ use Rattle.play_tasks.proofs.playing.play_guarded.Goals as goal
 
 pub returns-in-Ok-None-clause-told : goal.returns-in-Ok-None-clause-told
 returns-in-Ok-None-clause-told g c =
-    let start = c.args.player.now.state in
-    let now = c.play_guarded-played.new.player.state in
+    let start = c.args.player.now.bench in
+    let now = c.play_guarded-played.new.player.bench in
     let held = g.W.Write.contents c.args.out.now in
     let holds = g.W.Write.contents c.play_guarded-played.new.writer in
     let had = reader_remaining g.R.Read.remaining c.in_ok-reader.reader in
@@ -24,14 +25,14 @@ returns-in-Ok-None-clause-told g c =
     let whole : GuardedIn c.args.form start now held holds had has line found met near (Ok None) = subst (λ o. GuardedIn c.args.form start now held holds had has line found met near (Ok o)) (rw c.in-Ok-None.is at c.in-Ok-None.field-0-is) guarded in
     let told_near = c.in_ok-tell_near.ensures.written ∙ ap (λ ns. c.args.told.now.items ++ near_text ns) c.deref.ensures.value in
     on_ok_weaker c.tell_met.result
-    (λ tells. subst (λ had. TellsGuards had c.args.told.now.items c.tell_met.new.told.items) c.in_ok-reader.ensures.unread
+    (λ tells. subst (λ had. TellsGuards (processors_of start) had c.args.told.now.items c.tell_met.new.told.items) c.in_ok-reader.ensures.unread
     (guarded_told c.args.form start now held holds had has line found met near c.args.told.now.items c.tell_near.new.told.items c.tell_met.new.told.items whole told_near tells))
     c.tell_met.ensures.written
 
 pub returns-in-Ok-Some-clause-played : goal.returns-in-Ok-Some-clause-played
 returns-in-Ok-Some-clause-played g c =
-    let start = c.args.player.now.state in
-    let now = c.play_guarded-played.new.player.state in
+    let start = c.args.player.now.bench in
+    let now = c.play_guarded-played.new.player.bench in
     let held = g.W.Write.contents c.args.out.now in
     let holds = g.W.Write.contents c.play_guarded-played.new.writer in
     let had = reader_remaining g.R.Read.remaining c.in_ok-reader.reader in

@@ -10,6 +10,6 @@ use Rattle.play_forms.proofs.comparison.Rows.compare_line.Goals as goal
 
 pub take_text-requires : goal.take_text-requires
 take_text-requires g c =
-    let made = subst (λ text. IfSome text (λ t. t ≡ line_text_in (unexplained c.args.form) c.args.number c.args.player.now.state (meant c.args.line.now))) c.in_ok-sides.ensures.whole c.in_ok-outcome.ensures.made in
+    let made = subst (λ text. IfSome text (λ t. t ≡ line_text_in (unexplained c.args.form) c.args.number c.args.player.now.bench (meant c.args.line.now))) c.in_ok-sides.ensures.whole c.in_ok-outcome.ensures.made in
     subst AreRows (sym c.deref.ensures.value)
-    (text_rows (unexplained c.args.form) c.args.number c.args.player.now.state (meant c.args.line.now) _ made)
+    (text_rows (unexplained c.args.form) c.args.number c.args.player.now.bench (meant c.args.line.now) _ made)

@@ -1,0 +1,121 @@
+// SPDX-License-Identifier: MIT OR Apache-2.0
+//! The machine that several processors run, as a player sees it.
+ghost use Rattle.std.specs.Prelude.{◌≡◌, ◌≤◌, Some};
+ghost use Rattle.ffa_model.specs.declared.limits.TheConstants.{MOST_PROCESSORS};
+ghost use Rattle.ffa_playable.specs.Bench.{Bench};
+
+use ffa_mend::Mend;
+use ffa_model::{Address, CertRun, Effect, EndpointId, MOST_PROCESSORS, Op, Outcome, PageNo, Rights, Why};
+use ffa_physmem::PhysMem;
+use ffa_playable::{Playable, Readable};
+use ffa_spmc::{Cluster, Inline, Store};
+use ffa_tlb::{NoTlb, Translations};
+use std::marker::Model;
+
+/// A machine of several processors that tells why it refuses, with how many of them a trace may name.
+#[derive(Drop)]
+pub struct ExplainedCluster<M: PhysMem + Drop, T: Translations + Drop = NoTlb, S: Store = Inline> {
+    cluster: Cluster<M, T, S>,
+    count: usize,
+}
+
+impl<M: PhysMem + Drop, T: Translations + Drop, S: Store> Model for ExplainedCluster<M, T, S> {
+    ghost use Rattle.std.specs.Prelude.{Some};
+    ghost use Rattle.ffa_playable.specs.Bench.{Bench, coded_bench};
+
+    ghost Value = { Bench };
+
+    ghost coded = { coded_bench };
+
+    ghost view = { λ c. record {
+      state = c.cluster.machine.state;
+      several = Some (record { count = c.count; processors = c.cluster.processors });
+    } };
+
+    ghost use Rattle.std.specs.Prelude.{◌≤◌};
+    ghost use Rattle.ffa_model.specs.declared.limits.TheConstants.{MOST_PROCESSORS};
+
+    ghost invariant = { λ c. c.count ≤ MOST_PROCESSORS };
+}
+
+impl<M: PhysMem + Drop, T: Translations + Drop, S: Store> ExplainedCluster<M, T, S> {
+    /// The machine, of which a trace may name so many processors, from 0 on. The others stay as they are.
+    pub fn of(cluster: Cluster<M, T, S>, count: usize) -> ExplainedCluster<M, T, S>
+        requires { count ≤ MOST_PROCESSORS }
+        ensures { result ≡ record {
+            state = cluster.machine.state;
+            several = Some (record { count = count; processors = cluster.processors }) } }
+    {
+        ExplainedCluster { cluster, count }
+    }
+}
+
+impl<M: PhysMem + Drop, T: Translations + Drop, S: Store> Playable for ExplainedCluster<M, T, S> {
+    ghost bench = { λ machine. machine };
+
+    fn op(&mut self, op: &Op) -> Effect {
+        let processor = self.cluster.processor();
+        self.cluster.op(processor, op)
+    }
+
+    fn processors(&self) -> Option<usize> {
+        Some(self.count)
+    }
+
+    fn turn(&mut self, processor: usize) {
+        if processor < self.count {
+            self.cluster.turn_to(processor);
+        }
+    }
+
+    fn interrupt(&mut self) -> Outcome {
+        let processor = self.cluster.processor();
+        self.cluster.interrupt(processor)
+    }
+
+    fn why(&self, op: &Op) -> Option<Why> {
+        crate::why_resuming(self.cluster.machine(), op)
+    }
+
+    fn mend(&self, op: &Op, why: Why) -> Option<Mend> {
+        crate::mend(self.cluster.machine(), op, why)
+    }
+
+    fn runner(&self) -> EndpointId {
+        self.cluster.machine().runner()
+    }
+
+    fn endpoints(&self) -> usize {
+        self.cluster.machine().endpoints()
+    }
+
+    fn ram_base(&self) -> Address {
+        self.cluster.machine().ram().base()
+    }
+
+    fn ram_pages(&self) -> u32 {
+        self.cluster.machine().ram().pages()
+    }
+
+    fn owner_of(&self, page: PageNo) -> EndpointId {
+        self.cluster.machine().owner_of(page)
+    }
+
+    fn access(&self, endpoint: EndpointId, page: PageNo) -> Option<Rights> {
+        self.cluster.machine().access(endpoint, page)
+    }
+
+    fn cert_run(&self, from: PageNo) -> CertRun {
+        self.cluster.machine().cert_run(from)
+    }
+
+    fn audit(&self, runs: &[CertRun]) -> bool {
+        self.cluster.machine().audit(runs)
+    }
+}
+
+impl<M: PhysMem + Drop, T: Translations + Drop, S: Store> Readable for ExplainedCluster<M, T, S> {
+    fn word_at(&self, page: PageNo, index: usize) -> u64 {
+        self.cluster.machine().ram().read_word(page, index)
+    }
+}

@@ -1,0 +1,64 @@
+-- SPDX-License-Identifier: MIT OR Apache-2.0
+-- Behind lines that were done as many processors may be named as before them, and an operation that is refused changes nothing.
+use Rattle.std.proofs.Common.{◌≡◌, ℕ, Bool, true, false, List, Option, None, Some, sym, ap, ◌∙◌, refl}
+use Rattle.std.specs.Prelude.{if◌then◌else◌, is_some}
+use Rattle.std.specs.Option.{option_map_or}
+use Rattle.ffa_model.specs.declared.operation.Op.{Op}
+use Rattle.ffa_model.specs.Processors.{effected, resumed_by}
+use Rattle.ffa_model.specs.Refusals.{is_refusal}
+use Rattle.ffa_model.specs.State.{State}
+use Rattle.ffa_model.proofs.Reasons.{refused-unchanged, why-not}
+use Rattle.ffa_model.specs.Why.{why}
+use Rattle.ffa_model.specs.declared.why.Why.{Why}
+use Rattle.ffa_playable.specs.Bench.{Bench, Several, after_op, lets_go_on_by, operated_by, processors_of, why_of}
+use Rattle.play_syntax.specs.Lines.{outcome_in, outcome_of}
+use Rattle.play_syntax.specs.TraceLines.{Line, line_in, operate}
+use Rattle.play_syntax.specs.TraceText.{after_all}
+use Rattle.play_syntax.proofs.Benches.{processors-after-all}
+
+-- PROCESSORS
+
+module _ (start mid : Bench) (lines : List (List ℕ)) (state : mid ≡ after_all start lines) where
+  pub processors-behind : processors_of mid ≡ processors_of start
+  processors-behind = ap processors_of state ∙ processors-after-all start lines
+
+  -- bytes are the same line there
+  pub meant-behind : (bytes : List ℕ) (line : Option Line) → line ≡ line_in (processors_of start) bytes → line ≡ line_in (processors_of mid) bytes
+  meant-behind bytes line is = is ∙ ap (λ p. line_in p bytes) (sym processors-behind)
+
+-- REFUSALS
+
+-- what came of an operation refuses it, or doesn't
+abbrev pub refuses : Option Several → State → Op → Bool
+refuses several s op = option_map_or is_refusal (outcome_in (operated_by several s op).effect) false
+
+effected_stays : (s : State) (op : Op) (goes : Option ℕ) → option_map_or is_refusal (outcome_in (effected s op goes).effect) false ≡ true → (effected s op goes).state ≡ s
+effected_stays s op None refused = refused-unchanged s op refused
+effected_stays s op (Some e) refused = absurd cc
+
+operated_stays : (several : Option Several) (s : State) (op : Op) → refuses several s op ≡ true → (operated_by several s op).state ≡ s
+operated_stays None s op refused = refused-unchanged s op refused
+operated_stays (Some x) s op refused = effected_stays s op (resumed_by s op) refused
+
+pub refused-stays : (b : Bench) (op : Op) → option_map_or is_refusal (outcome_of b (operate op)) false ≡ true → after_op b op ≡ b
+refused-stays b op refused = ap (λ (s : State). record b { state = s }) (operated_stays b.several b.state op refused)
+
+goes_unexplained : (s : State) (op : Op) (goes : Option ℕ) → option_map_or is_refusal (outcome_in (effected s op goes).effect) false ≡ false
+    → (if is_some goes then None else why s op) ≡ None
+goes_unexplained s op None done = why-not s op done
+goes_unexplained s op (Some e) done = refl
+
+unexplained_by : (several : Option Several) (s : State) (op : Op) → refuses several s op ≡ false → (if lets_go_on_by several s op then None else why s op) ≡ None
+unexplained_by None s op done = why-not s op done
+unexplained_by (Some x) s op done = goes_unexplained s op (resumed_by s op) done
+
+pub done-unexplained : (b : Bench) (op : Op) → option_map_or is_refusal (outcome_of b (operate op)) false ≡ false → why_of b op ≡ None
+done-unexplained b op done = unexplained_by b.several b.state op done
+
+-- a reason is that of the machine that one processor runs alone
+pub reason-there : (b : Bench) (op : Op) (reason : Why) → Some reason ≡ why_of b op → Some reason ≡ why b.state op
+reason-there b op reason is = of (lets_go_on_by b.several b.state op) (why b.state op) is
+  where
+    of : (goes : Bool) (found : Option Why) → Some reason ≡ (if goes then None else found) → Some reason ≡ found
+    of true found same = absurd cc
+    of false found same = same
