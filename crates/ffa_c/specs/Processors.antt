@@ -11,7 +11,7 @@ use Rattle.ffa_model.specs.Notifications.{notifications_of}
 use Rattle.ffa_model.specs.Processors.{interrupt_on, on, step_on, turned}
 use Rattle.ffa_model.specs.SoundState.{IsSoundState}
 use Rattle.ffa_laws.specs.Isolation.{NeverGrow}
-use Rattle.ffa_laws.specs.Processors.{OneOperation}
+use Rattle.ffa_laws.specs.Processors.{ConfidentialInterrupt, ConfidentialOn, IntegrityOn, OneInterrupt, OneOperation, OnlyWritersOn, OwnAccessOn, SilenceOn}
 use Rattle.ffa_spmc.specs.Clustered.{Clustered, IsEffected, IsEffectedAlone, IsEffectedAmong, in_state, seen_by}
 use Rattle.ffa_notify.specs.Notices.{Told}
 use Rattle.ffa_spmc.specs.Noticed.{in_one_context, notice_asked, noticed, told_after}
@@ -53,6 +53,11 @@ pub record HasDoneOn (notices : Told) (p : ℕ) (old new : Clustered) (op : Op) 
   pub agrees : Agrees new.machine.ram new.machine.state
   pub sound : IsSoundState new.machine.state
   pub alone : OneOperation old.processors p old.machine.state (in_one_context op)
+  pub whole : IntegrityOn old.processors p old.machine.state (in_one_context op)
+  pub silence : SilenceOn old.processors p old.machine.state (in_one_context op)
+  pub confidential : ConfidentialOn old.processors p old.machine.state (in_one_context op)
+  pub own_access : OwnAccessOn old.processors p old.machine.state (in_one_context op)
+  pub only_writers : OnlyWritersOn old.processors p old.machine.state (in_one_context op)
   pub never_grow : NeverGrow old.machine.state new.machine.state
 
 -- so it was while others may have written to the TX of whoever runs there
@@ -80,6 +85,8 @@ pub record HasInterrupted (p : ℕ) (old new : Clustered) (told : COutcome) : Ty
   pub processors : new.processors ≡ turned old.processors p old.machine.state
   pub agrees : Agrees new.machine.ram new.machine.state
   pub sound : IsSoundState new.machine.state
+  pub alone : OneInterrupt (on old.processors p old.machine.state)
+  pub confidential : ConfidentialInterrupt old.processors p old.machine.state
 
 -- Of what C holds, which may be no machine: where there is such a processor it was done, and whose the RAM is stays; where there
 -- is none nothing was done.

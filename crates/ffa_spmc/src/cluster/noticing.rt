@@ -9,7 +9,7 @@ ghost use Rattle.ffa_model.specs.Notifications.{notifications_of};
 ghost use Rattle.ffa_model.specs.Processors.{on, step_on, turned};
 ghost use Rattle.ffa_model.specs.SoundState.{IsSoundState};
 ghost use Rattle.ffa_laws.specs.Isolation.{NeverGrow};
-ghost use Rattle.ffa_laws.specs.Processors.{OneOperation};
+ghost use Rattle.ffa_laws.specs.Processors.{ConfidentialOn, IntegrityOn, OneOperation, OnlyWritersOn, OwnAccessOn, SilenceOn};
 ghost use Rattle.ffa_notify.specs.Notices.{is_due, still_told};
 ghost use Rattle.ffa_spmc.specs.Cached.{AreWalks};
 ghost use Rattle.ffa_spmc.specs.Clustered.{IsEffected, IsEffectedAlone, IsEffectedAmong, seen_by};
@@ -49,6 +49,11 @@ impl<M: PhysMem + Drop, T: Translations + Drop, S: Store> Cluster<M, T, S> {
         ensures sound { IsSoundState self.new.machine.state }
         ensures walks { AreWalks self.new.machine }
         ensures step { OneOperation self.old.processors processor self.old.machine.state (in_one_context op.now) }
+        ensures integrity { IntegrityOn self.old.processors processor self.old.machine.state (in_one_context op.now) }
+        ensures silence { SilenceOn self.old.processors processor self.old.machine.state (in_one_context op.now) }
+        ensures confidential { ConfidentialOn self.old.processors processor self.old.machine.state (in_one_context op.now) }
+        ensures own_access { OwnAccessOn self.old.processors processor self.old.machine.state (in_one_context op.now) }
+        ensures only_writers { OnlyWritersOn self.old.processors processor self.old.machine.state (in_one_context op.now) }
         ensures never_grow { NeverGrow self.old.machine.state self.new.machine.state }
     {
         let asked = notice_asked(self.runner_of(processor), op);

@@ -14,5 +14,10 @@ returns-clause-done g c =
       agrees = its.agrees;
       sound = its.sound;
       alone = its.step;
+      whole = its.integrity;
+      silence = its.silence;
+      confidential = its.confidential;
+      own_access = its.own_access;
+      only_writers = its.only_writers;
       never_grow = its.never_grow;
     }

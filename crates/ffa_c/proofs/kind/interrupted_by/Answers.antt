@@ -12,4 +12,6 @@ returns g c =
       processors = its.processors;
       agrees = its.agrees;
       sound = its.sound;
+      alone = its.step;
+      confidential = its.confidential;
     }
