@@ -14,6 +14,7 @@ mod identifier;
 mod keys;
 mod locate;
 mod met;
+mod near;
 mod parts;
 pub mod refusal;
 mod region_space;

@@ -22,6 +22,7 @@ use crate::endpoints::{
 };
 use crate::keys::is_among;
 use crate::met::met_region;
+use crate::near::nearest;
 use crate::refusal::{Fault, Found, Location};
 use crate::region_space::RegionSpace;
 use crate::regions::{
@@ -43,7 +44,11 @@ pub(crate) fn in_text(alloc: Global, error: &toml::de::Error) -> Result<Location
 {
     let said = error.to_string(alloc)?;
     let said = said.as_str().trim_end().replace(alloc, "\n", ": ")?;
-    Ok(in_no_endpoint(Found::NoToml(said)))
+    let at = match error.span() {
+        Some(span) => Some(span.start),
+        None => None,
+    };
+    Ok(in_no_endpoint(Found::NoToml { said, at }))
 }
 
 fn in_no_endpoint(found: Found) -> Location
@@ -314,16 +319,22 @@ fn out_of_place(alloc: Global, table: &Table, space: &RegionSpace) -> Result<Fou
 }
 
 // The first key of a table that isn't one of these.
-fn unknown_key(alloc: Global, table: &Table, names: &[&str]) -> Result<Found, AllocError>
+fn unknown_key(alloc: Global, table: &Table, names: &[&'static str]) -> Result<Found, AllocError>
     ensures { IfOk result SharesPage }
 {
     for key in table.keys() {
         if !is_among(key.as_str(), names) {
             let shown = InlineText::<SHOWN>::of(key.as_str().escape_debug());
-            return Ok(Found::UnknownKey(String::from_str(alloc, shown.as_str())?));
+            return Ok(Found::UnknownKey {
+                key: String::from_str(alloc, shown.as_str())?,
+                near: nearest(alloc, key.as_str(), names)?,
+            });
         }
     }
-    Ok(Found::UnknownKey(String::new(alloc)))
+    Ok(Found::UnknownKey {
+        key: String::new(alloc),
+        near: None,
+    })
 }
 
 // The key that a table lacks, or its value with what is wrong with that.

@@ -32,10 +32,17 @@ pub struct Location {
 /// where they are cut.
 #[derive(Debug, Drop)]
 pub enum Found {
-    /// The text is no TOML: what the parser says of it, with a line and a column that count from 1.
-    NoToml(String),
-    /// A key that isn't one of the table's.
-    UnknownKey(String),
+    /// The text is no TOML: what the parser says of it, with a line and a column that count from 1, and at which byte of
+    /// the text, from 0, where that is known.
+    NoToml {
+        said: String,
+        at: Option<usize>,
+    },
+    /// A key that isn't one of the table's, and the one of these that it is nearest to, where it is near to one.
+    UnknownKey {
+        key: String,
+        near: Option<&'static str>,
+    },
     /// One of the table's keys, which it lacks.
     MissingKey(&'static str),
     /// The value at one of the table's keys, and what is wrong with it.
@@ -254,8 +261,12 @@ fn write_region<W: fmt::Write>(f: &mut fmt::Formatter<W>, base: u64, pages: u64)
 impl fmt::Display for Found {
     fn fmt<W: fmt::Write>(&self, f: &mut fmt::Formatter<W>) -> fmt::Result {
         match self {
-            Found::NoToml(said) => write!(f, "{said}"),
-            Found::UnknownKey(key) => write!(f, "key '{key}' is unknown"),
+            Found::NoToml { said, at: _ } => write!(f, "{said}"),
+            Found::UnknownKey { key, near: None } => write!(f, "key '{key}' is unknown"),
+            Found::UnknownKey {
+                key,
+                near: Some(near),
+            } => write!(f, "key '{key}' is unknown: did you mean '{near}'?"),
             Found::MissingKey(key) => write!(f, "'{key}' is missing"),
             Found::Value { key, value, fault } => write!(f, "{key} = {value}: {fault}"),
             Found::Number { key, number, fault } => {

@@ -92,32 +92,30 @@ pub(super) fn write_reason<W: Write>(reason: &[u8], writer: &mut W) -> io::Resul
     write!(writer, "\\t{}", Json(line))
 }
 
-// Writes the registers that aren't zero, but the first where its low half is all of it and has a name.
+// Writes the registers that aren't zero.
 fn write_registers<W: Write>(x: &[u64; 8], writer: &mut W) -> io::Result<()>
     ensures { OnOk result (Grows (W.contents writer.old) (W.contents writer.new)) }
 {
     for register in 0..8 {
         let value = x[register as usize];
         let is_long = value > u64::from(u32::MAX);
-        let is_named = register == 0 && !is_long && call_name(x).is_some();
         let is_whole = is_long || is_read_whole(x, register);
-        write_register(register, value, is_whole, is_named, writer)?;
+        write_register(register, value, is_whole, writer)?;
     }
     Ok(())
 }
 
-// Writes a register that isn't zero and has no name: x before one that the call reads whole, or whose value has more
-// than 32 bits, and else w.
+// Writes a register that isn't zero: x before one that the call reads whole, or whose value has more than 32 bits, and
+// else w.
 fn write_register<W: Write>(
     register: u32,
     value: u64,
     is_whole: bool,
-    is_named: bool,
     writer: &mut W,
 ) -> io::Result<()>
     ensures { OnOk result (Grows (W.contents writer.old) (W.contents writer.new)) }
 {
-    if value == 0 || is_named {
+    if value == 0 {
         return Ok(());
     }
     let letter = letter_of(is_whole);

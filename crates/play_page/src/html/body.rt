@@ -21,7 +21,7 @@ pub(super) const BODY: &str = r##"</style>
 <h1>Gorseplumb: a trace, line by line</h1>
 <output id="where" aria-live="polite"></output>
 <span id="runs"></span>
-<span class="keys"><kbd>&larr;</kbd> <kbd>&rarr;</kbd> a line, <kbd>PgUp</kbd> <kbd>PgDn</kbd> a page, <kbd>Home</kbd> <kbd>End</kbd>, <kbd>[</kbd> <kbd>]</kbd> a change</span>
+<span class="keys"><kbd>&larr;</kbd> <kbd>&rarr;</kbd> a line, <kbd>PgUp</kbd> <kbd>PgDn</kbd> a page, <kbd>Home</kbd> <kbd>End</kbd>, <kbd>[</kbd> <kbd>]</kbd> a change, <kbd>/</kbd> find</span>
 </div>
 <input id="slider" type="range" min="0" step="1" value="0" aria-label="line">
 <div id="legend"></div>
@@ -33,6 +33,8 @@ pub(super) const BODY: &str = r##"</style>
 <label>transaction <select id="handle"><option value="">all</option></select></label>
 <label><input id="refused" type="checkbox"> refused</label>
 <label><input id="changing" type="checkbox"> changes access &#9670;</label>
+<label><input id="unmet" type="checkbox"> guard unmet</label>
+<label>find <input id="find" type="search" spellcheck="false"></label>
 <output id="count"></output>
 </div>
 <div id="list" role="listbox" tabindex="0" aria-label="lines of the trace"><div id="space"></div></div>

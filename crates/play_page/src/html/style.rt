@@ -25,16 +25,25 @@ main { display: flex; flex: 1; min-height: 0; }
 #filters { display: flex; flex-wrap: wrap; gap: 4px 16px; padding: 6px 12px; border-bottom: 1px solid #ddd; }
 #list { position: relative; flex: 1; overflow-y: auto; }
 #right { flex: 1 1 55%; min-width: 0; padding: 8px 12px; overflow: auto; }
-.line { position: absolute; left: 0; right: 0; height: 40px; padding: 2px 12px 2px 76px; border-bottom: 1px solid #eee; cursor: pointer; }
+.line { position: absolute; left: 0; right: 0; padding: 2px 12px 2px 76px; border-bottom: 1px solid #eee; cursor: pointer; }
 .line > div { height: 18px; overflow: hidden; white-space: pre; text-overflow: ellipsis; }
 .line.odd { background: #fafafa; }
 .line[aria-selected="true"] { background: #dcebf7; box-shadow: inset 4px 0 #0072b2; }
 .number { position: absolute; left: 0; width: 64px; text-align: right; color: #666; }
 .line.change .number { font-weight: bold; color: #222; }
-.line.change .number::before { content: "\25c6 "; }
+.line.change .number::before { content: "\25c6\a0"; }
 .answer { color: #555; }
-.refused .answer::before { content: "\2717 "; }
+.refused .answer::before { content: "\2717\a0"; }
 .refused .answer { color: #8a2a00; }
+.guards { display: flex; gap: 16px; }
+.guard { color: #666; }
+.guard::before { content: "? "; }
+.guard.met::before { content: "\2713\a0"; }
+.guard.met { color: #1b6b3a; }
+.guard.unmet::before { content: "\2717\a0"; }
+.guard.unmet { color: #8a2a00; font-weight: bold; }
+#find { width: 12em; }
+[hidden] { display: none; }
 #chosen { min-height: 76px; margin-bottom: 10px; overflow-wrap: anywhere; white-space: pre-wrap; }
 #map { position: relative; margin: 6px 0 12px; background: #fff; }
 .run { position: absolute; top: 0; bottom: 0; border: solid #ccc; border-width: 1px 0 1px 1px; overflow: hidden; }
@@ -49,13 +58,28 @@ main { display: flex; flex: 1; min-height: 0; }
 .band.read.execute::after { outline: 0; }
 .run > .band { position: absolute; left: 15%; right: 15%; }
 .run > .band.read { margin-top: 4px; }
+.offer { border: 1px dashed #222; height: 8px; background: linear-gradient(var(--own) 0 0) left / 3px 100% no-repeat; }
+.run > .offer { position: absolute; left: 15%; right: 15%; }
+.sample .offer { position: absolute; inset: 3px 0; }
 table { width: 100%; border-collapse: collapse; }
 th, td { padding: 1px 8px 1px 0; text-align: left; white-space: nowrap; border-bottom: 1px solid #eee; }
 th { position: sticky; top: -8px; background: #fff; border-bottom: 1px solid #bbb; z-index: 3; }
 td.right { min-width: 84px; }
 td.right .band { display: inline-block; width: 44px; margin: 0 6px 0 0; vertical-align: middle; }
 td.right .none { display: inline-block; width: 44px; margin-right: 6px; }
+td.right .offer { display: inline-block; width: 44px; margin-right: 6px; vertical-align: middle; }
+td.offered { font-style: italic; }
 td.right .mine { box-shadow: inset 3px 0 var(--own); height: 12px; vertical-align: middle; border: 1px solid #ccc; }
+.narrow td.right { min-width: 0; }
+.narrow td.right > span { display: block; width: 3ch; margin: 4px 0 2px; }
+.narrow td.right .none { height: 8px; margin: 4px 0 2px; }
+.tight { font-size: 12px; }
+.tight th, .tight td { padding-right: 5px; }
+.tight td.handle { width: calc(8ch + 5px); min-width: calc(8ch + 5px); max-width: calc(8ch + 5px); white-space: normal; overflow-wrap: anywhere; line-height: 14px; }
+.tight td .who::before { width: 6px; margin-right: 3px; }
+.tight th .who::before { content: none; }
+.tight th .who { border-bottom: 3px solid var(--own); }
+.tight td.right > span { width: 22px; }
 tr.changed { background: #fff3c4; }
 .sample { display: inline-flex; gap: 6px; align-items: center; }
 .sample i { display: inline-block; position: relative; width: 30px; height: 14px; }
