@@ -1,10 +1,10 @@
 -- SPDX-License-Identifier: MIT OR Apache-2.0
-use Rattle.std.proofs.Common.{◌≡◌, None, ℕ, ◌∙◌, ◌+◌, ◌≤◌, length, refl, sym, subst}
+use Rattle.std.proofs.Common.{◌≡◌, None, false, ℕ, ◌∙◌, ◌+◌, ◌≤◌, length, refl, sym, subst}
 use Rattle.std.specs.Prelude.{IsSome}
 use Rattle.ffa_model.specs.declared.limits.TheConstants.{MOST_BUFFER_PAGES}
 use Rattle.ffa_model.specs.declared.operation.Op.{Op}
 use Rattle.ffa_model.specs.State.{buffers_of, page_at}
-use Rattle.ffa_spmc.specs.Among.{pages_read}
+use Rattle.ffa_spmc.specs.Among.{pages_read, reads_tx}
 use Rattle.ffa_spmc.specs.Managed.{Managed}
 use Rattle.ffa_spmc.specs.Unowned.{pages_of_tables}
 use Rattle.ffa_spmc.proofs.Inside.{parts_of}
@@ -43,4 +43,5 @@ pub returns-then-not-reads_tx-clause-pages : goal.returns-then-not-reads_tx-clau
 returns-then-not-reads_tx-clause-pages g c =
     let s = c.args.self.now.state in
     subst (λ (o : Op). None ≡ pages_read s o) (sym c.in-Call.is)
-    (front-none (buffers_of s s.runner) _ (reads-none _ (sym c.reads_tx.ensures ∙ c.if-not-reads_tx.true)))
+    (front-none (buffers_of s s.runner) _ (reads-none _ (subst (λ (n : ℕ). reads_tx n ≡ false) c.low.ensures
+    (sym c.reads_tx.ensures ∙ c.if-not-reads_tx.true))))
