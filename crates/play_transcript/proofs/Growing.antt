@@ -1,6 +1,6 @@
 -- SPDX-License-Identifier: MIT OR Apache-2.0
 -- Texts that grow by lines, and what is written of them.
-use Rattle.std.proofs.Common.{◌≡◌, ◌≤◌, ◌<◌, ◌+◌, ◌-◌, ℕ, true, List, [], ◌∷◌, ◌++◌, length, take, drop, map, get_or, codes, Option, Some, Result, Ok, Err, sym, ap, ◌∙◌, refl, subst, arith, append_assoc, append-nil, length-append, take-append-drop}
+use Rattle.std.proofs.Common.{◌≡◌, ◌≤◌, ◌<◌, ◌+◌, ◌-◌, ℕ, true, List, [], ◌∷◌, ◌++◌, length, take, drop, map, get_or, codes, Option, None, Some, Result, Ok, Err, sym, ap, ◌∙◌, refl, subst, arith, append_assoc, append-nil, length-append, take-append-drop}
 use Rattle.std.specs.Prelude.{OnOk, if◌then◌else◌}
 use Rattle.std.specs.Result.{is_ok}
 use Rattle.std.specs.Io.KnownBytes.{Appends}
@@ -10,6 +10,7 @@ use Rattle.std.proofs.lemmas.List.Folds.{list_all-append}
 use Rattle.ffa_model.specs.declared.operation.Op.{Op}
 use Rattle.play_syntax.specs.TraceLines.{Line, operate, show, audit, skip, feed, has_no_feed, is_line, joined, line_of, command_of, words_of, show_of, audit_of}
 use Rattle.play_syntax.specs.TraceText.{ended}
+use Rattle.play_syntax.proofs.LineActs.{line_alone}
 use Rattle.play_writer.specs.Script.{GrowsBy}
 use Rattle.play_transcript.proofs.Comments.{attempt_read, attempt_single}
 use Rattle.play_transcript.specs.Attempts.{attempt_text}
@@ -31,7 +32,7 @@ grows_none old = record { lines = []; good = refl; read = refl; grown = sym (app
 pub grows_line : (old new line : List ℕ) (said : Line) → has_no_feed line ≡ true → line_of line ≡ Some said → new ≡ old ++ ended line → GrowsByLines (said ∷ []) old new
 grows_line old new line said single read grown = record {
   lines = line ∷ [];
-  good = rw (single, read) refl;
+  good = rw (single, ← line_alone line, read) refl;
   read = ap (λ l. l ∷ []) read;
   grown = grown;
 }
@@ -40,7 +41,7 @@ grows_line old new line said single read grown = record {
 pub grows_more : (first more : List Line) (old mid new : List ℕ) → GrowsByLines first old mid → GrowsByLines more mid new → GrowsByLines (first ++ more) old new
 grows_more first more old mid new g h = record {
   lines = g.lines ++ h.lines;
-  good = list_all-append is_line g.lines h.lines ∙ rw (g.good, h.good) refl;
+  good = list_all-append (is_line None) g.lines h.lines ∙ rw (g.good, h.good) refl;
   read = map-append line_of g.lines h.lines ∙ rw (g.read, h.read) (sym (map-append (λ line. Some line) first more));
   grown =
       h.grown ∙ ap (λ t. t ++ joined h.lines) g.grown ∙ append_assoc old (joined g.lines) (joined h.lines)
@@ -110,7 +111,7 @@ pub wrote_next : (lines left count : ℕ) (held mid holds : Option (List ℕ)) �
     → Wrote (lines - (left - count)) held holds
 wrote_next lines left count held mid holds some few w v = record {
   lines = w.lines ++ v.lines;
-  good = list_all-append is_line w.lines v.lines ∙ rw (w.good, v.good) refl;
+  good = list_all-append (is_line None) w.lines v.lines ∙ rw (w.good, v.good) refl;
   number = omega (arith, some, few, length-append w.lines v.lines, w.number, v.number);
   written =
       subst (Appends held holds) (sym (joined-append w.lines v.lines)) (Appends-trans held mid holds (joined w.lines) (joined v.lines) w.written v.written);

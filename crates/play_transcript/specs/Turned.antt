@@ -1,7 +1,7 @@
 -- SPDX-License-Identifier: MIT OR Apache-2.0
 -- FOR PROOFS ALONE
 -- Which lines a turn has, and texts that grow by lines.
-use Rattle.std.specs.Prelude.{◌≡◌, ℕ, true, List, [], ◌∷◌, ◌++◌, map, Some}
+use Rattle.std.specs.Prelude.{◌≡◌, ℕ, true, List, [], ◌∷◌, ◌++◌, map, None, Some}
 use Rattle.play_syntax.specs.TraceLines.{Line, operate, show, audit, skip, line_of, are_lines, joined}
 use Rattle.play_transcript.specs.declared.entries.TraceEntry.{TraceEntry}
 use Rattle.play_transcript.specs.declared.entries.TraceEntry.TheVariants.{Operation, Attempt, Show, Audit}
@@ -22,6 +22,6 @@ turn_lines (entry ∷ entries) = map meant (entry ∷ entries)
 -- a text grew by lines of a trace that are read as these, each with its LF
 pub record GrowsByLines (meanings : List Line) (old new : List ℕ) : Type 0 where
   pub lines : List (List ℕ)
-  pub good : are_lines lines ≡ true
+  pub good : are_lines None lines ≡ true
   pub read : map line_of lines ≡ map (λ line. Some line) meanings
   pub grown : new ≡ old ++ joined lines

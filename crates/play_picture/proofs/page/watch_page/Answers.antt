@@ -18,14 +18,14 @@ pub returns-in_err-number : goal.returns-in_err-number
 returns-in_err-number g c =
     let (lines, sees, named, are) = c.loop-entries.invariant in
     let p = err_from_is_err_and c.from_residual-in_err-number.result c.from_residual-in_err-number.ensures.1 in
-    rw (p.1, p.2) (watches_untaken sees _ _ (IsPage {A = g.row.A.Denot}) c.in_err-number.field-0.0 (subst (λ p. TakesLine p _ _ _ _ (Err c.in_err-number.field-0.0)) named c.in_err-number.ensures.taken))
+    rw (p.1, p.2) (watches_untaken sees _ _ (IsPage {A = g.row.A.Denot}) c.in_err-number.field-0.0 (subst (λ p. TakesLine p (g.R.Read.remaining c.loop-entries.reader) (g.R.Read.remaining c.next.new.reader) c.next.new.bytes.items c.loop-entries.lines.number (Err c.in_err-number.field-0.0)) named c.in_err-number.ensures.taken))
 
 pub loop-entries-preserved : goal.loop-entries-preserved
 loop-entries-preserved g c =
     let (lines, sees, named, are) = c.loop-entries.invariant in
     let bytes = c.next.new.bytes.items in
     let told = c.in_ok-outcome.ensures in
-    let takes = subst (λ p. TakesNext p _ _ _ _ bytes (Ok c.in_ok-number.field-0)) named c.in_ok-number.ensures.taken in
-    let more = sees_more sees _ bytes _ c.in-Some.is takes c.see.new.self told.outcome told.state c.deref-in-Some.ensures.value c.in_ok-see.ensures.seen in
-    let taken = meant-behind c.args.player.now.bench _ lines sees.followed.state bytes _ (line_taken sees _ bytes _ c.in-Some.is takes) in
+    let takes = subst (λ p. TakesNext p c.loop-entries.lines.number c.next.new.self.number (g.R.Read.remaining c.loop-entries.reader) (g.R.Read.remaining c.next.new.reader) bytes (Ok c.in_ok-number.field-0)) named c.in_ok-number.ensures.taken in
+    let more = sees_more sees (g.R.Read.remaining c.next.new.reader) bytes c.next.new.self.number c.in-Some.is takes c.see.new.self told.outcome told.state c.deref-in-Some.ensures.value c.in_ok-see.ensures.seen in
+    let taken = meant-behind c.args.player.now.bench _ lines sees.followed.state bytes _ (line_taken sees (g.R.Read.remaining c.next.new.reader) bytes c.next.new.self.number c.in-Some.is takes) in
     (_, more, c.in_ok-number.ensures.processors ∙ named, entries_more c.args.player.now.bench _ _ lines bytes _ sees.followed.state more.followed.state taken _ _ are c.deref.ensures.value told.entry)

@@ -20,14 +20,14 @@ pub returns-in_err-number : goal.returns-in_err-number
 returns-in_err-number g c =
     let (lines, sees, named, fits) = c.loop-seen.invariant in
     let p = err_from_is_err_and c.from_residual-in_err-number.result c.from_residual-in_err-number.ensures.1 in
-    rw (p.1, p.2) (watches_untaken sees _ _ (Draws {A = g.row.A.Denot} c.args.keep) c.in_err-number.field-0.0 (subst (λ p. TakesLine p _ _ _ _ (Err c.in_err-number.field-0.0)) named c.in_err-number.ensures.taken))
+    rw (p.1, p.2) (watches_untaken sees _ _ (Draws {A = g.row.A.Denot} c.args.keep) c.in_err-number.field-0.0 (subst (λ p. TakesLine p (g.R.Read.remaining c.loop-seen.reader) (g.R.Read.remaining c.next.new.reader) c.next.new.bytes.items c.loop-seen.lines.number (Err c.in_err-number.field-0.0)) named c.in_err-number.ensures.taken))
 
 pub loop-seen-preserved : goal.loop-seen-preserved
 loop-seen-preserved g c =
     let (lines, sees, named, fits) = c.loop-seen.invariant in
     let done = c.in_ok-outcome.ensures in
-    let takes = subst (λ p. TakesNext p _ _ _ _ c.next.new.bytes.items (Ok c.in_ok-number.field-0)) named c.in_ok-number.ensures.taken in
-    let more = sees_more sees _ c.next.new.bytes.items _ c.in-Some.is takes c.see.new.self done.outcome done.state c.deref.ensures.value c.in_ok-see.ensures.seen in
+    let takes = subst (λ p. TakesNext p c.loop-seen.lines.number c.next.new.self.number (g.R.Read.remaining c.loop-seen.reader) (g.R.Read.remaining c.next.new.reader) c.next.new.bytes.items (Ok c.in_ok-number.field-0)) named c.in_ok-number.ensures.taken in
+    let more = sees_more sees (g.R.Read.remaining c.next.new.reader) c.next.new.bytes.items c.next.new.self.number c.in-Some.is takes c.see.new.self done.outcome done.state c.deref.ensures.value c.in_ok-see.ensures.seen in
     let most = c.most_rows-most.ensures ∙ ap most_rows (c.len.ensures ∙ c.see.new.self.latest.ok.0) in
     let few : length c.see.new.self.rows.items ≤ c.most_rows-most.result = omega (arith, c.if-len-most.false, c.len-in-Some.ensures, c.see.new.self.rows.ok.0) in
     (_, more, c.in_ok-number.ensures.processors ∙ named, subst (λ k. length c.see.new.self.rows.items ≤ k) most few)
@@ -36,8 +36,8 @@ pub returns-then-len-most : goal.returns-then-len-most
 returns-then-len-most g c =
     let (lines, sees, named, fits) = c.loop-seen.invariant in
     let done = c.in_ok-outcome.ensures in
-    let takes = subst (λ p. TakesNext p _ _ _ _ c.next.new.bytes.items (Ok c.in_ok-number.field-0)) named c.in_ok-number.ensures.taken in
-    let more = sees_more sees _ c.next.new.bytes.items _ c.in-Some.is takes c.see.new.self done.outcome done.state c.deref.ensures.value c.in_ok-see.ensures.seen in
+    let takes = subst (λ p. TakesNext p c.loop-seen.lines.number c.next.new.self.number (g.R.Read.remaining c.loop-seen.reader) (g.R.Read.remaining c.next.new.reader) c.next.new.bytes.items (Ok c.in_ok-number.field-0)) named c.in_ok-number.ensures.taken in
+    let more = sees_more sees (g.R.Read.remaining c.next.new.reader) c.next.new.bytes.items c.next.new.self.number c.in-Some.is takes c.see.new.self done.outcome done.state c.deref.ensures.value c.in_ok-see.ensures.seen in
     let most = c.most_rows-most.ensures ∙ ap most_rows (c.len.ensures ∙ c.see.new.self.latest.ok.0) in
     let over : c.most_rows-most.result < length c.see.new.self.rows.items = omega (arith, c.if-len-most.true, c.len-in-Some.ensures, c.see.new.self.rows.ok.0) in
     (_, _, _, more.followed, too_large c.args.keep _ _ _ c.loop-seen.seen c.see.new.self _ more.rows fits most over c.in_ok-see.ensures.anew)
