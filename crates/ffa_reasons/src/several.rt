@@ -5,7 +5,9 @@ ghost use Rattle.ffa_model.specs.declared.limits.TheConstants.{MOST_PROCESSORS};
 ghost use Rattle.ffa_playable.specs.Bench.{Bench};
 
 use ffa_mend::Mend;
-use ffa_model::{Address, CertRun, Effect, EndpointId, MOST_PROCESSORS, Op, Outcome, PageNo, Rights, Why};
+use ffa_model::{
+    Address, CertRun, Effect, EndpointId, MOST_PROCESSORS, Op, Outcome, PageNo, Rights, Why,
+};
 use ffa_physmem::PhysMem;
 use ffa_playable::{Playable, Readable};
 use ffa_spmc::{Cluster, Inline, Store};
@@ -43,8 +45,9 @@ impl<M: PhysMem + Drop, T: Translations + Drop, S: Store> ExplainedCluster<M, T,
     pub fn of(cluster: Cluster<M, T, S>, count: usize) -> ExplainedCluster<M, T, S>
         requires { count ≤ MOST_PROCESSORS }
         ensures { result ≡ record {
-            state = cluster.machine.state;
-            several = Some (record { count = count; processors = cluster.processors }) } }
+          state = cluster.machine.state;
+          several = Some (record { count = count; processors = cluster.processors });
+        } }
     {
         ExplainedCluster { cluster, count }
     }

@@ -20,14 +20,14 @@ use Rattle.play_drawing.specs.Sizes.{most_rows}
 -- There are more rows than fit, behind these lines: by as many cells in each as the last of them has runs, or by the
 -- columns.
 pub record IsTooLarge (A : Type 0) (keep : Keep) (start : Bench) (now : State) (lines : List (List ℕ)) (large : TooLarge)
-  : Type 0 where
-    pub rows : List (Row A)
-    pub cells : ℕ
-    pub are_rows : AreRows keep start lines rows
-    pub are_cells : (cells ≡ length (certificate now))
-        ⊎ ((columns : List Column) × AreColumns rows (length now.pages) 0 columns × (cells ≡ length columns))
-    pub most : large.most ≡ most_rows cells
-    pub more : large.most < length rows
+    : Type 0 where
+  pub rows : List (Row A)
+  pub cells : ℕ
+  pub are_rows : AreRows keep start lines rows
+  pub are_cells : (cells ≡ length (certificate now))
+      ⊎ ((columns : List Column) × AreColumns rows (length now.pages) 0 columns × (cells ≡ length columns))
+  pub most : large.most ≡ most_rows cells
+  pub more : large.most < length rows
 
 -- A trace was played from a start, and this was made of the lines that were done, as the relation says, which is also of
 -- what the play began with and left, and of what is left to be read; or a line is bad; or no more could be read, and each line that was read

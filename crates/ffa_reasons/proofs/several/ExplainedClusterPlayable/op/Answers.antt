@@ -20,6 +20,6 @@ returns-clause-bench g c =
     let state = c.op.ensures.state ∙ ap (λ (s : State). (step_resuming s c.args.op.now).state) (on-turn own.processors p own.machine.state is) in
     let processors = c.op.ensures.processors ∙ still-on-turn own.processors p own.machine.state is in
     let done : record { state = c.op.new.self.machine.state; several = Some (record { count = c.self.inside.count; processors = c.op.new.self.processors }) }
-        ≡ after_op (record { state = own.machine.state; several = Some (record { count = c.self.inside.count; processors = own.processors }) }) c.args.op.now =
+    ≡ after_op (record { state = own.machine.state; several = Some (record { count = c.self.inside.count; processors = own.processors }) }) c.args.op.now =
     λ i. record { state = state i; several = Some (record { count = c.self.inside.count; processors = processors i }) } in
     done ∙ ap (λ (b : Bench). after_op b c.args.op.now) c.self.view_is
