@@ -132,6 +132,23 @@ turns() {
         "times a partition went on: as the program prints them"
 }
 
+# Plays what the normal world is told of a notification of a partition that waits, once, and contexts that it names, by two processors; with
+# one alone nothing is told: told NAME COMMAND..
+told() {
+    local name=$1 machine=$top/tests/rows/machine.toml
+    shift
+    printf '%s\n' 'call 84000064 84000083' 'call 84000083' 'call 8400007D 0 2' 'call 8400006D 80010000' 'call 8400007F 8001 0 8' \
+        'call 8400006B' 'call 84000081 8001 0 8' 'call C4000083' 'call 84000083' >"$to/alone"
+    sed 's/^call 84000081/on 1\n&/' "$to/alone" >"$to/trace"
+    "$player" run --processors 2 "$machine" "$to/trace" >"$to/expected"
+    "$@" several "$machine" "$to/trace" >"$to/played"
+    cmp "$to/expected" "$to/played" || { echo "$name: what is told of notifications differs" >&2; exit 1; }
+    "$player" run "$machine" "$to/alone" >"$to/expected"
+    "$@" heap "$machine" "$to/alone" >"$to/played"
+    cmp "$to/expected" "$to/played" || { echo "$name: what isn't told of notifications differs" >&2; exit 1; }
+    echo "$name: the normal world is told of a notification as the program prints it"
+}
+
 # Whether play tells each reason of the generated lines, and those of each check that a table of tests has, as the program does: explains
 # NAME PLAY
 explains() {
@@ -167,6 +184,7 @@ for compiler in gcc clang; do
     $compiler $strict $sanitized "$here/play.c" "$here/heap.c" "$native" -o "$to/play"
     plays "$compiler, sanitized" "$to/play"
     turns "$compiler, sanitized" "$to/play"
+    told "$compiler, sanitized" "$to/play"
     explains "$compiler, sanitized" "$to/play"
     bare="$strict -O2 -ffreestanding -fno-stack-protector -nostdlib -static"
     $compiler $bare "$here"/{freestanding,array,bytes,settle}.c "$native" -o "$to/whole"
@@ -230,6 +248,7 @@ if has aarch64-linux-gnu-gcc && has qemu-aarch64-static && make_archive aarch64-
     $arm "$here/play.c" "$here/heap.c" "$made" -o "$to/play"
     plays AArch64 qemu-aarch64-static "$to/play"
     turns AArch64 qemu-aarch64-static "$to/play"
+    told AArch64 qemu-aarch64-static "$to/play"
     bare="-ffreestanding -fno-stack-protector -nostdlib -Wl,--gc-sections"
     $arm $bare "$here"/{freestanding,array,bytes,settle}.c "$made" -o "$to/free"
     qemu-aarch64-static "$to/free"

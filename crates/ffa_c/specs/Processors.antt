@@ -14,8 +14,8 @@ use Rattle.ffa_laws.specs.Isolation.{NeverGrow}
 use Rattle.ffa_laws.specs.Processors.{ConfidentialInterrupt, ConfidentialOn, IntegrityOn, OneInterrupt, OneOperation, OnlyWritersOn, OwnAccessOn, SilenceOn}
 use Rattle.ffa_spmc.specs.Clustered.{Clustered, IsEffected, IsEffectedAlone, IsEffectedAmong, in_state, seen_by}
 use Rattle.ffa_notify.specs.Notices.{Told}
-use Rattle.ffa_spmc.specs.Noticed.{in_one_context, notice_asked, noticed, told_after}
-use Rattle.ffa_spmc.specs.declared.notices.Notice.{Notice}
+use Rattle.ffa_notify.specs.Noticed.{in_one_context, notice_asked, noticed, told_after}
+use Rattle.ffa_notify.specs.declared.notices.Notice.{Notice}
 use Rattle.ffa_spmc.specs.Unowned.{KeepsUnowned}
 use Rattle.ffa_c.specs.declared.outcome.COutcome.{COutcome}
 use Rattle.ffa_c.specs.Boarded.{Boarded, boarded_by, cluster_of}

@@ -8,10 +8,14 @@ mod checks;
 mod class;
 mod first;
 mod mends;
+pub mod notices;
 mod questions;
 mod reasons;
 mod told;
 mod words;
 
 pub use bitmaps::Bitmaps;
+pub use notices::{
+    FFA_NOTIFICATION_INFO_GET, FFA_NOTIFICATION_INFO_GET_64, Notice, in_one_context, notice_asked,
+};
 pub use told::{NO_DATA, Told, info_registers};

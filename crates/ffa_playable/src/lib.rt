@@ -11,7 +11,7 @@ ghost use Rattle.ffa_model.specs.Ram.{word_of};
 ghost use Rattle.ffa_model.specs.State.{Page, owner_of, page_at};
 ghost use Rattle.ffa_model.specs.Why.{outcome_of};
 ghost use Rattle.ffa_mend.specs.Mend.{mend_why};
-ghost use Rattle.ffa_playable.specs.Bench.{Bench, after_interrupt, after_op, effect_of, is_refused, outcome_of_interrupt, processors_of, turned_to, why_of};
+ghost use Rattle.ffa_playable.specs.Bench.{Bench, after_interrupt, after_op, as_done, effect_of, outcome_of_interrupt, processors_of, refuses, turned_to, why_of};
 
 use ffa_mend::Mend;
 use ffa_model::{Address, CertRun, Effect, EndpointId, Op, Outcome, PageNo, Rights, Why};
@@ -22,7 +22,8 @@ pub trait Playable: Drop {
     /// The state, which is that of the small machine, and the processors, where there are several.
     ghost bench: { Self → Bench };
 
-    /// Does one operation of the runner. A refusal, which is FFA_ERROR or a fault, changes nothing.
+    /// Does one operation of the runner. A refusal, which is FFA_ERROR or a fault, changes nothing. Where several processors run the
+    /// machine the normal world is told of notifications too.
     fn op(&mut self, op: &Op) -> Effect
         ensures effect { result ≡ effect_of (bench self.old) op.now }
         ensures bench { bench self.new ≡ after_op (bench self.old) op.now };
@@ -42,17 +43,17 @@ pub trait Playable: Drop {
         ensures outcome { result ≡ outcome_of_interrupt (bench self.old) }
         ensures bench { bench self.new ≡ after_interrupt (bench self.old) };
 
-    /// Why an operation of the runner is refused; nothing where it isn't. It changes nothing.
+    /// Why an operation of the runner is refused; nothing where it isn't, as where there is no notice. It changes nothing.
     fn why(&self, op: &Op) -> Option<Why>
         ensures why { result ≡ why_of (bench self.now) op.now }
-        ensures refused { is_some result ≡ is_refused (effect_of (bench self.now) op.now) }
+        ensures refused { is_some result ≡ refuses (bench self.now) op.now }
         ensures outcome { IfSome result (λ reason.
             effect_of (bench self.now) op.now ≡ Effect.Outcome (outcome_of (bench self.now).state reason)) };
 
     /// What is to be mended where an operation of the runner is refused for this reason, as far as the machine knows it.
     /// It changes nothing.
     fn mend(&self, op: &Op, why: Why) -> Option<Mend>
-        ensures { result ≡ mend_why (bench self.now).state op.now why };
+        ensures { result ≡ mend_why (bench self.now).state (as_done (bench self.now) op.now) why };
 
     /// The endpoint that runs.
     fn runner(&self) -> EndpointId

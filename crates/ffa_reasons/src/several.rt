@@ -1,6 +1,7 @@
 // SPDX-License-Identifier: MIT OR Apache-2.0
 //! The machine that several processors run, as a player sees it.
 ghost use Rattle.std.specs.Prelude.{◌≡◌, ◌≤◌, Some};
+ghost use Rattle.std.specs.FinSet as finite_set;
 ghost use Rattle.ffa_model.specs.declared.limits.TheConstants.{MOST_PROCESSORS};
 ghost use Rattle.ffa_playable.specs.Bench.{Bench};
 
@@ -8,17 +9,20 @@ use ffa_mend::Mend;
 use ffa_model::{
     Address, CertRun, Effect, EndpointId, MOST_PROCESSORS, Op, Outcome, PageNo, Rights, Why,
 };
+use ffa_notify::{Told, in_one_context, notice_asked};
 use ffa_physmem::PhysMem;
 use ffa_playable::{Playable, Readable};
 use ffa_spmc::{Cluster, Inline, Store};
 use ffa_tlb::{NoTlb, Translations};
 use std::marker::Model;
 
-/// A machine of several processors that tells why it refuses, with how many of them a trace may name.
+/// A machine of several processors that tells why it refuses, with how many of them a trace may name, and what the normal world has
+/// been told of notifications.
 #[derive(Drop)]
 pub struct ExplainedCluster<M: PhysMem + Drop, T: Translations + Drop = NoTlb, S: Store = Inline> {
     cluster: Cluster<M, T, S>,
     count: usize,
+    told: Told,
 }
 
 impl<M: PhysMem + Drop, T: Translations + Drop, S: Store> Model for ExplainedCluster<M, T, S> {
@@ -31,7 +35,7 @@ impl<M: PhysMem + Drop, T: Translations + Drop, S: Store> Model for ExplainedClu
 
     ghost view = { λ c. record {
       state = c.cluster.machine.state;
-      several = Some (record { count = c.count; processors = c.cluster.processors });
+      several = Some (record { count = c.count; processors = c.cluster.processors; told = c.told });
     } };
 
     ghost use Rattle.std.specs.Prelude.{◌≤◌};
@@ -41,15 +45,20 @@ impl<M: PhysMem + Drop, T: Translations + Drop, S: Store> Model for ExplainedClu
 }
 
 impl<M: PhysMem + Drop, T: Translations + Drop, S: Store> ExplainedCluster<M, T, S> {
-    /// The machine, of which a trace may name so many processors, from 0 on. The others stay as they are.
+    /// The machine, of which a trace may name so many processors, from 0 on, before the normal world has been told of anything. The
+    /// others stay as they are.
     pub fn of(cluster: Cluster<M, T, S>, count: usize) -> ExplainedCluster<M, T, S>
         requires { count ≤ MOST_PROCESSORS }
         ensures { result ≡ record {
           state = cluster.machine.state;
-          several = Some (record { count = count; processors = cluster.processors });
+          several = Some (record { count = count; processors = cluster.processors; told = finite_set.empty });
         } }
     {
-        ExplainedCluster { cluster, count }
+        ExplainedCluster {
+            cluster,
+            count,
+            told: Told::nothing(),
+        }
     }
 }
 
@@ -58,7 +67,7 @@ impl<M: PhysMem + Drop, T: Translations + Drop, S: Store> Playable for Explained
 
     fn op(&mut self, op: &Op) -> Effect {
         let processor = self.cluster.processor();
-        self.cluster.op(processor, op)
+        self.cluster.op_noticing(&mut self.told, processor, op)
     }
 
     fn processors(&self) -> Option<usize> {
@@ -77,11 +86,16 @@ impl<M: PhysMem + Drop, T: Translations + Drop, S: Store> Playable for Explained
     }
 
     fn why(&self, op: &Op) -> Option<Why> {
-        crate::why_resuming(self.cluster.machine(), op)
+        let machine = self.cluster.machine();
+        if notice_asked(machine.runner(), op).is_some() {
+            None
+        } else {
+            crate::why_resuming(machine, &in_one_context(op))
+        }
     }
 
     fn mend(&self, op: &Op, why: Why) -> Option<Mend> {
-        crate::mend(self.cluster.machine(), op, why)
+        crate::mend(self.cluster.machine(), &in_one_context(op), why)
     }
 
     fn runner(&self) -> EndpointId {

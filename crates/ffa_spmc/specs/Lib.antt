@@ -24,4 +24,3 @@ pub mod Mixtures
 pub mod Moments
 pub mod Meanwhile
 pub mod Clustered
-pub mod Noticed

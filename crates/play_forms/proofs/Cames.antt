@@ -7,10 +7,12 @@ use Rattle.ffa_model.specs.declared.operation.Op.TheVariants.{Call, Load, Store,
 use Rattle.ffa_model.specs.declared.operation.Outcome.{Outcome}
 use Rattle.ffa_model.specs.declared.why.Why.{Why}
 use Rattle.ffa_model.specs.Refusals.{is_refusal}
-use Rattle.ffa_playable.specs.Bench.{Bench, why_of}
+use Rattle.ffa_playable.specs.Bench.{Bench, after_op, why_of}
+use Rattle.play_syntax.specs.Lines.{outcome_of}
+use Rattle.play_syntax.specs.TraceLines.{operate}
 use Rattle.play_forms.specs.Asking.{SaysCheck}
 use Rattle.play_forms.specs.Patterns.{check_in, check_of}
-use Rattle.play_forms.proofs.Behind.{done-unexplained, refused-stays}
+use Rattle.play_forms.proofs.Behind.{done-unexplained, why-behind}
 
 -- no operation that is done is refused by a check
 check_none : (s : Bench) (op : Op) → why_of s op ≡ None → None ≡ check_of s op
@@ -22,10 +24,18 @@ check_none s (Fetch address) none = refl
 pub done_unchecked : (now : Bench) (op : Op) (outcome : Option Outcome) → option_map_or is_refusal outcome false ≡ false → SaysCheck now op outcome None
 done_unchecked now op outcome done = λ start next comes. check_none start op (done-unexplained start op (ap (λ o. option_map_or is_refusal o false) (sym comes) ∙ done))
 
--- one that is refused stands as it was found
+-- by which check an operation is refused rests on its reason alone
+check-behind : (op : Op) (b : Bench) → option_map_or is_refusal (outcome_of b (operate op)) false ≡ true → check_of (after_op b op) op ≡ check_of b op
+check-behind (Call x) b refused = ap (check_in x) (why-behind (Call x) b refused)
+check-behind (Load address size) b refused = refl
+check-behind (Store address size value) b refused = refl
+check-behind (Fetch address) b refused = refl
+
+-- one that is refused leaves the state as it was found
 pub refused_checked : (now : Bench) (op : Op) (outcome : Option Outcome) (check : Option ℕ) → option_map_or is_refusal outcome false ≡ true → check ≡ check_of now op → SaysCheck now op outcome check
 refused_checked now op outcome check refused tells =
-    λ start next comes. tells ∙ ap (λ s. check_of s op) (next ∙ refused-stays start op (ap (λ o. option_map_or is_refusal o false) (sym comes) ∙ refused))
+    λ start next comes.
+    tells ∙ ap (λ s. check_of s op) next ∙ check-behind op start (ap (λ o. option_map_or is_refusal o false) (sym comes) ∙ refused)
 
 -- a call, by what the machine answers
 pub check_answered : (now : Bench) (op : Op) (x : List ℕ) (answer : Option Why) (check : Option ℕ) → op ≡ Call x → answer ≡ why_of now op → check ≡ check_in x answer → check ≡ check_of now op

@@ -19,7 +19,7 @@ use Rattle.ffa_model.specs.declared.why.Obstacle.TheVariants as obstacles
 use Rattle.ffa_model.specs.declared.why.Why.{Why}
 use Rattle.ffa_model.specs.declared.why.Why.TheVariants.{Refused, Fault}
 use Rattle.ffa_model.specs.Registers.{low}
-use Rattle.ffa_playable.specs.Bench.{Bench, why_of}
+use Rattle.ffa_playable.specs.Bench.{Bench, as_done, why_of}
 use Rattle.play_syntax.specs.TraceLines.{Line, operate, show, audit, skip, turn, interrupt, has_no_feed}
 use Rattle.play_syntax.specs.TraceText.{bytes_moved, hex}
 use Rattle.ffa_abi.specs.Names.{call_name_of}
@@ -33,7 +33,7 @@ use Rattle.play_reasons.specs.Reasons.{about_text, call_text, check_text, fault_
 use Rattle.play_forms.proofs.MendLines.{single_address, single_allowed, single_mended, single_short, single_wanted}
 use Rattle.play_forms.proofs.Singles.{IsSingle, single_append, single_hex}
 use Rattle.ffa_mend.specs.declared.Mend.{Mend}
-use Rattle.ffa_mend.specs.Mend.{address_of, call_of, mend}
+use Rattle.ffa_mend.specs.Mend.{address_of, call_of, mend_why}
 use Rattle.play_reasons.specs.declared.allowed.Allowed.{Allowed}
 use Rattle.play_reasons.specs.Mends.{address_text, allowed_field, allowed_text, kind_of, mended_text, short_text, wanted_text}
 use Rattle.play_forms.proofs.Cuts.{cuts_none, cuts_reason, decimal_digits, digits_single}
@@ -196,12 +196,13 @@ line_cuts base op reason mend =
     cuts_reason (reason_mark ++ why_text base op reason ++ mended_text mend)
     (single_append (why_text base op reason) (mended_text mend) (single_why base op reason) (single_mended mend)) refl
 
-some_cuts : (base : ℕ) (op : Op) (mend : Option Mend) (reason : Option Why) → CutsTo (option_map_or (λ why. reason_line base op why mend) reason []) []
+some_cuts : (base : ℕ) (op : Op) (mend : Why → Option Mend) (reason : Option Why)
+    → CutsTo (option_map_or (λ why. reason_line base op why (mend why)) reason []) []
 some_cuts base op mend None = cuts_none
-some_cuts base op mend (Some reason) = line_cuts base op reason mend
+some_cuts base op mend (Some reason) = line_cuts base op reason (mend reason)
 
 told_cuts : (s : Bench) (line : Line) → CutsTo (reason_text s line) []
-told_cuts s (operate op) = some_cuts s.state.ram_base op (mend s.state op) (why_of s op)
+told_cuts s (operate op) = some_cuts s.state.ram_base op (mend_why s.state (as_done s op)) (why_of s op)
 told_cuts s show = cuts_none
 told_cuts s audit = cuts_none
 told_cuts s skip = cuts_none

@@ -87,7 +87,7 @@ impl Came {
 }
 
 // The number of the check by which an operation that was done is refused, where it is a call and this was its outcome. A
-// refusal changes nothing, so the machine still stands as the operation found it.
+// refusal changes nothing by which a reason goes.
 fn check_of<P: Playable>(player: &Player<P>, op: &Op, outcome: Option<Outcome>) -> Option<usize>
     ensures { SaysCheck player.now.bench op.now outcome result }
 {

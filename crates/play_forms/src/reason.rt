@@ -13,7 +13,7 @@ use play_reasons::Reason;
 use play_syntax::Line;
 
 /// Why the operation of a line that was done is refused, where that is asked for. It is asked behind the line, and only
-/// where the outcome refuses: a refusal changes nothing, so the machine still stands as the operation found it.
+/// where the outcome refuses: a refusal changes nothing by which a reason goes.
 pub(crate) fn reason_of<P: Playable>(
     player: &Player<P>,
     explain: bool,

@@ -17,12 +17,12 @@ use Rattle.ffa_model.specs.declared.why.Obstacle.TheVariants as obstacles
 use Rattle.ffa_model.specs.declared.why.Why.{Why}
 use Rattle.ffa_model.specs.declared.why.Why.TheVariants.{Refused, Fault}
 use Rattle.ffa_model.specs.Registers.{low}
-use Rattle.ffa_playable.specs.Bench.{Bench, processors_of, why_of}
+use Rattle.ffa_playable.specs.Bench.{Bench, as_done, processors_of, why_of}
 use Rattle.play_syntax.specs.TraceLines.{Line, operate, show, audit, skip, turn, interrupt, line_in}
 use Rattle.play_syntax.specs.TraceText.{bytes_moved, ended, hex}
 use Rattle.ffa_model.specs.Words.{words_of}
 use Rattle.ffa_mend.specs.declared.Mend.{Mend}
-use Rattle.ffa_mend.specs.Mend.{address_of, call_of, mend}
+use Rattle.ffa_mend.specs.Mend.{address_of, call_of, mend_why}
 use Rattle.ffa_abi.specs.Names.{call_name_of}
 use Rattle.ffa_abi.specs.Widths.{is_read_whole}
 use Rattle.play_reasons.specs.Checks.{number_of}
@@ -165,7 +165,7 @@ reason_line base op reason mend = ended (reason_mark ++ why_text base op reason 
 -- what stands under the text of a line, where it is an operation that is refused there, with what is to be mended
 abbrev pub reason_text : Bench → Line → List ℕ
 reason_text b (operate op) =
-    option_map_or (λ reason. reason_line b.state.ram_base op reason (mend b.state op)) (why_of b op) []
+    option_map_or (λ reason. reason_line b.state.ram_base op reason (mend_why b.state (as_done b op) reason)) (why_of b op) []
 reason_text b show = []
 reason_text b audit = []
 reason_text b skip = []

@@ -4,6 +4,7 @@ use super::elsewhere::is_wanted;
 use super::*;
 use crate::checks::holds_at;
 use ffa_model::{Act, Effect, EndpointId, Op, Outcome};
+use ffa_notify::Told;
 use ffa_physmem::{FlatRam, PhysMem};
 use ffa_reasons::ExplainedCluster;
 use ffa_spmc::Cluster;
@@ -12,6 +13,7 @@ use play_syntax::Line;
 // What an operation or an interrupt of a processor comes to.
 fn acted<M: PhysMem + Drop, T: Translations + Drop>(
     cluster: &mut Cluster<M, T>,
+    told: &mut Told,
     processor: usize,
     line: &str,
 ) -> Option<Effect> {
@@ -24,7 +26,7 @@ fn acted<M: PhysMem + Drop, T: Translations + Drop>(
     let Line::Operation(op) = Line::read(line.as_bytes())? else {
         return None;
     };
-    Some(cluster.op(processor, &op))
+    Some(cluster.op_noticing(told, processor, &op))
 }
 
 // Whether it is what a step wants.
@@ -50,12 +52,13 @@ fn booted_cluster(alloc: Global) -> Result<Cluster<FlatRam>, Fail> {
 // Does steps on a fresh machine of the rows, and plays them as a trace on another.
 fn acts(rt: &impl Abort, alloc: Global, steps: &str) -> Result<(), Fail> {
     let mut cluster = booted_cluster(alloc)?;
+    let mut told = Told::nothing();
     let mut player = Player::new(ExplainedCluster::of(booted_cluster(alloc)?, 8));
     for step in steps.lines() {
         let (line, wanted) = step.split_once(" -> ").unwrap_or((step, ""));
         let (processor, line) = line.split_once(' ').unwrap_or(("9", line));
         let processor = usize::from_str_radix(processor, 10).unwrap_or(9);
-        match acted(&mut cluster, processor, line) {
+        match acted(&mut cluster, &mut told, processor, line) {
             Some(effect) => holds_at(rt, is_effect(alloc, effect, wanted)?, &step),
             None => holds_at(rt, false, &step),
         }
@@ -81,6 +84,35 @@ fn a_partition_is_preempted(rt: HostRuntime) -> Result<(), Fail> {
 0 call 84000069 -> 8001: 84000061 0 8001
 0 call 8400006B -> 0: 8400006B 80010000
 0 call 8400006D 80010000 -> 8001: 8400006D 80010000
+";
+    acts(&rt, rt.alloc(), steps)
+}
+
+// The normal world is told once of a partition that waits with a notification pending, and again where that got it and it is set
+// again. It may name contexts.
+#[test]
+fn the_normal_world_is_told(rt: HostRuntime) -> Result<(), Fail> {
+    let steps = "\
+0 call 84000064 84000083 -> 0: 84000061
+0 call 84000083 -> 0: 84000060 0 FFFFFFF7
+0 call 8400007D 0 9 -> 0: 84000060 0 FFFFFFFE
+0 call 8400007D 0 2 -> 0: 84000061
+0 call 84000082 00010000 7 -> 0: 84000061
+0 call 84000082 00080000 7 -> 0: 84000060 0 FFFFFFFE
+0 call 8400006D 80010000 -> 8001: 8400006D 80010000
+0 call 8400007F 00008001 0 8 -> 8001: 84000061
+0 call 84000083 -> 8001: 84000060 0 FFFFFFFF
+0 call 8400006B -> 0: 8400006B 80010000
+1 call 84000081 00008001 0 8 -> 0: 84000061
+1 call C4000083 -> 0: C4000061 0 80 8001
+0 call 84000083 -> 0: 84000060 0 FFFFFFF7
+0 call 84000081 00008001 0 8 -> 0: 84000061
+0 call 84000083 -> 0: 84000060 0 FFFFFFF7
+0 call 8400006D 80010000 -> 8001: 8400006D 80010000
+0 call 84000082 8001 7 -> 8001: 84000061 0 0 0 8
+1 call 84000081 00008001 0 8 -> 0: 84000061
+1 interrupt -> done
+1 call 84000083 -> 0: 84000061 0 80 8001
 ";
     acts(&rt, rt.alloc(), steps)
 }

@@ -13,14 +13,13 @@ ghost use Rattle.ffa_laws.specs.Processors.{ConfidentialOn, IntegrityOn, OneOper
 ghost use Rattle.ffa_notify.specs.Notices.{is_due, still_told};
 ghost use Rattle.ffa_spmc.specs.Cached.{AreWalks};
 ghost use Rattle.ffa_spmc.specs.Clustered.{IsEffected, IsEffectedAlone, IsEffectedAmong, seen_by};
-ghost use Rattle.ffa_spmc.specs.Noticed.{in_one_context, notice_asked, noticed, told_after};
+ghost use Rattle.ffa_notify.specs.Noticed.{in_one_context, notice_asked, noticed, told_after};
 ghost use Rattle.ffa_spmc.specs.Unowned.{KeepsUnowned};
 
 use super::Cluster;
-use crate::notices::{Notice, in_one_context, notice_asked};
 use crate::storage::Store;
 use ffa_model::{Effect, EndpointId, MOST_PROCESSORS, Op, Outcome, Reply};
-use ffa_notify::{Told, info_registers};
+use ffa_notify::{Notice, Told, in_one_context, info_registers, notice_asked};
 use ffa_physmem::{Observed, PhysMem};
 use ffa_tlb::Translations;
 

@@ -15,9 +15,9 @@ use Rattle.ffa_model.specs.Notifications.{Notifications}
 use Rattle.ffa_model.specs.Numbers.{Identifier}
 use Rattle.ffa_model.specs.Registers.{low, wide_of}
 use Rattle.ffa_notify.specs.Notices.{Told, info, still_told, untold}
-use Rattle.ffa_spmc.specs.declared.notices.Notice.{Notice}
-use Rattle.ffa_spmc.specs.declared.notices.Notice.TheVariants.{Info, Features}
-use Rattle.ffa_spmc.specs.declared.notices.TheConstants.{FFA_NOTIFICATION_INFO_GET}
+use Rattle.ffa_notify.specs.declared.notices.Notice.{Notice}
+use Rattle.ffa_notify.specs.declared.notices.Notice.TheVariants.{Info, Features}
+use Rattle.ffa_notify.specs.declared.notices.TheConstants.{FFA_NOTIFICATION_INFO_GET}
 
 -- CONTEXTS
 

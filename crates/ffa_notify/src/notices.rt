@@ -3,7 +3,7 @@
 ghost use Rattle.std.specs.Prelude.{◌≡◌, ◌==◌, ◌&&◌, nat_lt};
 ghost use Rattle.ffa_model.specs.declared.limits.TheConstants.{MOST_PROCESSORS};
 ghost use Rattle.ffa_model.specs.Bits.{high_half, low_half};
-ghost use Rattle.ffa_spmc.specs.Noticed.{in_one_context, is_info_get, notice_asked, notice_in, with_one_context};
+ghost use Rattle.ffa_notify.specs.Noticed.{in_one_context, is_info_get, notice_asked, notice_in, with_one_context};
 
 use ffa_abi::low;
 use ffa_model::function::{
