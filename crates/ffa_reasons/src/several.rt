@@ -16,8 +16,8 @@ use ffa_spmc::{Cluster, Inline, Store};
 use ffa_tlb::{NoTlb, Translations};
 use std::marker::Model;
 
-/// A machine of several processors that tells why it refuses, with how many of them a trace may name, and what the normal world has
-/// been told of notifications.
+/// A machine of several processors that tells why it refuses, with how many of them a trace may name, and what the normal world
+/// has been told of notifications.
 #[derive(Drop)]
 pub struct ExplainedCluster<M: PhysMem + Drop, T: Translations + Drop = NoTlb, S: Store = Inline> {
     cluster: Cluster<M, T, S>,
@@ -45,8 +45,8 @@ impl<M: PhysMem + Drop, T: Translations + Drop, S: Store> Model for ExplainedClu
 }
 
 impl<M: PhysMem + Drop, T: Translations + Drop, S: Store> ExplainedCluster<M, T, S> {
-    /// The machine, of which a trace may name so many processors, from 0 on, before the normal world has been told of anything. The
-    /// others stay as they are.
+    /// The machine, of which a trace may name so many processors, from 0 on, before the normal world has been told of anything.
+    /// The others stay as they are.
     pub fn of(cluster: Cluster<M, T, S>, count: usize) -> ExplainedCluster<M, T, S>
         requires { count ≤ MOST_PROCESSORS }
         ensures { result ≡ record {
