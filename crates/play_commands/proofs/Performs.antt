@@ -77,7 +77,7 @@ could_read (Unmet n) = refl
 could_read other = tt
 
 module _ (o : PlayOptions) (manifest : Option (List ℕ)) (expected : Option (Option (List ℕ))) (streams : Streams) (parts : Parts) (source : HasParts o.source manifest parts) (task : KnownTask) (serves : IsTaskFor o.purpose expected task) where
-  begun : Bench
+  abbrev pub begun : Bench
   begun = begun_by o.machine.processors (first_of parts)
 
   leaving : {L : KnownTask → Bench → Type 0} → L task begun → Played o (opened manifest expected streams) L

@@ -25,7 +25,8 @@ impl<M: Machines, A: Allocator + Copy> Commands for Program<M, A> {
     /// Does what was asked for, and answers the status with which the program ends.
     ///
     /// All output goes to `out`, which is flushed, and to `err` a line that says why a command isn't done, with a second
-    /// line that says more where that is asked for; where there is no memory to find that, it is told alone. The status is 0
+    /// line that says more where that is asked for, below which stands the line of a trace or of a text that is no TOML in which
+    /// that is; where there is no memory to find that, it is told alone. The status is 0
     /// for a command that was done, 1 for a manifest that is refused, 2 for a line that is none of a trace, 3 where a file
     /// can't be read, `out` can't be written or memory is short, 4 where a trace prints another text than is expected, 5
     /// where a guard of the trace isn't met, and 64 where the words of a descriptor make no sense, or a picture would have more
@@ -56,7 +57,7 @@ impl<M: Machines, A: Allocator + Copy> Commands for Program<M, A> {
             → Keeps (E.contents err.old) (E.contents err.new) }
         ensures status { (result ≤ 5) ⊎ (result ≡ 64) }
     {
-        let reason = files.reason;
+        let (reason, manifest) = (files.reason, files.manifest);
         let mut notes = Notes::new(self.alloc, request.is_verbose());
         match self.do_request(request, files, out, err, &mut notes) {
             Ok(()) => {
@@ -65,7 +66,7 @@ impl<M: Machines, A: Allocator + Copy> Commands for Program<M, A> {
             }
             Err(failure) => {
                 let status = tell(err, &failure, &notes.guard);
-                tell_more(err, &notes.more_of(&failure, reason));
+                tell_more(err, &notes.more_of(&failure, reason), manifest);
                 status
             }
         }

@@ -3,8 +3,8 @@
 use Rattle.std.specs.Prelude.{◌≡◌, ℕ, Option, ⊤}
 use Rattle.play_syntax.specs.declared.output.PlayError.{PlayError}
 use Rattle.play_syntax.specs.declared.output.PlayError.TheVariants as play_error
-use Rattle.play_reasons.specs.declared.fault.LineFault.{LineFault}
 use Rattle.play_report.specs.declared.failure.Failure.{Failure}
+use Rattle.play_report.specs.declared.failure.LineFlaw.{LineFlaw}
 use Rattle.play_report.specs.declared.failure.Failure.TheVariants as failure
 
 -- the status with which the program ends
@@ -34,7 +34,7 @@ IsDifference failure.NoMemory = ⊤
 IsDifference other = ⊥
 
 -- the failure that a play's error is, with what is wrong with a bad line; `unread` is that of a trace that can't be read
-abbrev pub failure_of : Failure → Option LineFault → PlayError → Failure
+abbrev pub failure_of : Failure → Option LineFlaw → PlayError → Failure
 failure_of unread fault play_error.Read = unread
 failure_of unread fault play_error.Write = failure.Write
 failure_of unread fault play_error.NoMemory = failure.NoMemory
@@ -42,4 +42,4 @@ failure_of unread fault (play_error.BadLine n) = failure.BadLine n fault
 
 -- the same, with whatever is wrong with a bad line
 abbrev pub StopsFor : Failure → PlayError → Failure → Type 0
-StopsFor unread error stopped = (fault : Option LineFault) × (stopped ≡ failure_of unread fault error)
+StopsFor unread error stopped = (fault : Option LineFlaw) × (stopped ≡ failure_of unread fault error)

@@ -3,12 +3,20 @@
 ghost use Rattle.std.specs.Prelude.{◌≡◌};
 ghost use Rattle.play_report.specs.Failures.{StopsFor, failure_of, status_of};
 
+use crate::excerpt::Excerpt;
 use ffa_manifest::ManifestError;
 use play_descriptor::WordsFault;
 use play_reasons::{LineFault, line_fault};
 use play_syntax::PlayError;
 use play_writer::Unfit;
 use thiserror::Error;
+
+/// What is wrong with a bad line, and where it is shown in its text, where it is in some place of that.
+#[derive(Clone, Copy, Debug, PartialEq, Eq)]
+pub struct LineFlaw {
+    pub fault: LineFault,
+    pub excerpt: Option<Excerpt>,
+}
 
 /// Why a command isn't done.
 #[derive(Clone, Copy, Debug, PartialEq, Eq, Error)]
@@ -18,7 +26,7 @@ pub enum Failure<'a> {
     Manifest(ManifestError),
     /// The line of this number, counted from 1, is none of a trace. What is wrong with it is told where it was looked for.
     #[error("line {0}: bad line")]
-    BadLine(u64, Option<LineFault>),
+    BadLine(u64, Option<LineFlaw>),
     /// The file at this path can't be read.
     #[error("cannot read {0}")]
     Read(&'a str),
@@ -61,14 +69,14 @@ impl<'a> Failure<'a> {
     }
 
     /// Why a play of the trace at this path stopped, where this is wrong with the line at which it did.
-    pub fn of_play(path: &'a str, error: PlayError, fault: Option<LineFault>) -> Failure<'a>
-        ensures { result ≡ failure_of (Failure.Read path.entry) fault error }
+    pub fn of_play(path: &'a str, error: PlayError, flaw: Option<LineFlaw>) -> Failure<'a>
+        ensures { result ≡ failure_of (Failure.Read path.entry) flaw error }
     {
         match error {
             PlayError::Read => Failure::Read(path),
             PlayError::Write => Failure::Write,
             PlayError::NoMemory => Failure::NoMemory,
-            PlayError::BadLine(number) => Failure::BadLine(number, fault),
+            PlayError::BadLine(number) => Failure::BadLine(number, flaw),
         }
     }
 
@@ -81,6 +89,26 @@ impl<'a> Failure<'a> {
     ) -> Failure<'a>
         ensures { StopsFor (Failure.Read path.entry) error result }
     {
-        Failure::of_play(path, error, line_fault(processors, line))
+        let flaw = match (error, line_fault(processors, line)) {
+            (PlayError::BadLine(number), Some(fault)) => Some(flaw_of(number, line, fault)),
+            _ => None,
+        };
+        Failure::of_play(path, error, flaw)
     }
+}
+
+// What is wrong with the line of this number, as it stands in a trace.
+fn flaw_of(number: u64, line: &[u8], fault: LineFault) -> LineFlaw {
+    let text = line.strip_suffix(b"\n").unwrap_or(line);
+    let at = match fault {
+        LineFault::NoEnd => Some(text.len()),
+        LineFault::CarriageReturn => Some(text.len().saturating_sub(1)),
+        LineFault::Words { column, cause: _ } => Some(column.saturating_sub(1)),
+        LineFault::Whole => None,
+    };
+    let excerpt = match at {
+        Some(at) => Some(Excerpt::of_line(number, text, at)),
+        None => None,
+    };
+    LineFlaw { fault, excerpt }
 }

@@ -6,6 +6,7 @@
 mod counts;
 mod descriptor;
 mod difference;
+mod excerpt;
 mod failure;
 pub mod layout;
 mod manifest;
@@ -19,7 +20,8 @@ mod unmet;
 pub use counts::print_counts;
 pub use descriptor::describe;
 pub use difference::Difference;
-pub use failure::Failure;
+pub use excerpt::Excerpt;
+pub use failure::{Failure, LineFlaw};
 pub use manifest::{accept, lay_out, read_manifest};
 pub use notes::{More, Notes};
 pub use picture::print_picture;

@@ -2,9 +2,10 @@
 //! What is noted while a command is done, for what is told where it isn't.
 ghost use Rattle.std.specs.Prelude.{◌≡◌, is_some, true};
 
-use crate::failure::Failure;
+use crate::excerpt::Excerpt;
+use crate::failure::{Failure, LineFlaw};
+use ffa_manifest::refusal::Found;
 use ffa_manifest::{ManifestError, ManifestRefusal};
-use play_reasons::LineFault;
 use std::alloc::Allocator;
 use std::fmt::{self, Display};
 use std::io::ErrorKind;
@@ -18,7 +19,7 @@ pub enum More {
     /// Where the manifest is no text.
     Bytes(Utf8Error),
     /// What is wrong with the line.
-    Line(LineFault),
+    Line(LineFlaw),
     /// Why the file can't be read.
     File(ErrorKind),
 }
@@ -28,9 +29,25 @@ impl Display for More {
         match self {
             More::Place(refusal) => write!(f, "{refusal}"),
             More::Bytes(error) => write!(f, "{error}"),
-            More::Line(fault) => write!(f, "{fault}"),
+            More::Line(flaw) => write!(f, "{}", flaw.fault),
             More::File(reason) => write!(f, "{reason}"),
         }
+    }
+}
+
+impl More {
+    /// The line in which that is, where it is in one: of the bytes of the manifest, or of the trace.
+    pub fn excerpt(&self, manifest: Option<&[u8]>) -> Option<Excerpt> {
+        let at = match self {
+            More::Place(refusal) => match &refusal.place.found {
+                Found::NoToml { at, .. } => *at,
+                _ => None,
+            },
+            More::Bytes(error) => Some(error.valid_up_to()),
+            More::Line(flaw) => return flaw.excerpt,
+            More::File(_) => None,
+        };
+        Some(Excerpt::of_text(manifest?, at?))
     }
 }
 
@@ -68,7 +85,7 @@ impl<A: Allocator> Notes<A> {
         }
         match (failure, reason) {
             (Failure::Manifest(_), _) => self.manifest,
-            (Failure::BadLine(_, Some(fault)), _) => Some(More::Line(*fault)),
+            (Failure::BadLine(_, Some(flaw)), _) => Some(More::Line(*flaw)),
             (Failure::Read(_), Some(reason)) => Some(More::File(reason)),
             _ => None,
         }

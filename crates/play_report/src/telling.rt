@@ -38,9 +38,12 @@ pub fn tell<E: Write>(err: &mut E, failure: &Failure<'_>, told: &[u8]) -> u8
     failure.status()
 }
 
-/// Says what more there is to say.
-pub fn tell_more<E: Write>(err: &mut E, more: &Option<More>) {
+/// Says what more there is to say, and shows the line in which that is, of the bytes of the manifest or of the trace.
+pub fn tell_more<E: Write>(err: &mut E, more: &Option<More>, manifest: Option<&[u8]>) {
     if let Some(more) = more {
         let _ = writeln!(err, "ffaplay: {more}");
+        if let Some(excerpt) = more.excerpt(manifest) {
+            let _ = writeln!(err, "{excerpt}");
+        }
     }
 }

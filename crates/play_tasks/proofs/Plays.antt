@@ -11,7 +11,7 @@ use Rattle.play_player.specs.Played.{Played}
 use Rattle.play_syntax.specs.declared.output.PlayError.{PlayError}
 use Rattle.play_syntax.specs.declared.output.PlayError.TheVariants as play_error
 use Rattle.play_forms.specs.declared.form.Form.{Form}
-use Rattle.play_reasons.specs.declared.fault.LineFault.{LineFault}
+use Rattle.play_report.specs.declared.failure.LineFlaw.{LineFlaw}
 use Rattle.play_forms.specs.Compared.{Compared, NeverPrints, StopsInLast, unexplained}
 use Rattle.play_forms.specs.Followed as followed
 use Rattle.play_forms.specs.Forms.{plain, text_in}
@@ -131,7 +131,7 @@ played_to start now held holds had has n (lines, bad, more, did, consumed, numbe
       never_strict,
     )
 
-pub play_failed : (start now : Bench) (held holds had has : Option (List ℕ)) (path : Bor (List ℕ)) (fault : Option LineFault) (error : PlayError)
+pub play_failed : (start now : Bench) (held holds had has : Option (List ℕ)) (path : Bor (List ℕ)) (fault : Option LineFlaw) (error : PlayError)
     → Played {X = Unit {0}} start now held holds had has (Err error) → PlayFails Plain path start (passed had held holds) (failure_of (Read path) fault error)
 play_failed start now held holds had has path fault play_error.Read (lines, more, did, consumed, counted, ended) =
     inl ((lines, (did.each, (prepend_known more has, before_read had has (joined lines) more consumed)), written_plainly start held holds lines did.written, never_strict), refl)
@@ -160,7 +160,7 @@ formed_whole x form start now held holds had has bytes (left, lines, said, f, en
   guards = never_strict;
 }
 
-pub formed_failed : (form : Form) (start now : Bench) (held holds had has : Option (List ℕ)) (bytes : List ℕ) (path : Bor (List ℕ)) (fault : Option LineFault) (error : PlayError)
+pub formed_failed : (form : Form) (start now : Bench) (held holds had has : Option (List ℕ)) (bytes : List ℕ) (path : Bor (List ℕ)) (fault : Option LineFlaw) (error : PlayError)
     → followed.PlayedIn {X = Unit {0}} form start now held holds had has bytes (Err error)
     → PlayFails (Formed form) path start (passed had held holds) (failure_of (Read path) fault error)
 formed_failed form start now held holds had has bytes path fault play_error.Read (left, lines, said, f, unended, written) =
@@ -184,7 +184,7 @@ pub drawn_over : (A : Type 0) (large : TooLarge) (keep : Keep) (start now : Benc
 drawn_over A large keep start now held had has bytes (left, lines, said, f, is) =
     (lines, (f.each, (left, f.read)), subst (λ (b : Bench). IsTooLarge (Unit {0}) keep start b.state lines (record { most = large.most })) f.state (bare_large keep start now.state lines large is), kept held)
 
-pub drawn_failed : (A : Type 0) (keep : Keep) (width : ℕ) (start now : Bench) (held had has : Option (List ℕ)) (bytes : List ℕ) (path : Bor (List ℕ)) (fault : Option LineFault) (error : PlayError)
+pub drawn_failed : (A : Type 0) (keep : Keep) (width : ℕ) (start now : Bench) (held had has : Option (List ℕ)) (bytes : List ℕ) (path : Bor (List ℕ)) (fault : Option LineFlaw) (error : PlayError)
     → Pictured {A = A} keep start now had has bytes (Err error) → PlayFails (Drawn keep width) path start (passed had held held) (failure_of (Read path) fault error)
 drawn_failed A keep width start now held had has bytes path fault play_error.Read p = inl (kept held, refl)
 drawn_failed A keep width start now held had has bytes path fault play_error.Write p = absurd p
@@ -194,7 +194,7 @@ drawn_failed A keep width start now held had has bytes path fault (play_error.Ba
 pub paged_whole : {A : Type 0} (page : Page A) (start now : Bench) (had has : Option (List ℕ)) (bytes : List ℕ) → Paging start now had has bytes (Ok page) → IsDrawn (processors_of start) had
 paged_whole page start now had has bytes (left, lines, said, f, is) = record { lines = lines; each = f.each; all = all_consumed had left (joined lines) f.read is.whole }
 
-pub paged_failed : (A : Type 0) (start now : Bench) (held had has : Option (List ℕ)) (bytes : List ℕ) (path : Bor (List ℕ)) (fault : Option LineFault) (error : PlayError)
+pub paged_failed : (A : Type 0) (start now : Bench) (held had has : Option (List ℕ)) (bytes : List ℕ) (path : Bor (List ℕ)) (fault : Option LineFlaw) (error : PlayError)
     → Paging {A = A} start now had has bytes (Err error) → PlayFails Paged path start (passed had held held) (failure_of (Read path) fault error)
 paged_failed A start now held had has bytes path fault play_error.Read p = inl (kept held, refl)
 paged_failed A start now held had has bytes path fault play_error.Write p = absurd p
@@ -245,7 +245,7 @@ pub breach_told : (form : Form) (path : Bor (List ℕ)) (start : Bench) (streams
 breach_told form path start streams n unmet failure (inl is) = subst (PlayFails (Guarded form) path start streams) (sym is) unmet
 breach_told form path start streams n unmet failure (inr is) = subst (PlayFails (Guarded form) path start streams) (sym is) tt
 
-pub guarded_failed : (form : Form) (start now : Bench) (held holds had has : Option (List ℕ)) (line found : List ℕ) (met : ℕ) (near : List ℕ) (path : Bor (List ℕ)) (fault : Option LineFault) (error : PlayError)
+pub guarded_failed : (form : Form) (start now : Bench) (held holds had has : Option (List ℕ)) (line found : List ℕ) (met : ℕ) (near : List ℕ) (path : Bor (List ℕ)) (fault : Option LineFlaw) (error : PlayError)
     → GuardedIn form start now held holds had has line found met near (Err error)
     → PlayFails (Guarded form) path start (passed had held holds) (failure_of (Read path) fault error)
 guarded_failed form start now held holds had has line found met near path fault play_error.Read (left, lines, said, f, unended, written, are_met, counts) =
@@ -300,7 +300,7 @@ sifted_ended x form start now held holds had has line met near unmet sifted path
 sifted_ended x form start now held holds had has line met near unmet sifted path (Err (Unfit cause)) is = absurd cc
 sifted_ended x form start now held holds had has line met near unmet sifted path (Err (TooManyRows most)) is = absurd cc
 
-pub sifted_failed : (form : Form) (start now : Bench) (held holds had has : Option (List ℕ)) (line : List ℕ) (met : ℕ) (near unmet : List ℕ) (path : Bor (List ℕ)) (fault : Option LineFault) (error : PlayError)
+pub sifted_failed : (form : Form) (start now : Bench) (held holds had has : Option (List ℕ)) (line : List ℕ) (met : ℕ) (near unmet : List ℕ) (path : Bor (List ℕ)) (fault : Option LineFlaw) (error : PlayError)
     → SiftedIn {X = Unit {0}} form start now held holds had has line met near unmet (Err error)
     → PlayFails (GuardedToEnd form) path start (passed had held holds) (failure_of (Read path) fault error)
 sifted_failed form start now held holds had has line met near unmet path fault play_error.Read (left, lines, said, f, unended, written, sift) =
@@ -321,7 +321,7 @@ recorded_whole x start now held holds had has bytes (left, lines, said, f, ended
   replays = replays;
 }
 
-pub recorded_failed : (start now : Bench) (held holds had has : Option (List ℕ)) (bytes : List ℕ) (path : Bor (List ℕ)) (fault : Option LineFault) (error : PlayError)
+pub recorded_failed : (start now : Bench) (held holds had has : Option (List ℕ)) (bytes : List ℕ) (path : Bor (List ℕ)) (fault : Option LineFlaw) (error : PlayError)
     → RecordedIn {X = Unit {0}} start now held holds had has bytes (Err error)
     → PlayFails Recorded path start (passed had held holds) (failure_of (Read path) fault error)
 recorded_failed start now held holds had has bytes path fault play_error.Read (left, lines, said, f, unended, written, replays) =
@@ -347,7 +347,7 @@ cut_short form start now had has wants unread bytes said wanted n (printed, more
     (e.lines, ends_badly (unexplained form) start now had printed bytes n e, (more, subst (Consumes wants more) e.followed.said alike))
 
 module _ (form : Form) (start now : Bench) (had has unread held : Option (List ℕ)) (expected : Expected (Option (List ℕ))) (bytes said wanted : List ℕ) where
-  pub compared_failed : (path : Bor (List ℕ)) (fault : Option LineFault) (error : PlayError) → Compared form start now had has expected.reader unread bytes said wanted (Err (compare_error.Play error))
+  pub compared_failed : (path : Bor (List ℕ)) (fault : Option LineFlaw) (error : PlayError) → Compared form start now had has expected.reader unread bytes said wanted (Err (compare_error.Play error))
       → PlayFails (Compare expected form) path start (passed had held held) (failure_of (Read path) fault error)
   compared_failed path fault play_error.Read (left, lines, printed, more, alike, f, unended) =
       inl (((lines, (f.each, (left, f.read)), (more, subst (Consumes expected.reader more) f.said alike)), kept held), refl)
@@ -407,7 +407,7 @@ held_whole x form start now held holds had has (left, lines, said, heard, inl en
 held_whole x form start now held holds had has (left, lines, said, heard, inr (rest, single, some, all), written) =
     held_of form start now held holds had left lines said rest heard written single all
 
-pub held_failed : (form : Form) (start now : Bench) (held holds had has : Option (List ℕ)) (path : Bor (List ℕ)) (fault : Option LineFault) (error : PlayError)
+pub held_failed : (form : Form) (start now : Bench) (held holds had has : Option (List ℕ)) (path : Bor (List ℕ)) (fault : Option LineFlaw) (error : PlayError)
     → SessionIn {X = Unit {0}} form start now held holds had has (Err error) → PlayFails (Session form) path start (passed had held holds) (failure_of (Read path) fault error)
 held_failed form start now held holds had has path fault play_error.Read (left, lines, said, heard, unended, written) =
     inl ((lines, heard.each, (left, heard.read), subst (Appends held holds) heard.said written), refl)
