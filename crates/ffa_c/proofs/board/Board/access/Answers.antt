@@ -2,6 +2,7 @@
 use Rattle.std.proofs.Common.{ap, sym, ◌∙◌}
 use Rattle.ffa_model.specs.Access.{access}
 use Rattle.ffa_spmc.specs.Snapshot.{Snapshot}
+use Rattle.ffa_c.specs.declared.kind.BoardMachine.{BoardMachine}
 use Rattle.ffa_c.specs.Boarded.{Boarded, boarded}
 use Rattle.ffa_c.specs.Border.{access_code}
 use Rattle.ffa_c.proofs.board.Board.access.Goals as goal
@@ -10,10 +11,12 @@ pub returns-in-Heap : goal.returns-in-Heap
 returns-in-Heap c =
     c.code_of.ensures ∙ (ap access_code c.access.ensures
     ∙ ap (λ (x : Snapshot). access_code (access x.state c.args.endpoint c.args.page)) c.machine-machine.ensures
-    ∙ ap (λ (b : Boarded). access_code (access b.machine.state c.args.endpoint c.args.page)) (ap boarded (sym c.in-Heap.is) ∙ c.self.view_is))
+    ∙ ap (λ (b : Boarded). access_code (access b.machine.state c.args.endpoint c.args.page))
+    (ap (λ (kind : BoardMachine). boarded kind c.self.inside.notices) (sym c.in-Heap.is) ∙ c.self.view_is))
 
 pub returns-in-Lent : goal.returns-in-Lent
 returns-in-Lent c =
     c.code_of-in-Lent.ensures ∙ (ap access_code c.access-in-Lent.ensures
     ∙ ap (λ (x : Snapshot). access_code (access x.state c.args.endpoint c.args.page)) c.machine-machine-in-Lent.ensures
-    ∙ ap (λ (b : Boarded). access_code (access b.machine.state c.args.endpoint c.args.page)) (ap boarded (sym c.in-Lent.is) ∙ c.self.view_is))
+    ∙ ap (λ (b : Boarded). access_code (access b.machine.state c.args.endpoint c.args.page))
+    (ap (λ (kind : BoardMachine). boarded kind c.self.inside.notices) (sym c.in-Lent.is) ∙ c.self.view_is))
