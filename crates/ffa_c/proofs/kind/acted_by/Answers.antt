@@ -6,20 +6,20 @@ use Rattle.ffa_c.proofs.kind.acted_by.Goals as goal
 
 pub returns-clause-done : goal.returns-clause-done
 returns-clause-done g c = record {
-  outcome = c.of.ensures ∙ ap packed c.op_as.ensures.outcome;
-  state = c.op_as.ensures.state;
-  agrees = c.op_as.ensures.agrees;
-  refused = λ r. c.op_as.ensures.refused (ap is_refusal c.op_as.ensures.outcome ∙ r);
-  unowned = c.op_as.ensures.unowned;
-  moments = c.op_as.ensures.moments;
-  mixtures = c.op_as.ensures.mixtures;
-  telling = c.op_as.ensures.telling;
-  sound = c.op_as.ensures.sound;
-  alone = c.op_as.ensures.step;
-  whole = c.op_as.ensures.integrity;
-  silence = c.op_as.ensures.silence;
-  confidential = c.op_as.ensures.confidential;
-  never_grow = c.op_as.ensures.never_grow;
-  own_access = c.op_as.ensures.own_access;
-  only_writers = c.op_as.ensures.only_writers;
+  outcome = c.of.ensures ∙ ap packed c.op_as-outcome.ensures.outcome;
+  state = c.op_as-outcome.ensures.state;
+  agrees = c.op_as-outcome.ensures.agrees;
+  refused = λ r. c.op_as-outcome.ensures.refused (ap is_refusal c.op_as-outcome.ensures.outcome ∙ r);
+  unowned = c.op_as-outcome.ensures.unowned;
+  moments = c.op_as-outcome.ensures.moments;
+  mixtures = c.op_as-outcome.ensures.mixtures;
+  telling = c.op_as-outcome.ensures.telling;
+  sound = c.op_as-outcome.ensures.sound;
+  alone = c.op_as-outcome.ensures.step;
+  whole = c.op_as-outcome.ensures.integrity;
+  silence = c.op_as-outcome.ensures.silence;
+  confidential = c.op_as-outcome.ensures.confidential;
+  never_grow = c.op_as-outcome.ensures.never_grow;
+  own_access = c.op_as-outcome.ensures.own_access;
+  only_writers = c.op_as-outcome.ensures.only_writers;
 }
