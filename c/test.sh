@@ -111,8 +111,10 @@ plays() {
         *:generated) cat "$to/generated" ;;
         *) printf '# a NUL: \0\n' && cat "$top/examples/${pair#*:}.trace" && echo audit ;;
         esac >"$to/trace"
-        "$player" run "$machine" "$to/trace" >"$to/expected"
         for kind in heap lent several; do
+            local of=()
+            if [[ $kind == several ]]; then of=(--processors 1); fi
+            "$player" run "${of[@]}" "$machine" "$to/trace" >"$to/expected"
             "$@" $kind "$machine" "$to/trace" >"$to/played"
             cmp "$to/expected" "$to/played" || { echo "$name: $kind: $pair differs" >&2; exit 1; }
         done

@@ -57,7 +57,7 @@ def test_says_what_is_wrong_with_a_line(line: str, why: str) -> None:
 def test_says_it_as_the_program_does(program: Program, line: str, why: str) -> None:
     done = program("demo", "--verbose", "-", text=f"show\n{line}\n".encode())
     assert done.returncode == 2
-    told = done.stderr.decode().splitlines()[-1].removeprefix("ffaplay: ")
+    told = [row for row in done.stderr.decode().splitlines() if row.startswith("ffaplay: ")][-1].removeprefix("ffaplay: ")
     with pytest.raises(BadLine) as wrong:
         parse(line)
     assert str(wrong.value) == told
