@@ -82,6 +82,17 @@ impl Told {
         }
     }
 
+    // The same once more.
+    pub(crate) fn copy(&self) -> Told
+        ensures { result ≡ self.now }
+    {
+        Told {
+            is_told: self.is_told,
+            ranges: self.ranges.copy(),
+            endpoint: self.endpoint,
+        }
+    }
+
     // What was told, which is told no more.
     fn take(&mut self) -> Option<Changed>
         ensures told { result ≡ self.old }

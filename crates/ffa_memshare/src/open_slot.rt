@@ -75,6 +75,16 @@ impl OpenSlot {
         self.transaction.fill(transaction);
     }
 
+    // Becomes the same as another.
+    pub(crate) fn copy_from(&mut self, other: &OpenSlot)
+        ensures { self.new ≡ other.now }
+    {
+        match other.get() {
+            Some(open) => self.open(open),
+            None => self.close(),
+        }
+    }
+
     // Says which right an endpoint holds of the transaction that is open, or that it holds none.
     pub(crate) fn set_held(&mut self, endpoint: EndpointId, right: Option<Rights>)
         requires known { identifier (place endpoint.0) ≡ endpoint.0 }

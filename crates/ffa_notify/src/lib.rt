@@ -6,6 +6,7 @@ mod bitmaps;
 mod calls;
 mod checks;
 mod class;
+mod copy;
 mod first;
 mod mends;
 pub mod notices;

@@ -108,6 +108,16 @@ impl<P: Room<KeptPage> + Drop> PageTable<P> {
         }
     }
 
+    /// Becomes the same as another table of as many pages, wherever that one lies.
+    pub fn copy_from<Q: Room<KeptPage> + Drop>(&mut self, other: &PageTable<Q>)
+        requires { length self.old ≡ length other.now }
+        ensures { self.new ≡ other.now }
+    {
+        for page in 0..other.pages() {
+            self.put(PageNo(page), other.entry(PageNo(page)));
+        }
+    }
+
     /// The number of pages.
     pub fn pages(&self) -> u32
         ensures count { result ≡ length self.now }

@@ -69,6 +69,17 @@ impl Buffers {
         Buffers { entries }
     }
 
+    /// The same buffers once more. It takes no memory.
+    pub fn copy(&self) -> Buffers
+        ensures { result ≡ self.now }
+    {
+        let mut entries = ArrayVec::new();
+        for entry in self.entries.as_slice() {
+            entries.push(*entry);
+        }
+        Buffers { entries }
+    }
+
     /// The buffers of an endpoint, if it has mapped any. An identifier that is no endpoint's is read at its place, so
     /// each up to 0x8000 as the normal world's.
     pub fn of(&self, endpoint: EndpointId) -> Option<Mapped>

@@ -71,6 +71,17 @@ impl Chain {
         }
     }
 
+    /// The same chains once more. It takes no memory.
+    pub fn copy(&self) -> Chain
+        ensures { result ≡ self.now }
+    {
+        Chain {
+            runner: self.runner,
+            statuses: copied(&self.statuses),
+            works: copied(&self.works),
+        }
+    }
+
     /// The endpoint that runs.
     pub fn runner(&self) -> EndpointId
         ensures runner { result.0 ≡ self.now.runner }
@@ -273,4 +284,15 @@ fn reply_with(function: u32, partition: EndpointId) -> Reply
         function,
         partition,
     }
+}
+
+// The same items once more.
+fn copied<T: Copy + Default, const MOST: usize>(list: &ArrayVec<T, MOST>) -> ArrayVec<T, MOST>
+    ensures { result ≡ list.now }
+{
+    let mut copy = ArrayVec::new();
+    for item in list.as_slice() {
+        copy.push(*item);
+    }
+    copy
 }

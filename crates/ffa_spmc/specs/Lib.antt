@@ -6,6 +6,7 @@ pub mod Cached
 pub mod Caching
 pub mod Owners
 pub mod Storages
+pub mod Copies
 pub mod FirstRecords
 pub mod KeptParts
 pub mod Meaning

@@ -17,6 +17,7 @@ ghost use Rattle.ffa_spmc.specs.Mixtures.{TablesRest};
 ghost use Rattle.ffa_spmc.specs.Storages.{IsRoomFor};
 
 mod among;
+mod copy;
 mod here;
 mod lists;
 mod noticing;

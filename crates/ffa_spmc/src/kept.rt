@@ -63,4 +63,32 @@ impl<S: Store> Kept<S> {
             chain: Chain::first(manifest.endpoints.len()),
         }
     }
+
+    /// The same once more, in this room.
+    #[inline(always)]
+    pub fn copy_in<R: Store>(&self, storage: Storage<R>) -> Kept<R>
+        requires pages { length storage.pages ≡ length self.now.pages }
+        requires endpoints { length storage.pool.sent ≡ length self.now.pool.sent }
+        ensures records { R.Records.value result.records ≡ S.Records.value self.now.records }
+        ensures pages { result.pages ≡ self.now.pages }
+        ensures pool { result.pool ≡ self.now.pool }
+        ensures buffers { result.buffers ≡ self.now.buffers }
+        ensures chain { result.chain ≡ self.now.chain }
+    {
+        let Storage {
+            mut pages,
+            mut pool,
+            mut records,
+        } = storage;
+        pages.copy_from(&self.pages);
+        pool.copy_from(&self.pool);
+        *records.get_mut() = self.records.get().copy();
+        Kept {
+            records,
+            pages,
+            pool,
+            buffers: self.buffers.copy(),
+            chain: self.chain.copy(),
+        }
+    }
 }

@@ -34,6 +34,7 @@ ghost use Rattle.ffa_spmc.specs.Unowned.{KeepsUnowned};
 mod accesses;
 mod among;
 mod certificates;
+mod copy;
 mod elsewhere;
 mod interrupts;
 mod parts;

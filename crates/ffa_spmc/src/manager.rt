@@ -26,6 +26,7 @@ mod accesses;
 mod buffers;
 mod certificates;
 mod clearing;
+mod copy;
 mod forgetting;
 mod memory;
 mod messages;

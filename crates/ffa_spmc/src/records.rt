@@ -1,5 +1,6 @@
 // SPDX-License-Identifier: MIT OR Apache-2.0
 //! What is large of what a machine keeps, but for what it keeps of pages and open transactions.
+ghost use Rattle.std.specs.Prelude.{◌≡◌};
 ghost use Rattle.ffa_spmc.specs.FirstRecords.{AreFirstRecords};
 
 use arrayvec::ArrayVec;
@@ -27,6 +28,17 @@ impl Records {
             manifest: manifest.copy(),
             layout: Layout::of(manifest),
             bitmaps: Bitmaps::of(manifest),
+        }
+    }
+
+    /// The same records once more. It takes no memory.
+    pub(crate) fn copy(&self) -> Records
+        ensures { result ≡ self.now }
+    {
+        Records {
+            manifest: self.manifest.copy(),
+            layout: self.layout.copy(),
+            bitmaps: self.bitmaps.copy(),
         }
     }
 

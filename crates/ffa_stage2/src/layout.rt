@@ -30,6 +30,17 @@ impl Regions {
         }
         Regions { list }
     }
+
+    // The same regions once more.
+    fn copy(&self) -> Regions
+        ensures { result ≡ self.now }
+    {
+        let mut list = ArrayVec::new();
+        for region in self.list.as_slice() {
+            list.push(*region);
+        }
+        Regions { list }
+    }
 }
 
 /// What the tables are built from: the RAM's place and size, and each endpoint's regions with its rights to them. The
@@ -66,6 +77,21 @@ impl Layout {
         Layout {
             base: manifest.ram_base,
             blocks: manifest.ram_blocks,
+            regions,
+        }
+    }
+
+    /// The same layout once more. It takes no memory.
+    pub fn copy(&self) -> Layout
+        ensures { result ≡ self.now }
+    {
+        let mut regions = ArrayVec::new();
+        for own in self.regions.as_slice() {
+            regions.push(own.copy());
+        }
+        Layout {
+            base: self.base,
+            blocks: self.blocks,
             regions,
         }
     }

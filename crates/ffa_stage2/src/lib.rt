@@ -9,4 +9,4 @@ pub mod tables;
 
 pub use layout::{Layout, Regions};
 pub use runs::is_uniform;
-pub use tables::{build, built_tables, leaf, set_page, set_pages};
+pub use tables::{build, built_tables, leaf, set_page, set_pages, settle_tables};

@@ -202,6 +202,17 @@ fn settle_all<M: PhysMem>(memory: &mut M, layout: &Layout)
     }
 }
 
+/// Has built tables settled, as they are once they were copied to a RAM: whatever walks read while they were written is settled,
+/// so behind it they are at rest.
+pub fn settle_tables<M: PhysMem>(memory: &mut M, layout: &Layout)
+    requires { (access : ℕ → ℕ → Option Rights) × IsBuiltFor layout.now (M.ram memory.old) access }
+    ensures ram { M.ram memory.new ≡ M.ram memory.old }
+    ensures at_rest { 0 < array_vec_len layout.now.regions
+        → RestIn (M.ram memory.new) (array_vec_len layout.now.regions) layout.now.blocks (M.past memory.new) }
+{
+    settle_all(memory, layout);
+}
+
 /// Builds the tables of all endpoints, where each has the rights of its regions and no other, in a RAM that stands
 /// where the layout says. No page behind the table pages changes. Whatever walks read while tables were built is settled, so
 /// behind it the tables are at rest.
