@@ -80,6 +80,12 @@ build() {
 # Where each endpoint begins, and what x0 tells it there: Linux is told of the device tree.
 list_endpoints() { printf '%s %s %s\n' 0 $image_at $tree_at 8001 $first_at 0 8002 $second_at 0 8003 $third_at 0; }
 
+# What Linux and the firmware said. A line of Linux's, which ends with a carriage return, goes on behind a line of the firmware's.
+lines_of_linux() {
+    awk '/^[><] / { next } /^[#=!] / { print; next } { open = open $0 } sub(/\r$/, "", open) { print open; open = "" } END { if (open) print open }' \
+        "$to/uart" | tr -d '\r'
+}
+
 # Runs Linux, and parts what was printed: run NAME FIRMWARE WORD.., of which the words are the emulator's
 run() {
     local devices name=$1 firmware=$2
@@ -96,7 +102,7 @@ run() {
     )
     emulate -kernel "$to/$firmware.elf" -machine virt,virtualization=on,gic-version=3 -m 256M "$@" "${devices[@]}"
     emulated=$SECONDS
-    tr -d '\r' <"$to/uart" | sed -E '/^[><] /d' >"$to/linux"
+    lines_of_linux >"$to/linux"
     "${judge[@]}" "$to/manifest" "$to/trace" >"$to/expected" || fail "$name: the program doesn't play what Linux did"
     if [[ $keep ]]; then keep_run "$name"; fi
 }
@@ -155,9 +161,21 @@ try_random() {
     grep -o 'random: [0-9].*' "$to/linux"
 }
 
+# What was done, each with what came of it.
+with_outcomes() { paste -d '|' <(grep -v '^on ' "$to/trace") "$to/found"; }
+
+# Whom FFA_NOTIFICATION_INFO_GET named; Linux's driver says of NO_DATA that it failed, which it compares in 64 bits.
+named() {
+    with_outcomes | awk -F '|' '
+        $1 !~ /^call C4000083/ { next }
+        $2 ~ /^regs 0000 0000000084000060/ { nobody++; next }
+        { named++; split($2, words, " "); partition += words[6] ~ /8001/ }
+        END { printf "whom to run was told %d times, of these %d times 8001, and %d times there was nobody", named, partition, nobody }'
+}
+
 # How many calls of Linux's were answered that somebody is busy. They are those that may be: requests, cycles and messages.
 busy() {
-    paste -d '|' <(grep -v '^on ' "$to/trace") "$to/found" | awk -F '|' '
+    with_outcomes | awk -F '|' '
         $2 !~ /^regs 0000 0000000084000060 0000000000000000 00000000FFFFFFFC / { next }
         $1 ~ /^call (C400006F|8400006F|8400006D|84000086)( |$)/ { busy++; next }
         { print "busy: " $1 >"/dev/stderr"; others++ }
@@ -169,14 +187,15 @@ busy() {
 try_several() {
     local judge=("$player" run --processors "$1") redistributors found
     redistributors=$(printf %X $((0x20000 * $1)))
-    build_tree smc "$1" ffa_try.works=20 "ffa_try.random=$rounds"
+    build_tree smc "$1" ffa_try.schedules=1 ffa_try.works=20 "ffa_try.random=$rounds"
     limit=1800 run "$1-processors" several -cpu "$2" -smp "$1" -accel tcg,thread=multi
-    judge "$1-processors" linux driver held 6.12 "$1-processors" works random
+    judge "$1-processors" linux driver held 6.12 "$1-processors" notifications scheduled works random
     grep -o 'works: [0-9].*' "$to/linux"
     grep -o 'random: [0-9].*' "$to/linux"
+    if grep -E 'Notification (bitmap|setup)|Failed to retrieve' "$to/linux" >&2; then fail "$1-processors: Linux's driver can't notify"; fi
     found=$(busy) || fail "$1-processors: a call is busy that names no partition"
     echo "$1-processors: $(grep -c '^interrupt' "$to/trace") interrupts of partitions, $(grep -c '^resumed' "$to/found") times one went on;" \
-        "$found calls were busy; $(sed -n 's/^# interrupts.*; \(faults .*\)/\1/p' "$to/linux")"
+        "$found calls were busy; $(named); $(sed -n 's/^# interrupts.*; \(faults .*\)/\1/p' "$to/linux")"
 }
 
 all_several() {

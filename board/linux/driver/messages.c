@@ -10,6 +10,7 @@
 #include "try.h"
 
 #define NOTIFICATION 3
+#define WAITED_FOR 100 /* times 20 ms */
 
 static void try_requests(void)
 {
@@ -59,7 +60,9 @@ int drop_notification(int id)
 static void try_cycles(void)
 {
 	tell("a partition that yields three times first", ask_of(WORK_YIELD, 3, 0), 0);
+	begin_request(partner);
 	tell("cycles, which the partition gives back", partner->ops->cpu_ops->run(partner, 0), 0);
+	end_request(partner);
 }
 
 static void try_indirect(void)
@@ -71,40 +74,82 @@ static void try_indirect(void)
 
 	for (i = 0; i < sizeof(message); i++)
 		sum += message[i];
+	begin_message();
 	tell("the partition listens", ask_of(WORK_LISTEN, 0, 0), 0);
 	tell("indirect message", send_message(partner, message, sizeof(message)), 0);
 	tell("and another, before it was taken",
 	     send_message(partner, message, sizeof(message)), -EBUSY);
 	tell("the partition takes it", ask(partner, WORK_TAKE, &data), 0);
 	tell("its bytes", data.data1 == sum && data.data2 == sizeof(message), 1);
+	end_message();
 }
 
 static unsigned int came;
 
 static void on_notification(int id, void *data)
 {
-	came += id == NOTIFICATION;
+	WRITE_ONCE(came, came + (id == NOTIFICATION));
+}
+
+/* How often it came, when it has come so often or is waited for no more. */
+static unsigned int wait_for(unsigned int times)
+{
+	unsigned int i;
+
+	for (i = 0; i < WAITED_FOR && READ_ONCE(came) < times; i++)
+		msleep(20);
+	return READ_ONCE(came);
 }
 
 /* What the partition sets comes to Linux, and what it isn't bound to any more doesn't. */
 static void try_received(void)
 {
 	tell("the partition sets it", ask_of(WORK_NOTIFY, BIT(NOTIFICATION), 0), 0);
-	msleep(20);
-	tell("so often it came", came, 1);
+	tell("so often it came", wait_for(1), 1);
 	tell("it isn't wanted any more", drop_notification(NOTIFICATION), 0);
 	tell("the partition can't set it now",
 	     ask_of(WORK_NOTIFY, BIT(NOTIFICATION), 0), REFUSED_DENIED);
 }
 
-static void try_sent(const struct ffa_notifier_ops *ops)
+static void try_sent(void)
 {
 	struct ffa_send_direct_data data = {};
 
 	tell("the partition wants one", ask_of(WORK_BIND, BIT(NOTIFICATION), 0), 0);
-	tell("notification, sent", ops->notify_send(partner, NOTIFICATION, false, 0), 0);
+	tell("notification, sent", send_notification(NOTIFICATION), 0);
 	tell("the partition looks", ask(partner, WORK_LOOK, &data), 0);
 	tell("the partition has it", data.data1, BIT(NOTIFICATION));
+}
+
+/* The partition is run for a message, and takes it then. */
+static void try_message_for_run(void)
+{
+	struct ffa_send_direct_data data = {};
+	unsigned int i;
+
+	tell("message, for which the partition is run", send_message(partner, "run", 4), 0);
+	for (i = 0; i < WAITED_FOR && !data.data2; i++) {
+		msleep(20);
+		ask(partner, WORK_TOLD, &data);
+	}
+	tell("so many bytes did it take then", data.data2, 4);
+}
+
+/* The partition waits, and is run for it: it has it, and tells it back. */
+static void try_scheduled(void)
+{
+	struct ffa_send_direct_data data = {};
+	int error = want_notification(NOTIFICATION, on_notification, NULL);
+
+	tell("notification, asked for again", error, 0);
+	tell("the partition wants one", ask_of(WORK_BIND, BIT(NOTIFICATION), 0), 0);
+	tell("it had none before", ask(partner, WORK_TOLD, &data), 0);
+	tell("notification, sent", send_notification(NOTIFICATION), 0);
+	tell("so often it came, and came back", wait_for(2), 2);
+	tell("the partition tells what it had", ask(partner, WORK_TOLD, &data), 0);
+	tell("it had it", data.data1, BIT(NOTIFICATION));
+	tell("it isn't wanted again", drop_notification(NOTIFICATION), 0);
+	try_message_for_run();
 }
 
 /* Linux has notifications only where it is told of an interrupt for them. */
@@ -121,7 +166,10 @@ static void try_notifications(void)
 	try_received();
 	tell("notification for one processor",
 	     ops->notify_request(partner, true, on_notification, NULL, NOTIFICATION), -EINVAL);
-	try_sent(ops);
+	if (schedules)
+		try_scheduled();
+	else
+		try_sent();
 }
 #else
 int send_message(struct ffa_device *device, const void *text, size_t size)

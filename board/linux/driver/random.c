@@ -31,7 +31,7 @@ struct client {
 	struct completion done, notified;
 	bool has_notification;
 	unsigned int number, rounds, round;
-	unsigned int requests, shares, lends, reclaims, refused, failed;
+	unsigned int requests, shares, lends, reclaims, received, sent, refused, failed;
 };
 
 /* The partner, for requests of 32 bits. */
@@ -141,19 +141,20 @@ static void go_yielding(struct client *of)
 	expect(of, "its answer", data.data1, times);
 }
 
-/* The partition has one message at a time, and whoever sent it has it taken. */
-static void go_message(struct client *of)
+static u64 sum_of_bytes(const u8 *text, size_t size)
 {
-	u8 text[64];
-	size_t size = 1 + below(of, sizeof(text));
-	struct ffa_send_direct_data data = {};
-	unsigned int i;
 	u64 sum = 0;
+
+	while (size--)
+		sum += text[size];
+	return sum;
+}
+
+static void send_and_take(struct client *of, const u8 *text, size_t size)
+{
+	struct ffa_send_direct_data data = {};
 	int error;
 
-	prandom_bytes_state(&of->random, text, size);
-	for (i = 0; i < size; i++)
-		sum += text[i];
 	expect(of, "the partition listens", ask_until(of, partner, WORK_LISTEN, &data), 0);
 	error = send_message(partner, text, size);
 	if (error == -EBUSY) {
@@ -165,7 +166,19 @@ static void go_message(struct client *of)
 		return;
 	rest(of);
 	expect(of, "the partition takes it", ask_until(of, partner, WORK_TAKE, &data), 0);
-	expect(of, "its bytes", data.data1 == sum && data.data2 == size, 1);
+	expect(of, "its bytes", data.data1 == sum_of_bytes(text, size) && data.data2 == size, 1);
+}
+
+/* The partition has one message at a time, and whoever sent it has it taken. */
+static void go_message(struct client *of)
+{
+	u8 text[64];
+	size_t size = 1 + below(of, sizeof(text));
+
+	prandom_bytes_state(&of->random, text, size);
+	begin_message();
+	send_and_take(of, text, size);
+	end_message();
 }
 
 static void on_notification(int id, void *data)
@@ -173,19 +186,36 @@ static void on_notification(int id, void *data)
 	complete(data);
 }
 
-/* The partition sets the client's notification, and it comes. */
+static void expect_notification(struct client *of, const char *what, int error)
+{
+	expect(of, what, error, 0);
+	if (error)
+		return;
+	expect(of, "it comes", wait_for_completion_timeout(&of->notified, 10 * HZ) != 0, 1);
+}
+
+/*
+ * The partition sets the client's notification, and it comes, or the client sends it to the
+ * partition, and it comes back.
+ */
 static void go_notified(struct client *of)
 {
-	struct ffa_send_direct_data data = { .data1 = BIT(NOTIFICATION + of->number) };
+	const int id = NOTIFICATION + of->number;
+	struct ffa_send_direct_data data = { .data1 = BIT(id) };
 	int error;
 
 	if (!of->has_notification)
 		return;
 	reinit_completion(&of->notified);
+	if (schedules && below(of, 2)) {
+		of->sent++;
+		error = send_notification(id);
+		expect_notification(of, "notification to the partition", error);
+		return;
+	}
+	of->received++;
 	error = ask_until(of, partner, WORK_NOTIFY, &data);
-	expect(of, "the partition sets a notification", error, 0);
-	if (!error)
-		expect(of, "it comes", wait_for_completion_timeout(&of->notified, 10 * HZ) != 0, 1);
+	expect_notification(of, "the partition sets a notification", error);
 }
 
 static void go_foreign(struct client *of)
@@ -444,6 +474,7 @@ static int run_client(void *data)
 
 static void begin_client(struct client *of, unsigned int number, unsigned int rounds, u64 seed)
 {
+	struct ffa_send_direct_data data = { .data1 = BIT(NOTIFICATION + number) };
 	struct task_struct *thread;
 	int error;
 
@@ -456,6 +487,8 @@ static void begin_client(struct client *of, unsigned int number, unsigned int ro
 	of->has_notification = !error;
 	if (error != -EOPNOTSUPP)
 		expect(of, "a notification of its own", error, 0);
+	if (schedules)
+		expect(of, "the partition wants it", ask_until(of, partner, WORK_BIND, &data), 0);
 	thread = kthread_run(run_client, of, "client%u", number);
 	if (!IS_ERR(thread))
 		return;
@@ -474,6 +507,8 @@ static void count_client(struct client *all, struct client *of)
 	all->shares += of->shares;
 	all->lends += of->lends;
 	all->reclaims += of->reclaims;
+	all->received += of->received;
+	all->sent += of->sent;
 	all->refused += of->refused;
 	all->failed += of->failed;
 }
@@ -492,9 +527,9 @@ void try_random(unsigned int rounds, u64 seed)
 		begin_client(&clients[i], i, rounds, seed);
 	for (i = 0; i < CLIENTS; i++)
 		count_client(&all, &clients[i]);
-	pr_info("random: %u rounds by %u threads: %u requests, %u shares, %u lends, %u reclaims, %u refused as wanted, %u failed\n",
-		all.round, CLIENTS, all.requests, all.shares, all.lends, all.reclaims, all.refused,
-		all.failed);
+	pr_info("random: %u rounds by %u threads: %u requests, %u shares, %u lends, %u reclaims, %u notifications to Linux and %u to the partition, %u refused as wanted, %u failed\n",
+		all.round, CLIENTS, all.requests, all.shares, all.lends, all.reclaims, all.received,
+		all.sent, all.refused, all.failed);
 	tell("random rounds that weren't gone", rounds - all.round, 0);
 	tell("what failed in random rounds", all.failed, 0);
 }

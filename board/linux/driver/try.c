@@ -26,6 +26,10 @@ static unsigned int works;
 module_param(works, uint, 0);
 MODULE_PARM_DESC(works, "how many requests a partition works for a long time, while others call");
 
+bool schedules;
+module_param(schedules, bool, 0);
+MODULE_PARM_DESC(schedules, "whether Linux is told whom to run");
+
 static unsigned int random;
 module_param(random, uint, 0);
 MODULE_PARM_DESC(random, "how many rounds the random clients go in all");
@@ -77,13 +81,23 @@ void tell(const char *what, long found, long wanted)
 	pr_err("FAILED: %s: %ld, and not %ld\n", what, found, wanted);
 }
 
-int ask(struct ffa_device *device, u64 work, struct ffa_send_direct_data *data)
+int ask_at_once(struct ffa_device *device, u64 work, struct ffa_send_direct_data *data)
 {
 	int error;
 
 	data->data0 = work;
 	error = device->ops->msg_ops->sync_send_receive(device, data);
 	return error ? error : (int)data->data0;
+}
+
+int ask(struct ffa_device *device, u64 work, struct ffa_send_direct_data *data)
+{
+	int answer;
+
+	begin_request(device);
+	answer = ask_at_once(device, work, data);
+	end_request(device);
+	return answer;
 }
 
 int ask_of(u64 work, u64 argument, u64 other)
@@ -131,6 +145,7 @@ static int try_all(struct ffa_device *device)
 	tell("the second partition, by its UUID", find_second(), 0);
 	if (rounds)
 		measure(rounds, pieces);
+	begin_schedule();
 	if (works)
 		try_works(works);
 	if (random)
@@ -138,6 +153,7 @@ static int try_all(struct ffa_device *device)
 	try_messages();
 	try_memory();
 	try_reach();
+	end_schedule();
 	pr_info("%u tried, %u failed\n", tried, failed);
 	return 0;
 }

@@ -29,6 +29,9 @@ extern struct ffa_device second;
 /* What the core takes: ranges of one transaction, and open transactions of a sender. */
 extern unsigned int ranges, open;
 
+/* Whether Linux is told whom to run: what it notifies the partner of comes back then. */
+extern bool schedules;
+
 /* Places that aren't Linux's. */
 extern unsigned long table_at, partition_at, firmware_at, device_at, outside_at;
 
@@ -40,6 +43,8 @@ void tell(const char *what, long found, long wanted);
  * error of Linux's.
  */
 int ask(struct ffa_device *device, u64 work, struct ffa_send_direct_data *data);
+/* The same for who may not wait, where nobody runs the partner. */
+int ask_at_once(struct ffa_device *device, u64 work, struct ffa_send_direct_data *data);
 int ask_of(u64 work, u64 argument, u64 other);
 
 /* pieces.c: memory in pieces of a page of Linux's each. */
@@ -92,5 +97,18 @@ void try_random(unsigned int rounds, u64 seed);
 int send_message(struct ffa_device *device, const void *text, size_t size);
 int want_notification(int id, void (*come)(int id, void *data), void *data);
 int drop_notification(int id);
+
+/*
+ * schedule.c: who runs the partner waits for requests to it, and these for that. Between begin and
+ * end of its schedule it is run for notifications that are sent to it.
+ */
+void begin_request(const struct ffa_device *device);
+void end_request(const struct ffa_device *device);
+/* So it waits where a message to the partner is taken by a request, from before it is sent on. */
+void begin_message(void);
+void end_message(void);
+void begin_schedule(void);
+void end_schedule(void);
+int send_notification(int id);
 
 #endif

@@ -10,6 +10,7 @@
 #include <linux/err.h>
 #include <linux/hrtimer.h>
 #include <linux/irqflags.h>
+#include <linux/jiffies.h>
 #include <linux/kthread.h>
 #include <linux/ktime.h>
 #include <linux/printk.h>
@@ -21,6 +22,7 @@
 #define MEASURED 2000000    /* rounds, by which it is found how many these are */
 #define MOST_OTHERS 7
 #define ASKED_IN 64         /* the partition that works is asked in so many turns */
+#define NOTIFICATION 4
 
 static const ktime_t period = NSEC_PER_MSEC;
 
@@ -35,13 +37,19 @@ struct worker {
 static struct worker first, others[MOST_OTHERS];
 static unsigned int wanted, rings, rings_meanwhile;
 static u64 rounds, ns;
-static bool over;
+static bool over, is_sent;
+static struct completion back;
 
 static enum hrtimer_restart ring(struct hrtimer *timer)
 {
 	WRITE_ONCE(rings, rings + 1);
 	hrtimer_forward_now(timer, period);
 	return HRTIMER_RESTART;
+}
+
+static void on_notification(int id, void *data)
+{
+	complete(&back);
 }
 
 static void note(struct worker *of, unsigned int *good, int error)
@@ -51,13 +59,17 @@ static void note(struct worker *of, unsigned int *good, int error)
 	of->failed += error && error != -EBUSY;
 }
 
-static int ask_the_one_that_works(struct worker *of)
+/* Once it was busy for the first of the others, that one notifies it. */
+static void ask_the_one_that_works(struct worker *of)
 {
 	int error = ask_of(WORK_ADD, 1, 0);
 
 	of->refused += error == -EBUSY;
 	of->failed += error && error != -EBUSY;
-	return error;
+	if (!schedules || of != &others[0] || of->refused != 1 || error != -EBUSY)
+		return;
+	is_sent = true;
+	of->failed += send_notification(NOTIFICATION) != 0;
 }
 
 static void share_once(struct worker *of, struct pieces *pieces)
@@ -83,7 +95,7 @@ static int run_other(void *data)
 			note(of, &of->requests, ask(&second, WORK_ADD, &asked));
 		if (pieces)
 			share_once(of, pieces);
-		if (turn % ASKED_IN == 0)
+		if (turn % ASKED_IN == 0 || !of->refused)
 			ask_the_one_that_works(of);
 		cond_resched();
 	}
@@ -168,13 +180,37 @@ static void tell_all(unsigned int count)
 /* What is due doesn't stop the partition then: Linux couldn't take it, and it would go on coming. */
 static int ask_with_interrupts_masked(void)
 {
+	struct ffa_send_direct_data data = { .data1 = rounds / 4 };
 	unsigned long flags;
 	int error;
 
 	local_irq_save(flags);
-	error = ask_of(WORK_SPIN, rounds / 4, 0);
+	error = ask_at_once(partner, WORK_SPIN, &data);
 	local_irq_restore(flags);
 	return error;
+}
+
+/* A notification that the partition is sent while it works, is run for, and sends back. */
+static void begin_notification(void)
+{
+	int error;
+
+	init_completion(&back);
+	if (!schedules)
+		return;
+	error = want_notification(NOTIFICATION, on_notification, NULL);
+	tell("notification for while it works, asked for", error, 0);
+	tell("it wants the same", ask_of(WORK_BIND, BIT(NOTIFICATION), 0), 0);
+}
+
+static void end_notification(void)
+{
+	if (!schedules)
+		return;
+	tell("it was notified while it worked", is_sent, 1);
+	tell("it was run for that, and sent it back",
+	     wait_for_completion_timeout(&back, 10 * HZ) != 0, 1);
+	tell("its notification is dropped", drop_notification(NOTIFICATION), 0);
 }
 
 void try_works(unsigned int requests)
@@ -185,6 +221,7 @@ void try_works(unsigned int requests)
 	tell("a partition that works, alone", ask_of(WORK_SPIN, MEASURED, 0), 0);
 	rounds = div64_u64((u64)MEASURED * MILLISECONDS * NSEC_PER_MSEC, ktime_get_ns() - begin);
 	tell("a partition that works, with interrupts masked", ask_with_interrupts_masked(), 0);
+	begin_notification();
 	wanted = requests;
 	begin_worker(&first, 0, run_first);
 	count = begin_others();
@@ -193,4 +230,5 @@ void try_works(unsigned int requests)
 	for (i = 0; i < count; i++)
 		wait_for_completion(&others[i].done);
 	tell_all(count);
+	end_notification();
 }

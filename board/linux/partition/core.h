@@ -17,6 +17,7 @@ struct registers {
 #define RX 0x5000
 #define VARIABLES 0x6000
 #define MAPPED 0x7000 /* whether the buffers are mapped */
+#define TOLD 0x7008   /* what was there when it had cycles */
 
 /* Memory that was retrieved, as the response in RX tells of it (DEN0077A, 5.11). */
 struct range {

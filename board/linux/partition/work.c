@@ -8,7 +8,10 @@
 
 void work(struct registers *request, unsigned char *base);
 
-#define OF_NORMAL_WORLD 2 /* a class of notifications */
+/* Classes of notifications, and of the manager's the one that says that a message stands in RX. */
+#define OF_NORMAL_WORLD 2
+#define OF_MANAGER 4
+#define MESSAGE 1
 
 struct message {
     uint32_t flags, zero, at, endpoints, size;
@@ -71,6 +74,34 @@ static uint32_t look(struct registers *request) {
     return refused;
 }
 
+/* What was there when it had cycles. */
+struct told {
+    uint64_t notifications, bytes;
+};
+
+static struct told *told_of(unsigned char *base) { return (struct told *)(base + TOLD); }
+
+/* What it was notified of is set of the normal world, which wants the same. A message, of which RX is emptied behind the cycles,
+ * is taken, if it stands there still. */
+static void use_cycles(uint16_t own, unsigned char *base) {
+    const struct message *message = (const struct message *)(base + RX);
+    struct registers of = {{FFA_NOTIFICATION_GET, own, OF_NORMAL_WORLD | OF_MANAGER}};
+    if (ask(&of)) return;
+    struct registers set = {{FFA_NOTIFICATION_SET, (uint32_t)own << 16, 0, of.x[4], of.x[5]}};
+    if (of.x[6] & MESSAGE && release() == 0) told_of(base)->bytes += message->size;
+    if ((of.x[4] | of.x[5]) == 0) return;
+    told_of(base)->notifications |= (uint32_t)of.x[4] | of.x[5] << 32;
+    ask(&set);
+}
+
+static uint32_t tell(struct registers *request, unsigned char *base) {
+    struct told *told = told_of(base);
+    request->x[4] = told->notifications;
+    request->x[5] = told->bytes;
+    *told = (struct told){0};
+    return 0;
+}
+
 static uint32_t do_work(struct registers *request, unsigned char *base) {
     switch (request->x[3]) {
     case WORK_ADD:
@@ -96,6 +127,8 @@ static uint32_t do_work(struct registers *request, unsigned char *base) {
         return bind(request);
     case WORK_LOOK:
         return look(request);
+    case WORK_TOLD:
+        return tell(request, base);
     default:
         return 0;
     }
@@ -105,6 +138,7 @@ static uint32_t do_work(struct registers *request, unsigned char *base) {
 void work(struct registers *request, unsigned char *base) {
     uint32_t function = (uint32_t)request->x[0];
     if ((function & ~WITH_64_BITS) != FFA_MSG_SEND_DIRECT_REQ) {
+        use_cycles(partner_of(request->x[1]), base);
         *request = (struct registers){{FFA_MSG_WAIT}};
         return;
     }

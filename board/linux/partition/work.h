@@ -16,9 +16,12 @@
 #define WORK_LISTEN 10 /* maps the buffers, for a message to find them */
 #define WORK_BIND 11   /* wants the notifications x4 of the sender */
 #define WORK_LOOK 12   /* x4 answers with the notifications that the normal world has set */
+#define WORK_TOLD 13   /* x4 answers with those that were there when it had cycles, x5 with how many bytes of messages, since this was asked last */
 
 /* WORK_FILL and WORK_HOLD answer with the sum of what was there in x4, and the pages in x5. Where x6 is 1 they read alone. */
 #define WORK_READS 1
+
+/* Where it has cycles and finds notifications of the normal world's, it sets the same of the normal world; a message in RX it takes. */
 
 /* The word at a place of memory that is filled. */
 #define WORK_WORD(seed, place) ((seed) ^ ((place) * 0x9E3779B97F4A7C15ULL))
