@@ -1,8 +1,9 @@
 // SPDX-License-Identifier: MIT OR Apache-2.0
 //! Plays of a trace in RAM that is all zeros, with the cache and by the processors that are asked for.
-ghost use Rattle.std.specs.Prelude.{◌≡◌, ◌≤◌, ◌*◌, false};
+ghost use Rattle.std.specs.Prelude.{◌≡◌, ◌≤◌, ◌*◌, false, Some};
 ghost use Rattle.ffa_model.specs.declared.limits.TheConstants.{MOST_PROCESSORS};
 ghost use Rattle.ffa_model.specs.Ram.{zero_ram};
+ghost use Rattle.ffa_spmc.specs.Storages.{IsRoomFor};
 ghost use Rattle.play_tasks.specs.Plays.{Plays, streams_of, talks};
 ghost use Rattle.play_tasks.specs.Purposes.{known};
 ghost use Rattle.play_tasks.specs.Starts.{processors_for, start_of};
@@ -10,7 +11,7 @@ ghost use Rattle.play_tasks.specs.Starts.{processors_for, start_of};
 use ffa_model::{MOST_PROCESSORS, Manifest};
 use ffa_physmem::PhysMem;
 use ffa_reasons::{Explained, ExplainedCluster};
-use ffa_spmc::{Cluster, Machine, Storage};
+use ffa_spmc::{Cluster, Machine, Storage, Store};
 use ffa_tlb::{InTurn, NoTlb, Tlb, Translations};
 use play_player::Player;
 use play_report::Failure;
@@ -82,11 +83,26 @@ fn play_with<
             do_task(&mut Player::new(Explained(machine)), play, out, err, told)
         }
         Some(count) => {
-            let cluster = Cluster::boot_cleared_in(storage, manifest, ram, cache);
-            let machine = ExplainedCluster::of(cluster, processors_for(count));
+            let machine = boot_for(count, storage, manifest, ram, cache);
             do_task(&mut Player::new(machine), play, out, err, told)
         }
     }
+}
+
+// The machine that boots so, of which a trace may name so many processors.
+fn boot_for<M: PhysMem + Drop, T: Translations + Drop, S: Store>(
+    count: usize,
+    storage: Storage<S>,
+    manifest: &Manifest,
+    ram: M,
+    cache: T,
+) -> ExplainedCluster<M, T, S>
+    requires storage { IsRoomFor manifest.now storage }
+    requires ram { M.ram ram ≡ zero_ram manifest.now.ram_base.0 (512 * manifest.now.ram_blocks) }
+    ensures { result ≡ start_of (Some count) manifest.now }
+{
+    let cluster = Cluster::boot_cleared_in(storage, manifest, ram, cache);
+    ExplainedCluster::of(cluster, processors_for(count))
 }
 
 // As many processors, where there is room for so many.
