@@ -32,7 +32,12 @@ pub(crate) fn compare<'a, A: Allocator + Copy, P: Playable, R: Read + Drop, W: W
     match play_forms::compare(player, alloc, form, &mut reader, &mut wanted, &mut sides) {
         Ok(None) => Ok(()),
         Ok(Some(mismatch)) => Err(tell_difference(alloc, mismatch, &sides, out)),
-        Err(CompareError::Play(error)) => Err(Failure::of_line(path, error, player.processors(), &sides.line)),
+        Err(CompareError::Play(error)) => Err(Failure::of_line(
+            path,
+            error,
+            player.processors(),
+            &sides.line,
+        )),
         Err(CompareError::Expected) => Err(Failure::Read(expected.path)),
     }
 }
