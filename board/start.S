@@ -154,9 +154,11 @@ vectors:
         .endr
         .balign 128
         b       left
+        .rept   2                       /* IRQ, and FIQ, which the normal world's are where EL2 is the secure world's */
         .balign 128
         b       interrupted
-        .rept   6
+        .endr
+        .rept   5
         .balign 128
         b       broken
         .endr

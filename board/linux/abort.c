@@ -55,30 +55,12 @@ static void hand_to_linux(struct context *context, uint64_t syndrome) {
 /* The register holds where Linux's own translation led, for each fault that a device can give. */
 static uint64_t address_of_fault(void) { return read_hpfar_el2() >> 4 << 12 | (read_far_el2() & 0xFFF); }
 
-static uint64_t again;
-
-uint64_t all_tried_again(void) { return again; }
-
-/* While another processor's call is on its way a page may fault that stays. That call has ended, as the lock is here: the instruction is tried again.
- * Where it faults again with no call since, the fault is the endpoint's. */
-static bool try_again(struct board *board, uint64_t address) {
-    static struct tried {
-        uint64_t counter, address, calls;
-    } tried[GORSEPLUMB_MOST_PROCESSORS];
-    struct tried *last = &tried[this_processor()], now = {running(board)->context.pc, address, all_calls()};
-    bool is_as_last = last->counter == now.counter && last->address == now.address && last->calls == now.calls;
-    if (!SEVERAL || is_as_last) return false;
-    *last = now;
-    again++;
-    return true;
-}
-
 void serve_abort(struct board *board, uint64_t syndrome) {
     struct endpoint *endpoint = running(board);
     uint64_t address = address_of_fault();
     bool translation = status_of(syndrome) == STATUS_TRANSLATION;
     if (running_place(board) == 0 && translation && serve_device(&endpoint->context, syndrome, address)) return;
-    if (translation && try_again(board, address)) return;
+    if (translation && is_tried_again(board, address)) return;
     if (running_place(board) != 0) {
         tell(endpoint, "abort", syndrome, address);
         stop("a partition's abort");

@@ -32,16 +32,22 @@ void begin_el2(uint64_t hcr) {
     write_ich_hcr_el2(0);
 }
 
-void put_aside(struct timers *of) {
+void note_timers(struct timers *of) {
     of->virtual_control = read_cntv_ctl_el0();
     of->virtual_value = read_cntv_cval_el0();
     of->physical_control = read_cntp_ctl_el0();
     of->physical_value = read_cntp_cval_el0();
     of->priority = read_icc_pmr_el1();
+}
+
+void put_aside(struct timers *of) {
+    note_timers(of);
     write_cntv_ctl_el0(0);
     write_cntp_ctl_el0(0);
-    write_icc_pmr_el1(0);
+    let_nothing_through();
 }
+
+void let_nothing_through(void) { write_icc_pmr_el1(0); }
 
 /* The hypervisor's physical timer rings in place of those that are put aside. Its interrupt is enabled in the processor's redistributor, which
  * Linux has for itself otherwise (IHI 0069, 12.11), and is over when the timer is off: nobody takes it from the controller. */

@@ -16,6 +16,10 @@ struct timers {
 void put_aside(struct timers *of);
 void put_back(const struct timers *of);
 
+/* Or they go on: they are read, and put back as they were whatever a partition made of them. And nothing comes until then. */
+void note_timers(struct timers *of);
+void let_nothing_through(void);
+
 /* In a firmware that tells the core of interrupts: what is due of the normal world, as the first of its timers, comes to EL2 though these are put
  * aside, until they are put back. */
 void let_interrupts_come(const struct timers *of);

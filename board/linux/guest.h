@@ -23,9 +23,17 @@ uint64_t all_calls(void);       /* that reached the core */
 uint64_t all_interrupts(void);  /* that stopped a partition */
 void serve_power_call(struct board *board, struct context *context);
 
+/* notify.c: answers a call of the normal world's that asks for an interrupt by which it hears of notifications, if it is one: whether it was. From then
+ * on they are sent behind each call, where something is due. */
+bool serve_feature(struct context *context);
+void notify(const struct gorseplumb_machine *machine);
+
 /* An abort that EL2 takes. Linux's access to a device is done for it; any other abort of Linux's is handed to it as an external one. */
 void serve_abort(struct board *board, uint64_t syndrome);
-uint64_t all_tried_again(void); /* faults, behind which the instruction was tried again */
+
+/* Whether the instruction that had a translation fault is to be tried again (again.c), and how many were. */
+bool is_tried_again(struct board *board, uint64_t address);
+uint64_t all_tried_again(void);
 
 /* Does the access to a device that an abort is about, if it is one: whether it was. */
 bool serve_device(struct context *context, uint64_t syndrome, uint64_t address);

@@ -161,27 +161,6 @@ try_random() {
     grep -o 'random: [0-9].*' "$to/linux"
 }
 
-# What was done, each with what came of it.
-with_outcomes() { paste -d '|' <(grep -v '^on ' "$to/trace") "$to/found"; }
-
-# Whom FFA_NOTIFICATION_INFO_GET named; Linux's driver says of NO_DATA that it failed, which it compares in 64 bits.
-named() {
-    with_outcomes | awk -F '|' '
-        $1 !~ /^call C4000083/ { next }
-        $2 ~ /^regs 0000 0000000084000060/ { nobody++; next }
-        { named++; split($2, words, " "); partition += words[6] ~ /8001/ }
-        END { printf "whom to run was told %d times, of these %d times 8001, and %d times there was nobody", named, partition, nobody }'
-}
-
-# How many calls of Linux's were answered that somebody is busy. They are those that may be: requests, cycles and messages.
-busy() {
-    with_outcomes | awk -F '|' '
-        $2 !~ /^regs 0000 0000000084000060 0000000000000000 00000000FFFFFFFC / { next }
-        $1 ~ /^call (C400006F|8400006F|8400006D|84000086)( |$)/ { busy++; next }
-        { print "busy: " $1 >"/dev/stderr"; others++ }
-        END { if (others) exit 1; print busy + 0 }'
-}
-
 # Linux on so many processors, on each of which a partition may run and is stopped by what is due there: a partition that works long for one, and
 # threads that all work at once: try_several NUMBER PROCESSOR
 try_several() {

@@ -16,9 +16,6 @@
 #define VERSION UINT32_C(0x80000008)
 #define VERSION_ANSWER UINT32_C(0x80000009)
 
-/* The normal world's vector registers, and the registers of the call on its way, of each processor. */
-static struct context contexts[2];
-
 void second_start(void);
 
 static void set(uint64_t *x, uint64_t x0, uint64_t x1, uint64_t x2, uint64_t x3) {
@@ -31,12 +28,12 @@ static void answer(uint64_t *x, uint32_t message, uint64_t value) {
 }
 
 /* FFA_VERSION comes as a message, and the core is asked as if the normal world had called it. Of a processor that is turned off nothing is to be
- * kept. */
+ * kept: the normal world runs there, and what it had stopped there goes on on another. */
 static void serve_message(struct board *board, uint64_t *x) {
     uint32_t message = (uint32_t)x[2];
     if (message == VERSION) {
         set(x, FFA_VERSION, x[3], 0, 0);
-        serve_call_of_normal_world(board, x);
+        serve_call_of_normal_world(board);
         answer(x, VERSION_ANSWER, x[0]);
     } else if (message == POWER && (uint32_t)x[3] == PSCI_CPU_OFF) {
         answer(x, POWER_ANSWER, 0);
@@ -55,14 +52,15 @@ static void register_second(struct context *context) {
 
 /* The first FFA_MSG_WAIT of a processor says that it is ready. */
 _Noreturn void serve_normal_world(struct board *board, bool first) {
-    struct context *context = &contexts[first ? 0 : 1];
+    struct context *context = &normal_world(board)->context;
     if (first) register_second(context);
     set(context->x, FFA_MSG_WAIT, 0, 0, 0);
     for (;;) {
         has_processor(NORMAL_WORLD);
         to_normal_world(context);
+        note_due();
         has_processor(FIRMWARE);
         if (is_message(context->x)) serve_message(board, context->x);
-        else serve_call_of_normal_world(board, context->x);
+        else serve_call_of_normal_world(board);
     }
 }

@@ -1,5 +1,6 @@
 /* SPDX-License-Identifier: MIT OR Apache-2.0 */
 /* The firmware's entries, for the processor that TF-A boots on and for another that the normal world turns on. */
+#include "bytes.h"
 #include "calls.h"
 #include "guest.h"
 #include "secure.h"
@@ -13,8 +14,9 @@ static struct board board;
 /* Each partition runs once before the normal world does, for what it has to do at its start: by a call in the name of that. */
 static void run_first(void) {
     for (uint32_t i = 1; i < board.count; i++) {
-        uint64_t x[8] = {FFA_RUN, (uint64_t)identifier_of(i) << 16};
-        serve_call_of_normal_world(&board, x);
+        uint64_t *x = normal_world(&board)->context.x;
+        memcpy(x, (uint64_t[8]){FFA_RUN, (uint64_t)identifier_of(i) << 16}, 8 * sizeof *x);
+        serve_call_of_normal_world(&board);
         if ((uint32_t)x[0] != FFA_MSG_WAIT) stop("a partition doesn't come to wait");
     }
 }

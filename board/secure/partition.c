@@ -1,6 +1,5 @@
 /* SPDX-License-Identifier: MIT OR Apache-2.0 */
 /* Calls, and the partitions at S-EL1 that serve them. */
-#include "bytes.h"
 #include "calls.h"
 #include "el2.h"
 #include "guest.h"
@@ -13,13 +12,14 @@
 SYSTEM_REGISTER(cnthctl_el2)
 SYSTEM_REGISTER(hpfar_el2)
 
-/* HCR_EL2 (DDI 0487) while a partition runs. TF-A's test partition has a translation of its own, so DC is 0. */
+/* HCR_EL2 (DDI 0487) while a partition runs. TF-A's test partition has a translation of its own, so DC is 0. Interrupts go to EL2, so the registers
+ * of the interrupt controller's processor interface that a partition reaches are virtual ones, which nothing signals. */
 #ifndef FOR_TSP
 #define FOR_TSP 0
 #endif
 #define PARTITION_HCR (HCR_VM | HCR_TSC | HCR_RW | HCR_INTERRUPTS | HCR_WAITS | (FOR_TSP ? 0 : HCR_DC))
 
-/* CNTHCTL_EL2: EL1 may read the counter (EL1PCTEN), and use no timer. */
+/* CNTHCTL_EL2: EL1 may read the counter (EL1PCTEN), and use no physical timer. */
 #define COUNTER 1
 
 #define CLASS_WAIT 0x01 /* WFI or WFE */
@@ -27,10 +27,15 @@ SYSTEM_REGISTER(hpfar_el2)
 /* It stands round all that the core and this firmware have of the machine. A partition runs without it. */
 static uint32_t lock;
 
+static uint64_t calls;
+
+uint64_t all_calls(void) { return calls; }
+
 void begin_partitions(void) {
     begin_el2(PARTITION_HCR);
     write_cnthctl_el2(COUNTER);
     DO("isb");
+    begin_interrupts();
 }
 
 void begin_line(void) {}
@@ -45,8 +50,17 @@ void begin_call(struct board *board, const struct gorseplumb_registers *register
 
 void end_call(struct board *board, const struct gorseplumb_registers *registers, const struct gorseplumb_outcome *outcome) {
     has_processor(FIRMWARE);
+    calls++;
     record_answer(board, registers, outcome);
     mark_non_secure(registers, outcome);
+    notify(&board->machine);
+}
+
+void begin_interrupt(struct board *board) { (void)board; }
+
+void end_interrupt(struct board *board, const struct gorseplumb_outcome *outcome) {
+    (void)board;
+    record_interrupt(outcome);
 }
 
 void serve_trap(struct board *board) {
@@ -56,6 +70,14 @@ void serve_trap(struct board *board) {
 }
 
 static uint64_t address_of_fault(void) { return read_hpfar_el2() >> 4 << 12 | (read_far_el2() & 0xFFF); }
+
+static void serve_fault(struct board *board, uint64_t syndrome) {
+    uint64_t address = address_of_fault();
+    if (serve_line(&running(board)->context, syndrome, address)) return;
+    if (status_of(syndrome) == STATUS_TRANSLATION && is_tried_again(board, address)) return;
+    tell(running(board), "abort", syndrome, address);
+    stop("a partition's abort");
+}
 
 static void serve(struct board *board, uint64_t syndrome) {
     struct context *context = &running(board)->context;
@@ -70,46 +92,45 @@ static void serve(struct board *board, uint64_t syndrome) {
     case CLASS_WAIT:
         context->pc += 4;
         break;
+    case CLASS_FETCH_BELOW:
+    case CLASS_DATA_BELOW:
+        serve_fault(board, syndrome);
+        break;
     default:
-        if (serve_line(context, syndrome, address_of_fault())) break;
-        tell(running(board), "an exception that nobody serves", syndrome, address_of_fault());
+        tell(running(board), "an exception that nobody serves", syndrome, read_far_el2());
         stop("exception");
     }
+}
+
+/* What is due of the normal world stops the partition, and stays due for that to take. */
+static void tell_interrupt(struct board *board) {
+    if (is_secure_due()) stop("an interrupt of the secure world's own");
+    serve_interrupt(board);
 }
 
 /* Partitions run until the normal world does, on the processor that called. */
 static void run_partitions(struct board *board) {
     struct timers of_normal_world;
-    put_aside(&of_normal_world);
+    note_timers(&of_normal_world);
+    if (is_masked()) let_nothing_through();
     while (running_place(board) != 0) {
         struct context *context = &running(board)->context;
         walk_tables(running_place(board), running(board)->root);
         release_lock(&lock);
         has_processor(PARTITION);
-        enter(context);
+        bool interrupted = enter(context);
         has_processor(FIRMWARE);
         take_lock(&lock);
-        serve(board, read_esr_el2());
+        if (interrupted) tell_interrupt(board);
+        else serve(board, read_esr_el2());
     }
     put_back(&of_normal_world);
     DO("isb");
 }
 
-static void take_lock_when_nobody_works(const struct board *board) {
+void serve_call_of_normal_world(struct board *board) {
     take_lock(&lock);
-    while (running_place(board) != 0) {
-        release_lock(&lock);
-        DO("yield");
-        take_lock(&lock);
-    }
-}
-
-void serve_call_of_normal_world(struct board *board, uint64_t *x) {
-    uint64_t *served = board->endpoints[0].context.x;
-    take_lock_when_nobody_works(board);
-    memcpy(served, x, 8 * sizeof *x);
-    serve_call(board);
+    if (!serve_feature(&normal_world(board)->context)) serve_call(board);
     if (running_place(board) != 0) run_partitions(board);
-    memcpy(x, served, 8 * sizeof *x);
     release_lock(&lock);
 }

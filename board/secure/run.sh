@@ -12,7 +12,7 @@ all=(plain version two tsp linux)
 
 # Of the machine's RAM, 48000000 to 4BFFFFFF, the first 8 MiB are the secure world's. Linux has the rest.
 first_at=48100000 second_at=48200000 third_at=48300000
-image_at=48800000 memory_bytes=3800000 initramfs_at=4BC00000 tree_at=4BD80000 redistributors=40000
+image_at=48800000 memory_bytes=3800000 initramfs_at=4BC00000 tree_at=4BD80000
 
 usage() {
     cat <<'HELP'
@@ -26,11 +26,11 @@ board/secure/run.sh [--install] [--work FOLDER] [--keep FOLDER] [--jobs N] [RUN.
 
 Runs, of which all but the last are done where none is named:
 
-  plain    TF-A with nothing changed: a program calls three partitions through the dispatcher, which says version 1.0
+  plain    TF-A with nothing changed: a program calls three partitions through the dispatcher, which says version 1.0, and a timer stops one that works
   version  the dispatcher asks the core for the version, which is 1.1
-  two      as version, with two processors, each of which calls
+  two      as version, with two processors, each of which calls, and has a timer; the second is turned off and on
   tsp      TF-A's own test partition (TSP) as the one partition
-  linux    Linux as the normal world, on one processor; and on two, with clients at random
+  linux    Linux as the normal world, on one processor; and on two and on four, with a partition that works long, and clients at random
   measure  instructions of calls to three partitions, and to TSP
 
 It ends with 0 and `passed`, with 1 and what is missing or differs, or with 64 where the words are none of these.
@@ -63,12 +63,12 @@ linux=$work/linux/4k
 
 # (the firmware prints to the line that the secure world has for itself, and has less memory than another board's)
 flags+=("-I$board/linux" "-I$board/linux/partition" "-I$here")
-secure_flags=(-DSECURE=1 -DRAM_BASE=0x48000000 -DSECURE_BYTES=0x800000 -DFIRMWARE_BASE=0x0E100000 -DUART_BASE=0x09040000
+secure_flags=(-DSECURE=1 -DSEVERAL=1 -DRAM_BASE=0x48000000 -DSECURE_BYTES=0x800000 -DFIRMWARE_BASE=0x0E100000 -DUART_BASE=0x09040000
     -UGORSEPLUMB_ARRAY_BYTES -DGORSEPLUMB_ARRAY_BYTES=0x400000 -Wl,--defsym=FIRMWARE_BASE=0x0E100000 -Wl,--defsym=FIRMWARE_END=0x0F000000)
 
 # The firmware, which TF-A calls BL32, with the manifest and the list of endpoints in it: build_firmware DEFINITION..
 build_firmware() {
-    local of_linux=(access el2 place record tell)
+    local of_linux=(access again el2 notify place record tell)
     of_linux=("${of_linux[@]/#/$board/linux/}")
     $compiler "${flags[@]}" "${secure_flags[@]}" -O2 "$@" -Wl,--no-warn-rwx-segments -Wa,-I"$to" -T "$board/board.ld" "$here"/*.c "$here"/*.S \
         "${of_linux[@]/%/.c}" "${shared[@]}" "$archive" -o "$to/bl32.elf"
@@ -112,7 +112,8 @@ add_image() {
     images+=("${words[@]}")
 }
 
-# Boots TF-A of a kind, and all of $to that it loads, which is by its name in QEMU's folder: boot KIND NAME WORD.., of which the words are QEMU's
+# Boots TF-A of a kind on so many $processors, and all of $to that it loads, which is by its name in QEMU's folder: boot KIND NAME WORD.., of which
+# the words are QEMU's
 boot() {
     local kind=$1 name=$2
     shift 2
@@ -120,12 +121,13 @@ boot() {
     cp "$work/tf-a/$kind"/bl*.bin "$to"
     : >"$to/core"
     SECONDS=0
-    emulate -machine virt,secure=on,virtualization=on,gic-version=3 -cpu "$processor" -m 1024 -semihosting-config enable=on,target=native -bios bl1.bin \
-        "$@" "${images[@]}" -serial file:core
+    ((processors == 1)) || set -- -accel tcg,thread=multi "$@"
+    emulate -machine virt,secure=on,virtualization=on,gic-version=3 -cpu "$processor" -smp "$processors" -m 1024 \
+        -semihosting-config enable=on,target=native -bios bl1.bin "$@" "${images[@]}" -serial file:core
     emulated=$SECONDS
     tr -d '\r' <"$to/uart" >"$to/linux"
     part "$to/core"
-    "$player" run "$to/manifest" "$to/trace" >"$to/expected" || fail "$name: the program doesn't play what was done"
+    "$player" run --processors "$processors" "$to/manifest" "$to/trace" >"$to/expected" || fail "$name: the program doesn't play what was done"
     if [[ $keep ]]; then for kind in uart core trace found expected; do cp "$to/$kind" "$keep/$name.$kind"; done; fi
 }
 
@@ -136,12 +138,13 @@ judge() {
         fail "$1: the core answered otherwise than the program (< the program, > the core)"
     fi
     if grep '^!' "$to/core" "$to/uart" >&2; then fail "$1: the board stopped"; fi
-    echo "$1: $(grep -c '^call' "$to/trace") calls as the program prints them, $(grep -cE '^(ok:|.*ffa_try: ok)' "$to/linux") things that the normal world tried, $emulated s"
+    echo "$1: $(grep -c '^call' "$to/trace") calls as the program prints them, $(grep -c '^interrupt' "$to/trace") interrupts of partitions," \
+        "$(grep -c '^resumed' "$to/found") times one went on, $(grep -cE '^(ok:|.*ffa_try: ok)' "$to/linux") things that the normal world tried, $emulated s"
 }
 
-# The program as the normal world: try_program NAME KIND WORD.., of which the words are QEMU's
+# The program as the normal world: try_program NAME KIND
 try_program() {
-    boot "$2" "$1" "${@:3}"
+    boot "$2" "$1"
     judge "$1"
     grep -qx '= end' "$to/linux" || { tail -n 20 "$to/linux" >&2; fail "$1: the normal world didn't come to its end"; }
     if grep '^FAILED' "$to/linux" >&2; then fail "$1: something that the normal world tried came out otherwise"; fi
@@ -151,18 +154,22 @@ try_program() {
 # Linux as the normal world. What it says FAILED is in expected.txt, as nothing holds it to its table: try_linux NAME PROCESSORS "SECTION.." WORD.., of
 # which the words are for its driver
 try_linux() {
-    local lacks
+    local lacks redistributors found processors=$2 limit=1800
+    redistributors=$(printf %X $((0x20000 * $2)))
     build_tree smc "$2" ffa_try.table_at=0x48000000 ffa_try.partition_at=0x$first_at ffa_try.firmware_at=0x0E100000 ffa_try.device_at=0x09040000 "${@:4}"
     with_three_partitions
     add_image "$linux/Image" $image_at
     add_image "$linux/initramfs" $initramfs_at
     add_image "$to/tree" $tree_at
-    boot version "$1" -smp "$2"
+    boot version "$1"
     judge "$1"
+    grep -q '^resumed' "$to/found" || fail "$1: no partition was stopped and went on"
+    found=$(busy) || fail "$1: a call is busy that names no partition"
     lacks=$(missing linux driver 6.12 beside "$3")
     [[ -z $lacks ]] || { tail -n 30 "$to/linux" >&2; fail "$1: Linux doesn't say: $lacks"; }
     (($(grep -c FAILED "$to/linux") == $(grep -c FAILED "$board/linux/expected.txt"))) || fail "$1: $(grep FAILED "$to/linux")"
-    grep -o 'random: [0-9].*' "$to/linux" || true
+    grep -oE '(works|random): [0-9].*' "$to/linux" || true
+    echo "$1: $found calls were busy; $(named)"
 }
 
 # What takes how many instructions, with nothing printed of calls: measure NAME
@@ -173,7 +180,7 @@ measure() {
 
 make_archive "$top"
 [[ -n ${FFAPLAY:-} ]] || "$top/ffaplay" prove
-processor=max
+processor=max processors=1
 build_partition
 for run in "${runs[@]}"; do
     case $run in
@@ -187,7 +194,7 @@ for run in "${runs[@]}"; do
             with_three_partitions
             build_firmware
             build_normal -DTWO=1
-            try_program two version -smp 2 -accel tcg,thread=multi
+            processors=2 try_program two version
             ;;
         tsp)
             with_tsp
@@ -201,8 +208,11 @@ for run in "${runs[@]}"; do
             with_three_partitions
             build_firmware
             build_linux
-            try_linux linux 1 no-interrupt
-            try_linux linux-two 2 "two-beside random" ffa_try.random=500
+            try_linux linux 1 notifications
+            for number in 2 4; do
+                try_linux linux-$number $number "$number-processors notifications scheduled works random" \
+                    ffa_try.schedules=1 ffa_try.works=20 ffa_try.random=500
+            done
             processor=max
             ;;
         measure)

@@ -12,9 +12,18 @@ extern const char manifest_text[], endpoint_list[];
 /* Makes this processor ready for partitions. */
 void begin_partitions(void);
 
-/* A call of the normal world, x0 to x7, is served, whichever of its processors makes it, and they are its answer then. Where a partition works
- * for another processor this one waits: the core, which knows of one, would answer BUSY, and Linux doesn't try again. */
-void serve_call_of_normal_world(struct board *board, uint64_t *x);
+/* A call of the normal world's on this processor is served, x0 to x7 of its context, which are its answer then. A partition works for it meanwhile,
+ * and others for other processors. What is due of the normal world stops it, and then the answer is FFA_INTERRUPT. */
+void serve_call_of_normal_world(struct board *board);
+
+/* interrupts.c: this processor's are made ready. Is one due of the secure world's own? */
+void begin_interrupts(void);
+bool is_secure_due(void);
+
+/* The normal world calls: whether something is due that it hasn't taken is noted. Where it hasn't so often in a row it masks its interrupts there, which
+ * nobody here can see, and would be interrupted again and again: nothing is let through then while a partition works for it. */
+void note_due(void);
+bool is_masked(void);
 
 /* Gives this processor to the normal world, and serves it from then on. The first one says where others begin. */
 _Noreturn void serve_normal_world(struct board *board, bool first);

@@ -13,6 +13,8 @@
 #include <linux/jiffies.h>
 #include <linux/kthread.h>
 #include <linux/ktime.h>
+#include <linux/limits.h>
+#include <linux/minmax.h>
 #include <linux/printk.h>
 #include <linux/sched.h>
 
@@ -20,6 +22,7 @@
 
 #define MILLISECONDS 50     /* of a request */
 #define MEASURED 2000000    /* rounds, by which it is found how many these are */
+#define MEASURES 5
 #define MOST_OTHERS 7
 #define ASKED_IN 64         /* the partition that works is asked in so many turns */
 #define NOTIFICATION 4
@@ -213,13 +216,28 @@ static void end_notification(void)
 	tell("its notification is dropped", drop_notification(NOTIFICATION), 0);
 }
 
+/* Measured by the fastest of some, since the machine may have other work meanwhile. */
+static int find_rounds(void)
+{
+	u64 least = U64_MAX;
+	unsigned int i;
+	int error = 0;
+
+	for (i = 0; i < MEASURES && !error; i++) {
+		u64 begin = ktime_get_ns();
+
+		error = ask_of(WORK_SPIN, MEASURED, 0);
+		least = min(least, ktime_get_ns() - begin);
+	}
+	rounds = div64_u64((u64)MEASURED * MILLISECONDS * NSEC_PER_MSEC, least);
+	return error;
+}
+
 void try_works(unsigned int requests)
 {
-	u64 begin = ktime_get_ns();
 	unsigned int i, count;
 
-	tell("a partition that works, alone", ask_of(WORK_SPIN, MEASURED, 0), 0);
-	rounds = div64_u64((u64)MEASURED * MILLISECONDS * NSEC_PER_MSEC, ktime_get_ns() - begin);
+	tell("a partition that works, alone", find_rounds(), 0);
 	tell("a partition that works, with interrupts masked", ask_with_interrupts_masked(), 0);
 	begin_notification();
 	wanted = requests;

@@ -82,6 +82,7 @@ void normal_world(void) {
         measure();
     } else {
         try_messages();
+        if (!OF_TSP) try_interrupts();
         try_memory();
         try_reach();
         if (TWO) try_two();

@@ -21,6 +21,7 @@
 
 #define NOT_SUPPORTED UINT32_C(0xFFFFFFFF)
 #define INVALID UINT32_C(0xFFFFFFFE)
+#define BUSY UINT32_C(0xFFFFFFFC)
 #define DENIED UINT32_C(0xFFFFFFFA)
 
 #define PARTITION_1 UINT32_C(0x8001)
@@ -59,9 +60,20 @@ static inline bool is_error(const uint64_t *x, uint32_t code) { return (uint32_t
 void say(const char *what, const uint64_t *x);
 void want(const char *what, bool holds);
 
+/* interrupts.c: a timer on this processor. A partition is asked to work: `x` is what that answers; is this FFA_INTERRUPT, or what it has worked?
+ * It works until it is stopped, and the interrupt is taken; it goes on; or it works to its end, and is stopped every now and then: how often. */
+void begin_timer(void);
+void begin_work(uint64_t *x, uint32_t receiver);
+bool is_interrupt(const uint64_t *x, uint32_t of);
+bool is_worked(const uint64_t *x);
+bool stop_work(uint64_t *x, uint32_t receiver);
+void go_on(uint64_t *x, uint32_t receiver);
+uint64_t work_interrupted(uint64_t *x, uint32_t receiver);
+
 /* What the program tries, in this order. */
 void try_setup(void);
 void try_messages(void);
+void try_interrupts(void);
 void try_memory(void);
 void try_reach(void);
 void try_two(void);
