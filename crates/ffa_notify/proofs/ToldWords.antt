@@ -4,8 +4,10 @@ use Rattle.std.proofs.Common.{◌≡◌, ◌∙◌, ℕ, zero, suc, ◌+◌, ◌
 use Rattle.std.specs.Prelude.{◌==◌, ◌&&◌, not, nat_lt, filter, ◌++◌, if◌then◌else◌}
 use Rattle.std.specs.FinSet as finite_set
 use Rattle.std.specs.Int.{bit_not, w64}
-use Rattle.std.specs.Cmp.Lexicographic.{nat_list_cmp_total}
-use Rattle.std.proofs.lemmas.Bool.{and_from, and_parts, cases_lt, lt-ltb, ltb-true, or_cases, or_left, or_right}
+use Rattle.std.specs.Cmp.Lexicographic.{nat_list_cmp_total, slice_cmp}
+use Rattle.std.specs.List.{list_all}
+use Rattle.std.specs.Ordering.{nat_cmp}
+use Rattle.std.proofs.lemmas.Bool.{and_from, and_parts, cases_lt, eqb-true, false≢true, lt-ltb, ltb-true, or_cases, or_left, or_right}
 use lib.Bits.{bit_and}
 use Rattle.ffa_model.specs.declared.limits.TheConstants.{MOST_ENDPOINTS}
 use Rattle.ffa_model.specs.Bits.{is_set}
@@ -14,8 +16,8 @@ use Rattle.ffa_model.specs.Lists.{listed}
 use Rattle.ffa_model.specs.Notifications.{Notifications, is_pending, receiver_bit}
 use Rattle.ffa_model.specs.State.{is_known_among, is_partition_among}
 use Rattle.ffa_model.proofs.Places.{same-identifier}
-use Rattle.ffa_model.proofs.Sets.{among}
-use Rattle.ffa_notify.specs.Notices.{untold_of}
+use Rattle.ffa_model.proofs.Sets.{among, same_bits}
+use Rattle.ffa_notify.specs.Notices.{Told, untold_of}
 use Rattle.ffa_notify.specs.Stored.{bit_of, entries, has_pending_bit, pending_in}
 use Rattle.ffa_notify.proofs.Bits.{set-and, set-not, set-zero}
 use Rattle.ffa_notify.proofs.Changes.{contains-bit, set-is}
@@ -27,6 +29,25 @@ none-there : (words : List ℕ) (i : ℕ) → length words ≤ i → get_or word
 none-there [] i past = refl
 none-there (w ∷ ws) zero past = absurd (omega arith)
 none-there (w ∷ ws) (suc i) past = none-there ws i (omega arith)
+
+-- words without a bit mean none, and of none is told what is told of it and pending
+zero-there : (words : List ℕ) → list_all (λ (word : ℕ). word == 0) words ≡ true → (i : ℕ) → get_or words i 0 ≡ 0
+zero-there [] are i = refl
+zero-there (w ∷ ws) are zero = eqb-true w 0 (and_parts (w == 0) (list_all (λ (word : ℕ). word == 0) ws) are).0
+zero-there (w ∷ ws) are (suc i) = zero-there ws (and_parts (w == 0) (list_all (λ (word : ℕ). word == 0) ws) are).1 i
+
+pub none-told : (words : List ℕ) → list_all (λ (word : ℕ). word == 0) words ≡ true → pending_in MOST_ENDPOINTS words ≡ finite_set.empty
+unfolding pending_in
+none-told words are =
+    set-is bit_of has_pending_bit 3 MOST_ENDPOINTS 3 pending-read words finite_set.empty
+    (λ x is. absurd (false≢true (sym (finite_set.contains-empty (slice_cmp nat_cmp) x) ∙ is)))
+    (λ i j k lt_i lt_j lt_k.
+    ap (λ w. is_set k w) (zero-there words are (3 * i + j)) ∙ set-zero k ∙ sym (finite_set.contains-empty (slice_cmp nat_cmp) (bit_of i j k)))
+
+pub none-common : (told pending : Told) → told ≡ finite_set.empty → told ≡ finite_set.intersection told pending
+none-common told pending none = same_bits told (finite_set.intersection told pending) (λ x.
+    let missing : finite_set.contains told x ≡ false = ap (λ (t : Told). finite_set.contains t x) none ∙ finite_set.contains-empty (slice_cmp nat_cmp) x in
+    missing ∙ sym (finite_set.contains-intersection nat_list_cmp_total told pending x ∙ ap (λ b. b && finite_set.contains pending x) missing))
 
 -- the words of fewer endpoints are those of all that there may be, of which the others have none
 pub pending-wider : (n : ℕ) (words : List ℕ) → n ≤ MOST_ENDPOINTS → length words ≡ 3 * n → pending_in MOST_ENDPOINTS words ≡ pending_in n words

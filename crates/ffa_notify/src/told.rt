@@ -11,7 +11,7 @@ ghost use Rattle.ffa_notify.specs.Stored.{class_number};
 
 use crate::bitmaps::Bitmaps;
 use crate::class::Class;
-use crate::words::{CLASSES, MOST_PENDING, copy_words, keep_common, word_at};
+use crate::words::{CLASSES, MOST_PENDING, are_zeros, copy_words, keep_common, word_at};
 use arrayvec::ArrayVec;
 use ffa_model::function::{FFA_ERROR, FFA_SUCCESS, WIDE};
 use ffa_model::{EndpointId, MOST_ENDPOINTS};
@@ -25,6 +25,8 @@ pub const NO_DATA: u32 = 0xFFFF_FFF7;
 pub struct Told {
     // Of each receiver that there may be a word for each class.
     words: [u64; MOST_PENDING],
+    // Whether it may have been told of a bit: else no word has one, so that nothing is to be done behind an operation.
+    has_some: bool,
 }
 
 impl Model for Told {
@@ -40,6 +42,11 @@ impl Model for Told {
     ghost coded = { coded_bits };
 
     ghost view = { λ t. pending_in MOST_ENDPOINTS t.words };
+
+    ghost use Rattle.std.specs.Prelude.{◌≡◌, false};
+    ghost use Rattle.std.specs.FinSet.{empty};
+
+    ghost invariant = { λ t. t.has_some ≡ false → pending_in MOST_ENDPOINTS t.words ≡ empty };
 }
 
 impl Told {
@@ -49,6 +56,7 @@ impl Told {
     {
         Told {
             words: [0; MOST_PENDING],
+            has_some: false,
         }
     }
 
@@ -57,13 +65,26 @@ impl Told {
         ensures { self.new ≡ bitmaps.now.pending }
     {
         copy_words(&mut self.words, bitmaps.pending_words());
+        self.has_some = true;
     }
 
-    /// What isn't pending any more was not told: it is told when it is pending again.
+    /// What isn't pending any more was not told: it is told when it is pending again. It takes a test where nothing was told.
+    #[inline(always)]
     pub fn follow(&mut self, bitmaps: &Bitmaps)
         ensures { self.new ≡ still_told self.old bitmaps.now }
     {
+        if self.has_some {
+            self.keep_pending(bitmaps);
+        }
+    }
+
+    // Drops what isn't pending any more.
+    #[inline(never)]
+    fn keep_pending(&mut self, bitmaps: &Bitmaps)
+        ensures { self.new ≡ still_told self.old bitmaps.now }
+    {
         keep_common(&mut self.words, bitmaps.pending_words());
+        self.has_some = !are_zeros(&self.words);
     }
 
     /// The endpoints of which a bit is pending that the normal world hasn't been told of, the lowest identifier first.

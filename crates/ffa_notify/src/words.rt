@@ -1,6 +1,6 @@
 // SPDX-License-Identifier: MIT OR Apache-2.0
 //! Words of bits.
-ghost use Rattle.std.specs.Prelude.{◌≡◌, ℕ, ◌+◌, ◌≤◌, nat_lt, not, length, slice_index, if◌then◌else◌};
+ghost use Rattle.std.specs.Prelude.{◌≡◌, ℕ, ◌+◌, ◌≤◌, ◌==◌, nat_lt, not, length, slice_index, if◌then◌else◌};
 ghost use Rattle.std.specs.Int.RustNames.{bit_and};
 ghost use Rattle.std.specs.List.{list_all};
 ghost use Rattle.ffa_notify.specs.Stored.{is_asked};
@@ -63,6 +63,13 @@ pub(crate) fn keep_common(words: &mut [u64], others: &[u64])
     for place in 0..words.len() {
         words[place] &= word_at(others, place);
     }
+}
+
+// Whether no word has a bit.
+pub(crate) fn are_zeros(words: &[u64]) -> bool
+    ensures { result ≡ list_all (λ (word : ℕ). word == 0) words.now }
+{
+    words.iter().all(|&word| word == 0)
 }
 
 // The word at a place, and behind the last 0.

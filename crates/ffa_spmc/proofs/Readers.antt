@@ -4,11 +4,12 @@ use Rattle.std.proofs.Common.{◌≡◌, ◌∙◌, ℕ, ◌*◌, true, false, c
 use Rattle.std.specs.Option.{option_and_then}
 use Rattle.std.specs.Prelude.{find, slice_index, ◌==◌, if◌then◌else◌}
 use Rattle.std.proofs.lemmas.Bool.Decides.{nat_tests}
+use Rattle.ffa_model.specs.Bits.{low_half}
 use Rattle.ffa_model.specs.declared.call.Call.{Call}
-use Rattle.ffa_model.specs.declared.call.Call.TheVariants.{Unknown}
+use Rattle.ffa_model.specs.declared.call.Call.TheVariants.{Run, Unknown}
 use Rattle.ffa_model.specs.declared.function.TheConstants.{FFA_RUN}
 use Rattle.ffa_model.specs.Processors.{resumed_by_call}
-use Rattle.ffa_model.specs.Registers.{Function, called, decode, functions, is_form_of, low}
+use Rattle.ffa_model.specs.Registers.{Function, called, decode, functions, high_endpoint, is_form_of, low}
 use Rattle.ffa_model.specs.State.{State, Buffers}
 use Rattle.ffa_laws.specs.Reads.{bytes_read, pages_holding}
 use Rattle.ffa_spmc.specs.Among.{front_of, reads_tx}
@@ -185,6 +186,12 @@ resumes-none s x off =
         ),
       ),
     )
+
+-- FFA_RUN names an endpoint and its execution context in one word
+pub resumes-named : (s : State) (x : List ℕ) → low (slice_index x 0) ≡ FFA_RUN
+    → resumed_by_call s (decode x) ≡ resumed_by_call s (Run (high_endpoint (low (slice_index x 1))) (low_half (low (slice_index x 1))))
+unfolding decode
+resumes-named s x is = ap (λ w0. resumed_by_call s (called x (find (is_form_of w0) functions))) is
 
 holding-none : (pages : ℕ) → pages_holding pages 0 ≡ 0
 holding-none pages = grind (arith, nat_tests)

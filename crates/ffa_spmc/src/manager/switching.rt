@@ -4,6 +4,7 @@
 ghost use Rattle.std.specs.Prelude.{◌≡◌};
 ghost use Rattle.std.specs.Option.{option_map};
 ghost use Rattle.ffa_model.specs.declared.endpoint.EndpointId.{EndpointId};
+ghost use Rattle.ffa_model.specs.declared.call.Call.{Call};
 ghost use Rattle.ffa_model.specs.Processors.{resumed_by, resumed_by_call, with_switch};
 ghost use Rattle.ffa_model.specs.RunStates.{schedule_of};
 ghost use Rattle.ffa_model.specs.Sound.{MayGoOn, MayStop};
@@ -11,7 +12,7 @@ ghost use Rattle.ffa_model.specs.Sound.{MayGoOn, MayStop};
 use super::Manager;
 use crate::storage::Store;
 use ffa_model::function::FFA_RUN;
-use ffa_model::{Call, EndpointId, Op, Status};
+use ffa_model::{EndpointId, Op, Status};
 use ffa_physmem::PhysMem;
 
 impl<M: PhysMem + Drop, S: Store> Manager<M, S> {
@@ -32,22 +33,22 @@ impl<M: PhysMem + Drop, S: Store> Manager<M, S> {
         if ffa_abi::low(x[0]) != FFA_RUN {
             return None;
         }
-        self.resumed_by_call(ffa_abi::decode(*x))
+        let word = ffa_abi::low(x[1]);
+        self.resumed_by_run(
+            EndpointId((word / 0x1_0000) as u16),
+            (word % 0x1_0000) as u16,
+        )
     }
 
-    // So of a call.
-    fn resumed_by_call(&self, call: Call) -> Option<EndpointId>
-        ensures { option_map (λ (e : EndpointId). e.0) result ≡ resumed_by_call self.now.state call }
+    // So of FFA_RUN, which names an endpoint and its execution context.
+    fn resumed_by_run(&self, target: EndpointId, context: u16) -> Option<EndpointId>
+        ensures { option_map (λ (e : EndpointId). e.0) result
+            ≡ resumed_by_call self.now.state (Call.Run target context) }
     {
-        match call {
-            Call::Run { target, context } => {
-                if self.kept.chain.may_resume(target, context) {
-                    Some(target)
-                } else {
-                    None
-                }
-            }
-            _ => None,
+        if self.kept.chain.may_resume(target, context) {
+            Some(target)
+        } else {
+            None
         }
     }
 }

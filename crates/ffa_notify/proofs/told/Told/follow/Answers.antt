@@ -1,10 +1,9 @@
 -- SPDX-License-Identifier: MIT OR Apache-2.0
-use Rattle.std.proofs.Common.{◌∙◌}
+use Rattle.std.proofs.Common.{◌≡◌, ◌∙◌, sym, subst}
 use Rattle.std.specs.FinSet as finite_set
-use Rattle.ffa_notify.proofs.ToldWords.{words-common}
+use Rattle.ffa_notify.specs.Notices.{Told}
+use Rattle.ffa_notify.proofs.ToldWords.{none-common}
 use Rattle.ffa_notify.proofs.told.Told.follow.Goals as goal
 
-pub returns : goal.returns
-returns c =
-    words-common c.self.inside.words c.pending_words.result.now c.keep_common.new.words c.self.told c.keep_common.ensures.common
-    ∙ (λ t. finite_set.intersection (c.self.view_is t) (c.pending_words.ensures t))
+pub returns-else-self : goal.returns-else-self
+returns-else-self c = none-common c.args.self.now c.args.bitmaps.now.pending (sym c.self.view_is ∙ c.self.invariant c.if-self.false)
