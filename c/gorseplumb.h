@@ -41,7 +41,7 @@ extern "C" {
 
 /* The number of these declarations, raised by each change that a caller has to know of. Who loads the library while a
  * program runs compares it with gorseplumb_declarations, which answers the number that the library was built by. */
-#define GORSEPLUMB_DECLARATIONS 3
+#define GORSEPLUMB_DECLARATIONS 4
 
 uint32_t gorseplumb_declarations(void);
 
@@ -192,7 +192,7 @@ struct gorseplumb_manifest {
     struct gorseplumb_endpoint endpoints[GORSEPLUMB_MOST_ENDPOINTS];
 };
 
-/* What boots, gorseplumb_free and functions of lists answer. None is an error code of FF-A, which a call answers in its
+/* What boots, copies, gorseplumb_free and functions of lists answer. None is an error code of FF-A, which a call answers in its
  * registers. */
 enum gorseplumb_answer {
     GORSEPLUMB_OK = 0,
@@ -218,7 +218,7 @@ enum gorseplumb_answer {
     GORSEPLUMB_NO_PAGE = 17,    /* there is no page in the slot, in the span or in the list */
     GORSEPLUMB_HAS_PAGES = 18,  /* the list has pages still */
     GORSEPLUMB_NO_MACHINE = 19, /* there is no machine */
-    GORSEPLUMB_WRONG_COUNT = 20, /* the list has more pages than the manifest's RAM, or fewer */
+    GORSEPLUMB_WRONG_COUNT = 20, /* the list has more pages than the machine's RAM, or fewer */
     GORSEPLUMB_NOT_CERTIFIED = 21, /* the tables don't give what the runs say */
     GORSEPLUMB_LENT = 22,          /* the machine's RAM is lent: gorseplumb_free gives it back */
     GORSEPLUMB_BAD_BASE = 23,      /* RAM of so many pages can't stand at the address */
@@ -260,6 +260,25 @@ enum gorseplumb_answer gorseplumb_boot_held(struct gorseplumb_machine *machine, 
                                             const uint8_t *text, size_t size);
 enum gorseplumb_answer gorseplumb_boot_held_manifest(struct gorseplumb_machine *machine, struct gorseplumb_lent *lent,
                                                      const struct gorseplumb_manifest *manifest);
+
+/* Makes the same machine as `original` once more, with RAM from the heap, whichever RAM that one has: for a test that
+ * tries several operations from one state, or a checkpoint. GORSEPLUMB_OK: there was none, and now each operation gives
+ * what it gives in `original`, since all is the same: the state, every byte of RAM, who runs on each processor, what is to
+ * be told of access that changed and what the normal world has been told of. From then on neither changes the other. Else
+ * nothing has changed, the first that applies: GORSEPLUMB_OCCUPIED; GORSEPLUMB_NO_MACHINE, where there is none to copy; or
+ * GORSEPLUMB_NO_MEMORY. To `original` it is a question. Where its RAM is lent, nobody may write there meanwhile: what
+ * would be copied of such bytes is not said. */
+enum gorseplumb_answer gorseplumb_copy(struct gorseplumb_machine *machine, const struct gorseplumb_machine *original);
+
+/* The same in RAM that is lent: the pages of the list, in order, of which it writes every byte, and which is empty then. It
+ * settles as a boot does. The first that applies: GORSEPLUMB_OCCUPIED, GORSEPLUMB_NO_LIST, GORSEPLUMB_NO_MACHINE,
+ * GORSEPLUMB_WRONG_COUNT, where the pages aren't as many as the RAM of `original` has (512 for each block, of which
+ * gorseplumb_ram_blocks tells the number), or GORSEPLUMB_NO_MEMORY, which comes only where a boot from numbers in the list
+ * may be answered it. Back to where it came from a machine gets by a copy of the copy, in the pages that gorseplumb_free
+ * has given back. A copy's tables have the addresses of its RAM, as those of `original` have: no processor walks them
+ * where its pages stand elsewhere. */
+enum gorseplumb_answer gorseplumb_copy_lent(struct gorseplumb_machine *machine, struct gorseplumb_lent *lent,
+                                            const struct gorseplumb_machine *original);
 
 /* Reads a manifest's text of `size` bytes into numbers, which a boot would go by, so that RAM can be lent that has the
  * size which the text describes. GORSEPLUMB_OK: `manifest` gives what the text describes, and what stands behind the

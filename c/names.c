@@ -243,7 +243,7 @@ static const char answer_names[] =
     "there is no page in the slot, in the span or in the list\0"
     "the list has pages still\0"
     "there is no machine\0"
-    "the list has more pages than the manifest's RAM, or fewer\0"
+    "the list has more pages than the machine's RAM, or fewer\0"
     "the tables don't give what the runs say\0"
     "the machine's RAM is lent: gorseplumb_free gives it back\0"
     "RAM of so many pages can't stand at the address\0"

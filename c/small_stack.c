@@ -1,6 +1,6 @@
 /* SPDX-License-Identifier: MIT OR Apache-2.0 */
-/* Boots a machine from numbers and operates it on a stack of 64 KiB, with no C library, as firmware may: in lent pages, and on RAM of
- * the heap. The stack and 1 MiB below it are painted anew for each part, and the part took what isn't paint behind it. Where that is
+/* Boots a machine from numbers, operates and copies it on a stack of 64 KiB, with no C library, as firmware may: in lent pages, and on RAM
+ * of the heap. The stack and 1 MiB below it are painted anew for each part, and the part took what isn't paint behind it. Where that is
  * more than the stack, the status is 1. The assembler asks Linux to write and to end; firmware has none of that. */
 #include "bytes.h"
 #include "../board/calls.h"
@@ -80,7 +80,7 @@ static _Alignas(16) struct {
 } painted;
 
 static _Alignas(GORSEPLUMB_PAGE_SIZE) struct gorseplumb_page pages[512];
-static struct gorseplumb_machine machine;
+static struct gorseplumb_machine machine, saved;
 static struct gorseplumb_lent list;
 static const char *wrong; /* what was first not as it has to be */
 
@@ -107,6 +107,14 @@ static void boot_lent(void) { check(gorseplumb_boot_lent_manifest(&machine, &lis
 static void boot_heap(void) { check(gorseplumb_boot_manifest(&machine, &manifest) == GORSEPLUMB_OK, "no boot on RAM of the heap"); }
 
 static void end(void) { check(gorseplumb_free(&machine, &list) == GORSEPLUMB_OK, "the machine doesn't end"); }
+
+static void copy_to_heap(void) { check(gorseplumb_copy(&saved, &machine) == GORSEPLUMB_OK, "no copy on RAM of the heap"); }
+
+static void copy_to_lent(void) {
+    check(gorseplumb_copy_lent(&machine, &list, &saved) == GORSEPLUMB_OK, "no copy in lent pages");
+    check(gorseplumb_load(&machine, 0x40010000, 8).value == 0x2A, "a copy has other bytes");
+    check(gorseplumb_end(&saved) == GORSEPLUMB_OK, "the copy doesn't end");
+}
 
 static void take_pages_back(void) { check(gorseplumb_take_all_back(&list, pages, 512), "pages stay lent"); }
 
@@ -200,6 +208,9 @@ ENTRY void _start(void) {
     take(", boot ", boot_lent);
     take(", operations ", operate);
     take(", reasons ", explain);
+    take(", copy to the heap ", copy_to_heap);
+    take(", end ", end);
+    take(", copy from there ", copy_to_lent);
     take(", end ", end);
     take(", return ", take_pages_back);
     put(1, "; on RAM of the heap:");

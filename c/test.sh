@@ -17,7 +17,7 @@ if [[ ${1:-} == --install-only ]]; then exit 0; fi
 to=$(mktemp -d)
 trap 'rm -rf "$to"' EXIT
 strict="-std=c11 -Wall -Wextra -Wpedantic -Wshadow -Werror -I$here"
-tests="test test_ffa test_questions test_reasons test_runs test_races test_walks test_processors"
+tests="test test_copies test_ffa test_questions test_reasons test_runs test_races test_walks test_processors"
 sanitized="-O1 -g -fsanitize=address,undefined -fno-sanitize-recover=all"
 deep=${UNPROVED:+-DGORSEPLUMB_STACK_BYTES=0x80000} # what tests/all compiled without proofs tests more, and takes more stack
 renamed="-Dmemcpy=copy_bytes -Dmemmove=move_bytes -Dmemset=set_bytes" # bytes.c beside a C library, which has these
@@ -74,7 +74,7 @@ stores() {
 asks() {
     local found others
     found=$("$here/reaches" "$2" "$3" | sed 's/^gorseplumb_//' | tr '\n' ' ')
-    others=$(tr ' ' '\n' <<<"$found" | grep -Evx '(boot.*|read_manifest|audit|audit_tables|free|begin_lending|lend|lend_span|)' || true)
+    others=$(tr ' ' '\n' <<<"$found" | grep -Evx '(boot.*|copy|copy_lent|read_manifest|audit|audit_tables|free|begin_lending|lend|lend_span|)' || true)
     if [[ $others ]]; then echo "$1: asks for memory:" $others >&2; exit 1; fi
     echo "$1: only these ask for memory: $found"
 }
@@ -199,7 +199,7 @@ for compiler in gcc clang; do
         "$native" -o "$to/named"
     echo "$compiler: linked with no C library, and run: $(bytes "$to/free") bytes," \
         "$(bytes "$to/named") with the checks' names, and $(bytes "$to/whole") with what nobody calls"
-    $compiler $bare -Wl,--gc-sections -DGORSEPLUMB_ARRAY_BYTES=0x400000 "$here"/{small_stack,array,bytes,settle}.c "$native" -o "$to/small"
+    $compiler $bare -Wl,--gc-sections -DGORSEPLUMB_ARRAY_BYTES=0x800000 "$here"/{small_stack,array,bytes,settle}.c "$native" -o "$to/small"
     says "$compiler" "$to/small"
     $compiler $strict -O2 $deep "$here"/{deep_text,heap}.c "$native" -o "$to/deep"
     says "$compiler, deep_text" "$to/deep"
@@ -257,7 +257,7 @@ if has aarch64-linux-gnu-gcc && has qemu-aarch64-static && make_archive aarch64-
     echo "AArch64: linked with no C library, and run"
     moves AArch64 "$made" $arm $bare
     qemu-aarch64-static "$to/moved"
-    $arm $bare -DGORSEPLUMB_ARRAY_BYTES=0x400000 "$here"/{small_stack,array,bytes,settle}.c "$made" -o "$to/small"
+    $arm $bare -DGORSEPLUMB_ARRAY_BYTES=0x800000 "$here"/{small_stack,array,bytes,settle}.c "$made" -o "$to/small"
     says AArch64 qemu-aarch64-static "$to/small"
     $arm $deep "$here"/{deep_text,heap}.c "$made" -o "$to/deep"
     says "AArch64, deep_text" qemu-aarch64-static "$to/deep"

@@ -137,7 +137,7 @@ if has valgrind; then
     export CARGO_TARGET_X86_64_UNKNOWN_LINUX_GNU_RUNNER="valgrind -q --error-exitcode=9 $definite"
     quiet "lent pages under valgrind" cargo test --test lent -- --skip forgotten --test-threads 1
     quiet "the manual's traces under valgrind" cargo test --test examples -- --test-threads 1
-    quiet "certificates and lists under valgrind" cargo test --test certificates --test lists -- --test-threads 1
+    quiet "certificates, lists and copies under valgrind" cargo test --test certificates --test lists --test copies -- --test-threads 1
     unset CARGO_TARGET_X86_64_UNKNOWN_LINUX_GNU_RUNNER
 fi
 

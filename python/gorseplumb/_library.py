@@ -13,7 +13,7 @@ from typing import Any, Callable
 
 from .errors import LibraryError
 
-DECLARATIONS = 3
+DECLARATIONS = 4
 """The number of the declarations that this file has."""
 
 MOST_REGIONS = 16
@@ -130,6 +130,8 @@ _DECLARED: dict[str, tuple[Any, ...]] = {
     "boot_held": (c_uint32, _MACHINE, _LENT, c_char_p, c_size_t),
     "boot_held_manifest": (c_uint32, _MACHINE, _LENT, POINTER(Manifest)),
     "read_manifest": (c_uint32, c_char_p, c_size_t, POINTER(Manifest)),
+    "copy": (c_uint32, _MACHINE, _MACHINE),
+    "copy_lent": (c_uint32, _MACHINE, _LENT, _MACHINE),
     "free": (c_uint32, _MACHINE, _LENT),
     "end": (c_uint32, _MACHINE),
     "call": (Outcome, _MACHINE, _REGISTERS),

@@ -75,7 +75,7 @@ class Machine(Questions):
 
     Its manifest is a text, a path to one (a str is a text, so give a `pathlib.Path`), or a Manifest. Its RAM is of the
     heap, or a Ram, of which all is zeros then but the tables; with `keep` the pages of regions keep the bytes that they
-    have. It isn't copied: `copy` and `pickle` are refused."""
+    have. `fork` makes the same machine once more, as `copy` does; it isn't pickled."""
 
     __slots__ = ("_at", "_ram", "_manifest", "_values", "_watchers", "__weakref__")
 
@@ -84,37 +84,56 @@ class Machine(Questions):
     ) -> None:
         if keep and ram is None:
             raise ValueError("RAM of the heap has no bytes to keep: give a Ram")
-        if ram is not None and not isinstance(ram, Ram):
-            refuse("ram", "a Ram", ram, f"Ram({ram})" if isinstance(ram, int) else None)
+        _check_ram(ram)
         if not isinstance(manifest, (str, Manifest)):
             manifest = text_of(manifest, "a text, a path or a Manifest")
         self._manifest = manifest
         self._values = self._manifest if isinstance(self._manifest, Manifest) else None
-        self._raw, self._ram = c.Held(), ram
-        self._boot(self._manifest, keep)
-        self._end = weakref.finalize(self, _end, self._raw, ram)
-        self._at = ctypes.byref(self._raw)
-        self._endpoints = tuple(place and 0x8000 + place for place in range(library.endpoints(self._raw)))
+        self._boot(self._manifest, ram, keep)
         self._watchers: list[Watcher] = [_FIRST]
 
-    def _boot(self, manifest: str | bytes | Manifest, keep: bool) -> None:
-        kind = "boot" if self._ram is None else "boot_held" if keep else "boot_lent"
+    def _boot(self, manifest: str | bytes | Manifest, ram: Ram | None, keep: bool) -> None:
+        kind = "boot" if ram is None else "boot_held" if keep else "boot_lent"
         told: tuple[object, ...]
         if isinstance(manifest, Manifest):
             kind, told = f"{kind}_manifest", (manifest.raw(),)
         else:
             text = text_of(manifest)
             told = (text, len(text))
-        boot = getattr(library, kind)
-        if self._ram is None:
-            checked_boot(boot(self._raw, *told), manifest)
-            return
-        lent = self._ram.lend()
-        try:
-            checked_boot(boot(self._raw, lent, *told), manifest)
-        except BaseException:
-            self._ram.take_back()
-            raise
+        self._begin(getattr(library, kind), ram, *told, given=manifest)
+
+    def _begin(self, make: Callable[..., int], ram: Ram | None, *told: object, given: object = None) -> None:
+        """Has the library make the machine of what it is told, in RAM of the heap or in a Ram."""
+        self._raw, self._ram = c.Held(), ram
+        if ram is None:
+            checked_boot(make(self._raw, *told), given)
+        else:
+            lent = ram.lend()
+            try:
+                checked_boot(make(self._raw, lent, *told), given)
+            except BaseException:
+                ram.take_back()
+                raise
+        self._end = weakref.finalize(self, _end, self._raw, ram)
+        self._at = ctypes.byref(self._raw)
+        self._endpoints = tuple(place and 0x8000 + place for place in range(library.endpoints(self._raw)))
+
+    def fork(self, ram: Ram | None = None) -> Machine:
+        """The same machine once more, with RAM of the heap or a Ram, whichever this one has: each operation gives the
+        same in both from then on, and neither changes the other. Nobody watches it."""
+        self._check_alive()
+        _check_ram(ram)
+        other = _new(Machine)
+        other._manifest, other._values = self._manifest, self._values
+        other._begin(library.copy if ram is None else library.copy_lent, ram, self._raw)
+        other._watchers = [_FIRST] if self.is_fresh else []
+        return other
+
+    def __copy__(self) -> Machine:
+        return self.fork()
+
+    def __deepcopy__(self, _: object) -> Machine:
+        return self.fork()
 
     def close(self) -> None:
         """Ends the machine. A Ram that was lent is the caller's again, with the bytes that it has in the end."""
@@ -127,7 +146,7 @@ class Machine(Questions):
         self.close()
 
     def __reduce_ex__(self, protocol: SupportsIndex) -> NoReturn:
-        raise TypeError("a machine isn't copied or pickled: boot another, and do on it what was done")
+        raise TypeError("a machine isn't pickled: boot another, and do on it what was done, or `fork` it")
 
     def __repr__(self) -> str:
         if not self._end.alive:
@@ -498,6 +517,11 @@ class Machine(Questions):
         if kind == c.KIND_NO_MACHINE:
             self._refuse_ended()
         raise LibraryError(f"the library answers an outcome of kind {kind}")
+
+
+def _check_ram(ram: object) -> None:
+    if ram is not None and not isinstance(ram, Ram):
+        refuse("ram", "a Ram", ram, f"Ram({ram})" if isinstance(ram, int) else None)
 
 
 def _end(raw: c.Held, ram: Ram | None) -> None:

@@ -2,7 +2,6 @@
 """The machine: operations, questions, and what is refused, on the machine of the manual's worked example."""
 from __future__ import annotations
 
-import copy
 import gc
 import pickle
 import uuid
@@ -340,12 +339,10 @@ def test_ends_once() -> None:
     assert repr(machine) == "<Machine, ended>"
 
 
-def test_is_not_copied() -> None:
-    copies: list[Callable[[object], object]] = [copy.copy, copy.deepcopy, pickle.dumps]
+def test_is_not_pickled() -> None:
     with Machine(MANIFEST) as machine:
-        for copied in copies:
-            with pytest.raises(TypeError, match="^a machine isn't copied or pickled: boot another"):
-                copied(machine)
+        with pytest.raises(TypeError, match="^a machine isn't pickled: boot another, and do .*, or `fork` it$"):
+            pickle.dumps(machine)
         assert machine.is_fresh and machine.store(RAM + 0x10000, 1, 42) == Done()
 
 

@@ -115,7 +115,7 @@ pub enum BootError {
     NoMemory,
     /// The manifest describes no machine.
     Refused(Cause),
-    /// The lent pages are more or fewer than the manifest's RAM has, 512 for each block.
+    /// The lent pages are more or fewer than the machine's RAM has, 512 for each block.
     WrongCount,
 }
 
@@ -124,7 +124,7 @@ impl fmt::Display for BootError {
         match self {
             BootError::NoMemory => to.write_str("there is no memory for a machine"),
             BootError::Refused(cause) => write!(to, "the manifest is refused by {cause}"),
-            BootError::WrongCount => to.write_str("there are more or fewer pages than the manifest's RAM has"),
+            BootError::WrongCount => to.write_str("there are more or fewer pages than the machine's RAM has"),
         }
     }
 }

@@ -157,6 +157,33 @@ impl<R: Ram> Machine<R> {
         Ok(Machine { at, ram })
     }
 
+    /// The same machine once more, with RAM of the heap, whichever RAM this one has. Each operation gives the same in
+    /// both from then on, and neither changes the other.
+    ///
+    /// # Errors
+    /// [`BootError::NoMemory`].
+    pub fn try_clone(&self) -> Result<Machine, BootError> {
+        let mut at = raw::Machine::NONE;
+        // SAFETY: the struct is live and holds no machine, and this machine is another, asked for this one call.
+        booted(unsafe { raw::gorseplumb_copy(&mut at, self.asked()) })?;
+        Ok(Machine { at, ram: Heap(raw::Lent::NONE) })
+    }
+
+    /// The same in these pages, 512 for each of [`Machine::ram_blocks`], of which each byte is written.
+    ///
+    /// # Errors
+    /// [`BootError::NoMemory`], or [`BootError::WrongCount`]. The pages keep their bytes then.
+    pub fn try_clone_lent<'ram>(&self, pages: &'ram mut [Page]) -> Result<Machine<Lent<'ram>>, BootError> {
+        self.copied_in(Lent::new(pages)?)
+    }
+
+    pub(crate) fn copied_in<T: Ram>(&self, mut ram: T) -> Result<Machine<T>, BootError> {
+        let mut at = raw::Machine::NONE;
+        // SAFETY: as above, and the list is a third one's.
+        booted(unsafe { raw::gorseplumb_copy_lent(&mut at, ram.list(), self.asked()) })?;
+        Ok(Machine { at, ram })
+    }
+
     /// A call of the endpoint that runs.
     #[inline]
     pub fn call(&mut self, registers: &Registers) -> Answer {

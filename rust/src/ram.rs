@@ -110,6 +110,15 @@ impl<'ram> Lent<'ram> {
         Machine::boot_held_in(description, self)
     }
 
+    /// Copies a machine into these pages, as [`Machine::try_clone_lent`] does: so one gets back to where it was by a copy
+    /// of a copy.
+    ///
+    /// # Errors
+    /// As [`Machine::try_clone_lent`]. The list has its pages still.
+    pub fn copy<R: Ram>(&mut self, original: &Machine<R>) -> Result<Machine<&mut Lent<'ram>>, BootError> {
+        original.copied_in(self)
+    }
+
     /// The list, for the library.
     pub(crate) fn raw(&mut self) -> *mut raw::Lent {
         &mut self.list

@@ -8,7 +8,7 @@
 use core::ffi::c_void;
 
 /// The number of the declarations that stand here.
-pub const DECLARATIONS: u32 = 3;
+pub const DECLARATIONS: u32 = 4;
 
 /// What a question answers where there is nothing to tell.
 pub const NOTHING: u32 = u32::MAX;
@@ -287,6 +287,8 @@ extern "C" {
     pub fn gorseplumb_why_fetch(machine: *const Machine, address: u64, reason: *mut Reason) -> bool;
     pub fn gorseplumb_read_manifest(text: *const u8, size: usize, manifest: *mut Manifest) -> u32;
     pub fn gorseplumb_end(machine: *mut Machine) -> u32;
+    pub fn gorseplumb_copy(machine: *mut Machine, original: *const Machine) -> u32;
+    pub fn gorseplumb_copy_lent(machine: *mut Machine, lent: *mut Lent, original: *const Machine) -> u32;
     pub fn gorseplumb_run(
         machine: *mut Machine,
         operations: *const Operation,

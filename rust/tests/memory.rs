@@ -99,6 +99,8 @@ fn each_piece_of_memory() {
     let mut pages = ram(1);
     assert!(refuses_each(|| Machine::boot(&MACHINE)) > 0);
     assert!(refuses_each(|| Machine::boot(&*text)) > 0);
+    let machine = Machine::boot(&MACHINE).unwrap();
+    assert!(refuses_each(|| machine.try_clone()) > 0);
     // A list takes all that a machine needs.
     let lent = |pages: &mut _| Lent::new(pages).map(drop);
     let (made, asked) = with_refused(0, || lent(&mut pages));
@@ -108,16 +110,17 @@ fn each_piece_of_memory() {
     }
     let before = held();
     let mut lent = Lent::new(&mut pages).unwrap();
-    assert_eq!(refuses_each_in(&mut lent), 0);
+    assert_eq!(refuses_each_in(&mut lent, &machine), 0);
     drop(lent);
     assert_eq!(held(), before);
 }
 
-/// Boots from numbers in a list ask for nothing, the first and the next one.
-fn refuses_each_in(lent: &mut Lent<'_>) -> usize {
+/// Boots from numbers in a list and copies ask for nothing, the first and the next one.
+fn refuses_each_in(lent: &mut Lent<'_>, machine: &Machine) -> usize {
+    let (_, copied) = with_refused(1, || assert!(lent.copy(machine).is_ok()));
     let (_, first) = with_refused(1, || assert!(lent.boot(&MACHINE).is_ok()));
     let (_, next) = with_refused(1, || assert!(lent.boot_held(&MACHINE).is_ok()));
-    first + next
+    copied + first + next
 }
 
 #[test]

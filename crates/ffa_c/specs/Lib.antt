@@ -8,6 +8,7 @@ pub mod Booting
 pub mod Boots
 pub mod CertRuns
 pub mod Changes
+pub mod Copying
 pub mod Ending
 pub mod Given
 pub mod LentPages

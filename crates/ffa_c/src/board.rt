@@ -62,6 +62,8 @@ macro_rules! asked {
     };
 }
 
+mod copy;
+
 /// What a boot does with the bytes of pages that are lent.
 #[derive(Clone, Copy)]
 pub enum FirstBytes {

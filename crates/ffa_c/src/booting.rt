@@ -1,9 +1,11 @@
 // SPDX-License-Identifier: MIT OR Apache-2.0
 //! Boots machines for C: over RAM of the heap, and over RAM that is lent.
 ghost use Rattle.std.specs.Prelude.{◌≡◌, ◌≢◌, ◌*◌, ◌<◌, ◌⊎◌, [], length, true, false, Bool, Ok, Some, None, IfOk, IfErr, IfSome, IsUtf8};
+ghost use Rattle.ffa_model.specs.Ram.{zero_ram};
 ghost use Rattle.ffa_manifest.specs.Document.{Parts, parts_of};
 ghost use Rattle.ffa_manifest.specs.declared.error.ManifestError.{ManifestError};
 ghost use Rattle.ffa_manifest.specs.declared.error.ManifestError.TheVariants as causes;
+ghost use Rattle.ffa_spmc.specs.Storages.{IsRoomFor};
 ghost use Rattle.ffa_c.specs.Booting.{Describes, HasBegun, HasBooted, IsFirstBy, IsRefusedFor, cause_number};
 ghost use Rattle.ffa_c.specs.Boots.{Boots, BootsLent};
 ghost use Rattle.ffa_c.specs.declared.board.FirstBytes.TheVariants.{Cleared, Kept};
@@ -24,8 +26,8 @@ use crate::manifest::{CManifest, manifest_of_numbers};
 use crate::seat::Seat;
 use ffa_manifest::ManifestError;
 use ffa_model::Manifest;
-use ffa_physmem::{FlatRam, NoMemory};
-use ffa_spmc::Storage;
+use ffa_physmem::{FlatRam, NoMemory, PhysMem};
+use ffa_spmc::{Given, Storage};
 use std::alloc::{AllocError, Global};
 
 /// A form in which C gives a manifest.
@@ -251,13 +253,29 @@ fn boot_heap(alloc: Global, machine: &mut CMachine, manifest: &Manifest) -> u32
 pub(crate) fn box_seat(alloc: Global, manifest: &Manifest) -> Result<Box<Seat>, NoMemory>
     ensures { IfOk result (λ b. HasBooted (λ p. p ≡ parts_of manifest.now) false b.value) }
 {
+    let (mut seat, ram, storage) = open_heap(alloc, manifest)?;
+    seat.fill(Board::boot(manifest, ram, storage));
+    Ok(seat)
+}
+
+// What the machine of a manifest stands in on the heap: its place, RAM, and room for what it keeps. Not inlined, so that no
+// boot and no copy has its frame.
+#[inline(never)]
+pub(crate) fn open_heap(
+    alloc: Global,
+    manifest: &Manifest,
+) -> Result<(Box<Seat>, FlatRam, Storage<Given<Global>>), NoMemory>
+    ensures seat { IfOk result (λ o. o.0.value ≡ None) }
+    ensures ram { let pages = 512 * manifest.now.ram_blocks in
+        IfOk result (λ o. ⟦<FlatRam as PhysMem>⟧.ram o.1 ≡ zero_ram manifest.now.ram_base.0 pages) }
+    ensures storage { IfOk result (λ o. IsRoomFor manifest.now o.2) }
+{
     let ram = FlatRam::new(alloc, manifest.ram_base, 512 * manifest.ram_blocks)?;
-    let (Ok(mut seat), Ok(storage)) = (Seat::empty(alloc), Storage::allocate_for(alloc, manifest))
+    let (Ok(seat), Ok(storage)) = (Seat::empty(alloc), Storage::allocate_for(alloc, manifest))
     else {
         return Err(NoMemory);
     };
-    seat.fill(Board::boot(manifest, ram, storage));
-    Ok(seat)
+    Ok((seat, ram, storage))
 }
 
 // Boots a machine, where there is none, in the pages of this list.

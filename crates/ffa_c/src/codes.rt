@@ -3,7 +3,7 @@
 //! which a call answers in its registers.
 
 /// The number of the header's declarations, raised by each change that a caller has to know of.
-pub const DECLARATIONS: u32 = 3;
+pub const DECLARATIONS: u32 = 4;
 
 /// It was done.
 pub const OK: u32 = 0;
@@ -65,7 +65,7 @@ pub const HAS_PAGES: u32 = 18;
 /// There is no machine.
 pub const NO_MACHINE: u32 = 19;
 
-/// The list has more pages than the manifest's RAM, or fewer.
+/// The list has more pages than the machine's RAM, or fewer.
 pub const WRONG_COUNT: u32 = 20;
 
 /// The tables don't give what the runs say.

@@ -2,6 +2,7 @@
 //! The list of lent pages, with what a machine in them needs.
 ghost use Rattle.std.specs.Prelude.{◌≡◌, ◌↔◌, ◌+◌, ◌*◌, ◌%◌, ◌^◌, ◌<◌, ◌≤◌, ◌++◌, ◌∷◌, [], All, true, false, Some, None, IfOk, IfErr, IfSome, IsTrue, is_ok, length, if◌then◌else◌};
 ghost use Rattle.std.specs.Option.{option_map, option_to_list};
+ghost use Rattle.ffa_lent.specs.LentRam.{ram_of};
 ghost use Rattle.ffa_manifest.specs.Document.{parts_of};
 ghost use Rattle.ffa_model.specs.Certified.{IsCertified};
 ghost use Rattle.ffa_model.specs.Walk.{is_page_address};
@@ -9,6 +10,7 @@ ghost use Rattle.ffa_spmc.specs.Storages.{IsRoomFor};
 ghost use Rattle.ffa_c.specs.Audit.{ram_at};
 ghost use Rattle.ffa_c.specs.Boarded.{lends, ram_pages};
 ghost use Rattle.ffa_c.specs.Booting.{HasBegun, IsFirstBy};
+ghost use Rattle.ffa_c.specs.Copying.{HasCopied};
 ghost use Rattle.ffa_c.specs.LentPages.{empty};
 ghost use Rattle.ffa_c.specs.Readiness.{storage_pages};
 
@@ -119,17 +121,50 @@ impl LentList {
         ensures refused { IfErr result (λ _. self.new ≡ self.old) }
         ensures unready { IfErr result (λ _. self.old.ready_for < length self.old.pages) }
     {
+        let (mut seat, ram, storage) = self.open(alloc, manifest)?;
+        seat.fill(Board::boot_lent(manifest, ram, storage, bytes));
+        Ok(seat)
+    }
+
+    /// Copies a machine into the pages, of which it writes every byte, and leaves none. It takes memory only for what the
+    /// list lacks, and where that is refused the list is as before.
+    #[inline(never)]
+    pub fn copy(&mut self, alloc: Global, original: &Board) -> Result<Box<Seat>, AllocError>
+        requires { length self.old.pages ≡ length original.now.machine.ram.pages }
+        ensures copied { IfOk result (λ b. HasCopied true (Some original.now) b.value) }
+        ensures emptied { IfOk result (λ _. self.new.pages ≡ []) }
+        ensures refused { IfErr result (λ _. self.new ≡ self.old) }
+        ensures unready { IfErr result (λ _. self.old.ready_for < length self.old.pages) }
+    {
+        let (mut seat, ram, storage) = self.open(alloc, original.manifest())?;
+        seat.fill(original.copy_to_lent(ram, storage));
+        Ok(seat)
+    }
+
+    // Takes out what a machine of a manifest stands in: its place, RAM over the pages, and room for what it keeps. It takes
+    // memory only for what the list lacks, and where that is refused the list is as before. Not inlined, so that no boot and no copy has its frame.
+    #[inline(never)]
+    fn open(
+        &mut self,
+        alloc: Global,
+        manifest: &Manifest,
+    ) -> Result<(Box<Seat>, LentRam, Storage<Ready<Global>>), AllocError>
+        requires { length self.old.pages ≡ 512 * manifest.now.ram_blocks }
+        ensures seat { IfOk result (λ o. o.0.value ≡ None) }
+        ensures ram { IfOk result (λ o. ram_of o.1 ≡ record { base = manifest.now.ram_base.0; pages = self.old.pages }) }
+        ensures storage { IfOk result (λ o. IsRoomFor manifest.now o.2) }
+        ensures emptied { IfOk result (λ _. self.new.pages ≡ []) }
+        ensures refused { IfErr result (λ _. self.new ≡ self.old) }
+        ensures unready { IfErr result (λ _. self.old.ready_for < length self.old.pages) }
+    {
         let storage = storage_in(&mut self.storage, alloc, manifest)?;
-        let Ok(mut seat) = seat_in(&mut self.seat, alloc) else {
+        let Ok(seat) = seat_in(&mut self.seat, alloc) else {
             self.storage = Some(storage);
             return Err(AllocError);
         };
         let frames = mem::replace(&mut self.frames, Frames::none(alloc));
         match LentRam::new(alloc, manifest.ram_base, frames) {
-            Ok(ram) => {
-                seat.fill(Board::boot_lent(manifest, ram, storage, bytes));
-                Ok(seat)
-            }
+            Ok(ram) => Ok((seat, ram, storage)),
             Err(frames) => {
                 self.frames = frames;
                 self.seat = Some(seat);

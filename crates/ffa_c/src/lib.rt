@@ -12,6 +12,7 @@ pub mod cert_run;
 pub mod certificate;
 pub mod changes;
 pub mod codes;
+pub mod copying;
 pub mod declarations;
 pub mod elsewhere;
 pub mod ending;

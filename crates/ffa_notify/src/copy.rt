@@ -1,8 +1,9 @@
 // SPDX-License-Identifier: MIT OR Apache-2.0
-//! The same bitmaps once more.
+//! The same bitmaps once more, and what has been told of them.
 ghost use Rattle.std.specs.Prelude.{◌≡◌};
 
 use crate::bitmaps::Bitmaps;
+use crate::told::Told;
 use arrayvec::ArrayVec;
 
 impl Bitmaps {
@@ -14,6 +15,18 @@ impl Bitmaps {
             has: copied(&self.has),
             bound: copied(&self.bound),
             pending: copied(&self.pending),
+        }
+    }
+}
+
+impl Told {
+    /// The normal world has been told of the same once more. It takes no memory.
+    pub fn copy(&self) -> Told
+        ensures { result ≡ self.now }
+    {
+        Told {
+            words: self.words,
+            has_some: self.has_some,
         }
     }
 }

@@ -24,9 +24,9 @@ pub const NO_DATA: u32 = 0xFFFF_FFF7;
 #[derive(Drop)]
 pub struct Told {
     // Of each receiver that there may be a word for each class.
-    words: [u64; MOST_PENDING],
+    pub(crate) words: [u64; MOST_PENDING],
     // Whether it may have been told of a bit: else no word has one, so that nothing is to be done behind an operation.
-    has_some: bool,
+    pub(crate) has_some: bool,
 }
 
 impl Model for Told {

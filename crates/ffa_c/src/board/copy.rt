@@ -1,0 +1,56 @@
+// SPDX-License-Identifier: MIT OR Apache-2.0
+//! The same machine once more, in RAM of either kind, whichever its own is.
+ghost use Rattle.std.specs.Prelude.{◌≡◌, ◌*◌, true, false, length};
+ghost use Rattle.ffa_lent.specs.LentRam.{ram_of};
+ghost use Rattle.ffa_spmc.specs.Copies.{IsRamToCopy, IsRoomToCopy};
+ghost use Rattle.ffa_c.specs.Copying.{IsCopy};
+
+use super::Board;
+use crate::kind::BoardMachine;
+use ffa_lent::LentRam;
+use ffa_model::Manifest;
+use ffa_physmem::{FlatRam, PhysMem};
+use ffa_spmc::{Given, Ready, Storage};
+use ffa_tlb::NoTlb;
+use std::alloc::Global;
+
+impl Board {
+    /// The same machine in this RAM of the heap and in this room.
+    pub fn copy_to_heap(&self, ram: FlatRam, storage: Storage<Given<Global>>) -> Board
+        requires storage { IsRoomToCopy self.now.machine storage }
+        requires ram { IsRamToCopy self.now.machine (⟦<FlatRam as PhysMem>⟧.ram ram) }
+        ensures { IsCopy false self.now result }
+    {
+        let kind = BoardMachine::Heap(
+            either!(&self.kind, cluster => cluster.copy_in(storage, ram, NoTlb)),
+        );
+        Board {
+            kind,
+            notices: self.notices.copy(),
+        }
+    }
+
+    /// The same machine in this RAM that is lent and in this room.
+    pub fn copy_to_lent(&self, ram: LentRam, storage: Storage<Ready<Global>>) -> Board
+        requires storage { IsRoomToCopy self.now.machine storage }
+        requires ram { IsRamToCopy self.now.machine (ram_of ram) }
+        ensures { IsCopy true self.now result }
+    {
+        let kind = BoardMachine::Lent(
+            either!(&self.kind, cluster => cluster.copy_in(storage, ram, NoTlb)),
+        );
+        Board {
+            kind,
+            notices: self.notices.copy(),
+        }
+    }
+
+    /// The manifest, for which room and RAM for a copy are taken as for a boot.
+    pub fn manifest(&self) -> &Manifest
+        ensures base { result.now.ram_base.0 ≡ self.now.machine.ram.base }
+        ensures pages { 512 * result.now.ram_blocks ≡ length self.now.machine.ram.pages }
+        ensures endpoints { length result.now.endpoints.items ≡ length self.now.machine.state.parties }
+    {
+        asked!(&self.kind, machine => machine.manifest())
+    }
+}
