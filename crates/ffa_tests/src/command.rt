@@ -38,6 +38,7 @@ fn push_text(words: &mut String, text: TextOptions) -> Result<(), AllocError> {
             ("number", text.number),
             ("names", text.names),
             ("explain", text.explain),
+            ("short", text.short),
         ],
     )
 }
@@ -212,6 +213,8 @@ ffaplay run row.toml first.trace --number => run row.toml first.trace --number
 ffaplay run row.toml first.trace --names => run row.toml first.trace --names
 ffaplay run --explain row.toml first.trace => run row.toml first.trace --explain
 ffaplay demo first.trace --explain --names => demo first.trace --names --explain
+ffaplay run row.toml --short first.trace => run row.toml first.trace --short
+ffaplay demo --short first.trace --number => demo first.trace --number --short
 ffaplay run --verbose row.toml first.trace => run row.toml first.trace --verbose
 ffaplay run --strict row.toml first.trace => run row.toml first.trace --strict
 ffaplay demo first.trace --strict --names => demo first.trace --names --strict
@@ -224,6 +227,7 @@ ffaplay demo --verbose first.trace => demo first.trace --verbose
 ffaplay compare --tlb a --frames b c => compare a b c --frames --tlb
 ffaplay compare a b c --verbose => compare a b c --verbose
 ffaplay compare --explain a b c => compare a b c --explain
+ffaplay compare a --short b c => compare a b c --short
 ffaplay compare --names a --number b c => compare a b c --number --names
 ffaplay record --tlb row.toml first.trace => record row.toml first.trace --tlb
 ffaplay record row.toml - --verbose --frames => record row.toml - --frames --verbose

@@ -61,9 +61,11 @@ with_processors app = with_optional (codes "processors") app
 abbrev pub with_machine_flags : App → App
 with_machine_flags app = with_processors (with_flag (codes "tlb") (with_flag (codes "frames") app))
 
--- what stands in a text: numbers of lines, names, and the reasons of refusals
+-- what stands in a text: numbers of lines, names, and the reasons of refusals, and short words
 abbrev pub with_form_flags : App → App
-with_form_flags app = with_flag (codes "explain") (with_flag (codes "names") (with_flag (codes "number") app))
+with_form_flags app =
+    with_flag (codes "short")
+    (with_flag (codes "explain") (with_flag (codes "names") (with_flag (codes "number") app)))
 
 -- how it is written: line by line, and with these
 abbrev pub with_text_flags : App → App
@@ -324,6 +326,7 @@ text_in rows = record {
   number = is_given (codes "number") rows;
   names = is_given (codes "names") rows;
   explain = is_given (codes "explain") rows;
+  short = is_given (codes "short") rows;
 }
 
 -- what follows, where there is a value

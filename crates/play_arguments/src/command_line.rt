@@ -53,6 +53,8 @@ pub struct TextOptions {
     pub names: bool,
     /// A line under the text of an operation that is refused says why.
     pub explain: bool,
+    /// Registers and data are written in short words.
+    pub short: bool,
 }
 
 /// The words that say what a descriptor of a memory transaction is to hold, as they were given.
@@ -444,6 +446,7 @@ fn text_in(matches: &ArgMatches<'_>) -> TextOptions
         number: is_given(matches, "number"),
         names: is_given(matches, "names"),
         explain: is_given(matches, "explain"),
+        short: is_given(matches, "short"),
     }
 }
 

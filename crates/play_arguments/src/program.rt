@@ -113,6 +113,11 @@ const EXPLAIN: Word = Word::Flag {
     help: "Says under each text why its operation is refused, in a line that begins with `# refused: `",
 };
 
+const SHORT: Word = Word::Flag {
+    id: "short",
+    help: "Writes registers and data shortly: a name for an identifier, and no zeros in front or at the end",
+};
+
 const STRICT: Word = Word::Flag {
     id: "strict",
     help: "Checks guards: `#= TEXT`, which the line before prints, and `#@ ENDPOINT`, which runs",
@@ -146,6 +151,7 @@ const RUN: Entry = Entry {
         NUMBER,
         NAMES,
         EXPLAIN,
+        SHORT,
         STRICT,
         KEEP_GOING,
         INTERACTIVE,
@@ -165,6 +171,7 @@ const DEMO: Entry = Entry {
         NUMBER,
         NAMES,
         EXPLAIN,
+        SHORT,
         STRICT,
         KEEP_GOING,
         INTERACTIVE,
@@ -182,7 +189,7 @@ const COMPARE: Entry = Entry {
     name: "compare",
     about: "Compares what a trace prints with what is expected",
     words: &[
-        MANIFEST, TRACE, EXPECTED, FRAMES, TLB, PROCESSORS, NUMBER, NAMES, EXPLAIN, VERBOSE,
+        MANIFEST, TRACE, EXPECTED, FRAMES, TLB, PROCESSORS, NUMBER, NAMES, EXPLAIN, SHORT, VERBOSE,
     ],
 };
 

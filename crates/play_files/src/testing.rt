@@ -15,6 +15,7 @@ const TEXT: TextOptions = TextOptions {
     number: false,
     names: false,
     explain: false,
+    short: false,
 };
 
 /// Plays each trace of a folder on the machine of its manifest, past guards that aren't met, and prints what came of it: a line

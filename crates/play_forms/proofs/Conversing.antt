@@ -137,7 +137,7 @@ module _ (form : Form) (start mid : Bench) (had has : Option (List ℕ)) (lines 
         read = read;
         state = state ∙ good_after start lines;
         said = is;
-        cut = subst (CutsTo printed) (plain_text start lines) (subst (λ t. CutsTo t (text start lines)) (sym said) (cuts_text form 1 start lines));
+        cut = λ long. subst (CutsTo printed) (plain_text start lines) (subst (λ t. CutsTo t (text start lines)) (sym said) (cuts_text form long 1 start lines));
       }
 
   pub unheard : (e : PlayError) (then : Option (List ℕ)) (bytes : List ℕ) (number : ℕ) (held holds : Option (List ℕ)) → Appends held holds printed → HearsLine has then bytes number (Err e)
@@ -191,7 +191,7 @@ module _ (form : Form) (start mid : Bench) (had has : Option (List ℕ)) (lines 
               read = more_read;
               state = more_state moves ∙ good_after start all;
               said = more_said ∙ good_text form 1 start all;
-              cut = subst (CutsTo whole) (plain_text start all) (subst (λ t. CutsTo t (text start all)) (sym more_said) (cuts_text form 1 start all));
+              cut = λ long. subst (CutsTo whole) (plain_text start all) (subst (λ t. CutsTo t (text start all)) (sym more_said) (cuts_text form long 1 start all));
             }
     unanswered NoMemory held between holds written r = tt
     unanswered Read held between holds written r = absurd r

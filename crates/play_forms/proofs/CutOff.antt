@@ -1,5 +1,5 @@
 -- SPDX-License-Identifier: MIT OR Apache-2.0
--- In each form the plain text is what is left when numbers and names are cut off and reasons left out.
+-- In each form that isn't short the plain text is what is left when numbers and names are cut off and reasons left out.
 use Rattle.std.proofs.Common.{◌≡◌, ◌≢◌, ℕ, ◌+◌, ◌*◌, ◌-◌, Bool, true, false, List, [], ◌∷◌, ◌++◌, length, take, Option, None, Some, inl, inr, sym, ap, ◌∙◌, subst, arith, append-nil, length-append, refl}
 use Rattle.std.specs.Prelude.{◌==◌, codes, slice_index, if◌then◌else◌}
 use Rattle.std.specs.List.{flat_map, range_with_len}
@@ -31,7 +31,7 @@ use Rattle.play_syntax.specs.Lines.{outcome_in, outcome_of}
 use Rattle.ffa_abi.specs.Names.{error_names, name_in, call_name_of, error_name_of}
 use Rattle.play_reasons.specs.Marks.{names_mark}
 use Rattle.play_forms.specs.Cut.{CutsTo, cut_names}
-use Rattle.play_forms.specs.Forms.{number_in, named_in, line_text_in, text_of_in, text_in}
+use Rattle.play_forms.specs.Forms.{line_text_in, number_in, text_in, text_of_in, worded_in}
 use Rattle.play_reasons.specs.Reasons.{reason_if}
 use Rattle.play_forms.specs.declared.form.Form.{Form}
 use Rattle.play_forms.proofs.Cuts.{IsInner, is_headed, inner_append, inner_flat_map, inner_single, cut_names-inner, cut_names-mark, cuts_none, cuts_append, cuts_flat_map, cuts_line, cuts_words, cuts_first}
@@ -89,13 +89,13 @@ single_where : (b : Bool) (error : Option (List ℕ)) → option_map_or has_no_f
 single_where true error h = h
 single_where false error h = refl
 
-single_error : (x : List ℕ) → option_map_or has_no_feed (error_name_of x) true ≡ true
+pub single_error : (x : List ℕ) → option_map_or has_no_feed (error_name_of x) true ≡ true
 unfolding error_name_of
 single_error x =
     single_where (low (slice_index x 0) == FFA_ERROR) (name_in error_names (low (slice_index x 2))) (single_in error_names (low (slice_index x 2)) refl)
 
 -- words, and behind them the name of a call and of its error
-names_single : (call error : Option (List ℕ)) → option_map_or has_no_feed call true ≡ true → option_map_or has_no_feed error true ≡ true
+pub names_single : (call error : Option (List ℕ)) → option_map_or has_no_feed call true ≡ true → option_map_or has_no_feed error true ≡ true
     → has_no_feed (option_map_or (λ name. codes " # " ++ name ++ option_map_or spaced error []) call []) ≡ true
 names_single None error p q = refl
 names_single (Some name) None p q = list_all-append _ name [] ∙ and_from _ _ p refl
@@ -124,16 +124,16 @@ module _ (form : Form) (n : ℕ) (op : Op) (outcome : Outcome) where
       (names_cut words (call_name_of x) (error_name_of x) inner)
 
 -- with the names of registers where they are asked for
-outcome_cuts : (form : Form) (n : ℕ) (op : Op) (outcome : Outcome) → CutsTo (number_in form n ++ named_in form (Some outcome) (outcome_text op outcome)) (outcome_text op outcome)
-outcome_cuts form n op (Regs runner x) =
+outcome_cuts : (form : Form) → form.short ≡ false → (n : ℕ) (op : Op) (outcome : Outcome) → CutsTo (number_in form n ++ worded_in form (Some outcome) (outcome_text op outcome)) (outcome_text op outcome)
+outcome_cuts form long n op (Regs runner x) =
     let words = outcome_words op (Regs runner x) in
     elim (cases_Bool form.names) [
-      | inl asked ↦ subst (λ t. CutsTo (number_in form n ++ t) (ended words)) (sym (named_ended form runner x words asked)) (named_cuts form n op (Regs runner x) x)
-      | inr unasked ↦ rw unasked (unnamed_cuts form n op (Regs runner x))
+      | inl asked ↦ subst (λ t. CutsTo (number_in form n ++ t) (ended words)) (sym (named_ended form runner x words long asked)) (named_cuts form n op (Regs runner x) x)
+      | inr unasked ↦ rw (long, unasked) (unnamed_cuts form n op (Regs runner x))
     ]
-outcome_cuts form n op (Data value) = unnamed_cuts form n op (Data value)
-outcome_cuts form n op Done = unnamed_cuts form n op Done
-outcome_cuts form n op (Fault kind) = unnamed_cuts form n op (Fault kind)
+outcome_cuts form long n op (Data value) = rw long (unnamed_cuts form n op (Data value))
+outcome_cuts form long n op Done = unnamed_cuts form n op Done
+outcome_cuts form long n op (Fault kind) = unnamed_cuts form n op (Fault kind)
 
 resumed_cuts : (form : Form) (n e : ℕ) → CutsTo (number_in form n ++ resumed_text e) (resumed_text e)
 resumed_cuts form n e =
@@ -141,10 +141,10 @@ resumed_cuts form n e =
     let inner : IsInner words = inner_hex 4 e in
     cuts_line form n words words (inner_single words inner) refl (cut_names-inner words inner)
 
-effect_cuts : (form : Form) (n : ℕ) (op : Op) (effect : Effect)
-    → CutsTo (number_in form n ++ named_in form (outcome_in effect) (effect_text op effect)) (effect_text op effect)
-effect_cuts form n op (effects.Outcome outcome) = outcome_cuts form n op outcome
-effect_cuts form n op (effects.Resumed e) = resumed_cuts form n e.0
+effect_cuts : (form : Form) → form.short ≡ false → (n : ℕ) (op : Op) (effect : Effect)
+    → CutsTo (number_in form n ++ worded_in form (outcome_in effect) (effect_text op effect)) (effect_text op effect)
+effect_cuts form long n op (effects.Outcome outcome) = outcome_cuts form long n op outcome
+effect_cuts form long n op (effects.Resumed e) = resumed_cuts form n e.0
 
 run_cuts : (s : State) (run : ℕ × ℕ) → CutsTo (run_text s run) (run_text s run)
 unfolding run_text
@@ -217,34 +217,34 @@ unfolding audit_text cert_text
 audit_some s none = absurd (omega (arith, none))
 
 -- with a line of a reason behind it, where one is asked for
-spoken_cuts : (form : Form) (n : ℕ) (s : Bench) (line : Line) → length (line_text s line) ≢ 0 → CutsTo (number_in form n ++ named_in form (outcome_of s line) (line_text s line)) (line_text s line)
+spoken_cuts : (form : Form) (n : ℕ) (s : Bench) (line : Line) → length (line_text s line) ≢ 0 → CutsTo (number_in form n ++ worded_in form (outcome_of s line) (line_text s line)) (line_text s line)
     → CutsTo (line_text_in form n s line) (line_text s line)
 spoken_cuts form n s line some own =
-    let front = number_in form n ++ named_in form (outcome_of s line) (line_text s line) in
+    let front = number_in form n ++ worded_in form (outcome_of s line) (line_text s line) in
     let reason = reason_if form.explain s line in
     subst (λ t. CutsTo t (line_text s line)) (sym (dressed_some form n (outcome_of s line) reason (line_text s line) some))
     (subst (CutsTo (front ++ reason)) (append-nil (line_text s line)) (cuts_append front (line_text s line) reason [] own (reason_cuts form.explain s line)))
 
-pub line_cuts : (form : Form) (n : ℕ) (s : Bench) (line : Option Line) → CutsTo (option_map_or (line_text_in form n s) line []) (option_map_or (line_text s) line [])
-line_cuts form n s None = cuts_none
-line_cuts form n s (Some (operate op)) = spoken_cuts form n s (operate op) (effect_some op (effect_of s op)) (effect_cuts form n op (effect_of s op))
-line_cuts form n s (Some show) = spoken_cuts form n s show (show_some s.state) (show_cuts form n s.state)
-line_cuts form n s (Some audit) = spoken_cuts form n s audit (audit_some s.state) (audit_cuts form n s.state)
-line_cuts form n s (Some skip) = cuts_none
-line_cuts form n s (Some (turn processor)) = cuts_none
-line_cuts form n s (Some interrupt) =
-    spoken_cuts form n s interrupt (outcome_some (Call []) (outcome_of_interrupt s)) (outcome_cuts form n (Call []) (outcome_of_interrupt s))
+pub line_cuts : (form : Form) → form.short ≡ false → (n : ℕ) (s : Bench) (line : Option Line) → CutsTo (option_map_or (line_text_in form n s) line []) (option_map_or (line_text s) line [])
+line_cuts form long n s None = cuts_none
+line_cuts form long n s (Some (operate op)) = spoken_cuts form n s (operate op) (effect_some op (effect_of s op)) (effect_cuts form long n op (effect_of s op))
+line_cuts form long n s (Some show) = spoken_cuts form n s show (show_some s.state) (show_cuts form n s.state)
+line_cuts form long n s (Some audit) = spoken_cuts form n s audit (audit_some s.state) (audit_cuts form n s.state)
+line_cuts form long n s (Some skip) = cuts_none
+line_cuts form long n s (Some (turn processor)) = cuts_none
+line_cuts form long n s (Some interrupt) =
+    spoken_cuts form n s interrupt (outcome_some (Call []) (outcome_of_interrupt s)) (outcome_cuts form long n (Call []) (outcome_of_interrupt s))
 
-cuts_of : (form : Form) (n : ℕ) (s : Bench) (bytes : List ℕ) → CutsTo (text_of_in form n s bytes) (text_of s bytes)
+cuts_of : (form : Form) → form.short ≡ false → (n : ℕ) (s : Bench) (bytes : List ℕ) → CutsTo (text_of_in form n s bytes) (text_of s bytes)
 unfolding text_of_in text_of
-cuts_of form n s bytes = line_cuts form n s (line_in (processors_of s) bytes)
+cuts_of form long n s bytes = line_cuts form long n s (line_in (processors_of s) bytes)
 
--- whatever the form, the numbers and the lines
-pub cuts_text : (form : Form) (n : ℕ) (s : Bench) (lines : List (List ℕ)) → CutsTo (text_in form n s lines) (text s lines)
-cuts_text form n s [] = cuts_none
-cuts_text form n s (line ∷ lines) =
-    cuts_append (text_of_in form n s line) (text_of s line) (text_in form (n + 1) (after s line) lines) (text (after s line) lines) (cuts_of form n s line)
-    (cuts_text form (n + 1) (after s line) lines)
+-- whatever the numbers and the lines
+pub cuts_text : (form : Form) → form.short ≡ false → (n : ℕ) (s : Bench) (lines : List (List ℕ)) → CutsTo (text_in form n s lines) (text s lines)
+cuts_text form long n s [] = cuts_none
+cuts_text form long n s (line ∷ lines) =
+    cuts_append (text_of_in form n s line) (text_of s line) (text_in form (n + 1) (after s line) lines) (text (after s line) lines) (cuts_of form long n s line)
+    (cuts_text form long (n + 1) (after s line) lines)
 
-pub cuts_printed : (form : Form) (s : Bench) (lines : List (List ℕ)) (printed : List ℕ) → printed ≡ text_in form 1 s lines → CutsTo printed (text s lines)
-cuts_printed form s lines printed said = subst (λ t. CutsTo t (text s lines)) (sym said) (cuts_text form 1 s lines)
+pub cuts_printed : (form : Form) → form.short ≡ false → (s : Bench) (lines : List (List ℕ)) (printed : List ℕ) → printed ≡ text_in form 1 s lines → CutsTo printed (text s lines)
+cuts_printed form long s lines printed said = subst (λ t. CutsTo t (text s lines)) (sym said) (cuts_text form long 1 s lines)

@@ -13,7 +13,7 @@ use Rattle.play_syntax.specs.TraceLines.{feed, hash, has_no_feed, joined}
 use Rattle.play_syntax.specs.TraceText.{ended}
 use Rattle.play_player.proofs.Runs.{joined-append}
 use Rattle.play_forms.specs.Cut.{CutsTo, is_digit, is_reason, cut_number, cut_names, cut_line}
-use Rattle.play_forms.specs.Forms.{number_in}
+use Rattle.play_forms.specs.Forms.{number_in, plain}
 use Rattle.play_forms.specs.declared.form.Form.{Form}
 
 -- a byte that stands in the words of a printed line
@@ -118,7 +118,7 @@ cut_number-front form n line h =
       | inr plain ↦ rw plain (cut_number-headed line h)
     ]
 
-front_single : (form : Form) (n : ℕ) → has_no_feed (number_in form n) ≡ true
+pub front_single : (form : Form) (n : ℕ) → has_no_feed (number_in form n) ≡ true
 front_single form n =
     elim (cases_Bool form.number) [
       | inl asked ↦ rw asked (list_all-append _ (decimal n) (codes ": ") ∙ and_from _ _ (digits_single (decimal n) (decimal_digits n)) refl)
@@ -218,7 +218,7 @@ cuts_reason line single reason = record { lines = line ∷ []; each = and_from _
 
 -- a line of words alone
 pub cuts_words : (words : List ℕ) → IsInner words → is_headed words ≡ true → CutsTo (ended words) (ended words)
-cuts_words words inner headed = cuts_line (record { number = false; names = false; explain = false }) 0 words words (inner_single words inner) headed (cut_names-inner words inner)
+cuts_words words inner headed = cuts_line plain 0 words words (inner_single words inner) headed (cut_names-inner words inner)
 
 -- lines of which the first has a number before it
 pub cuts_first : (form : Form) (n : ℕ) (words more : List ℕ) → IsInner words → is_headed words ≡ true → CutsTo more more

@@ -1,6 +1,6 @@
 -- SPDX-License-Identifier: MIT OR Apache-2.0
 -- How the text of a line is put together.
-use Rattle.std.proofs.Common.{◌≡◌, ◌≢◌, ℕ, ◌-◌, true, List, [], ◌∷◌, ◌++◌, length, take, Option, None, Some, sym, ap, ◌∙◌, subst, arith, length-append, refl}
+use Rattle.std.proofs.Common.{◌≡◌, ◌≢◌, ℕ, ◌-◌, true, false, List, [], ◌∷◌, ◌++◌, length, take, Option, None, Some, sym, ap, ◌∙◌, subst, arith, length-append, refl}
 use Rattle.std.specs.Prelude.{IfSome}
 use Rattle.std.proofs.Math.Seq.{take-append_seam}
 use Rattle.ffa_model.specs.declared.endpoint.EndpointId.{EndpointId}
@@ -14,7 +14,7 @@ use Rattle.play_reasons.specs.Drafts.{Puts}
 use Rattle.play_reasons.specs.Marks.{names_mark}
 use Rattle.play_reasons.specs.Reasons.{reason_if}
 use Rattle.play_reasons.proofs.Together.{together}
-use Rattle.play_forms.specs.Forms.{dressed, line_text_in, named_in, number_in}
+use Rattle.play_forms.specs.Forms.{dressed, line_text_in, number_in, worded_in}
 use Rattle.play_forms.specs.declared.form.Form.{Form}
 
 -- NAMES
@@ -24,23 +24,23 @@ before_ended words =
     let count : length (ended words) - 1 ≡ length words = omega (arith, length-append words (feed ∷ [])) in
     ap (λ n. take n (ended words)) count ∙ take-append_seam words (feed ∷ [])
 
-pub named_ended : (form : Form) (runner : EndpointId) (x words : List ℕ) → form.names ≡ true → named_in form (Some (Regs runner x)) (ended words) ≡ ended (words ++ names_mark x)
-named_ended form runner x words asked = rw asked (ap (λ w. ended (w ++ names_mark x)) (before_ended words))
+pub named_ended : (form : Form) (runner : EndpointId) (x words : List ℕ) → form.short ≡ false → form.names ≡ true → worded_in form (Some (Regs runner x)) (ended words) ≡ ended (words ++ names_mark x)
+named_ended form runner x words long asked = rw (long, asked) (ap (λ w. ended (w ++ names_mark x)) (before_ended words))
 
 -- A TEXT
 
 pub dressed_some : (form : Form) (number : ℕ) (outcome : Option Outcome) (reason said : List ℕ) → length said ≢ 0
-    → dressed form number outcome reason said ≡ number_in form number ++ named_in form outcome said ++ reason
+    → dressed form number outcome reason said ≡ number_in form number ++ worded_in form outcome said ++ reason
 dressed_some form number outcome reason [] some = absurd (some refl)
 dressed_some form number outcome reason (c ∷ said) some = refl
 
 -- its parts were put one behind the other
 pub parts_put : (form : Form) (number : ℕ) (outcome : Option Outcome) (reason said : List ℕ) → length said ≢ 0 → (old numbered named new : Option (List ℕ)) → Puts old numbered (number_in form number)
-    → Puts numbered named (named_in form outcome said) → Puts named new reason → Puts old new (dressed form number outcome reason said)
+    → Puts numbered named (worded_in form outcome said) → Puts named new reason → Puts old new (dressed form number outcome reason said)
 parts_put form number outcome reason said some old numbered named new first second third =
-    let front = number_in form number ++ named_in form outcome said in
+    let front = number_in form number ++ worded_in form outcome said in
     subst (Puts old new) (sym (dressed_some form number outcome reason said some))
-    (together old named new front reason (together old numbered named (number_in form number) (named_in form outcome said) first second) third)
+    (together old named new front reason (together old numbered named (number_in form number) (worded_in form outcome said) first second) third)
 
 -- A LINE
 

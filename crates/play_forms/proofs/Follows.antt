@@ -23,7 +23,7 @@ use Rattle.play_forms.specs.declared.form.Form.{Form}
 use Rattle.play_forms.proofs.Behind.{meant-behind}
 
 pub followed_none : (form : Form) (s : Bench) (had : Option (List ℕ)) → Followed form s s had had [] []
-followed_none form s had = record { each = refl; read = Consumes-nil had; state = refl; said = refl; cut = cuts_none }
+followed_none form s had = record { each = refl; read = Consumes-nil had; state = refl; said = refl; cut = λ long. cuts_none }
 
 pub after_one : (s : Bench) (lines : List (List ℕ)) (line : List ℕ) → after_all s (lines ++ line ∷ []) ≡ after (after_all s lines) line
 after_one s [] line = refl
@@ -59,7 +59,7 @@ module _ (form : Form) (start mid : Bench) (had has : Option (List ℕ)) (lines 
     state =
         next ∙ ap (λ l. option_map_or (line_after mid) l mid) (meant-behind start mid lines f.state line (Some meant) is) ∙ ap (λ s. after s line) f.state ∙ sym (after_one start lines line);
     said = whole;
-    cut = cuts_printed form start (lines ++ line ∷ []) (text ++ said) whole;
+    cut = λ long. cuts_printed form long start (lines ++ line ∷ []) (text ++ said) whole;
   }
     where
       whole : text ++ said ≡ text_in form 1 start (lines ++ line ∷ [])

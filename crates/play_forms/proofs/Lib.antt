@@ -13,6 +13,8 @@ pub mod Meetings
 pub mod Plain
 pub mod PrintedWords
 pub mod ReadLines
+pub mod ShortLines
+pub mod ShortWords
 pub mod Sifts
 pub mod Singles
 pub mod MendLines

@@ -8,9 +8,9 @@ use Rattle.ffa_playable.specs.Bench.{Bench, processors_of}
 use Rattle.play_syntax.specs.TraceLines.{Line, line_in}
 use Rattle.play_syntax.specs.TraceText.{line_text, text_of, text, after}
 use Rattle.play_syntax.specs.Lines.{outcome_of}
-use Rattle.play_forms.specs.Forms.{plain, dressed, named_in, line_text_in, text_of_in, text_in}
+use Rattle.play_forms.specs.Forms.{plain, dressed, line_text_in, text_of_in, text_in, worded_in}
 
-plain_named : (outcome : Option Outcome) (said : List ℕ) → named_in plain outcome said ≡ said
+plain_named : (outcome : Option Outcome) (said : List ℕ) → worded_in plain outcome said ≡ said
 plain_named None said = refl
 plain_named (Some (Regs runner x)) said = refl
 plain_named (Some (Data value)) said = refl
@@ -19,7 +19,7 @@ plain_named (Some (Fault fault)) said = refl
 
 plain_dressed : (number : ℕ) (outcome : Option Outcome) (said : List ℕ) → dressed plain number outcome [] said ≡ said
 plain_dressed number outcome [] = refl
-plain_dressed number outcome (c ∷ said) = append-nil (named_in plain outcome (c ∷ said)) ∙ plain_named outcome (c ∷ said)
+plain_dressed number outcome (c ∷ said) = append-nil (worded_in plain outcome (c ∷ said)) ∙ plain_named outcome (c ∷ said)
 
 plain_line : (number : ℕ) (s : Bench) (line : Option Line) → option_map_or (line_text_in plain number s) line [] ≡ option_map_or (line_text s) line []
 plain_line number s None = refl

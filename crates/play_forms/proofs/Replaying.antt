@@ -175,7 +175,7 @@ stands_loud : (start : Bench) (written : List (List ℕ)) (mid : Bench) (said li
     → IsUnasked start (written ++ line ∷ []) (line_came mid meant) (line_text mid meant) → Stands start written mid said
     → Stands start (written ++ line ∷ map guard_for (lines_in (text_of mid line))) (after mid line) (said ++ text_of mid line)
 stands_loud start written mid said line meant is good other unasked stands =
-    let cuts = cuts_text plain 1 mid (line ∷ []) in
+    let cuts = cuts_text plain refl 1 mid (line ∷ []) in
     let whole : text_of mid line ≡ joined cuts.lines = sym (append-nil (text_of mid line)) ∙ sym (plain_text 1 mid (line ∷ [])) ∙ cuts.whole in
     let printed : lines_in (text_of mid line) ≡ cuts.lines = ap lines_in whole ∙ lines_in-joined cuts.lines cuts.each in
     let left : IsUnasked start (written ++ line ∷ []) (line_came mid meant) (joined cuts.lines) =

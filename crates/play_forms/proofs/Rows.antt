@@ -20,14 +20,14 @@ use Rattle.play_syntax.specs.declared.output.PlayError.TheVariants.{Read, Write,
 use Rattle.play_forms.specs.Compared.{next_row}
 use Rattle.play_forms.specs.Forms.{line_text_in}
 use Rattle.play_forms.specs.declared.form.Form.{Form}
-use Rattle.play_forms.proofs.CutOff.{line_cuts}
 use Rattle.play_forms.proofs.ReadLines.{front_free, unended_free}
+use Rattle.play_forms.proofs.ShortLines.{line_rows}
 
 -- a line's text, in whichever form, is lines
 pub text_rows : (form : Form) (n : ℕ) (s : Bench) (line : Line) (text : List ℕ) → text ≡ line_text_in form n s line → AreRows text
 text_rows form n s line text is =
-    let cut = line_cuts form n s (Some line) in
-    (cut.lines, is ∙ cut.whole, cut.each)
+    let rows = line_rows form n s line in
+    (rows.0, is ∙ rows.1, rows.2)
 
 pub no_feed_first : (c : ℕ) (line : List ℕ) → has_no_feed (c ∷ line) ≡ true → c ≢ feed
 no_feed_first c line single same =

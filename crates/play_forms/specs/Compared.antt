@@ -17,9 +17,9 @@ use Rattle.play_forms.specs.Followed.{EndsBadly, Followed}
 use Rattle.play_forms.specs.Forms.{text_in, text_of_in}
 use Rattle.play_forms.specs.Reading.{IsAll, ReadsNoLine}
 
--- numbers and names are compared where they are asked for, and reasons never
+-- numbers, names and short words are compared where they are asked for, and reasons never
 abbrev pub unexplained : Form → Form
-unexplained form = record { number = form.number; names = form.names; explain = false }
+unexplained form = record { number = form.number; names = form.names; explain = false; short = form.short }
 
 -- the next of these lines with its LF, or nothing where none is left
 abbrev pub next_row : List (List ℕ) → List ℕ

@@ -1,6 +1,6 @@
 -- SPDX-License-Identifier: MIT OR Apache-2.0
 -- What a play line by line leaves.
-use Rattle.std.specs.Prelude.{◌≡◌, ℕ, ◌+◌, true, List, [], ◌∷◌, ◌++◌, length, Option, Result, Ok, Err, ⊤}
+use Rattle.std.specs.Prelude.{◌≡◌, ℕ, ◌+◌, true, false, List, [], ◌∷◌, ◌++◌, length, Option, Result, Ok, Err, ⊤}
 use Rattle.std.specs.Io.KnownBytes.{Appends, Consumes, IsAtEnd}
 use Rattle.ffa_playable.specs.Bench.{Bench, processors_of}
 use Rattle.play_syntax.specs.TraceLines.{are_lines, joined}
@@ -17,14 +17,14 @@ use Rattle.play_forms.specs.Reading.{IsBadLine, ReadsNoLine}
 -- and after, and of what the writer held before, and holds.
 
 -- these lines were read and done, and this is their text, of which the plain text is left when numbers and names are
--- cut off
+-- cut off, unless it is short
 pub record Followed (form : Form) (start now : Bench) (had has : Option (List ℕ)) (lines : List (List ℕ))
     (printed : List ℕ) : Type 0 where
   pub each : are_lines (processors_of start) lines ≡ true
   pub read : Consumes had has (joined lines)
   pub state : now ≡ after_all start lines
   pub said : printed ≡ text_in form 1 start lines
-  pub cut : CutsTo printed (text start lines)
+  pub cut : form.short ≡ false → CutsTo printed (text start lines)
 
 -- These lines were done, and nothing more: the one behind them is bad. Its number is this, and its bytes are these.
 pub record EndsBadly (form : Form) (start now : Bench) (had : Option (List ℕ)) (text bytes : List ℕ) (number : ℕ)

@@ -3,7 +3,7 @@
 use Rattle.std.specs.Prelude.{◌≡◌, ℕ, ◌+◌, ◌-◌, false, List, [], ◌∷◌, ◌++◌, length, take, Option, Some, Result, Ok, Err, if◌then◌else◌}
 use Rattle.std.specs.Option.{option_map_or}
 use Rattle.ffa_model.specs.declared.operation.Outcome.{Outcome}
-use Rattle.ffa_model.specs.declared.operation.Outcome.TheVariants.{Regs}
+use Rattle.ffa_model.specs.declared.operation.Outcome.TheVariants.{Data, Regs}
 use Rattle.ffa_playable.specs.Bench.{Bench, processors_of}
 use Rattle.play_syntax.specs.TraceLines.{Line, line_in}
 use Rattle.play_syntax.specs.TraceText.{line_text, line_after, after, ended}
@@ -13,26 +13,34 @@ use Rattle.play_syntax.specs.declared.output.PlayError.TheVariants.{NoMemory}
 use Rattle.play_forms.specs.declared.form.Form.{Form}
 use Rattle.play_reasons.specs.Marks.{names_mark, number_mark}
 use Rattle.play_reasons.specs.Reasons.{reason_if}
+use Rattle.play_forms.specs.Short.{short_data, short_registers}
 
--- neither numbers nor names nor reasons
+-- neither numbers nor names nor reasons, and in full
 abbrev pub plain : Form
-plain = record { number = false; names = false; explain = false }
+plain = record { number = false; names = false; explain = false; short = false }
 
 abbrev pub number_in : Form → ℕ → List ℕ
 number_in form number = if form.number then number_mark number else []
 
--- the text of an operation, with the names of its registers, where they are asked for, before the LF that ends it
-abbrev pub named_in : Form → Option Outcome → List ℕ → List ℕ
-named_in form (Some (Regs runner x)) said =
-    if form.names then ended (take (length said - 1) said ++ names_mark x) else said
-named_in form other said = said
+abbrev pub names_in : Form → List ℕ → List ℕ
+names_in form x = if form.names then names_mark x else []
+
+-- the text of an operation, short where that is asked for, with the names of its registers, where they are asked for,
+-- before the LF that ends it
+abbrev pub worded_in : Form → Option Outcome → List ℕ → List ℕ
+worded_in form (Some (Regs runner x)) said =
+    if form.short then ended (short_registers runner.0 x ++ names_in form x)
+    else if form.names then ended (take (length said - 1) said ++ names_mark x)
+    else said
+worded_in form (Some (Data value)) said = if form.short then ended (short_data value) else said
+worded_in form other said = said
 
 -- The text of a line in a form, by the line's number, what came of its operation, the line that says why that is refused,
 -- and what it said plainly. A line that says nothing has no number.
 abbrev pub dressed : Form → ℕ → Option Outcome → List ℕ → List ℕ → List ℕ
 dressed form number outcome reason [] = []
 dressed form number outcome reason (c ∷ said) =
-    number_in form number ++ named_in form outcome (c ∷ said) ++ reason
+    number_in form number ++ worded_in form outcome (c ∷ said) ++ reason
 
 -- what a line of this number prints: why its operation is refused is asked where it is done
 abbrev pub line_text_in : Form → ℕ → Bench → Line → List ℕ

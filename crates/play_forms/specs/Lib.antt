@@ -13,6 +13,7 @@ pub mod Reading
 pub mod Recorded
 pub mod SessionSteps
 pub mod Sessions
+pub mod Short
 pub mod Sifting
 pub mod Steps
 pub mod Telling

@@ -34,14 +34,14 @@ good_text_in form number s (line ∷ lines) =
 -- and after, and of what the writer held before, and holds.
 
 -- These lines were read, and the good ones were done, and no other. This is their text, of which their plain text is left
--- when numbers and names are cut off.
+-- when numbers and names are cut off, unless it is short.
 pub record Conversed (form : Form) (start now : Bench) (had has : Option (List ℕ)) (lines : List (List ℕ))
     (printed : List ℕ) : Type 0 where
   pub each : list_all has_no_feed lines ≡ true
   pub read : Consumes had has (joined lines)
   pub state : now ≡ after_all start (good_lines (processors_of start) lines)
   pub said : printed ≡ good_text_in form 1 start lines
-  pub cut : CutsTo printed (text start (good_lines (processors_of start) lines))
+  pub cut : form.short ≡ false → CutsTo printed (text start (good_lines (processors_of start) lines))
 
 -- nothing is left, or a rest that no LF ends
 abbrev pub IsOver : Option (List ℕ) → Type 0

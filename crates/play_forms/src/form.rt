@@ -4,9 +4,10 @@ ghost use Rattle.std.specs.Prelude.{◌≡◌, IfSome, OnOk};
 ghost use Rattle.play_syntax.specs.Lines.{meant};
 ghost use Rattle.play_reasons.specs.Drafts.{Puts};
 ghost use Rattle.play_reasons.specs.Reasons.{told_line};
-ghost use Rattle.play_forms.specs.Forms.{DoesLine, dressed, line_text_in, named_in, number_in};
+ghost use Rattle.play_forms.specs.Forms.{DoesLine, dressed, line_text_in, names_in, number_in, worded_in};
 
 use crate::reason::reason_of;
+use crate::short::{put_short_data, put_short_registers};
 use ffa_model::Outcome;
 use ffa_playable::Playable;
 use play_player::Player;
@@ -24,6 +25,8 @@ pub struct Form {
     pub names: bool,
     /// A line under the text of an operation that is refused, which says why.
     pub explain: bool,
+    /// What registers and data are stands in short words, in place of all their digits.
+    pub short: bool,
 }
 
 /// What a line says: its plain text, and its text in a form.
@@ -96,7 +99,7 @@ fn dress<A: Allocator>(
         return;
     }
     put_number_in(form, number, text);
-    put_named(form, outcome, said, text);
+    put_worded(form, outcome, said, text);
     put_reason(text, reason);
 }
 
@@ -109,11 +112,31 @@ fn put_number_in<A: Allocator>(form: Form, number: u64, text: &mut Draft<A>)
     }
 }
 
-// Puts a plain text, with the names of registers before the LF that ends it, where they are asked for.
-fn put_named<A: Allocator>(form: Form, outcome: Option<Outcome>, said: &[u8], text: &mut Draft<A>)
-    ensures { Puts text.old text.new (named_in form outcome said.now) }
+// Puts the names of registers, where they are asked for.
+fn put_names_in<A: Allocator>(form: Form, x: &[u64; 8], text: &mut Draft<A>)
+    ensures { Puts text.old text.new (names_in form x.now) }
+{
+    if form.names {
+        put_names(text, x);
+    }
+}
+
+// Puts a plain text, or short words in its place where they are asked for, with the names of registers before the LF that
+// ends it, where they are asked for.
+#[tactic(auto, using(play_reasons::proofs::Together::together))]
+fn put_worded<A: Allocator>(form: Form, outcome: Option<Outcome>, said: &[u8], text: &mut Draft<A>)
+    ensures { Puts text.old text.new (worded_in form outcome said.now) }
 {
     match outcome {
+        Some(Outcome::Regs { runner, x }) if form.short => {
+            put_short_registers(text, runner, &x);
+            put_names_in(form, &x, text);
+            text.put("\n");
+        }
+        Some(Outcome::Data(value)) if form.short => {
+            put_short_data(text, value);
+            text.put("\n");
+        }
         Some(Outcome::Regs { x, .. }) if form.names => {
             text.put_bytes(&said[..said.len().saturating_sub(1)]);
             put_names(text, &x);

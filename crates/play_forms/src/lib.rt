@@ -15,6 +15,7 @@ mod read;
 mod reason;
 mod recording;
 mod session;
+mod short;
 mod telling;
 mod unmet;
 

@@ -31,7 +31,12 @@ use Rattle.play_tasks.specs.declared.task.Task.TheVariants as task
 
 -- the form that a text is asked for in
 abbrev pub form_of : TextOptions → Form
-form_of options = record { number = options.number; names = options.names; explain = options.explain }
+form_of options = record {
+  number = options.number;
+  names = options.names;
+  explain = options.explain;
+  short = options.short;
+}
 
 -- the lines that are asked for of a picture: those that change the certificate, or each of so many, and refused calls
 abbrev pub keep_of : PictureOptions → Keep

@@ -59,6 +59,7 @@ fn form_of(text: TextOptions) -> Form
         number: text.number,
         names: text.names,
         explain: text.explain,
+        short: text.short,
     }
 }
 
@@ -96,7 +97,7 @@ impl<'a, R: Read + Drop> Task<'a, R> {
                     Ok(Task::Guarded(form))
                 } else if interactive {
                     Ok(Task::Session(form))
-                } else if form.number || form.names || form.explain || verbose {
+                } else if form.number || form.names || form.explain || form.short || verbose {
                     Ok(Task::Formed(form))
                 } else {
                     Ok(Task::Plain)

@@ -27,6 +27,7 @@ const TEXT: TextOptions = TextOptions {
     number: false,
     names: false,
     explain: false,
+    short: false,
 };
 
 const PRINT: Purpose<'static> = Purpose::Print {

@@ -17,5 +17,5 @@ returns-then-is_empty g c =
 pub returns : goal.returns
 returns g c =
     let some : length c.args.said.now ≢ 0 = eqb-false _ _ (sym c.is_empty.ensures ∙ c.if-is_empty.false) in
-    parts_put c.args.form c.args.number c.args.outcome (told_line c.args.reason) c.args.said.now some c.args.text.now c.put_number_in.new.text c.put_named.new.text c.put_reason.new.text
-    c.put_number_in.ensures c.put_named.ensures c.put_reason.ensures
+    parts_put c.args.form c.args.number c.args.outcome (told_line c.args.reason) c.args.said.now some c.args.text.now c.put_number_in.new.text c.put_worded.new.text c.put_reason.new.text
+    c.put_number_in.ensures c.put_worded.ensures c.put_reason.ensures
