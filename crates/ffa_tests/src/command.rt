@@ -62,6 +62,14 @@ fn push_record(words: &mut String, record: &DescriptorWords<'_>) -> Result<(), A
     push_flags(words, &[("zero", record.zero), ("compact", record.compact)])
 }
 
+// The manifest that gives the caller's form, if one is named.
+fn push_manifest(words: &mut String, manifest: Option<&str>) -> Result<(), AllocError> {
+    match manifest {
+        Some(path) => write!(words, " manifest {path}"),
+        None => Ok(()),
+    }
+}
+
 // A request in words: its command, its paths and then its flags.
 fn push_request(words: &mut String, request: &Request<'_>) -> Result<(), AllocError> {
     push_command(words, request)?;
@@ -74,7 +82,13 @@ fn push_command(words: &mut String, request: &Request<'_>) -> Result<(), AllocEr
         Request::Play(options) => push_play(words, options),
         Request::Check { manifest, .. } => write!(words, "check {manifest}"),
         Request::Layout { manifest, .. } => write!(words, "layout {manifest}"),
-        Request::Descriptor { words: record } => push_record(words, &record),
+        Request::Descriptor {
+            manifest,
+            words: record,
+        } => {
+            push_record(words, &record)?;
+            push_manifest(words, manifest)
+        }
         Request::Generate(options) => {
             let (manifest, seed, lines) = (options.manifest, options.seed, options.lines);
             write!(words, "generate {manifest} {seed} {lines}")
@@ -261,6 +275,8 @@ ffaplay generate row.toml => generate row.toml 1 1000
 ffaplay generate --seed 18446744073709551615 --lines 0 row.toml => generate row.toml 18446744073709551615 0
 ffaplay generate - --count --lines 20000 --verbose => generate - 1 20000 --count --verbose
 ffaplay descriptor reclaim --handle 100000001 => descriptor reclaim handle 100000001
+ffaplay descriptor --manifest row.toml relinquish --to 8001 --compact => descriptor relinquish to 8001 --compact manifest row.toml
+ffaplay descriptor lend --manifest - => descriptor lend manifest -
 ffaplay picture row.toml row.trace => picture row.toml row.trace 0 0
 ffaplay picture - --every 100 row.trace --verbose => picture - row.trace 100 0 --verbose
 ffaplay picture --page row.toml row.trace --refused --width 800 => picture row.toml row.trace 0 800 --refused --page

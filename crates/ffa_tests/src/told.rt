@@ -36,7 +36,7 @@ fn of_descriptor(alloc: Global, told: &Told) -> Result<String, AllocError> {
 // What a command line says of a descriptor, or what is wrong with it.
 fn told<'a>(alloc: Global, words: &'a [&'a str]) -> Result<String, AllocError> {
     match request(alloc, words) {
-        Ok(Request::Descriptor { words }) => match read_words(&words) {
+        Ok(Request::Descriptor { words, .. }) => match read_words(&words) {
             Ok(Asked::Descriptor(told)) => of_descriptor(alloc, &told),
             Ok(Asked::Reclaim(reclaim)) => format!(in alloc; "{reclaim:?}"),
             Err(fault) => format!(in alloc; "{fault}"),

@@ -113,7 +113,8 @@ abbrev pub with_record_flags : App → App
 with_record_flags app = with_flag (codes "compact") (with_flag (codes "zero") app)
 
 unfoldable pub descriptor_app : App
-descriptor_app = with_record_flags (with_record (with_place (new_app (codes "descriptor"))))
+descriptor_app =
+    with_optional (codes "manifest") (with_record_flags (with_record (with_place (new_app (codes "descriptor")))))
 
 -- which trace is generated, of how many lines, and whether it is counted
 abbrev pub with_number : Text → Text → App → App
@@ -216,7 +217,7 @@ pub data Ask : Type 0 where
   play : (manifest : Option Text) → (trace : Text) → MachineOptions → Aim → (verbose : Bool) → Ask
   check : Text → Bool → Ask
   layout : Text → (regions verbose : Bool) → Ask
-  descriptor : Described → Ask
+  descriptor : (manifest : Option Text) → Described → Ask
   generate : Text → (seed lines : ℕ) → (count verbose : Bool) → Ask
   test : (folder : Text) → (tap : Bool) → (processors : Option ℕ) → Ask
 
@@ -224,7 +225,7 @@ abbrev pub ask_of : Request → Ask
 ask_of (Play o) = play (path_of o.source) o.trace.now o.machine (aim_of o.purpose) o.verbose
 ask_of (Check manifest verbose) = check manifest.now verbose
 ask_of (Layout manifest regions verbose) = layout manifest.now regions verbose
-ask_of (Descriptor words) = descriptor (words_of words)
+ask_of (Descriptor manifest words) = descriptor (option_map (λ s. s.now) manifest) (words_of words)
 ask_of (Generate o) = generate o.manifest.now o.seed o.lines o.count o.verbose
 ask_of (Test o) = test o.folder.now o.tap o.processors
 
@@ -233,7 +234,7 @@ abbrev pub manifest_of : Ask → Option Text
 manifest_of (play manifest trace machine aim verbose) = manifest
 manifest_of (check manifest verbose) = Some manifest
 manifest_of (layout manifest regions verbose) = Some manifest
-manifest_of (descriptor words) = None
+manifest_of (descriptor manifest words) = manifest
 manifest_of (generate manifest seed lines count verbose) = Some manifest
 manifest_of (test folder tap processors) = None
 
@@ -250,7 +251,7 @@ abbrev pub verbose_of : Ask → Bool
 verbose_of (play manifest trace machine aim verbose) = verbose
 verbose_of (check manifest verbose) = verbose
 verbose_of (layout manifest regions verbose) = verbose
-verbose_of (descriptor words) = false
+verbose_of (descriptor manifest words) = false
 verbose_of (generate manifest seed lines count verbose) = verbose
 verbose_of (test folder tap processors) = false
 
@@ -259,7 +260,7 @@ abbrev pub said_more : Ask → Ask
 said_more (play manifest trace machine aim verbose) = play manifest trace machine aim true
 said_more (check manifest verbose) = check manifest true
 said_more (layout manifest regions verbose) = layout manifest regions true
-said_more (descriptor words) = descriptor words
+said_more (descriptor manifest words) = descriptor manifest words
 said_more (generate manifest seed lines count verbose) = generate manifest seed lines count true
 said_more (test folder tap processors) = test folder tap processors
 
@@ -399,7 +400,7 @@ words_in rows kind = record {
 unfoldable pub descriptor_in : List Row → Option Ask
 descriptor_in rows = do
   kind ← first_of (codes "kind") rows
-  Some (descriptor (words_in rows kind))
+  Some (descriptor (first_of (codes "manifest") rows) (words_in rows kind))
 
 unfoldable pub generate_in : List Row → Option Ask
 generate_in rows = do

@@ -189,8 +189,10 @@ pub enum Request<'a> {
         regions: bool,
         verbose: bool,
     },
-    /// To print the lines of a trace that write a descriptor and make its call.
+    /// To print the lines of a trace that write a descriptor and make its call, in the form that the caller has by the manifest
+    /// at this path, where one is named.
     Descriptor {
+        manifest: Option<&'a str>,
         words: DescriptorWords<'a>,
     },
     /// To print a trace of so many lines for the machine of a manifest, or how often its calls and accesses ended in which way.
@@ -208,7 +210,8 @@ impl<'a> Request<'a> {
             Request::Play(options) => options.source.path(),
             Request::Check { manifest, .. } | Request::Layout { manifest, .. } => Some(manifest),
             Request::Generate(options) => Some(options.manifest),
-            Request::Descriptor { .. } | Request::Test(_) => None,
+            Request::Descriptor { manifest, .. } => manifest,
+            Request::Test(_) => None,
         }
     }
 
@@ -559,7 +562,8 @@ fn descriptor_in<'a>(matches: &ArgMatches<'a>) -> Option<Request<'a>>
 {
     let kind = text_of(matches, "kind")?;
     let words = words_in(matches, kind);
-    Some(Request::Descriptor { words })
+    let manifest = text_of(matches, "manifest");
+    Some(Request::Descriptor { manifest, words })
 }
 
 #[tactic(auto, unfolding(crate::specs::Commands::generate_in))]

@@ -260,6 +260,11 @@ const COMPACT: Word = Word::Flag {
     help: "Writes the form of an endpoint whose version is \"compact\"",
 };
 
+const VERSIONS: Word = Word::Value {
+    id: "manifest",
+    help: "The machine's manifest: the form is that of its endpoint that calls; - is standard input",
+};
+
 const SEED: Word = Word::Number {
     id: "seed",
     help: "Which trace it is: the same for a seed on each run",
@@ -281,7 +286,7 @@ const DESCRIPTOR: Entry = Entry {
     name: "descriptor",
     about: "Prints the lines of a trace that write a descriptor and make its call, or the call of a reclaim",
     words: &[
-        KIND, TX_ADDRESS, FROM, TO, PAGES, HANDLE, TAG, OF, ZERO, COMPACT,
+        KIND, TX_ADDRESS, FROM, TO, PAGES, HANDLE, TAG, OF, ZERO, COMPACT, VERSIONS,
     ],
 };
 

@@ -1,16 +1,16 @@
 -- SPDX-License-Identifier: MIT OR Apache-2.0
 -- What a command leaves, from what its parts do.
-use Rattle.std.proofs.Common.{◌≡◌, Bor, true, false, List, ℕ, Option, None, Result, Ok, Err, inl, inr, refl, ap, arith}
-use Rattle.std.specs.Prelude.{IfErr, OnOk, is_some}
+use Rattle.std.proofs.Common.{◌≡◌, Bor, true, false, List, ℕ, Option, None, Some, Result, Ok, Err, inl, inr, refl, ap, arith}
+use Rattle.std.specs.Prelude.{IfErr, OnOk, is_some, option_map}
 use Rattle.std.specs.Io.KnownBytes.{Keeps}
 use Rattle.ffa_manifest.specs.Document.{Parts}
 use Rattle.ffa_playable.specs.Bench.{Bench}
-use Rattle.play_report.specs.Descriptors.{FailsToSay, IsSaid}
+use Rattle.play_report.specs.Descriptors.{AreWords, FailsToSay, FailsToSayFor, IsSaidFor}
 use Rattle.play_report.specs.Failures.{status_of}
 use Rattle.play_report.specs.Manifests.{FailsUnplayed, IsAccepted}
 use Rattle.play_report.specs.declared.failure.Failure.{Failure}
 use Rattle.play_report.specs.declared.failure.Failure.TheVariants.{Manifest, BadLine, Read, Write, NoMemory, Differs, Unmet, Words, Unfit, TooManyRows}
-use Rattle.play_arguments.specs.Commands.{path_of}
+use Rattle.play_arguments.specs.Commands.{Described, path_of}
 use Rattle.play_arguments.specs.declared.command_line.DescriptorWords.{DescriptorWords}
 use Rattle.play_arguments.specs.declared.command_line.PlayOptions.{PlayOptions}
 use Rattle.play_arguments.specs.declared.command_line.Source.{Source}
@@ -43,14 +43,28 @@ unplayed request needs untraced ran (Err Write) done accepted = record { done = 
 unplayed request needs untraced ran (Err NoMemory) done any = record { done = tt; opened = tt; failed = tt; read = tt }
 unplayed request needs untraced ran (Err other) done never = absurd never
 
-pub describes : (words : DescriptorWords) (ran : Ran) (result : Result (Unit {0}) Failure) → OnOk result (IsSaid words ran.streams.held ran.streams.holds)
-    → IfErr result (FailsToSay words ran.streams.held ran.streams.holds) → Does (request.Descriptor words) ran result
-describes words ran (Ok x) said fails = record { done = said; opened = λ never. absurd cc; failed = tt; read = tt }
-describes words ran (Err (Words fault)) said (misread, same) = record { done = tt; opened = tt; failed = (inl (fault, misread), same); read = tt }
-describes words ran (Err (Unfit cause)) said (unfit, same) = record { done = tt; opened = tt; failed = (inr (cause, unfit), same); read = tt }
-describes words ran (Err Write) said short = record { done = tt; opened = tt; failed = λ never. absurd cc; read = tt }
-describes words ran (Err NoMemory) said short = record { done = tt; opened = tt; failed = tt; read = tt }
-describes words ran (Err other) said never = absurd never
+needs_path : (path : Option (Bor (List ℕ))) → is_some path ≡ true → is_some (option_map (λ (s : Bor (List ℕ)). s.now) path) ≡ true
+needs_path None named = named
+needs_path (Some path) named = refl
+
+accepted_by : (path : Option (Bor (List ℕ))) (manifest : Option (List ℕ)) (words : DescriptorWords) (own : Described) → AreWords path manifest words own
+    → is_some (option_map (λ (s : Bor (List ℕ)). s.now) path) ≡ true → IsAccepted manifest
+accepted_by None manifest words own are needed = absurd cc
+accepted_by (Some path) manifest words own (parts, is, same) needed = (parts, is)
+
+undescribed : (path : Option (Bor (List ℕ))) (words : DescriptorWords) (ran : Ran) (own : Described) → AreWords path ran.manifest words own → (failure : Failure) → FailsToSay own ran.streams.held ran.streams.holds failure
+    → Does (request.Descriptor path words) ran (Err failure)
+undescribed path words ran own are (Words fault) (misread, same) = record { done = tt; opened = tt; failed = ((own, are, inl (fault, misread)), same); read = tt }
+undescribed path words ran own are (Unfit cause) (unfit, same) = record { done = tt; opened = tt; failed = ((own, are, inr (cause, unfit)), same); read = tt }
+undescribed path words ran own are Write short = record { done = tt; opened = tt; failed = accepted_by path ran.manifest words own are; read = tt }
+undescribed path words ran own are NoMemory short = record { done = tt; opened = tt; failed = tt; read = tt }
+undescribed path words ran own are other never = absurd never
+
+pub describes : (path : Option (Bor (List ℕ))) (words : DescriptorWords) (ran : Ran) (result : Result (Unit {0}) Failure) → OnOk result (IsSaidFor path words ran.manifest ran.streams.held ran.streams.holds)
+    → IfErr result (FailsToSayFor path words ran.manifest ran.streams.held ran.streams.holds) → Does (request.Descriptor path words) ran result
+describes path words ran (Ok x) said fails = record { done = said; opened = λ never. absurd cc; failed = tt; read = tt }
+describes path words ran (Err failure) said (inl (own, are, fails)) = undescribed path words ran own are failure fails
+describes path words ran (Err failure) said (inr (named, fails, same)) = unread (request.Descriptor path words) (needs_path path named) ran same failure fails
 
 -- COMMANDS THAT PLAY A TRACE
 

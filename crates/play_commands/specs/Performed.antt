@@ -11,14 +11,14 @@ use Rattle.ffa_manifest.specs.Document.{Parts}
 use Rattle.play_writer.specs.declared.unfit.Unfit.{Unfit}
 use Rattle.play_transcript.specs.Traces.{Wrote}
 use Rattle.play_descriptor.specs.declared.fault.WordsFault.{WordsFault}
-use Rattle.play_report.specs.Descriptors.{IsMisread, IsSaid, IsUnfit}
+use Rattle.play_report.specs.Descriptors.{AreWords, IsMisread, IsSaidFor, IsUnfit}
 use Rattle.play_report.specs.Manifests.{Describes, FailsUnplayed, IsAccepted, IsChecked, IsLaidOut, IsRefused, SomeCause, bytes_of}
 use Rattle.play_report.specs.declared.failure.Failure.{Failure}
 use Rattle.play_report.specs.declared.failure.Failure.TheVariants as failure
 use Rattle.play_tasks.specs.Plays.{DiffersBy, IsDoneBy, KnownTask, OverfullBy, StopsBy, Streams, UnmetBy, streams_of}
 use Rattle.play_tasks.specs.Starts.{begun_by}
 use Rattle.play_tasks.specs.Purposes.{IsTaskFor, is_session_for, is_strict_for}
-use Rattle.play_arguments.specs.Commands.{ask_of, manifest_of, trace_of}
+use Rattle.play_arguments.specs.Commands.{Described, ask_of, manifest_of, trace_of}
 use Rattle.play_arguments.specs.declared.command_line.PlayOptions.{PlayOptions}
 use Rattle.play_arguments.specs.declared.command_line.Source.{Source}
 use Rattle.play_arguments.specs.declared.command_line.Source.TheVariants as source
@@ -96,7 +96,8 @@ abbrev pub IsDone : Request → Ran → Type 0
 IsDone (request.Play o) ran = Played o ran (λ task start. IsDoneBy task start ran.streams)
 IsDone (request.Check manifest verbose) ran = IsChecked ran.manifest ran.streams.held ran.streams.holds
 IsDone (request.Layout manifest regions verbose) ran = IsLaidOut regions ran.manifest ran.streams.held ran.streams.holds
-IsDone (request.Descriptor words) ran = IsSaid words ran.streams.held ran.streams.holds
+IsDone (request.Descriptor path words) ran =
+    IsSaidFor path words ran.manifest ran.streams.held ran.streams.holds
 IsDone (request.Generate o) ran = IsMade o.lines o.count ran.manifest ran.streams.held ran.streams.holds
 IsDone (request.Test o) ran = IsQuiet ran
 
@@ -126,8 +127,9 @@ SomeUnmetGuard request ran = (ran.is_open ≡ true) × ((n : ℕ) × UnmetAt req
 -- what the words ask for can't be had: the words of a descriptor say none, or no bytes say what they do; or a picture
 -- would have too many rows, which is no answer to any other command
 abbrev pub IsUnsaid : Request → Ran → Type 0
-IsUnsaid (request.Descriptor words) ran =
-    ((fault : WordsFault) × IsMisread words fault) ⊎ ((cause : Unfit) × IsUnfit words cause)
+IsUnsaid (request.Descriptor path words) ran =
+    (own : Described) × AreWords path ran.manifest words own
+    × (((fault : WordsFault) × IsMisread own fault) ⊎ ((cause : Unfit) × IsUnfit own cause))
 IsUnsaid (request.Play o) ran = (most : ℕ) × Played o ran (λ task start. OverfullBy task start ran.streams most)
 IsUnsaid other ran = ⊥
 

@@ -6,7 +6,7 @@ ghost use Rattle.play_commands.specs.Performed.{Differs, Does, FailsFor, IsDone,
 
 use play_arguments::{PlayOptions, Purpose, Request};
 use play_files::{Commands, Files};
-use play_report::{Failure, Notes, accept, describe, lay_out, show, tell, tell_more};
+use play_report::{Failure, Notes, accept, describe_for, lay_out, show, tell, tell_more};
 use play_tasks::Machines;
 use std::alloc::{Allocator, Global};
 use std::fmt::Display;
@@ -30,7 +30,7 @@ impl<M: Machines, A: Allocator + Copy> Commands for Program<M, A> {
     /// for a command that was done, 1 for a manifest that is refused, 2 for a line that is none of a trace, 3 where a file
     /// can't be read, `out` can't be written or memory is short, 4 where a trace prints another text than is expected, 5
     /// where a guard of the trace isn't met, and 64 where the words of a descriptor make no sense, or a picture would have more
-    /// rows than fit. Faults are found in this order: the words of a descriptor, the manifest's file, the manifest, the trace's
+    /// rows than fit. Faults are found in this order: the manifest's file, the manifest, the words of a descriptor, the trace's
     /// file, the file of the expected text, RAM, the trace and the expected text, which are read together. A session tells `err`
     /// of bad lines too, and is done where its trace ends. Where guards are checked, `err` is told before its other lines which
     /// comments are nearly guards, and of a command that was done how many guards were met. An `out` that can't be flushed can't
@@ -151,7 +151,10 @@ impl<M: Machines, A: Allocator + Copy> Program<M, A> {
                 regions,
                 ..
             } => lay_out(alloc, path, manifest, regions, out, notes),
-            Request::Descriptor { words } => describe(self.alloc, &words, out),
+            Request::Descriptor {
+                manifest: path,
+                words,
+            } => { describe_for(self.alloc, alloc, path, manifest, words, out, notes) }
             Request::Generate(options) => self.generate(options, manifest, out, notes),
             // Its traces are played as commands of their own.
             Request::Test(_) => Ok(()),

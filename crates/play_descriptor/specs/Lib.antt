@@ -3,3 +3,4 @@ pub mod Cuts
 pub mod Forms
 pub mod Members
 pub mod Told
+pub mod Versions

@@ -7,7 +7,9 @@ mod members;
 mod parts;
 mod right;
 mod told;
+mod versions;
 
 pub use fault::{Form, Word, WordsFault};
 pub use right::Right;
 pub use told::{Asked, Told, read_words};
+pub use versions::words_for;

@@ -1,27 +1,52 @@
 // SPDX-License-Identifier: MIT OR Apache-2.0
 //! The lines of a trace that write a descriptor.
 ghost use Rattle.std.specs.Prelude.{◌≡◌, IfErr, OnOk};
+ghost use Rattle.play_arguments.specs.Commands.{words_of};
 ghost use Rattle.play_descriptor.specs.Told.{HasAlignedTx};
 ghost use Rattle.play_writer.specs.Written.{unfit_told};
-ghost use Rattle.play_report.specs.Descriptors.{FailsToSay, Grows, IsSaid, unfit_asked};
+ghost use Rattle.play_report.specs.Manifests.{bytes_of};
+ghost use Rattle.play_report.specs.Descriptors.{FailsToSay, FailsToSayFor, Grows, IsSaid, IsSaidFor, unfit_asked};
 
 use crate::failure::Failure;
+use crate::manifest::read_manifest;
+use crate::notes::Notes;
 use crate::output::write;
 use play_arguments::DescriptorWords;
-use play_descriptor::{Asked, read_words};
+use play_descriptor::{Asked, read_words, words_for};
 use play_writer::{ScriptError, put_descriptor, put_reclaim};
-use std::alloc::Allocator;
+use std::alloc::{Allocator, Global};
 use std::io::Write;
 
 /// Prints the lines of a trace that write the descriptor of these words and make its call, or of a reclaim the line of its
-/// call.
-pub fn describe<A: Allocator, W: Write>(
+/// call. Where a manifest is named by this path, of whose file these are the bytes, if it could be read, the descriptor has the
+/// form that the caller has there.
+pub fn describe_for<'a, A: Allocator + Copy, W: Write>(
+    alloc: A,
+    manifests: Global,
+    path: Option<&'a str>,
+    manifest: Option<&[u8]>,
+    words: DescriptorWords<'_>,
+    out: &mut W,
+    notes: &mut Notes<A>,
+) -> Result<(), Failure<'a>>
+    ensures said { OnOk result (IsSaidFor path.entry words.entry (bytes_of manifest.entry) (W.contents out.old) (W.contents out.new)) }
+    ensures failed { IfErr result (FailsToSayFor path.entry words.entry (bytes_of manifest.entry) (W.contents out.old) (W.contents out.new)) }
+{
+    let Some(path) = path else {
+        return describe(alloc, &words, out);
+    };
+    let manifest = read_manifest(manifests, path, manifest, notes)?;
+    describe(alloc, &words_for(words, &manifest), out)
+}
+
+// Prints the lines of these words as they are.
+fn describe<A: Allocator, W: Write>(
     alloc: A,
     words: &DescriptorWords<'_>,
     out: &mut W,
 ) -> Result<(), Failure<'static>>
-    ensures said { OnOk result (IsSaid words.now (W.contents out.old) (W.contents out.new)) }
-    ensures failed { IfErr result (FailsToSay words.now (W.contents out.old) (W.contents out.new)) }
+    ensures said { OnOk result (IsSaid (words_of words.now) (W.contents out.old) (W.contents out.new)) }
+    ensures failed { IfErr result (FailsToSay (words_of words.now) (W.contents out.old) (W.contents out.new)) }
 {
     let asked = match read_words(words) {
         Ok(asked) => asked,

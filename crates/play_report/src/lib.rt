@@ -18,7 +18,7 @@ mod telling;
 mod unmet;
 
 pub use counts::print_counts;
-pub use descriptor::describe;
+pub use descriptor::describe_for;
 pub use difference::Difference;
 pub use excerpt::Excerpt;
 pub use failure::{Failure, LineFlaw};

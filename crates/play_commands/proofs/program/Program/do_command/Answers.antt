@@ -31,5 +31,5 @@ returns-in-Generate-clause-does g c =
 
 pub returns-in-Descriptor-clause-does : goal.returns-in-Descriptor-clause-does
 returns-in-Descriptor-clause-does g c =
-    let given = ran g.R.Read.remaining c.args.files g.W.Write.contents c.args.out.now c.describe.new.out in
-    rw c.in-Descriptor.is (describes c.in-Descriptor.words given c.describe.result c.describe.ensures.said c.describe.ensures.failed)
+    let given = ran g.R.Read.remaining c.args.files g.W.Write.contents c.args.out.now c.describe_for.new.out in
+    rw c.in-Descriptor.is (describes c.in-Descriptor.path c.in-Descriptor.words given c.describe_for.result c.describe_for.ensures.said c.describe_for.ensures.failed)
