@@ -170,7 +170,7 @@ struct gorseplumb_region {
 #define GORSEPLUMB_MOST_REGIONS 16
 #define GORSEPLUMB_MOST_ENDPOINTS 8
 
-/* The most blocks of RAM, and its most bytes, of which RAM's base is a multiple. A library for larger machines is the
+/* The most blocks of RAM, and its most bytes, of which the base is a multiple in a text. A library for larger machines is the
  * same with another number of blocks, a power of two up to 512 (MOST_BLOCKS in crates/ffa_model/src/limits.rt). */
 #define GORSEPLUMB_MOST_BLOCKS 32
 #define GORSEPLUMB_MOST_RAM (UINT32_C(0x200000) * GORSEPLUMB_MOST_BLOCKS)
@@ -186,10 +186,12 @@ struct gorseplumb_endpoint {
 
 /* A manifest as numbers. */
 struct gorseplumb_manifest {
-    uint32_t ram_base;       /* the address of RAM's first byte: a multiple of GORSEPLUMB_MOST_RAM */
-    uint32_t ram_blocks;     /* of 2 MiB each, from 1 to GORSEPLUMB_MOST_BLOCKS */
+    uint32_t ram_base;       /* the address of RAM's first byte: a multiple of 0x200000, but not 0 */
+    uint32_t ram_blocks;     /* of 2 MiB each, from 1 to GORSEPLUMB_MOST_BLOCKS, all in one GiB (no multiple of 2^30 inside) */
     uint32_t endpoint_count; /* of `endpoints`, from the first on; what stands behind is not read */
     struct gorseplumb_endpoint endpoints[GORSEPLUMB_MOST_ENDPOINTS];
+    uint32_t worlds; /* 0: all memory is alike. 1: that of the first endpoint's regions is non-secure, all other secure
+                      * (docs/MEMORY.md); no text says it */
 };
 
 /* What boots, copies, gorseplumb_free and functions of lists answer. None is an error code of FF-A, which a call answers in its
@@ -202,9 +204,9 @@ enum gorseplumb_answer {
     GORSEPLUMB_MANIFEST_TOML = 2,            /* the text is no TOML, or no UTF-8 */
     GORSEPLUMB_MANIFEST_UNKNOWN_KEY = 3,     /* a key that its table doesn't have */
     GORSEPLUMB_MANIFEST_MISSING_KEY = 4,     /* a table lacks one of its keys */
-    GORSEPLUMB_MANIFEST_WRONG_KIND = 5,      /* a value of another kind, or unknown rights */
-    GORSEPLUMB_MANIFEST_RAM_BASE = 6,        /* no multiple of GORSEPLUMB_MOST_RAM, or 0, or RAM of that many bytes would end above 4 GiB */
-    GORSEPLUMB_MANIFEST_RAM_BLOCKS = 7,      /* not from 1 to GORSEPLUMB_MOST_BLOCKS */
+    GORSEPLUMB_MANIFEST_WRONG_KIND = 5,      /* a value of another kind, unknown rights, or unknown worlds */
+    GORSEPLUMB_MANIFEST_RAM_BASE = 6,        /* 0, or no multiple of 0x200000; in a text, of GORSEPLUMB_MOST_RAM, or with no room for that many bytes below 4 GiB */
+    GORSEPLUMB_MANIFEST_RAM_BLOCKS = 7,      /* not from 1 to GORSEPLUMB_MOST_BLOCKS, or not in one GiB */
     GORSEPLUMB_MANIFEST_ENDPOINT_COUNT = 8,  /* not from 1 to 8 */
     GORSEPLUMB_MANIFEST_UUID = 9,            /* can't be read, zeros for a partition, or other than zeros for the normal world */
     GORSEPLUMB_MANIFEST_PROPERTY = 10,       /* not from 0 to 15, or the normal world is to receive */
@@ -237,7 +239,7 @@ enum gorseplumb_answer gorseplumb_boot(struct gorseplumb_machine *machine, const
 
 /* The same of a manifest as numbers, for which no memory is needed but the machine's own and its RAM. Refused first, in
  * this order: more endpoints than places; then for each endpoint an unknown version, more regions than places, unknown
- * rights. After that come the causes of a text, in the order in which it would be read. */
+ * rights; then `worlds` that is neither 0 nor 1 (GORSEPLUMB_MANIFEST_WRONG_KIND). After that come the causes of a text, in the order in which it would be read. */
 enum gorseplumb_answer gorseplumb_boot_manifest(struct gorseplumb_machine *machine,
                                                 const struct gorseplumb_manifest *manifest);
 
@@ -281,8 +283,8 @@ enum gorseplumb_answer gorseplumb_copy_lent(struct gorseplumb_machine *machine, 
                                             const struct gorseplumb_machine *original);
 
 /* Reads a manifest's text of `size` bytes into numbers, which a boot would go by, so that RAM can be lent that has the
- * size which the text describes. GORSEPLUMB_OK: `manifest` gives what the text describes, and what stands behind the
- * endpoints and regions that it counts is zeros. Else `manifest` stays: GORSEPLUMB_NO_MEMORY, since reading takes
+ * size which the text describes. GORSEPLUMB_OK: `manifest` gives what the text describes, `worlds` is 0, and what stands
+ * behind the endpoints and regions that it counts is zeros. Else `manifest` stays: GORSEPLUMB_NO_MEMORY, since reading takes
  * memory, all of which it gives back, or the cause for which gorseplumb_boot would refuse the text. */
 enum gorseplumb_answer gorseplumb_read_manifest(const uint8_t *text, size_t size, struct gorseplumb_manifest *manifest);
 
@@ -526,7 +528,8 @@ enum gorseplumb_check {
     GORSEPLUMB_CHECK_NOT_HELD = 72, /* the caller does not hold the transaction */
     GORSEPLUMB_CHECK_ZEROS_NOT_ALLOWED = 73, /* zeros are asked of memory that is not lent to the caller to write to */
     GORSEPLUMB_CHECK_NOT_THE_SENDERS = 74, /* no open transaction of the caller has the handle */
-    GORSEPLUMB_CHECK_STILL_HELD = 75 /* a receiver holds the transaction */
+    GORSEPLUMB_CHECK_STILL_HELD = 75, /* a receiver holds the transaction */
+    GORSEPLUMB_CHECK_WORLDS_MIXED = 76 /* secure pages are sent to the normal world, or together with non-secure ones */
 };
 
 /* The conditions of a descriptor, as gorseplumb_flaw_name says them. Those of a retrieve stand behind those of a header,

@@ -7,7 +7,7 @@
 
 #define CHECK(name) GORSEPLUMB_CHECK_##name
 
-enum { MOST_CHECKS = 14 };
+enum { MOST_CHECKS = 15 };
 
 /* What the identifier of a 64-bit form has beside that of the 32-bit form. */
 #define WIDE UINT32_C(0x40000000)
@@ -26,7 +26,7 @@ struct function {
     CHECK(BUFFERS_MISSING), CHECK(FRAGMENTED), CHECK(DESCRIPTOR_TOO_LONG), CHECK(BUFFER_ADDRESS_GIVEN), \
     CHECK(BUFFER_PAGES_GIVEN), CHECK(DESCRIPTOR_MALFORMED), CHECK(SENDER_IS_ANOTHER), CHECK(RECEIVER_UNKNOWN), \
     CHECK(RANGE_OUTSIDE), CHECK(PAGE_UNSENDABLE), CHECK(GRANT_TOO_MUCH), CHECK(ZEROS_UNWRITABLE), \
-    CHECK(TRANSACTIONS_FULL), CHECK(HANDLES_USED_UP)
+    CHECK(WORLDS_MIXED), CHECK(TRANSACTIONS_FULL), CHECK(HANDLES_USED_UP)
 
 static const struct function functions[] = {
     {"FFA_ERROR", 0x84000060, false, {CHECK(FUNCTION_UNKNOWN)}},
@@ -175,7 +175,8 @@ static const char check_names[] =
     "the caller does not hold the transaction\0"
     "zeros are asked of memory that is not lent to the caller to write to\0"
     "no open transaction of the caller has the handle\0"
-    "a receiver holds the transaction\0";
+    "a receiver holds the transaction\0"
+    "secure pages are sent to the normal world, or together with non-secure ones\0";
 
 static const char flaw_names[] =
     "the descriptor is shorter than its header\0"

@@ -1,6 +1,7 @@
 /* SPDX-License-Identifier: MIT OR Apache-2.0 */
-/* Plays a trace through the border, and prints what the program prints: play heap|lent|explain|several MANIFEST TRACE. With `lent` the machine
- * stands in pages of this program, and with `explain` a reason follows each operation that is refused. With `several` a line `on N` says which
+/* Plays a trace through the border, and prints what the program prints: play heap|lent|explain|worlds|several MANIFEST TRACE. With `lent` the
+ * machine stands in pages of this program, and with `explain` a reason follows each operation that is refused; with `worlds` too, of a machine
+ * that tells non-secure memory from secure memory. With `several` a line `on N` says which
  * processor does what follows, 0 at first, and `interrupt` that it takes one; a partition that goes on is printed as `resumed E`. Whether the tables agree with gorseplumb_access is found by a walk of their bytes. */
 #include <inttypes.h>
 #include <stdio.h>
@@ -241,6 +242,14 @@ static void play(char *line) {
     }
 }
 
+/* What no text says is told as a number. */
+static void boot_with_worlds(const char *text, size_t size) {
+    static struct gorseplumb_manifest manifest;
+    if (gorseplumb_read_manifest((const uint8_t *)text, size, &manifest) != GORSEPLUMB_OK) stop("the manifest is refused");
+    manifest.worlds = 1;
+    if (gorseplumb_boot_manifest(&machine, &manifest) != GORSEPLUMB_OK) stop("no boot of a manifest that was read");
+}
+
 static void boot_on_heap(const char *text, size_t size) {
     if (gorseplumb_boot(&machine, (const uint8_t *)text, size) != GORSEPLUMB_OK) stop("the manifest is refused");
 }
@@ -258,14 +267,16 @@ static uint32_t boot_in(struct gorseplumb_page *pages, struct gorseplumb_lent *l
 int main(int count, char **words) {
     static struct gorseplumb_page pages[MOST_PAGES];
     struct gorseplumb_lent lent = {0};
-    if (count != 4) stop("play heap|lent|explain|several MANIFEST TRACE");
+    if (count != 4) stop("play heap|lent|explain|worlds|several MANIFEST TRACE");
     is_several = strcmp(words[1], "several") == 0;
-    explains = strcmp(words[1], "explain") == 0;
+    bool tells_worlds = strcmp(words[1], "worlds") == 0;
+    explains = tells_worlds || strcmp(words[1], "explain") == 0;
     bool is_lent = strcmp(words[1], "lent") == 0;
     size_t size, trace_size;
     uint32_t lent_pages = 0;
     char *text = text_of(words[2], &size), *trace = text_of(words[3], &trace_size);
     if (is_lent) lent_pages = boot_in(pages, &lent, text, size);
+    else if (tells_worlds) boot_with_worlds(text, size);
     else boot_on_heap(text, size);
     for (char *line = trace, *end; line < trace + trace_size; line = end + 1) {
         end = memchr(line, '\n', (size_t)(trace + trace_size - line));

@@ -353,8 +353,13 @@ static void numbers(void) {
     REFUSED(GORSEPLUMB_OK, manifest.endpoints[1].version = 1);
     REFUSED(GORSEPLUMB_MANIFEST_WRONG_KIND, manifest.endpoints[2].regions[0].rights = 2);
     REFUSED(GORSEPLUMB_MANIFEST_WRONG_KIND, manifest.endpoints[0].regions[0].rights = 0);
-    REFUSED(GORSEPLUMB_MANIFEST_RAM_BASE, manifest.ram_base = 0x42000000);
+    REFUSED(GORSEPLUMB_MANIFEST_RAM_BASE, manifest.ram_base = 0x40100000);
+    REFUSED(GORSEPLUMB_MANIFEST_RAM_BASE, manifest.ram_base = 0);
     REFUSED(GORSEPLUMB_MANIFEST_RAM_BLOCKS, manifest.ram_blocks = 33);
+    /* RAM lies in one GiB. */
+    REFUSED(GORSEPLUMB_MANIFEST_RAM_BLOCKS, manifest.ram_base = 0x3FE00000, manifest.ram_blocks = 2);
+    REFUSED(GORSEPLUMB_MANIFEST_RAM_BLOCKS, manifest.ram_base = 0xFFE00000, manifest.ram_blocks = 2);
+    REFUSED(GORSEPLUMB_MANIFEST_REGION_OUTSIDE, manifest.ram_base = 0x3FE00000);
     REFUSED(GORSEPLUMB_MANIFEST_ENDPOINT_COUNT, manifest.endpoint_count = 0);
     REFUSED(GORSEPLUMB_MANIFEST_ENDPOINT_COUNT, manifest.endpoint_count = 9);
     REFUSED(GORSEPLUMB_MANIFEST_UUID, memset(manifest.endpoints[1].uuid, 0, 16));

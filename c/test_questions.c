@@ -172,17 +172,27 @@ static void without(void) {
     has_no_run(0);
 }
 
-/* A machine of two blocks at the highest base. */
-static void elsewhere(void) {
-    struct gorseplumb_manifest manifest = {.ram_base = 0xF8000000, .ram_blocks = 2, .endpoint_count = 1};
+/* A machine of two blocks at a base. */
+static void stands_at(uint32_t base) {
+    struct gorseplumb_manifest manifest = {.ram_base = base, .ram_blocks = 2, .endpoint_count = 1};
     manifest.endpoints[0].region_count = 1;
-    manifest.endpoints[0].regions[0] = (struct gorseplumb_region){0xF8200000, 1, GORSEPLUMB_READ};
+    manifest.endpoints[0].regions[0] = (struct gorseplumb_region){base + 0x200000, 1, GORSEPLUMB_READ};
     CHECK(gorseplumb_boot_manifest(&machine, &manifest) == GORSEPLUMB_OK);
-    CHECK(gorseplumb_ram_base(shown(&machine)) == 0xF8000000 && gorseplumb_ram_blocks(shown(&machine)) == 2);
-    CHECK(gorseplumb_root(shown(&machine), 0) == 0xF8000000 && gorseplumb_root(shown(&machine), 0x8001) == GORSEPLUMB_NOTHING &&
+    CHECK(gorseplumb_ram_base(shown(&machine)) == base && gorseplumb_ram_blocks(shown(&machine)) == 2);
+    CHECK(gorseplumb_root(shown(&machine), 0) == base && gorseplumb_root(shown(&machine), 0x8001) == GORSEPLUMB_NOTHING &&
           gorseplumb_endpoints(shown(&machine)) == 1);
     runs(512, 512, 0, 0, 1, 0, 0);
     runs(513, 1023, 0x8000, 0, 0, 0, 0);
+}
+
+/* From the lowest base to the highest, and at the end of a GiB. */
+static void elsewhere(void) {
+    static const uint32_t bases[] = {0x00200000, 0x0E200000, 0x3FC00000, 0xF8000000, 0xFFC00000};
+    struct gorseplumb_lent none = {0};
+    for (size_t i = 0; i < sizeof bases / sizeof *bases; i++) {
+        stands_at(bases[i]);
+        CHECK(gorseplumb_free(&machine, &none) == GORSEPLUMB_OK);
+    }
 }
 
 static uint64_t lent_pages(const struct gorseplumb_lent *list) {
@@ -213,7 +223,6 @@ int main(void) {
     CHECK(gorseplumb_free(&machine, &none) == GORSEPLUMB_OK);
     without();
     elsewhere();
-    CHECK(gorseplumb_free(&machine, &none) == GORSEPLUMB_OK);
     puts("ok");
     return 0;
 }

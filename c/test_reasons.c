@@ -276,7 +276,7 @@ static void names(void) {
     CHECK(is(gorseplumb_fault_name(GORSEPLUMB_FAULT_OUTSIDE_RAM), "outside-ram"));
     CHECK(is(gorseplumb_answer_name(GORSEPLUMB_MANIFEST_RAM_BASE), "M6 RamBase"));
     CHECK(is(gorseplumb_answer_name(GORSEPLUMB_MANIFEST_VERSION), "M14 Version"));
-    for (uint32_t check = 1; check <= GORSEPLUMB_CHECK_STILL_HELD; check++)
+    for (uint32_t check = 1; check <= GORSEPLUMB_CHECK_WORLDS_MIXED; check++)
         CHECK(*gorseplumb_check_name(check) != '\0');
     for (uint32_t flaw = 1; flaw <= GORSEPLUMB_FLAW_RELINQUISH_ENDPOINT_COUNT; flaw++)
         CHECK(*gorseplumb_flaw_name(flaw) != '\0');
@@ -288,7 +288,7 @@ static void names(void) {
               is(gorseplumb_fault_name(none[i]), ""));
         CHECK(none[i] == 0 || is(gorseplumb_answer_name(none[i]), ""));
     }
-    CHECK(is(gorseplumb_check_name(GORSEPLUMB_CHECK_STILL_HELD + 1), ""));
+    CHECK(is(gorseplumb_check_name(GORSEPLUMB_CHECK_WORLDS_MIXED + 1), ""));
     CHECK(is(gorseplumb_fault_name(GORSEPLUMB_FAULT_OUTSIDE_RAM + 1), ""));
     CHECK(is(gorseplumb_flaw_name(GORSEPLUMB_FLAW_RELINQUISH_ENDPOINT_COUNT + 1), ""));
 }

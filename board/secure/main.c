@@ -11,6 +11,15 @@ void second_processor(void);
 
 static struct board board;
 
+/* The machine of a text, which tells memory of the normal world from that of the secure world. */
+static enum gorseplumb_answer boot_worlds(struct gorseplumb_machine *machine, struct gorseplumb_lent *lent, const uint8_t *text, size_t size) {
+    static struct gorseplumb_manifest manifest;
+    enum gorseplumb_answer answer = gorseplumb_read_manifest(text, size, &manifest);
+    if (answer != GORSEPLUMB_OK) return answer;
+    manifest.worlds = 1;
+    return gorseplumb_boot_held_manifest(machine, lent, &manifest);
+}
+
 /* Each partition runs once before the normal world does, for what it has to do at its start: by a call in the name of that. */
 static void run_first(void) {
     for (uint32_t i = 1; i < board.count; i++) {
@@ -22,7 +31,7 @@ static void run_first(void) {
 }
 
 void firmware(void) {
-    boot(&board, manifest_text, gorseplumb_boot_held);
+    boot(&board, manifest_text, boot_worlds);
     place_endpoints(&board, endpoint_list);
     begin_partitions();
     run_first();

@@ -52,7 +52,6 @@ void end_call(struct board *board, const struct gorseplumb_registers *registers,
     has_processor(FIRMWARE);
     calls++;
     record_answer(board, registers, outcome);
-    mark_non_secure(registers, outcome);
     notify(&board->machine);
 }
 

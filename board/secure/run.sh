@@ -127,7 +127,7 @@ boot() {
     emulated=$SECONDS
     tr -d '\r' <"$to/uart" >"$to/linux"
     part "$to/core"
-    "$player" run --processors "$processors" "$to/manifest" "$to/trace" >"$to/expected" || fail "$name: the program doesn't play what was done"
+    "$player" run --worlds --processors "$processors" "$to/manifest" "$to/trace" >"$to/expected" || fail "$name: the program doesn't play what was done"
     if [[ $keep ]]; then for kind in uart core trace found expected; do cp "$to/$kind" "$keep/$name.$kind"; done; fi
 }
 

@@ -31,11 +31,10 @@ _Noreturn void serve_normal_world(struct board *board, bool first);
 /* x0 to x7 go to the dispatcher, with the vector registers of the normal world; then they are its next call. */
 void to_normal_world(struct context *normal_world);
 
-/* What TF-A's test partition asks of its manager and the core doesn't do: a call that is answered beside it, the line to which the partition
- * prints, and the NS bit in a retrieve's response. Each says whether it was that, and does nothing in a firmware for other partitions. */
+/* What TF-A's test partition asks of its manager and the core doesn't do: a call that is answered beside it, and the line to which the partition
+ * prints. Each says whether it was that, and does nothing in a firmware for other partitions. */
 bool serve_beside(struct context *partition);
 bool serve_line(struct context *partition, uint64_t syndrome, uint64_t address);
-void mark_non_secure(const struct gorseplumb_registers *registers, const struct gorseplumb_outcome *outcome);
 
 /* Who has the processor from here on, in a firmware that measures. */
 enum having { NORMAL_WORLD, FIRMWARE, CORE, PARTITION, HAVING };

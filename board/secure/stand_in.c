@@ -27,22 +27,3 @@ bool serve_line(struct context *partition, uint64_t syndrome, uint64_t address) 
     do_access(partition, syndrome, address);
     return true;
 }
-
-/* A response's attributes have NS where the memory is the normal world's (DEN0077A, 5.11.4), as all is that TSP is offered. The bit is stored behind
- * the core's answer, and stands in the trace as a store of the partition's own. */
-#define ATTRIBUTES 2
-#define NS 0x40
-
-static void store_non_secure(uint64_t address) {
-    volatile uint16_t *attributes = (volatile uint16_t *)address;
-    *attributes |= NS;
-    record_store(address, 2, *attributes);
-}
-
-void mark_non_secure(const struct gorseplumb_registers *registers, const struct gorseplumb_outcome *outcome) {
-    static uint64_t rx[GORSEPLUMB_MOST_ENDPOINTS];
-    uint64_t *own = &rx[place_of(outcome->runner)];
-    if (!FOR_TSP) return;
-    if (((uint32_t)registers->x[0] & ~WITH_64_BITS) == FFA_RXTX_MAP && (uint32_t)outcome->x[0] == FFA_SUCCESS) *own = registers->x[2];
-    if ((uint32_t)outcome->x[0] == FFA_MEM_RETRIEVE_RESP) store_non_secure(*own + ATTRIBUTES);
-}

@@ -69,6 +69,7 @@ class Manifest(Structure):
         ("ram_blocks", c_uint32),
         ("endpoint_count", c_uint32),
         ("endpoints", Endpoint * MOST_ENDPOINTS),
+        ("worlds", c_uint32),
     ]
 
 

@@ -105,6 +105,7 @@ class Check(_Worded):
     ZEROS_NOT_ALLOWED = 73, "zeros are asked of memory that is not lent to the caller to write to"
     NOT_THE_SENDERS = 74, "no open transaction of the caller has the handle"
     STILL_HELD = 75, "a receiver holds the transaction"
+    WORLDS_MIXED = 76, "secure pages are sent to the normal world, or together with non-secure ones"
 
 
 class Flaw(_Worded):

@@ -15,6 +15,7 @@ from .misuse import check_each, check_member, check_member_or_number, check_numb
 from .outcomes import Call, Operation, Store
 
 NORMAL_MEMORY = 0x2F
+NON_SECURE = 1 << 6
 MOST_RECEIVERS = 4
 MOST_RANGES = 64
 ENTRY_SIZE = 16
@@ -191,7 +192,8 @@ class Retrieve:
 
 @dataclass(frozen=True, slots=True)
 class RetrieveResponse:
-    """What FFA_MEM_RETRIEVE_RESP leaves in RX: `receiver` has the right that it holds from now on."""
+    """What FFA_MEM_RETRIEVE_RESP leaves in RX: `receiver` has the right that it holds from now on. Only of a machine that
+    tells worlds apart are pages told to be `non_secure`."""
 
     kind: Kind
     sender: int
@@ -200,6 +202,7 @@ class RetrieveResponse:
     ranges: tuple[PageRange, ...]
     zeroed: bool = False
     tag: int = 0
+    non_secure: bool = False
 
     __repr__ = by_fields
 
@@ -212,9 +215,10 @@ class RetrieveResponse:
     def to_bytes(self, form: Form = Form.FFA_1_1) -> bytes:
         """The response, as the machine writes it."""
         composite = header_size(form) + ENTRY_SIZE
+        attributes = NORMAL_MEMORY | (NON_SECURE if self.non_secure else 0)
         flags = self.kind << 3 | int(self.zeroed)
         return (
-            _pack_header(form, self.sender, NORMAL_MEMORY, flags, self.handle, self.tag, 1)
+            _pack_header(form, self.sender, attributes, flags, self.handle, self.tag, 1)
             + _pack(_ACCESS, self.receiver.endpoint, self.receiver.permissions, 0, composite, 0)
             + _pack_composite(self.ranges)
         )
@@ -233,8 +237,9 @@ class RetrieveResponse:
             PageRange(*_RANGE.unpack_from(data, composite + ENTRY_SIZE * (1 + index))[:2]) for index in range(count)
         )
         kind = Kind(header.flags >> 3 & 3)
-        receiver = _receiver(named, permissions)
-        return cls(kind, header.sender, header.handle, receiver, ranges, bool(header.flags & 1), header.tag)
+        receiver, zeroed = _receiver(named, permissions), bool(header.flags & 1)
+        non_secure = bool(header.attributes & NON_SECURE)
+        return cls(kind, header.sender, header.handle, receiver, ranges, zeroed, header.tag, non_secure)
 
 
 @dataclass(frozen=True, slots=True)

@@ -55,17 +55,21 @@ class Endpoint:
 
 @dataclass(frozen=True)
 class Manifest:
-    """RAM, from `ram_base` on in blocks of 2 MiB, and the endpoints in their order."""
+    """RAM, from `ram_base` on in blocks of 2 MiB, and the endpoints in their order. Where `worlds` is set, the machine tells
+    memory of the normal world's regions, which is non-secure, from all other, which is secure; no text says it."""
 
     ram_base: int
     ram_blocks: int
     endpoints: Sequence[Endpoint]
+    worlds: bool = False
 
     __repr__ = by_fields
 
     def __post_init__(self) -> None:
         check_numbers(self, "ram_base", "ram_blocks")
         check_each("endpoints", self.endpoints, Endpoint)
+        if not isinstance(self.worlds, bool):
+            refuse("worlds", "True or False", self.worlds)
 
     @classmethod
     def read(cls, text: str | bytes | os.PathLike[str]) -> Manifest:
@@ -78,7 +82,7 @@ class Manifest:
         return cls(raw.ram_base, raw.ram_blocks, endpoints)
 
     def text(self) -> str:
-        """The same as the text of a manifest."""
+        """The same as the text of a manifest, but for `worlds`."""
         lines = [f"ram_base = 0x{self.ram_base:08X}", f"ram_blocks = {self.ram_blocks}"]
         for endpoint in self.endpoints:
             lines += ["", "[[endpoint]]", f'version = "{endpoint.form.text}"']
@@ -102,6 +106,7 @@ class Manifest:
         )
         for place, endpoint in zip(raw.endpoints, self.endpoints):
             _put_endpoint(place, endpoint)
+        raw.worlds = int(self.worlds)
         return raw
 
 

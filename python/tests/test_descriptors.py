@@ -3,6 +3,7 @@
 from __future__ import annotations
 
 import struct
+from dataclasses import replace
 from typing import Any, Callable
 
 import pytest
@@ -91,7 +92,9 @@ def test_reads_retrieves_and_responses(form: Form) -> None:
     answered = RetrieveResponse(Kind.LEND, 1, 2, Receiver(3, RW, InstructionAccess.NX), (PageRange(4096, 1),), True, 4)
     data = answered.to_bytes(form)
     assert len(data) == (80 if form is Form.FFA_1_1 else 64) + 16
-    assert RetrieveResponse.from_bytes(data + b"rest", form) == answered
+    assert RetrieveResponse.from_bytes(data + b"rest", form) == answered and data[2] == 0x2F
+    told = replace(answered, non_secure=True).to_bytes(form)
+    assert told == data[:2] + b"\x6F" + data[3:] and RetrieveResponse.from_bytes(told, form).non_secure
     given_up = Relinquish(5, 6, zero=True)
     assert Relinquish.from_bytes(given_up.to_bytes() + b"rest") == given_up
 

@@ -82,6 +82,7 @@ codes! {
         73 ZerosNotAllowed "zeros are asked of memory that is not lent to the caller to write to",
         74 NotTheSenders "no open transaction of the caller has the handle",
         75 StillHeld "a receiver holds the transaction",
+        76 WorldsMixed "secure pages are sent to the normal world, or together with non-secure ones",
     }
 }
 

@@ -90,7 +90,7 @@ codes! {
         3 UnknownKey "a table has a key that it may not have",
         4 MissingKey "a table lacks a key",
         5 WrongKind "a value is of another kind, or the rights are unknown",
-        6 RamBase "the base of RAM is no multiple of 64 MiB from 04000000 to FC000000",
+        6 RamBase "the base of RAM is 0, or no multiple of 2 MiB (in a text, of 64 MiB from 04000000 to FC000000)",
         7 RamBlocks "RAM has no block, or more than 32",
         8 EndpointCount "there is no endpoint, or more than 8",
         9 Uuid "a UUID can't be read, a partition's is zeros, or the normal world's isn't",

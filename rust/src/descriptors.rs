@@ -6,7 +6,7 @@ use crate::hexadecimal::{shown, Hexadecimal};
 use crate::layout::{
     attributes, check_access, check_asked, check_count, check_permissions, check_range, check_send, header_size,
     read_access, read_count, read_header, read_range, require, total, u16_at, u32_at, u64_at, Access, DescriptorBytes,
-    Header, ENTRY, NORMAL_MEMORY, RELINQUISH,
+    Header, ENTRY, NON_SECURE, NORMAL_MEMORY, RELINQUISH,
 };
 use crate::manifest::Version;
 use crate::ram::PAGE_SIZE;
@@ -453,6 +453,8 @@ pub struct RetrieveResponse {
     pub zeroed: bool,
     /// The offer's tag.
     pub tag: u64,
+    /// Whether the pages are told to be non-secure, as only a machine that tells [worlds](crate::Worlds) apart does.
+    pub non_secure: bool,
     count: usize,
     ranges: [PageRange; MOST_RANGES],
 }
@@ -486,6 +488,7 @@ impl RetrieveResponse {
             receiver: Receiver::of(&access),
             zeroed: header.flags & 1 != 0,
             tag: header.tag,
+            non_secure: header.attributes & NON_SECURE != 0,
             count,
             ranges,
         })
@@ -502,6 +505,7 @@ impl fmt::Debug for RetrieveResponse {
             .field("ranges", &self.ranges())
             .field("zeroed", &self.zeroed)
             .field("tag", &Hexadecimal(self.tag))
+            .field("non_secure", &self.non_secure)
             .finish()
     }
 }

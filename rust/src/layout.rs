@@ -14,6 +14,9 @@ pub(crate) const ENTRY: usize = 16;
 
 pub(crate) const NORMAL_MEMORY: u16 = 0x2F;
 
+/// Beside it, that it is non-secure.
+pub(crate) const NON_SECURE: u16 = 1 << 6;
+
 pub(crate) const RELINQUISH: usize = 18;
 
 /// How many bytes a transaction header has.

@@ -158,7 +158,8 @@ pub use layout::DescriptorBytes;
 pub use lists::{Operation, Outcome, Told};
 pub use machine::{Change, Description, Machine, Range};
 pub use manifest::{
-    CountError, Endpoint, Manifest, Properties, Region, Rights, Version, MOST_BLOCKS, MOST_ENDPOINTS, MOST_REGIONS,
+    CountError, Endpoint, Manifest, Properties, Region, Rights, Version, Worlds, MOST_BLOCKS, MOST_ENDPOINTS,
+    MOST_REGIONS,
 };
 pub use named::{decode, encode, ArgumentError, Named};
 pub use names::{call_name, declarations};

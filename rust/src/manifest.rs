@@ -231,6 +231,17 @@ impl Endpoint {
     }
 }
 
+/// Whether a machine tells non-secure memory from secure memory.
+#[derive(Clone, Copy, Debug, PartialEq, Eq, Hash, Default)]
+pub enum Worlds {
+    /// All memory is alike, and no answer says whose it is.
+    #[default]
+    One = 0,
+    /// Memory of the normal world's regions is non-secure, and so told to who retrieves it. All other memory is secure, and
+    /// can't be sent to the normal world.
+    Two = 1,
+}
+
 /// A manifest as numbers. Its counts are those that there may be; whether it describes a machine, a boot says.
 #[derive(Clone, Copy, PartialEq, Eq)]
 #[repr(transparent)]
@@ -239,11 +250,12 @@ pub struct Manifest(raw::Manifest);
 /// Without the places that hold no endpoint.
 impl fmt::Debug for Manifest {
     fn fmt(&self, to: &mut fmt::Formatter<'_>) -> fmt::Result {
-        let raw::Manifest { ram_base, ram_blocks, endpoint_count, ref endpoints } = self.0;
+        let raw::Manifest { ram_base, ram_blocks, endpoint_count, ref endpoints, .. } = self.0;
         to.debug_struct("Manifest")
             .field("ram_base", &Hexadecimal(ram_base))
             .field("ram_blocks", &ram_blocks)
             .field("endpoints", &First(endpoints, endpoint_count, Endpoint))
+            .field("worlds", &self.worlds())
             .finish()
     }
 }
@@ -254,6 +266,7 @@ impl Manifest {
         ram_blocks: 0,
         endpoint_count: 0,
         endpoints: [Endpoint::NONE.0; MOST_ENDPOINTS],
+        worlds: Worlds::One as u32,
     });
 
     /// So many blocks of 2 MiB from this address on, and these endpoints, the normal world first. Panics, which a
@@ -295,6 +308,24 @@ impl Manifest {
             place += 1;
         }
         Ok(Manifest(manifest))
+    }
+
+    /// The same, whose machine tells the worlds' memory apart, or doesn't. The text of a manifest can't say it, and
+    /// one that [was read](Manifest::read) doesn't.
+    #[must_use]
+    pub const fn with_worlds(self, worlds: Worlds) -> Manifest {
+        let mut manifest = self.0;
+        manifest.worlds = worlds as u32;
+        Manifest(manifest)
+    }
+
+    /// Whether its machine tells the worlds' memory apart.
+    #[must_use]
+    pub const fn worlds(&self) -> Worlds {
+        match self.0.worlds {
+            0 => Worlds::One,
+            _ => Worlds::Two,
+        }
     }
 
     /// How many pages its RAM has.

@@ -110,6 +110,7 @@ pub struct Manifest {
     pub ram_blocks: u32,
     pub endpoint_count: u32,
     pub endpoints: [Endpoint; MOST_ENDPOINTS],
+    pub worlds: u32,
 }
 
 pub const OK: u32 = 0;

@@ -148,6 +148,9 @@ fn responses() {
         let holds = Receiver { instructions: InstructionAccess::Nx, ..Receiver::rw(Id(3)) };
         assert_eq!(told.receiver, holds);
         assert_eq!(told.ranges(), [PageRange::new(4096, 1), PageRange::new(0x1_0000_4000, 2)]);
+        let mut bytes = response(form);
+        bytes[2] = 0x6F;
+        assert!(!told.non_secure && RetrieveResponse::read(&bytes, form).unwrap().non_secure);
     }
 }
 

@@ -69,7 +69,7 @@ fn manifests() {
         Manifest::new(0x4000_0000, 1, &[world]),
         "Manifest { ram_base: 0x40000000, ram_blocks: 1, endpoints: [Endpoint { version: V1_1, \
          properties: Properties(2), uuid: 0x0, \
-         regions: [Region { base: 0x40010000, pages: 16, rights: Rw }] }] }",
+         regions: [Region { base: 0x40010000, pages: 16, rights: Rw }] }], worlds: One }",
     );
     let manifest = format!("{MACHINE:?}");
     assert!(manifest.contains("uuid: 0x112233445566778899AABBCCDDEEFF,"), "{manifest}");
@@ -124,7 +124,7 @@ fn descriptors() {
     words[9] = 16;
     let response: Vec<u8> = words.iter().flat_map(|word| word.to_le_bytes()).collect();
     let receiver = "Receiver { endpoint: Id(0x8001), data: Rw, instructions: Nx }";
-    let told = format!("receiver: {receiver}, ranges: [{range}], zeroed: true, tag: 0x0");
+    let told = format!("receiver: {receiver}, ranges: [{range}], zeroed: true, tag: 0x0, non_secure: false");
     let response = RetrieveResponse::read(&response, Version::Compact).unwrap();
     shows(response, &format!("RetrieveResponse {{ kind: Lend, sender: Id(0x0), handle: 0xA, {told} }}"));
 }

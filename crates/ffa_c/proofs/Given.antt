@@ -1,21 +1,22 @@
 -- SPDX-License-Identifier: MIT OR Apache-2.0
 -- Numbers are never refused for want of memory.
-use Rattle.std.proofs.Common.{◌≡◌, ◌≢◌, ℕ, Bool, true, false, List, [], ◌∷◌, ◌++◌, Option, None, Some, Result, Ok, Err, take, length}
+use Rattle.std.proofs.Common.{◌≡◌, ◌≢◌, ◌∙◌, ℕ, Bool, true, false, List, [], ◌∷◌, ◌++◌, Option, None, Some, Result, Ok, Err, take, length, ap, refl, sym}
 use Rattle.std.specs.Prelude.{IfErr, nat_le, if◌then◌else◌}
 use Rattle.std.specs.Option.{option_map}
 use Rattle.ffa_model.specs.declared.endpoint.Endpoint.{Endpoint}
 use Rattle.ffa_model.specs.declared.endpoint.Region.{Region}
 use Rattle.ffa_model.specs.declared.limits.TheConstants.{MOST_ENDPOINTS, MOST_REGIONS}
+use Rattle.ffa_model.specs.declared.manifest.Worlds.{Worlds}
 use Rattle.ffa_model.specs.Manifest.{is_placed, regions_of}
 use Rattle.ffa_manifest.specs.Document.{Parts}
-use Rattle.ffa_manifest.specs.Parts.{Tests, endpoint_tests, first_cause, first_failure, region_tests, tests_of, tests_of_each}
+use Rattle.ffa_manifest.specs.Parts.{Tests, endpoint_tests, first_cause, first_failure, parts_from, region_tests, tests_of, tests_of_each}
 use Rattle.ffa_manifest.specs.Reading.{◌>>=◌, or_cause}
 use Rattle.ffa_manifest.specs.declared.error.ManifestError.{ManifestError}
 use Rattle.ffa_manifest.specs.declared.error.ManifestError.TheVariants.{NoMemory, WrongKind, EndpointCount, RegionCount, Version}
 use Rattle.ffa_c.specs.declared.manifest.CEndpoint.{CEndpoint}
 use Rattle.ffa_c.specs.declared.manifest.CManifest.{CManifest}
 use Rattle.ffa_c.specs.declared.manifest.CRegion.{CRegion}
-use Rattle.ffa_c.specs.Given.{counted, each_given, endpoint_given, parts_given, refusal_of, region_given, rights_given, version_given}
+use Rattle.ffa_c.specs.Given.{counted, each_given, endpoint_given, endpoints_given, parts_given, refusal_of, region_given, rights_given, version_given, worlds_given}
 
 -- ---- what tells parts
 
@@ -57,7 +58,8 @@ endpoint-in-room e =
 parts-in-room : (p : CManifest) → InRoom (parts_given p)
 parts-in-room p =
     then-in-room (counted endpoint_given MOST_ENDPOINTS EndpointCount p.endpoint_count p.endpoints) _
-    (counted-in-room endpoint_given MOST_ENDPOINTS p.endpoint_count EndpointCount p.endpoints (λ same. cc) endpoint-in-room) (λ endpoints. tt)
+    (counted-in-room endpoint_given MOST_ENDPOINTS p.endpoint_count EndpointCount p.endpoints (λ same. cc) endpoint-in-room) (λ endpoints.
+    then-in-room (or_cause WrongKind (worlds_given p.worlds)) _ (or-in-room WrongKind (worlds_given p.worlds) (λ same. cc)) (λ worlds. tt))
 
 -- ---- what makes a machine of them
 
@@ -123,3 +125,18 @@ pub refused-in-room : {M : Type 0} (p : CManifest) (r : Result M ManifestError)
     → IfErr r (λ cause. refusal_of (parts_given p) ≡ Some cause) → IfErr r (λ cause. cause ≢ NoMemory)
 refused-in-room p (Ok made) refused = tt
 refused-in-room p (Err cause) refused = refusal-in-room p cause refused
+
+-- ---- numbers that tell parts
+
+pub parts_told : (given : CManifest) (es : List Endpoint) (worlds : Worlds) → endpoints_given given ≡ Ok es → Some worlds ≡ worlds_given given.worlds
+    → parts_given given ≡ Ok (record { ram_base = given.ram_base; ram_blocks = given.ram_blocks; endpoints = es; worlds = worlds })
+parts_told given es worlds told is =
+    let with_worlds : List Endpoint → Worlds → Result Parts ManifestError = λ es worlds.
+    Ok (record { ram_base = given.ram_base; ram_blocks = given.ram_blocks; endpoints = es; worlds = worlds }) in
+    ap (λ r. r >>= λ es. or_cause WrongKind (worlds_given given.worlds) >>= λ worlds. with_worlds es worlds) told
+    ∙ ap (λ o. or_cause WrongKind o >>= λ worlds. with_worlds es worlds) (sym is)
+
+-- no test of parts looks at worlds
+pub cause_aside : (parts : Parts) → first_cause parts ≡ first_cause (parts_from parts.ram_base parts.ram_blocks parts.endpoints)
+unfolding first_cause tests_of
+cause_aside parts = refl

@@ -12,11 +12,13 @@ use Rattle.ffa_model.specs.declared.endpoint.Endpoint.{Endpoint}
 use Rattle.ffa_model.specs.declared.endpoint.Region.{Region}
 use Rattle.ffa_model.specs.declared.endpoint.Version as versions
 use Rattle.ffa_model.specs.declared.endpoint.Version.TheVariants.{Compact, V1_1}
-use Rattle.ffa_model.specs.declared.limits.TheConstants.{MOST_BLOCKS, MOST_ENDPOINTS, MOST_REGIONS}
+use Rattle.ffa_model.specs.declared.limits.TheConstants.{MOST_ENDPOINTS, MOST_REGIONS}
+use Rattle.ffa_model.specs.declared.manifest.Worlds.{Worlds}
+use Rattle.ffa_model.specs.declared.manifest.Worlds.TheVariants.{One, Two}
 use Rattle.ffa_model.specs.declared.rights.Data as rights
 use Rattle.ffa_model.specs.declared.rights.Data.TheVariants.{Ro, Rw}
 use Rattle.ffa_model.specs.declared.rights.Rights.{Rights}
-use Rattle.ffa_model.specs.Manifest.{are_apart, are_counted, are_identified, is_accepted, is_from_to, is_placed, is_ram_base, regions_of}
+use Rattle.ffa_model.specs.Manifest.{are_apart, are_counted, are_identified, is_accepted, is_from_to, is_placed, is_ram_base, is_ram_size, regions_of}
 use Rattle.ffa_manifest.specs.Document.{Parts}
 use Rattle.ffa_manifest.specs.Parts.{endpoint_tests, first_cause, tests_of, tests_of_each}
 use Rattle.ffa_manifest.specs.Reading.{◌>>=◌, or_cause}
@@ -26,8 +28,8 @@ use Rattle.ffa_manifest.proofs.AcceptedParts.{passed_tests}
 use Rattle.ffa_c.specs.declared.manifest.CEndpoint.{CEndpoint}
 use Rattle.ffa_c.specs.declared.manifest.CRegion.{CRegion}
 use Rattle.ffa_c.specs.Border.{access_code, exec_code, level_code}
-use Rattle.ffa_c.specs.Given.{Gives, counted, each_given, endpoint_given, parts_given, region_given, regions_given, rights_given, version_given}
-use Rattle.ffa_c.specs.Numbers.{endpoint_numbers, numbers, padded, region_numbers, version_number}
+use Rattle.ffa_c.specs.Given.{Gives, counted, each_given, endpoint_given, parts_given, region_given, regions_given, rights_given, version_given, worlds_given}
+use Rattle.ffa_c.specs.Numbers.{endpoint_numbers, numbers, padded, region_numbers, version_number, worlds_number}
 use Rattle.ffa_c.specs.Reading.{IsClear, no_endpoint, no_region}
 
 -- ---- what is told is given
@@ -44,6 +46,10 @@ rights-again r = of r.level r.exec
 version-again : (v : versions.Version) → version_given (version_number v) ≡ Some v
 version-again V1_1 = refl
 version-again Compact = refl
+
+worlds-again : (w : Worlds) → worlds_given (worlds_number w) ≡ Some w
+worlds-again One = refl
+worlds-again Two = refl
 
 region-again : (r : Region) → region_given (region_numbers r) ≡ Ok r
 region-again r =
@@ -94,9 +100,12 @@ endpoint-again e within =
 
 parts-again : (parts : Parts) → length parts.endpoints ≤ MOST_ENDPOINTS → are_counted parts.endpoints ≡ true → parts_given (numbers parts) ≡ Ok parts
 parts-again parts small all =
-    ap (λ r. r >>= λ es. Ok (record { ram_base = parts.ram_base; ram_blocks = parts.ram_blocks; endpoints = es }))
+    let with_worlds : List Endpoint → Worlds → Result Parts ManifestError = λ es worlds.
+    Ok (record { ram_base = parts.ram_base; ram_blocks = parts.ram_blocks; endpoints = es; worlds = worlds }) in
+    ap (λ r. r >>= λ es. or_cause WrongKind (worlds_given (worlds_number parts.worlds)) >>= λ worlds. with_worlds es worlds)
     (counted-again endpoint_given endpoint_numbers (λ e. is_from_to 1 MOST_REGIONS (length e.regions.items)) endpoint-again
     MOST_ENDPOINTS EndpointCount no_endpoint parts.endpoints small all)
+    ∙ ap (λ o. or_cause WrongKind o >>= λ worlds. with_worlds parts.endpoints worlds) (worlds-again parts.worlds)
 
 -- ---- an accepted manifest's parts make a machine
 
@@ -105,7 +114,7 @@ module _ (parts : Parts) (good : is_accepted parts.ram_base parts.ram_blocks par
   es = parts.endpoints
 
   abbrev ram : Bool
-  ram = is_ram_base parts.ram_base && is_from_to 1 MOST_BLOCKS parts.ram_blocks
+  ram = is_ram_base parts.ram_base && is_ram_size parts.ram_base parts.ram_blocks
 
   abbrev named : Bool
   named = is_from_to 1 MOST_ENDPOINTS (length es) && are_identified es
@@ -120,10 +129,10 @@ module _ (parts : Parts) (good : is_accepted parts.ram_base parts.ram_blocks par
   counted-good = (and_parts (are_counted es) lying (and_parts (ram && named) (are_counted es && lying) good).1).0
 
   base-good : is_ram_base parts.ram_base ≡ true
-  base-good = (and_parts (is_ram_base parts.ram_base) (is_from_to 1 MOST_BLOCKS parts.ram_blocks) (and_parts ram named head-good).0).0
+  base-good = (and_parts (is_ram_base parts.ram_base) (is_ram_size parts.ram_base parts.ram_blocks) (and_parts ram named head-good).0).0
 
-  blocks-good : is_from_to 1 MOST_BLOCKS parts.ram_blocks ≡ true
-  blocks-good = (and_parts (is_ram_base parts.ram_base) (is_from_to 1 MOST_BLOCKS parts.ram_blocks) (and_parts ram named head-good).0).1
+  blocks-good : is_ram_size parts.ram_base parts.ram_blocks ≡ true
+  blocks-good = (and_parts (is_ram_base parts.ram_base) (is_ram_size parts.ram_base parts.ram_blocks) (and_parts ram named head-good).0).1
 
   count-good : is_from_to 1 MOST_ENDPOINTS (length es) ≡ true
   count-good = (and_parts (is_from_to 1 MOST_ENDPOINTS (length es)) (are_identified es) (and_parts ram named head-good).1).0

@@ -38,7 +38,7 @@ cause_number causes.Version = 14
 -- the machine of these parts in its first state: the tables give its access, by the descriptors of pages and blocks, all
 -- pages behind them are zeros, and nothing is told of access that changed
 pub record IsFirst (parts : Parts) (s : Snapshot) : Type 0 where
-  pub state : s.state ≡ first parts.ram_base parts.ram_blocks parts.endpoints
+  pub state : s.state ≡ first parts.worlds parts.ram_base parts.ram_blocks parts.endpoints
   pub agrees : Agrees s.ram s.state
   pub words : AreDescribed parts.ram_blocks s.state s.ram
   pub cleared :
@@ -50,7 +50,7 @@ pub record IsFirst (parts : Parts) (s : Snapshot) : Type 0 where
 -- the same where pages of its regions have the bytes of pages that are given, and all others behind the tables are
 -- zeros
 pub record IsFirstHeld (pages : List (List ℕ)) (parts : Parts) (s : Snapshot) : Type 0 where
-  pub state : s.state ≡ first_held parts.ram_base parts.ram_blocks parts.endpoints (λ p. slice_index_or pages p [])
+  pub state : s.state ≡ first_held parts.worlds parts.ram_base parts.ram_blocks parts.endpoints (λ p. slice_index_or pages p [])
   pub agrees : Agrees s.ram s.state
   pub words : AreDescribed parts.ram_blocks s.state s.ram
   pub cleared :

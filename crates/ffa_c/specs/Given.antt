@@ -7,6 +7,8 @@ use Rattle.ffa_model.specs.declared.endpoint.Endpoint.{Endpoint}
 use Rattle.ffa_model.specs.declared.endpoint.Region.{Region}
 use Rattle.ffa_model.specs.declared.endpoint.Version as versions
 use Rattle.ffa_model.specs.declared.endpoint.Version.TheVariants.{Compact, V1_1}
+use Rattle.ffa_model.specs.declared.manifest.Worlds.{Worlds}
+use Rattle.ffa_model.specs.declared.manifest.Worlds.TheVariants.{One, Two}
 use Rattle.ffa_model.specs.declared.rights.Rights.{Rights}
 use Rattle.ffa_model.specs.declared.rights.Data.TheVariants.{Ro, Rw}
 use Rattle.ffa_manifest.specs.Document.{Parts}
@@ -29,6 +31,9 @@ rights_given code =
 
 abbrev pub version_given : ℕ → Option versions.Version
 version_given code = if code == 0 then Some V1_1 else if code == 1 then Some Compact else None
+
+abbrev pub worlds_given : ℕ → Option Worlds
+worlds_given code = if code == 0 then Some One else if code == 1 then Some Two else None
 
 abbrev pub region_given : CRegion → Result Region ManifestError
 region_given r =
@@ -65,7 +70,8 @@ endpoints_given m = counted endpoint_given MOST_ENDPOINTS EndpointCount m.endpoi
 abbrev pub parts_given : CManifest → Result Parts ManifestError
 parts_given m = do
   endpoints ← endpoints_given m
-  Ok (record { ram_base = m.ram_base; ram_blocks = m.ram_blocks; endpoints = endpoints })
+  worlds ← or_cause WrongKind (worlds_given m.worlds)
+  Ok (record { ram_base = m.ram_base; ram_blocks = m.ram_blocks; endpoints = endpoints; worlds = worlds })
 
 -- C's numbers tell these parts, and they make a machine
 pub record Gives (given : CManifest) (parts : Parts) : Type 0 where

@@ -3,13 +3,14 @@
 ghost use Rattle.std.specs.Prelude.{◌≡◌, ◌≤◌, [], Some, None, IfOk, IfErr, length};
 ghost use Rattle.ffa_manifest.specs.Document.{parts_of};
 ghost use Rattle.ffa_manifest.specs.Reading.{Exact};
-ghost use Rattle.ffa_c.specs.Given.{Gives, each_given, endpoint_given, endpoints_given, parts_given, refusal_of, region_given, regions_given, rights_given, version_given};
+ghost use Rattle.ffa_c.specs.Given.{Gives, each_given, endpoint_given, endpoints_given, parts_given, refusal_of, region_given, regions_given, rights_given, version_given, worlds_given};
 
 use arrayvec::ArrayVec;
 use bitflags::Flags;
 use ffa_manifest::ManifestError;
 use ffa_model::{
     Data, Endpoint, MOST_ENDPOINTS, MOST_REGIONS, Manifest, Properties, Region, Rights, Version,
+    Worlds,
 };
 
 /// Pages in a row that an endpoint owns from the start.
@@ -50,6 +51,8 @@ pub struct CManifest {
     /// How many of `endpoints` are given.
     pub endpoint_count: u32,
     pub endpoints: [CEndpoint; MOST_ENDPOINTS],
+    /// Whether the machine tells non-secure memory from secure memory: 0 where it doesn't, 1 where it does.
+    pub worlds: u32,
 }
 
 pub(crate) fn rights_of(code: u32) -> Option<Rights>
@@ -71,6 +74,16 @@ fn version_of(code: u32) -> Option<Version>
     match code {
         0 => Some(Version::V1_1),
         1 => Some(Version::Compact),
+        _ => None,
+    }
+}
+
+fn worlds_of(code: u32) -> Option<Worlds>
+    ensures { result ≡ worlds_given code }
+{
+    match code {
+        0 => Some(Worlds::One),
+        1 => Some(Worlds::Two),
         _ => None,
     }
 }
@@ -152,10 +165,15 @@ fn counted_endpoints(given: &CManifest) -> Result<ArrayVec<Endpoint, MOST_ENDPOI
 /// The manifest that C's numbers give, or the first cause for which they are refused. It takes no memory.
 // Not inlined, so that no boot has its frame.
 #[inline(never)]
+#[tactic(auto, using(crate::proofs::Given::parts_told, crate::proofs::Given::cause_aside))]
 pub(crate) fn manifest_of_numbers(given: &CManifest) -> Result<Manifest, ManifestError>
     ensures given { IfOk result (λ m. Gives given.now (parts_of m)) }
     ensures refused { IfErr result (λ e. refusal_of (parts_given given.now) ≡ Some e) }
 {
     let endpoints = counted_endpoints(given)?;
-    ffa_manifest::of_parts(given.ram_base, given.ram_blocks, endpoints)
+    let Some(worlds) = worlds_of(given.worlds) else {
+        return Err(ManifestError::WrongKind);
+    };
+    let manifest = ffa_manifest::of_parts(given.ram_base, given.ram_blocks, endpoints)?;
+    Ok(manifest.with_worlds(worlds))
 }

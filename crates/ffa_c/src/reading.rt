@@ -3,7 +3,7 @@
 ghost use Rattle.std.specs.Prelude.{◌≡◌, ◌≢◌, ◌≤◌, length, map};
 ghost use Rattle.ffa_manifest.specs.Document.{parts_of};
 ghost use Rattle.ffa_c.specs.Booting.{IsRefusedFor, TellsCause};
-ghost use Rattle.ffa_c.specs.Numbers.{endpoint_numbers, numbers, padded, region_numbers, version_number};
+ghost use Rattle.ffa_c.specs.Numbers.{endpoint_numbers, numbers, padded, region_numbers, version_number, worlds_number};
 ghost use Rattle.ffa_c.specs.Reading.{IsClear, IsRead, no_endpoint, no_region};
 
 use crate::booting::{manifest_of, number_of};
@@ -11,7 +11,7 @@ use crate::codes::OK;
 use crate::kind::code_of;
 use crate::manifest::{CEndpoint, CManifest, CRegion};
 use bitflags::Flags;
-use ffa_model::{Endpoint, MOST_ENDPOINTS, MOST_REGIONS, Manifest, Region, Version};
+use ffa_model::{Endpoint, MOST_ENDPOINTS, MOST_REGIONS, Manifest, Region, Version, Worlds};
 use std::alloc::Global;
 
 /// Reads a manifest's text into the numbers that give what it describes, with zeros behind the endpoints and regions
@@ -46,6 +46,7 @@ fn numbers_of(manifest: &Manifest) -> CManifest
         ram_blocks: manifest.ram_blocks,
         endpoint_count: manifest.endpoints.len() as u32,
         endpoints: endpoint_places(manifest.endpoints.as_slice()),
+        worlds: worlds_number(manifest.worlds),
     }
 }
 
@@ -127,5 +128,14 @@ fn version_number(version: Version) -> u32
     match version {
         Version::V1_1 => 0,
         Version::Compact => 1,
+    }
+}
+
+fn worlds_number(worlds: Worlds) -> u32
+    ensures { result ≡ worlds_number worlds }
+{
+    match worlds {
+        Worlds::One => 0,
+        Worlds::Two => 1,
     }
 }

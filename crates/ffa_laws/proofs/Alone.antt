@@ -24,7 +24,7 @@ use Rattle.ffa_model.specs.Calls.{first_failure}
 use Rattle.ffa_model.specs.Memory.{fetch_fault, number_at, read_fault, size_of, store_fault, stored}
 use Rattle.ffa_model.specs.MemoryRetrieve.{memory_retrieve}
 use Rattle.ffa_model.specs.MemoryReturn.{relinquish_read, relinquished, relinquished_from}
-use Rattle.ffa_model.specs.MemorySend.{memory_send, memory_sent, send_guards, send_read, transaction_from}
+use Rattle.ffa_model.specs.MemorySend.{memory_send, memory_sent, send_guards, send_read, transaction_sent}
 use Rattle.ffa_model.specs.Messages.{header_in, message_in, msg_send2, send2_guards, tx_bytes}
 use Rattle.ffa_model.specs.Notifications.{has_bitmaps_in, manager_class, message_bits, notifications_of}
 use Rattle.ffa_model.specs.Registers.{decode}
@@ -57,7 +57,7 @@ module _ (s : State) (steady : IsSteady s) (e p : ℕ) (owned : owner_of s p ≡
       of None none = absurd (no-offer s x none)
       of (Some r) none =
           let good = offer s x r none in
-          unnamed-opened s steady (next_handle (open_of s) s.runner) (transaction_from kind r) (fresh s steady kind r good) (free s steady kind r good) p
+          unnamed-opened s steady (next_handle (open_of s) s.runner) (transaction_sent s kind r) (fresh s steady kind r good) (free s steady kind r good) p
           (elim (cases_Bool (names s r.ranges p)) [
             | inl named ↦ absurd (other (sym (offered-owner s steady kind r good p named) ∙ owned))
             | inr away ↦ away

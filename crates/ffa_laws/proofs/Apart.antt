@@ -9,6 +9,7 @@ use Rattle.std.proofs.lemmas.Bool.{and_parts}
 use Rattle.std.proofs.lemmas.Option.{none-some, same_Some}
 use Rattle.ffa_model.specs.declared.descriptor.RelinquishDesc.{RelinquishDesc}
 use Rattle.ffa_model.specs.declared.endpoint.Endpoint.{Endpoint}
+use Rattle.ffa_model.specs.declared.manifest.Worlds.{Worlds}
 use Rattle.ffa_model.specs.declared.operation.Op.{Op}
 use Rattle.ffa_model.specs.declared.operation.Op.TheVariants.{Call, Load, Store, Fetch}
 use Rattle.ffa_model.specs.declared.operation.Outcome.TheVariants.{Data, Done}
@@ -28,7 +29,7 @@ use Rattle.ffa_model.specs.Calls.{first_failure}
 use Rattle.ffa_model.specs.Memory.{fetch_fault, number_at, read_fault, size_of, store_fault, stored}
 use Rattle.ffa_model.specs.MemoryRetrieve.{memory_retrieve}
 use Rattle.ffa_model.specs.MemoryReturn.{relinquish_read, relinquished, relinquished_from}
-use Rattle.ffa_model.specs.MemorySend.{descriptor_in, memory_sent, send_read, transaction_from}
+use Rattle.ffa_model.specs.MemorySend.{descriptor_in, memory_sent, send_read, transaction_sent}
 use Rattle.ffa_model.specs.Registers.{decode}
 use Rattle.ffa_model.specs.Setup.{info_bytes, is_count_alone, uuid_bytes}
 use Rattle.ffa_model.specs.Step.{service, step}
@@ -97,7 +98,7 @@ module _ (s : State) (apart : AreApart s) where
     where
       of : (o : Option SendRecord) → send_read s kind total ≡ o → AreApart (memory_sent s kind o)
       of None is = apart
-      of (Some r) is = with-one s.transactions (next_handle (open_of s) s.runner) (transaction_from kind r) apart (descriptor-apart kind (descriptor_in s total) r is)
+      of (Some r) is = with-one s.transactions (next_handle (open_of s) s.runner) (transaction_sent s kind r) apart (descriptor-apart kind (descriptor_in s total) r is)
 
   apart-retrieved : (x : Transfer) → Taken s x → AreApart (memory_retrieve s x).state
   apart-retrieved x its = subst AreApart (sym (state-taken s x its)) (of its.of.kind)
@@ -137,6 +138,6 @@ module _ (s : State) (apart : AreApart s) where
 pub stays_apart : (s : State) (op : Op) → AreApart s → AreApart (step s op).state
 stays_apart s op apart = apart-step s apart op
 
-pub first_apart : (base blocks : ℕ) (es : List Endpoint) → AreApart (first base blocks es)
+pub first_apart : (worlds : Worlds) (base blocks : ℕ) (es : List Endpoint) → AreApart (first worlds base blocks es)
 unfolding first
-first_apart base blocks es h t is = absurd (none-some t (sym (finite.get-empty nat_cmp h) ∙ is))
+first_apart worlds base blocks es h t is = absurd (none-some t (sym (finite.get-empty nat_cmp h) ∙ is))

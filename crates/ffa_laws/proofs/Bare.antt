@@ -23,7 +23,7 @@ use Rattle.ffa_model.specs.Calls.{first_failure}
 use Rattle.ffa_model.specs.Identifiers.{identifier}
 use Rattle.ffa_model.specs.Lists.{map_at}
 use Rattle.ffa_model.specs.Memory.{access_at, size_of, store_fault}
-use Rattle.ffa_model.specs.MemorySend.{memory_sent, send_read, transaction_from}
+use Rattle.ffa_model.specs.MemorySend.{memory_sent, send_read, transaction_sent}
 use Rattle.ffa_model.specs.Messages.{MessageHeader, header_in, message_in, msg_send2, send2_guards, tx_bytes}
 use Rattle.ffa_model.specs.Notifications.{class_of, has_bitmaps_in, manager_class, message_bits, notification_set, notifications_of, set_guards}
 use Rattle.ffa_model.specs.Registers.{decode}
@@ -145,7 +145,7 @@ module _ (e : ℕ) (s : State) (kind : Kind) (r : SendRecord) where
 
   bare-opened : AreBare e (view e s) (opens e s kind (Some r))
   bare-opened =
-      bare-where e (view e s) (is_receiver e (transaction_from kind r)) (Opened (next_handle (open_of s) s.runner) (transaction_from kind r) told ∷ []) (λ offered. (named-alone, tt))
+      bare-where e (view e s) (is_receiver e (transaction_sent s kind r)) (Opened (next_handle (open_of s) s.runner) (transaction_sent s kind r) told ∷ []) (λ offered. (named-alone, tt))
 
 -- ---- what each operation tells
 take-most : (n : ℕ) (xs : List ℕ) → length (take n xs) ≤ n

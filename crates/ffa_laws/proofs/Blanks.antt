@@ -36,14 +36,14 @@ use Rattle.ffa_model.specs.Calls.{Service, Stepped, answered, encode, first_fail
 use Rattle.ffa_model.specs.Memory.{access_at, accessed, changed_pages, fault_of, fetch_fault, number_at, page_bytes, page_of_address, page_with, read_fault, run_bytes, size_of, store_fault, stored, written_pages, written_run, zeroed_if, zeroed_page}
 use Rattle.ffa_model.specs.MemoryRetrieve.{donated_page, memory_retrieve, response_length, response_to, retrieve_guards, retrieve_read, retrieved, retrieved_from, retrieved_right, right_for}
 use Rattle.ffa_model.specs.MemoryReturn.{memory_reclaim, memory_relinquish, named_ranges, reclaim_guards, relinquish_guards, relinquished, relinquished_from}
-use Rattle.ffa_model.specs.MemorySend.{memory_send, memory_sent, send_guards, send_read}
+use Rattle.ffa_model.specs.MemorySend.{is_told_normal, memory_send, memory_sent, offered_in, send_guards, send_read}
 use Rattle.ffa_model.specs.DescriptorPlaces.{in_version}
 use Rattle.ffa_model.specs.Messages.{delivered, header_in, message_in, msg_send2, send2_guards, tx_bytes}
 use Rattle.ffa_model.specs.Registers.{decode}
 use Rattle.ffa_model.specs.Setup.{info_bytes, is_count_alone, uuid_bytes}
 use Rattle.ffa_model.specs.Step.{serve, service, step}
 use Rattle.ffa_model.specs.declared.call.Transfer.{Transfer}
-use Rattle.ffa_model.specs.Transactions.{open_of, scene_of}
+use Rattle.ffa_model.specs.Transactions.{open_of, scene_of, with_open}
 use Rattle.ffa_model.proofs.Accesses.{length-map_at}
 use Rattle.ffa_model.proofs.Runs.{flat-run-same}
 use Rattle.ffa_laws.specs.Steady.{IsAlone, IsSteady}
@@ -207,7 +207,7 @@ module _ (s : State) (hides : ℕ → Bool) where
       }
 
   scene-b : scene_of b ≡ scene_of s
-  scene-b = λ i. record { endpoints = length s.parties; ram = ownership-b i; buffers = s.buffers; open_transactions = open_of s }
+  scene-b = λ i. record { endpoints = length s.parties; ram = ownership-b i; normal = s.normal; buffers = s.buffers; open_transactions = open_of s }
 
   -- two services that differ in such bytes at most
   pub record Alike (c d : Service) : Type 0 where
@@ -228,7 +228,9 @@ module _ (s : State) (hides : ℕ → Bool) where
 
   pub sent-b : (kind : Kind) (o : Option SendRecord) → blank hides (memory_sent b kind o) ≡ blank hides (memory_sent s kind o)
   sent-b kind None = λ i. record s { pages = blanked-twice hides s.pages i }
-  sent-b kind (Some r) = λ i. record (memory_sent s kind (Some r)) { pages = zeroed-blind hides r.zero s r.ranges i }
+  sent-b kind (Some r) =
+      ap (λ ram. blank hides (zeroed_if r.zero (with_open b (offered_in (open_of s) s.runner kind (is_told_normal ram s.normal r.ranges) r)) r.ranges)) ownership-b
+      ∙ (λ i. record (memory_sent s kind (Some r)) { pages = zeroed-blind hides r.zero s r.ranges i })
 
   -- a page that isn't blank has its bytes
   pub bytes-b : (p : ℕ) → hides p ≡ false → page_bytes b p ≡ page_bytes s p

@@ -29,7 +29,7 @@ use Rattle.ffa_model.specs.Lists.{listed}
 use Rattle.ffa_model.specs.Memory.{size_of, store_fault}
 use Rattle.ffa_model.specs.MemoryRetrieve.{retrieve_read}
 use Rattle.ffa_model.specs.MemoryReturn.{memory_relinquish, relinquish_guards, relinquish_read}
-use Rattle.ffa_model.specs.MemorySend.{memory_send, send_guards, send_read, transaction_from}
+use Rattle.ffa_model.specs.MemorySend.{memory_send, send_guards, send_read, transaction_sent}
 use Rattle.ffa_model.specs.Messages.{header_in, message_in, tx_bytes}
 use Rattle.ffa_model.specs.Notifications.{binding, class_of, is_bound, has_bitmaps_in, manager_class, message_bits, notifications_of}
 use Rattle.ffa_model.specs.Registers.{decode}
@@ -235,7 +235,7 @@ module _ (e : ℕ) (s : State) (steady : IsSteady s) where
       of None none = tt
       of (Some r) none =
           let h = next_handle (open_of s) s.runner in
-          let t = transaction_from kind r in
+          let t = transaction_sent s kind r in
           news-where e v (is_receiver e t) _ (λ offered. changes e v (Opened h t _) (λ same.
           some≢none (sym (get-insert v.transactions h t h ∙ ap (λ b. cond b (Some t) (transaction_of v h)) (eq-eqb h h refl))
           ∙ ap (λ w. transaction_of w h) same

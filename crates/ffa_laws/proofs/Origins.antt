@@ -19,7 +19,7 @@ use Rattle.ffa_model.specs.Calls.{first_failure}
 use Rattle.ffa_model.specs.Memory.{fetch_fault, number_at, read_fault, size_of, store_fault, stored}
 use Rattle.ffa_model.specs.MemoryRetrieve.{memory_retrieve}
 use Rattle.ffa_model.specs.MemoryReturn.{relinquish_read, relinquished, relinquished_from}
-use Rattle.ffa_model.specs.MemorySend.{memory_send, memory_sent, send_guards, send_read, transaction_from}
+use Rattle.ffa_model.specs.MemorySend.{memory_send, memory_sent, send_guards, send_read, transaction_sent}
 use Rattle.ffa_model.specs.Registers.{decode}
 use Rattle.ffa_model.specs.SendDescriptor.{SendRecord}
 use Rattle.ffa_model.specs.Setup.{info_bytes, is_count_alone, uuid_bytes}
@@ -87,7 +87,7 @@ module _ (s : State) (h : ℕ) where
           go false beside =
               inl (λ u is. record {
                 before = u;
-                there = sym (get-insert s.transactions (next_handle (open_of s) s.runner) (transaction_from kind r) h ∙ ap (λ b. cond b (Some (transaction_from kind r)) (transaction_of s h)) beside) ∙ is;
+                there = sym (get-insert s.transactions (next_handle (open_of s) s.runner) (transaction_sent s kind r) h ∙ ap (λ b. cond b (Some (transaction_sent s kind r)) (transaction_of s h)) beside) ∙ is;
                 ranges = refl;
               })
 

@@ -26,7 +26,7 @@ use Rattle.ffa_model.specs.Calls.{first_failure}
 use Rattle.ffa_model.specs.Memory.{fetch_fault, number_at, read_fault, size_of, store_fault, stored, with_pages}
 use Rattle.ffa_model.specs.MemoryRetrieve.{donated_page, memory_retrieve}
 use Rattle.ffa_model.specs.MemoryReturn.{is_unheld, memory_reclaim, memory_relinquish, named_ranges, reclaim_guards, reclaimed, relinquish_guards, relinquish_read, relinquished, relinquished_from}
-use Rattle.ffa_model.specs.MemorySend.{memory_send, memory_sent, send_guards, send_read, transaction_from}
+use Rattle.ffa_model.specs.MemorySend.{memory_send, memory_sent, send_guards, send_read, transaction_sent}
 use Rattle.ffa_model.specs.Messages.{header_in, message_in, tx_bytes}
 use Rattle.ffa_model.specs.Registers.{decode}
 use Rattle.ffa_model.specs.Setup.{info_bytes, is_count_alone, uuid_bytes}
@@ -132,7 +132,7 @@ module _ (s : State) (steady : IsSteady s) where
     h = next_handle (open_of s) s.runner
 
     abbrev t : Transaction
-    t = transaction_from kind r
+    t = transaction_sent s kind r
 
     after-send : (e p : ℕ) (b : Bool) → names s r.ranges p ≡ b → access (memory_sent s kind (Some r)) e p ≡ cond b (right_of e (page_at s p) (Some t)) (access s e p)
     after-send e p true named =

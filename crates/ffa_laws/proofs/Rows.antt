@@ -23,7 +23,7 @@ use Rattle.ffa_model.specs.Lists.{listed}
 use Rattle.ffa_model.specs.Memory.{fetch_fault, number_at, read_fault, size_of, store_fault, stored}
 use Rattle.ffa_model.specs.MemoryRetrieve.{retrieve_read, right_for}
 use Rattle.ffa_model.specs.MemoryReturn.{relinquish_read, relinquished, relinquished_from}
-use Rattle.ffa_model.specs.MemorySend.{memory_sent, send_read, transaction_from}
+use Rattle.ffa_model.specs.MemorySend.{memory_sent, send_read, transaction_sent}
 use Rattle.ffa_model.specs.Messages.{header_in, message_in, tx_bytes}
 use Rattle.ffa_model.specs.Notifications.{class_of, has_bitmaps_in, is_bound, manager_class, message_bits, notifications_of}
 use Rattle.ffa_model.specs.Registers.{decode}
@@ -108,7 +108,7 @@ opened e s kind call None is = refl
 opened e s kind call (Some r) is =
     let h = next_handle (open_of s) s.runner in
     let pages = named_pages (memory_sent s kind (Some r)) r.ranges in
-    all-one (told_row call) (is_receiver e (transaction_from kind r)) (Opened h (transaction_from kind r) pages) (is h (transaction_from kind r) pages)
+    all-one (told_row call) (is_receiver e (transaction_sent s kind r)) (Opened h (transaction_sent s kind r) pages) (is h (transaction_sent s kind r) pages)
 
 bound : (e : ℕ) (s : State) (call : calls.Call) (receiver sender : ℕ) (ks : List ℕ) → ((k : ℕ) → told_row call (Bound receiver (class_of e) k) ≡ true) → list_all (told_row call) (binds e s receiver sender ks) ≡ true
 bound e s call receiver sender ks is =

@@ -27,7 +27,7 @@ use Rattle.ffa_model.specs.RunStates.{schedule_of}
 use Rattle.ffa_model.specs.SendDescriptor.{SendRecord, most_receivers, send_of}
 use Rattle.ffa_model.specs.declared.call.Transfer.{Transfer}
 use Rattle.ffa_model.specs.Transactions.{Scene, are_writable, handle_of, next_handle, open_of, open_count, pages_in, scene_of, sends_of}
-use Rattle.ffa_model.specs.MemorySend.{are_grants_within, are_known, handle_reply, is_buffer, is_grantable, is_inside, is_sendable, memory_send, memory_sent, send_guards, send_read, transaction_from, descriptor_in}
+use Rattle.ffa_model.specs.MemorySend.{are_grants_within, are_known, handle_reply, is_buffer, is_grantable, is_inside, is_of_one_world, is_sendable, is_told_normal, memory_send, memory_sent, send_guards, send_read, transaction_from, transaction_sent, descriptor_in}
 use Rattle.ffa_laws.specs.Steady.{IsAlone, IsSteady, IsSteadyTransaction}
 use Rattle.ffa_laws.specs.View.{view, buffers_seen, hidden, involves, is_near, kept}
 use Rattle.ffa_laws.specs.Events.{Event, Opened, apply, apply_all, named_pages, opens, public_change, where_true}
@@ -75,8 +75,8 @@ offer s x r none =
       free = guard-passes (send_guards (scene_of s) s.runner x (Some r)) 8 (sym none);
       grants = guard-passes (send_guards (scene_of s) s.runner x (Some r)) 9 (sym none);
       zeroed = zeroes r.zero (guard-passes (send_guards (scene_of s) s.runner x (Some r)) 10 (sym none));
-      few = ltb-true (open_count (open_of s) s.runner) MOST_OPEN (guard-passes (send_guards (scene_of s) s.runner x (Some r)) 11 (sym none));
-      sent = ltb-true (sent_by s s.runner) MOST_SENDS (guard-passes (send_guards (scene_of s) s.runner x (Some r)) 12 (sym none));
+      few = ltb-true (open_count (open_of s) s.runner) MOST_OPEN (guard-passes (send_guards (scene_of s) s.runner x (Some r)) 12 (sym none));
+      sent = ltb-true (sent_by s s.runner) MOST_SENDS (guard-passes (send_guards (scene_of s) s.runner x (Some r)) 13 (sym none));
     }
   where
     zeroes : (zero : Bool) → (not zero || are_writable (ownership_of s) r.ranges) ≡ true → zero ≡ true → are_writable (ownership_of s) r.ranges ≡ true
@@ -113,6 +113,7 @@ abbrev asked_of_pages : Scene → ℕ → SendRecord → List (Bool × Refusal)
 asked_of_pages c e r =
     (list_all (are_grants_within c.ram r.receivers) (pages_in c.ram r.ranges), denied)
     ∷ (not r.zero || are_writable c.ram r.ranges, denied)
+    ∷ (is_of_one_world c.ram c.normal r, denied)
     ∷ (nat_lt (open_count c.open_transactions e) MOST_OPEN, no_memory)
     ∷ (nat_lt (sends_of c.open_transactions e) MOST_SENDS, no_memory)
     ∷ []
@@ -228,6 +229,13 @@ module _ (s : State) (steady : IsSteady s) where
       writable-seen : are_writable (ownership_of v) ranges ≡ are_writable (ownership_of s) ranges
       writable-seen = tests-seen (λ p. may_store (own_right_of v p)) (λ p. may_store (own_right_of s p)) (λ p lt named. ap may_store (own_right-seen p lt named))
 
+  -- which of them are non-secure, it sees of all
+  world-seen : (r : SendRecord) → is_of_one_world (ownership_of v) v.normal r ≡ is_of_one_world (ownership_of s) s.normal r
+  world-seen r = ap (λ n. is_of_one_world (record (ownership_of s) { count = n }) s.normal r) size-seen
+
+  transaction-seen : (kind : Kind) (r : SendRecord) → transaction_sent v kind r ≡ transaction_sent s kind r
+  transaction-seen kind r = ap (λ n. transaction_from kind (is_told_normal (record (ownership_of s) { count = n }) s.normal r.ranges) r) size-seen
+
   -- how often it has sent, and so the next handle
   sends-seen : sent_by v s.runner ≡ sent_by s s.runner
   sends-seen =
@@ -258,6 +266,7 @@ module _ (s : State) (steady : IsSteady s) where
       (λ free i. first_failure (
       (grants-seen r.ranges free r.receivers i, denied)
       ∷ (not r.zero || writable-seen r.ranges free i, denied)
+      ∷ (world-seen r i, denied)
       ∷ (nat_lt (count-seen s.runner s i) MOST_OPEN, no_memory)
       ∷ (nat_lt (sends-seen i) MOST_SENDS, no_memory)
       ∷ []))
@@ -268,7 +277,7 @@ module _ (s : State) (steady : IsSteady s) (kind : Kind) (r : SendRecord) (good 
   h = next_handle (open_of s) s.runner
 
   abbrev t : Transaction
-  t = transaction_from kind r
+  t = transaction_sent s kind r
 
   -- each page is the runner's alone
   named-inside : (p : ℕ) → names s r.ranges p ≡ true → p < length s.pages
@@ -306,7 +315,7 @@ module _ (s : State) (steady : IsSteady s) (kind : Kind) (r : SendRecord) (good 
   -- ---- in the runner's view
   own-state : memory_sent (view s.runner s) kind (Some r) ≡ view s.runner (memory_sent s kind (Some r))
   own-state =
-      (λ i. zeroed_if r.zero (opened (view s.runner s) (handle-seen s steady i) t) r.ranges)
+      (λ i. zeroed_if r.zero (opened (view s.runner s) (handle-seen s steady i) (transaction-seen s steady kind r i)) r.ranges)
       ∙ (λ i. zeroed_if r.zero (own-opened s steady h t fresh free s.runner refl steady.runner good.sender steady.sends offered-owner i) r.ranges)
       ∙ zeroed_if-seen s.runner (opened s h t) r.zero r.ranges
 
@@ -467,11 +476,11 @@ other-send e s steady known other kind x none = of (send_read s kind x.total) no
     of None none = absurd (no-offer s x none)
     of (Some r) none =
         other-told e s (memory_sent s kind (Some r)) (apply_all e (view e s) (opens e s kind (Some r))) (opens e s kind (Some r)) refl (own-same e s)
-        (size (is_receiver e (transaction_from kind r))) (old (is_receiver e (transaction_from kind r))) refl
-        (told-opened s steady kind r (offer s x r none) e known other ∙ old (is_receiver e (transaction_from kind r)))
+        (size (is_receiver e (transaction_sent s kind r))) (old (is_receiver e (transaction_sent s kind r))) refl
+        (told-opened s steady kind r (offer s x r none) e known other ∙ old (is_receiver e (transaction_sent s kind r)))
       where
         event : Event
-        event = Opened (next_handle (open_of s) s.runner) (transaction_from kind r) (named_pages (memory_sent s kind (Some r)) r.ranges)
+        event = Opened (next_handle (open_of s) s.runner) (transaction_sent s kind r) (named_pages (memory_sent s kind (Some r)) r.ranges)
 
         size : (b : Bool) → length (apply_all e (view e s) (where_true b (event ∷ []))).pages ≡ length s.pages
         size true = length-map_at _ (view e s).pages ∙ length-map_at _ s.pages

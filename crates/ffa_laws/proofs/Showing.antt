@@ -18,7 +18,7 @@ use Rattle.ffa_model.specs.RunStates.{schedule_of}
 use Rattle.ffa_model.specs.Messages.{header_in, message_in}
 use Rattle.ffa_model.specs.Notifications.{manager_class, message_bits, has_bitmaps_in, notifications_of}
 use Rattle.ffa_model.specs.SendDescriptor.{SendRecord}
-use Rattle.ffa_model.specs.MemorySend.{memory_sent, transaction_from}
+use Rattle.ffa_model.specs.MemorySend.{memory_sent, transaction_sent}
 use Rattle.ffa_model.specs.MemoryRetrieve.{retrieved, retrieved_from}
 use Rattle.ffa_model.specs.MemoryReturn.{relinquished, relinquished_from}
 use Rattle.ffa_laws.specs.Events.{Event, Message, Filled, Pending, Held, Zeroed, delivers, message, messages, opens, releases, switches, takes, takes_from, taking, where_true}
@@ -43,7 +43,7 @@ no_delivery e s tx = go ((header_in tx).receiver == e) (has_bitmaps_in (notifica
 
 pub no_opening : (e : ℕ) (s : State) (kind : Kind) (r : Option SendRecord) → messages e (opens e s kind r) ≡ []
 no_opening e s kind None = refl
-no_opening e s kind (Some r) = no_message e (is_receiver e (transaction_from kind r)) _ refl
+no_opening e s kind (Some r) = no_message e (is_receiver e (transaction_sent s kind r)) _ refl
 
 no_taking : (e : ℕ) (kind : Kind) (h f : ℕ) (right : Rights) → message e (taking kind h f right) ≡ []
 no_taking e Donate h f right = refl

@@ -1,7 +1,7 @@
 -- SPDX-License-Identifier: MIT OR Apache-2.0
 -- What keeps a state sound: its parts, one by one.
 use Rattle.ffa_model.specs.Access.{ownership_of}
-use Rattle.std.proofs.Common.{◌≡◌, ◌∙◌, ℕ, ◌<◌, true, List, length, get_or, Option, Some, None, refl, subst, arith}
+use Rattle.std.proofs.Common.{◌≡◌, ◌∙◌, ℕ, ◌+◌, ◌*◌, ◌%◌, ◌^◌, ◌<◌, ◌≤◌, true, List, length, get_or, Option, Some, None, refl, sym, subst, arith}
 use Rattle.std.specs.FinSet as finite_set
 use Rattle.ffa_model.specs.Identifiers.{place}
 use Rattle.ffa_model.specs.State.{State, Page, Buffers, owner_of, page_at}
@@ -42,6 +42,8 @@ module _ (s : State) (sound : IsSoundState s) where
                 some = sized.some;
                 few = sized.few;
                 base = sized.base;
+                within = subst (λ n. s.ram_base + 4096 * n ≤ 2 ^ 32) (sym rewritten.each) sized.within;
+                one_table = subst (λ n. s.ram_base % 2 ^ 30 + 4096 * n ≤ 2 ^ 30) (sym rewritten.each) sized.one_table;
                 blocks = (sized.blocks.0, rewritten.each ∙ sized.blocks.1, sized.blocks.2, sized.blocks.3);
                 sent = sized.sent;
                 buffers = each;
@@ -85,7 +87,7 @@ module _ (s : State) (sound : IsSoundState s) where
   notifications-sound n bitmaps bound pending =
       let sized = sound.sized in
       record {
-        sized = record { some = sized.some; few = sized.few; base = sized.base; blocks = sized.blocks; sent = sized.sent; buffers = sized.buffers; works = sized.works; bitmaps = bitmaps };
+        sized = record { some = sized.some; few = sized.few; base = sized.base; within = sized.within; one_table = sized.one_table; blocks = sized.blocks; sent = sized.sent; buffers = sized.buffers; works = sized.works; bitmaps = bitmaps };
         parties = sound.parties;
         pages = λ p page is. let good = sound.pages p page is in record { owner = good.owner; size = good.size; bytes = good.bytes };
         transactions = λ h t is. same-transaction s (with_notifications s n) h t refl (λ p. refl) refl (omega arith) (sound.transactions h t is);

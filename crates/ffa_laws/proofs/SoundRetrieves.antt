@@ -10,8 +10,8 @@ use Rattle.ffa_model.specs.declared.endpoint.Version.TheVariants.{Compact, V1_1}
 use Rattle.ffa_model.specs.declared.rights.Data.TheVariants.{Ro, Rw}
 use Rattle.ffa_model.specs.declared.transaction.Range.{Range}
 use Rattle.ffa_model.specs.Calls.{first_failure}
-use Rattle.ffa_model.specs.DescriptorPlaces.{data_code, exec_code, header_size, normal_memory}
-use Rattle.ffa_model.specs.ResponseBytes.{ResponseRecord, access_bytes, composite_bytes, flags_of, header_bytes, le, permissions_of, range_bytes, response_bytes}
+use Rattle.ffa_model.specs.DescriptorPlaces.{data_code, exec_code, header_size}
+use Rattle.ffa_model.specs.ResponseBytes.{ResponseRecord, access_bytes, attributes_told, composite_bytes, flags_of, header_bytes, le, permissions_of, range_bytes, response_bytes}
 use Rattle.ffa_model.specs.SendDescriptor.{page_total}
 use Rattle.ffa_model.specs.SoundState.{IsSoundState, are_bytes}
 use Rattle.ffa_model.specs.State.{State, buffers_of, version_of}
@@ -55,9 +55,9 @@ module _ (version : Version) (r : ResponseRecord) where
     where
       of : (v : Version) → are_bytes (header_bytes v r)
       of Compact =
-          numbers-bytes ((2, r.sender) ∷ (2, normal_memory) ∷ (4, flags_of r.kind r.zero) ∷ (8, r.handle) ∷ (8, r.tag) ∷ (4, 0) ∷ (4, 1) ∷ [])
+          numbers-bytes ((2, r.sender) ∷ (2, attributes_told r.normal) ∷ (4, flags_of r.kind r.zero) ∷ (8, r.handle) ∷ (8, r.tag) ∷ (4, 0) ∷ (4, 1) ∷ [])
       of V1_1 =
-          numbers-bytes ((2, r.sender) ∷ (2, normal_memory) ∷ (4, flags_of r.kind r.zero) ∷ (8, r.handle) ∷ (8, r.tag) ∷ (4, 16) ∷ (4, 1) ∷ (4, 48) ∷ (4, 0) ∷ (8, 0) ∷ [])
+          numbers-bytes ((2, r.sender) ∷ (2, attributes_told r.normal) ∷ (4, flags_of r.kind r.zero) ∷ (8, r.handle) ∷ (8, r.tag) ∷ (4, 16) ∷ (4, 1) ∷ (4, 48) ∷ (4, 0) ∷ (8, 0) ∷ [])
 
   access-are_bytes : are_bytes (access_bytes version r)
   unfolding le

@@ -15,7 +15,7 @@ use Rattle.ffa_model.specs.SendDescriptor.{SendRecord}
 use Rattle.ffa_model.specs.SoundState.{IsSoundState}
 use Rattle.ffa_model.specs.declared.call.Transfer.{Transfer}
 use Rattle.ffa_model.specs.Transactions.{open_of, open_count, pages_in, scene_of}
-use Rattle.ffa_model.specs.MemorySend.{descriptor_in, is_sendable, memory_send, memory_sent, send_guards, send_read, transaction_from}
+use Rattle.ffa_model.specs.MemorySend.{descriptor_in, is_sendable, memory_send, memory_sent, send_guards, send_read, transaction_sent}
 use Rattle.ffa_model.proofs.KeptCalls.{offered-sound}
 use Rattle.ffa_model.proofs.KeptSend.{IsSendable}
 use Rattle.ffa_laws.proofs.ByteLists.{all-take}
@@ -26,7 +26,7 @@ use Rattle.ffa_laws.proofs.SoundSteady.{runner-known}
 
 module _ (s : State) (sound : IsSoundState s) (kind : Kind) (x : Transfer) where
   -- what the guards and the descriptor say is what soundness asks of a send
-  sendable : (r : SendRecord) → send_read s kind x.total ≡ Some r → IsOffer s r → IsSendable s (transaction_from kind r)
+  sendable : (r : SendRecord) → send_read s kind x.total ≡ Some r → IsOffer s r → IsSendable s (transaction_sent s kind r)
   sendable r is good =
       let counts = counted kind (descriptor_in s x.total) r is in
       record {

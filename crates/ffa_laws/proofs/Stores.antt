@@ -3,7 +3,7 @@
 use Rattle.std.proofs.Common.{◌≡◌, ◌∙◌, ℕ, zero, suc, ◌+◌, ◌-◌, ◌*◌, ◌/◌, ◌%◌, ◌^◌, ◌<◌, ◌≤◌, Bool, true, cond, List, [], ◌∷◌, ◌++◌, length, get_or, set, Option, Some, None, refl, sym, ap, subst, arith, inl, inr, length-set, get_or-set_other, get_or-set_same, set-set}
 use Rattle.std.specs.Prelude.{◌==◌, ◌&&◌, ◌||◌, nat_le, nat_lt}
 use Rattle.std.specs.Option.{option_and_then, option_map, option_map_or}
-use Rattle.std.proofs.lemmas.Bool.{and_from, and_parts, cases_eq, cases_lt, eq-eqb, eqb-true, ne_eqb, false≢true, le-leb, leb-true, lt-ltb, ltb-true}
+use Rattle.std.proofs.lemmas.Bool.{and_from, and_parts, cases_eq, cases_lt, eq-eqb, eqb-true, ne_eqb, false≢true, le-leb, lt-ltb, ltb-true}
 use Rattle.std.proofs.lemmas.Option.{none-some, same_Some}
 use Rattle.std.proofs.lemmas.List.{get_or_past, set-get_or}
 use Rattle.byteorder.specs.Endian.{little_bytes}
@@ -14,11 +14,9 @@ use Rattle.ffa_model.specs.declared.operation.Op.TheVariants.{Store}
 use Rattle.ffa_model.specs.declared.operation.Outcome.TheVariants.{Done}
 use Rattle.ffa_model.specs.declared.operation.Size.TheVariants.{B1}
 use Rattle.ffa_model.specs.declared.rights.Rights.{Rights}
-use Rattle.ffa_model.specs.declared.limits.TheConstants.{MOST_RAM}
 use Rattle.ffa_model.specs.Access.{access, held_by, right_by, right_of, transaction_at}
 use Rattle.ffa_model.specs.Calls.{Stepped}
 use Rattle.ffa_model.specs.Elsewhere.{as_run_by, state_after_as, step_as}
-use Rattle.ffa_model.specs.Manifest.{is_ram_base}
 use Rattle.ffa_model.specs.Memory.{access_at, accessed, fault_of, page_bytes, page_of_address, page_with, store_fault, stored, written, written_pages}
 use Rattle.ffa_model.specs.Ram.{with_bytes}
 use Rattle.ffa_model.specs.Rights.{may_store}
@@ -157,22 +155,15 @@ page-size s e p sound may = of (page_at s p) refl
     of None at = absurd (false≢true (ap (λ (o : Option Page). may_store (right_of e o (transaction_at s p))) (sym at) ∙ may))
     of (Some q) at = (sound.pages p q at).size
 
--- where RAM of a sound state stands
-place-of : (base : ℕ) → is_ram_base base ≡ true → (base % MOST_RAM ≡ 0) × (base ≤ 2 ^ 32 - MOST_RAM)
-place-of base is =
-    let (front, most) = and_parts (base % MOST_RAM == 0 && nat_le MOST_RAM base) (nat_le base (2 ^ 32 - MOST_RAM)) is in
-    let (aligned, _) = and_parts (base % MOST_RAM == 0) (nat_le MOST_RAM base) front in
-    (eqb-true (base % MOST_RAM) 0 aligned, leb-true base (2 ^ 32 - MOST_RAM) most)
-
 -- bytes of a page of a sound state that e stores there
 pub bytes-stored : (s : State) (e p : ℕ) (bytes : List ℕ) → IsSoundState s → p < length s.pages → may_store (access s e p) ≡ true → length bytes ≡ 4096 → are_bytes bytes
     → state_after_as s (stores e (s.ram_base + 4096 * p) bytes) ≡ with_bytes_of s p bytes
 bytes-stored s e p bytes sound within may size are =
-    let (aligned, most) = place-of s.ram_base sound.sized.base in
-    let (n, pages, _, few) = sound.sized.blocks in
+    let aligned : s.ram_base % 0x200000 ≡ 0 = eqb-true _ _ (and_parts _ _ sound.sized.base).0 in
+    let most : s.ram_base + 4096 * length s.pages ≤ 2 ^ 32 = sound.sized.within in
     let room = page-size s e p sound may in
     ap (λ (a : ℕ). state_after_as s (stores e a bytes)) (omega arith)
-    ∙ stores-from bytes s e p 0 within (omega (arith, aligned)) (omega (arith, most, pages, few)) may are (omega (arith, size)) room
+    ∙ stores-from bytes s e p 0 within (omega (arith, aligned)) (omega (arith, most, within)) may are (omega (arith, size)) room
     ∙ ap (λ (o : Option Page). record s { pages = set s.pages p o }) (page-all (page_at s p) bytes (room ∙ sym size))
 
 -- ---- pages in a row

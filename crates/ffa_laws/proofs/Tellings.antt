@@ -24,7 +24,7 @@ use Rattle.ffa_model.specs.Access.{access, is_receiver, names, transaction_at}
 use Rattle.ffa_model.specs.Calls.{first_failure}
 use Rattle.ffa_model.specs.Memory.{fault_of, page_bytes, run_bytes, size_of}
 use Rattle.ffa_model.specs.DescriptorPlaces.{in_version}
-use Rattle.ffa_model.specs.MemorySend.{memory_sent, send_read, transaction_from}
+use Rattle.ffa_model.specs.MemorySend.{is_told_normal, memory_sent, send_read, transaction_from, transaction_sent}
 use Rattle.ffa_model.specs.MemoryRetrieve.{retrieve_read, right_for}
 use Rattle.ffa_model.specs.Messages.{tx_bytes}
 use Rattle.ffa_model.specs.Registers.{decode}
@@ -101,11 +101,13 @@ module _ (e : ℕ) (s : State) (hides : ℕ → Bool) where
     module _ (tx-b : tx_bytes b s.runner ≡ tx_bytes s s.runner) where
       opened-b : (kind : Kind) (o : Option SendRecord) → all_readably e s (opens e b kind o) ≡ all_readably e s (opens e s kind o)
       opened-b kind None = refl
-      opened-b kind (Some r) = of (is_receiver e (transaction_from kind r))
+      opened-b kind (Some r) =
+          ap (λ ram. all_readably e s (where_true (is_receiver e (transaction_sent s kind r)) (Opened (next_handle (open_of s) s.runner) (transaction_from kind (is_told_normal ram s.normal r.ranges) r) (named_pages (memory_sent b kind (Some r)) r.ranges) ∷ []))) (ownership-b s hides)
+          ∙ of (is_receiver e (transaction_sent s kind r))
         where
-          of : (c : Bool) → all_readably e s (where_true c (Opened (next_handle (open_of s) s.runner) (transaction_from kind r) (named_pages (memory_sent b kind (Some r)) r.ranges) ∷ []))
-              ≡ all_readably e s (where_true c (Opened (next_handle (open_of s) s.runner) (transaction_from kind r) (named_pages (memory_sent s kind (Some r)) r.ranges) ∷ []))
-          of true = λ i. Opened (next_handle (open_of s) s.runner) (transaction_from kind r) (same-named hides (is_unreadable s e) away (memory_sent b kind (Some r)) (memory_sent s kind (Some r)) r.ranges (sent-b s hides kind (Some r)) i) ∷ []
+          of : (c : Bool) → all_readably e s (where_true c (Opened (next_handle (open_of s) s.runner) (transaction_sent s kind r) (named_pages (memory_sent b kind (Some r)) r.ranges) ∷ []))
+              ≡ all_readably e s (where_true c (Opened (next_handle (open_of s) s.runner) (transaction_sent s kind r) (named_pages (memory_sent s kind (Some r)) r.ranges) ∷ []))
+          of true = λ i. Opened (next_handle (open_of s) s.runner) (transaction_sent s kind r) (same-named hides (is_unreadable s e) away (memory_sent b kind (Some r)) (memory_sent s kind (Some r)) r.ranges (sent-b s hides kind (Some r)) i) ∷ []
           of false = refl
 
       sends-b : (kind : Kind) (total : ℕ) → all_readably e s (opens e b kind (send_read b kind total)) ≡ all_readably e s (opens e s kind (send_read s kind total))

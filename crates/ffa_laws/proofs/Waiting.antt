@@ -9,7 +9,7 @@ use Rattle.ffa_model.specs.declared.operation.Op.{Op}
 use Rattle.ffa_model.specs.declared.rights.Rights.{Rights}
 use Rattle.ffa_model.specs.State.{State, Transaction, buffers_of, page_at, transaction_of}
 use Rattle.ffa_model.specs.Access.{covers, held_by, is_held_by, is_naming, is_offered, is_receiver, names, right_of}
-use Rattle.ffa_model.specs.MemorySend.{transaction_from}
+use Rattle.ffa_model.specs.MemorySend.{transaction_sent}
 use Rattle.ffa_model.specs.Step.{step}
 use Rattle.ffa_model.specs.Transactions.{next_handle, open_of}
 use Rattle.ffa_model.proofs.Accesses.{named-in}
@@ -132,8 +132,8 @@ module _ (s : State) (steady : IsSteady s) (op : Op) (h : ℕ) (opened : IsOpene
   sent-pages : (p : ℕ) → is_page_of next h p ≡ names s opened.read.ranges p
   sent-pages p =
       ap (λ u. is_page_of u h p) opened.state
-      ∙ ap (is_naming s p) (get-insert s.transactions (next_handle (open_of s) s.runner) (transaction_from opened.kind opened.read) h
-      ∙ ap (λ b. cond b (Some (transaction_from opened.kind opened.read)) (transaction_of s h)) (eq-eqb h (next_handle (open_of s) s.runner) opened.handle))
+      ∙ ap (is_naming s p) (get-insert s.transactions (next_handle (open_of s) s.runner) (transaction_sent s opened.kind opened.read) h
+      ∙ ap (λ b. cond b (Some (transaction_sent s opened.kind opened.read)) (transaction_of s h)) (eq-eqb h (next_handle (open_of s) s.runner) opened.handle))
 
   sent-clear : ShowsTx (is_page_of next h) s
   sent-clear x is = buffers-clear h next (steady-step s steady op) x (ap (λ (u : State). buffers_of u u.runner) opened.state ∙ is)

@@ -30,7 +30,7 @@ use Rattle.ffa_model.specs.Messages.{header_in, message_in, tx_bytes}
 use Rattle.ffa_model.specs.Notifications.{binding, class_of, has_bitmaps_in, is_bound, manager_class, notifications_of, message_bits, with_notifications, with_pending}
 use Rattle.ffa_model.specs.SendDescriptor.{SendRecord}
 use Rattle.ffa_model.specs.Transactions.{holding, next_handle, not_holding, open_of, with_open, with_transaction}
-use Rattle.ffa_model.specs.MemorySend.{memory_sent, send_read, transaction_from}
+use Rattle.ffa_model.specs.MemorySend.{memory_sent, send_read, transaction_sent}
 use Rattle.ffa_model.specs.MemoryRetrieve.{retrieve_read, right_for}
 use Rattle.ffa_model.specs.MemoryReturn.{named_ranges, relinquish_read}
 use Rattle.ffa_model.specs.Step.{serve, service, step}
@@ -142,8 +142,8 @@ delivers e s tx =
 abbrev pub opens : Identifier → State → Kind → Option SendRecord → List Event
 opens e s kind None = []
 opens e s kind (Some r) =
-    where_true (is_receiver e (transaction_from kind r))
-    (Opened (next_handle (open_of s) s.runner) (transaction_from kind r) (named_pages (memory_sent s kind (Some r)) r.ranges) ∷ [])
+    where_true (is_receiver e (transaction_sent s kind r))
+    (Opened (next_handle (open_of s) s.runner) (transaction_sent s kind r) (named_pages (memory_sent s kind (Some r)) r.ranges) ∷ [])
 
 -- the runner takes what e sent
 abbrev pub taking : Kind → HandleNumber → Identifier → Rights → Event

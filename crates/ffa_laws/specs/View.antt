@@ -52,6 +52,7 @@ view e s =
     record {
       ram_base = s.ram_base;
       parties = s.parties;
+      normal = s.normal;
       pages = map_at (λ p page. kept (is_near e s p) page) s.pages;
       transactions = transactions_of e s;
       sent = map_at (λ i n. if identifier i == e then n else 0) s.sent;

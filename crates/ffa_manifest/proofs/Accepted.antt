@@ -1,23 +1,23 @@
 -- SPDX-License-Identifier: MIT OR Apache-2.0
 -- What was read meets the conditions of a manifest.
-use Rattle.std.proofs.Common.{◌≡◌, ℕ, suc, Bool, true, false, ◌&&◌, ◌||◌, not, ◌==◌, List, [], ◌∷◌, ◌++◌, length, append-nil, Ok, refl, sym, ap, ◌∙◌, subst, append_assoc, replicate, codes, arith}
-use Rattle.std.specs.Prelude.{nat_lt}
+use Rattle.std.proofs.Common.{◌≡◌, ℕ, ◌+◌, ◌-◌, ◌*◌, ◌%◌, ◌^◌, ◌≤◌, suc, Bool, true, false, ◌&&◌, ◌||◌, not, ◌==◌, List, [], ◌∷◌, ◌++◌, length, append-nil, Ok, refl, sym, ap, ◌∙◌, subst, append_assoc, replicate, codes, arith}
+use Rattle.std.specs.Prelude.{nat_le, nat_lt}
 use Rattle.std.specs.List.{list_all}
-use Rattle.std.proofs.lemmas.Bool.{and_parts, or_parts, ne_eqb, cond-false}
+use Rattle.std.proofs.lemmas.Bool.{and_parts, or_parts, eq-eqb, eqb-true, le-leb, leb-true, ne_eqb, cond-false}
 use Rattle.std.proofs.lemmas.List.Folds.{list_all-append}
 use Rattle.toml.specs.Data.{Data, Items, as_table, Members}
 use Rattle.uuid.specs.Text.{parsed}
-use Rattle.ffa_model.specs.declared.limits.TheConstants.{MOST_BLOCKS, MOST_ENDPOINTS, MOST_REGIONS}
+use Rattle.ffa_model.specs.declared.limits.TheConstants.{MOST_BLOCKS, MOST_ENDPOINTS, MOST_RAM, MOST_REGIONS}
 use Rattle.ffa_model.specs.declared.endpoint.Region.{Region}
 use Rattle.ffa_model.specs.declared.endpoint.Endpoint.{Endpoint}
 use Rattle.ffa_model.specs.Bits.{is_set}
-use Rattle.ffa_model.specs.Manifest.{is_accepted, is_ram_base, is_from_to, is_placed, are_apart, regions_of, are_counted, are_identified, is_normal_world, is_partition, is_nil}
+use Rattle.ffa_model.specs.Manifest.{is_accepted, is_ram_base, is_ram_size, is_from_to, is_placed, are_apart, regions_of, are_counted, are_identified, is_normal_world, is_partition, is_nil}
 use Rattle.ffa_manifest.specs.declared.error.ManifestError.TheVariants.{WrongKind, EndpointCount, Uuid, Property, RamBase, RamBlocks}
 use Rattle.ffa_manifest.specs.Reading.{or_cause, item_count}
 use Rattle.ffa_manifest.specs.Keys.{text_at, integer_at}
 use Rattle.ffa_manifest.specs.Regions.{regions_at}
 use Rattle.ffa_manifest.specs.Endpoints.{normal_world, normal_world_keys, normal_world_properties, partition, partition_keys, version_at, identifier, uuid_at, properties_at, endpoint_of, next_endpoint, endpoints_from, endpoint_items}
-use Rattle.ffa_manifest.specs.Document.{ram_base_at, ram_blocks_at}
+use Rattle.ffa_manifest.specs.Document.{is_text_base, ram_base_at, ram_blocks_at}
 use Rattle.ffa_manifest.proofs.Steps.{bind_ok, refusal_ok, tested_ok, read_each-keeps, length-read_all, items_at-count}
 use Rattle.ffa_manifest.proofs.RegionsRead.{RegionsRead, regions_at-read}
 
@@ -132,6 +132,25 @@ pub named_some : (es : List Endpoint) → is_from_to 1 MOST_ENDPOINTS (length es
 named_some [] some h = cc
 named_some (e ∷ es) some h = h
 
+-- where a text lets RAM begin, it may, with any number of blocks
+text-placed : (base blocks : ℕ) → is_text_base base ≡ true → is_from_to 1 MOST_BLOCKS blocks ≡ true → (is_ram_base base ≡ true) × (is_ram_size base blocks ≡ true)
+text-placed base blocks place size =
+    let (front, most) = and_parts (base % MOST_RAM == 0 && nat_le MOST_RAM base) (nat_le base (2 ^ 32 - MOST_RAM)) place in
+    let (whole, least) = and_parts (base % MOST_RAM == 0) (nat_le MOST_RAM base) front in
+    let (some, few) = and_parts (nat_le 1 blocks) (nat_le blocks MOST_BLOCKS) size in
+    let aligned : base % MOST_RAM ≡ 0 = eqb-true _ _ whole in
+    let low : MOST_RAM ≤ base = leb-true _ _ least in
+    let high : base ≤ 2 ^ 32 - MOST_RAM = leb-true _ _ most in
+    let count : blocks ≤ MOST_BLOCKS = leb-true _ _ few in
+    let block : base % 0x200000 ≡ 0 = omega (arith, aligned) in
+    let from : 0x200000 ≤ base = omega (arith, low) in
+    let within : base + 0x200000 * blocks ≤ 2 ^ 32 = omega (arith, high, count) in
+    let one : base % 2 ^ 30 + 0x200000 * blocks ≤ 2 ^ 30 = omega (arith, aligned, count) in
+    let tests : (nat_le (base + 0x200000 * blocks) (2 ^ 32) && nat_le (base % 2 ^ 30 + 0x200000 * blocks) (2 ^ 30)) ≡ true =
+    rw (le-leb _ _ within, le-leb _ _ one) refl
+    in
+    (rw (eq-eqb (base % 0x200000) 0 block, le-leb 0x200000 base from) refl, rw (some, few, tests) refl)
+
 -- the RAM and the endpoints that were read make a machine
 pub accepted_parts : (ms : Members) (base blocks : ℕ) (ds : Items) (es : List Endpoint) → ram_base_at ms ≡ Ok base → ram_blocks_at ms ≡ Ok blocks → endpoint_items ms ≡ Ok ds
     → endpoints_from (is_placed base blocks (item_count ds)) ds ≡ Ok es → is_accepted base blocks es ≡ true
@@ -143,4 +162,5 @@ accepted_parts ms base blocks ds es base_is blocks_is items read =
     let few : is_from_to 1 MOST_ENDPOINTS (length es) ≡ true = ap (is_from_to 1 MOST_ENDPOINTS) count ∙ items_at-count _ MOST_ENDPOINTS EndpointCount ms ds items in
     let all : EndpointsRead (is_placed base blocks (item_count ds)) es = read_each-keeps (EndpointsRead (is_placed base blocks (item_count ds))) (next_endpoint (is_placed base blocks (item_count ds)))
     (one_more (is_placed base blocks (item_count ds))) [] ds es (record { named = refl; counted = refl; in_place = refl; apart = refl }) read in
-    rw (tested_ok is_ram_base RamBase first base h1, tested_ok (is_from_to 1 MOST_BLOCKS) RamBlocks second blocks h2, few, named_some es few all.named, all.counted, count, all.in_place, all.apart) refl
+    let (base_good, size_good) = text-placed base blocks (tested_ok is_text_base RamBase first base h1) (tested_ok (is_from_to 1 MOST_BLOCKS) RamBlocks second blocks h2) in
+    rw (base_good, size_good, few, named_some es few all.named, all.counted, count, all.in_place, all.apart) refl

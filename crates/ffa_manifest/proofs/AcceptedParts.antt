@@ -5,11 +5,11 @@ use Rattle.std.specs.Prelude.{nat_lt}
 use Rattle.std.specs.List.{list_all}
 use Rattle.std.proofs.lemmas.Bool.{and_parts}
 use Rattle.std.proofs.lemmas.List.Folds.{list_all-append}
-use Rattle.ffa_model.specs.declared.limits.TheConstants.{MOST_BLOCKS, MOST_ENDPOINTS, MOST_REGIONS}
+use Rattle.ffa_model.specs.declared.limits.TheConstants.{MOST_ENDPOINTS, MOST_REGIONS}
 use Rattle.ffa_model.specs.declared.endpoint.Region.{Region}
 use Rattle.ffa_model.specs.declared.endpoint.Endpoint.{Endpoint}
 use Rattle.ffa_model.specs.Bits.{is_set}
-use Rattle.ffa_model.specs.Manifest.{is_accepted, is_ram_base, is_from_to, is_placed, is_apart, are_apart, regions_of, are_counted, are_identified, is_normal_world, is_partition, is_nil}
+use Rattle.ffa_model.specs.Manifest.{is_ram_size, is_accepted, is_ram_base, is_from_to, is_placed, is_apart, are_apart, regions_of, are_counted, are_identified, is_normal_world, is_partition, is_nil}
 use Rattle.ffa_manifest.specs.declared.error.ManifestError.TheVariants.{Uuid, Property, RegionCount, RegionOutside, RegionOverlap}
 use Rattle.ffa_manifest.specs.Regions.{is_free}
 use Rattle.ffa_manifest.specs.Parts.{first_failure, tests_of_each, region_tests, endpoint_tests, is_uuid_after, are_properties_after}
@@ -59,7 +59,7 @@ endpoint-next : (placed : Region → Bool) (before : List Endpoint) (e : Endpoin
 endpoint-next placed before e so_far h = EndpointsRead-last placed before e so_far (endpoint-read placed before e so_far.apart h)
 
 -- where no test fails, the parts make a machine
-pub accepted_tests : (base blocks : ℕ) (es : List Endpoint) → is_ram_base base ≡ true → is_from_to 1 MOST_BLOCKS blocks ≡ true → is_from_to 1 MOST_ENDPOINTS (length es) ≡ true
+pub accepted_tests : (base blocks : ℕ) (es : List Endpoint) → is_ram_base base ≡ true → is_ram_size base blocks ≡ true → is_from_to 1 MOST_ENDPOINTS (length es) ≡ true
     → first_failure (tests_of_each (endpoint_tests (is_placed base blocks (length es))) [] es) ≡ None → is_accepted base blocks es ≡ true
 accepted_tests base blocks es base_is blocks_is few h =
     let all : EndpointsRead (is_placed base blocks (length es)) es =
@@ -118,9 +118,9 @@ endpoint-passed placed es identified counted in_place apart before e after is =
 pub passed_tests : (base blocks : ℕ) (es : List Endpoint) → is_accepted base blocks es ≡ true → first_failure (tests_of_each (endpoint_tests (is_placed base blocks (length es))) [] es) ≡ None
 passed_tests base blocks es h =
     let placed : Region → Bool = is_placed base blocks (length es) in
-    let (ram, regions) = and_parts ((is_ram_base base && is_from_to 1 MOST_BLOCKS blocks) && (is_from_to 1 MOST_ENDPOINTS (length es) && are_identified es)) _ h in
+    let (ram, regions) = and_parts ((is_ram_base base && is_ram_size base blocks) && (is_from_to 1 MOST_ENDPOINTS (length es) && are_identified es)) _ h in
     let (counted, lying) = and_parts (are_counted es) _ regions in
     let (in_place, apart) = and_parts (list_all placed (regions_of es)) (are_apart (regions_of es)) lying in
-    let (_, named) = and_parts (is_ram_base base && is_from_to 1 MOST_BLOCKS blocks) (is_from_to 1 MOST_ENDPOINTS (length es) && are_identified es) ram in
+    let (_, named) = and_parts (is_ram_base base && is_ram_size base blocks) (is_from_to 1 MOST_ENDPOINTS (length es) && are_identified es) ram in
     let (_, identified) = and_parts (is_from_to 1 MOST_ENDPOINTS (length es)) (are_identified es) named in
     tests_of_each-passed (endpoint_tests placed) es (endpoint-passed placed es identified counted in_place apart) [] es refl

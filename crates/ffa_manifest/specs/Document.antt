@@ -1,32 +1,41 @@
 -- SPDX-License-Identifier: MIT OR Apache-2.0
 -- The machine that a text describes, or the first cause for which it is refused.
-use Rattle.std.specs.Prelude.{ℕ, List, [], ◌∷◌, Result, Ok, codes}
+use Rattle.std.specs.Prelude.{ℕ, ◌-◌, ◌%◌, ◌^◌, ◌==◌, ◌&&◌, nat_le, Bool, List, [], ◌∷◌, Result, Ok, codes}
 use Rattle.toml.specs.Data.{Members}
 use Rattle.toml.specs.Parse.{parse_document}
-use Rattle.ffa_model.specs.declared.limits.TheConstants.{MOST_BLOCKS}
+use Rattle.ffa_model.specs.declared.limits.TheConstants.{MOST_BLOCKS, MOST_RAM}
 use Rattle.ffa_model.specs.declared.endpoint.Endpoint.{Endpoint}
 use Rattle.ffa_model.specs.declared.manifest.Manifest.{Manifest}
-use Rattle.ffa_model.specs.Manifest.{is_ram_base, is_from_to, is_placed}
+use Rattle.ffa_model.specs.declared.manifest.Worlds.{Worlds}
+use Rattle.ffa_model.specs.declared.manifest.Worlds.TheVariants.{One}
+use Rattle.ffa_model.specs.Manifest.{is_from_to, is_placed}
 use Rattle.ffa_manifest.specs.declared.error.ManifestError.{ManifestError}
 use Rattle.ffa_manifest.specs.declared.error.ManifestError.TheVariants.{Toml, RamBase, RamBlocks}
 use Rattle.ffa_manifest.specs.Reading.{◌>>=◌, or_cause, tested, item_count}
 use Rattle.ffa_manifest.specs.Keys.{only_keys, integer_at}
 use Rattle.ffa_manifest.specs.Endpoints.{endpoint_items, endpoints_from}
 
--- a machine's RAM, and its endpoints in order
+-- a machine's RAM, its endpoints in order, and whether worlds are told apart, which no text says
 pub record Parts : Type 0 where
   pub ram_base : ℕ
   pub ram_blocks : ℕ
   pub endpoints : List Endpoint
+  pub worlds : Worlds
 
 abbrev pub parts_of : Manifest → Parts
-parts_of m = record { ram_base = m.ram_base.0; ram_blocks = m.ram_blocks; endpoints = m.endpoints.items }
+parts_of m =
+    record { ram_base = m.ram_base.0; ram_blocks = m.ram_blocks; endpoints = m.endpoints.items; worlds = m.worlds }
 
 unfoldable pub top_keys : Members → Result (Unit {0}) ManifestError
 top_keys ms = only_keys (codes "ram_base" ∷ codes "ram_blocks" ∷ codes "endpoint" ∷ []) ms
 
+-- where the text of a manifest lets RAM begin: at a multiple of the largest RAM, but not at 0, from which the largest RAM ends
+-- at 2^32 at most
+abbrev pub is_text_base : ℕ → Bool
+is_text_base base = (base % MOST_RAM == 0 && nat_le MOST_RAM base) && nat_le base (2 ^ 32 - MOST_RAM)
+
 unfoldable pub ram_base_at : Members → Result ℕ ManifestError
-ram_base_at ms = integer_at (codes "ram_base") ms >>= tested is_ram_base RamBase
+ram_base_at ms = integer_at (codes "ram_base") ms >>= tested is_text_base RamBase
 
 unfoldable pub ram_blocks_at : Members → Result ℕ ManifestError
 ram_blocks_at ms = integer_at (codes "ram_blocks") ms >>= tested (is_from_to 1 MOST_BLOCKS) RamBlocks
@@ -39,7 +48,7 @@ machine ms = do
   blocks ← ram_blocks_at ms
   ds ← endpoint_items ms
   endpoints ← endpoints_from (is_placed base blocks (item_count ds)) ds
-  Ok (record { ram_base = base; ram_blocks = blocks; endpoints = endpoints })
+  Ok (record { ram_base = base; ram_blocks = blocks; endpoints = endpoints; worlds = One })
 
 -- the text as TOML, and then its tables, each whole in the order of its keys
 unfoldable pub machine_of : List ℕ → Result Parts ManifestError

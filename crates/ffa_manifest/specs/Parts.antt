@@ -1,18 +1,19 @@
 -- SPDX-License-Identifier: MIT OR Apache-2.0
 -- The first cause for which parts make no machine, in the order in which a text would be read.
 use Rattle.std.specs.Prelude.{ℕ, Bool, ◌&&◌, ◌||◌, ◌==◌, nat_lt, not, List, [], ◌∷◌, ◌++◌, length, Option, Some, None, if◌then◌else◌}
-use Rattle.ffa_model.specs.declared.limits.TheConstants.{MOST_BLOCKS, MOST_ENDPOINTS, MOST_REGIONS}
+use Rattle.ffa_model.specs.declared.limits.TheConstants.{MOST_ENDPOINTS, MOST_REGIONS}
 use Rattle.ffa_model.specs.declared.endpoint.Region.{Region}
 use Rattle.ffa_model.specs.declared.endpoint.Endpoint.{Endpoint}
+use Rattle.ffa_model.specs.declared.manifest.Worlds.TheVariants.{One}
 use Rattle.ffa_model.specs.Bits.{is_set}
-use Rattle.ffa_model.specs.Manifest.{is_ram_base, is_from_to, is_nil, is_placed, regions_of}
+use Rattle.ffa_model.specs.Manifest.{is_ram_base, is_ram_size, is_from_to, is_nil, is_placed, regions_of}
 use Rattle.ffa_manifest.specs.declared.error.ManifestError.{ManifestError}
 use Rattle.ffa_manifest.specs.declared.error.ManifestError.TheVariants.{RamBase, RamBlocks, EndpointCount, Uuid, Property, RegionCount, RegionOutside, RegionOverlap}
 use Rattle.ffa_manifest.specs.Regions.{is_free}
 use Rattle.ffa_manifest.specs.Document.{Parts}
 
 abbrev pub parts_from : ℕ → ℕ → List Endpoint → Parts
-parts_from base blocks es = record { ram_base = base; ram_blocks = blocks; endpoints = es }
+parts_from base blocks es = record { ram_base = base; ram_blocks = blocks; endpoints = es; worlds = One }
 
 -- tests in order, each with the cause for which parts that fail it are refused
 abbrev pub Tests : Type 0
@@ -53,7 +54,7 @@ unfoldable pub tests_of : Parts → Tests
 tests_of parts =
     let tests = endpoint_tests (is_placed parts.ram_base parts.ram_blocks (length parts.endpoints)) in
     (is_ram_base parts.ram_base, RamBase)
-    ∷ (is_from_to 1 MOST_BLOCKS parts.ram_blocks, RamBlocks)
+    ∷ (is_ram_size parts.ram_base parts.ram_blocks, RamBlocks)
     ∷ (is_from_to 1 MOST_ENDPOINTS (length parts.endpoints), EndpointCount)
     ∷ tests_of_each tests [] parts.endpoints
 

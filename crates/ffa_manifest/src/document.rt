@@ -10,7 +10,7 @@ ghost use Rattle.ffa_manifest.specs.Endpoints.{endpoint_items as endpoint_items_
 use crate::endpoints::endpoints_from;
 use crate::error::ManifestError;
 use crate::keys::{integer_at, items_at, only_keys};
-use crate::region_space::{RegionSpace, is_ram_base};
+use crate::region_space::{RegionSpace, is_text_base};
 use ffa_model::{Address, MOST_BLOCKS, MOST_ENDPOINTS, Manifest};
 use toml::{Table, Value};
 
@@ -30,7 +30,7 @@ pub(crate) fn ram_base_at(table: &Table) -> Result<u32, ManifestError>
     ensures highest { IfOk result (λ n. n ≤ 2 ^ 32 - MOST_RAM) }
 {
     match integer_at(table, "ram_base")? {
-        Some(n) if is_ram_base(n) => Ok(n as u32),
+        Some(n) if is_text_base(n) => Ok(n as u32),
         _ => Err(ManifestError::RamBase),
     }
 }

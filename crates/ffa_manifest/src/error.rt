@@ -22,10 +22,10 @@ pub enum ManifestError {
     /// A value has another kind than its key asks for, or `rights` isn't one of `ro`, `rw`, `rox` and `rwx`.
     #[error("M5 WrongKind")]
     WrongKind,
-    /// `ram_base` isn't a multiple of `MOST_RAM`, which 0 isn't, or leaves no room for that many bytes below 4 GiB.
+    /// `ram_base` is 0 or no multiple of 2 MiB; in a text, of `MOST_RAM`, or leaves no room for that many bytes below 4 GiB.
     #[error("M6 RamBase")]
     RamBase,
-    /// `ram_blocks` isn't from 1 to `MOST_BLOCKS`.
+    /// `ram_blocks` isn't from 1 to `MOST_BLOCKS`, or so many blocks don't lie in one GiB below 4 GiB.
     #[error("M7 RamBlocks")]
     RamBlocks,
     /// There is no endpoint, or more than `MOST_ENDPOINTS`.

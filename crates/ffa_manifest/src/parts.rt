@@ -10,7 +10,7 @@ ghost use Rattle.ffa_manifest.specs.Parts.{parts_from, first_cause, first_failur
 
 use crate::endpoints::receives;
 use crate::error::ManifestError;
-use crate::region_space::{RegionSpace, is_ram_base};
+use crate::region_space::{RegionSpace, is_ram_base, is_ram_size};
 use crate::regions::{is_apart_from_all, is_free};
 use arrayvec::ArrayVec;
 use bitflags::Flags;
@@ -122,10 +122,10 @@ pub fn of_parts(
     ensures refused { IfErr result (λ e. first_cause (parts_from ram_base ram_blocks endpoints.items) ≡ Some e) }
     ensures accepted_where { IsOk result ↔ (is_accepted ram_base ram_blocks endpoints.items ≡ true) }
 {
-    if !is_ram_base(u64::from(ram_base)) {
+    if !is_ram_base(ram_base) {
         return Err(ManifestError::RamBase);
     }
-    if ram_blocks < 1 || MOST_BLOCKS < ram_blocks {
+    if !is_ram_size(ram_base, ram_blocks) {
         return Err(ManifestError::RamBlocks);
     }
     if endpoints.is_empty() {

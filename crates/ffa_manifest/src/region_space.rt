@@ -2,17 +2,39 @@
 //! Where the regions of a machine may lie.
 ghost use Rattle.std.specs.Prelude.{◌≡◌, ◌-◌, ◌^◌, ◌≤◌};
 ghost use Rattle.ffa_model.specs.declared.limits.TheConstants.{MOST_BLOCKS, MOST_ENDPOINTS, MOST_RAM};
-ghost use Rattle.ffa_model.specs.Manifest.{is_ram_base as is_ram_base_in, ram_end, tables_end};
+ghost use Rattle.ffa_manifest.specs.Document.{is_text_base};
+ghost use Rattle.ffa_model.specs.Manifest.{is_ram_base, is_ram_size, ram_end, tables_end};
 
 use crate::refusal::Bounds;
-use ffa_model::{MOST_RAM, Region, Rights};
+use ffa_model::{MOST_BLOCKS, MOST_RAM, Region, Rights};
 
-/// Whether RAM may begin at this address: a multiple of the largest RAM, but not 0, from which
+// A block of RAM, in bytes.
+const BLOCK: u64 = 0x20_0000;
+
+// What a table of level 2 names, in bytes.
+const GIB: u32 = 1 << 30;
+
+/// Whether the text of a manifest lets RAM begin at this address: a multiple of the largest RAM, but not 0, from which
 /// the largest RAM ends at 2^32 at most.
-pub(crate) fn is_ram_base(base: u64) -> bool
-    ensures { result ≡ is_ram_base_in base }
+pub(crate) fn is_text_base(base: u64) -> bool
+    ensures { result ≡ is_text_base base }
 {
     base % MOST_RAM == 0 && MOST_RAM <= base && base <= (1 << 32) - MOST_RAM
+}
+
+/// Whether RAM may begin at this address: a multiple of 2 MiB, but not 0.
+pub(crate) fn is_ram_base(base: u32) -> bool
+    ensures { result ≡ is_ram_base base }
+{
+    base.is_multiple_of(BLOCK as u32) && base != 0
+}
+
+/// Whether RAM may have so many blocks from an address on, so that it ends at 2^32 at most, and lies in one GiB.
+pub(crate) fn is_ram_size(base: u32, blocks: u32) -> bool
+    ensures { result ≡ is_ram_size base blocks }
+{
+    let size = BLOCK * u64::from(blocks);
+    1 <= blocks && blocks <= MOST_BLOCKS && u64::from(base % GIB) + size <= u64::from(GIB)
 }
 
 /// A machine's RAM, of which the front holds the tables of its endpoints.
@@ -24,7 +46,7 @@ pub(crate) struct RegionSpace {
     pub blocks: u32,
     /// How many endpoints have tables.
     pub endpoints: u32,
-    ghost low: { base ≤ 2 ^ 32 - MOST_RAM },
+    ghost within: { ram_end base blocks ≤ 2 ^ 32 },
     ghost small: { blocks ≤ MOST_BLOCKS },
     ghost few: { endpoints ≤ MOST_ENDPOINTS },
 }
@@ -40,7 +62,7 @@ impl RegionSpace {
         let base = u64::from(self.base);
         Bounds {
             first: base + 4096 * u64::from(self.endpoints * (2 + self.blocks)),
-            end: base + 0x20_0000 * u64::from(self.blocks),
+            end: base + BLOCK * u64::from(self.blocks),
         }
     }
 

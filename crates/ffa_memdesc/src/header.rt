@@ -18,6 +18,9 @@ pub const ENTRY_SIZE: u32 = 16;
 /// Normal memory, write-back, inner shareable.
 pub const NORMAL_MEMORY: u16 = 0x2f;
 
+/// Beside it, that it is non-secure.
+pub const NON_SECURE: u16 = 1 << 6;
+
 /// What a header says, and where the access descriptors stand.
 #[derive(Clone, Copy, PartialEq, Eq)]
 pub struct Header {

@@ -4,13 +4,24 @@
 ghost use Rattle.std.specs.Prelude.{◌≡◌, ◌+◌, ◌^◌, ◌<◌, ◌≤◌, List, ℕ, length, ◌++◌, drop};
 ghost use Rattle.ffa_model.specs.DescriptorPlaces.{header_size};
 ghost use Rattle.ffa_model.specs.SendDescriptor.{page_total};
-ghost use Rattle.ffa_model.specs.ResponseBytes.{flags_of, permissions_of, header_bytes, access_bytes, response_record, response_bytes, response_size};
+ghost use Rattle.ffa_model.specs.ResponseBytes.{attributes_told, flags_of, permissions_of, header_bytes, access_bytes, response_record, response_bytes, response_size};
 ghost use Rattle.ffa_memdesc.specs.Writing.{Wrote};
 
-use crate::header::{ENTRY_SIZE, NORMAL_MEMORY, header_size, told_access_size};
+use crate::header::{ENTRY_SIZE, NON_SECURE, NORMAL_MEMORY, header_size, told_access_size};
 use crate::parts::{write_composite, write_ranges, write_rest};
 use crate::put::{put_u8, put_u16, put_u32, put_u64};
 use ffa_model::{Data, Kind, Response, Rights, Version};
+
+/// Normal memory, and in bit 6 whether it is non-secure.
+fn attributes_told(normal: bool) -> u16
+    ensures { result ≡ attributes_told normal }
+{
+    if normal {
+        NORMAL_MEMORY + NON_SECURE
+    } else {
+        NORMAL_MEMORY
+    }
+}
 
 /// The flags: the kind in bits 4:3, and in bit 0 whether the pages were zeroed.
 fn flags_of(kind: Kind, zero: bool) -> u32
@@ -41,7 +52,7 @@ fn write_header(out: &mut [u8], version: Version, response: &Response)
     ensures { Wrote out.old (header_bytes version (response_record response.now)) (header_size version) out.new }
 {
     put_u16(out, 0, response.sender.0);
-    put_u16(out, 2, NORMAL_MEMORY);
+    put_u16(out, 2, attributes_told(response.normal));
     put_u32(out, 4, flags_of(response.kind, response.zero));
     put_u64(out, 8, response.handle);
     put_u64(out, 16, response.tag);

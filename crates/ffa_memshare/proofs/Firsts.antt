@@ -11,7 +11,7 @@ use Rattle.ffa_model.specs.declared.refusal.Refusal.TheVariants.{DescriptorMalfo
 use Rattle.ffa_model.specs.Calls.{first_refusal}
 use Rattle.ffa_model.specs.MemoryRetrieve.{asking_guards, retrieve_guards}
 use Rattle.ffa_model.specs.MemoryReturn.{holder_guards, relinquish_guards, returned_guards}
-use Rattle.ffa_model.specs.MemorySend.{offer_guards, room_guards, send_guards, record_guards, transfer_guards}
+use Rattle.ffa_model.specs.MemorySend.{offer_guards, room_guards, send_guards, record_guards, transfer_guards, world_guards}
 use Rattle.ffa_model.specs.SendDescriptor.{SendRecord}
 use Rattle.ffa_model.specs.State.{Buffers}
 use Rattle.ffa_model.specs.Transactions.{OpenTransactions, Scene}
@@ -35,6 +35,12 @@ module _ (scene : Scene) (e : ℕ) (x : Transfer) where
   abbrev pub of_offer : SendRecord → List (Bool × Refusal)
   of_offer r = record_guards scene.endpoints scene.ram scene.buffers e r
 
+  abbrev pub of_worlds : SendRecord → List (Bool × Refusal)
+  of_worlds r = world_guards scene.ram scene.normal r
+
+  abbrev of_room : List (Bool × Refusal)
+  of_room = room_guards scene.open_transactions e
+
   -- THE CHECKS OF A SEND
   pub send-transfer : (read : Option SendRecord) (refusal : Refusal) → Some refusal ≡ first_refusal of_transfer → Some refusal ≡ first_refusal (send_guards scene e x read)
   send-transfer read refusal is = first-fail of_transfer (offer_guards scene e read) refusal is
@@ -50,11 +56,14 @@ module _ (scene : Scene) (e : ℕ) (x : Transfer) where
         ∙ ap (λ (o : Option SendRecord). first_refusal (send_guards scene e x o)) (sym is)
 
     pub send-offer : (refusal : Refusal) → Some refusal ≡ first_refusal (of_offer r) → Some refusal ≡ first_refusal (send_guards scene e x read)
-    send-offer refusal first = behind (first-fail (of_offer r) (room_guards scene.open_transactions e) refusal first)
+    send-offer refusal first = behind (first-fail (of_offer r) (of_worlds r ++ of_room) refusal first)
 
-    pub send-room : {first : Option Refusal} → None ≡ first_refusal (of_offer r) → first ≡ first_refusal (room_guards scene.open_transactions e)
+    pub send-worlds : (refusal : Refusal) → None ≡ first_refusal (of_offer r) → Some refusal ≡ first_refusal (of_worlds r) → Some refusal ≡ first_refusal (send_guards scene e x read)
+    send-worlds refusal offered first = behind (first-fail (of_worlds r) of_room refusal first ∙ first-pass (of_offer r) (of_worlds r ++ of_room) offered)
+
+    pub send-room : {first : Option Refusal} → None ≡ first_refusal (of_offer r) → None ≡ first_refusal (of_worlds r) → first ≡ first_refusal of_room
         → first ≡ first_refusal (send_guards scene e x read)
-    send-room offered first = behind (first ∙ first-pass (of_offer r) (room_guards scene.open_transactions e) offered)
+    send-room offered alike first = behind (first ∙ first-pass (of_worlds r) of_room alike ∙ first-pass (of_offer r) (of_worlds r ++ of_room) offered)
 
   -- THE CHECKS OF A RETRIEVE
   pub retrieve-transfer : (read : Option RetrieveDesc) (refusal : Refusal) → Some refusal ≡ first_refusal of_transfer

@@ -4,18 +4,20 @@ use Rattle.ffa_model.specs.Access.{Ownership}
 use Rattle.std.specs.Prelude.{◌≡◌, ℕ, ◌<◌, ◌%◌, Bool, true, false, not, ◌||◌, List, [], ◌∷◌, length, slice_index_or, Option, Some}
 use Rattle.std.specs.List.{list_all, list_any}
 use Rattle.std.specs.Option.{option_map_or}
+use Rattle.ffa_model.specs.declared.endpoint.Region.{Region}
 use Rattle.ffa_model.specs.declared.refusal.Refusal.{Refusal}
 use Rattle.ffa_model.specs.declared.refusal.Refusal.TheVariants.{GrantTooMuch, ZerosUnwritable}
 use Rattle.ffa_model.specs.declared.transaction.Range.{Range}
 use Rattle.ffa_model.specs.declared.transaction.Receiver.{Receiver}
 use Rattle.ffa_model.specs.declared.rights.Kind.{Kind}
 use Rattle.ffa_model.specs.DescriptorPlaces.{Versioned}
-use Rattle.ffa_model.specs.MemorySend.{are_grants_within, transaction_from}
+use Rattle.ffa_model.specs.MemorySend.{are_grants_within, is_told_normal, transaction_from}
 use Rattle.ffa_model.specs.Rights.{may_write}
 use Rattle.ffa_model.specs.SendDescriptor.{SendRecord, is_named, send_of}
 use Rattle.ffa_model.specs.State.{Transaction}
 use Rattle.ffa_model.specs.Transactions.{are_writable, pages_in}
 use Rattle.ffa_pages.specs.Entry.{Entry, entry_at}
+use Rattle.ffa_rxtx.specs.Parts.{ownership_in}
 use Rattle.ffa_memshare.specs.Ranges.{ArePlaced, in_ranges}
 
 -- somebody is granted rw
@@ -41,11 +43,16 @@ pub record IsOwnOffer (table : List (Option Entry)) (base e : ℕ) (r : SendReco
   pub own :
       (p : ℕ) → in_ranges base r.ranges p ≡ true → (x : Entry) × (entry_at table p ≡ Some x) × (x.owner ≡ e)
 
+-- the transaction that a send of this kind opens
+abbrev pub opened_by : List (Option Entry) → ℕ → Option (List Region) → Kind → SendRecord → Transaction
+opened_by table base normal kind offer =
+    transaction_from kind (is_told_normal (ownership_in table base) normal offer.ranges) offer
+
 -- these bytes describe an offer of e's own pages to others, and this is the transaction that it opens
-pub record DescribesOffer (table : List (Option Entry)) (base e : ℕ) (kind : Kind) (bytes : Versioned) (t : Transaction)
-    : Type 0 where
+pub record DescribesOffer (table : List (Option Entry)) (base : ℕ) (normal : Option (List Region)) (e : ℕ) (kind : Kind)
+    (bytes : Versioned) (t : Transaction) : Type 0 where
   pub offer : SendRecord
   pub described : send_of kind bytes ≡ Some offer
-  pub transaction : t ≡ transaction_from kind offer
+  pub transaction : t ≡ opened_by table base normal kind offer
   pub own : IsOwnOffer table base e offer
   pub other : is_named offer.sender offer.receivers ≡ false

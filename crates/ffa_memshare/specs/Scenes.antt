@@ -21,6 +21,7 @@ scene_in parts =
     record {
       endpoints = parts.memory.endpoints;
       ram = ownership_in parts.memory.entries parts.memory.base;
+      normal = parts.memory.normal;
       buffers = parts.buffers;
       open_transactions = open_in parts.pool;
     }

@@ -175,6 +175,7 @@ impl OpenTransaction {
             sender: self.sender,
             kind: self.kind,
             zero: self.zero,
+            normal: self.normal,
             handle: self.handle,
             tag: self.tag,
             endpoint,

@@ -41,6 +41,7 @@ pub struct OpenTransaction {
     pub(crate) sender: EndpointId,
     pub(crate) tag: u64,
     pub(crate) zero: bool,
+    pub(crate) normal: bool,
     pub(crate) ranges: PageRanges,
     pub(crate) receivers: ArrayVec<Receiver, MOST_RECEIVERS>,
     pub(crate) held: Holders,
@@ -70,23 +71,26 @@ impl OpenTransaction {
             sender: EndpointId::MANAGER,
             tag: 0,
             zero: false,
+            normal: false,
             ranges: PageRanges::none(),
             receivers: ArrayVec::new(),
             held: Holders::none(),
         }
     }
 
-    // Becomes what a sender offers with this handle, of which the ranges stand here already.
-    pub(crate) fn offer(&mut self, handle: u64, kind: Kind, offer: &SendDesc)
+    // Becomes what a sender offers with this handle, of memory that is told to be non-secure or isn't. The ranges stand
+    // here already.
+    pub(crate) fn offer(&mut self, handle: u64, kind: Kind, normal: bool, offer: &SendDesc)
         ensures handle { self.new.handle ≡ handle }
         ensures offered { self.old.ranges ≡ offer.now.ranges.items
-            → view_of self.new ≡ transaction_from kind (send_record offer.now) }
+            → view_of self.new ≡ transaction_from kind normal (send_record offer.now) }
     {
         self.handle = handle;
         self.kind = kind;
         self.sender = offer.sender;
         self.tag = offer.tag;
         self.zero = offer.zero;
+        self.normal = normal;
         self.receivers = copy_of(&offer.receivers);
         self.held = Holders::none();
     }
@@ -100,6 +104,7 @@ impl OpenTransaction {
         self.sender = other.sender;
         self.tag = other.tag;
         self.zero = other.zero;
+        self.normal = other.normal;
         self.ranges.fill(&other.ranges);
         self.receivers = copy_of(&other.receivers);
         self.held.fill(&other.held);

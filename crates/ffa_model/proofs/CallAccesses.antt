@@ -22,7 +22,7 @@ use Rattle.ffa_model.specs.Buffers.{filled, filled_pages}
 use Rattle.ffa_model.specs.ResponseBytes.{response_bytes}
 use Rattle.ffa_model.specs.SendDescriptor.{SendRecord}
 use Rattle.ffa_model.specs.Transactions.{closed, handle_of, holding, next_handle, not_holding, open_of, with_open, with_transaction, pages_in}
-use Rattle.ffa_model.specs.MemorySend.{is_sendable, memory_sent, offered_in, transaction_from}
+use Rattle.ffa_model.specs.MemorySend.{is_told_normal, is_sendable, memory_sent, offered_in, transaction_sent}
 use Rattle.ffa_model.specs.MemoryRetrieve.{donated_if, donated_page, response_to, retrieved_right, with_retrieved, taken_in}
 use Rattle.ffa_model.specs.MemoryReturn.{reclaimed, relinquished_from}
 use Rattle.ffa_model.specs.SoundState.{IsKnown, IsSoundState, IsSoundTransaction}
@@ -119,17 +119,17 @@ module _ (s : State) (sound : IsSoundState s) where
   -- the pages that a send names give a right to nobody but a share's sender; others are as they were
   pub send-named : (kind : Kind) (r : SendRecord) (e p : ℕ) → list_all (is_sendable s.runner (ownership_of s) s.buffers) (pages_in (ownership_of s) r.ranges) ≡ true
       → p < length s.pages → names s r.ranges p ≡ true
-      → access (memory_sent s kind (Some r)) e p ≡ unheld_right (transaction_from kind r) e (page_at s p)
+      → access (memory_sent s kind (Some r)) e p ≡ unheld_right (transaction_sent s kind r) e (page_at s p)
   send-named kind r e p free lt named =
-      access-zeroed r.zero (with_open s (offered_in (open_of s) s.runner kind r)) r.ranges e p
-      ∙ access-opened s (next_handle (open_of s) s.runner) (transaction_from kind r) (handle-new s sound s.runner (runner-known s sound)) p named
+      access-zeroed r.zero (with_open s (offered_in (open_of s) s.runner kind (is_told_normal (ownership_of s) s.normal r.ranges) r)) r.ranges e p
+      ∙ access-opened s (next_handle (open_of s) s.runner) (transaction_sent s kind r) (handle-new s sound s.runner (runner-known s sound)) p named
       (sendable-unnamed s s.runner p r.ranges free lt named) e (finite.get-empty nat_cmp e)
 
   pub send-other : (kind : Kind) (r : SendRecord) (e p : ℕ) → p < length s.pages → names s r.ranges p ≡ false
       → access (memory_sent s kind (Some r)) e p ≡ access s e p
   send-other kind r e p lt other =
-      access-zeroed r.zero (with_open s (offered_in (open_of s) s.runner kind r)) r.ranges e p
-      ∙ access-beside s (next_handle (open_of s) s.runner) (transaction_from kind r) (handle-new s sound s.runner (runner-known s sound)) p other (once p lt) e
+      access-zeroed r.zero (with_open s (offered_in (open_of s) s.runner kind (is_told_normal (ownership_of s) s.normal r.ranges) r)) r.ranges e p
+      ∙ access-beside s (next_handle (open_of s) s.runner) (transaction_sent s kind r) (handle-new s sound s.runner (runner-known s sound)) p other (once p lt) e
 
   module _ (h : ℕ) (t : Transaction) (was : transaction_of s h ≡ Some t) (p : ℕ) (lt : p < length s.pages) where
     -- A RECLAIM: the pages are their owner's again

@@ -17,6 +17,7 @@ use Rattle.std.proofs.lemmas.Option.{none-some, same_Some}
 use Rattle.ffa_model.specs.declared.limits.TheConstants.{MOST_ENDPOINTS, MOST_OPEN, MOST_SENDS}
 use Rattle.ffa_model.specs.declared.endpoint.Endpoint.{Endpoint}
 use Rattle.ffa_model.specs.declared.endpoint.Region.{Region}
+use Rattle.ffa_model.specs.declared.manifest.Worlds.{Worlds}
 use Rattle.ffa_model.specs.declared.schedule.Work.{Work}
 use Rattle.ffa_model.specs.Identifiers.{identifier, manager, place}
 use Rattle.ffa_model.specs.Manifest.{is_accepted, is_ram_base}
@@ -75,10 +76,10 @@ none-open =
     ∙ sym (finite.len-entries (finite.empty {X = Transaction} {R = nat_cmp}))
     ∙ finite.len-empty nat_cmp Transaction
 
-module _ (base blocks : ℕ) (es : List Endpoint) (held : ℕ → List ℕ) (good : is_accepted base blocks es ≡ true)
+module _ (worlds : Worlds) (base blocks : ℕ) (es : List Endpoint) (held : ℕ → List ℕ) (good : is_accepted base blocks es ≡ true)
     (whole : (p : ℕ) → p < 512 * blocks → owner_in base es p ≢ manager → (length (held p) ≡ 4096) × are_bytes (held p)) where
   abbrev s : State
-  s = first_held base blocks es held
+  s = first_held worlds base blocks es held
 
   facts : Accepted base blocks es
   facts = accepted base blocks es good
@@ -93,6 +94,8 @@ module _ (base blocks : ℕ) (es : List Endpoint) (held : ℕ → List ℕ) (goo
         some = subst (λ n. 1 ≤ n) (sym (length-map es party_of)) facts.some_endpoints;
         few = subst (λ n. n ≤ MOST_ENDPOINTS) (sym (length-map es party_of)) facts.few_endpoints;
         base = placed;
+        within = (let size = length-listed (512 * blocks) (λ p. page_with_bytes base es p (held p)) in let end = facts.within in omega (arith, size, end));
+        one_table = (let size = length-listed (512 * blocks) (λ p. page_with_bytes base es p (held p)) in let end = facts.one_table in omega (arith, size, end));
         blocks = (blocks, length-listed (512 * blocks) (λ p. page_with_bytes base es p (held p)), facts.some_blocks, facts.few_blocks);
         sent = length-replicate {A = ℕ} (length es) 0 ∙ sym (length-map es party_of);
         buffers = length-replicate {A = Option Buffers} (length es) None ∙ sym (length-map es party_of);
@@ -113,11 +116,11 @@ module _ (base blocks : ℕ) (es : List Endpoint) (held : ℕ → List ℕ) (goo
     where
       of : (o : Option (ℕ × Region)) → find (λ (x : ℕ × Region). has_page base p x.1) (owned_regions es) ≡ o
           → option_map (λ (x : ℕ × Region). let q : Page = record { owner = x.0; own_right = x.1.rights; bytes = held p } in q) o ≡ Some page
-          → IsSoundPage (first_held base blocks es held) page
+          → IsSoundPage (first_held worlds base blocks es held) page
       of None found none = absurd (none-some page none)
       of (Some x) found some =
           let (size, bytes) = whole p inside (found-owner base p es x found) in
-          subst (λ (q : Page). IsSoundPage (first_held base blocks es held) q) (same_Some _ page some)
+          subst (λ (q : Page). IsSoundPage (first_held worlds base blocks es held) q) (same_Some _ page some)
           (record {
             owner = subst (λ n. is_known_among n x.0 ≡ true) (sym (length-map es party_of))
                 (found-known (λ (y : ℕ × Region). has_page base p y.1) (λ (y : ℕ × Region). is_known_among (length es) y.0) (owned_regions es) x (all-known (length es) 0 es (omega arith)) found);
@@ -138,7 +141,7 @@ module _ (base blocks : ℕ) (es : List Endpoint) (held : ℕ → List ℕ) (goo
         parties = parties;
         pages = λ p page is. let (inside, found) = page-first p page is in sound-page p page inside found;
         transactions = λ h t is. absurd (none-at h t is);
-        one = λ p h k lt at_h at_k. absurd (false≢true (sym (ap (λ o. is_naming (first_held base blocks es held) p o) (finite.get-empty nat_cmp h)) ∙ at_h));
+        one = λ p h k lt at_h at_k. absurd (false≢true (sym (ap (λ o. is_naming (first_held worlds base blocks es held) p o) (finite.get-empty nat_cmp h)) ∙ at_h));
         few = λ e known. none-counted (λ (t : Transaction). t.sender == e) _ none-open;
         sent = λ e known. subst (λ n. n ≤ MOST_SENDS) (sym (same-all {X = ℕ} (length es) (place e) 0)) (omega arith);
         buffers = λ e b known is. absurd (none-some b (sym (same-all {X = Option Buffers} (length es) (place e) None) ∙ is));

@@ -1,6 +1,6 @@
 -- SPDX-License-Identifier: MIT OR Apache-2.0
 -- The state stays sound through the changes that calls on memory make to the open transactions.
-use Rattle.std.proofs.Common.{◌≡◌, ◌∙◌, ℕ, ◌+◌, ◌*◌, ◌<◌, ◌≤◌, Bool, true, false, cond, not, List, length, Option, Some, None, refl, sym, ap, subst, arith, inl, inr}
+use Rattle.std.proofs.Common.{◌≡◌, ◌∙◌, ℕ, ◌+◌, ◌*◌, ◌%◌, ◌^◌, ◌<◌, ◌≤◌, Bool, true, false, cond, not, List, length, Option, Some, None, refl, sym, ap, subst, arith, inl, inr}
 use Rattle.std.specs.Prelude.{◌==◌, is_some, if◌then◌else◌}
 use Rattle.std.specs.List.{list_all}
 use Rattle.std.specs.Option.{option_map, option_map_or}
@@ -112,6 +112,8 @@ module _ (s : State) (ranges : List Range) where
               some = sound.sized.some;
               few = sound.sized.few;
               base = sound.sized.base;
+              within = subst (λ n. s.ram_base + 4096 * n ≤ 2 ^ 32) (sym zeros-size) sound.sized.within;
+              one_table = subst (λ n. s.ram_base % 2 ^ 30 + 4096 * n ≤ 2 ^ 30) (sym zeros-size) sound.sized.one_table;
               blocks = (blocks.0, zeros-size ∙ blocks.1, blocks.2, blocks.3);
               sent = sound.sized.sent;
               buffers = sound.sized.buffers;
@@ -172,7 +174,7 @@ module _ (s : State) (sound : IsSoundState s) (h : ℕ) (t : Transaction) (was :
   pub closed-sound : IsSoundState after
   closed-sound =
       record {
-        sized = record { some = sound.sized.some; few = sound.sized.few; base = sound.sized.base; blocks = sound.sized.blocks; sent = sound.sized.sent; buffers = sound.sized.buffers; works = sound.sized.works; bitmaps = sound.sized.bitmaps };
+        sized = record { some = sound.sized.some; few = sound.sized.few; base = sound.sized.base; within = sound.sized.within; one_table = sound.sized.one_table; blocks = sound.sized.blocks; sent = sound.sized.sent; buffers = sound.sized.buffers; works = sound.sized.works; bitmaps = sound.sized.bitmaps };
         parties = sound.parties;
         pages = λ p page is. let good = sound.pages p page is in record { owner = good.owner; size = good.size; bytes = good.bytes };
         transactions = λ k u is. same-transaction s after k u refl (λ p. refl) refl (omega arith) (sound.transactions k u (still k u is));
@@ -255,7 +257,7 @@ module _ (s : State) (sound : IsSoundState s) (h : ℕ) (t : Transaction) (was :
   pub changed-sound : IsSoundState after_change
   changed-sound =
       record {
-        sized = record { some = sound.sized.some; few = sound.sized.few; base = sound.sized.base; blocks = sound.sized.blocks; sent = sound.sized.sent; buffers = sound.sized.buffers; works = sound.sized.works; bitmaps = sound.sized.bitmaps };
+        sized = record { some = sound.sized.some; few = sound.sized.few; base = sound.sized.base; within = sound.sized.within; one_table = sound.sized.one_table; blocks = sound.sized.blocks; sent = sound.sized.sent; buffers = sound.sized.buffers; works = sound.sized.works; bitmaps = sound.sized.bitmaps };
         parties = sound.parties;
         pages = λ p page is. let good = sound.pages p page is in record { owner = good.owner; size = good.size; bytes = good.bytes };
         transactions = each-sound;

@@ -16,7 +16,7 @@ use Rattle.ffa_model.specs.Access.{handle_at, is_naming, is_receiver, names, tra
 use Rattle.ffa_model.specs.Memory.{zeroed_if}
 use Rattle.ffa_model.specs.Buffers.{is_usable}
 use Rattle.ffa_model.specs.Transactions.{ceiling, closed, next_handle, open_of, opened, with_open}
-use Rattle.ffa_model.specs.MemorySend.{memory_sent, transaction_from}
+use Rattle.ffa_model.specs.MemorySend.{memory_sent, transaction_sent}
 use Rattle.ffa_model.specs.MemoryRetrieve.{donated_if, with_retrieved, taken_in}
 use Rattle.ffa_model.specs.MemoryReturn.{reclaimed, relinquished_from}
 use Rattle.ffa_model.specs.SoundState.{IsKnown, IsSoundState}
@@ -44,11 +44,11 @@ handle-none s p none = of (handle_at s p) refl none
     of (Some h) at is = absurd (true≢false (sym (found-passes (is_naming s p) refl s.transactions h at) ∙ ap (is_naming s p) is))
 
 module _ (s : State) (sound : IsSoundState s) where
-  pub offered-sound : (kind : Kind) (r : SendRecord) → r.sender ≡ s.runner → IsSendable s (transaction_from kind r) → IsSoundState (memory_sent s kind (Some r))
+  pub offered-sound : (kind : Kind) (r : SendRecord) → r.sender ≡ s.runner → IsSendable s (transaction_sent s kind r) → IsSoundState (memory_sent s kind (Some r))
   offered-sound kind r same good =
       zeroed-sound r.zero _ r.ranges
-      (subst (λ e. IsSoundState (with_open s (opened (open_of s) (next_handle (open_of s) e) (transaction_from kind r)))) same
-      (opened-sound s sound (transaction_from kind r) good))
+      (subst (λ e. IsSoundState (with_open s (opened (open_of s) (next_handle (open_of s) e) (transaction_sent s kind r)))) same
+      (opened-sound s sound (transaction_sent s kind r) good))
 
   pub relinquished-sound : (d : RelinquishDesc) (t : Transaction) → transaction_of s d.handle ≡ Some t → IsSoundState (relinquished_from s d (Some t))
   relinquished-sound d t was = zeroed-sound d.zero _ t.ranges (released-sound s sound d.handle t was s.runner)

@@ -43,9 +43,9 @@ version-no-error : (known : Bool) → is_error (cond known (replies.Version 0x10
 version-no-error true = refl
 version-no-error false = refl
 
-feature-no-error : (served : Bool) → first_failure ((served, FunctionUnknown) ∷ []) ≡ None → is_error (cond served (success 0 0) (Error NotSupported)) ≡ false
-feature-no-error true none = refl
-feature-no-error false none = absurd (none-some NotSupported (sym none))
+feature-no-error : (properties : ℕ) (served : Bool) → first_failure ((served, FunctionUnknown) ∷ []) ≡ None → is_error (cond served (success properties 0) (Error NotSupported)) ≡ false
+feature-no-error properties true none = refl
+feature-no-error properties false none = absurd (none-some NotSupported (sym none))
 
 -- the bitmap of FFA_NOTIFICATION_SET has 64 bits
 abbrev pub FitsBitmap : Call → Type 0
@@ -81,7 +81,7 @@ a ▸ b = (a, b)
 functions-served : AreServed functions rows
 functions-served =
     (λ w x form. refl, λ w x. refl, λ s w x. (0, refl), λ s w x named none. version-no-error _, λ w x narrow. tt)
-    ▸ (λ w x form. refl, λ w x. refl, λ s w x. (0, refl), λ s w x named none. feature-no-error (is_function (w 1)) none, λ w x narrow. tt)
+    ▸ (λ w x form. refl, λ w x. refl, λ s w x. (0, refl), λ s w x named none. feature-no-error _ (is_function (w 1)) none, λ w x narrow. tt)
     ▸ (λ w x form. refl, λ w x. refl, λ s w x. (0, refl), λ s w x named none. refl, λ w x narrow. tt)
     ▸ (λ w x form. refl, λ w x. refl, λ s w x. (0, refl), λ s w x named none. refl, λ w x narrow. tt)
     ▸ (λ w x form. refl, λ w x. refl, λ s w x. (0, refl), λ s w x named none. refl, λ w x narrow. tt)

@@ -8,6 +8,7 @@ use Rattle.std.specs.Cmp.Lexicographic.{slice_cmp}
 use Rattle.std.specs.FinMap as map
 use Rattle.std.specs.FinSet as finite_set
 use Rattle.std.specs.Coded.{Coded, code_by, coded×, coded_ℕ, coded_bool, coded_list, coded_option}
+use Rattle.ffa_model.specs.declared.endpoint.Region.{Region}
 use Rattle.ffa_model.specs.declared.endpoint.Version.{Version}
 use Rattle.ffa_model.specs.declared.endpoint.Version.TheVariants.{Compact, V1_1}
 use Rattle.ffa_model.specs.declared.rights.Data.{Data}
@@ -122,6 +123,11 @@ coded_page =
 abbrev pub coded_range : Coded Range
 coded_range = code_by (ℕ × ℕ) (coded× coded_ℕ coded_ℕ) (λ r. (r.address, r.pages)) (λ p. record { address = p.0; pages = p.1 }) (λ _. refl)
 
+abbrev pub coded_region : Coded Region
+coded_region =
+    code_by (ℕ × (ℕ × Rights)) (coded× coded_ℕ (coded× coded_ℕ coded_rights)) (λ r. (r.base, (r.pages, r.rights)))
+    (λ p. record { base = p.0; pages = p.1.0; rights = p.1.1 }) (λ _. refl)
+
 abbrev pub coded_receiver : Coded Receiver
 coded_receiver =
     code_by (ℕ × Option Data) (coded× coded_ℕ (coded_option coded_data)) (λ r. (r.endpoint.0, r.grant))
@@ -129,10 +135,10 @@ coded_receiver =
 
 abbrev pub coded_transaction : Coded Transaction
 coded_transaction =
-    code_by (Kind × (ℕ × (ℕ × (Bool × (List Range × (List Receiver × map.FinMap nat_cmp Rights))))))
-    (coded× coded_kind (coded× coded_ℕ (coded× coded_ℕ (coded× coded_bool (coded× (coded_list coded_range) (coded× (coded_list coded_receiver) (map.code coded_ℕ coded_rights)))))))
-    (λ t. (t.kind, (t.sender, (t.tag, (t.zero, (t.ranges, (t.receivers, t.held)))))))
-    (λ p. record { kind = p.0; sender = p.1.0; tag = p.1.1.0; zero = p.1.1.1.0; ranges = p.1.1.1.1.0; receivers = p.1.1.1.1.1.0; held = p.1.1.1.1.1.1 })
+    code_by (Kind × (ℕ × (ℕ × (Bool × (Bool × (List Range × (List Receiver × map.FinMap nat_cmp Rights)))))))
+    (coded× coded_kind (coded× coded_ℕ (coded× coded_ℕ (coded× coded_bool (coded× coded_bool (coded× (coded_list coded_range) (coded× (coded_list coded_receiver) (map.code coded_ℕ coded_rights))))))))
+    (λ t. (t.kind, (t.sender, (t.tag, (t.zero, (t.normal, (t.ranges, (t.receivers, t.held))))))))
+    (λ p. record { kind = p.0; sender = p.1.0; tag = p.1.1.0; zero = p.1.1.1.0; normal = p.1.1.1.1.0; ranges = p.1.1.1.1.1.0; receivers = p.1.1.1.1.1.1.0; held = p.1.1.1.1.1.1.1 })
     (λ _. refl)
 
 abbrev pub coded_buffers : Coded Buffers
@@ -145,22 +151,23 @@ coded_bits = finite_set.code (coded_list coded_ℕ)
 
 abbrev pub coded_state : Coded State
 coded_state =
-    code_by (ℕ × (List Party × (List (Option Page) × (map.FinMap nat_cmp Transaction × (List ℕ × (List (Option Buffers) × (ℕ × (List Status × (List (Option Work) × (List Bool × (finite_set.FinSet (slice_cmp nat_cmp) × finite_set.FinSet (slice_cmp nat_cmp))))))))))))
-    (coded× coded_ℕ (coded× (coded_list coded_party) (coded× (coded_list (coded_option coded_page)) (coded× (map.code coded_ℕ coded_transaction) (coded× (coded_list coded_ℕ) (coded× (coded_list (coded_option coded_buffers)) (coded× coded_ℕ (coded× (coded_list coded_status) (coded× (coded_list (coded_option coded_work)) (coded× (coded_list coded_bool) (coded× coded_bits coded_bits)))))))))))
-    (λ s. (s.ram_base, (s.parties, (s.pages, (s.transactions, (s.sent, (s.buffers, (s.runner, (s.statuses, (s.works, (s.bitmaps, (s.bound, s.pending))))))))))))
+    code_by (ℕ × (List Party × (Option (List Region) × (List (Option Page) × (map.FinMap nat_cmp Transaction × (List ℕ × (List (Option Buffers) × (ℕ × (List Status × (List (Option Work) × (List Bool × (finite_set.FinSet (slice_cmp nat_cmp) × finite_set.FinSet (slice_cmp nat_cmp)))))))))))))
+    (coded× coded_ℕ (coded× (coded_list coded_party) (coded× (coded_option (coded_list coded_region)) (coded× (coded_list (coded_option coded_page)) (coded× (map.code coded_ℕ coded_transaction) (coded× (coded_list coded_ℕ) (coded× (coded_list (coded_option coded_buffers)) (coded× coded_ℕ (coded× (coded_list coded_status) (coded× (coded_list (coded_option coded_work)) (coded× (coded_list coded_bool) (coded× coded_bits coded_bits))))))))))))
+    (λ s. (s.ram_base, (s.parties, (s.normal, (s.pages, (s.transactions, (s.sent, (s.buffers, (s.runner, (s.statuses, (s.works, (s.bitmaps, (s.bound, s.pending)))))))))))))
     (λ p. record {
       ram_base = p.0;
       parties = p.1.0;
-      pages = p.1.1.0;
-      transactions = p.1.1.1.0;
-      sent = p.1.1.1.1.0;
-      buffers = p.1.1.1.1.1.0;
-      runner = p.1.1.1.1.1.1.0;
-      statuses = p.1.1.1.1.1.1.1.0;
-      works = p.1.1.1.1.1.1.1.1.0;
-      bitmaps = p.1.1.1.1.1.1.1.1.1.0;
-      bound = p.1.1.1.1.1.1.1.1.1.1.0;
-      pending = p.1.1.1.1.1.1.1.1.1.1.1;
+      normal = p.1.1.0;
+      pages = p.1.1.1.0;
+      transactions = p.1.1.1.1.0;
+      sent = p.1.1.1.1.1.0;
+      buffers = p.1.1.1.1.1.1.0;
+      runner = p.1.1.1.1.1.1.1.0;
+      statuses = p.1.1.1.1.1.1.1.1.0;
+      works = p.1.1.1.1.1.1.1.1.1.0;
+      bitmaps = p.1.1.1.1.1.1.1.1.1.1.0;
+      bound = p.1.1.1.1.1.1.1.1.1.1.1.0;
+      pending = p.1.1.1.1.1.1.1.1.1.1.1.1;
     })
     (λ _. refl)
 

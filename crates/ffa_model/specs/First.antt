@@ -7,12 +7,13 @@ use Rattle.std.specs.FinMap as map_of
 use Rattle.std.specs.FinSet as finite_set
 use Rattle.ffa_model.specs.declared.endpoint.Region.{Region}
 use Rattle.ffa_model.specs.declared.endpoint.Endpoint.{Endpoint}
+use Rattle.ffa_model.specs.declared.manifest.Worlds.{Worlds}
 use Rattle.ffa_model.specs.declared.schedule.Status.{Status}
 use Rattle.ffa_model.specs.declared.schedule.Status.TheVariants.{Running, Waiting}
 use Rattle.ffa_model.specs.Numbers.{PageIndex}
 use Rattle.ffa_model.specs.Bits.{is_set}
 use Rattle.ffa_model.specs.Lists.{listed}
-use Rattle.ffa_model.specs.Regions.{has_page, owned_regions}
+use Rattle.ffa_model.specs.Regions.{has_page, normal_of, owned_regions, regions_at}
 use Rattle.ffa_model.specs.State.{State, Page, Party}
 
 abbrev pub party_of : Endpoint → Party
@@ -34,11 +35,12 @@ abbrev pub has_first_bitmaps : ℕ × Endpoint → Bool
 has_first_bitmaps endpoint = not (endpoint.0 == 0) && is_set 3 endpoint.1.properties.0
 
 -- all bytes are 0, nothing is open, sent, mapped, bound or pending
-unfoldable pub first : ℕ → ℕ → List Endpoint → State
-first base blocks es =
+unfoldable pub first : Worlds → ℕ → ℕ → List Endpoint → State
+first worlds base blocks es =
     record {
       ram_base = base;
       parties = map party_of es;
+      normal = normal_of worlds (regions_at es 0);
       pages = listed (512 * blocks) (λ p. page_with_bytes base es p (replicate 4096 0));
       transactions = map_of.empty;
       sent = replicate (length es) 0;
@@ -52,6 +54,6 @@ first base blocks es =
     }
 
 -- the same where the pages of regions have these bytes, and not zeros
-abbrev pub first_held : ℕ → ℕ → List Endpoint → (ℕ → List ℕ) → State
-first_held base blocks es held =
-    record (first base blocks es) { pages = listed (512 * blocks) (λ p. page_with_bytes base es p (held p)) }
+abbrev pub first_held : Worlds → ℕ → ℕ → List Endpoint → (ℕ → List ℕ) → State
+first_held worlds base blocks es held =
+    record (first worlds base blocks es) { pages = listed (512 * blocks) (λ p. page_with_bytes base es p (held p)) }

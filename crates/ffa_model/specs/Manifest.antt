@@ -1,8 +1,8 @@
 -- SPDX-License-Identifier: MIT OR Apache-2.0
 -- Which parts make a machine, and where its tables stand.
-use Rattle.std.specs.Prelude.{ℕ, ◌+◌, ◌-◌, ◌*◌, ◌^◌, ◌%◌, ◌==◌, ◌&&◌, ◌||◌, nat_lt, nat_le, not, Bool, true, false, List, [], ◌∷◌, length}
+use Rattle.std.specs.Prelude.{ℕ, ◌+◌, ◌*◌, ◌^◌, ◌%◌, ◌==◌, ◌&&◌, ◌||◌, nat_lt, nat_le, not, Bool, true, false, List, [], ◌∷◌, length}
 use Rattle.std.specs.List.{list_all, flat_map}
-use Rattle.ffa_model.specs.declared.limits.TheConstants.{MOST_BLOCKS, MOST_ENDPOINTS, MOST_RAM, MOST_REGIONS}
+use Rattle.ffa_model.specs.declared.limits.TheConstants.{MOST_BLOCKS, MOST_ENDPOINTS, MOST_REGIONS}
 use Rattle.ffa_model.specs.declared.endpoint.Region.{Region}
 use Rattle.ffa_model.specs.declared.endpoint.Endpoint.{Endpoint}
 use Rattle.ffa_model.specs.Bits.{is_set}
@@ -22,13 +22,21 @@ tables_end base blocks count = root_of base blocks count
 abbrev pub ram_end : ℕ → ℕ → ℕ
 ram_end base blocks = base + 0x200000 * blocks
 
--- a multiple of the largest RAM, but not 0, from which the largest RAM ends at 2^32 at most
+-- where RAM may begin: at a multiple of 2 MiB, but not at 0
 abbrev pub is_ram_base : ℕ → Bool
-is_ram_base base = (base % MOST_RAM == 0 && nat_le MOST_RAM base) && nat_le base (2 ^ 32 - MOST_RAM)
+is_ram_base base = base % 0x200000 == 0 && nat_le 0x200000 base
+
+-- RAM of so many blocks of 2 MiB ends at 2^32 at most, and lies in one GiB, so that one table of level 2 has it
+abbrev pub has_place : ℕ → ℕ → Bool
+has_place base blocks = nat_le (ram_end base blocks) (2 ^ 32) && nat_le (base % 2 ^ 30 + 0x200000 * blocks) (2 ^ 30)
 
 -- between these two, each included
 abbrev pub is_from_to : ℕ → ℕ → ℕ → Bool
 is_from_to least most n = nat_le least n && nat_le n most
+
+-- how many blocks RAM may have from there on
+abbrev pub is_ram_size : ℕ → ℕ → Bool
+is_ram_size base blocks = is_from_to 1 MOST_BLOCKS blocks && has_place base blocks
 
 abbrev pub is_nil : List ℕ → Bool
 is_nil uuid = list_all (λ b. b == 0) uuid
@@ -68,5 +76,5 @@ are_counted es = list_all (λ (e : Endpoint). is_from_to 1 MOST_REGIONS (length 
 -- the conditions of an accepted manifest
 abbrev pub is_accepted : ℕ → ℕ → List Endpoint → Bool
 is_accepted base blocks es =
-    ((is_ram_base base && is_from_to 1 MOST_BLOCKS blocks) && (is_from_to 1 MOST_ENDPOINTS (length es) && are_identified es))
+    ((is_ram_base base && is_ram_size base blocks) && (is_from_to 1 MOST_ENDPOINTS (length es) && are_identified es))
     && (are_counted es && (list_all (is_placed base blocks (length es)) (regions_of es) && are_apart (regions_of es)))

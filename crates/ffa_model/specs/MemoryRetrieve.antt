@@ -72,6 +72,7 @@ response_to h t e right =
       sender = t.sender;
       kind = t.kind;
       zero = t.zero;
+      normal = t.normal;
       handle = h;
       tag = t.tag;
       endpoint = e;

@@ -1,12 +1,13 @@
 -- SPDX-License-Identifier: MIT OR Apache-2.0
 -- FFA_MEM_DONATE, FFA_MEM_LEND and FFA_MEM_SHARE (DEN0077A, 5 and 16).
-use Rattle.std.specs.Prelude.{ℕ, ◌+◌, ◌*◌, ◌==◌, Bool, true, false, not, ◌&&◌, ◌||◌, nat_lt, nat_le, is_some, List, [], ◌∷◌, ◌++◌, take, Option, Some, None}
+use Rattle.std.specs.Prelude.{ℕ, ◌+◌, ◌*◌, ◌==◌, Bool, true, false, not, ◌&&◌, ◌||◌, nat_lt, nat_le, is_none, is_some, List, [], ◌∷◌, ◌++◌, take, Option, Some, None}
 use Rattle.std.specs.List.{list_any, list_all}
 use Rattle.std.specs.Option.{option_map_or}
 use Rattle.std.specs.FinMap as map
 use Rattle.ffa_model.specs.declared.limits.TheConstants.{MOST_OPEN, MOST_SENDS}
+use Rattle.ffa_model.specs.declared.endpoint.Region.{Region}
 use Rattle.ffa_model.specs.declared.refusal.Refusal.{Refusal}
-use Rattle.ffa_model.specs.declared.refusal.Refusal.TheVariants.{DescriptorMalformed, SenderIsAnother, ReceiverUnknown, RangeOutside, PageUnsendable, GrantTooMuch, ZerosUnwritable, TransactionsFull, HandlesUsedUp, BuffersMissing, Fragmented, DescriptorTooLong, BufferAddressGiven, BufferPagesGiven}
+use Rattle.ffa_model.specs.declared.refusal.Refusal.TheVariants.{DescriptorMalformed, SenderIsAnother, ReceiverUnknown, RangeOutside, PageUnsendable, GrantTooMuch, ZerosUnwritable, TransactionsFull, HandlesUsedUp, BuffersMissing, Fragmented, DescriptorTooLong, BufferAddressGiven, BufferPagesGiven, WorldsMixed}
 use Rattle.ffa_model.specs.declared.call.Reply.{Reply}
 use Rattle.ffa_model.specs.declared.call.Reply.TheVariants.{Sent}
 use Rattle.ffa_model.specs.declared.rights.Data.{Data}
@@ -16,14 +17,15 @@ use Rattle.ffa_model.specs.declared.transaction.Range.{Range}
 use Rattle.ffa_model.specs.declared.transaction.Receiver.{Receiver}
 use Rattle.ffa_model.specs.Numbers.{HandleNumber, Identifier, PageIndex}
 use Rattle.ffa_model.specs.Lists.{is_in_run}
+use Rattle.ffa_model.specs.Regions.{is_normal}
 use Rattle.ffa_model.specs.Rights.{is_data_at_most}
 use Rattle.ffa_model.specs.State.{State, Transaction, Buffers, is_known_among, version_of}
-use Rattle.ffa_model.specs.Access.{Ownership}
+use Rattle.ffa_model.specs.Access.{Ownership, ownership_of}
 use Rattle.ffa_model.specs.Memory.{zeroed_if}
 use Rattle.ffa_model.specs.Buffers.{buffers_in, is_own, room_of}
 use Rattle.ffa_model.specs.Messages.{tx_bytes}
 use Rattle.ffa_model.specs.DescriptorPlaces.{Versioned, in_version}
-use Rattle.ffa_model.specs.SendDescriptor.{SendRecord, send_of, range_end}
+use Rattle.ffa_model.specs.SendDescriptor.{SendRecord, is_named, send_of, range_end}
 use Rattle.ffa_model.specs.declared.call.Transfer.{Transfer}
 use Rattle.ffa_model.specs.Transactions.{OpenTransactions, Scene, sends_of, next_handle, open_count, opened, pages_in, are_writable, open_of, scene_of, with_open}
 use Rattle.ffa_model.specs.Calls.{Service}
@@ -72,6 +74,26 @@ record_guards endpoints ram buffers e send =
     ∷ (not send.zero || are_writable ram send.ranges, ZerosUnwritable)
     ∷ []
 
+-- whether all pages that the ranges name are non-secure, and whether none is
+abbrev pub are_normal : Ownership → Option (List Region) → List Range → Bool
+are_normal ram normal ranges = list_all (is_normal ram.base normal) (pages_in ram ranges)
+
+abbrev pub are_secure : Ownership → Option (List Region) → List Range → Bool
+are_secure ram normal ranges = list_all (λ p. not (is_normal ram.base normal p)) (pages_in ram ranges)
+
+-- memory that is told to be non-secure
+abbrev pub is_told_normal : Ownership → Option (List Region) → List Range → Bool
+is_told_normal ram normal ranges = is_some normal && are_normal ram normal ranges
+
+-- where worlds are told apart: pages of one world alone, and secure ones not to the normal world
+abbrev pub is_of_one_world : Ownership → Option (List Region) → SendRecord → Bool
+is_of_one_world ram normal send =
+    is_none normal || are_normal ram normal send.ranges
+    || (are_secure ram normal send.ranges && not (is_named 0 send.receivers))
+
+abbrev pub world_guards : Ownership → Option (List Region) → SendRecord → List (Bool × Refusal)
+world_guards ram normal send = (is_of_one_world ram normal send, WorldsMixed) ∷ []
+
 -- the checks of room for one more transaction
 abbrev pub room_guards : OpenTransactions → Identifier → List (Bool × Refusal)
 room_guards open_transactions e =
@@ -82,28 +104,30 @@ room_guards open_transactions e =
 abbrev pub offer_guards : Scene → Identifier → Option SendRecord → List (Bool × Refusal)
 offer_guards scene e None = (false, DescriptorMalformed) ∷ []
 offer_guards scene e (Some send) =
-    record_guards scene.endpoints scene.ram scene.buffers e send ++ room_guards scene.open_transactions e
+    record_guards scene.endpoints scene.ram scene.buffers e send
+    ++ (world_guards scene.ram scene.normal send ++ room_guards scene.open_transactions e)
 
 -- the checks of a send by e in order, with what the descriptor says
 abbrev pub send_guards : Scene → Identifier → Transfer → Option SendRecord → List (Bool × Refusal)
 send_guards scene e transfer send = transfer_guards scene.buffers e transfer ++ offer_guards scene e send
 
--- the transaction that a send opens: nobody holds it
-abbrev pub transaction_from : Kind → SendRecord → Transaction
-transaction_from kind send =
+-- the transaction that a send opens, of memory that is told to be non-secure or isn't: nobody holds it
+abbrev pub transaction_from : Kind → Bool → SendRecord → Transaction
+transaction_from kind normal send =
     record {
       kind = kind;
       sender = send.sender;
       tag = send.tag;
       zero = send.zero;
+      normal = normal;
       ranges = send.ranges;
       receivers = send.receivers;
       held = map.empty;
     }
 
 -- what is open after a send by e
-abbrev pub offered_in : OpenTransactions → Identifier → Kind → SendRecord → OpenTransactions
-offered_in o e kind send = opened o (next_handle o e) (transaction_from kind send)
+abbrev pub offered_in : OpenTransactions → Identifier → Kind → Bool → SendRecord → OpenTransactions
+offered_in o e kind normal send = opened o (next_handle o e) (transaction_from kind normal send)
 
 -- the handle's low half in w2, and its high half in w3
 abbrev pub handle_reply : HandleNumber → Reply
@@ -118,10 +142,16 @@ descriptor_in s total = in_version (version_of s s.runner) (take total (tx_bytes
 abbrev pub send_read : State → Kind → ℕ → Option SendRecord
 send_read s kind total = send_of kind (descriptor_in s total)
 
+-- what the runner's send opens
+abbrev pub transaction_sent : State → Kind → SendRecord → Transaction
+transaction_sent s kind send = transaction_from kind (is_told_normal (ownership_of s) s.normal send.ranges) send
+
 abbrev pub memory_sent : State → Kind → Option SendRecord → State
 memory_sent s kind None = s
 memory_sent s kind (Some send) =
-    zeroed_if send.zero (with_open s (offered_in (open_of s) s.runner kind send)) send.ranges
+    zeroed_if send.zero
+    (with_open s (offered_in (open_of s) s.runner kind (is_told_normal (ownership_of s) s.normal send.ranges) send))
+    send.ranges
 
 abbrev pub memory_send : State → Kind → Transfer → Service
 memory_send s kind transfer =

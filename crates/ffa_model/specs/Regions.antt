@@ -1,12 +1,14 @@
 -- SPDX-License-Identifier: MIT OR Apache-2.0
 -- The pages of regions.
-use Rattle.std.specs.Prelude.{ℕ, zero, suc, ◌+◌, ◌*◌, Bool, ◌&&◌, nat_le, nat_lt, List, [], ◌∷◌, map, find, Option}
+use Rattle.std.specs.Prelude.{ℕ, zero, suc, ◌+◌, ◌*◌, Bool, false, ◌&&◌, nat_le, nat_lt, List, [], ◌∷◌, map, find, Option, Some, None, is_some}
 use Rattle.std.specs.List.{enumerate_from, flat_map}
 use Rattle.ffa_model.specs.Numbers.{PageIndex}
 use Rattle.ffa_model.specs.Identifiers.{manager, identifier}
 use Rattle.std.specs.Option.{option_map, option_map_or}
 use Rattle.ffa_model.specs.declared.endpoint.Region.{Region}
 use Rattle.ffa_model.specs.declared.endpoint.Endpoint.{Endpoint}
+use Rattle.ffa_model.specs.declared.manifest.Worlds.{Worlds}
+use Rattle.ffa_model.specs.declared.manifest.Worlds.TheVariants.{One, Two}
 use Rattle.ffa_model.specs.declared.rights.Rights.{Rights}
 
 -- whether page p of the RAM at an address is one of the region's
@@ -37,3 +39,13 @@ owner_in base es p =
 -- each endpoint's regions, in the endpoints' order
 abbrev pub regions_of_each : List Endpoint → List (List Region)
 regions_of_each es = map (λ (e : Endpoint). e.regions.items) es
+
+-- where worlds are told apart, the regions of non-secure memory: these, which are the normal world's
+abbrev pub normal_of : Worlds → List Region → Option (List Region)
+normal_of One rs = None
+normal_of Two rs = Some rs
+
+-- whether a page is non-secure, where worlds are told apart
+abbrev pub is_normal : ℕ → Option (List Region) → PageIndex → Bool
+is_normal base None p = false
+is_normal base (Some rs) p = is_some (right_in base rs p)

@@ -18,6 +18,7 @@ pub record ResponseRecord : Type 0 where
   pub sender : Identifier
   pub kind : Kind
   pub zero : Bool
+  pub normal : Bool
   pub handle : ℕ
   pub tag : ℕ
   pub endpoint : ℕ
@@ -30,6 +31,7 @@ response_record response =
       sender = response.sender.0;
       kind = response.kind;
       zero = response.zero;
+      normal = response.normal;
       handle = response.handle;
       tag = response.tag;
       endpoint = response.endpoint.0;
@@ -45,6 +47,10 @@ le n x = little_bytes n x
 abbrev pub flags_of : Kind → Bool → ℕ
 flags_of kind zero = 8 * kind_code (Some kind) + (if zero then 1 else 0)
 
+-- normal memory; bit 6 says that it is non-secure
+abbrev pub attributes_told : Bool → ℕ
+attributes_told normal = normal_memory + (if normal then 64 else 0)
+
 -- the array's place, and zeros, where the header tells it
 abbrev pub rest_bytes : Version → List ℕ
 rest_bytes Compact = []
@@ -54,7 +60,7 @@ rest_bytes V1_1 = le 4 48 ++ le 4 0 ++ le 8 0
 abbrev pub header_bytes : Version → ResponseRecord → List ℕ
 header_bytes version response =
     le 2 response.sender
-    ++ le 2 normal_memory
+    ++ le 2 (attributes_told response.normal)
     ++ le 4 (flags_of response.kind response.zero)
     ++ le 8 response.handle
     ++ le 8 response.tag

@@ -4,6 +4,7 @@ use Rattle.byteorder.specs.Endian.{little_bytes}
 use Rattle.std.specs.Prelude.{ℕ, ◌+◌, ◌==◌, Bool, true, false, not, ◌&&◌, ◌||◌, List, [], ◌∷◌, ◌++◌, length, replicate, is_some, if◌then◌else◌}
 use Rattle.std.specs.Str.{bytes_eq}
 use Rattle.std.specs.List.{filter, flat_map, enumerate_from}
+use Rattle.ffa_model.specs.declared.function.TheConstants.{FFA_MEM_RETRIEVE_REQ, FFA_MEM_RETRIEVE_REQ_64}
 use Rattle.ffa_model.specs.declared.endpoint.Version as versions
 use Rattle.ffa_model.specs.declared.endpoint.Version.TheVariants.{Compact, V1_1}
 use Rattle.ffa_model.specs.declared.operation.ErrorCode.TheVariants.{NotSupported}
@@ -23,14 +24,19 @@ abbrev pub version_reply : ℕ → Reply
 version_reply version =
     if not (is_set 31 version) && bits 30 16 version == 1 then Version 0x10001 else Version 0xFFFFFFFF
 
-abbrev pub features_reply : ℕ → Reply
-features_reply function = if is_function function then success 0 0 else Error NotSupported
+-- bit 1 of what is told of FFA_MEM_RETRIEVE_REQ says that its response tells non-secure memory
+abbrev pub feature_properties : Bool → ℕ → ℕ
+feature_properties is_told function = if is_told && (function == FFA_MEM_RETRIEVE_REQ || function == FFA_MEM_RETRIEVE_REQ_64) then 2 else 0
+
+abbrev pub features_reply : Bool → ℕ → Reply
+features_reply is_told function =
+    if is_function function then success (feature_properties is_told function) 0 else Error NotSupported
 
 abbrev pub features_guards : ℕ → List (Bool × Refusal)
 features_guards function = (is_function function, FunctionUnknown) ∷ []
 
 abbrev pub features : State → ℕ → Service
-features s function = record (replying s (features_reply function)) { guards = features_guards function }
+features s function = record (replying s (features_reply (is_some s.normal) function)) { guards = features_guards function }
 
 abbrev pub id_reply : State → Reply
 id_reply s = success s.runner 0

@@ -1,6 +1,6 @@
 -- SPDX-License-Identifier: MIT OR Apache-2.0
 -- What a sound state is: the first state is one, and each operation keeps it so.
-use Rattle.std.specs.Prelude.{◌≡◌, ◌<◌, ◌≤◌, ℕ, ◌*◌, ◌^◌, true, nat_lt, List, length, Some, None, slice_get}
+use Rattle.std.specs.Prelude.{◌≡◌, ◌<◌, ◌≤◌, ℕ, ◌+◌, ◌*◌, ◌%◌, ◌^◌, true, nat_lt, List, length, Some, None, slice_get}
 use Rattle.std.specs.List.{list_all}
 use Rattle.std.specs.FinSet as finite_set
 use Rattle.ffa_model.specs.declared.limits.TheConstants.{MOST_BLOCKS, MOST_BUFFER_PAGES, MOST_ENDPOINTS, MOST_OPEN, MOST_RANGES, MOST_SENDS}
@@ -94,11 +94,13 @@ pub record IsSoundPending (s : State) (entry : List ℕ) : Type 0 where
   pub in_word : bit < 64
   pub bound : class < manager_class → (sender : ℕ) × (is_bound (notifications_of s) receiver class bit sender ≡ true)
 
--- from one endpoint to as many as there may be, 2 to 64 MiB of RAM, and a list by endpoint for each of them
+-- from one endpoint to as many as there may be, 2 to 64 MiB of RAM in one GiB, and a list by endpoint for each of them
 pub record IsSized (s : State) : Type 0 where
   pub some : 1 ≤ length s.parties
   pub few : length s.parties ≤ MOST_ENDPOINTS
   pub base : is_ram_base s.ram_base ≡ true
+  pub within : s.ram_base + 4096 * length s.pages ≤ 2 ^ 32
+  pub one_table : s.ram_base % 2 ^ 30 + 4096 * length s.pages ≤ 2 ^ 30
   pub blocks : (n : ℕ) × (length s.pages ≡ 512 * n) × (1 ≤ n) × (n ≤ MOST_BLOCKS)
   pub sent : length s.sent ≡ length s.parties
   pub buffers : length s.buffers ≡ length s.parties

@@ -8,6 +8,7 @@ use Rattle.std.specs.FinMap as map
 use Rattle.std.specs.FinSet as finite_set
 use Rattle.ffa_model.specs.declared.endpoint.Version.{Version}
 use Rattle.ffa_model.specs.declared.endpoint.Version.TheVariants.{V1_1}
+use Rattle.ffa_model.specs.declared.endpoint.Region.{Region}
 use Rattle.ffa_model.specs.declared.rights.Rights.{Rights}
 use Rattle.ffa_model.specs.declared.rights.Kind.{Kind}
 use Rattle.ffa_model.specs.declared.transaction.Range.{Range}
@@ -37,6 +38,7 @@ pub record Transaction : Type 0 where
   pub sender : Identifier
   pub tag : ℕ
   pub zero : Bool
+  pub normal : Bool  -- whether its memory is told to be non-secure
   pub ranges : List Range
   pub receivers : List Receiver
   pub held : map.FinMap nat_cmp Rights  -- by endpoint
@@ -52,6 +54,7 @@ pub record Buffers : Type 0 where
 pub record State : Type 0 where
   pub ram_base : ℕ
   pub parties : List Party  -- by endpoint
+  pub normal : Option (List Region)  -- of non-secure memory, where worlds are told apart
   pub pages : List (Option Page)  -- by page; None is a page of the manager
   pub transactions : map.FinMap nat_cmp Transaction  -- by handle
   pub sent : List ℕ  -- by endpoint, how many sends it has made

@@ -6,6 +6,7 @@ use Rattle.std.specs.Ordering.{nat_cmp}
 use Rattle.std.specs.List.{list_all}
 use Rattle.std.specs.Option.{option_and_then}
 use Rattle.std.specs.FinMap as map
+use Rattle.ffa_model.specs.declared.endpoint.Region.{Region}
 use Rattle.ffa_model.specs.declared.rights.Data.{Data}
 use Rattle.ffa_model.specs.declared.rights.Data.TheVariants.{Ro, Rw}
 use Rattle.ffa_model.specs.declared.rights.Rights.{Rights}
@@ -26,10 +27,12 @@ pub record OpenTransactions : Type 0 where
   pub transactions : map.FinMap nat_cmp Transaction  -- by handle
   pub sent : List ℕ  -- by endpoint
 
--- what the checks read beside the call: the number of endpoints, RAM, the buffers, and what is open
+-- what the checks read beside the call: the number of endpoints, RAM and which of it is non-secure, the buffers, and what is
+-- open
 pub record Scene : Type 0 where
   pub endpoints : ℕ
   pub ram : Ownership
+  pub normal : Option (List Region)
   pub buffers : List (Option Buffers)
   pub open_transactions : OpenTransactions
 
@@ -107,6 +110,7 @@ scene_of s =
     record {
       endpoints = length s.parties;
       ram = ownership_of s;
+      normal = s.normal;
       buffers = s.buffers;
       open_transactions = open_of s;
     }

@@ -62,6 +62,8 @@ pub struct Response {
     pub kind: Kind,
     /// Whether the pages were zeroed before they were offered.
     pub zero: bool,
+    /// Whether the pages are told to be non-secure.
+    pub normal: bool,
     pub handle: u64,
     pub tag: u64,
     /// The caller.

@@ -5,7 +5,7 @@
 // A machine in its own room (`Inline`) grows by 4 bytes for each page. `bench/larger-ram` tries 512.
 pub const MOST_BLOCKS: u32 = 32;
 
-/// The most bytes of RAM, of which RAM's base is a multiple.
+/// The most bytes of RAM, of which its base is a multiple in a manifest's text.
 pub const MOST_RAM: u64 = 0x20_0000 * MOST_BLOCKS as u64;
 
 /// The most pages of RAM.

@@ -1,9 +1,10 @@
 // SPDX-License-Identifier: MIT OR Apache-2.0
 //! The manifest of a machine.
-ghost use Rattle.std.specs.Prelude.{true, ◌≡◌, ℕ, ◌+◌, ◌*◌, ◌<◌, ◌≤◌, All, length, map};
+ghost use Rattle.std.specs.Prelude.{true, ◌≡◌, ℕ, ◌+◌, ◌*◌, ◌<◌, ◌≤◌, All, is_some, length, map};
+ghost use Rattle.ffa_model.specs.declared.manifest.Worlds.TheVariants.{One};
 ghost use Rattle.ffa_model.specs.First.{party_of};
 ghost use Rattle.ffa_model.specs.Manifest.{is_accepted, root_of};
-ghost use Rattle.ffa_model.specs.Regions.{has_page, right_in, regions_at, owned_regions, owner_in};
+ghost use Rattle.ffa_model.specs.Regions.{has_page, right_in, regions_at, normal_of, owned_regions, owner_in};
 ghost use Rattle.ffa_model.specs.State.{is_known_among, version_among};
 ghost use Rattle.ffa_model.specs.Endpoints.{have_uuids};
 
@@ -11,6 +12,17 @@ use crate::endpoint::{Address, Endpoint, EndpointId, PageNo, Version, regions_un
 use crate::limits::MOST_ENDPOINTS;
 use crate::rights::Rights;
 use arrayvec::ArrayVec;
+
+/// Whether a machine tells non-secure memory from secure memory (DEN0077A, 5 and 16).
+#[derive(Clone, Copy, Debug, PartialEq, Eq, Default)]
+pub enum Worlds {
+    /// All memory is alike, and no answer says whose it is.
+    #[default]
+    One,
+    /// Memory of the normal world's regions is non-secure, and so told to who retrieves it; all other memory is secure, and
+    /// not sent to the normal world.
+    Two,
+}
 
 /// A machine's RAM and endpoints, which meet the conditions of an accepted manifest: the RAM's place and size, the
 /// count of endpoints, and of each endpoint its UUID, its properties and its regions, which lie behind the table pages
@@ -23,11 +35,13 @@ pub struct Manifest {
     pub ram_blocks: u32,
     /// The normal world, then the partitions in the order of their identifiers.
     pub endpoints: ArrayVec<Endpoint, MOST_ENDPOINTS>,
+    /// Whether the machine tells the worlds' memory apart.
+    pub worlds: Worlds,
     pub ghost accepted: { is_accepted ram_base.0 ram_blocks endpoints.items ≡ true },
 }
 
 impl Manifest {
-    /// The manifest of these parts.
+    /// The manifest of these parts, whose machine doesn't tell worlds apart.
     pub fn of(
         ram_base: Address,
         ram_blocks: u32,
@@ -37,12 +51,39 @@ impl Manifest {
         ensures base { result.ram_base ≡ ram_base }
         ensures blocks { result.ram_blocks ≡ ram_blocks }
         ensures endpoints { result.endpoints.items ≡ endpoints.items }
+        ensures worlds { result.worlds ≡ One }
     {
         Manifest {
             ram_base,
             ram_blocks,
             endpoints,
+            worlds: Worlds::One,
         }
+    }
+
+    /// The same manifest, whose machine tells worlds apart, or doesn't.
+    pub fn with_worlds(self, worlds: Worlds) -> Manifest
+        ensures { result ≡ record self { worlds = worlds } }
+    {
+        let Manifest {
+            ram_base,
+            ram_blocks,
+            endpoints,
+            worlds: _,
+        } = self;
+        Manifest {
+            ram_base,
+            ram_blocks,
+            endpoints,
+            worlds,
+        }
+    }
+
+    /// Whether its machine tells worlds apart.
+    pub fn tells_worlds(&self) -> bool
+        ensures { result ≡ is_some (normal_of self.now.worlds (regions_at self.now.endpoints.items 0)) }
+    {
+        self.worlds == Worlds::Two
     }
 
     /// The address of an endpoint's level 1 table, by the endpoint's place in the manifest, from 0.
@@ -110,6 +151,6 @@ impl Manifest {
         for endpoint in self.endpoints.as_slice() {
             endpoints.push(endpoint.copy());
         }
-        Manifest::of(self.ram_base, self.ram_blocks, endpoints)
+        Manifest::of(self.ram_base, self.ram_blocks, endpoints).with_worlds(self.worlds)
     }
 }

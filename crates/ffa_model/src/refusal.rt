@@ -165,6 +165,9 @@ pub enum Refusal {
     NotTheSenders,
     /// A receiver holds the transaction.
     StillHeld,
+    // Where worlds are told apart.
+    /// Secure pages are sent to the normal world, or together with non-secure ones.
+    WorldsMixed,
 }
 
 macro_rules! words {
@@ -248,6 +251,7 @@ pub const WORDS: &[(Refusal, &str)] = &words![
     ZerosNotAllowed "zeros are asked of memory that is not lent to the caller to write to";
     NotTheSenders "no open transaction of the caller has the handle";
     StillHeld "a receiver holds the transaction";
+    WorldsMixed "secure pages are sent to the normal world, or together with non-secure ones";
 ];
 
 impl Refusal {
@@ -293,6 +297,7 @@ impl Refusal {
             Refusal::NotHeld => ErrorCode::Denied,
             Refusal::ZerosNotAllowed => ErrorCode::Denied,
             Refusal::StillHeld => ErrorCode::Denied,
+            Refusal::WorldsMixed => ErrorCode::Denied,
             _ => ErrorCode::InvalidParameters,
         }
     }

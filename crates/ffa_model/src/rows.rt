@@ -22,8 +22,8 @@ macro_rules! rows {
 // Of FFA_MEM_DONATE, FFA_MEM_LEND and FFA_MEM_SHARE.
 const SEND: &[Refusal] = checks!([
     BuffersMissing Fragmented DescriptorTooLong BufferAddressGiven BufferPagesGiven DescriptorMalformed
-    SenderIsAnother ReceiverUnknown RangeOutside PageUnsendable GrantTooMuch ZerosUnwritable TransactionsFull
-    HandlesUsedUp
+    SenderIsAnother ReceiverUnknown RangeOutside PageUnsendable GrantTooMuch ZerosUnwritable WorldsMixed
+    TransactionsFull HandlesUsedUp
 ]);
 
 /// The calls, in the order of the definition's table.

@@ -3,13 +3,17 @@
 ghost use Rattle.std.specs.Prelude.{◌≡◌};
 ghost use Rattle.std.specs.Result.{result_err};
 ghost use Rattle.ffa_model.specs.Calls.{first_refusal, success};
-ghost use Rattle.ffa_model.specs.Setup.{version_reply, features_guards, features_reply, spm_id_reply};
+ghost use Rattle.ffa_model.specs.Setup.{version_reply, feature_properties, features_guards, features_reply, spm_id_reply};
 
 use ffa_abi::is_function;
+use ffa_model::function::{FFA_MEM_RETRIEVE_REQ, FFA_MEM_RETRIEVE_REQ_64};
 use ffa_model::{EndpointId, Refusal, Reply};
 
 /// The version that is implemented: the major number in bits 30:16 and the minor one below.
 const VERSION: u32 = 0x0001_0001;
+
+/// What FFA_FEATURES says of a retrieve whose response tells non-secure memory.
+const TELLS_WORLDS: u32 = 2;
 
 /// NOT_SUPPORTED as FFA_VERSION answers it, as 32 bits of two's complement.
 const NO_VERSION: u32 = 0xFFFF_FFFF;
@@ -26,14 +30,26 @@ pub fn version(version: u32) -> Reply
     }
 }
 
-/// FFA_FEATURES (DEN0077A, 13), by the identifier of a call in either form: whether there is such a call. No call has
-/// further properties.
-pub fn features(function: u32) -> Reply
-    ensures { result ≡ features_reply function }
+/// FFA_FEATURES (DEN0077A, 13), by the identifier of a call in either form: whether there is such a call, and of
+/// FFA_MEM_RETRIEVE_REQ whether its response tells non-secure memory, as it does where worlds are told apart. No other
+/// call has further properties.
+pub fn features(function: u32, tells_worlds: bool) -> Reply
+    ensures { result ≡ features_reply tells_worlds function }
 {
     match check_features(function) {
-        Ok(()) => Reply::Success([0; 6]),
+        Ok(()) => Reply::Success([properties(function, tells_worlds), 0, 0, 0, 0, 0]),
         Err(refusal) => Reply::Error(refusal.code()),
+    }
+}
+
+// The properties of a call.
+fn properties(function: u32, tells_worlds: bool) -> u32
+    ensures { result ≡ feature_properties tells_worlds function }
+{
+    if tells_worlds && (function == FFA_MEM_RETRIEVE_REQ || function == FFA_MEM_RETRIEVE_REQ_64) {
+        TELLS_WORLDS
+    } else {
+        0
     }
 }
 

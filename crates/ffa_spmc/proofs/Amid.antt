@@ -7,7 +7,7 @@ use Rattle.std.proofs.lemmas.Bool.{cases_lt, false≢true}
 use Rattle.std.proofs.lemmas.Bool.Decides.{nat_tests}
 use Rattle.std.proofs.Math.Nat.{mul-le-mul_right}
 use Rattle.ffa_model.specs.declared.leaf.Leaf.{Leaf}
-use Rattle.ffa_model.specs.declared.limits.TheConstants.{MOST_ENDPOINTS, MOST_RAM}
+use Rattle.ffa_model.specs.declared.limits.TheConstants.{MOST_ENDPOINTS}
 use Rattle.ffa_model.specs.declared.rights.Rights.{Rights}
 use Rattle.ffa_model.specs.Access.{access, right_of, transaction_at}
 use Rattle.ffa_model.specs.Agreement.{Agrees, blocks_of}
@@ -59,13 +59,16 @@ room-of s ram sound agrees =
     let place : ram.base ≡ s.ram_base = agrees.place in
     let most : length s.parties ≤ MOST_ENDPOINTS = sound.sized.few in
     let ok = sound.sized.base in
-    let aligned : s.ram_base % MOST_RAM ≡ 0 = grind (arith, nat_tests, ok) in
-    let high : s.ram_base ≤ 2 ^ 32 - MOST_RAM = grind (arith, nat_tests, ok) in
+    let aligned : s.ram_base % 0x200000 ≡ 0 = grind (arith, nat_tests, ok) in
+    let high : s.ram_base + 4096 * length s.pages ≤ 2 ^ 32 = sound.sized.within in
+    let one : s.ram_base % 2 ^ 30 + 4096 * length s.pages ≤ 2 ^ 30 = sound.sized.one_table in
+    let same_one : ram.base % 2 ^ 30 ≡ s.ram_base % 2 ^ 30 = ap (λ (c : ℕ). c % 2 ^ 30) place in
     let rows : length s.parties * (2 + k) ≤ MOST_ENDPOINTS * (2 + k) = mul-le-mul_right (2 + k) most in
     record {
-      place = subst (λ (c : ℕ). c % MOST_RAM ≡ 0) (sym place) aligned;
+      place = subst (λ (c : ℕ). c % 0x200000 ≡ 0) (sym place) aligned;
+      one_table = omega (arith, blocks, size, same_one, one);
       few = omega (arith, blocks, few);
-      within = omega (arith, blocks, few, place, high);
+      within = omega (arith, blocks, size, place, high);
       size = agrees.size ∙ size ∙ ap (λ (x : ℕ). 512 * x) (sym blocks);
       room = subst (λ (x : ℕ). length s.parties * table_pages x ≤ 512 * x) (sym blocks) (omega (arith, rows, some));
     }

@@ -18,7 +18,7 @@ use Rattle.ffa_model.specs.declared.manifest.Manifest.{Manifest}
 use Rattle.ffa_model.specs.Lists.{listed}
 use Rattle.ffa_model.specs.Manifest.{table_pages}
 use Rattle.ffa_model.specs.Ram.{Ram, page_of, zero_ram}
-use Rattle.ffa_model.specs.Regions.{has_page, owned_regions, regions_at, regions_of_each, right_in as right_among}
+use Rattle.ffa_model.specs.Regions.{normal_of, has_page, owned_regions, regions_at, regions_of_each, right_in as right_among}
 use Rattle.ffa_model.specs.State.{State, Page, page_at}
 use Rattle.ffa_model.specs.First.{first, first_held, has_first_bitmaps, page_with_bytes}
 use Rattle.ffa_model.specs.RunStates.{first_schedule}
@@ -29,7 +29,7 @@ use Rattle.ffa_model.proofs.FirstSound.{zeros-bytes}
 use Rattle.ffa_model.proofs.Slots.{entries_in}
 use Rattle.ffa_stage2.specs.declared.layout.Layout.{Layout}
 use Rattle.ffa_stage2.specs.declared.layout.Regions.{Regions}
-use Rattle.ffa_stage2.specs.Layout.{regions_in, layout_right}
+use Rattle.ffa_stage2.specs.Layout.{normal_in, regions_in, layout_right}
 use Rattle.ffa_stage2.specs.Tables.{IsBuilt, KeepsRest, TableLaws, table_page}
 use Rattle.ffa_stage2.proofs.Rights.{built-same}
 use Rattle.ffa_pages.specs.Entry.{Entry, entry_at, first_entry, slot_at}
@@ -127,7 +127,7 @@ zero-page : (m : Manifest) (p : ℕ) → p < 512 * m.ram_blocks → page_of (zer
 zero-page m p lt = get_or-replicate (512 * m.ram_blocks) p (replicate 4096 0) [] lt
 
 -- a page of the first state
-page-there : (m : Manifest) (given : Ram) (p : ℕ) (page : Page) → page_at (first_held m.ram_base.0 m.ram_blocks m.endpoints.items (page_of given)) p ≡ Some page
+page-there : (m : Manifest) (given : Ram) (p : ℕ) (page : Page) → page_at (first_held m.worlds m.ram_base.0 m.ram_blocks m.endpoints.items (page_of given)) p ≡ Some page
     → (p < 512 * m.ram_blocks) × (page_with_bytes m.ram_base.0 m.endpoints.items p (page_of given p) ≡ Some page)
 page-there m given p page is = elim (cases_lt p (512 * m.ram_blocks)) [
   | inl lt ↦ (lt, sym (get_or-listed (512 * m.ram_blocks) (λ q. page_with_bytes m.ram_base.0 m.endpoints.items q (page_of given q)) p None lt) ∙ is)
@@ -140,6 +140,7 @@ own_right m i p = right_among m.ram_base.0 (regions_at m.endpoints.items i) p
 
 module _ (given : Ram) (x : Parts) (ready : IsReadyFor x.manifest given)
     (base : x.kept.layout.base.0 ≡ x.manifest.ram_base.0) (blocks : x.kept.layout.blocks ≡ x.manifest.ram_blocks) (regions : regions_in x.kept.layout ≡ regions_of_each x.manifest.endpoints.items)
+    (normal : normal_in x.kept.layout ≡ normal_of x.manifest.worlds (regions_at x.manifest.endpoints.items 0))
     (built : IsBuilt x.ram (array_vec_len x.kept.layout.regions) x.kept.layout.blocks (layout_right x.kept.layout))
     (rest : KeepsRest given x.ram (array_vec_len x.kept.layout.regions) x.kept.layout.blocks)
     (owners : x.kept.pages ≡ first_owners x.manifest) (slots : x.kept.pool.slots ≡ replicate (MOST_OPEN * length x.manifest.endpoints.items) None)
@@ -203,9 +204,9 @@ module _ (given : Ram) (x : Parts) (ready : IsReadyFor x.manifest given)
       listed-same (length x.ram.pages) (held_page x.ram x.kept.pages) (λ p. page_with_bytes x.manifest.ram_base.0 es p (page_of given p)) page-given
       ∙ ap (λ (n : ℕ). listed n (λ p. page_with_bytes x.manifest.ram_base.0 es p (page_of given p))) size-is
 
-  pub state-first : state_of x ≡ first_held x.manifest.ram_base.0 x.manifest.ram_blocks es (page_of given)
+  pub state-first : state_of x ≡ first_held x.manifest.worlds x.manifest.ram_base.0 x.manifest.ram_blocks es (page_of given)
   unfolding first
-  state-first = λ i. record (first x.manifest.ram_base.0 x.manifest.ram_blocks es) {
+  state-first = λ i. record (first x.manifest.worlds x.manifest.ram_base.0 x.manifest.ram_blocks es) {
     pages = pages-first i;
     transactions = (ap map_in slots ∙ none-open (MOST_OPEN * length es)) i;
     sent = sent i;
@@ -232,14 +233,14 @@ module _ (given : Ram) (x : Parts) (ready : IsReadyFor x.manifest given)
       record {
         laws = laws;
         tables = tables-first;
-        layout = record { base = base; blocks = blocks; endpoints = many };
+        layout = record { base = base; blocks = blocks; endpoints = many; normal = normal };
         owners = subst (AreOwners x.manifest) (sym owners) (owners-first x.manifest);
         open_transactions =
             subst (λ (list : List (Option Entry)). AreOpenTransactions x.manifest list x.kept.pool.slots) (sym owners)
             (subst (AreOpenTransactions x.manifest (first_owners x.manifest)) (sym slots) (open-first x.manifest (MOST_OPEN * length es)));
         sound =
             subst IsSoundState (sym state-first)
-            (first-held-sound x.manifest.ram_base.0 x.manifest.ram_blocks es (page_of given) x.manifest.accepted (uuid-at es uuids)
+            (first-held-sound x.manifest.worlds x.manifest.ram_base.0 x.manifest.ram_blocks es (page_of given) x.manifest.accepted (uuid-at es uuids)
             (λ p inside. ready.whole p (omega (arith, inside, ready.size))));
       }
 
@@ -273,7 +274,7 @@ pub booted-zeros : (m : Manifest) (given : Ram) (s : State) (ram : Ram) → give
 unfolding first
 booted-zeros m given s ram zeros booted =
     record {
-      state = booted.state ∙ (λ i. record (first m.ram_base.0 m.ram_blocks m.endpoints.items) { pages = same i });
+      state = booted.state ∙ (λ i. record (first m.worlds m.ram_base.0 m.ram_blocks m.endpoints.items) { pages = same i });
       agrees = booted.agrees;
       words = booted.words;
       cleared = λ p behind inside. of p behind inside (page_at s p) refl;
@@ -301,7 +302,7 @@ booted-kept m given cleared s ram kept booted =
     record {
       state =
           booted.state
-          ∙ (λ i. record (first m.ram_base.0 m.ram_blocks m.endpoints.items) {
+          ∙ (λ i. record (first m.worlds m.ram_base.0 m.ram_blocks m.endpoints.items) {
             pages =
                 listed-same (512 * m.ram_blocks) (λ p. page_with_bytes m.ram_base.0 m.endpoints.items p (page_of cleared p)) (λ p. page_with_bytes m.ram_base.0 m.endpoints.items p (page_of given p))
                 (λ p lt. given-same m.ram_base.0 p m.endpoints.items (page_of cleared p) (page_of given p) (kept p)) i;

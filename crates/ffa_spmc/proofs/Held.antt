@@ -12,7 +12,7 @@ use Rattle.ffa_model.specs.declared.endpoint.Endpoint.{Endpoint}
 use Rattle.ffa_model.specs.declared.endpoint.Region.{Region}
 use Rattle.ffa_model.specs.Identifiers.{identifier, manager, place}
 use Rattle.ffa_model.specs.Ram.{page_of}
-use Rattle.ffa_model.specs.Regions.{has_page, owned_regions, right_in, regions_at}
+use Rattle.ffa_model.specs.Regions.{has_page, normal_of, owned_regions, right_in, regions_at}
 use Rattle.ffa_model.specs.State.{State, Page, Transaction, is_known_among, owner_of, page_at}
 use Rattle.ffa_model.specs.Access.{access, handle_at, is_naming, transaction_at, right_of}
 use Rattle.ffa_model.specs.First.{first, party_of, page_with_bytes}
@@ -62,6 +62,10 @@ module _ (x : Parts) where
   pub parties-listed : map party_of x.manifest.endpoints.items ≡ s.parties
   unfolding first
   parties-listed = refl
+
+  pub normal-listed : normal_of x.manifest.worlds (regions_at x.manifest.endpoints.items 0) ≡ s.normal
+  unfolding first
+  normal-listed = refl
 
   pub size_is : length s.pages ≡ length x.ram.pages
   size_is = length-listed (length x.ram.pages) (held_page x.ram x.kept.pages)

@@ -8,7 +8,7 @@ use Rattle.std.proofs.lemmas.Bool.{and_parts, eqb-true, leb-true}
 use Rattle.std.proofs.lemmas.Bool.Decides.{nat_tests}
 use Rattle.std.proofs.lemmas.Option.{none-some, same_Some}
 use Rattle.ffa_memshare.specs.declared.changed.Changed.{Changed}
-use Rattle.ffa_model.specs.declared.limits.TheConstants.{MOST_PAGES, MOST_RAM}
+use Rattle.ffa_model.specs.declared.limits.TheConstants.{MOST_PAGES}
 use Rattle.ffa_model.specs.declared.leaf.Leaf.{Leaf}
 use Rattle.ffa_model.specs.declared.operation.FaultKind.{FaultKind}
 use Rattle.ffa_model.specs.declared.operation.FaultKind.TheVariants.{Translation}
@@ -51,13 +51,12 @@ no_leaf fault leaf same = cc
 module _ (s : State) (sound : IsSoundState s) where
   aligned : s.ram_base % 4096 ≡ 0
   aligned =
-      let (low, _) = and_parts _ _ sound.sized.base in
-      let (whole, _) = and_parts _ _ low in
-      let large : s.ram_base % MOST_RAM ≡ 0 = eqb-true _ _ whole in
+      let (whole, _) = and_parts _ _ sound.sized.base in
+      let large : s.ram_base % 0x200000 ≡ 0 = eqb-true _ _ whole in
       omega (arith, large)
 
-  highest : s.ram_base ≤ 2 ^ 32 - MOST_RAM
-  highest = let (_, most) = and_parts _ _ sound.sized.base in leb-true _ _ most
+  highest : s.ram_base + 4096 * length s.pages ≤ 2 ^ 32
+  highest = sound.sized.within
 
   pub few_pages : length s.pages ≤ MOST_PAGES
   few_pages =
@@ -67,9 +66,8 @@ module _ (s : State) (sound : IsSoundState s) where
   -- the first address of a page is one of the page
   pub page-first : (p : ℕ) → p < length s.pages → page_of_address s (address_of s p) ≡ Some p
   page-first p inside =
-      let high : s.ram_base ≤ 2 ^ 32 - MOST_RAM = highest in
-      let few : length s.pages ≤ MOST_PAGES = few_pages in
-      let low : s.ram_base + 4096 * p < 2 ^ 32 = omega (arith, high, few, inside) in
+      let high : s.ram_base + 4096 * length s.pages ≤ 2 ^ 32 = highest in
+      let low : s.ram_base + 4096 * p < 2 ^ 32 = omega (arith, high, inside) in
       let test : (nat_le s.ram_base (s.ram_base + 4096 * p) && nat_lt (s.ram_base + 4096 * p) (2 ^ 32)) ≡ true = grind (arith, nat_tests, low) in
       let number : (s.ram_base + 4096 * p - s.ram_base) / 4096 ≡ p = omega arith in
       ap (λ b. cond b (Some ((s.ram_base + 4096 * p - s.ram_base) / 4096)) None) test ∙ ap Some number
@@ -127,9 +125,8 @@ module _ (ram : Ram) (s : State) (agrees : Agrees ram s) (sound : IsSoundState s
     room address =
         let (r, right, same) = right-held in
         let phys : leaf.phys ≡ s.ram_base + 4096 * p = ap (λ (l : Leaf). l.phys) same in
-        let high : s.ram_base ≤ 2 ^ 32 - MOST_RAM = highest s sound in
-        let few : length s.pages ≤ MOST_PAGES = few_pages s sound in
-        omega (arith, phys, high, few, inside)
+        let high : s.ram_base + 4096 * length s.pages ≤ 2 ^ 32 = highest s sound in
+        omega (arith, phys, high, inside)
 
   module _ (address p : ℕ) (at : page_of_address s address ≡ Some p) (leaf : Leaf) (is : walk_of ram s e address ≡ Ok leaf) where
     right-walked : (r : Rights) × (access s e p ≡ Some r) × (leaf ≡ leaf_at r address)

@@ -14,11 +14,11 @@ use Rattle.ffa_model.specs.declared.operation.ErrorCode.{ErrorCode}
 use Rattle.ffa_model.specs.declared.rights.Kind.{Kind}
 use Rattle.ffa_model.specs.declared.rights.Kind.TheVariants.{Share, Lend, Donate}
 use Rattle.ffa_model.specs.declared.rights.Rights.{Rights}
-use Rattle.ffa_model.specs.Access.{access, is_receiver, names}
+use Rattle.ffa_model.specs.Access.{access, is_receiver, names, ownership_of}
 use Rattle.ffa_model.specs.Calls.{first_failure, replied, served}
 use Rattle.ffa_model.specs.Identifiers.{place}
 use Rattle.ffa_model.specs.Memory.{zeroed_if}
-use Rattle.ffa_model.specs.MemorySend.{handle_reply, memory_send, memory_sent, offered_in, send_guards, send_read, transaction_from}
+use Rattle.ffa_model.specs.MemorySend.{handle_reply, memory_send, memory_sent, is_told_normal, offered_in, send_guards, send_read, transaction_from, transaction_sent}
 use Rattle.ffa_model.specs.Ram.{Ram}
 use Rattle.ffa_model.specs.Rights.{is_share}
 use Rattle.ffa_model.specs.SendDescriptor.{SendRecord, send_of}
@@ -30,6 +30,8 @@ use Rattle.ffa_model.proofs.CallAccesses.{handle-new, runner-known, sendable-unn
 use Rattle.ffa_laws.proofs.SendLaws.{IsOffer, offer}
 use Rattle.ffa_laws.proofs.SoundSends.{send-sound}
 use Rattle.ffa_pages.specs.Entry.{Entry, entry_at, slot_at}
+use Rattle.ffa_rxtx.specs.Parts.{ownership_in}
+use Rattle.ffa_stage2.specs.Layout.{normal_in}
 use Rattle.ffa_memshare.specs.declared.changed.Changed.{Changed}
 use Rattle.ffa_memshare.specs.declared.changed.Done.{Done}
 use Rattle.ffa_memshare.specs.declared.changed.Value.TheVariants.{Handle}
@@ -39,6 +41,7 @@ use Rattle.ffa_memshare.specs.Grants.{new_right, with_rights}
 use Rattle.ffa_memshare.specs.Ranges.{ArePlaced, in_ranges}
 use Rattle.ffa_memshare.specs.Scenes.{descriptor_in, scene_in}
 use Rattle.ffa_memshare.specs.Sent.{IsSent, right_after}
+use Rattle.ffa_memshare.specs.SlotChanges.{IsOpened}
 use Rattle.ffa_memshare.specs.Stored.{Pooled, open_in, pool_slot}
 use Rattle.ffa_memshare.specs.declared.marks.Mark.TheVariants.{Named}
 use Rattle.ffa_spmc.specs.AccessChange.{IsAccessChange, is_whose}
@@ -51,7 +54,7 @@ use Rattle.ffa_spmc.proofs.Granted.{send-granted}
 use Rattle.ffa_spmc.proofs.Held.{owners-size, parties_are, size_is}
 use Rattle.ffa_spmc.proofs.AccessChanges.{access-changed, none-changed, sent-kept, sent-lost}
 use Rattle.ffa_spmc.proofs.Moves.{SameOwners, marked-owners, of-manifest, owners-moved, pages-moved, tables-moved}
-use Rattle.ffa_spmc.proofs.Pools.{named-kept, own_right-is, slot-open}
+use Rattle.ffa_spmc.proofs.Pools.{named-kept, normal-is, own_right-is, ownership-is, slot-open}
 use Rattle.ffa_spmc.proofs.Retrieves.{scene-is}
 use Rattle.ffa_spmc.proofs.Sends.{sent-is}
 use Rattle.ffa_spmc.proofs.Unowned.{unowned-moved, unowned-same}
@@ -97,7 +100,7 @@ module _ (x : Parts) (machine : IsManager x) (e : ℕ) (at : e ≡ x.kept.chain.
     r = done.offer
 
     abbrev t : Transaction
-    t = transaction_from kind r
+    t = transaction_sent s kind r
 
     abbrev h : ℕ
     h = next_handle (open_of s) e
@@ -111,12 +114,20 @@ module _ (x : Parts) (machine : IsManager x) (e : ℕ) (at : e ≡ x.kept.chain.
     good : IsOffer s r
     good = offer s a r (sym (none ∙ ap (λ (o : Option SendRecord). first_failure (send_guards (scene_of s) s.runner a o)) read))
 
+    -- what the parts say of its memory is what the state says
+    told-normal : is_told_normal (ownership_in x.kept.pages x.kept.layout.base.0) (normal_in x.kept.layout) r.ranges
+        ≡ is_told_normal (ownership_of s) s.normal r.ranges
+    told-normal = λ i. is_told_normal ((ap (ownership_in x.kept.pages) machine.layout.base ∙ ownership-is x machine) i) (normal-is x machine i) r.ranges
+
     -- over the manifest and the state
     moves : IsMoved x.ram ram (length x.manifest.endpoints.items) x.manifest.ram_blocks (place e) (names s r.ranges) right r.zero
     moves = of-manifest x machine (λ base n blocks. IsMoved x.ram ram n blocks (place e) (in_ranges base r.ranges) right r.zero) done.moved
 
     marks : IsMarked x.kept.pages pages (names s r.ranges) (Named (Some done.slot))
     marks = of-manifest x machine (λ base n blocks. IsMarked x.kept.pages pages (in_ranges base r.ranges) (Named (Some done.slot))) done.marks
+
+    opened : IsOpened x.kept.pool pool done.slot h t
+    opened = subst (λ (b : Bool). IsOpened x.kept.pool pool done.slot h (transaction_from kind b r)) told-normal done.opened
 
     owned : (p : ℕ) → names s r.ranges p ≡ true → (f : Entry) × (entry_at x.kept.pages p ≡ Some f)
     owned p named = let own = done.own.own p (subst (λ (b : ℕ). in_ranges b r.ranges p ≡ true) (sym machine.layout.base) named) in (own.0, own.1)
@@ -131,7 +142,7 @@ module _ (x : Parts) (machine : IsManager x) (e : ℕ) (at : e ≡ x.kept.chain.
           transactions = (done.open_transactions i).transactions;
           sent = (done.open_transactions i).sent;
         })
-        ∙ (λ i. zeroed_if r.zero (with_open s (offered_in (open_of s) (at i) kind r)) r.ranges)
+        ∙ (λ i. zeroed_if r.zero (with_open s (offered_in (open_of s) (at i) kind (told-normal i) r)) r.ranges)
 
     pub state-sent : state_of after_offer ≡ memory_sent s kind (send_read s kind a.total)
     state-sent = state-from ∙ sym (ap (memory_sent s kind) read)
@@ -178,8 +189,8 @@ module _ (x : Parts) (machine : IsManager x) (e : ℕ) (at : e ≡ x.kept.chain.
           layout = machine.layout;
           owners = owners-moved x machine ram pages (place e) r.ranges right r.zero moves owners;
           open_transactions =
-              subst (AreOpenTransactions x.manifest pages) (sym done.opened.slots)
-              (open-opened x.manifest x.kept.pages pages x.kept.pool.slots machine.open_transactions done.slot h t done.opened.free.within done.opened.free.free fresh offered unnamed
+              subst (AreOpenTransactions x.manifest pages) (sym opened.slots)
+              (open-opened x.manifest x.kept.pages pages x.kept.pool.slots machine.open_transactions done.slot h t opened.free.within opened.free.free fresh offered unnamed
               (λ p lt. slot-opened x.kept.pages pages (names s r.ranges) done.slot marks p (owned p)) marks.size);
           sound = subst IsSoundState (sym state-sent) (send-sound s machine.sound kind a (sym none));
         }

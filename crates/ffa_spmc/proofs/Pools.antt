@@ -7,6 +7,7 @@ use Rattle.std.specs.Option.{option_and_then, option_map, option_map_or}
 use Rattle.std.proofs.lemmas.Bool.{cases_lt, false≢true}
 use Rattle.std.proofs.lemmas.Bool.Decides.{nat_tests}
 use Rattle.std.proofs.lemmas.Option.{none-some}
+use Rattle.ffa_model.specs.First.{first}
 use Rattle.ffa_model.specs.Access.{access, handle_at, is_naming, names, right_of, transaction_at, ownership_of}
 use Rattle.ffa_model.specs.Identifiers.{manager, place}
 use Rattle.ffa_model.specs.Ram.{page_of}
@@ -18,6 +19,7 @@ use Rattle.ffa_model.proofs.Slots.{at-get, get-at}
 use Rattle.ffa_laws.specs.OwnAccess.{AreApart}
 use Rattle.ffa_laws.proofs.SoundSteady.{sound-steady}
 use Rattle.ffa_pages.specs.Entry.{Entry, own_right_at, entry_at, slot_at}
+use Rattle.ffa_stage2.specs.Layout.{normal_in}
 use Rattle.ffa_stage2.specs.Tables.{table_page}
 use Rattle.ffa_memshare.specs.Memory.{Memory}
 use Rattle.ffa_memshare.specs.Shared.{IsHeld, IsRoom, IsShared}
@@ -158,6 +160,11 @@ module _ (x : Parts) (machine : IsManager x) where
         is_named = λ p. named-is p i;
       }
 
+  -- and which memory is told to be non-secure
+  pub normal-is : normal_in x.kept.layout ≡ s.normal
+  unfolding first
+  normal-is = machine.layout.normal
+
   -- what the calls of the pool ask
   abbrev of_manifest : Memory
   of_manifest =
@@ -167,6 +174,7 @@ module _ (x : Parts) (machine : IsManager x) where
         endpoints = length x.manifest.endpoints.items;
         blocks = x.manifest.ram_blocks;
         entries = pages;
+        normal = normal_in x.kept.layout;
       }
 
   room : IsRoom of_manifest

@@ -58,7 +58,7 @@ use Rattle.ffa_spmc.proofs.Granted.{donate-granted, retrieve-granted}
 use Rattle.ffa_spmc.proofs.Held.{parties_are}
 use Rattle.ffa_spmc.proofs.AccessChanges.{access-changed, none-changed, retrieved-kept, retrieved-new}
 use Rattle.ffa_spmc.proofs.Moves.{of-manifest, same-owners, slot-given, tables-moved}
-use Rattle.ffa_spmc.proofs.Pools.{ownership-is, open-slot, slot-open}
+use Rattle.ffa_spmc.proofs.Pools.{normal-is, ownership-is, open-slot, slot-open}
 use Rattle.ffa_spmc.proofs.Sends.{sent-is}
 use Rattle.ffa_spmc.proofs.Unowned.{open-entered, unowned-filled, unowned-moved, unowned-same, unowned-then}
 use Rattle.ffa_spmc.proofs.MemoryParts.{memory_parts_in}
@@ -68,6 +68,7 @@ pub scene-is : (x : Parts) → IsManager x → scene_in (memory_parts_in x) ≡ 
 scene-is x machine = λ i. record {
   endpoints = (machine.layout.endpoints ∙ sym (parties_are x)) i;
   ram = (ap (ownership_in x.kept.pages) machine.layout.base ∙ ownership-is x machine) i;
+  normal = normal-is x machine i;
   buffers = x.kept.buffers;
   open_transactions = open_in x.kept.pool;
 }

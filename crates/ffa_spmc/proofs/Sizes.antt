@@ -21,7 +21,7 @@ use Rattle.ffa_model.specs.Manifest.{table_pages}
 use Rattle.ffa_model.specs.Memory.{changed_pages, fetch_fault, number_at, page_with, read_fault, size_of, store_fault, stored, written_pages, written_run, zeroed_page}
 use Rattle.ffa_model.specs.MemoryRetrieve.{donated_page, response_to, retrieve_read, retrieved, retrieved_from, right_for, with_retrieved}
 use Rattle.ffa_model.specs.MemoryReturn.{named_ranges, relinquish_read, relinquished, relinquished_from}
-use Rattle.ffa_model.specs.MemorySend.{memory_sent, offered_in, send_read}
+use Rattle.ffa_model.specs.MemorySend.{is_told_normal, memory_sent, offered_in, send_read}
 use Rattle.ffa_model.specs.Messages.{header_in, message_in, tx_bytes}
 use Rattle.ffa_model.specs.Registers.{decode}
 use Rattle.ffa_model.specs.ResponseBytes.{response_bytes}
@@ -58,7 +58,7 @@ of-pages s n is = ap (λ (k : ℕ). (length s.parties, k)) is
 
 sent-sizes : (s : State) (kind : Kind) (r : Option SendRecord) → sizes (memory_sent s kind r) ≡ sizes s
 sent-sizes s kind None = refl
-sent-sizes s kind (Some r) = of-pages s _ (changed-size r.zero (with_open s (offered_in (open_of s) s.runner kind r)) r.ranges zeroed_page)
+sent-sizes s kind (Some r) = of-pages s _ (changed-size r.zero (with_open s (offered_in (open_of s) s.runner kind (is_told_normal (ownership_of s) s.normal r.ranges) r)) r.ranges zeroed_page)
 
 retrieved-sizes : (s : State) (d : Option RetrieveDesc) → sizes (retrieved s d) ≡ sizes s
 retrieved-sizes s None = refl

@@ -20,7 +20,7 @@ AreDescribed blocks s ram =
 
 -- the first state of a manifest, which RAM's tables give and which is sound
 pub record IsBooted (m : Manifest) (s : State) (ram : Ram) : Type 0 where
-  pub state : s ≡ first m.ram_base.0 m.ram_blocks m.endpoints.items
+  pub state : s ≡ first m.worlds m.ram_base.0 m.ram_blocks m.endpoints.items
   pub agrees : Agrees ram s
   pub words : AreDescribed m.ram_blocks s ram
   -- pages behind the tables are zeros
@@ -30,7 +30,7 @@ pub record IsBooted (m : Manifest) (s : State) (ram : Ram) : Type 0 where
 
 -- the same where the pages of regions keep the bytes of the RAM that was given
 pub record IsBootedHeld (m : Manifest) (given : Ram) (s : State) (ram : Ram) : Type 0 where
-  pub state : s ≡ first_held m.ram_base.0 m.ram_blocks m.endpoints.items (page_of given)
+  pub state : s ≡ first_held m.worlds m.ram_base.0 m.ram_blocks m.endpoints.items (page_of given)
   pub agrees : Agrees ram s
   pub words : AreDescribed m.ram_blocks s ram
   -- pages behind the tables that no endpoint owns are zeros

@@ -10,11 +10,13 @@ use Rattle.ffa_model.specs.Identifiers.{identifier}
 use Rattle.ffa_model.specs.Lists.{listed}
 use Rattle.ffa_pages.specs.Entry.{Entry, entry_at, slot_at}
 use Rattle.ffa_stage2.specs.declared.layout.Layout.{Layout}
+use Rattle.ffa_stage2.specs.Layout.{normal_in}
 use Rattle.ffa_stage2.specs.Tables.{IsBuilt, TableLaws, table_page}
 use Rattle.ffa_model.specs.Access.{access, is_receiver}
 use Rattle.ffa_model.specs.Ram.{Ram, page_of}
 use Rattle.ffa_model.specs.State.{State, Page, Transaction}
 use Rattle.ffa_model.specs.First.{first}
+use Rattle.ffa_model.specs.Regions.{normal_of, regions_at}
 use Rattle.ffa_model.specs.SoundState.{IsSoundState}
 use Rattle.ffa_memshare.specs.Ranges.{ArePlaced, in_ranges}
 use Rattle.ffa_memshare.specs.Stored.{Slot, map_in, pool_slot}
@@ -34,7 +36,7 @@ pub record Parts : Type 0 where
 -- the state that they mean
 abbrev pub state_of : Parts → State
 state_of x =
-    record (first x.manifest.ram_base.0 x.manifest.ram_blocks x.manifest.endpoints.items) {
+    record (first x.manifest.worlds x.manifest.ram_base.0 x.manifest.ram_blocks x.manifest.endpoints.items) {
       ram_base = x.manifest.ram_base.0;
       transactions = map_in x.kept.pool.slots;
       sent = x.kept.pool.sent;
@@ -63,6 +65,7 @@ pub record IsLayoutOf (m : Manifest) (layout : Layout) : Type 0 where
   pub base : layout.base.0 ≡ m.ram_base.0
   pub blocks : layout.blocks ≡ m.ram_blocks
   pub endpoints : array_vec_len layout.regions ≡ length m.endpoints.items
+  pub normal : normal_in layout ≡ normal_of m.worlds (regions_at m.endpoints.items 0)
 
 -- each page of RAM has its owner, which is nobody for the pages of tables
 pub record AreOwners (m : Manifest) (pages : List (Option Entry)) : Type 0 where

@@ -1,6 +1,6 @@
 // SPDX-License-Identifier: MIT OR Apache-2.0
 //! The partition manager: what it keeps, and what its calls and accesses do.
-ghost use Rattle.std.specs.Prelude.{true, false, ◌≡◌, None, Option, ◌<◌, ◌≤◌, length};
+ghost use Rattle.std.specs.Prelude.{true, false, ◌≡◌, is_some, None, Option, ◌<◌, ◌≤◌, length};
 ghost use Rattle.std.specs.Option.{option_or};
 ghost use Rattle.ffa_model.specs.declared.limits.TheConstants.{MOST_ENDPOINTS};
 ghost use Rattle.ffa_model.specs.Access.{access};
@@ -9,6 +9,7 @@ ghost use Rattle.ffa_model.specs.SoundState.{IsSoundState};
 ghost use Rattle.ffa_laws.specs.OwnAccess.{AreApart, is_memory_call};
 ghost use Rattle.ffa_model.specs.Refusals.{is_refusal, passes_no_error};
 ghost use Rattle.ffa_model.specs.Registers.{decode};
+ghost use Rattle.ffa_model.specs.Setup.{features_reply};
 ghost use Rattle.ffa_model.specs.State.{owner_of, version_of};
 ghost use Rattle.ffa_model.specs.Step.{serve, service};
 ghost use Rattle.ffa_memshare.specs.declared.changed.Changed.{Changed};
@@ -204,6 +205,13 @@ impl<M: PhysMem + Drop, S: Store> Manager<M, S> {
         }
     }
 
+    // FFA_FEATURES of the runner.
+    fn features(&self, function: u32) -> Reply
+        ensures { result ≡ features_reply (is_some self.now.state.normal) function }
+    {
+        ffa_setup::features(function, self.kept.records.get().manifest.tells_worlds())
+    }
+
     // A call of the runner, in its registers, after which the cache holds nothing that the call has made untrue, and what it
     // changed is told.
     #[inline(always)]
@@ -241,7 +249,7 @@ impl<M: PhysMem + Drop, S: Store> Manager<M, S> {
     {
         match call {
             Call::Version { version } => ffa_setup::version(version),
-            Call::Features { function } => ffa_setup::features(function),
+            Call::Features { function } => self.features(function),
             Call::RxRelease => self.rx_release(),
             Call::RxtxMap { tx, rx, pages } => self.rxtx_map(tx, rx, pages),
             Call::RxtxUnmap { endpoint } => self.rxtx_unmap(endpoint),

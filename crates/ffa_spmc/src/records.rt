@@ -4,7 +4,7 @@ ghost use Rattle.std.specs.Prelude.{◌≡◌};
 ghost use Rattle.ffa_spmc.specs.FirstRecords.{AreFirstRecords};
 
 use arrayvec::ArrayVec;
-use ffa_model::{Address, Endpoint, MOST_RAM, Manifest, Region};
+use ffa_model::{Address, Endpoint, Manifest, Region};
 use ffa_notify::Bitmaps;
 use ffa_stage2::Layout;
 
@@ -50,7 +50,7 @@ impl Records {
 
 // The manifest with the fewest parts: one block of RAM at its lowest address, and a normal world with one page.
 fn smallest() -> Manifest {
-    let base = MOST_RAM as u32;
+    let base = 0x20_0000;
     let mut regions = ArrayVec::new();
     regions.push(Region {
         base: base + 0x10_0000,

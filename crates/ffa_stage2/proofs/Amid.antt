@@ -5,7 +5,7 @@ use Rattle.std.specs.Prelude.{◌==◌, ◌||◌, nat_lt, is_ok}
 use Rattle.std.proofs.lemmas.Bool.{cases_lt, cases_eq, false_from_ne_true, false≢true, true≢false}
 use Rattle.std.proofs.lemmas.Bool.Decides.{nat_tests}
 use Rattle.std.proofs.lemmas.Option.{none-some, same_Some}
-use Rattle.ffa_model.specs.declared.limits.TheConstants.{MOST_BLOCKS, MOST_RAM}
+use Rattle.ffa_model.specs.declared.limits.TheConstants.{MOST_BLOCKS}
 use Rattle.ffa_model.specs.declared.leaf.Leaf.{Leaf}
 use Rattle.ffa_model.specs.declared.rights.Rights.{Rights}
 use Rattle.ffa_model.specs.Bits.{bits}
@@ -46,7 +46,8 @@ module _ (m o : Ram) (n b e a : ℕ) (h : List Step) (fits : HasRoom m n b) (kee
   from-block : (k : ℕ) → k < b → (r : Rights) (word : ℕ) → word ≡ block_word (m.base + 0x200000 * k) r → from_level2 o word a ≡ from_level2 m word a
   from-block k hk r word is =
       let g : ℕ = (m.base + 0x200000 * k) / 0x200000 in
-      let aligned : m.base % MOST_RAM ≡ 0 = fits.place in
+      let aligned : m.base % 0x200000 ≡ 0 = fits.place in
+      let one : m.base % 2 ^ 30 + 0x200000 * b ≤ 2 ^ 30 = fits.one_table in
       let within : m.base + 0x200000 * b ≤ 2 ^ 32 = fits.within in
       let address : m.base + 0x200000 * k ≡ 0x200000 * g = omega arith in
       let at : word ≡ block_word (0x200000 * g) r = is ∙ ap (λ (x : ℕ). block_word x r) address in
@@ -57,7 +58,8 @@ module _ (m o : Ram) (n b e a : ℕ) (h : List Step) (fits : HasRoom m n b) (kee
   from-table : (k : ℕ) → k < b → (word : ℕ) → word ≡ table_link m.base b e (2 + k) → from_level2 o word a ≡ from_level2 m word a
   from-table k hk word is =
       let t : ℕ = m.base + 4096 * table_page b e (2 + k) in
-      let aligned : m.base % MOST_RAM ≡ 0 = fits.place in
+      let aligned : m.base % 0x200000 ≡ 0 = fits.place in
+      let one : m.base % 2 ^ 30 + 0x200000 * b ≤ 2 ^ 30 = fits.one_table in
       let within : m.base + 0x200000 * b ≤ 2 ^ 32 = fits.within in
       let size : length m.pages ≡ 512 * b = fits.size in
       let room : n * table_pages b ≤ 512 * b = fits.room in
@@ -104,7 +106,8 @@ module _ (m o : Ram) (n b e a : ℕ) (h : List Step) (fits : HasRoom m n b) (kee
       let j : ℕ = bits 31 30 a in
       let hj : j < 512 = omega arith in
       let fits' : nat_lt a (2 ^ 32) ≡ true = grind (arith, nat_tests) in
-      let aligned : m.base % MOST_RAM ≡ 0 = fits.place in
+      let aligned : m.base % 0x200000 ≡ 0 = fits.place in
+      let one : m.base % 2 ^ 30 + 0x200000 * b ≤ 2 ^ 30 = fits.one_table in
       let within : m.base + 0x200000 * b ≤ 2 ^ 32 = fits.within in
       let size : length m.pages ≡ 512 * b = fits.size in
       let room : n * table_pages b ≤ 512 * b = fits.room in

@@ -3,7 +3,7 @@
 use Rattle.std.proofs.Common.{◌≡◌, ◌≢◌, ◌∙◌, ℕ, ◌+◌, ◌*◌, ◌%◌, ◌^◌, ◌<◌, ◌≤◌, refl, ap, sym, arith, List, Option, length, inl, inr, ◌⊎◌}
 use Rattle.std.proofs.lemmas.Bool.{cases_eq}
 use Rattle.std.proofs.lemmas.Nat.{same_from_place}
-use Rattle.ffa_model.specs.declared.limits.TheConstants.{MOST_BLOCKS, MOST_RAM}
+use Rattle.ffa_model.specs.declared.limits.TheConstants.{MOST_BLOCKS}
 use Rattle.ffa_model.specs.Ram.{Ram, page_of, word_of}
 use Rattle.ffa_model.specs.Manifest.{table_pages}
 use Rattle.ffa_model.specs.declared.rights.Rights.{Rights}
@@ -24,7 +24,8 @@ apart b e s e' s' hs hs' (inr h) same = h (same_from_place e s e' s' (table_page
 pub place-of : (ram : Ram) (n b e k : ℕ) (x : BlockPlace) → HasRoom ram n b
     → ((s : ℕ) → s < table_pages b → length (page_of ram (table_page b e s)) ≡ 4096) → e < n → k < b → IsPlaceOf ram b e k x → IsPlace ram x
 place-of ram n b e k x fits whole he hk at =
-    let place : ram.base % MOST_RAM ≡ 0 = fits.place in
+    let place : ram.base % 0x200000 ≡ 0 = fits.place in
+    let one : ram.base % 2 ^ 30 + 0x200000 * b ≤ 2 ^ 30 = fits.one_table in
     let few : b ≤ MOST_BLOCKS = fits.few in
     let within : ram.base + 0x200000 * b ≤ 2 ^ 32 = fits.within in
     let size : length ram.pages ≡ 512 * b = fits.size in
@@ -109,7 +110,8 @@ module _ (law : ℕ → ℕ → List ℕ → ℕ → (ℕ → Option Rights) →
 
   each-after : (e' k' : ℕ) → e' < n → k' < b → InBlockBy law new b e' (g e') k'
   each-after e' k' he' hk' =
-      let place : old.base % MOST_RAM ≡ 0 = built.fits.place in
+      let place : old.base % 0x200000 ≡ 0 = built.fits.place in
+      let one : old.base % 2 ^ 30 + 0x200000 * b ≤ 2 ^ 30 = built.fits.one_table in
       let within : old.base + 0x200000 * b ≤ 2 ^ 32 = built.fits.within in
       let few : b ≤ MOST_BLOCKS = built.fits.few in
       elim (cases_eq e' e) [
@@ -156,6 +158,7 @@ others-beside old new b e k x hk at beside = record {
 -- built tables have blocks where they belong
 pub blocks-built : (ram : Ram) (n b : ℕ) (access : ℕ → ℕ → Option Rights) → IsBuilt ram n b access → BlocksWhereOne ram n b access
 blocks-built ram n b access built e k he hk =
-    let place : ram.base % MOST_RAM ≡ 0 = built.fits.place in
+    let place : ram.base % 0x200000 ≡ 0 = built.fits.place in
+    let one : ram.base % 2 ^ 30 + 0x200000 * b ≤ 2 ^ 30 = built.fits.one_table in
     let within : ram.base + 0x200000 * b ≤ 2 ^ 32 = built.fits.within in
     IsBlockWhereOne-of _ _ _ _ _ (omega arith) (omega arith) (omega arith) (built.each e k he hk)

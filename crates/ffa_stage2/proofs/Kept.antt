@@ -14,6 +14,7 @@ use Rattle.ffa_stage2.proofs.OneBlock.{law-same}
 pub HasRoom-kept : (old new : Ram) (n b : ℕ) → HasRoom old n b → new.base ≡ old.base → length new.pages ≡ length old.pages → HasRoom new n b
 HasRoom-kept old new n b fits base size = record {
   place = rw base fits.place;
+  one_table = rw base fits.one_table;
   few = fits.few;
   within = rw base fits.within;
   size = size ∙ fits.size;

@@ -4,7 +4,7 @@ use Rattle.std.proofs.Common.{◌≡◌, ◌∙◌, ℕ, ◌+◌, ◌-◌, ◌*�
 use Rattle.std.specs.Prelude.{◌==◌, ◌&&◌, nat_lt}
 use Rattle.std.proofs.lemmas.Bool.{cases_eq, cases_lt}
 use Rattle.std.proofs.lemmas.Bool.Decides.{nat_tests}
-use Rattle.ffa_model.specs.declared.limits.TheConstants.{MOST_BLOCKS, MOST_RAM}
+use Rattle.ffa_model.specs.declared.limits.TheConstants.{MOST_BLOCKS}
 use Rattle.ffa_model.specs.Ram.{Ram, page_of, with_page, with_word}
 use Rattle.ffa_model.specs.Descriptor.{page_word}
 use Rattle.ffa_stage2.specs.Tables.{KeepsRest, table_page, table_link, level1_place, level2_place}
@@ -146,7 +146,8 @@ pub linking-next : (first old new : Ram) (n b base e k page place value : ℕ) �
     → page ≡ table_page b e 1 → place ≡ level2_place base + k → value ≡ table_link base b e (2 + k) → IsLinking first new n b base e (k + 1)
 linking-next first old new n b base e k page place value so_far same he hk wrote p i w =
     let t = so_far.tables in
-    let aligned : old.base % MOST_RAM ≡ 0 = t.fits.place in
+    let aligned : old.base % 0x200000 ≡ 0 = t.fits.place in
+    let one : old.base % 2 ^ 30 + 0x200000 * b ≤ 2 ^ 30 = t.fits.one_table in
     let few : b ≤ MOST_BLOCKS = t.fits.few in
     let within : old.base + 0x200000 * b ≤ 2 ^ 32 = t.fits.within in
     let size = t.fits.size in

@@ -5,7 +5,7 @@ use Rattle.std.specs.Prelude.{◌==◌, nat_lt, if◌then◌else◌}
 use Rattle.std.proofs.lemmas.Bool.{cases_lt, cases_eq}
 use Rattle.std.proofs.lemmas.Bool.Decides.{nat_tests}
 use Rattle.std.proofs.Math.Nat.{mul-le-mul_right}
-use Rattle.ffa_model.specs.declared.limits.TheConstants.{MOST_BLOCKS, MOST_RAM}
+use Rattle.ffa_model.specs.declared.limits.TheConstants.{MOST_BLOCKS}
 use Rattle.ffa_model.specs.Bits.{bits}
 use Rattle.ffa_model.specs.Descriptor.{page_word, table_word}
 use Rattle.ffa_model.specs.Manifest.{root_of, table_pages}
@@ -61,7 +61,7 @@ table-apart b e e' t t' ht ht' far same = elim (cases_lt e e') [
   ]
 ]
 
-link-type : (base x : ℕ) → base % MOST_RAM ≡ 0 → table_word (base + 4096 * x) % 4 ≡ 3
+link-type : (base x : ℕ) → base % 0x200000 ≡ 0 → table_word (base + 4096 * x) % 4 ≡ 3
 link-type base x aligned = omega (arith, aligned)
 
 -- the words of a table that stands
@@ -101,7 +101,7 @@ module _ (old : Ram) (n b : ℕ) (h : List Step) (s : Step) (Is : ℕ → ℕ �
       (c + 0x200000 * k) (rights_of_block (rights e) k)) place (stands.each e k he hk)
 
   typed : (e k : ℕ) → table_link origin b e (2 + k) % 4 ≡ 3
-  typed e k = link-type origin (table_page b e (2 + k)) (subst (λ (c : ℕ). c % MOST_RAM ≡ 0) place stands.fits.place)
+  typed e k = link-type origin (table_page b e (2 + k)) (subst (λ (c : ℕ). c % 0x200000 ≡ 0) place stands.fits.place)
 
   abbrev Before : ℕ → ℕ → ℕ → Type 0
   Before e k j = ReadsBlock origin b e k j h s.before (Is e (512 * k + j)) ⊎ ReadsTable origin b e k j h s.before (Is e (512 * k + j))
@@ -288,7 +288,8 @@ module _ (m : Ram) (n b e a : ℕ) (Is : Option Rights → Type 0) (fits : HasRo
   in-block k hk r word is =
       let j : ℕ = bits 20 12 a in
       let g : ℕ = (m.base + 0x200000 * k) / 0x200000 in
-      let aligned : m.base % MOST_RAM ≡ 0 = fits.place in
+      let aligned : m.base % 0x200000 ≡ 0 = fits.place in
+      let one : m.base % 2 ^ 30 + 0x200000 * b ≤ 2 ^ 30 = fits.one_table in
       let within : m.base + 0x200000 * b ≤ 2 ^ 32 = fits.within in
       let address : m.base + 0x200000 * k ≡ 0x200000 * g = omega arith in
       let target : g * 2 ^ 21 + bits 20 0 a ≡ m.base + 4096 * (512 * k + j) + a % 4096 = omega arith in
@@ -304,7 +305,8 @@ module _ (m : Ram) (n b e a : ℕ) (Is : Option Rights → Type 0) (fits : HasRo
       let f : ℕ = m.base / 4096 + (512 * k + j) in
       let t : ℕ = m.base + 4096 * table_page b e (2 + k) in
       let hj : j < 512 = omega arith in
-      let aligned : m.base % MOST_RAM ≡ 0 = fits.place in
+      let aligned : m.base % 0x200000 ≡ 0 = fits.place in
+      let one : m.base % 2 ^ 30 + 0x200000 * b ≤ 2 ^ 30 = fits.one_table in
       let within : m.base + 0x200000 * b ≤ 2 ^ 32 = fits.within in
       let size : length m.pages ≡ 512 * b = fits.size in
       let address : m.base + 0x200000 * k + 4096 * j ≡ 4096 * f = omega arith in
@@ -330,7 +332,8 @@ module _ (m : Ram) (n b e a : ℕ) (Is : Option Rights → Type 0) (fits : HasRo
       let first : ℕ = level2_place m.base in
       let j : ℕ = bits 29 21 a in
       let hj : j < 512 = omega arith in
-      let aligned : m.base % MOST_RAM ≡ 0 = fits.place in
+      let aligned : m.base % 0x200000 ≡ 0 = fits.place in
+      let one : m.base % 2 ^ 30 + 0x200000 * b ≤ 2 ^ 30 = fits.one_table in
       let few : b ≤ MOST_BLOCKS = fits.few in
       let within : m.base + 0x200000 * b ≤ 2 ^ 32 = fits.within in
       let read = entry-page m (table_page b e 1) j in
@@ -352,7 +355,8 @@ module _ (m : Ram) (n b e a : ℕ) (Is : Option Rights → Type 0) (fits : HasRo
       let base : ℕ = m.base in
       let j : ℕ = bits 31 30 a in
       let hj : j < 512 = omega arith in
-      let aligned : m.base % MOST_RAM ≡ 0 = fits.place in
+      let aligned : m.base % 0x200000 ≡ 0 = fits.place in
+      let one : m.base % 2 ^ 30 + 0x200000 * b ≤ 2 ^ 30 = fits.one_table in
       let few : b ≤ MOST_BLOCKS = fits.few in
       let within : m.base + 0x200000 * b ≤ 2 ^ 32 = fits.within in
       let size : length m.pages ≡ 512 * b = fits.size in
@@ -376,7 +380,8 @@ module _ (m : Ram) (n b e a : ℕ) (Is : Option Rights → Type 0) (fits : HasRo
 pub walk-mixed : (ram mixed : Ram) (n b e a : ℕ) (h : List Step) (Is : ℕ → ℕ → Option Rights → Type 0) → HasRoom ram n b → e < n → a < 2 ^ 32
     → Reads ram.base n b h ram Is → IsMixture b e (page_at ram a) h ram mixed → IsAnswered mixed a (Is e (page_at ram a)) (walk_at mixed b e a)
 walk-mixed ram m n b e a h Is room he ha reads mix =
-    let aligned : ram.base % MOST_RAM ≡ 0 = room.place in
+    let aligned : ram.base % 0x200000 ≡ 0 = room.place in
+    let one : ram.base % 2 ^ 30 + 0x200000 * b ≤ 2 ^ 30 = room.one_table in
     let few : b ≤ MOST_BLOCKS = room.few in
     let small : page_at ram a < 2 ^ 20 = omega arith in
     walk-way m n b e a (Is e (page_at ram a)) (HasRoom-kept ram m n b room mix.base mix.size) he ha
@@ -394,7 +399,8 @@ walk-mixed ram m n b e a h Is room he ha reads mix =
         ⊎ ((q : Option Rights) × Is e (page_at ram a) q × (word_of (page_of m (table_page b e 1)) (level2_place ram.base + k) ≡ table_link ram.base b e (2 + k))
         × (word_of (page_of m (table_page b e (2 + k))) j ≡ page_word (ram.base + 0x200000 * k + 4096 * j) q)))
     way k j hk hj at =
-        let aligned : ram.base % MOST_RAM ≡ 0 = room.place in
+        let aligned : ram.base % 0x200000 ≡ 0 = room.place in
+        let one : ram.base % 2 ^ 30 + 0x200000 * b ≤ 2 ^ 30 = room.one_table in
         let few : b ≤ MOST_BLOCKS = room.few in
         let within : ram.base + 0x200000 * b ≤ 2 ^ 32 = room.within in
         let entry : level2_place ram.base + k < 512 = omega arith in
@@ -437,7 +443,8 @@ walk-words ram m n b e a rights stands he ha base size words =
         ⊎ ((q : Option Rights) × (q ≡ rights e (page_at ram a)) × (word_of (page_of m (table_page b e 1)) (level2_place ram.base + k) ≡ table_link ram.base b e (2 + k))
         × (word_of (page_of m (table_page b e (2 + k))) j ≡ page_word (ram.base + 0x200000 * k + 4096 * j) q)))
     way k j hk hj at =
-        let aligned : ram.base % MOST_RAM ≡ 0 = stands.fits.place in
+        let aligned : ram.base % 0x200000 ≡ 0 = stands.fits.place in
+        let one : ram.base % 2 ^ 30 + 0x200000 * b ≤ 2 ^ 30 = stands.fits.one_table in
         let few : b ≤ MOST_BLOCKS = stands.fits.few in
         let within : ram.base + 0x200000 * b ≤ 2 ^ 32 = stands.fits.within in
         let second = words 1 (level2_place ram.base + k) (omega arith) (omega arith) in
@@ -460,7 +467,8 @@ mixed-between old new ram n b h room base base' reads e a m he ha mix =
     elim (walk-mixed ram m n b e a h (IsAsInEither old new b) room he ha reads mix) [
       | inl none ↦ inr (inr none)
       | inr (q, its, low, is) ↦
-          let aligned : ram.base % MOST_RAM ≡ 0 = room.place in
+          let aligned : ram.base % 0x200000 ≡ 0 = room.place in
+          let one : ram.base % 2 ^ 30 + 0x200000 * b ≤ 2 ^ 30 = room.one_table in
           let low' : ram.base ≤ a = subst (λ (c : ℕ). c ≤ a) mix.base low in
           let at : ram.base + 4096 * page_at ram a + a % 4096 ≡ a = omega (arith, aligned, low') in
           elim its [

@@ -4,7 +4,7 @@ use Rattle.std.proofs.Common.{◌≡◌, ℕ, ◌+◌, ◌*◌, ◌%◌, ◌<◌
 use Rattle.std.proofs.lemmas.Bool.Decides.{nat_tests}
 use Rattle.std.proofs.lemmas.Nat.{mul-add-lt}
 use Rattle.std.proofs.Common.{List, mul-le-mul_right}
-use Rattle.ffa_model.specs.declared.limits.TheConstants.{MOST_ENDPOINTS, MOST_RAM}
+use Rattle.ffa_model.specs.declared.limits.TheConstants.{MOST_ENDPOINTS}
 use Rattle.ffa_model.specs.Ram.{Ram}
 use Rattle.ffa_model.specs.Manifest.{table_pages, root_of}
 use Rattle.ffa_model.specs.Walk.{is_in_ram, is_page_address}
@@ -33,7 +33,7 @@ pub table_page-address : (ram : Ram) (n b e s : ℕ) → HasRoom ram n b → e <
     → is_page_address ram (ram.base + 4096 * table_page b e s) ≡ true
 table_page-address ram n b e s fits he hs =
     let below : table_page b e s < length ram.pages = table_page-below ram n b e s fits he hs in
-    let place : ram.base % MOST_RAM ≡ 0 = fits.place in
+    let place : ram.base % 0x200000 ≡ 0 = fits.place in
     let aligned : (ram.base + 4096 * table_page b e s) % 4096 ≡ 0 = omega arith in
     rw (aligned, is_in_ram-inside ram (ram.base + 4096 * table_page b e s) (omega arith) (omega arith))
 

@@ -4,7 +4,7 @@ use Rattle.std.proofs.Common.{◌≡◌, ◌∙◌, ℕ, ◌+◌, ◌-◌, ◌*�
 use Rattle.std.specs.Prelude.{◌==◌, nat_lt}
 use Rattle.std.proofs.lemmas.Bool.{cases_lt, cases_eq}
 use Rattle.std.proofs.lemmas.Bool.Decides.{nat_tests}
-use Rattle.ffa_model.specs.declared.limits.TheConstants.{MOST_BLOCKS, MOST_RAM}
+use Rattle.ffa_model.specs.declared.limits.TheConstants.{MOST_BLOCKS}
 use Rattle.ffa_model.specs.Bits.{bits}
 use Rattle.ffa_model.specs.Ram.{Ram, page_of}
 use Rattle.ffa_model.specs.Manifest.{root_of}
@@ -37,7 +37,8 @@ module _ (ram : Ram) (n b : ℕ) (access : ℕ → ℕ → Option Rights) (e a :
   in_block k hk word block =
       let j : ℕ = bits 20 12 a in
       let g : ℕ = (ram.base + 0x200000 * k) / 0x200000 in
-      let aligned : ram.base % MOST_RAM ≡ 0 = built.fits.place in
+      let aligned : ram.base % 0x200000 ≡ 0 = built.fits.place in
+      let one : ram.base % 2 ^ 30 + 0x200000 * b ≤ 2 ^ 30 = built.fits.one_table in
       let within : ram.base + 0x200000 * b ≤ 2 ^ 32 = built.fits.within in
       let address : ram.base + 0x200000 * k ≡ 0x200000 * g = omega arith in
       let target : g * 2 ^ 21 + bits 20 0 a ≡ ram.base + 4096 * (512 * k + j) + a % 4096 = omega arith in
@@ -55,7 +56,8 @@ module _ (ram : Ram) (n b : ℕ) (access : ℕ → ℕ → Option Rights) (e a :
       let f : ℕ = ram.base / 4096 + (512 * k + j) in
       let t : ℕ = ram.base + 4096 * table_page b e (2 + k) in
       let hj : j < 512 = omega arith in
-      let aligned : ram.base % MOST_RAM ≡ 0 = built.fits.place in
+      let aligned : ram.base % 0x200000 ≡ 0 = built.fits.place in
+      let one : ram.base % 2 ^ 30 + 0x200000 * b ≤ 2 ^ 30 = built.fits.one_table in
       let within : ram.base + 0x200000 * b ≤ 2 ^ 32 = built.fits.within in
       let size : length ram.pages ≡ 512 * b = built.fits.size in
       let q : ram.base + 0x200000 * k + 4096 * j ≡ 4096 * f = omega arith in
@@ -91,7 +93,8 @@ module _ (ram : Ram) (n b : ℕ) (access : ℕ → ℕ → Option Rights) (e a :
       let first : ℕ = level2_place ram.base in
       let j : ℕ = bits 29 21 a in
       let hj : j < 512 = omega arith in
-      let aligned : ram.base % MOST_RAM ≡ 0 = built.fits.place in
+      let aligned : ram.base % 0x200000 ≡ 0 = built.fits.place in
+      let one : ram.base % 2 ^ 30 + 0x200000 * b ≤ 2 ^ 30 = built.fits.one_table in
       let few : b ≤ MOST_BLOCKS = built.fits.few in
       let within : ram.base + 0x200000 * b ≤ 2 ^ 32 = built.fits.within in
       let size : length ram.pages ≡ 512 * b = built.fits.size in
@@ -123,7 +126,8 @@ module _ (ram : Ram) (n b : ℕ) (access : ℕ → ℕ → Option Rights) (e a :
       let base : ℕ = ram.base in
       let j : ℕ = bits 31 30 a in
       let hj : j < 512 = omega arith in
-      let aligned : ram.base % MOST_RAM ≡ 0 = built.fits.place in
+      let aligned : ram.base % 0x200000 ≡ 0 = built.fits.place in
+      let one : ram.base % 2 ^ 30 + 0x200000 * b ≤ 2 ^ 30 = built.fits.one_table in
       let few : b ≤ MOST_BLOCKS = built.fits.few in
       let within : ram.base + 0x200000 * b ≤ 2 ^ 32 = built.fits.within in
       let size : length ram.pages ≡ 512 * b = built.fits.size in

@@ -4,7 +4,7 @@ use Rattle.std.proofs.Common.{◌≡◌, ◌∙◌, ℕ, suc, ◌+◌, ◌-◌, 
 use Rattle.std.specs.Prelude.{◌==◌, ◌&&◌, nat_lt, nat_le, if◌then◌else◌, is_some}
 use Rattle.std.proofs.lemmas.Bool.{false≢true}
 use Rattle.std.proofs.lemmas.Bool.Decides.{nat_tests}
-use Rattle.ffa_model.specs.declared.limits.TheConstants.{MOST_BLOCKS, MOST_RAM}
+use Rattle.ffa_model.specs.declared.limits.TheConstants.{MOST_BLOCKS}
 use Rattle.ffa_model.specs.Ram.{Ram}
 use Rattle.ffa_model.specs.Descriptor.{page_word}
 use Rattle.ffa_model.specs.Manifest.{table_pages}
@@ -75,7 +75,8 @@ IsBuilt-of_words ram n b t = record {
       ∙ built_word-level2_other ram.base b e j (no_access e) (λ from below. elim off [ inl low ↦ omega arith | inr high ↦ omega arith ]);
   each = λ e k he hk.
       let few : b ≤ MOST_BLOCKS = t.fits.few in
-      let place : ram.base % MOST_RAM ≡ 0 = t.fits.place in
+      let place : ram.base % 0x200000 ≡ 0 = t.fits.place in
+      let one : ram.base % 2 ^ 30 + 0x200000 * b ≤ 2 ^ 30 = t.fits.one_table in
       let within : ram.base + 0x200000 * b ≤ 2 ^ 32 = t.fits.within in
       inr (
         record {

@@ -47,6 +47,7 @@ module _ (ram : Ram) (n b : ℕ) (word : ℕ → ℕ → ℕ → ℕ) (e s j v :
   TablesAre-put = record {
     fits = record {
       place = t.fits.place;
+      one_table = t.fits.one_table;
       few = t.fits.few;
       within = t.fits.within;
       size = length-set ram.pages target new_page ∙ t.fits.size;

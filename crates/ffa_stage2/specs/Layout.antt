@@ -7,7 +7,7 @@ use Rattle.ffa_model.specs.declared.endpoint.Region.{Region}
 use Rattle.ffa_model.specs.declared.rights.Rights.{Rights}
 use Rattle.ffa_stage2.specs.declared.layout.Layout.{Layout}
 use Rattle.ffa_stage2.specs.declared.layout.Regions.{Regions}
-use Rattle.ffa_model.specs.Regions.{right_in as right_among}
+use Rattle.ffa_model.specs.Regions.{normal_of, right_in as right_among}
 use Rattle.ffa_stage2.specs.Tables.{IsBuilt, BlocksWhereOne, WalksTo, KeepsRest}
 use Rattle.ffa_stage2.specs.Words.{TablesAre}
 
@@ -21,6 +21,10 @@ regions_in layout = lists_of layout.regions.items
 -- the right that endpoint e has to page p from the start
 abbrev pub layout_right : Layout → ℕ → ℕ → Option Rights
 layout_right layout e p = right_among layout.base.0 (slice_index_or (regions_in layout) e []) p
+
+-- where worlds are told apart, the regions of non-secure memory: the normal world's
+abbrev pub normal_in : Layout → Option (List Region)
+normal_in layout = normal_of layout.worlds (slice_index_or (regions_in layout) 0 [])
 
 -- the tables of the layout's endpoints stand in the RAM, and endpoint e has `access e p` to page p
 abbrev pub IsBuiltFor : Layout → Ram → (ℕ → ℕ → Option Rights) → Type 0

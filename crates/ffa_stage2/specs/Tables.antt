@@ -2,7 +2,7 @@
 -- The tables of all endpoints in the RAM's first pages: for each endpoint in order one page of level 1, one of level 2,
 -- and one of level 3 for each block of 2 MiB.
 use Rattle.std.specs.Prelude.{◌≡◌, true, ℕ, List, ◌+◌, ◌-◌, ◌*◌, ◌/◌, ◌%◌, ◌^◌, ◌<◌, ◌≤◌, ◌⊎◌, ◌==◌, ◌&&◌, nat_le, nat_lt, Bool, if◌then◌else◌, length, Option, None}
-use Rattle.ffa_model.specs.declared.limits.TheConstants.{MOST_BLOCKS, MOST_RAM}
+use Rattle.ffa_model.specs.declared.limits.TheConstants.{MOST_BLOCKS}
 use Rattle.ffa_model.specs.Bits.{bits}
 use Rattle.ffa_model.specs.Ram.{Ram, page_of, word_of}
 use Rattle.ffa_model.specs.Manifest.{table_pages, root_of}
@@ -26,9 +26,10 @@ level1_place base = bits 31 30 base
 abbrev pub level2_place : ℕ → ℕ
 level2_place base = bits 29 21 base
 
--- the RAM has room for the tables of this many endpoints
+-- the RAM has room for the tables of this many endpoints, each with one table of level 2
 pub record HasRoom (ram : Ram) (endpoints blocks : ℕ) : Type 0 where
-  pub place : ram.base % MOST_RAM ≡ 0
+  pub place : ram.base % 0x200000 ≡ 0
+  pub one_table : ram.base % 2 ^ 30 + 0x200000 * blocks ≤ 2 ^ 30
   pub few : blocks ≤ MOST_BLOCKS
   pub within : ram.base + 0x200000 * blocks ≤ 2 ^ 32
   pub size : length ram.pages ≡ 512 * blocks

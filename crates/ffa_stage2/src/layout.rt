@@ -1,13 +1,13 @@
 // SPDX-License-Identifier: MIT OR Apache-2.0
 //! Where the RAM stands, and which pages of it each endpoint may use from the start.
-ghost use Rattle.std.specs.Prelude.{◌≡◌, ℕ, ◌+◌, ◌*◌, ◌%◌, ◌^◌, ◌<◌, ◌≤◌};
+ghost use Rattle.std.specs.Prelude.{◌≡◌, is_some, ℕ, ◌+◌, ◌*◌, ◌%◌, ◌^◌, ◌<◌, ◌≤◌};
 ghost use Rattle.arrayvec.specs.ArrayVec.{array_vec_len};
-ghost use Rattle.ffa_model.specs.declared.limits.TheConstants.{MOST_BLOCKS, MOST_RAM};
+ghost use Rattle.ffa_model.specs.declared.limits.TheConstants.{MOST_BLOCKS};
 ghost use Rattle.ffa_model.specs.Manifest.{table_pages};
 
 use arrayvec::ArrayVec;
 use ffa_model::{
-    Address, Endpoint, MOST_ENDPOINTS, MOST_REGIONS, Manifest, PageNo, Region, Rights,
+    Address, Endpoint, MOST_ENDPOINTS, MOST_REGIONS, Manifest, PageNo, Region, Rights, Worlds,
     regions_until, right_in,
 };
 use ffa_physmem::PAGE_SIZE;
@@ -53,15 +53,18 @@ pub struct Layout {
     pub blocks: u32,
     /// The regions by the endpoint's place in the manifest.
     pub regions: ArrayVec<Regions, MOST_ENDPOINTS>,
-    pub ghost place: { base.0 % MOST_RAM ≡ 0 },
+    /// Whether worlds are told apart.
+    pub worlds: Worlds,
+    pub ghost place: { base.0 % 0x200000 ≡ 0 },
+    pub ghost one_table: { base.0 % 2 ^ 30 + 0x200000 * blocks ≤ 2 ^ 30 },
     pub ghost few: { blocks ≤ MOST_BLOCKS },
     pub ghost within: { base.0 + 0x200000 * blocks ≤ 2 ^ 32 },
     pub ghost room: { array_vec_len regions * table_pages blocks ≤ 512 * blocks },
 }
 
 impl Layout {
-    ghost use Rattle.ffa_stage2.specs.Layout.{regions_in, layout_right};
-    ghost use Rattle.ffa_model.specs.Regions.{regions_of_each};
+    ghost use Rattle.ffa_stage2.specs.Layout.{regions_in, layout_right, normal_in};
+    ghost use Rattle.ffa_model.specs.Regions.{is_normal, normal_of, regions_at, regions_of_each};
     ghost use Rattle.ffa_stage2.specs.Tables.{table_page, table_link};
 
     /// The layout of a machine: its RAM, and its endpoints' regions in the same order.
@@ -69,6 +72,7 @@ impl Layout {
         ensures base { result.base.0 ≡ manifest.now.ram_base.0 }
         ensures blocks { result.blocks ≡ manifest.now.ram_blocks }
         ensures regions { regions_in result ≡ regions_of_each manifest.now.endpoints.items }
+        ensures normal { normal_in result ≡ normal_of manifest.now.worlds (regions_at manifest.now.endpoints.items 0) }
     {
         let mut regions = ArrayVec::new();
         for endpoint in manifest.endpoints.as_slice() {
@@ -78,6 +82,7 @@ impl Layout {
             base: manifest.ram_base,
             blocks: manifest.ram_blocks,
             regions,
+            worlds: manifest.worlds,
         }
     }
 
@@ -93,7 +98,39 @@ impl Layout {
             base: self.base,
             blocks: self.blocks,
             regions,
+            worlds: self.worlds,
         }
+    }
+
+    /// Whether worlds are told apart.
+    pub fn tells_worlds(&self) -> bool
+        ensures { result ≡ is_some (normal_in self.now) }
+    {
+        self.worlds == Worlds::Two
+    }
+
+    /// Whether a page is non-secure, where worlds are told apart.
+    pub fn is_normal(&self, page: PageNo) -> bool
+        ensures { result ≡ is_normal self.now.base.0 (normal_in self.now) page.0 }
+    {
+        if self.worlds == Worlds::One || self.regions.is_empty() {
+            return false;
+        }
+        right_in(self.regions[0].list.as_slice(), self.base, page).is_some()
+    }
+
+    /// Up to which page, at most an end, all pages from one on are non-secure, or none of them is.
+    pub fn normal_until(&self, first: PageNo, end: u32) -> u32
+        requires { first.0 < end }
+        ensures some { first.0 < result }
+        ensures end { result ≤ end }
+        ensures alike { let is_normal = is_normal self.now.base.0 (normal_in self.now) in
+            (p : ℕ) → first.0 ≤ p → p < result → is_normal p ≡ is_normal first.0 }
+    {
+        if self.regions.is_empty() {
+            return end;
+        }
+        regions_until(self.regions[0].list.as_slice(), self.base, first, end)
     }
 
     // The right that an endpoint's regions give to a page, if one of them has it.

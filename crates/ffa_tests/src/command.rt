@@ -20,14 +20,18 @@ fn push_flags(words: &mut String, flags: &[(&str, bool)]) -> Result<(), AllocErr
 
 fn push_machine(words: &mut String, machine: MachineOptions) -> Result<(), AllocError> {
     push_flags(words, &[("frames", machine.frames), ("tlb", machine.tlb)])?;
-    push_processors(words, machine.processors)
+    push_setting(words, machine.processors, machine.worlds)
 }
 
-fn push_processors(words: &mut String, processors: Option<usize>) -> Result<(), AllocError> {
-    match processors {
-        Some(count) => write!(words, " processors {count}"),
-        None => Ok(()),
+fn push_setting(
+    words: &mut String,
+    processors: Option<usize>,
+    worlds: bool,
+) -> Result<(), AllocError> {
+    if let Some(count) = processors {
+        write!(words, " processors {count}")?;
     }
+    push_flags(words, &[("worlds", worlds)])
 }
 
 fn push_text(words: &mut String, text: TextOptions) -> Result<(), AllocError> {
@@ -128,10 +132,15 @@ fn push_options(words: &mut String, request: &Request<'_>) -> Result<(), AllocEr
             push_purpose(words, options.purpose)
         }
         Request::Layout { regions, .. } => push_flags(words, &[("regions", regions)]),
-        Request::Generate(options) => push_flags(words, &[("count", options.count)]),
+        Request::Generate(options) => {
+            push_flags(
+                words,
+                &[("count", options.count), ("worlds", options.worlds)],
+            )
+        }
         Request::Test(options) => {
             push_flags(words, &[("tap", options.tap)])?;
-            push_processors(words, options.processors)
+            push_setting(words, options.processors, options.worlds)
         }
         Request::Check { .. } | Request::Descriptor { .. } => Ok(()),
     }
@@ -253,6 +262,16 @@ ffaplay record row.toml --processors 1 first.trace => record row.toml first.trac
 ffaplay compare a b c --processors 0x3 => compare a b c processors 3
 ffaplay picture a b --processors 4 --page => picture a b 0 0 processors 4 --page
 ffaplay test rows --processors 2 => test rows processors 2
+ffaplay run --worlds row.toml first.trace => run row.toml first.trace --worlds
+ffaplay demo first.trace --worlds --processors 2 => demo first.trace processors 2 --worlds
+ffaplay record row.toml --worlds first.trace --tlb => record row.toml first.trace --tlb --worlds
+ffaplay compare a b --worlds c --names => compare a b c --worlds --names
+ffaplay picture a b --worlds => picture a b 0 0 --worlds
+ffaplay test --worlds rows --tap => test rows --tap --worlds
+ffaplay generate row.toml --worlds --count => generate row.toml 1 1000 --count --worlds
+ffaplay check --worlds row.toml => UnknownArgument
+ffaplay layout row.toml --worlds => UnknownArgument
+ffaplay run --worlds=1 row.toml first.trace => TooManyValues
 ffaplay run --processors 0 row.toml first.trace => ValueValidation
 ffaplay run --processors 9 row.toml first.trace => ValueValidation
 ffaplay test --processors two rows => ValueValidation

@@ -200,6 +200,7 @@ fn response(kind: Kind, zero: bool, level: Data, address: u64) -> Response
         sender: EndpointId(0x8001),
         kind,
         zero,
+        normal: false,
         handle: 0x8001_0000_0001,
         tag: 0,
         endpoint: EndpointId(0x8002),
@@ -251,6 +252,16 @@ fn responses_are_written(rt: HostRuntime) {
         &response(Kind::Share, false, Data::Ro, 0x4002_2000),
         &want,
     );
+}
+
+// Bit 6 of the attributes says that it is non-secure.
+#[test]
+fn response_of_non_secure_memory_is_written(rt: HostRuntime) {
+    let mut told = response(Kind::Share, false, Data::Rw, 0x4002_1000);
+    told.normal = true;
+    let mut want = LENT;
+    want[0] = 0x8_006f_8001;
+    assert_writes(&rt, &told, &want);
 }
 
 #[test]

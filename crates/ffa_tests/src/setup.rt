@@ -15,10 +15,29 @@ fn versions(rt: HostRuntime) {
 
 #[test]
 fn feature_by_identifier(rt: HostRuntime) {
-    alike(&rt, features(0x8400_0066), Reply::Success([0; 6]));
+    alike(&rt, features(0x8400_0066, false), Reply::Success([0; 6]));
     alike(
         &rt,
-        features(0x8400_0075),
+        features(0x8400_0075, false),
+        Reply::Error(ErrorCode::NotSupported),
+    );
+}
+
+// Bit 1 in w2 says of FFA_MEM_RETRIEVE_REQ, in both forms, that its response tells non-secure memory.
+#[test]
+fn features_where_worlds_are_told_apart(rt: HostRuntime) {
+    for function in [0x8400_0074, 0xC400_0074] {
+        alike(&rt, features(function, false), Reply::Success([0; 6]));
+        alike(
+            &rt,
+            features(function, true),
+            Reply::Success([2, 0, 0, 0, 0, 0]),
+        );
+    }
+    alike(&rt, features(0x8400_0073, true), Reply::Success([0; 6]));
+    alike(
+        &rt,
+        features(0x8400_0075, true),
         Reply::Error(ErrorCode::NotSupported),
     );
 }

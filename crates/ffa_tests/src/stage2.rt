@@ -8,7 +8,7 @@ ghost use Rattle.ffa_stage2.specs.Layout.{IsBuiltFor};
 use crate::checks::{holds, same, same_at};
 use arrayvec::ArrayVec;
 use byteorder::{ByteOrder, LittleEndian};
-use ffa_model::{Address, Data, PageNo, Region, Rights};
+use ffa_model::{Address, Data, PageNo, Region, Rights, Worlds};
 use ffa_physmem::{FlatRam, NoMemory, PhysMem};
 use ffa_stage2::{Layout, Regions, build, is_uniform, leaf, set_page};
 use fixtures::{row_machine, word};
@@ -38,6 +38,7 @@ fn two_blocks(rights: Rights) -> Layout
         base: Address(0x4000_0000),
         blocks: 2,
         regions,
+        worlds: Worlds::One,
     }
 }
 
@@ -151,6 +152,7 @@ fn whole_blocks() -> Layout
         base: Address(0x4000_0000),
         blocks: 32,
         regions,
+        worlds: Worlds::One,
     }
 }
 
@@ -288,4 +290,27 @@ fn set_page_writes_descriptor(rt: HostRuntime) -> Result<(), NoMemory> {
     same(&rt, word(&ram, 5, 1), Some(0x0040_0000_4000_177f));
     same(&rt, word(&ram, 5, 2), Some(0));
     Ok(())
+}
+
+// Where worlds are told apart, the pages of the normal world's region are non-secure, from the 16th to the 31st.
+#[test]
+fn non_secure_pages(rt: HostRuntime) {
+    let one = Layout::of(&row_machine());
+    let two = Layout::of(&row_machine().with_worlds(Worlds::Two));
+    holds(&rt, !one.tells_worlds() && two.tells_worlds());
+    for (page, normal) in [
+        (0, false),
+        (15, false),
+        (16, true),
+        (31, true),
+        (32, false),
+        (511, false),
+    ] {
+        same_at(&rt, one.is_normal(PageNo(page)), false, &page);
+        same_at(&rt, two.is_normal(PageNo(page)), normal, &page);
+    }
+    for (first, until) in [(0, 16), (16, 32), (20, 32), (32, 511)] {
+        same_at(&rt, two.normal_until(PageNo(first), 511), until, &first);
+    }
+    same(&rt, two.normal_until(PageNo(16), 18), 18);
 }

@@ -53,13 +53,17 @@ with_flag id app = with_rule app (flag_rule id)
 abbrev pub with_optional : Text → App → App
 with_optional id app = with_rule app (value_rule id)
 
--- how many processors run the machine
-abbrev pub with_processors : App → App
-with_processors app = with_optional (codes "processors") app
+-- whether the machine tells worlds apart
+abbrev pub with_worlds : App → App
+with_worlds app = with_flag (codes "worlds") app
 
--- how the machine is built: with RAM in frames, with a cache of translations, and for so many processors
+-- how many processors run the machine, and whether it tells worlds apart
+abbrev pub with_setting : App → App
+with_setting app = with_worlds (with_optional (codes "processors") app)
+
+-- how the machine is built: with RAM in frames, and with a cache of translations; and its setting
 abbrev pub with_machine_flags : App → App
-with_machine_flags app = with_processors (with_flag (codes "tlb") (with_flag (codes "frames") app))
+with_machine_flags app = with_setting (with_flag (codes "tlb") (with_flag (codes "frames") app))
 
 -- what stands in a text: numbers of lines, names, and the reasons of refusals, and short words
 abbrev pub with_form_flags : App → App
@@ -124,7 +128,8 @@ abbrev pub with_size : App → App
 with_size app = with_number (codes "lines") (codes "1000") (with_number (codes "seed") (codes "1") app)
 
 unfoldable pub generate_app : App
-generate_app = with_verbose (with_flag (codes "count") (with_size (with_manifest (new_app (codes "generate")))))
+generate_app =
+    with_verbose (with_worlds (with_flag (codes "count") (with_size (with_manifest (new_app (codes "generate"))))))
 
 -- which lines have a row, and what is drawn of them
 abbrev pub with_rows : App → App
@@ -134,14 +139,14 @@ with_rows app =
 unfoldable pub picture_app : App
 picture_app =
     with_verbose
-    (with_processors (with_flag (codes "page") (with_rows (with_trace (with_manifest (new_app (codes "picture")))))))
+    (with_setting (with_flag (codes "page") (with_rows (with_trace (with_manifest (new_app (codes "picture")))))))
 
--- a folder of traces, how it is told what came of them, and how many processors run each machine
+-- a folder of traces, how it is told what came of them, and each machine's setting
 abbrev pub with_folder : App → App
 with_folder app = with_rule app (path_rule (codes "folder"))
 
 unfoldable pub test_app : App
-test_app = with_processors (with_flag (codes "tap") (with_folder (new_app (codes "test"))))
+test_app = with_setting (with_flag (codes "tap") (with_folder (new_app (codes "test"))))
 
 -- the program, which has a version and has to be given a command
 unfoldable pub bare : App
@@ -218,16 +223,16 @@ pub data Ask : Type 0 where
   check : Text → Bool → Ask
   layout : Text → (regions verbose : Bool) → Ask
   descriptor : (manifest : Option Text) → Described → Ask
-  generate : Text → (seed lines : ℕ) → (count verbose : Bool) → Ask
-  test : (folder : Text) → (tap : Bool) → (processors : Option ℕ) → Ask
+  generate : Text → (seed lines : ℕ) → (count worlds verbose : Bool) → Ask
+  test : (folder : Text) → (tap : Bool) → (processors : Option ℕ) → (worlds : Bool) → Ask
 
 abbrev pub ask_of : Request → Ask
 ask_of (Play o) = play (path_of o.source) o.trace.now o.machine (aim_of o.purpose) o.verbose
 ask_of (Check manifest verbose) = check manifest.now verbose
 ask_of (Layout manifest regions verbose) = layout manifest.now regions verbose
 ask_of (Descriptor manifest words) = descriptor (option_map (λ s. s.now) manifest) (words_of words)
-ask_of (Generate o) = generate o.manifest.now o.seed o.lines o.count o.verbose
-ask_of (Test o) = test o.folder.now o.tap o.processors
+ask_of (Generate o) = generate o.manifest.now o.seed o.lines o.count o.worlds o.verbose
+ask_of (Test o) = test o.folder.now o.tap o.processors o.worlds
 
 -- the path of the manifest that is asked for, that of the trace, and that of the expected text
 abbrev pub manifest_of : Ask → Option Text
@@ -235,8 +240,8 @@ manifest_of (play manifest trace machine aim verbose) = manifest
 manifest_of (check manifest verbose) = Some manifest
 manifest_of (layout manifest regions verbose) = Some manifest
 manifest_of (descriptor manifest words) = manifest
-manifest_of (generate manifest seed lines count verbose) = Some manifest
-manifest_of (test folder tap processors) = None
+manifest_of (generate manifest seed lines count worlds verbose) = Some manifest
+manifest_of (test folder tap processors worlds) = None
 
 abbrev pub trace_of : Ask → Option Text
 trace_of (play manifest trace machine aim verbose) = Some trace
@@ -252,8 +257,8 @@ verbose_of (play manifest trace machine aim verbose) = verbose
 verbose_of (check manifest verbose) = verbose
 verbose_of (layout manifest regions verbose) = verbose
 verbose_of (descriptor manifest words) = false
-verbose_of (generate manifest seed lines count verbose) = verbose
-verbose_of (test folder tap processors) = false
+verbose_of (generate manifest seed lines count worlds verbose) = verbose
+verbose_of (test folder tap processors worlds) = false
 
 -- the same, of which more is to be said, where it can be
 abbrev pub said_more : Ask → Ask
@@ -261,8 +266,8 @@ said_more (play manifest trace machine aim verbose) = play manifest trace machin
 said_more (check manifest verbose) = check manifest true
 said_more (layout manifest regions verbose) = layout manifest regions true
 said_more (descriptor manifest words) = descriptor manifest words
-said_more (generate manifest seed lines count verbose) = generate manifest seed lines count true
-said_more (test folder tap processors) = test folder tap processors
+said_more (generate manifest seed lines count worlds verbose) = generate manifest seed lines count worlds true
+said_more (test folder tap processors worlds) = test folder tap processors worlds
 
 -- whether a path is given and is `-`, which stands for standard input
 unfoldable pub is_input : Option Text → Bool
@@ -319,6 +324,7 @@ machine_in rows processors = record {
   frames = is_given (codes "frames") rows;
   tlb = is_given (codes "tlb") rows;
   processors = processors;
+  worlds = is_given (codes "worlds") rows;
 }
 
 unfoldable pub text_in : List Row → TextOptions
@@ -407,13 +413,13 @@ generate_in rows = do
   manifest ← first_of (codes "manifest") rows
   seed ← number_in (codes "seed") rows
   lines ← number_in (codes "lines") rows
-  Some (generate manifest seed lines (is_given (codes "count") rows) (is_given (codes "verbose") rows))
+  Some (generate manifest seed lines (is_given (codes "count") rows) (is_given (codes "worlds") rows) (is_given (codes "verbose") rows))
 
 unfoldable pub test_in : List Row → Option Ask
 test_in rows = do
   folder ← first_of (codes "folder") rows
   processors ← processors_in rows
-  Some (test folder (is_given (codes "tap") rows) processors)
+  Some (test folder (is_given (codes "tap") rows) processors (is_given (codes "worlds") rows))
 
 unfoldable pub ask_in : Text → List Row → Option Ask
 ask_in name rows =

@@ -40,6 +40,8 @@ pub struct MachineOptions {
     pub tlb: bool,
     /// So many processors run it, from 1 to 8; where it is nothing, one runs it alone, and a trace names none.
     pub processors: Option<usize>,
+    /// Worlds are told apart: memory of the normal world's regions is non-secure, all other secure.
+    pub worlds: bool,
 }
 
 /// How the text of a play is written.
@@ -156,6 +158,8 @@ pub struct GenerateOptions<'a> {
     pub lines: u64,
     /// Its calls and accesses are counted, and it isn't printed.
     pub count: bool,
+    /// The machine tells worlds apart, as `MachineOptions` has it.
+    pub worlds: bool,
     /// More is said of what is refused.
     pub verbose: bool,
 }
@@ -169,6 +173,8 @@ pub struct TestOptions<'a> {
     pub tap: bool,
     /// So many processors run each machine, as `MachineOptions` has it.
     pub processors: Option<usize>,
+    /// Each machine tells worlds apart, as `MachineOptions` has it.
+    pub worlds: bool,
 }
 
 /// A command with its paths, which are words of the command line, and what its flags say.
@@ -437,6 +443,7 @@ fn machine_in(matches: &ArgMatches<'_>, processors: Option<usize>) -> MachineOpt
         frames: is_given(matches, "frames"),
         tlb: is_given(matches, "tlb"),
         processors,
+        worlds: is_given(matches, "worlds"),
     }
 }
 
@@ -575,6 +582,7 @@ fn generate_in<'a>(matches: &ArgMatches<'a>) -> Option<Request<'a>>
         seed: number_in(matches, "seed")?,
         lines: number_in(matches, "lines")?,
         count: is_given(matches, "count"),
+        worlds: is_given(matches, "worlds"),
         verbose: is_given(matches, "verbose"),
     }))
 }
@@ -587,6 +595,7 @@ fn test_in<'a>(matches: &ArgMatches<'a>) -> Option<Request<'a>>
         folder: text_of(matches, "folder")?,
         tap: is_given(matches, "tap"),
         processors: processors_in(matches)?,
+        worlds: is_given(matches, "worlds"),
     }))
 }
 

@@ -93,6 +93,11 @@ const PROCESSORS: Word = Word::Value {
     help: "How many processors run the machine, from 1 to 8: a trace may then have `on N` and `interrupt`",
 };
 
+const WORLDS: Word = Word::Flag {
+    id: "worlds",
+    help: "Tells memory of the normal world, which is non-secure, from all other",
+};
+
 const LINE_BUFFERED: Word = Word::Flag {
     id: "line-buffered",
     help: "Writes the text of each line before more of the trace is read",
@@ -147,6 +152,7 @@ const RUN: Entry = Entry {
         FRAMES,
         TLB,
         PROCESSORS,
+        WORLDS,
         LINE_BUFFERED,
         NUMBER,
         NAMES,
@@ -167,6 +173,7 @@ const DEMO: Entry = Entry {
         FRAMES,
         TLB,
         PROCESSORS,
+        WORLDS,
         LINE_BUFFERED,
         NUMBER,
         NAMES,
@@ -182,14 +189,15 @@ const DEMO: Entry = Entry {
 const RECORD: Entry = Entry {
     name: "record",
     about: "Prints a trace with the guards of its own play on the machine of a manifest",
-    words: &[MANIFEST, TRACE, FRAMES, TLB, PROCESSORS, VERBOSE],
+    words: &[MANIFEST, TRACE, FRAMES, TLB, PROCESSORS, WORLDS, VERBOSE],
 };
 
 const COMPARE: Entry = Entry {
     name: "compare",
     about: "Compares what a trace prints with what is expected",
     words: &[
-        MANIFEST, TRACE, EXPECTED, FRAMES, TLB, PROCESSORS, NUMBER, NAMES, EXPLAIN, SHORT, VERBOSE,
+        MANIFEST, TRACE, EXPECTED, FRAMES, TLB, PROCESSORS, WORLDS, NUMBER, NAMES, EXPLAIN, SHORT,
+        VERBOSE,
     ],
 };
 
@@ -293,7 +301,7 @@ const DESCRIPTOR: Entry = Entry {
 const GENERATE: Entry = Entry {
     name: "generate",
     about: "Prints a trace for the machine of a manifest",
-    words: &[MANIFEST, SEED, LINES, COUNT, VERBOSE],
+    words: &[MANIFEST, SEED, LINES, COUNT, WORLDS, VERBOSE],
 };
 
 const FOLDER: Word = Word::Path {
@@ -309,7 +317,7 @@ const TAP: Word = Word::Flag {
 const TEST: Entry = Entry {
     name: "test",
     about: "Plays the traces of a folder, and checks their guards",
-    words: &[FOLDER, TAP, PROCESSORS],
+    words: &[FOLDER, TAP, PROCESSORS, WORLDS],
 };
 
 const EVERY: Word = Word::Number {
@@ -338,7 +346,7 @@ const PICTURE: Entry = Entry {
     name: "picture",
     about: "Prints a picture, as SVG, of who reaches which page along a trace",
     words: &[
-        MANIFEST, TRACE, EVERY, WIDTH, REFUSED, PAGE, PROCESSORS, VERBOSE,
+        MANIFEST, TRACE, EVERY, WIDTH, REFUSED, PAGE, PROCESSORS, WORLDS, VERBOSE,
     ],
 };
 

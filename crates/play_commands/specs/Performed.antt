@@ -1,10 +1,11 @@
 -- SPDX-License-Identifier: MIT OR Apache-2.0
 -- What a command of the program leaves.
-use Rattle.std.specs.Prelude.{◌≡◌, ◌⊎◌, ℕ, Bool, true, false, List, None, Option, Result, IfErr, OnOk, is_some, option_map, ⊤}
+use Rattle.std.specs.Prelude.{◌≡◌, ◌⊎◌, ℕ, Bool, true, false, List, None, Option, Result, IfErr, OnOk, is_some, option_map, ⊤, if◌then◌else◌}
 use Rattle.std.specs.Option.{option_and_then}
 use Rattle.std.specs.Io.KnownBytes.{Keeps}
 use Rattle.ffa_model.specs.State.{State}
 use Rattle.ffa_model.specs.First.{first}
+use Rattle.ffa_model.specs.declared.manifest.Worlds.TheVariants.{One, Two}
 use Rattle.ffa_playable.specs.Bench.{Bench}
 use Rattle.play_demo.specs.Machine.{built_in_endpoints}
 use Rattle.ffa_manifest.specs.Document.{Parts}
@@ -28,10 +29,14 @@ use Rattle.play_files.specs.declared.commands.Files.{Files}
 
 -- the state in which a machine of these parts starts
 abbrev pub first_of : Parts → State
-first_of parts = first parts.ram_base parts.ram_blocks parts.endpoints
+first_of parts = first parts.worlds parts.ram_base parts.ram_blocks parts.endpoints
+
+-- with worlds told apart where that is asked for
+abbrev pub with_worlds : Bool → Parts → Parts
+with_worlds tells parts = record parts { worlds = if tells then Two else parts.worlds }
 
 abbrev pub built_in_parts : Parts
-built_in_parts = record { ram_base = 0x40000000; ram_blocks = 1; endpoints = built_in_endpoints }
+built_in_parts = record { ram_base = 0x40000000; ram_blocks = 1; endpoints = built_in_endpoints; worlds = One }
 
 -- COMMANDS
 
@@ -89,7 +94,7 @@ pub record Played (o : PlayOptions) (ran : Ran) (Left : KnownTask → Bench → 
   pub source : HasParts o.source ran.manifest parts
   pub task : KnownTask
   pub serves : IsTaskFor o.purpose ran.expected task
-  pub left : Left task (begun_by o.machine.processors (first_of parts))
+  pub left : Left task (begun_by o.machine.processors (first_of (with_worlds o.machine.worlds parts)))
 
 -- a command was done, on whichever machine; a test comes to plays, which are commands of their own
 abbrev pub IsDone : Request → Ran → Type 0

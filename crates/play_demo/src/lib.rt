@@ -3,6 +3,7 @@
 #![tactic(auto)]
 
 ghost use Rattle.std.specs.Prelude.{◌≡◌};
+ghost use Rattle.ffa_model.specs.declared.manifest.Worlds.TheVariants.{One};
 ghost use Rattle.play_demo.specs.Machine.{sixteen_writable, endpoint_with, built_in_endpoints};
 
 use arrayvec::ArrayVec;
@@ -55,6 +56,7 @@ pub fn built_in() -> Manifest
     ensures base { result.ram_base.0 ≡ 0x40000000 }
     ensures blocks { result.ram_blocks ≡ 1 }
     ensures endpoints { result.endpoints.items ≡ built_in_endpoints }
+    ensures worlds { result.worlds ≡ One }
 {
     Manifest::of(Address(0x4000_0000), 1, two_endpoints())
 }

@@ -99,20 +99,22 @@ fn play_one<H: AllocGlobal + fs::Files + Clone + Drop, S: Read + Copy + Drop, C:
     } else {
         format!(in alloc; "{folder}/machine.toml")?
     };
-    let request = play_of(manifest.as_str(), trace.as_str(), options.processors);
+    let machine = MachineOptions {
+        frames: false,
+        tlb: false,
+        processors: options.processors,
+        worlds: options.worlds,
+    };
+    let request = play_of(manifest.as_str(), trace.as_str(), machine);
     Ok(carry_out(rt, input, io::sink(), told, commands, &request)?)
 }
 
-// To play a trace past guards that aren't met, on a machine that so many processors run, or one alone.
-fn play_of<'a>(manifest: &'a str, trace: &'a str, processors: Option<usize>) -> Request<'a> {
+// To play a trace past guards that aren't met, on a machine that is built so.
+fn play_of<'a>(manifest: &'a str, trace: &'a str, machine: MachineOptions) -> Request<'a> {
     Request::Play(PlayOptions {
         source: Source::File(manifest),
         trace,
-        machine: MachineOptions {
-            frames: false,
-            tlb: false,
-            processors,
-        },
+        machine,
         purpose: Purpose::Print {
             text: TEXT,
             strict: true,

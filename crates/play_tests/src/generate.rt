@@ -5,7 +5,7 @@ use crate::checks::same;
 use crate::machines::{booted, play};
 use ffa_model::function::*;
 use ffa_model::{
-    EndpointId, ErrorCode, FaultKind, Manifest, Op, Outcome, Properties, Refusal, Why,
+    EndpointId, ErrorCode, FaultKind, Manifest, Op, Outcome, Properties, Refusal, Why, Worlds,
 };
 use ffa_physmem::FlatRam;
 use ffa_reasons::Explained;
@@ -166,8 +166,9 @@ fn reaches_each_check_of(
     reached
 }
 
-// Of 144 checks these can't be reached: one of FFA_RUN, two of direct requests and two of indirect messages, the grant of a
-// donate, the zeros of a share, and that one endpoint's handles are used up, of each of three sends.
+// Of 147 checks these can't be reached: one of FFA_RUN, two of direct requests and two of indirect messages, the grant of a
+// donate, the zeros of a share, and, of each of three sends, that worlds aren't kept apart, where none are, and that one
+// endpoint's handles are used up.
 #[test]
 fn reaches_each_check_that_has_no_reason(rt: HostRuntime) -> Result<(), Fail> {
     let manifest = row_machine();
@@ -203,6 +204,21 @@ fn a_reason_of_the_manifest_is_none_elsewhere(rt: HostRuntime) -> Result<(), Fai
     assert!(rt; why_unreached(everyone, FFA_MSG_SEND2, check).is_none());
     let check = Refusal::RequestsUnreceived;
     assert!(rt; why_unreached(everyone, FFA_MSG_SEND_DIRECT_REQ, check).is_some());
+    Ok(())
+}
+
+// Where worlds are told apart, sends that don't keep them apart are reached, and have no reason.
+#[test]
+fn mixes_worlds_where_they_are_told_apart(rt: HostRuntime) -> Result<(), Fail> {
+    let manifest = row_machine().with_worlds(Worlds::Two);
+    let mut out = Vec::new(rt.alloc());
+    let counts = generated(rt.alloc(), &manifest, 1, LINES, &mut out)?;
+    let everyone = Everyone::of(&manifest);
+    for function in [FFA_MEM_DONATE, FFA_MEM_LEND, FFA_MEM_SHARE] {
+        let count = counts.count_refused(&bare_call(function), Refusal::WorldsMixed);
+        assert!(rt; count > 0, "{function:X}\n{counts}");
+        assert!(rt; why_unreached(everyone, function, Refusal::WorldsMixed).is_none());
+    }
     Ok(())
 }
 

@@ -20,6 +20,7 @@ const MACHINE: MachineOptions = MachineOptions {
     frames: false,
     tlb: false,
     processors: None,
+    worlds: false,
 };
 
 const TEXT: TextOptions = TextOptions {

@@ -5,11 +5,13 @@ use ffa_model::function::{FFA_MEM_DONATE, FFA_MEM_SHARE, FFA_RUN};
 use ffa_model::{Endpoint, Manifest, Properties, Refusal};
 
 /// What every endpoint of a machine may do, of direct requests and of indirect messages; of receiving requests every partition.
+/// And whether all of its memory is alike.
 #[derive(Clone, Copy, Default)]
 pub struct Everyone {
     pub sends_requests: bool,
     pub receives_requests: bool,
     pub takes_messages: bool,
+    pub tells_no_worlds: bool,
 }
 
 impl Everyone {
@@ -21,6 +23,7 @@ impl Everyone {
             sends_requests: all_have(all, Properties::SENDS_DIRECT_REQUESTS),
             receives_requests: all_have(partitions, Properties::RECEIVES_DIRECT_REQUESTS),
             takes_messages: all_have(all, Properties::INDIRECT_MESSAGES),
+            tells_no_worlds: !manifest.tells_worlds(),
         }
     }
 }
@@ -46,6 +49,10 @@ pub fn why_unreached(everyone: Everyone, function: u32, refusal: Refusal) -> Opt
         Refusal::ZerosUnwritable => {
             of_call(function == FFA_MEM_SHARE, "a share can't ask for zeros")
         }
+        Refusal::WorldsMixed => of_call(
+            everyone.tells_no_worlds,
+            "the machine doesn't tell worlds apart",
+        ),
         Refusal::HandlesUsedUp => {
             Some("an endpoint would have to send memory 65535 times before")
         }

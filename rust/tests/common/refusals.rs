@@ -2,7 +2,7 @@
 //! Each check of each call, with the smallest operation that fails it and what is done before. docs/CALLS.md and
 //! docs/MEMORY.md list the checks; three of them nothing fails.
 use gorseplumb::Check::{self, *};
-use gorseplumb::{Endpoint, Manifest, Properties, Region, Rights, Version};
+use gorseplumb::{Endpoint, Manifest, Properties, Region, Rights, Version, Worlds};
 
 /// A check that fails.
 pub struct Row {
@@ -18,7 +18,7 @@ pub struct Row {
 const RAM: u32 = super::RAM as u32;
 
 /// The normal world; 8001 and 8002, which take part in all; and 8003, which takes part in nothing, and has pages that
-/// it may not write to.
+/// it may not write to. Worlds are told apart.
 pub const MACHINE: Manifest = Manifest::new(
     RAM,
     1,
@@ -37,7 +37,8 @@ pub const MACHINE: Manifest = Manifest::new(
             &[Region::new(RAM + 0x50000, 8, Rights::Ro), Region::new(RAM + 0x58000, 8, Rights::Rw)],
         ),
     ],
-);
+)
+.with_worlds(Worlds::Two);
 
 /// Checks that nothing fails: no partition is blocked while the normal world runs, a donate grants no right, and a
 /// share that asks for zeros is no descriptor.
@@ -63,8 +64,9 @@ const MAP_1: &str = "call 84000066 4003E000 4003F000 1\n";
 const MAP_2: &str = "call 84000066 4004E000 4004F000 1\n";
 const MAP_3: &str = "call 84000066 4005E000 4005F000 1\n";
 
-/// Pages of the normal world, and one of 8003 that it may not write to.
+/// Pages of the normal world, one of 8001, and one of 8003 that it may not write to.
 const PAGE: u64 = 0x4001_0000;
+const PAGE_1: u64 = 0x4003_0000;
 const READ_ONLY: u64 = 0x4005_0000;
 
 // Data permissions in a descriptor.
@@ -140,8 +142,9 @@ impl Send {
             row(8, ReceiverUnknown, &[&described(0, 1, PAGE)], &line),
             row(9, RangeOutside, &[&described(0, 0x8001, 0)], &line),
             row(10, PageUnsendable, &[&described(0, 0x8001, 0x4000_0000)], &line),
-            row(13, TransactionsFull, &[MAP, &sends(16), &self.descriptor(TX, 0, 0x8001, PAGE + 0x12000)], &line),
-            row(14, HandlesUsedUp, &[MAP, &all_handles(), &self.descriptor(TX, 0, 0x8001, PAGE)], &line),
+            row(13, WorldsMixed, &[RUN_1, MAP_1, &self.descriptor(TX_1, 0x8001, 0, PAGE_1)], &line),
+            row(14, TransactionsFull, &[MAP, &sends(16), &self.descriptor(TX, 0, 0x8001, PAGE + 0x12000)], &line),
+            row(15, HandlesUsedUp, &[MAP, &all_handles(), &self.descriptor(TX, 0, 0x8001, PAGE)], &line),
         ];
         if self.permission != NONE {
             rows.push(row(11, GrantTooMuch, &[&of_8003(self)], &line));

@@ -13,6 +13,7 @@ ghost use Rattle.ffa_model.specs.MemorySend.{are_known, is_inside, is_sendable, 
 ghost use Rattle.ffa_model.specs.SendDescriptor.{send_of, send_record};
 ghost use Rattle.ffa_model.specs.Transactions.{next_handle, sends_of};
 ghost use Rattle.ffa_rxtx.specs.Parts.{ownership_in};
+ghost use Rattle.ffa_stage2.specs.Layout.{normal_in};
 ghost use Rattle.ffa_memshare.specs.Callers.{IsCaller};
 ghost use Rattle.ffa_memshare.specs.Memory.{memory_of, memory_parts};
 ghost use Rattle.ffa_memshare.specs.Named.{all_named};
@@ -22,6 +23,7 @@ ghost use Rattle.ffa_memshare.specs.Scenes.{descriptor_in, scene_in};
 ghost use Rattle.ffa_memshare.specs.SlotChanges.{IsFree};
 ghost use Rattle.ffa_memshare.specs.Stored.{open_in, view_of};
 
+use super::worlds::check_worlds;
 use crate::common::common_of;
 use crate::descriptor_call::DescriptorCall;
 use crate::draft::Draft;
@@ -64,7 +66,8 @@ impl<O: Room<OpenSlot> + Drop> Pool<O> {
         ensures handle { OnOk result (draft.new.transaction.handle ≡ next_handle (open_in self.now) caller.0) }
         ensures offered { let bytes = descriptor_in (M.ram ram.now) buffers.now caller.0 call.now in
             let opened = view_of draft.new.transaction in
-            OnOk result (DescribesOffer pages.now layout.now.base.0 caller.0 kind bytes opened) }
+            let normal = normal_in layout.now in
+            OnOk result (DescribesOffer pages.now layout.now.base.0 normal caller.0 kind bytes opened) }
         ensures free { IfOk result (IsFree self.now.slots (place caller.0)) }
         ensures few { OnOk result (sends_of (open_in self.now) caller.0 < MOST_SENDS) }
         ensures fits { IfOk result (λ slot. slot < MOST_SLOTS) }
@@ -82,8 +85,10 @@ impl<O: Room<OpenSlot> + Drop> Pool<O> {
             caller,
             &mut transaction.ranges,
         )?;
+        let receivers = draft.offer.receivers.as_slice();
+        let normal = check_worlds(layout, pages, receivers, &transaction.ranges)?;
         let slot = self.room(caller)?;
-        transaction.offer(self.next_handle(caller), kind, &draft.offer);
+        transaction.offer(self.next_handle(caller), kind, normal, &draft.offer);
         Ok(slot)
     }
 }

@@ -1,7 +1,7 @@
 -- SPDX-License-Identifier: MIT OR Apache-2.0
 use Rattle.std.proofs.Common.{◌≡◌, true, [], Some, length, sym, rules}
-use Rattle.ffa_model.specs.declared.limits.TheConstants.{MOST_BLOCKS, MOST_ENDPOINTS}
-use Rattle.ffa_model.specs.Manifest.{is_ram_base, is_from_to, is_placed}
+use Rattle.ffa_model.specs.declared.limits.TheConstants.{MOST_ENDPOINTS}
+use Rattle.ffa_model.specs.Manifest.{is_ram_base, is_ram_size, is_from_to, is_placed}
 use Rattle.ffa_manifest.specs.Parts.{first_failure, tests_of_each, endpoint_tests}
 use Rattle.ffa_manifest.proofs.AcceptedParts.{accepted_tests, passed_tests}
 use Rattle.ffa_manifest.proofs.parts.of_parts.Goals as goal
@@ -9,7 +9,7 @@ use Rattle.ffa_manifest.proofs.parts.of_parts.Goals as goal
 pub of-requires : goal.of-requires
 of-requires c =
     let base : is_ram_base c.args.ram_base ≡ true = search rules in
-    let blocks : is_from_to 1 MOST_BLOCKS c.args.ram_blocks ≡ true = search rules in
+    let blocks : is_ram_size c.args.ram_base c.args.ram_blocks ≡ true = search rules in
     let few : is_from_to 1 MOST_ENDPOINTS (length c.args.endpoints.items) ≡ true = search rules in
     accepted_tests c.args.ram_base c.args.ram_blocks c.args.endpoints.items base blocks few (rw (← c.len.ensures.value) (rw c.as_slice.ensures.value at (sym c.in_ok-check_endpoints.ensures)))
 

@@ -11,7 +11,7 @@ returns-clause-tables g c =
     let l = c.args.layout.now in
     let same = i.base ∙ c.requires.base in
     let fits : HasRoom (g.M.PhysMem.ram c.loop-page.memory) (array_vec_len l.regions) l.blocks =
-    record { place = rw same l.place; few = l.few; within = rw same l.within; size = i.size ∙ c.requires.size; room = l.room }
+    record { place = rw same l.place; one_table = rw same l.one_table; few = l.few; within = rw same l.within; size = i.size ∙ c.requires.size; room = l.room }
     in
     cleared (g.M.PhysMem.ram c.loop-page.memory) (array_vec_len l.regions) l.blocks l.base.0 fits
     (λ q h. i.zeros q (omega (arith, h, ap (λ (n : ℕ). n * (2 + l.blocks)) c.len.ensures.value)))

@@ -1,0 +1,78 @@
+// SPDX-License-Identifier: MIT OR Apache-2.0
+//! Machines that tell non-secure memory from secure memory, by docs/MEMORY.md, "Worlds".
+mod common;
+
+use common::example;
+use common::machines::MACHINE;
+use gorseplumb::*;
+
+const TX: u64 = 0x4001_E000;
+const TX_1: u64 = 0x4002_E000;
+const RX: u64 = 0x1000; // behind TX
+const NORMAL: u64 = 0x4001_0000;
+const SECURE: u64 = 0x4002_0000;
+const FIRST: Id = Id(0x8001);
+const FORM: Version = Version::V1_1;
+
+/// What a share of a page by one endpoint with another answers: its handle, or the check that refuses it.
+fn share(machine: &mut Machine, tx: u64, sender: Id, receiver: Id, page: u64) -> Result<u64, (Check, ErrorCode)> {
+    let (receivers, ranges) = ([Receiver::rw(receiver)], [PageRange::new(page, 1)]);
+    match machine.send(&Offer::new(Kind::Share, sender, &receivers, &ranges), tx, FORM) {
+        Ok(answer) => Ok(answer.handle().unwrap()),
+        Err(SendError::Refused(refused)) => Err((refused.reason.unwrap().check, refused.error)),
+        Err(other) => panic!("{other}"),
+    }
+}
+
+/// The machine, in which 8001 runs, and whether it was told that what the normal world shared with it is non-secure.
+fn boot(worlds: Worlds) -> (Machine, bool) {
+    let mut machine = Machine::boot(&MACHINE.with_worlds(worlds)).unwrap();
+    machine.call(&Function::RxtxMap.with([TX, TX + RX, 1])).done().unwrap();
+    let handle = share(&mut machine, TX, Id::NORMAL_WORLD, FIRST, NORMAL).unwrap();
+    machine.call(&Function::Run.with([0x8001_0000])).done().unwrap();
+    machine.call(&Function::RxtxMap.with([TX_1, TX_1 + RX, 1])).done().unwrap();
+    let asked = Retrieve::new(Id::NORMAL_WORLD, handle, Receiver::rw(FIRST));
+    machine.send(&asked, TX_1, FORM).unwrap();
+    let mut bytes = [0; 96];
+    machine.load_bytes(TX_1 + RX, &mut bytes).unwrap();
+    (machine, RetrieveResponse::read(&bytes, FORM).unwrap().non_secure)
+}
+
+/// What FFA_FEATURES tells of a retrieve, in both forms.
+fn properties(machine: &mut Machine) -> [u64; 2] {
+    [0x8400_0074, 0xC400_0074].map(|function| {
+        let told = machine.call(&Function::Features.with([function]));
+        told.done().unwrap();
+        told.registers()[2]
+    })
+}
+
+#[test]
+fn tells_worlds_apart() {
+    let (mut machine, told) = boot(Worlds::Two);
+    assert!(told);
+    assert_eq!(properties(&mut machine), [2, 2]);
+    assert_eq!(
+        share(&mut machine, TX_1, FIRST, Id::NORMAL_WORLD, SECURE),
+        Err((Check::WorldsMixed, ErrorCode::Denied))
+    );
+    assert_eq!(share(&mut machine, TX_1, FIRST, Id(0x8002), SECURE), Ok(0x0000_8001_0000_0001));
+}
+
+#[test]
+fn tells_nothing_unasked() {
+    let (mut machine, told) = boot(Worlds::One);
+    assert!(!told);
+    assert_eq!(properties(&mut machine), [0, 0]);
+    assert_eq!(share(&mut machine, TX_1, FIRST, Id::NORMAL_WORLD, SECURE), Ok(0x0000_8001_0000_0001));
+}
+
+#[test]
+fn no_text_says_it() {
+    let read = Manifest::read(&*example("machine.toml")).unwrap();
+    assert_eq!((read.worlds(), MACHINE.worlds()), (Worlds::One, Worlds::One));
+    assert_eq!(read, MACHINE);
+    let told = read.with_worlds(Worlds::Two);
+    assert_eq!(told.worlds(), Worlds::Two);
+    assert_eq!(told.with_worlds(Worlds::One), read);
+}
