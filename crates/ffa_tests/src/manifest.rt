@@ -134,8 +134,13 @@ fn machines_of_parts(rt: HostRuntime) -> Result<(), Fail> {
     assert_row_machine(&rt, &manifest);
     same(
         &rt,
-        of_parts(0x4100_0000, 1, row_machine().endpoints).err(),
+        of_parts(0x4010_0000, 1, row_machine().endpoints).err(),
         Some(ManifestError::RamBase),
+    );
+    same(
+        &rt,
+        of_parts(0x3FE0_0000, 2, row_machine().endpoints).err(),
+        Some(ManifestError::RamBlocks),
     );
     same(
         &rt,
