@@ -1,10 +1,11 @@
 #!/usr/bin/env bash
 # SPDX-License-Identifier: MIT OR Apache-2.0
 # Builds the C library and what stands in this folder over it, with every warning an error, and runs it: the tests under
-# sanitizers and valgrind and over a shared library, that of copies of bytes, the example, the traces of examples/
-# through the border beside the program, reasons too, texts on a stack of 256 KiB, and links with no C library, of which
-# one runs on a stack of 64 KiB; for AArch64 too, where there are a compiler and an emulator for it. With --install it
-# first installs Debian's packages for that; with --install-only it does nothing else.
+# sanitizers and valgrind and over a shared library, those of copies of bytes and of floating point, the example, the
+# traces of examples/ through the border beside the program, reasons too, texts on a stack of 256 KiB, and links with no
+# C library, of which one runs on a stack of 64 KiB; the archive for general registers alone; for AArch64 too, where
+# there are a compiler and an emulator for it. With --install it first installs Debian's packages for that; with
+# --install-only it does nothing else.
 set -euo pipefail
 here=$(cd "$(dirname "${BASH_SOURCE[0]}")" && pwd)
 top=$(dirname "$here")
@@ -24,11 +25,12 @@ renamed="-Dmemcpy=copy_bytes -Dmemmove=move_bytes -Dmemset=set_bytes" # bytes.c 
 missing=0
 
 # Sets `made` to the archive for a target: the one that stands ready in the folder ARCHIVES, which is like out/; or, where no folder is
-# given, out/'s own, which c/archive makes: what of it isn't proved it proves, as it says.
+# given, out/'s own, which c/archive makes: what of it isn't proved it proves, as it says. That for general registers alone:
+# make_archive TARGET --general-registers
 make_archive() {
-    made=${ARCHIVES:-$top/out}/$1/libgorseplumb.a
+    made=${ARCHIVES:-$top/out}/$1${2:+-general-registers}/libgorseplumb.a
     if [[ -z ${ARCHIVES:-} ]]; then
-        "$here/archive" --target "$1" >&2
+        "$here/archive" --target "$@" >&2
     elif [[ ! -e $made ]]; then
         echo "not run: there is no $made"
         missing=1
@@ -77,6 +79,42 @@ asks() {
     others=$(tr ' ' '\n' <<<"$found" | grep -Evx '(boot.*|copy|copy_lent|read_manifest|audit|audit_tables|free|begin_lending|lend|lend_span|)' || true)
     if [[ $others ]]; then echo "$1: asks for memory:" $others >&2; exit 1; fi
     echo "$1: only these ask for memory: $found"
+}
+
+# Prints how many instructions of an archive name a vector register, or one of floating point, and how many there are: vectors OBJDUMP
+# ARCHIVE
+vectors() {
+    "$1" -d --no-show-raw-insn "$2" | awk -F '\t' '
+        NF < 2 { next }
+        { all++; it = $2 "\t" $3; sub(/^[a-z0-9.]+[ \t]*/, "", it); sub(/\/\/.*/, "", it); sub(/(0x)?[0-9a-f]+ <.*/, "", it) }
+        it ~ /(^|[^a-z0-9_#$])[qvdshbzp]([12]?[0-9]|3[01])([^a-z0-9_]|$)/ || it ~ /%([xyz]?mm|k)[0-7]|%st/ { named++ }
+        END { print named + 0, all + 0 }'
+}
+
+# The archive for general registers alone: what it is made of; that it does what the other does, in a program whose floating point is
+# that of floats.c; and what a program without a C library takes with it: general NAME OBJDUMP ARCHIVE OTHER "RUN.." COMMAND..
+general() {
+    local name=$1 named all others
+    read -r named all < <(vectors "$2" "$3")
+    read -r others _ < <(vectors "$2" "$4")
+    if ((named || !all || !others)); then
+        echo "$name: $named of $all instructions name a vector register, and $others of the other archive do" >&2
+        exit 1
+    fi
+    echo "$name, general registers alone: of $all instructions none names a vector register; of the other archive $others do"
+    local archive=$3 run=$5
+    shift 5
+    "$@" -pthread "$here"/{test,settle,floats}.c "$archive" -o "$to/test"
+    says "$name, general registers alone, test" $run "$to/test"
+    "$@" "$here"/{play,heap,floats}.c "$archive" -o "$to/play"
+    plays "$name, general registers alone" $run "$to/play"
+    set -- "$@" -mgeneral-regs-only -ffreestanding -fno-stack-protector -nostdlib -static -Wl,--gc-sections
+    "$@" "$here"/{freestanding,array,bytes,settle}.c "$archive" -o "$to/free"
+    $run "$to/free"
+    "$@" -DGORSEPLUMB_ARRAY_BYTES=0x800000 "$here"/{small_stack,array,bytes,settle,floats}.c "$archive" -o "$to/small"
+    says "$name, general registers alone, linked with no C library, $(bytes "$to/free") bytes" $run "$to/small"
+    named=$(nm -u "$archive" | sed -n 's/^ *U \(__.*\)/\1/p' | sort -u | tr '\n' ' ')
+    echo "$name, general registers alone: asked of floats.c: $named"
 }
 
 # The test over a shared library of the whole archive, none of whose code has to be changed for its address, as
@@ -179,6 +217,8 @@ for compiler in gcc clang; do
     done
     $compiler $strict $sanitized $renamed "$here"/{test_bytes,bytes}.c -o "$to/bytes"
     says "$compiler, sanitized" "$to/bytes"
+    $compiler $strict $sanitized "$here"/{test_floats,floats}.c -o "$to/floats"
+    says "$compiler, sanitized" "$to/floats"
     shares "$native" $compiler $strict -O2
     says "$compiler, over a shared library" "$to/shared"
     $compiler $strict $sanitized "$here/example.c" "$here/heap.c" "$native" -o "$to/example"
@@ -233,6 +273,9 @@ if has gcc; then
     stores native objdump "$to/test"
     asks native objdump "$to/every"
 fi
+if has gcc && make_archive x86_64-unknown-linux-gnu --general-registers; then
+    general native objdump "$made" "$native" "" gcc $strict -O2
+fi
 symbols=$(nm -u "$native" | sed -n 's/^ *U //p' | grep -v '^_R\|\$' | sort -u | tr '\n' ' ')
 echo "asked of the program: $symbols"
 others=$(nm -g --defined-only "$native" | awk 'NF == 3 && $3 !~ /^gorseplumb_/ { print $3 }')
@@ -264,5 +307,9 @@ if has aarch64-linux-gnu-gcc && has qemu-aarch64-static && make_archive aarch64-
     $arm $bare "$here"/{freestanding,array,bytes,settle}.c -Wl,--no-gc-sections,--whole-archive "$made" \
         -Wl,--no-whole-archive -o "$to/every"
     asks AArch64 aarch64-linux-gnu-objdump "$to/every"
+    other=$made
+    if make_archive aarch64-unknown-linux-gnu --general-registers; then
+        general AArch64 aarch64-linux-gnu-objdump "$made" "$other" qemu-aarch64-static $arm
+    fi
 fi
 if ((missing)); then echo "passed, but for what was not run"; else echo "passed"; fi
