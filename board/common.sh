@@ -11,7 +11,7 @@ flags=(-std=c11 -Wall -Wextra -Wpedantic -Wshadow -Werror -ffreestanding -fno-st
     -nostdlib -static "-Wl,--gc-sections" "-Wl,--build-id=none")
 
 # What of the board's files each firmware has.
-shared=(boot call endpoint exception memory operation psci tables text)
+shared=(boot call endpoint exception memory operation tables text)
 shared=("${shared[@]/#/$board/}")
 shared=("${shared[@]/%/.c}" "$board/start.S" "$top"/c/{array,bytes,settle}.c)
 
@@ -47,14 +47,15 @@ needs() {
     command -v rt >/dev/null || fail "there is no rt, the toolchain's command: README.md says what is needed"
 }
 
-# Sets `archive` to the core's archive for AArch64: the one that stands ready in the folder ARCHIVES, or the repository's own, which is made:
-# make_archive REPOSITORY
+# Sets `archive` to the core's archive for AArch64: the one that stands ready in the folder ARCHIVES, or the repository's own, which is
+# made: make_archive REPOSITORY [--general-registers]
 make_archive() {
-    local target=aarch64-unknown-linux-gnu
-    archive=${ARCHIVES:-}/$target/libgorseplumb.a
+    local target=aarch64-unknown-linux-gnu file
+    file=$target${2:+-${2#--}}/libgorseplumb.a
+    archive=${ARCHIVES:-}/$file
     if [[ -e $archive ]]; then return; fi
-    archive=$1/out/$target/libgorseplumb.a
-    "$1/c/archive" --target $target >&2 || fail "the archive isn't made, c/archive ended with $?"
+    archive=$1/out/$file
+    "$1/c/archive" --target $target "${@:2}" >&2 || fail "the archive isn't made, c/archive ended with $?"
 }
 
 # A file that QEMU puts somewhere, as two of its words: loader FILE ADDRESS

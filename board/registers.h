@@ -4,7 +4,7 @@
 #define BOARD_REGISTERS_H
 
 /* All general registers but x0, x1 and x30, at x0; x0 to x7 at another register; all vector registers, at x1, which is behind them then; those
- * that a function keeps for its caller, in the first 160 bytes of the stack. */
+ * that a function keeps for its caller, in the first 160 bytes of the stack, of which the general ones take 96. */
         .macro  general operation
         \operation     x2, x3, [x0, #16]
         \operation     x4, x5, [x0, #32]
@@ -45,18 +45,22 @@
         \operation     q28, q29, [x1], #32
         \operation     q30, q31, [x1], #32
         .endm
-        .macro  kept operation
+        .macro  kept_general operation
         \operation     x19, x20, [sp]
         \operation     x21, x22, [sp, #16]
         \operation     x23, x24, [sp, #32]
         \operation     x25, x26, [sp, #48]
         \operation     x27, x28, [sp, #64]
         \operation     x29, x30, [sp, #80]
+        .endm
+        .macro  kept operation
+        kept_general \operation
         \operation     d8, d9, [sp, #96]
         \operation     d10, d11, [sp, #112]
         \operation     d12, d13, [sp, #128]
         \operation     d14, d15, [sp, #144]
         .endm
+#define KEPT_GENERAL_BYTES 96
 #define KEPT_BYTES 160
 
 #endif

@@ -46,7 +46,7 @@ static bool is_message(const uint64_t *x) { return (uint32_t)x[0] == FFA_MSG_SEN
 
 static void register_second(struct context *context) {
     set(context->x, FFA_SECONDARY_EP_REGISTER, (uint64_t)(uintptr_t)second_start, 0, 0);
-    to_normal_world(context);
+    to_normal_world(context->x);
     if ((uint32_t)context->x[0] != (FFA_SUCCESS | WITH_64_BITS)) stop("the dispatcher doesn't take where other processors begin");
 }
 
@@ -57,7 +57,7 @@ _Noreturn void serve_normal_world(struct board *board, bool first) {
     set(context->x, FFA_MSG_WAIT, 0, 0, 0);
     for (;;) {
         has_processor(NORMAL_WORLD);
-        to_normal_world(context);
+        to_normal_world(context->x);
         note_due();
         has_processor(FIRMWARE);
         if (is_message(context->x)) serve_message(board, context->x);

@@ -10,6 +10,7 @@
 #include "text.h"
 
 SYSTEM_REGISTER(cnthctl_el2)
+SYSTEM_REGISTER(cptr_el2)
 SYSTEM_REGISTER(hpfar_el2)
 
 /* HCR_EL2 (DDI 0487) while a partition runs. TF-A's test partition has a translation of its own, so DC is 0. Interrupts go to EL2, so the registers
@@ -21,6 +22,10 @@ SYSTEM_REGISTER(hpfar_el2)
 
 /* CNTHCTL_EL2: EL1 may read the counter (EL1PCTEN), and use no physical timer. */
 #define COUNTER 1
+
+/* CPTR_EL2: vector registers trap (TFP) but while a partition runs, so that an instruction of the firmware's that names one ends the run. */
+#define VECTORS_TRAP UINT64_C(0x37FF)
+#define VECTORS_DO_NOT UINT64_C(0x33FF)
 
 #define CLASS_WAIT 0x01 /* WFI or WFE */
 
@@ -34,6 +39,7 @@ uint64_t all_calls(void) { return calls; }
 void begin_partitions(void) {
     begin_el2(PARTITION_HCR);
     write_cnthctl_el2(COUNTER);
+    write_cptr_el2(VECTORS_TRAP);
     DO("isb");
     begin_interrupts();
 }
@@ -110,8 +116,12 @@ static void tell_interrupt(struct board *board) {
 /* Partitions run until the normal world does, on the processor that called. */
 static void run_partitions(struct board *board) {
     struct timers of_normal_world;
+    struct vectors vectors;
     note_timers(&of_normal_world);
     if (is_masked()) let_nothing_through();
+    write_cptr_el2(VECTORS_DO_NOT);
+    DO("isb");
+    take_vectors(&vectors);
     while (running_place(board) != 0) {
         struct context *context = &running(board)->context;
         walk_tables(running_place(board), running(board)->root);
@@ -123,6 +133,8 @@ static void run_partitions(struct board *board) {
         if (interrupted) tell_interrupt(board);
         else serve(board, read_esr_el2());
     }
+    give_vectors(&vectors);
+    write_cptr_el2(VECTORS_TRAP);
     put_back(&of_normal_world);
     DO("isb");
 }

@@ -70,8 +70,8 @@ secure_flags=(-DSECURE=1 -DSEVERAL=1 -DRAM_BASE=0x48000000 -DSECURE_BYTES=0x8000
 build_firmware() {
     local of_linux=(access again el2 notify place record tell)
     of_linux=("${of_linux[@]/#/$board/linux/}")
-    $compiler "${flags[@]}" "${secure_flags[@]}" -O2 "$@" -Wl,--no-warn-rwx-segments -Wa,-I"$to" -T "$board/board.ld" "$here"/*.c "$here"/*.S \
-        "${of_linux[@]/%/.c}" "${shared[@]}" "$archive" -o "$to/bl32.elf"
+    $compiler "${flags[@]}" "${secure_flags[@]}" -O2 -mgeneral-regs-only "$@" -Wl,--no-warn-rwx-segments -Wa,-I"$to" -T "$board/board.ld" "$here"/*.c "$here"/*.S \
+        "${of_linux[@]/%/.c}" "${shared[@]}" "$top/c/floats.c" "$archive" -o "$to/bl32.elf"
     $copier -O binary "$to/bl32.elf" "$to/bl32.bin"
 }
 
@@ -178,7 +178,7 @@ measure() {
     paste -d ' ' <(sed -n 's/^measured: /  /p' "$to/linux") <(sed -n 's/^measured: /(/p' "$to/core" | sed 's/$/)/') | grep . || fail "$1: nothing was measured"
 }
 
-make_archive "$top"
+make_archive "$top" --general-registers
 [[ -n ${FFAPLAY:-} ]] || "$top/ffaplay" prove
 processor=max processors=1
 build_partition

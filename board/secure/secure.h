@@ -28,8 +28,16 @@ bool is_masked(void);
 /* Gives this processor to the normal world, and serves it from then on. The first one says where others begin. */
 _Noreturn void serve_normal_world(struct board *board, bool first);
 
-/* x0 to x7 go to the dispatcher, with the vector registers of the normal world; then they are its next call. */
-void to_normal_world(struct context *normal_world);
+/* x0 to x7 go to the dispatcher; then they are its next call. */
+void to_normal_world(uint64_t *x);
+
+/* Vector registers, which are the normal world's but while a partition runs: the firmware uses general registers alone. */
+struct vectors {
+    uint64_t fpcr, fpsr;
+    uint64_t q[64];
+};
+void take_vectors(struct vectors *vectors);
+void give_vectors(const struct vectors *vectors);
 
 /* What TF-A's test partition asks of its manager and the core doesn't do: a call that is answered beside it, and the line to which the partition
  * prints. Each says whether it was that, and does nothing in a firmware for other partitions. */
