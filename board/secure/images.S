@@ -8,3 +8,10 @@ manifest_text:
 endpoint_list:
         .incbin "list"
         .byte   0
+#ifdef IN_IMAGE
+/* The partitions' program, where QEMU can't put it into secure memory. */
+        .global partition_image, partition_image_end
+partition_image:
+        .incbin "partition.image"
+partition_image_end:
+#endif

@@ -3,6 +3,7 @@
 #include "bytes.h"
 #include "calls.h"
 #include "guest.h"
+#include "layout.h"
 #include "secure.h"
 #include "text.h"
 
@@ -10,15 +11,40 @@ void firmware(void);
 void second_processor(void);
 
 static struct board board;
+static struct gorseplumb_manifest manifest;
 
-/* The machine of a text, which tells memory of the normal world from that of the secure world. */
-static enum gorseplumb_answer boot_worlds(struct gorseplumb_machine *machine, struct gorseplumb_lent *lent, const uint8_t *text, size_t size) {
-    static struct gorseplumb_manifest manifest;
-    enum gorseplumb_answer answer = gorseplumb_read_manifest(text, size, &manifest);
-    if (answer != GORSEPLUMB_OK) return answer;
+/* The text's machine, which tells memory of the normal world from that of the secure world, moved to where RAM is: a text can't have it at any 2 MiB. */
+static void read_manifest(void) {
+    size_t size = 0;
+    while (manifest_text[size] != '\0') size++;
+    if (gorseplumb_read_manifest((const uint8_t *)manifest_text, size, &manifest) != GORSEPLUMB_OK) stop("the manifest is refused");
+    uint32_t by = (uint32_t)RAM_BASE - manifest.ram_base;
     manifest.worlds = 1;
+    manifest.ram_base += by;
+    for (uint32_t i = 0; i < manifest.endpoint_count; i++) {
+        struct gorseplumb_endpoint *endpoint = &manifest.endpoints[i];
+        for (uint32_t j = 0; j < endpoint->region_count; j++) endpoint->regions[j].base += by;
+    }
+}
+
+static enum gorseplumb_answer boot_manifest(struct gorseplumb_machine *machine, struct gorseplumb_lent *lent, const uint8_t *text, size_t size) {
+    (void)text;
+    (void)size;
     return gorseplumb_boot_held_manifest(machine, lent, &manifest);
 }
+
+/* The partitions' program, where it stands in the image since QEMU can't put it into RAM: to the beginning of each one's first region. */
+#ifdef IN_IMAGE
+extern const unsigned char partition_image[], partition_image_end[];
+
+static void place_images(void) {
+    for (uint32_t i = 1; i < manifest.endpoint_count; i++) {
+        memcpy((void *)(uintptr_t)manifest.endpoints[i].regions[0].base, partition_image, (size_t)(partition_image_end - partition_image));
+    }
+}
+#else
+static void place_images(void) {}
+#endif
 
 /* Each partition runs once before the normal world does, for what it has to do at its start: by a call in the name of that. */
 static void run_first(void) {
@@ -31,7 +57,9 @@ static void run_first(void) {
 }
 
 void firmware(void) {
-    boot(&board, manifest_text, boot_worlds);
+    read_manifest();
+    place_images();
+    boot(&board, manifest_text, boot_manifest);
     place_endpoints(&board, endpoint_list);
     begin_partitions();
     run_first();

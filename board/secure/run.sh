@@ -8,7 +8,7 @@ me=board/secure
 . "$board/linux/common.sh"
 here=$board/secure
 packages=(qemu-system-arm gcc-aarch64-linux-gnu binutils-aarch64-linux-gnu device-tree-compiler)
-all=(plain version two tsp linux)
+all=(plain version two tsp small linux)
 
 # Of the machine's RAM, 48000000 to 4BFFFFFF, the first 8 MiB are the secure world's. Linux has the rest.
 first_at=48100000 second_at=48200000 third_at=48300000
@@ -30,6 +30,7 @@ Runs, of which all but the last are done where none is named:
   version  the dispatcher asks the core for the version, which is 1.1
   two      as version, with two processors, each of which calls, and has a timer; the second is turned off and on
   tsp      TF-A's own test partition (TSP) as the one partition
+  small    a machine in QEMU's secure memory, of which the normal world reaches nothing
   linux    Linux as the normal world, on one processor; and on two and on four, with a partition that works long, and clients at random
   measure  instructions of calls to three partitions, and to TSP
 
@@ -46,7 +47,7 @@ while (($#)); do
             declare "${1#--}=$2"
             shift
             ;;
-        plain | version | two | tsp | linux | measure) runs+=("$1") ;;
+        plain | version | two | tsp | small | linux | measure) runs+=("$1") ;;
         --help) usage && exit 0 ;;
         *) refuse "there is no $1" ;;
     esac
@@ -103,6 +104,16 @@ with_tsp() {
     list_endpoints 8001 $first_at
     images=()
     add_image "$work/tf-a/tsp/bl32.bin" $first_at
+}
+
+# In secure memory, where QEMU puts nothing: the firmware has the partitions' program in its image. The program plays the same machine elsewhere.
+small_flags=(-DIN_IMAGE=1 -URAM_BASE -DRAM_BASE=0x0E400000 -UGORSEPLUMB_ARRAY_BYTES -DGORSEPLUMB_ARRAY_BYTES=0x100000 -Wl,--defsym=FIRMWARE_END=0x0E400000)
+
+with_two_small_partitions() {
+    cp "$here/small.toml" "$to/manifest"
+    cp "$to/partition" "$to/partition.image"
+    list_endpoints 8001 E500000 8002 E600000
+    images=()
 }
 
 # QEMU puts a file into RAM: add_image FILE ADDRESS
@@ -201,6 +212,12 @@ for run in "${runs[@]}"; do
             build_firmware -DFOR_TSP=1
             build_normal -DOF_TSP=1
             try_program tsp version
+            ;;
+        small)
+            with_two_small_partitions
+            build_firmware "${small_flags[@]}"
+            build_normal -DSMALL=1
+            try_program small version
             ;;
         linux)
             "$board/linux/kernel" ${install:+--install} --jobs "$jobs" 4k "$work/linux"

@@ -6,9 +6,15 @@
 #ifndef MEASURE
 #define MEASURE 0 /* 1 measures, and tries nothing */
 #endif
+#ifndef SMALL
+#define SMALL 0 /* 1 has a machine in QEMU's secure memory, 12 MiB from 0E400000 on */
+#endif
 #ifndef TWO
 #define TWO 0 /* 1 turns a second processor on */
 #endif
+
+#define SMALL_TABLE 0x0E400000
+#define SMALL_PARTITION 0x0E500000
 
 void normal_world(void);
 
@@ -76,7 +82,19 @@ void try_reach(void) {
     put_text("\n");
 }
 
+/* Where all of the machine's RAM is secure memory: requests, which need none of the normal world's. */
+static void be_kept_out(void) {
+    uint64_t *x = ask(FFA_VERSION, 0x10001, 0, 0);
+    say("FFA_VERSION", x);
+    try_messages();
+    want("a partition's page is out of reach", probe(SMALL_PARTITION) >> 63 == 1);
+    want("the tables are out of reach", probe(SMALL_TABLE) >> 63 == 1);
+    if (failed) stop("something came out otherwise");
+    end_well();
+}
+
 void normal_world(void) {
+    if (SMALL) be_kept_out();
     try_setup();
     if (MEASURE) {
         measure();
