@@ -11,7 +11,7 @@ flags=(-std=c11 -Wall -Wextra -Wpedantic -Wshadow -Werror -ffreestanding -fno-st
     -nostdlib -static "-Wl,--gc-sections" "-Wl,--build-id=none")
 
 # What of the board's files each firmware has.
-shared=(boot call endpoint exception memory operation tables text)
+shared=(boot call endpoint exception memory operation psci tables text)
 shared=("${shared[@]/#/$board/}")
 shared=("${shared[@]/%/.c}" "$board/start.S" "$top"/c/{array,bytes,settle}.c)
 

@@ -22,6 +22,8 @@ SYSTEM_REGISTER(hcr_el2)
 SYSTEM_REGISTER(vtcr_el2)
 SYSTEM_REGISTER(vttbr_el2)
 SYSTEM_REGISTER(mpidr_el1)
+SYSTEM_REGISTER(cntpct_el0)
+SYSTEM_REGISTER(cntfrq_el0)
 
 /* An instruction with no operand, as a barrier or an invalidation, between all that stands before and behind it. */
 #define DO(instruction) __asm__ volatile(instruction : : : "memory")

@@ -11,12 +11,13 @@ packages=(qemu-system-arm gcc-aarch64-linux-gnu)
 
 usage() {
     cat <<'HELP'
-board/run.sh [--install] [--keep FOLDER] [--seed N] [--operations N] [--rounds N]
+board/run.sh [--install] [--build-only | --keep FOLDER] [--seed N] [--operations N] [--rounds N]
     [--break-root | --break-vectors | --break-settling | --break-zeros-first | --break-zeros-last | --break-resumed | --break-untold]
 
 Runs all scenes on QEMU's machine `virt`, and compares. It takes some minutes, and longer where the core is proved first.
 
   --install             installs Debian's packages for it first: qemu-system-arm and gcc-aarch64-linux-gnu
+  --build-only          builds the firmwares, but for those over a core that its proofs refuse, and runs none
   --keep FOLDER         leaves what each scene printed in this folder: FIRMWARE-PROCESSOR-SCENE.uart, and its .trace, .found and .expected
   --seed N              the seed of operations that are made up; 1 where none is given
   --operations N        how many of them; 10000 where nothing is given
@@ -36,10 +37,11 @@ It ends with 0 and `passed`, with 1 and what differs or is missing, or with 64 w
 HELP
 }
 
-keep='' seed=1 operations=10000 rounds=60 install='' breaks=() manifests=() traces=()
+keep='' seed=1 operations=10000 rounds=60 install='' only='' breaks=() manifests=() traces=()
 while (($#)); do
     case $1 in
         --install) install=yes ;;
+        --build-only) only=yes ;;
         --keep | --seed | --operations | --rounds)
             [[ ${2:-} ]] || refuse "$1 needs a word behind it"
             declare "${1#--}=$2"
@@ -56,7 +58,7 @@ is_count "$operations" || refuse "the number of operations is one below a thousa
 is_count "$rounds" || refuse "the number of rounds is one below a thousand million, and not $rounds"
 ((${#breaks[@]} < 2)) || refuse "one --break at a time"
 if [[ $install ]]; then install_packages "${packages[@]}"; fi
-needs "${packages[*]}" $compiler $copier $emulator
+needs "${packages[*]}" $compiler $copier $([[ $only ]] || echo $emulator)
 if [[ $keep ]]; then mkdir -p "$keep"; fi
 to=$(mktemp -d)
 trap 'rm -rf "$to"' EXIT
@@ -244,30 +246,47 @@ find_unproved() {
     found "$1" "$2" watch
 }
 
-find_break() {
+# A firmware that is broken, of a --break.
+build_break() {
     case $1 in
-        root) build wrong-root -DWRONG_ROOT=1 && found wrong-root "an endpoint with another's tables" ;;
-        vectors) build no-vectors -DSAVE_VECTORS=0 && found no-vectors "vector registers that aren't saved" ;;
-        settling) build no-settling -DSETTLE=0 && found no-settling "translations that are kept" watch ;;
-        resumed) build_several written -DWRITE_RESUMED=1 && found written "registers of a partition that goes on" several ;;
-        untold) build_several untold -DTELL_INTERRUPTS=0 && found untold "an interrupt that the core isn't told" several ;;
+        root) build wrong-root -DWRONG_ROOT=1 ;;
+        vectors) build no-vectors -DSAVE_VECTORS=0 ;;
+        settling) build no-settling -DSETTLE=0 ;;
+        resumed) build_several written -DWRITE_RESUMED=1 ;;
+        untold) build_several untold -DTELL_INTERRUPTS=0 ;;
+    esac
+}
+
+find_break() {
+    build_break "$1"
+    case $1 in
+        root) found wrong-root "an endpoint with another's tables" ;;
+        vectors) found no-vectors "vector registers that aren't saved" ;;
+        settling) found no-settling "translations that are kept" watch ;;
+        resumed) found written "registers of a partition that goes on" several ;;
+        untold) found untold "an interrupt that the core isn't told" several ;;
         zeros-first) find_unproved zeros-first "zeros before a right is taken" ;;
         zeros-last) find_unproved zeros-last "zeros behind a right that is given" ;;
     esac
 }
 
 make_archive "$top"
-[[ -n ${FFAPLAY:-} ]] || "$top/ffaplay" prove
-make_scenes
 build_generator
 build documented
 build_several several
+build high -DRAM_BASE=0xC0000000
+if [[ $only ]]; then
+    for name in root vectors settling resumed untold; do build_break $name; done
+    echo "$me: each firmware is linked"
+    exit
+fi
+[[ -n ${FFAPLAY:-} ]] || "$top/ffaplay" prove
+make_scenes
 if ((${#breaks[@]})); then
     agree documented cortex-a57 "${manifests[0]}" "${traces[0]}"
 else
     all_agree documented cortex-a57
     all_agree documented max
-    build high -DRAM_BASE=0xC0000000
     agree high cortex-a57 "$to/high.toml" "$to/generated-high"
     breaks=(root vectors settling resumed untold zeros-first zeros-last)
 fi

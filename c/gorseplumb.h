@@ -41,7 +41,7 @@ extern "C" {
 
 /* The number of these declarations, raised by each change that a caller has to know of. Who loads the library while a
  * program runs compares it with gorseplumb_declarations, which answers the number that the library was built by. */
-#define GORSEPLUMB_DECLARATIONS 4
+#define GORSEPLUMB_DECLARATIONS 5
 
 uint32_t gorseplumb_declarations(void);
 
@@ -192,6 +192,8 @@ struct gorseplumb_manifest {
     struct gorseplumb_endpoint endpoints[GORSEPLUMB_MOST_ENDPOINTS];
     uint32_t worlds; /* 0: all memory is alike. 1: that of the first endpoint's regions is non-secure, all other secure
                       * (docs/MEMORY.md); no text says it */
+    uint32_t tables; /* the first page of the endpoints' tables, counted from RAM's first, which is 0: they are in a row from there, 2 +
+                      * ram_blocks pages for each endpoint, and regions may lie before them and behind; no text says it */
 };
 
 /* What boots, copies, gorseplumb_free and functions of lists answer. None is an error code of FF-A, which a call answers in its
@@ -200,7 +202,7 @@ enum gorseplumb_answer {
     GORSEPLUMB_OK = 0,
     GORSEPLUMB_NO_MEMORY = 1, /* an allocation was refused */
 
-    /* The manifest is refused: the first cause that applies, as docs/FORMATS.md numbers them (M2 to M14). */
+    /* The manifest is refused: the first cause that applies, as docs/FORMATS.md numbers them (M2 to M14, and below M25). */
     GORSEPLUMB_MANIFEST_TOML = 2,            /* the text is no TOML, or no UTF-8 */
     GORSEPLUMB_MANIFEST_UNKNOWN_KEY = 3,     /* a key that its table doesn't have */
     GORSEPLUMB_MANIFEST_MISSING_KEY = 4,     /* a table lacks one of its keys */
@@ -211,7 +213,7 @@ enum gorseplumb_answer {
     GORSEPLUMB_MANIFEST_UUID = 9,            /* can't be read, zeros for a partition, or other than zeros for the normal world */
     GORSEPLUMB_MANIFEST_PROPERTY = 10,       /* not from 0 to 15, or the normal world is to receive */
     GORSEPLUMB_MANIFEST_REGION_COUNT = 11,   /* not from 1 to 16 */
-    GORSEPLUMB_MANIFEST_REGION_OUTSIDE = 12, /* not whole pages in RAM behind the tables, or none */
+    GORSEPLUMB_MANIFEST_REGION_OUTSIDE = 12, /* not whole pages in RAM that are none of the tables', or no page */
     GORSEPLUMB_MANIFEST_REGION_OVERLAP = 13, /* has a page of a region before it */
     GORSEPLUMB_MANIFEST_VERSION = 14,        /* an unknown version */
 
@@ -224,7 +226,9 @@ enum gorseplumb_answer {
     GORSEPLUMB_NOT_CERTIFIED = 21, /* the tables don't give what the runs say */
     GORSEPLUMB_LENT = 22,          /* the machine's RAM is lent: gorseplumb_free gives it back */
     GORSEPLUMB_BAD_BASE = 23,      /* RAM of so many pages can't stand at the address */
-    GORSEPLUMB_BAD_ROOTS = 24      /* there are more than endpoints of a machine, or one is at no page of RAM */
+    GORSEPLUMB_BAD_ROOTS = 24,     /* there are more than endpoints of a machine, or one is at no page of RAM */
+
+    GORSEPLUMB_MANIFEST_TABLES_OUTSIDE = 25 /* RAM hasn't all tables from the page on that `tables` tells */
 };
 
 /* What a question that asks for a number answers where there is no machine, gorseplumb_owner also where there is no
@@ -239,12 +243,13 @@ enum gorseplumb_answer gorseplumb_boot(struct gorseplumb_machine *machine, const
 
 /* The same of a manifest as numbers, for which no memory is needed but the machine's own and its RAM. Refused first, in
  * this order: more endpoints than places; then for each endpoint an unknown version, more regions than places, unknown
- * rights; then `worlds` that is neither 0 nor 1 (GORSEPLUMB_MANIFEST_WRONG_KIND). After that come the causes of a text, in the order in which it would be read. */
+ * rights; then `worlds` that is neither 0 nor 1 (GORSEPLUMB_MANIFEST_WRONG_KIND). After that come the causes of a text, in the order in which it would be read,
+ * with GORSEPLUMB_MANIFEST_TABLES_OUTSIDE behind the count of endpoints. */
 enum gorseplumb_answer gorseplumb_boot_manifest(struct gorseplumb_machine *machine,
                                                 const struct gorseplumb_manifest *manifest);
 
 /* The same in RAM that is lent: the pages of the list, in order. GORSEPLUMB_OK: the list is empty then, and all pages
- * behind the tables are zeros. Else nothing has changed: GORSEPLUMB_OCCUPIED, GORSEPLUMB_NO_LIST, GORSEPLUMB_NO_MEMORY,
+ * but the tables' are zeros. Else nothing has changed: GORSEPLUMB_OCCUPIED, GORSEPLUMB_NO_LIST, GORSEPLUMB_NO_MEMORY,
  * a cause as above, or GORSEPLUMB_WRONG_COUNT, where the pages aren't as many as the manifest's RAM has (512 for each
  * block). The machine's memory is the list's: of numbers a boot takes none, so GORSEPLUMB_NO_MEMORY comes only where
  * the list lacks some, since it has more pages than it was begun for, or another machine that was booted in it has
@@ -256,7 +261,7 @@ enum gorseplumb_answer gorseplumb_boot_lent_manifest(struct gorseplumb_machine *
 
 /* The same, but pages of the manifest's regions keep the bytes that they are lent with: an image of a partition or of a
  * kernel that was put there is there before the first operation, and a region that nobody may write to can have any
- * bytes. All other pages behind the tables are zeros, and whatever stood where the tables are built is gone. A boot
+ * bytes. All others but the tables' are zeros, and whatever stood where the tables are built is gone. A boot
  * that is refused changes no byte. */
 enum gorseplumb_answer gorseplumb_boot_held(struct gorseplumb_machine *machine, struct gorseplumb_lent *lent,
                                             const uint8_t *text, size_t size);
@@ -283,7 +288,7 @@ enum gorseplumb_answer gorseplumb_copy_lent(struct gorseplumb_machine *machine, 
                                             const struct gorseplumb_machine *original);
 
 /* Reads a manifest's text of `size` bytes into numbers, which a boot would go by, so that RAM can be lent that has the
- * size which the text describes. GORSEPLUMB_OK: `manifest` gives what the text describes, `worlds` is 0, and what stands
+ * size which the text describes. GORSEPLUMB_OK: `manifest` gives what the text describes, `worlds` and `tables` are 0, and what stands
  * behind the endpoints and regions that it counts is zeros. Else `manifest` stays: GORSEPLUMB_NO_MEMORY, since reading takes
  * memory, all of which it gives back, or the cause for which gorseplumb_boot would refuse the text. */
 enum gorseplumb_answer gorseplumb_read_manifest(const uint8_t *text, size_t size, struct gorseplumb_manifest *manifest);

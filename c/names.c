@@ -248,7 +248,8 @@ static const char answer_names[] =
     "the tables don't give what the runs say\0"
     "the machine's RAM is lent: gorseplumb_free gives it back\0"
     "RAM of so many pages can't stand at the address\0"
-    "there are more than endpoints of a machine, or one is at no page of RAM\0";
+    "there are more than endpoints of a machine, or one is at no page of RAM\0"
+    "M25 TablesOutside\0";
 
 /* The name at a place, counted from 0, of names that have so many bytes; "" behind the last. */
 static const char *name_at(const char *names, size_t bytes, uint32_t place) {

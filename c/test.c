@@ -372,6 +372,11 @@ static void numbers(void) {
     REFUSED(GORSEPLUMB_MANIFEST_REGION_OUTSIDE, manifest.endpoints[0].regions[0].pages = 0);
     REFUSED(GORSEPLUMB_MANIFEST_REGION_OUTSIDE, manifest.endpoints[2].regions[0].pages = 0xFFFFFFFF);
     REFUSED(GORSEPLUMB_MANIFEST_REGION_OVERLAP, manifest.endpoints[2].regions[0].base = 0x4002F000);
+    /* Nine pages of tables may stand behind all regions, but not over one, nor end behind RAM. */
+    REFUSED(GORSEPLUMB_OK, manifest.tables = 503);
+    REFUSED(GORSEPLUMB_OK, manifest.tables = 64);
+    REFUSED(GORSEPLUMB_MANIFEST_REGION_OUTSIDE, manifest.tables = 63);
+    REFUSED(GORSEPLUMB_MANIFEST_TABLES_OUTSIDE, manifest.tables = 504);
     REFUSED(GORSEPLUMB_MANIFEST_VERSION, manifest.endpoints[1].version = 2);
     /* What tells of no machine at all comes before what makes none. */
     REFUSED(GORSEPLUMB_MANIFEST_VERSION, manifest.endpoints[1].version = 2, manifest.ram_base = 1);

@@ -280,7 +280,8 @@ static void names(void) {
         CHECK(*gorseplumb_check_name(check) != '\0');
     for (uint32_t flaw = 1; flaw <= GORSEPLUMB_FLAW_RELINQUISH_ENDPOINT_COUNT; flaw++)
         CHECK(*gorseplumb_flaw_name(flaw) != '\0');
-    for (uint32_t answer = 0; answer <= GORSEPLUMB_WRONG_COUNT; answer++)
+    CHECK(is(gorseplumb_answer_name(GORSEPLUMB_MANIFEST_TABLES_OUTSIDE), "M25 TablesOutside"));
+    for (uint32_t answer = 0; answer <= GORSEPLUMB_MANIFEST_TABLES_OUTSIDE; answer++)
         CHECK(*gorseplumb_answer_name(answer) != '\0');
     static const uint32_t none[] = {0, 1000, UINT32_MAX};
     for (int i = 0; i < 3; i++) {
@@ -289,6 +290,7 @@ static void names(void) {
         CHECK(none[i] == 0 || is(gorseplumb_answer_name(none[i]), ""));
     }
     CHECK(is(gorseplumb_check_name(GORSEPLUMB_CHECK_WORLDS_MIXED + 1), ""));
+    CHECK(is(gorseplumb_answer_name(GORSEPLUMB_MANIFEST_TABLES_OUTSIDE + 1), ""));
     CHECK(is(gorseplumb_fault_name(GORSEPLUMB_FAULT_OUTSIDE_RAM + 1), ""));
     CHECK(is(gorseplumb_flaw_name(GORSEPLUMB_FLAW_RELINQUISH_ENDPOINT_COUNT + 1), ""));
 }

@@ -8,7 +8,7 @@ set -euo pipefail
 here=$(cd "$(dirname "${BASH_SOURCE[0]}")" && pwd)
 top=$(dirname "$here")
 python=${PYTHON:-/usr/bin/python3} # Debian's, which has pytest by its package
-packages="python3 python3-pytest python3-venv mypy gcc libc6-dev binutils"
+packages="python3 python3-pytest python3-hypothesis python3-venv mypy gcc libc6-dev binutils"
 if [[ ${1:-} == --install* ]]; then
     { apt-get update && apt-get install -y $packages; } >/dev/null || echo "not all packages were installed"
 fi
@@ -48,8 +48,10 @@ else
     lacks "names of the shared library: no nm"
 fi
 
+left=() # what has the types of a package that isn't there
+"$python" -c 'import hypothesis' 2>/dev/null || left=(--exclude test_states)
 if command -v mypy >/dev/null; then
-    (cd "$here" && mypy --strict --cache-dir "$to/mypy" gorseplumb tests backend.py bench.py)
+    (cd "$here" && mypy --strict --cache-dir "$to/mypy" "${left[@]}" gorseplumb tests backend.py bench.py)
 else
     lacks "types: no mypy"
 fi

@@ -2,24 +2,18 @@
 #include "el2.h"
 #include "processor.h"
 #include "tables.h"
+#include "timer.h"
 
 SYSTEM_REGISTER(cntvoff_el2)
 SYSTEM_REGISTER(hstr_el2)
 SYSTEM_REGISTER(vpidr_el2)
 SYSTEM_REGISTER(vmpidr_el2)
 SYSTEM_REGISTER(midr_el1)
-SYSTEM_REGISTER(icc_sre_el2)
 SYSTEM_REGISTER(ich_hcr_el2)
-SYSTEM_REGISTER(icc_pmr_el1)
 SYSTEM_REGISTER(cntv_ctl_el0)
 SYSTEM_REGISTER(cntv_cval_el0)
 SYSTEM_REGISTER(cntp_ctl_el0)
 SYSTEM_REGISTER(cntp_cval_el0)
-SYSTEM_REGISTER(cnthp_ctl_el2)
-SYSTEM_REGISTER(cnthp_cval_el2)
-
-/* ICC_SRE_EL2 (DDI 0487): system registers are the way to the interrupt controller (SRE, DFB, DIB), also for EL1 (Enable). */
-#define INTERRUPTS_BY_REGISTERS 15
 
 void begin_el2(uint64_t hcr) {
     begin_tables(hcr);
@@ -27,7 +21,7 @@ void begin_el2(uint64_t hcr) {
     write_vmpidr_el2(read_mpidr_el1());
     write_hstr_el2(0);
     write_cntvoff_el2(0);
-    write_icc_sre_el2(INTERRUPTS_BY_REGISTERS);
+    write_icc_sre_el2(BY_REGISTERS);
     DO("isb");
     write_ich_hcr_el2(0);
 }
@@ -51,12 +45,7 @@ void let_nothing_through(void) { write_icc_pmr_el1(0); }
 
 /* The hypervisor's physical timer rings in place of those that are put aside. Its interrupt is enabled in the processor's redistributor, which
  * Linux has for itself otherwise (IHI 0069, 12.11), and is over when the timer is off: nobody takes it from the controller. */
-#define REDISTRIBUTOR(processor) (UINT64_C(0x080A0000) + UINT64_C(0x20000) * (processor))
-#define ENABLES(processor) ((volatile uint32_t *)(REDISTRIBUTOR(processor) + 0x10100))
-#define DISABLES(processor) ((volatile uint32_t *)(REDISTRIBUTOR(processor) + 0x10180))
-#define OF_HYPERVISORS_TIMER (UINT32_C(1) << 26)
-
-static uint32_t own_number(void) { return (uint32_t)read_mpidr_el1() & 0xFF; }
+#define OF_HYPERVISORS_TIMER (UINT32_C(1) << TIMERS_INTERRUPT)
 
 /* When a timer rings (CNTV_CTL_EL0, CNTP_CTL_EL0: ENABLE and not IMASK), or never. */
 static uint64_t rings_at(uint64_t control, uint64_t value) { return (control & 3) == 1 ? value : UINT64_MAX; }
@@ -64,7 +53,7 @@ static uint64_t rings_at(uint64_t control, uint64_t value) { return (control & 3
 void let_interrupts_come(const struct timers *of) {
     uint64_t one = rings_at(of->virtual_control, of->virtual_value), other = rings_at(of->physical_control, of->physical_value);
     write_cnthp_cval_el2(one < other ? one : other);
-    write_cnthp_ctl_el2(1);
+    write_cnthp_ctl_el2(ENABLE);
     *ENABLES(own_number()) = OF_HYPERVISORS_TIMER;
     write_icc_pmr_el1(of->priority);
     DO("isb");

@@ -5,9 +5,6 @@
 #include "processor.h"
 #include "text.h"
 
-SYSTEM_REGISTER(cntpct_el0)
-SYSTEM_REGISTER(cntfrq_el0)
-
 void firmware(void);
 void second_processor(void);
 

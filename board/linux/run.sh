@@ -16,11 +16,12 @@ image_at=40200000 memory_bytes=3C00000 redistributors=20000 initramfs_at=43C0000
 
 usage() {
     cat <<'HELP'
-board/linux/run.sh [--install] [--kernel KIND | --limits NAME] [--several] [--rounds N] [--work FOLDER] [--keep FOLDER] [--jobs N]
+board/linux/run.sh [--install] [--build-only] [--kernel KIND | --limits NAME] [--several] [--rounds N] [--work FOLDER] [--keep FOLDER] [--jobs N]
 
 Runs Linux as the normal world on QEMU's machine `virt`, some times, and compares. Where the core is proved and the kernel built it takes some minutes.
 
   --install      installs Debian's packages for it first
+  --build-only   builds the firmwares and the partitions' program, and runs none
   --kernel KIND  runs another Linux than that of the kind 4k; board/linux/kernel --help names the kinds
   --limits NAME  runs it over a copy of the repository with other limits, limits/NAME.edit: its library is proved first, and its program, which judges, is
                  compiled unproved. Linux shares a page 100,000 times there
@@ -34,10 +35,11 @@ It ends with 0 and `passed`, with 1 and what is missing or differs, or with 64 w
 HELP
 }
 
-install='' kernel=4k limits='' several='' rounds=10000 work=${TMPDIR:-/tmp}/gorseplumb-linux keep='' jobs=$(nproc)
+install='' only='' kernel=4k limits='' several='' rounds=10000 work=${TMPDIR:-/tmp}/gorseplumb-linux keep='' jobs=$(nproc)
 while (($#)); do
     case $1 in
         --install) install=yes ;;
+        --build-only) only=yes ;;
         --several) several=yes ;;
         --kernel | --limits | --rounds | --work | --keep | --jobs)
             [[ ${2:-} ]] || refuse "$1 needs a word behind it"
@@ -54,7 +56,7 @@ done
 [[ -z $limits || -e $top/limits/$limits.edit ]] || refuse "there are no limits $limits"
 is_count "$rounds" || refuse "the number of rounds is one below a thousand million, and not $rounds"
 if [[ $install ]]; then install_packages "${packages[@]}"; fi
-needs "${packages[*]}" $compiler $copier $emulator dtc
+needs "${packages[*]}" $compiler $copier $([[ $only ]] || echo $emulator dtc)
 mkdir -p "$work" ${keep:+"$keep"}
 work=$(cd "$work" && pwd)
 to=$(mktemp -d)
@@ -132,7 +134,6 @@ judge() {
 
 # A firmware that forgets no translation after a call: Linux has to see that it reaches a page that it has lent.
 find_stale() {
-    build stale -DSETTLE=0
     build_tree smc 1
     run stale stale -cpu cortex-a57
     grep -qF 'FAILED: a page that is lent' "$to/linux" || fail "Linux doesn't find that translations are kept"
@@ -141,7 +142,6 @@ find_stale() {
 
 # What takes how many instructions, with nothing printed: the emulator counts one as a nanosecond.
 measure() {
-    build silent -DRECORD=0
     build_tree smc 1 ffa_try.rounds=1000
     run silent silent -cpu cortex-a57 -icount shift=0,sleep=off
     sed -n 's/^# boot/boot/p' "$to/linux"
@@ -178,7 +178,6 @@ try_several() {
 }
 
 all_several() {
-    build several -DSEVERAL=1
     try_several 2 "$1"
     try_several 4 "$1"
 }
@@ -186,7 +185,6 @@ all_several() {
 # All that is run of the kernel of the kind 4k.
 run_all() {
     local all=(linux driver held 6.12) conduit
-    build notify -DNOTIFY=1
     for conduit in smc hvc; do
         build_tree $conduit 1
         try $conduit plain cortex-a57 "${all[@]}" no-interrupt
@@ -218,13 +216,21 @@ run_other() {
     try_random plain "$1" linux driver held "$2"
 }
 
-"$here/kernel" ${install:+--install} --jobs "$jobs" "$kernel" "$work"
+if [[ ! $only ]]; then "$here/kernel" ${install:+--install} --jobs "$jobs" "$kernel" "$work"; fi
 cp "$here/linux.toml" "$to/manifest"
 make_archive "$repository"
-# (a copy's program is taken unproved: it writes no descriptor of more ranges than one page holds for four receivers)
-[[ -n ${FFAPLAY:-}$limits ]] || "$repository/ffaplay" prove
 build_partition
 build plain
+build notify -DNOTIFY=1
+build several -DSEVERAL=1
+build stale -DSETTLE=0
+build silent -DRECORD=0
+if [[ $only ]]; then
+    echo "$me: each firmware is linked"
+    exit
+fi
+# (a copy's program is taken unproved: it writes no descriptor of more ranges than one page holds for four receivers)
+[[ -n ${FFAPLAY:-}$limits ]] || "$repository/ffaplay" prove
 judge=("$player" run)
 if [[ $several ]]; then
     all_several cortex-a57

@@ -3,6 +3,7 @@
  * 4.6.2). It masks both, and takes none from the interrupt controller. */
 #include "processor.h"
 #include "secure.h"
+#include "timer.h"
 
 SYSTEM_REGISTER(isr_el1)
 
@@ -10,12 +11,8 @@ SYSTEM_REGISTER(isr_el1)
 #define FIQ (UINT64_C(1) << 6)
 #define IRQ (UINT64_C(1) << 7)
 
-/* Of a processor's redistributor (IHI 0069, 12.11) the frame of its own interrupts, and whose they are: a bit of both is 1 and 0 for the normal world's. */
-#define FRAME(processor) (UINT64_C(0x080B0000) + UINT64_C(0x20000) * (processor))
-#define GROUPS(processor) ((volatile uint32_t *)(FRAME(processor) + 0x80))
-#define MODIFIERS(processor) ((volatile uint32_t *)(FRAME(processor) + 0xD00))
-
-/* Those by which the normal world hears of notifications (board/linux/notify.c). TF-A has given 8 to 15 to the secure world. */
+/* Those by which the normal world hears of notifications (board/linux/notify.c). TF-A has given 8 to 15 to the secure world. Whose one
+ * is a bit says of both registers: 1 and 0 for the normal world's (IHI 0069, 12.11). */
 #define OF_NOTIFICATIONS (UINT32_C(1) << 8 | UINT32_C(1) << 9)
 
 void begin_interrupts(void) {

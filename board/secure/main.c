@@ -13,7 +13,8 @@ void second_processor(void);
 static struct board board;
 static struct gorseplumb_manifest manifest;
 
-/* The text's machine, which tells memory of the normal world from that of the secure world, moved to where RAM is: a text can't have it at any 2 MiB. */
+/* The text's machine, which tells memory of the normal world from that of the secure world, moved to where RAM is, with its tables where they are to
+ * stand there: a text can't have it at any 2 MiB, nor its tables elsewhere than at RAM's start. */
 static void read_manifest(void) {
     size_t size = 0;
     while (manifest_text[size] != '\0') size++;
@@ -21,6 +22,7 @@ static void read_manifest(void) {
     uint32_t by = (uint32_t)RAM_BASE - manifest.ram_base;
     manifest.worlds = 1;
     manifest.ram_base += by;
+    manifest.tables = (uint32_t)(TABLES_AT - RAM_BASE) / GORSEPLUMB_PAGE_SIZE;
     for (uint32_t i = 0; i < manifest.endpoint_count; i++) {
         struct gorseplumb_endpoint *endpoint = &manifest.endpoints[i];
         for (uint32_t j = 0; j < endpoint->region_count; j++) endpoint->regions[j].base += by;
@@ -60,6 +62,7 @@ void firmware(void) {
     read_manifest();
     place_images();
     boot(&board, manifest_text, boot_manifest);
+    if (normal_world(&board)->root != TABLES_AT) stop("the tables stand elsewhere");
     place_endpoints(&board, endpoint_list);
     begin_partitions();
     run_first();

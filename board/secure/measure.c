@@ -5,9 +5,6 @@
 #include "secure.h"
 #include "text.h"
 
-SYSTEM_REGISTER(cntpct_el0)
-SYSTEM_REGISTER(cntfrq_el0)
-
 #ifndef MEASURE
 #define MEASURE 0
 #endif

@@ -16,9 +16,10 @@ image_at=48800000 memory_bytes=3800000 initramfs_at=4BC00000 tree_at=4BD80000
 
 usage() {
     cat <<'HELP'
-board/secure/run.sh [--install] [--work FOLDER] [--keep FOLDER] [--jobs N] [RUN..]
+board/secure/run.sh [--install] [--build-only] [--work FOLDER] [--keep FOLDER] [--jobs N] [RUN..]
 
   --install      installs Debian's packages for it first
+  --build-only   builds the firmwares and the normal world's programs, and runs none
   --work FOLDER  has sources and what is built of them; what stands there is built once. /tmp/gorseplumb-secure where nothing is given
   --keep FOLDER  leaves what each run printed in this folder: NAME.uart, which is what TF-A, the normal world and TSP print, NAME.core, which is what the
                  firmware prints, and NAME.trace, .found and .expected
@@ -38,10 +39,11 @@ It ends with 0 and `passed`, with 1 and what is missing or differs, or with 64 w
 HELP
 }
 
-install='' work=${TMPDIR:-/tmp}/gorseplumb-secure keep='' jobs=$(nproc) runs=()
+install='' only='' work=${TMPDIR:-/tmp}/gorseplumb-secure keep='' jobs=$(nproc) runs=()
 while (($#)); do
     case $1 in
         --install) install=yes ;;
+        --build-only) only=yes ;;
         --work | --keep | --jobs)
             [[ ${2:-} ]] || refuse "$1 needs a word behind it"
             declare "${1#--}=$2"
@@ -55,7 +57,7 @@ while (($#)); do
 done
 ((${#runs[@]})) || runs=("${all[@]}")
 if [[ $install ]]; then install_packages "${packages[@]}"; fi
-needs "${packages[*]}" $compiler $copier $emulator dtc
+needs "${packages[*]}" $compiler $copier $([[ $only ]] || echo $emulator dtc)
 mkdir -p "$work" ${keep:+"$keep"}
 work=$(cd "$work" && pwd)
 to=$(mktemp -d)
@@ -98,16 +100,22 @@ with_three_partitions() {
     for at in $first_at $second_at $third_at; do add_image "$to/partition" $at; done
 }
 
-with_tsp() {
-    "$here/tf-a" ${install:+--install} --jobs "$jobs" tsp "$work/tf-a"
+place_tsp() {
     cp "$here/tsp.toml" "$to/manifest"
     list_endpoints 8001 $first_at
+}
+
+with_tsp() {
+    "$here/tf-a" ${install:+--install} --jobs "$jobs" tsp "$work/tf-a"
+    place_tsp
     images=()
     add_image "$work/tf-a/tsp/bl32.bin" $first_at
 }
 
-# In secure memory, where QEMU puts nothing: the firmware has the partitions' program in its image. The program plays the same machine elsewhere.
-small_flags=(-DIN_IMAGE=1 -URAM_BASE -DRAM_BASE=0x0E400000 -UGORSEPLUMB_ARRAY_BYTES -DGORSEPLUMB_ARRAY_BYTES=0x100000 -Wl,--defsym=FIRMWARE_END=0x0E400000)
+# In secure memory, whose last pages are the tables, and where QEMU puts nothing: the firmware has the partitions' program in its image. The program
+# plays the same machine elsewhere, with tables at RAM's start.
+small_tables=-DTABLES_AT=0x0EFE8000
+small_flags=(-DIN_IMAGE=1 -URAM_BASE -DRAM_BASE=0x0E400000 "$small_tables" -UGORSEPLUMB_ARRAY_BYTES -DGORSEPLUMB_ARRAY_BYTES=0x100000 -Wl,--defsym=FIRMWARE_END=0x0E400000)
 
 with_two_small_partitions() {
     cp "$here/small.toml" "$to/manifest"
@@ -189,10 +197,35 @@ measure() {
     paste -d ' ' <(sed -n 's/^measured: /  /p' "$to/linux") <(sed -n 's/^measured: /(/p' "$to/core" | sed 's/$/)/') | grep . || fail "$1: nothing was measured"
 }
 
+# Each firmware, and each program of the normal world.
+build_all() {
+    local measured=(-DRECORD=0 -DMEASURE=1)
+    with_three_partitions
+    build_firmware
+    build_firmware "${measured[@]}"
+    build_normal
+    build_normal -DTWO=1
+    build_normal -DMEASURE=1
+    build_linux
+    place_tsp
+    build_firmware -DFOR_TSP=1
+    build_firmware "${measured[@]}" -DFOR_TSP=1
+    build_normal -DOF_TSP=1
+    build_normal -DMEASURE=1 -DOF_TSP=1
+    with_two_small_partitions
+    build_firmware "${small_flags[@]}"
+    build_normal -DSMALL=1
+    echo "$me: each firmware is linked"
+}
+
 make_archive "$top" --general-registers
+build_partition
+if [[ $only ]]; then
+    build_all
+    exit
+fi
 [[ -n ${FFAPLAY:-} ]] || "$top/ffaplay" prove
 processor=max processors=1
-build_partition
 for run in "${runs[@]}"; do
     case $run in
         plain | version)
@@ -216,7 +249,7 @@ for run in "${runs[@]}"; do
         small)
             with_two_small_partitions
             build_firmware "${small_flags[@]}"
-            build_normal -DSMALL=1
+            build_normal -DSMALL=1 "$small_tables"
             try_program small version
             ;;
         linux)

@@ -7,6 +7,7 @@
 #include "rounds.h"
 #include "several.h"
 #include "text.h"
+#include "timer.h"
 #include "watch.h"
 
 /* Microseconds: how soon an interrupt comes that is to come, how soon the timer rings again that came too early, and the most of one that is
@@ -142,7 +143,7 @@ static bool is_wanted(struct board *of) {
 }
 
 void serve_tick(struct board *of) {
-    take_timer();
+    if (!take_timer()) stop("an interrupt that isn't the timer's");
     if (!is_wanted(of)) {
         set_timer(AGAIN);
         return;
@@ -186,6 +187,7 @@ void put_counts(void) {
     put_text("\n");
 }
 
+/* HCR_EL2.IMO brings the timer's interrupt to EL2 whatever EL1 masks. EL2 itself masks all, so one comes while an endpoint runs, or as soon as one does. */
 static void begin_processor(void) {
     begin_tables(PROGRAM_HCR);
     begin_timer();

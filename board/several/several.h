@@ -20,12 +20,6 @@ enum scene_line peek_line(struct operation *operation);
 bool is_turn(void);
 void line_is_done(void);
 
-/* timer.c: the timer of EL2, whose interrupts come to it alone. */
-void begin_timer(void);
-void set_timer(uint64_t microseconds);
-bool is_timer_set(void);
-void take_timer(void);
-
 /* main.c: what was counted, as a line. */
 void put_counts(void);
 

@@ -13,7 +13,7 @@ from typing import Any, Callable
 
 from .errors import LibraryError
 
-DECLARATIONS = 4
+DECLARATIONS = 5
 """The number of the declarations that this file has."""
 
 MOST_REGIONS = 16
@@ -70,6 +70,7 @@ class Manifest(Structure):
         ("endpoint_count", c_uint32),
         ("endpoints", Endpoint * MOST_ENDPOINTS),
         ("worlds", c_uint32),
+        ("tables", c_uint32),
     ]
 
 

@@ -8,6 +8,7 @@ from typing import overload
 
 from . import _library as c
 from .codes import Fault
+from .hexadecimal import shown
 from .misuse import refuse
 from .outcomes import DONE, FAULTED, KINDS, Call, Data, Fetch, Load, Operation, Outcome, Registers, Store
 
@@ -26,6 +27,9 @@ class Batch:
 
     def __len__(self) -> int:
         return len(self.operations)
+
+    def __repr__(self) -> str:
+        return f"Batch({shown(list(self.operations))})"
 
 
 def _pack(operation: Operation) -> bytes:
@@ -65,6 +69,9 @@ class Outcomes(Sequence[Outcome]):
     def __iter__(self) -> Iterator[Outcome]:
         told = memoryview(self.raw)[: c.OUTCOME.size * len(self)]
         return map(_outcome, c.OUTCOME.iter_unpack(told), self._sizes)
+
+    def __repr__(self) -> str:
+        return f"<Outcomes: {shown(list(self))}>"
 
 
 def _outcome(told: tuple[int, ...], size: int) -> Outcome:

@@ -130,6 +130,7 @@ class Cause(IntEnum):
     REGION_OUTSIDE = 12
     REGION_OVERLAP = 13
     VERSION = 14
+    TABLES_OUTSIDE = 25
 
     @property
     def text(self) -> str:

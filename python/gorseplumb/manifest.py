@@ -56,17 +56,20 @@ class Endpoint:
 @dataclass(frozen=True)
 class Manifest:
     """RAM, from `ram_base` on in blocks of 2 MiB, and the endpoints in their order. Where `worlds` is set, the machine tells
-    memory of the normal world's regions, which is non-secure, from all other, which is secure; no text says it."""
+    memory of the normal world's regions, which is non-secure, from all other, which is secure. The endpoints' tables stand in a
+    row from the page `tables` of RAM on, 2 pages and one for each block for each endpoint, and regions before them or behind. No text
+    says either."""
 
     ram_base: int
     ram_blocks: int
     endpoints: Sequence[Endpoint]
     worlds: bool = False
+    tables: int = 0
 
     __repr__ = by_fields
 
     def __post_init__(self) -> None:
-        check_numbers(self, "ram_base", "ram_blocks")
+        check_numbers(self, "ram_base", "ram_blocks", "tables")
         check_each("endpoints", self.endpoints, Endpoint)
         if not isinstance(self.worlds, bool):
             refuse("worlds", "True or False", self.worlds)
@@ -79,10 +82,10 @@ class Manifest:
         raw = c.Manifest()
         checked_boot(library.read_manifest(data, len(data), raw), text)
         endpoints = [_endpoint(it, place) for place, it in enumerate(raw.endpoints[: raw.endpoint_count])]
-        return cls(raw.ram_base, raw.ram_blocks, endpoints)
+        return cls(raw.ram_base, raw.ram_blocks, endpoints, bool(raw.worlds), raw.tables)
 
     def text(self) -> str:
-        """The same as the text of a manifest, but for `worlds`."""
+        """The same as the text of a manifest, but for `worlds` and `tables`."""
         lines = [f"ram_base = 0x{self.ram_base:08X}", f"ram_blocks = {self.ram_blocks}"]
         for endpoint in self.endpoints:
             lines += ["", "[[endpoint]]", f'version = "{endpoint.form.text}"']
@@ -107,6 +110,7 @@ class Manifest:
         for place, endpoint in zip(raw.endpoints, self.endpoints):
             _put_endpoint(place, endpoint)
         raw.worlds = int(self.worlds)
+        raw.tables = _fit("tables", self.tables, Cause.TABLES_OUTSIDE)
         return raw
 
 

@@ -23,6 +23,12 @@ def test_gives_each_outcome(partitions: Machine) -> None:
     assert len(partitions.run([])) == 0 and not partitions.is_fresh
 
 
+def test_shows_what_is_in_it(partitions: Machine) -> None:
+    batch = Batch([Load(0x40010000, 2), Load(0x40200000, 1)])
+    assert repr(batch) == "Batch([Load(address=0x40010000, size=2), Load(address=0x40200000, size=1)])"
+    assert repr(partitions.run(batch)) == "<Outcomes: [Data(value=0, size=2), Faulted(fault=Fault.TRANSLATION)]>"
+
+
 def test_gives_the_outcomes_of_a_generated_trace(program: Program) -> None:
     trace = program("generate", "--seed", 3, "--lines", 100_000, MANIFEST).stdout
     commands = [parse(line) for _, line in lines(trace)]

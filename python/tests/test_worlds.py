@@ -61,4 +61,4 @@ def test_tells_nothing_unasked() -> None:
 
 def test_no_text_says_it() -> None:
     assert TWO.text() == ONE.text() and not Manifest.read(TWO.text()).worlds
-    assert TWO != ONE and repr(TWO).endswith("worlds=True)")
+    assert TWO != ONE and repr(TWO).endswith("worlds=True, tables=0)")

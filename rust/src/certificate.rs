@@ -101,8 +101,8 @@ impl PageRun {
 impl fmt::Debug for PageRun {
     fn fmt(&self, to: &mut fmt::Formatter<'_>) -> fmt::Result {
         to.debug_struct("PageRun")
-            .field("first", &self.first())
-            .field("last", &self.last())
+            .field("first", &Hexadecimal(self.first()))
+            .field("last", &Hexadecimal(self.last()))
             .field("owner", &self.owner())
             .field("transaction", &self.transaction().map(Hexadecimal))
             .field("access", &self.0.access.map(Rights::of))

@@ -84,7 +84,7 @@ impl fmt::Display for ErrorCode {
 }
 
 codes! {
-    /// Why a manifest is refused: the first cause that applies, by its number in docs/FORMATS.md (M2 to M14).
+    /// Why a manifest is refused: the first cause that applies, by its number in docs/FORMATS.md (M2 to M14, and M25).
     pub enum Cause: u32 {
         2 Toml "the text is no TOML, or no UTF-8",
         3 UnknownKey "a table has a key that it may not have",
@@ -96,9 +96,10 @@ codes! {
         9 Uuid "a UUID can't be read, a partition's is zeros, or the normal world's isn't",
         10 Property "the properties aren't 0 to 15, or the normal world is to receive",
         11 RegionCount "an endpoint has no region, or more than 16",
-        12 RegionOutside "a region isn't whole pages in RAM behind the tables, or has none",
+        12 RegionOutside "a region isn't whole pages in RAM that are none of the tables', or has none",
         13 RegionOverlap "a region has a page of a region before it",
         14 Version "a version is unknown",
+        25 TablesOutside "RAM hasn't all tables from the page on that is told",
     }
 }
 

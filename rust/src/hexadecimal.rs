@@ -1,6 +1,6 @@
 // SPDX-License-Identifier: MIT OR Apache-2.0
-//! Numbers as `Debug` shows them here: addresses, registers, identifiers and handles in hexadecimal, as they stand in a
-//! program's text.
+//! Numbers as `Debug` shows them here: addresses, registers, identifiers, handles and the numbers of pages in hexadecimal,
+//! as they stand in a program's text.
 use core::fmt;
 
 /// A number that is shown so.

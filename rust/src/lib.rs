@@ -28,7 +28,7 @@
 //! assert_eq!(machine.load(0x4001_0000, Size::B1), Ok(42));
 //! assert_eq!(machine.load(0x4002_0000, Size::B1), Err(Fault::Translation)); // the partition's
 //!
-//! let answer = machine.call(&registers([0x8400_006D, 0x8001_0000])); // FFA_RUN of the partition
+//! let answer = machine.call(&Function::Run.with([0x8001_0000]));
 //! assert_eq!(answer.runner(), Id(0x8001));
 //! let answer = machine.call(&registers([0x8400_007A])); // a call that isn't served
 //! assert_eq!(answer.error(), Some(ErrorCode::NotSupported));

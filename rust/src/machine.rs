@@ -112,7 +112,7 @@ impl Machine {
 
 impl<'ram> Machine<Lent<'ram>> {
     /// The machine of a manifest in its first state, in these pages, of which the first is RAM's first. All pages
-    /// behind the tables are zeros.
+    /// but the tables' are zeros.
     ///
     /// # Errors
     /// [`BootError::NoMemory`], a cause, or [`BootError::WrongCount`]. The pages keep their bytes then.
@@ -124,7 +124,7 @@ impl<'ram> Machine<Lent<'ram>> {
     }
 
     /// The same, but pages of the manifest's regions keep the bytes that they are lent with, as an image of a
-    /// partition. All other pages behind the tables are zeros.
+    /// partition. All others but the tables' are zeros.
     ///
     /// # Errors
     /// As [`Machine::boot_lent`].

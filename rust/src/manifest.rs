@@ -256,6 +256,7 @@ impl fmt::Debug for Manifest {
             .field("ram_blocks", &ram_blocks)
             .field("endpoints", &First(endpoints, endpoint_count, Endpoint))
             .field("worlds", &self.worlds())
+            .field("tables", &self.tables())
             .finish()
     }
 }
@@ -267,6 +268,7 @@ impl Manifest {
         endpoint_count: 0,
         endpoints: [Endpoint::NONE.0; MOST_ENDPOINTS],
         worlds: Worlds::One as u32,
+        tables: 0,
     });
 
     /// So many blocks of 2 MiB from this address on, and these endpoints, the normal world first. Panics, which a
@@ -326,6 +328,21 @@ impl Manifest {
             0 => Worlds::One,
             _ => Worlds::Two,
         }
+    }
+
+    /// The same, whose endpoints' tables begin at this page of RAM, and not at its first, which is 0: 2 pages and one for each
+    /// block of RAM for each endpoint, in a row. Regions may lie before them and behind. No text says this either.
+    #[must_use]
+    pub const fn with_tables(self, page: u32) -> Manifest {
+        let mut manifest = self.0;
+        manifest.tables = page;
+        Manifest(manifest)
+    }
+
+    /// The first page of its tables, counted from RAM's first.
+    #[must_use]
+    pub const fn tables(&self) -> u32 {
+        self.0.tables
     }
 
     /// How many pages its RAM has.

@@ -88,7 +88,7 @@ impl<'ram> Lent<'ram> {
     }
 
     /// Boots a machine in these pages, which are back in the list when it ends; the next boot then asks for no memory.
-    /// All pages behind the tables are zeros.
+    /// All pages but the tables' are zeros.
     ///
     /// # Errors
     /// As [`Machine::boot_lent`]. The list has its pages still, with their bytes.

@@ -8,7 +8,7 @@
 use core::ffi::c_void;
 
 /// The number of the declarations that stand here.
-pub const DECLARATIONS: u32 = 4;
+pub const DECLARATIONS: u32 = 5;
 
 /// What a question answers where there is nothing to tell.
 pub const NOTHING: u32 = u32::MAX;
@@ -111,6 +111,7 @@ pub struct Manifest {
     pub endpoint_count: u32,
     pub endpoints: [Endpoint; MOST_ENDPOINTS],
     pub worlds: u32,
+    pub tables: u32,
 }
 
 pub const OK: u32 = 0;

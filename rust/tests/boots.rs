@@ -28,6 +28,7 @@ fn change(cause: Cause) -> (&'static str, &'static str) {
         Cause::RegionOutside => ("0x40010000", "0x40008000"),
         Cause::RegionOverlap => ("0x40020000", "0x4001F000"),
         Cause::Version => ("\"1.1\"", "\"1.2\""),
+        Cause::TablesOutside => unreachable!("no text says where tables stand"),
     }
 }
 
@@ -62,8 +63,9 @@ fn refuses<D: gorseplumb::Description + ?Sized>(description: &D, cause: Cause) {
 
 #[test]
 fn each_cause_of_a_text() {
-    assert_eq!(Cause::ALL.len(), 13);
-    for cause in Cause::ALL {
+    let (none, of_texts) = Cause::ALL.split_last().unwrap();
+    assert_eq!((*none, of_texts.len()), (Cause::TablesOutside, 13));
+    for cause in of_texts {
         refuses(&*refused_text(*cause), *cause);
     }
     refuses(&b"\xFF"[..], Cause::Toml);
@@ -86,6 +88,9 @@ fn each_cause_of_numbers() {
     refuses(&machine(partition(1, region(0x20000, 0))), Cause::RegionOutside);
     refuses(&machine(partition(1, region(0x20_0000, 1))), Cause::RegionOutside);
     refuses(&machine(partition(1, region(0x1F000, 2))), Cause::RegionOverlap);
+    refuses(&MACHINE.with_tables(504), Cause::TablesOutside);
+    refuses(&MACHINE.with_tables(u32::MAX), Cause::TablesOutside);
+    refuses(&MACHINE.with_tables(63), Cause::RegionOutside);
 }
 
 #[test]
@@ -121,7 +126,7 @@ fn causes_are_said_by_number_name_and_words() {
     for cause in Cause::ALL {
         assert_eq!(Cause::of(cause.number()), Some(*cause));
     }
-    assert_eq!((Cause::of(1), Cause::of(15)), (None, None));
+    assert_eq!((Cause::of(1), Cause::of(15), Cause::of(24), Cause::of(26)), (None, None, None, None));
 }
 
 #[test]

@@ -47,7 +47,7 @@ fn operations() -> Vec<(String, i64)> {
     rows.extend(fields!(Outcome, "outcome", kind runner value x));
     rows.extend(fields!(Region, "region", base pages rights));
     rows.extend(fields!(Endpoint, "endpoint", version properties uuid region_count regions));
-    rows.extend(fields!(Manifest, "manifest", ram_base ram_blocks endpoint_count endpoints worlds));
+    rows.extend(fields!(Manifest, "manifest", ram_base ram_blocks endpoint_count endpoints worlds tables));
     rows.extend(fields!(Range, "range", address size));
     rows.extend(fields!(Change, "change", endpoint range_count ranges));
     rows.extend(fields!(Settling, "settling", endpoint address size));

@@ -50,7 +50,7 @@ fn what_is_told_of_pages() {
     let change = machine.changed().unwrap();
     shows(&change, "Change { endpoint: Id(0x0), ranges: [Range { address: 0x40010000, size: 0x1000 }] }");
     let run = machine.run_from(48).unwrap();
-    let shown = "PageRun { first: 48, last: 63, owner: Id(0x8002), transaction: None, \
+    let shown = "PageRun { first: 0x30, last: 0x3F, owner: Id(0x8002), transaction: None, \
                  access: [None, None, Some(Rw), None, None, None, None, None] }";
     shows(run, shown);
     let run = machine.run_from(16).unwrap();

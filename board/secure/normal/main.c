@@ -13,7 +13,10 @@
 #define TWO 0 /* 1 turns a second processor on */
 #endif
 
-#define SMALL_TABLE 0x0E400000
+#ifndef TABLES_AT
+#define TABLES_AT 0 /* where that has its tables */
+#endif
+
 #define SMALL_PARTITION 0x0E500000
 
 void normal_world(void);
@@ -88,7 +91,7 @@ static void be_kept_out(void) {
     say("FFA_VERSION", x);
     try_messages();
     want("a partition's page is out of reach", probe(SMALL_PARTITION) >> 63 == 1);
-    want("the tables are out of reach", probe(SMALL_TABLE) >> 63 == 1);
+    want("the tables are out of reach", probe(TABLES_AT) >> 63 == 1);
     if (failed) stop("something came out otherwise");
     end_well();
 }

@@ -60,9 +60,8 @@ static inline bool is_error(const uint64_t *x, uint32_t code) { return (uint32_t
 void say(const char *what, const uint64_t *x);
 void want(const char *what, bool holds);
 
-/* interrupts.c: a timer on this processor. A partition is asked to work: `x` is what that answers; is this FFA_INTERRUPT, or what it has worked?
- * It works until it is stopped, and the interrupt is taken; it goes on; or it works to its end, and is stopped every now and then: how often. */
-void begin_timer(void);
+/* interrupts.c, by the timer of this processor. A partition is asked to work: `x` is what that answers; is this FFA_INTERRUPT, or what it has
+ * worked? It works until it is stopped, and the interrupt is taken; it goes on; or it works to its end, and is stopped every now and then: how often. */
 void begin_work(uint64_t *x, uint32_t receiver);
 bool is_interrupt(const uint64_t *x, uint32_t of);
 bool is_worked(const uint64_t *x);

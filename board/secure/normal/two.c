@@ -3,6 +3,7 @@
 #include "bytes.h"
 #include "normal.h"
 #include "text.h"
+#include "timer.h"
 
 /* DEN0022, 5.1 */
 #define PSCI_CPU_OFF UINT64_C(0x84000002)

@@ -2,7 +2,7 @@
 -- What the standard calls the functions and the error codes that registers hold (DEN0077A, 11 to 16).
 use Rattle.std.specs.Prelude.{ℕ, ◌==◌, List, [], ◌∷◌, Option, None, codes, find, slice_index, if◌then◌else◌}
 use Rattle.std.specs.Option.{option_map, option_or}
-use Rattle.ffa_model.specs.declared.function.TheConstants.{FFA_ERROR, FFA_SUCCESS, FFA_MEM_RETRIEVE_RESP}
+use Rattle.ffa_model.specs.declared.function.TheConstants.{FFA_ERROR, FFA_INTERRUPT, FFA_SUCCESS, FFA_MEM_RETRIEVE_RESP, FFA_SUCCESS_64}
 use Rattle.ffa_model.specs.declared.operation.ErrorCode.TheVariants.{NotSupported, InvalidParameters, NoMemory, Busy, Denied}
 use Rattle.ffa_model.specs.Calls.{code_number}
 use Rattle.ffa_model.specs.Registers.{low}
@@ -12,11 +12,13 @@ use Rattle.ffa_model.specs.Rows.{row_of}
 abbrev pub Row : Type 0
 Row = ℕ × List ℕ
 
--- what a caller sees, and is no call, by the identifier
+-- what a caller sees, and is no call, by the identifier; the success of a 64-bit call may be of that form too
 abbrev pub answer_names : List Row
 answer_names =
     (FFA_ERROR, codes "FFA_ERROR")
     ∷ (FFA_SUCCESS, codes "FFA_SUCCESS")
+    ∷ (FFA_SUCCESS_64, codes "FFA_SUCCESS")
+    ∷ (FFA_INTERRUPT, codes "FFA_INTERRUPT")
     ∷ (FFA_MEM_RETRIEVE_RESP, codes "FFA_MEM_RETRIEVE_RESP")
     ∷ []
 

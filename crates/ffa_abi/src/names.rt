@@ -6,7 +6,9 @@ ghost use Rattle.ffa_model.specs.Rows.{place_in_rows, row_of, rows, told};
 ghost use Rattle.ffa_abi.specs.Names.{answer_names, call_name_of, error_name_of, error_names, name_in};
 
 use crate::call::low;
-use ffa_model::function::{FFA_ERROR, FFA_MEM_RETRIEVE_RESP, FFA_SUCCESS, WIDE};
+use ffa_model::function::{
+    FFA_ERROR, FFA_INTERRUPT, FFA_MEM_RETRIEVE_RESP, FFA_SUCCESS, FFA_SUCCESS_64, WIDE,
+};
 use ffa_model::{CALLS, CallRow};
 
 /// The row of the call of which a number is the identifier, in either form that the call has (DEN0077A, 11 to 16).
@@ -54,7 +56,8 @@ fn answer_name(function: u32) -> Option<&'static str>
 {
     let name = match function {
         FFA_ERROR => "FFA_ERROR",
-        FFA_SUCCESS => "FFA_SUCCESS",
+        FFA_SUCCESS | FFA_SUCCESS_64 => "FFA_SUCCESS",
+        FFA_INTERRUPT => "FFA_INTERRUPT",
         FFA_MEM_RETRIEVE_RESP => "FFA_MEM_RETRIEVE_RESP",
         _ => return None,
     };

@@ -98,8 +98,8 @@ endpoint-tests placed before e = (
 machine-tests : (parts : Parts) → AreInRoom (tests_of parts)
 unfolding tests_of
 machine-tests parts =
-    let placed = is_placed parts.ram_base parts.ram_blocks (length parts.endpoints) in
-    (λ same. cc, (λ same. cc, (λ same. cc, all-in-room (endpoint_tests placed) [] parts.endpoints (endpoint-tests placed))))
+    let placed = is_placed parts.ram_base parts.tables parts.ram_blocks (length parts.endpoints) in
+    (λ same. cc, (λ same. cc, (λ same. cc, (λ same. cc, all-in-room (endpoint_tests placed) [] parts.endpoints (endpoint-tests placed)))))
 
 failure-in-room : (ts : Tests) (cause : ManifestError) → AreInRoom ts → first_failure ts ≡ Some cause → cause ≢ NoMemory
 failure-in-room [] cause each is same = cc
@@ -129,14 +129,14 @@ refused-in-room p (Err cause) refused = refusal-in-room p cause refused
 -- ---- numbers that tell parts
 
 pub parts_told : (given : CManifest) (es : List Endpoint) (worlds : Worlds) → endpoints_given given ≡ Ok es → Some worlds ≡ worlds_given given.worlds
-    → parts_given given ≡ Ok (record { ram_base = given.ram_base; ram_blocks = given.ram_blocks; endpoints = es; worlds = worlds })
+    → parts_given given ≡ Ok (record { ram_base = given.ram_base; ram_blocks = given.ram_blocks; tables = given.tables; endpoints = es; worlds = worlds })
 parts_told given es worlds told is =
     let with_worlds : List Endpoint → Worlds → Result Parts ManifestError = λ es worlds.
-    Ok (record { ram_base = given.ram_base; ram_blocks = given.ram_blocks; endpoints = es; worlds = worlds }) in
+    Ok (record { ram_base = given.ram_base; ram_blocks = given.ram_blocks; tables = given.tables; endpoints = es; worlds = worlds }) in
     ap (λ r. r >>= λ es. or_cause WrongKind (worlds_given given.worlds) >>= λ worlds. with_worlds es worlds) told
     ∙ ap (λ o. or_cause WrongKind o >>= λ worlds. with_worlds es worlds) (sym is)
 
 -- no test of parts looks at worlds
-pub cause_aside : (parts : Parts) → first_cause parts ≡ first_cause (parts_from parts.ram_base parts.ram_blocks parts.endpoints)
+pub cause_aside : (parts : Parts) → first_cause parts ≡ first_cause (parts_from parts.ram_base parts.tables parts.ram_blocks parts.endpoints)
 unfolding first_cause tests_of
 cause_aside parts = refl

@@ -18,7 +18,7 @@ use Rattle.ffa_model.specs.declared.manifest.Worlds.TheVariants.{One, Two}
 use Rattle.ffa_model.specs.declared.rights.Data as rights
 use Rattle.ffa_model.specs.declared.rights.Data.TheVariants.{Ro, Rw}
 use Rattle.ffa_model.specs.declared.rights.Rights.{Rights}
-use Rattle.ffa_model.specs.Manifest.{are_apart, are_counted, are_identified, is_accepted, is_from_to, is_placed, is_ram_base, is_ram_size, regions_of}
+use Rattle.ffa_model.specs.Manifest.{are_apart, are_counted, are_identified, is_accepted, has_tables, is_from_to, is_placed, is_ram_base, is_ram_size, regions_of}
 use Rattle.ffa_manifest.specs.Document.{Parts}
 use Rattle.ffa_manifest.specs.Parts.{endpoint_tests, first_cause, tests_of, tests_of_each}
 use Rattle.ffa_manifest.specs.Reading.{◌>>=◌, or_cause}
@@ -101,7 +101,7 @@ endpoint-again e within =
 parts-again : (parts : Parts) → length parts.endpoints ≤ MOST_ENDPOINTS → are_counted parts.endpoints ≡ true → parts_given (numbers parts) ≡ Ok parts
 parts-again parts small all =
     let with_worlds : List Endpoint → Worlds → Result Parts ManifestError = λ es worlds.
-    Ok (record { ram_base = parts.ram_base; ram_blocks = parts.ram_blocks; endpoints = es; worlds = worlds }) in
+    Ok (record { ram_base = parts.ram_base; ram_blocks = parts.ram_blocks; tables = parts.tables; endpoints = es; worlds = worlds }) in
     ap (λ r. r >>= λ es. or_cause WrongKind (worlds_given (worlds_number parts.worlds)) >>= λ worlds. with_worlds es worlds)
     (counted-again endpoint_given endpoint_numbers (λ e. is_from_to 1 MOST_REGIONS (length e.regions.items)) endpoint-again
     MOST_ENDPOINTS EndpointCount no_endpoint parts.endpoints small all)
@@ -109,7 +109,7 @@ parts-again parts small all =
 
 -- ---- an accepted manifest's parts make a machine
 
-module _ (parts : Parts) (good : is_accepted parts.ram_base parts.ram_blocks parts.endpoints ≡ true) where
+module _ (parts : Parts) (good : is_accepted parts.ram_base parts.tables parts.ram_blocks parts.endpoints ≡ true) where
   abbrev es : List Endpoint
   es = parts.endpoints
 
@@ -117,10 +117,10 @@ module _ (parts : Parts) (good : is_accepted parts.ram_base parts.ram_blocks par
   ram = is_ram_base parts.ram_base && is_ram_size parts.ram_base parts.ram_blocks
 
   abbrev named : Bool
-  named = is_from_to 1 MOST_ENDPOINTS (length es) && are_identified es
+  named = (is_from_to 1 MOST_ENDPOINTS (length es) && has_tables parts.tables parts.ram_blocks (length es)) && are_identified es
 
   abbrev lying : Bool
-  lying = list_all (is_placed parts.ram_base parts.ram_blocks (length es)) (regions_of es) && are_apart (regions_of es)
+  lying = list_all (is_placed parts.ram_base parts.tables parts.ram_blocks (length es)) (regions_of es) && are_apart (regions_of es)
 
   head-good : ram && named ≡ true
   head-good = (and_parts (ram && named) (are_counted es && lying) good).0
@@ -134,14 +134,23 @@ module _ (parts : Parts) (good : is_accepted parts.ram_base parts.ram_blocks par
   blocks-good : is_ram_size parts.ram_base parts.ram_blocks ≡ true
   blocks-good = (and_parts (is_ram_base parts.ram_base) (is_ram_size parts.ram_base parts.ram_blocks) (and_parts ram named head-good).0).1
 
+  abbrev counts : Bool
+  counts = is_from_to 1 MOST_ENDPOINTS (length es) && has_tables parts.tables parts.ram_blocks (length es)
+
+  counts-good : counts ≡ true
+  counts-good = (and_parts counts (are_identified es) (and_parts ram named head-good).1).0
+
   count-good : is_from_to 1 MOST_ENDPOINTS (length es) ≡ true
-  count-good = (and_parts (is_from_to 1 MOST_ENDPOINTS (length es)) (are_identified es) (and_parts ram named head-good).1).0
+  count-good = (and_parts (is_from_to 1 MOST_ENDPOINTS (length es)) (has_tables parts.tables parts.ram_blocks (length es)) counts-good).0
+
+  room-good : has_tables parts.tables parts.ram_blocks (length es) ≡ true
+  room-good = (and_parts (is_from_to 1 MOST_ENDPOINTS (length es)) (has_tables parts.tables parts.ram_blocks (length es)) counts-good).1
 
   no-cause : first_cause parts ≡ None
   unfolding first_cause tests_of
   no-cause =
-      let each = tests_of_each (endpoint_tests (is_placed parts.ram_base parts.ram_blocks (length es))) [] es in
-      rw (base-good, blocks-good, count-good) (passed_tests parts.ram_base parts.ram_blocks es good)
+      let each = tests_of_each (endpoint_tests (is_placed parts.ram_base parts.tables parts.ram_blocks (length es))) [] es in
+      rw (base-good, blocks-good, count-good, room-good) (passed_tests parts.ram_base parts.tables parts.ram_blocks es good)
 
   pub numbers-give : Gives (numbers parts) parts
   numbers-give = record { told = parts-again parts (few MOST_ENDPOINTS (length es) count-good) counted-good; whole = no-cause }

@@ -1,9 +1,8 @@
 -- SPDX-License-Identifier: MIT OR Apache-2.0
 -- What a boot tells C, and what C holds after it.
-use Rattle.std.specs.Prelude.{◌≡◌, ◌≢◌, ◌⊎◌, ⊤, ℕ, ◌*◌, ◌<◌, ◌≤◌, Bool, List, [], length, replicate, slice_index_or, Option, None, Some, Ok, Err, IsUtf8}
+use Rattle.std.specs.Prelude.{◌≡◌, ◌≢◌, ◌⊎◌, ⊤, ℕ, ◌*◌, ◌<◌, Bool, List, [], length, replicate, slice_index_or, Option, None, Some, Ok, Err, IsUtf8}
 use Rattle.ffa_model.specs.Agreement.{Agrees}
 use Rattle.ffa_model.specs.First.{first, first_held}
-use Rattle.ffa_model.specs.Manifest.{table_pages}
 use Rattle.std.specs.FinSet as finite_set
 use Rattle.ffa_model.specs.Processors.{first_processors}
 use Rattle.ffa_model.specs.Ram.{page_of}
@@ -14,6 +13,7 @@ use Rattle.ffa_manifest.specs.declared.error.ManifestError.{ManifestError}
 use Rattle.ffa_manifest.specs.declared.error.ManifestError.TheVariants as causes
 use Rattle.ffa_spmc.specs.Booted.{AreDescribed}
 use Rattle.ffa_spmc.specs.Snapshot.{Snapshot}
+use Rattle.ffa_spmc.specs.Unowned.{IsNoTable}
 use Rattle.ffa_c.specs.Boarded.{Boarded}
 use Rattle.ffa_c.specs.declared.board.FirstBytes.{FirstBytes}
 use Rattle.ffa_c.specs.declared.board.FirstBytes.TheVariants.{Cleared, Kept}
@@ -34,28 +34,26 @@ cause_number causes.RegionCount = 11
 cause_number causes.RegionOutside = 12
 cause_number causes.RegionOverlap = 13
 cause_number causes.Version = 14
+cause_number causes.TablesOutside = 25
 
 -- the machine of these parts in its first state: the tables give its access, by the descriptors of pages and blocks, all
--- pages behind them are zeros, and nothing is told of access that changed
+-- other pages are zeros, and nothing is told of access that changed
 pub record IsFirst (parts : Parts) (s : Snapshot) : Type 0 where
-  pub state : s.state ≡ first parts.worlds parts.ram_base parts.ram_blocks parts.endpoints
+  pub state : s.state ≡ first parts.worlds parts.ram_base parts.tables parts.ram_blocks parts.endpoints
   pub agrees : Agrees s.ram s.state
-  pub words : AreDescribed parts.ram_blocks s.state s.ram
-  pub cleared :
-      (p : ℕ) → length s.state.parties * table_pages parts.ram_blocks ≤ p → p < length s.ram.pages
-      → page_of s.ram p ≡ replicate 4096 0
+  pub words : AreDescribed parts.tables parts.ram_blocks s.state s.ram
+  pub cleared : (p : ℕ) → IsNoTable s.state p → p < length s.ram.pages → page_of s.ram p ≡ replicate 4096 0
   pub sound : IsSoundState s.state
   pub told : s.told ≡ None
 
--- the same where pages of its regions have the bytes of pages that are given, and all others behind the tables are
--- zeros
+-- the same where pages of its regions have the bytes of pages that are given, and all others but the tables' are zeros
 pub record IsFirstHeld (pages : List (List ℕ)) (parts : Parts) (s : Snapshot) : Type 0 where
-  pub state : s.state ≡ first_held parts.worlds parts.ram_base parts.ram_blocks parts.endpoints (λ p. slice_index_or pages p [])
+  pub state : s.state ≡ first_held parts.worlds parts.ram_base parts.tables parts.ram_blocks parts.endpoints (λ p. slice_index_or pages p [])
   pub agrees : Agrees s.ram s.state
-  pub words : AreDescribed parts.ram_blocks s.state s.ram
+  pub words : AreDescribed parts.tables parts.ram_blocks s.state s.ram
   pub cleared :
-      (p : ℕ) → length s.state.parties * table_pages parts.ram_blocks ≤ p → p < length s.ram.pages
-      → page_at s.state p ≡ None → page_of s.ram p ≡ replicate 4096 0
+      (p : ℕ) → IsNoTable s.state p → p < length s.ram.pages → page_at s.state p ≡ None
+      → page_of s.ram p ≡ replicate 4096 0
   pub sound : IsSoundState s.state
   pub told : s.told ≡ None
 

@@ -71,7 +71,7 @@ abbrev pub parts_given : CManifest → Result Parts ManifestError
 parts_given m = do
   endpoints ← endpoints_given m
   worlds ← or_cause WrongKind (worlds_given m.worlds)
-  Ok (record { ram_base = m.ram_base; ram_blocks = m.ram_blocks; endpoints = endpoints; worlds = worlds })
+  Ok (record { ram_base = m.ram_base; ram_blocks = m.ram_blocks; tables = m.tables; endpoints = endpoints; worlds = worlds })
 
 -- C's numbers tell these parts, and they make a machine
 pub record Gives (given : CManifest) (parts : Parts) : Type 0 where

@@ -47,4 +47,5 @@ numbers parts = record {
   endpoint_count = length parts.endpoints;
   endpoints = padded MOST_ENDPOINTS no_endpoint (map endpoint_numbers parts.endpoints);
   worlds = worlds_number parts.worlds;
+  tables = parts.tables;
 }

@@ -67,9 +67,9 @@ mod copy;
 /// What a boot does with the bytes of pages that are lent.
 #[derive(Clone, Copy)]
 pub enum FirstBytes {
-    /// All pages behind the tables are zeros.
+    /// All pages but the tables' are zeros.
     Cleared,
-    /// Pages of the manifest's regions keep theirs, and all others behind the tables are zeros.
+    /// Pages of the manifest's regions keep theirs, and all others but the tables' are zeros.
     Kept,
 }
 

@@ -16,7 +16,7 @@ use crate::board::{Board, FirstBytes};
 use crate::codes::{
     MANIFEST_ENDPOINT_COUNT, MANIFEST_MISSING_KEY, MANIFEST_PROPERTY, MANIFEST_RAM_BASE,
     MANIFEST_RAM_BLOCKS, MANIFEST_REGION_COUNT, MANIFEST_REGION_OUTSIDE, MANIFEST_REGION_OVERLAP,
-    MANIFEST_TOML, MANIFEST_UNKNOWN_KEY, MANIFEST_UUID, MANIFEST_VERSION, MANIFEST_WRONG_KIND,
+    MANIFEST_TABLES_OUTSIDE, MANIFEST_TOML, MANIFEST_UNKNOWN_KEY, MANIFEST_UUID, MANIFEST_VERSION, MANIFEST_WRONG_KIND,
     NO_LIST, NO_MEMORY, OCCUPIED, OK, WRONG_COUNT,
 };
 use crate::lending::CLent;
@@ -133,7 +133,7 @@ pub extern "C" fn gorseplumb_boot_lent_manifest(
 }
 
 /// The same as `gorseplumb_boot_lent`, but pages of the manifest's regions keep their bytes, so that what was put
-/// there, as images of partitions or of a kernel, is there before the first operation. All others behind the tables are
+/// there, as images of partitions or of a kernel, is there before the first operation. All others but the tables' are
 /// zeros.
 #[unsafe(no_mangle)]
 pub extern "C" fn gorseplumb_boot_held(
@@ -218,6 +218,7 @@ pub(crate) fn number_of(cause: ManifestError) -> u32
         ManifestError::RegionOutside => MANIFEST_REGION_OUTSIDE,
         ManifestError::RegionOverlap => MANIFEST_REGION_OVERLAP,
         ManifestError::Version => MANIFEST_VERSION,
+        ManifestError::TablesOutside => MANIFEST_TABLES_OUTSIDE,
     }
 }
 

@@ -3,7 +3,7 @@
 //! which a call answers in its registers.
 
 /// The number of the header's declarations, raised by each change that a caller has to know of.
-pub const DECLARATIONS: u32 = 4;
+pub const DECLARATIONS: u32 = 5;
 
 /// It was done.
 pub const OK: u32 = 0;
@@ -41,7 +41,7 @@ pub const MANIFEST_PROPERTY: u32 = 10;
 /// An endpoint has no region, or too many.
 pub const MANIFEST_REGION_COUNT: u32 = 11;
 
-/// A region isn't of whole pages in RAM behind the tables.
+/// A region isn't of whole pages in RAM that are none of the tables'.
 pub const MANIFEST_REGION_OUTSIDE: u32 = 12;
 
 /// A region has a page of a region before it.
@@ -79,6 +79,9 @@ pub const BAD_BASE: u32 = 23;
 
 /// More tables are named than a machine has endpoints, or one that is at no page of RAM.
 pub const BAD_ROOTS: u32 = 24;
+
+/// RAM hasn't all tables from the page on that a manifest tells.
+pub const MANIFEST_TABLES_OUTSIDE: u32 = 25;
 
 /// What a question answers where there is no machine, no such page or no such endpoint.
 pub const NOTHING: u32 = 0xFFFF_FFFF;

@@ -9,7 +9,7 @@ use arrayvec::ArrayVec;
 use bitflags::Flags;
 use ffa_manifest::ManifestError;
 use ffa_model::{
-    Data, Endpoint, MOST_ENDPOINTS, MOST_REGIONS, Manifest, Properties, Region, Rights, Version,
+    Data, Endpoint, MOST_ENDPOINTS, MOST_REGIONS, Manifest, PageNo, Properties, Region, Rights, Version,
     Worlds,
 };
 
@@ -53,6 +53,8 @@ pub struct CManifest {
     pub endpoints: [CEndpoint; MOST_ENDPOINTS],
     /// Whether the machine tells non-secure memory from secure memory: 0 where it doesn't, 1 where it does.
     pub worlds: u32,
+    /// The first page of the tables, counted from RAM's first, which is 0.
+    pub tables: u32,
 }
 
 pub(crate) fn rights_of(code: u32) -> Option<Rights>
@@ -174,6 +176,11 @@ pub(crate) fn manifest_of_numbers(given: &CManifest) -> Result<Manifest, Manifes
     let Some(worlds) = worlds_of(given.worlds) else {
         return Err(ManifestError::WrongKind);
     };
-    let manifest = ffa_manifest::of_parts(given.ram_base, given.ram_blocks, endpoints)?;
+    let manifest = ffa_manifest::of_parts(
+        given.ram_base,
+        given.ram_blocks,
+        PageNo(given.tables),
+        endpoints,
+    )?;
     Ok(manifest.with_worlds(worlds))
 }

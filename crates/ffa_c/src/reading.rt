@@ -47,6 +47,7 @@ fn numbers_of(manifest: &Manifest) -> CManifest
         endpoint_count: manifest.endpoints.len() as u32,
         endpoints: endpoint_places(manifest.endpoints.as_slice()),
         worlds: worlds_number(manifest.worlds),
+        tables: manifest.tables.0,
     }
 }
 

@@ -138,6 +138,6 @@ module _ (s : State) (apart : AreApart s) where
 pub stays_apart : (s : State) (op : Op) → AreApart s → AreApart (step s op).state
 stays_apart s op apart = apart-step s apart op
 
-pub first_apart : (worlds : Worlds) (base blocks : ℕ) (es : List Endpoint) → AreApart (first worlds base blocks es)
+pub first_apart : (worlds : Worlds) (base tables blocks : ℕ) (es : List Endpoint) → AreApart (first worlds base tables blocks es)
 unfolding first
-first_apart worlds base blocks es h t is = absurd (none-some t (sym (finite.get-empty nat_cmp h) ∙ is))
+first_apart worlds base tables blocks es h t is = absurd (none-some t (sym (finite.get-empty nat_cmp h) ∙ is))

@@ -24,10 +24,10 @@ use Rattle.ffa_laws.proofs.Within.{within-through}
 
 -- the endpoints stay
 pub known-as : (s : State) (f : ℕ) (op : Op) (e : ℕ) → is_known s e ≡ true → is_known (step_as s f op).state e ≡ true
-known-as s f op e known = subst (λ (parts : List Party × ℕ). is_known_among (length parts.0) e ≡ true) (sym (fixed-step_as s f op)) known
+known-as s f op e known = subst (λ (parts : List Party × (ℕ × ℕ)). is_known_among (length parts.0) e ≡ true) (sym (fixed-step_as s f op)) known
 
 pub all-known : (s : State) (f : ℕ) (op : Op) (xs : List (ℕ × Op)) → are_known s xs ≡ true → are_known (step_as s f op).state xs ≡ true
-all-known s f op xs known = subst (λ (parts : List Party × ℕ). list_all (λ (x : ℕ × Op). is_known_among (length parts.0) x.0) xs ≡ true) (sym (fixed-step_as s f op)) known
+all-known s f op xs known = subst (λ (parts : List Party × (ℕ × ℕ)). list_all (λ (x : ℕ × Op). is_known_among (length parts.0) x.0) xs ≡ true) (sym (fixed-step_as s f op)) known
 
 -- items done on a view in turn
 replay_as : ℕ → State → List Item → Lived

@@ -30,9 +30,9 @@ use Rattle.ffa_laws.specs.Isolation.{is_indirect_message, is_send2}
 use Rattle.ffa_laws.specs.OwnAccess.{is_memory_call}
 use Rattle.ffa_laws.proofs.Form.{accessed-kept, served-kept}
 
--- ---- the endpoints stay the same, and where RAM begins
-abbrev pub fixed : State → List Party × ℕ
-fixed s = (s.parties, s.ram_base)
+-- ---- the endpoints stay the same, and where RAM and the tables begin
+abbrev pub fixed : State → List Party × (ℕ × ℕ)
+fixed s = (s.parties, (s.ram_base, s.tables))
 
 sent-fixed : (s : State) (kind : Kind) (r : Option SendRecord) → fixed (memory_sent s kind r) ≡ fixed s
 sent-fixed s kind None = refl
@@ -68,7 +68,10 @@ pub known-before : (s : State) (op : Op) (e : ℕ) → is_known (step s op).stat
 known-before s op e known = subst (λ parts. is_known_among (length parts.0) e ≡ true) (step-fixed s op) known
 
 pub base-step : (s : State) (op : Op) → (step s op).state.ram_base ≡ s.ram_base
-base-step s op = ap (λ parts. parts.1) (step-fixed s op)
+base-step s op = ap (λ parts. parts.1.0) (step-fixed s op)
+
+pub place-step : (s : State) (op : Op) → (step s op).state.tables ≡ s.tables
+place-step s op = ap (λ parts. parts.1.1) (step-fixed s op)
 
 -- ---- pages
 -- What holds of the pages of a state, and of pages into which an operation writes, holds of the pages that each operation

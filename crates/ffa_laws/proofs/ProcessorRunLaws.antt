@@ -118,7 +118,7 @@ act-parties : (s : State) (act : Act) → (acted s act).state.parties ≡ s.part
 act-parties s (Operate op) = of (resumed_by s op)
   where
     of : (o : Option ℕ) → (effected s op o).state.parties ≡ s.parties
-    of None = ap (λ (parts : List Party × ℕ). parts.0) (step-fixed s op)
+    of None = ap (λ (parts : List Party × (ℕ × ℕ)). parts.0) (step-fixed s op)
     of (Some f) = refl
 act-parties s Interrupt = elim (s.runner == 0) as (λ b. (taken s b).state.parties ≡ s.parties) [ true ↦ refl | false ↦ refl ]
 

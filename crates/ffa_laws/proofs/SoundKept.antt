@@ -44,7 +44,7 @@ module _ (s : State) (sound : IsSoundState s) where
                 base = sized.base;
                 within = subst (λ n. s.ram_base + 4096 * n ≤ 2 ^ 32) (sym rewritten.each) sized.within;
                 one_table = subst (λ n. s.ram_base % 2 ^ 30 + 4096 * n ≤ 2 ^ 30) (sym rewritten.each) sized.one_table;
-                blocks = (sized.blocks.0, rewritten.each ∙ sized.blocks.1, sized.blocks.2, sized.blocks.3);
+                blocks = (sized.blocks.0, rewritten.each ∙ sized.blocks.1, sized.blocks.2, sized.blocks.3, sized.blocks.4);
                 sent = sized.sent;
                 buffers = each;
                 works = works;

@@ -51,6 +51,7 @@ abbrev pub view : Identifier → State → State
 view e s =
     record {
       ram_base = s.ram_base;
+      tables = s.tables;
       parties = s.parties;
       normal = s.normal;
       pages = map_at (λ p page. kept (is_near e s p) page) s.pages;

@@ -1,6 +1,6 @@
 -- SPDX-License-Identifier: MIT OR Apache-2.0
 -- What was read meets the conditions of a manifest.
-use Rattle.std.proofs.Common.{◌≡◌, ℕ, ◌+◌, ◌-◌, ◌*◌, ◌%◌, ◌^◌, ◌≤◌, suc, Bool, true, false, ◌&&◌, ◌||◌, not, ◌==◌, List, [], ◌∷◌, ◌++◌, length, append-nil, Ok, refl, sym, ap, ◌∙◌, subst, append_assoc, replicate, codes, arith}
+use Rattle.std.proofs.Common.{◌≡◌, ℕ, ◌+◌, ◌-◌, ◌*◌, ◌%◌, ◌^◌, ◌≤◌, suc, Bool, true, false, ◌&&◌, ◌||◌, not, ◌==◌, List, [], ◌∷◌, ◌++◌, length, append-nil, Ok, refl, sym, ap, ◌∙◌, subst, append_assoc, replicate, codes, arith, mul-le-mul_right}
 use Rattle.std.specs.Prelude.{nat_le, nat_lt}
 use Rattle.std.specs.List.{list_all}
 use Rattle.std.proofs.lemmas.Bool.{and_parts, or_parts, eq-eqb, eqb-true, le-leb, leb-true, ne_eqb, cond-false}
@@ -11,7 +11,7 @@ use Rattle.ffa_model.specs.declared.limits.TheConstants.{MOST_BLOCKS, MOST_ENDPO
 use Rattle.ffa_model.specs.declared.endpoint.Region.{Region}
 use Rattle.ffa_model.specs.declared.endpoint.Endpoint.{Endpoint}
 use Rattle.ffa_model.specs.Bits.{is_set}
-use Rattle.ffa_model.specs.Manifest.{is_accepted, is_ram_base, is_ram_size, is_from_to, is_placed, are_apart, regions_of, are_counted, are_identified, is_normal_world, is_partition, is_nil}
+use Rattle.ffa_model.specs.Manifest.{has_tables, is_accepted, is_ram_base, is_ram_size, is_from_to, is_placed, are_apart, regions_of, are_counted, are_identified, is_normal_world, is_partition, is_nil}
 use Rattle.ffa_manifest.specs.declared.error.ManifestError.TheVariants.{WrongKind, EndpointCount, Uuid, Property, RamBase, RamBlocks}
 use Rattle.ffa_manifest.specs.Reading.{or_cause, item_count}
 use Rattle.ffa_manifest.specs.Keys.{text_at, integer_at}
@@ -151,16 +151,24 @@ text-placed base blocks place size =
     in
     (rw (eq-eqb (base % 0x200000) 0 block, le-leb 0x200000 base from) refl, rw (some, few, tests) refl)
 
+-- RAM of at least a block has the tables of all endpoints from its first page on
+first-tables : (blocks count : ℕ) → is_from_to 1 MOST_BLOCKS blocks ≡ true → is_from_to 1 MOST_ENDPOINTS count ≡ true → has_tables 0 blocks count ≡ true
+first-tables blocks count size few =
+    let some : 1 ≤ blocks = leb-true 1 blocks (and_parts (nat_le 1 blocks) (nat_le blocks MOST_BLOCKS) size).0 in
+    let most : count ≤ MOST_ENDPOINTS = leb-true count MOST_ENDPOINTS (and_parts (nat_le 1 count) (nat_le count MOST_ENDPOINTS) few).1 in
+    let rows : count * (2 + blocks) ≤ MOST_ENDPOINTS * (2 + blocks) = mul-le-mul_right (2 + blocks) most in
+    le-leb (0 + count * (2 + blocks)) (512 * blocks) (omega (arith, rows, some))
+
 -- the RAM and the endpoints that were read make a machine
 pub accepted_parts : (ms : Members) (base blocks : ℕ) (ds : Items) (es : List Endpoint) → ram_base_at ms ≡ Ok base → ram_blocks_at ms ≡ Ok blocks → endpoint_items ms ≡ Ok ds
-    → endpoints_from (is_placed base blocks (item_count ds)) ds ≡ Ok es → is_accepted base blocks es ≡ true
+    → endpoints_from (is_placed base 0 blocks (item_count ds)) ds ≡ Ok es → is_accepted base 0 blocks es ≡ true
 unfolding ram_base_at ram_blocks_at endpoint_items endpoints_from
 accepted_parts ms base blocks ds es base_is blocks_is items read =
     let (first, _, h1) = bind_ok (integer_at (codes "ram_base") ms) _ base base_is in
     let (second, _, h2) = bind_ok (integer_at (codes "ram_blocks") ms) _ blocks blocks_is in
     let count : length es ≡ item_count ds = length-read_all _ ds es read in
     let few : is_from_to 1 MOST_ENDPOINTS (length es) ≡ true = ap (is_from_to 1 MOST_ENDPOINTS) count ∙ items_at-count _ MOST_ENDPOINTS EndpointCount ms ds items in
-    let all : EndpointsRead (is_placed base blocks (item_count ds)) es = read_each-keeps (EndpointsRead (is_placed base blocks (item_count ds))) (next_endpoint (is_placed base blocks (item_count ds)))
-    (one_more (is_placed base blocks (item_count ds))) [] ds es (record { named = refl; counted = refl; in_place = refl; apart = refl }) read in
+    let all : EndpointsRead (is_placed base 0 blocks (item_count ds)) es = read_each-keeps (EndpointsRead (is_placed base 0 blocks (item_count ds))) (next_endpoint (is_placed base 0 blocks (item_count ds)))
+    (one_more (is_placed base 0 blocks (item_count ds))) [] ds es (record { named = refl; counted = refl; in_place = refl; apart = refl }) read in
     let (base_good, size_good) = text-placed base blocks (tested_ok is_text_base RamBase first base h1) (tested_ok (is_from_to 1 MOST_BLOCKS) RamBlocks second blocks h2) in
-    rw (base_good, size_good, few, named_some es few all.named, all.counted, count, all.in_place, all.apart) refl
+    rw (base_good, size_good, few, first-tables blocks (length es) (tested_ok (is_from_to 1 MOST_BLOCKS) RamBlocks second blocks h2) few, named_some es few all.named, all.counted, count, all.in_place, all.apart) refl

@@ -9,7 +9,7 @@ use Rattle.ffa_model.specs.declared.limits.TheConstants.{MOST_ENDPOINTS, MOST_RE
 use Rattle.ffa_model.specs.declared.endpoint.Region.{Region}
 use Rattle.ffa_model.specs.declared.endpoint.Endpoint.{Endpoint}
 use Rattle.ffa_model.specs.Bits.{is_set}
-use Rattle.ffa_model.specs.Manifest.{is_ram_size, is_accepted, is_ram_base, is_from_to, is_placed, is_apart, are_apart, regions_of, are_counted, are_identified, is_normal_world, is_partition, is_nil}
+use Rattle.ffa_model.specs.Manifest.{has_tables, is_ram_size, is_accepted, is_ram_base, is_from_to, is_placed, is_apart, are_apart, regions_of, are_counted, are_identified, is_normal_world, is_partition, is_nil}
 use Rattle.ffa_manifest.specs.declared.error.ManifestError.TheVariants.{Uuid, Property, RegionCount, RegionOutside, RegionOverlap}
 use Rattle.ffa_manifest.specs.Regions.{is_free}
 use Rattle.ffa_manifest.specs.Parts.{first_failure, tests_of_each, region_tests, endpoint_tests, is_uuid_after, are_properties_after}
@@ -59,13 +59,14 @@ endpoint-next : (placed : Region → Bool) (before : List Endpoint) (e : Endpoin
 endpoint-next placed before e so_far h = EndpointsRead-last placed before e so_far (endpoint-read placed before e so_far.apart h)
 
 -- where no test fails, the parts make a machine
-pub accepted_tests : (base blocks : ℕ) (es : List Endpoint) → is_ram_base base ≡ true → is_ram_size base blocks ≡ true → is_from_to 1 MOST_ENDPOINTS (length es) ≡ true
-    → first_failure (tests_of_each (endpoint_tests (is_placed base blocks (length es))) [] es) ≡ None → is_accepted base blocks es ≡ true
-accepted_tests base blocks es base_is blocks_is few h =
-    let all : EndpointsRead (is_placed base blocks (length es)) es =
-    tests_of_each-keeps (EndpointsRead (is_placed base blocks (length es))) (endpoint_tests (is_placed base blocks (length es))) (endpoint-next (is_placed base blocks (length es))) [] es
+pub accepted_tests : (base tables blocks : ℕ) (es : List Endpoint) → is_ram_base base ≡ true → is_ram_size base blocks ≡ true → is_from_to 1 MOST_ENDPOINTS (length es) ≡ true
+    → has_tables tables blocks (length es) ≡ true
+    → first_failure (tests_of_each (endpoint_tests (is_placed base tables blocks (length es))) [] es) ≡ None → is_accepted base tables blocks es ≡ true
+accepted_tests base tables blocks es base_is blocks_is few room h =
+    let all : EndpointsRead (is_placed base tables blocks (length es)) es =
+    tests_of_each-keeps (EndpointsRead (is_placed base tables blocks (length es))) (endpoint_tests (is_placed base tables blocks (length es))) (endpoint-next (is_placed base tables blocks (length es))) [] es
     (record { named = refl; counted = refl; in_place = refl; apart = refl }) h in
-    rw (base_is, blocks_is, few, named_some es few all.named, all.counted, all.in_place, all.apart) refl
+    rw (base_is, blocks_is, few, room, named_some es few all.named, all.counted, all.in_place, all.apart) refl
 
 -- what holds of all holds of the one at a place
 list_all-at : {A : Type 0} (p : A → Bool) (before : List A) (x : A) (after : List A) → list_all p (before ++ x ∷ after) ≡ true → p x ≡ true
@@ -115,12 +116,12 @@ endpoint-passed placed es identified counted in_place apart before e after is =
     rw (uuid, properties, count) (tests_of_each-passed (λ own r. region_tests placed (regions_of before ++ own) r) e.regions.items region [] e.regions.items refl)
 
 -- where parts make a machine, no test of an endpoint fails
-pub passed_tests : (base blocks : ℕ) (es : List Endpoint) → is_accepted base blocks es ≡ true → first_failure (tests_of_each (endpoint_tests (is_placed base blocks (length es))) [] es) ≡ None
-passed_tests base blocks es h =
-    let placed : Region → Bool = is_placed base blocks (length es) in
-    let (ram, regions) = and_parts ((is_ram_base base && is_ram_size base blocks) && (is_from_to 1 MOST_ENDPOINTS (length es) && are_identified es)) _ h in
+pub passed_tests : (base tables blocks : ℕ) (es : List Endpoint) → is_accepted base tables blocks es ≡ true → first_failure (tests_of_each (endpoint_tests (is_placed base tables blocks (length es))) [] es) ≡ None
+passed_tests base tables blocks es h =
+    let placed : Region → Bool = is_placed base tables blocks (length es) in
+    let (ram, regions) = and_parts ((is_ram_base base && is_ram_size base blocks) && ((is_from_to 1 MOST_ENDPOINTS (length es) && has_tables tables blocks (length es)) && are_identified es)) _ h in
     let (counted, lying) = and_parts (are_counted es) _ regions in
     let (in_place, apart) = and_parts (list_all placed (regions_of es)) (are_apart (regions_of es)) lying in
-    let (_, named) = and_parts (is_ram_base base && is_ram_size base blocks) (is_from_to 1 MOST_ENDPOINTS (length es) && are_identified es) ram in
-    let (_, identified) = and_parts (is_from_to 1 MOST_ENDPOINTS (length es)) (are_identified es) named in
+    let (_, named) = and_parts (is_ram_base base && is_ram_size base blocks) ((is_from_to 1 MOST_ENDPOINTS (length es) && has_tables tables blocks (length es)) && are_identified es) ram in
+    let (_, identified) = and_parts (is_from_to 1 MOST_ENDPOINTS (length es) && has_tables tables blocks (length es)) (are_identified es) named in
     tests_of_each-passed (endpoint_tests placed) es (endpoint-passed placed es identified counted in_place apart) [] es refl

@@ -9,22 +9,25 @@ use Rattle.ffa_model.specs.declared.manifest.Manifest.{Manifest}
 use Rattle.ffa_model.specs.declared.manifest.Worlds.{Worlds}
 use Rattle.ffa_model.specs.declared.manifest.Worlds.TheVariants.{One}
 use Rattle.ffa_model.specs.Manifest.{is_from_to, is_placed}
+use Rattle.ffa_model.specs.Numbers.{PageIndex}
 use Rattle.ffa_manifest.specs.declared.error.ManifestError.{ManifestError}
 use Rattle.ffa_manifest.specs.declared.error.ManifestError.TheVariants.{Toml, RamBase, RamBlocks}
 use Rattle.ffa_manifest.specs.Reading.{◌>>=◌, or_cause, tested, item_count}
 use Rattle.ffa_manifest.specs.Keys.{only_keys, integer_at}
 use Rattle.ffa_manifest.specs.Endpoints.{endpoint_items, endpoints_from}
 
--- a machine's RAM, its endpoints in order, and whether worlds are told apart, which no text says
+-- a machine's RAM, the first page of its tables, its endpoints in order, and whether worlds are told apart; a text doesn't say
+-- it, and its tables begin RAM
 pub record Parts : Type 0 where
   pub ram_base : ℕ
   pub ram_blocks : ℕ
+  pub tables : PageIndex
   pub endpoints : List Endpoint
   pub worlds : Worlds
 
 abbrev pub parts_of : Manifest → Parts
 parts_of m =
-    record { ram_base = m.ram_base.0; ram_blocks = m.ram_blocks; endpoints = m.endpoints.items; worlds = m.worlds }
+    record { ram_base = m.ram_base.0; ram_blocks = m.ram_blocks; tables = m.tables.0; endpoints = m.endpoints.items; worlds = m.worlds }
 
 unfoldable pub top_keys : Members → Result (Unit {0}) ManifestError
 top_keys ms = only_keys (codes "ram_base" ∷ codes "ram_blocks" ∷ codes "endpoint" ∷ []) ms
@@ -47,8 +50,8 @@ machine ms = do
   base ← ram_base_at ms
   blocks ← ram_blocks_at ms
   ds ← endpoint_items ms
-  endpoints ← endpoints_from (is_placed base blocks (item_count ds)) ds
-  Ok (record { ram_base = base; ram_blocks = blocks; endpoints = endpoints; worlds = One })
+  endpoints ← endpoints_from (is_placed base 0 blocks (item_count ds)) ds
+  Ok (record { ram_base = base; ram_blocks = blocks; tables = 0; endpoints = endpoints; worlds = One })
 
 -- the text as TOML, and then its tables, each whole in the order of its keys
 unfoldable pub machine_of : List ℕ → Result Parts ManifestError

@@ -6,14 +6,15 @@ use Rattle.ffa_model.specs.declared.endpoint.Region.{Region}
 use Rattle.ffa_model.specs.declared.endpoint.Endpoint.{Endpoint}
 use Rattle.ffa_model.specs.declared.manifest.Worlds.TheVariants.{One}
 use Rattle.ffa_model.specs.Bits.{is_set}
-use Rattle.ffa_model.specs.Manifest.{is_ram_base, is_ram_size, is_from_to, is_nil, is_placed, regions_of}
+use Rattle.ffa_model.specs.Numbers.{PageIndex}
+use Rattle.ffa_model.specs.Manifest.{has_tables, is_ram_base, is_ram_size, is_from_to, is_nil, is_placed, regions_of}
 use Rattle.ffa_manifest.specs.declared.error.ManifestError.{ManifestError}
-use Rattle.ffa_manifest.specs.declared.error.ManifestError.TheVariants.{RamBase, RamBlocks, EndpointCount, Uuid, Property, RegionCount, RegionOutside, RegionOverlap}
+use Rattle.ffa_manifest.specs.declared.error.ManifestError.TheVariants.{RamBase, RamBlocks, EndpointCount, Uuid, Property, RegionCount, RegionOutside, RegionOverlap, TablesOutside}
 use Rattle.ffa_manifest.specs.Regions.{is_free}
 use Rattle.ffa_manifest.specs.Document.{Parts}
 
-abbrev pub parts_from : ℕ → ℕ → List Endpoint → Parts
-parts_from base blocks es = record { ram_base = base; ram_blocks = blocks; endpoints = es; worlds = One }
+abbrev pub parts_from : ℕ → PageIndex → ℕ → List Endpoint → Parts
+parts_from base tables blocks es = record { ram_base = base; ram_blocks = blocks; tables = tables; endpoints = es; worlds = One }
 
 -- tests in order, each with the cause for which parts that fail it are refused
 abbrev pub Tests : Type 0
@@ -49,13 +50,14 @@ endpoint_tests is_placed before e =
     ∷ (is_from_to 1 MOST_REGIONS (length e.regions.items), RegionCount)
     ∷ tests_of_each (λ own r. region_tests is_placed (regions_of before ++ own) r) [] e.regions.items
 
--- the tests of a machine: RAM's place and size, the count of endpoints, and each endpoint whole before the next
+-- the tests of a machine: RAM's place and size, the count of endpoints, whether RAM has their tables, and each endpoint whole before the next
 unfoldable pub tests_of : Parts → Tests
 tests_of parts =
-    let tests = endpoint_tests (is_placed parts.ram_base parts.ram_blocks (length parts.endpoints)) in
+    let tests = endpoint_tests (is_placed parts.ram_base parts.tables parts.ram_blocks (length parts.endpoints)) in
     (is_ram_base parts.ram_base, RamBase)
     ∷ (is_ram_size parts.ram_base parts.ram_blocks, RamBlocks)
     ∷ (is_from_to 1 MOST_ENDPOINTS (length parts.endpoints), EndpointCount)
+    ∷ (has_tables parts.tables parts.ram_blocks (length parts.endpoints), TablesOutside)
     ∷ tests_of_each tests [] parts.endpoints
 
 unfoldable pub first_cause : Parts → Option ManifestError

@@ -98,7 +98,7 @@ top ms = do
 abbrev pub IsPlaceOf : Members → Location → Type 0
 IsPlaceOf ms location =
     MatchResult (top ms)
-    (λ t. IsAtEndpoint (is_placed t.base t.blocks (item_count t.items)) t.items location)
+    (λ t. IsAtEndpoint (is_placed t.base 0 t.blocks (item_count t.items)) t.items location)
     (λ cause. IsAtTop location)
 
 -- the same of a text, which may be no document

@@ -11,7 +11,7 @@ use crate::endpoints::endpoints_from;
 use crate::error::ManifestError;
 use crate::keys::{integer_at, items_at, only_keys};
 use crate::region_space::{RegionSpace, is_text_base};
-use ffa_model::{Address, MOST_BLOCKS, MOST_ENDPOINTS, Manifest};
+use ffa_model::{Address, MOST_BLOCKS, MOST_ENDPOINTS, Manifest, PageNo};
 use toml::{Table, Value};
 
 /// The keys of the top table.
@@ -70,9 +70,15 @@ pub(crate) fn machine(table: &Table) -> Result<Manifest, ManifestError>
     let values = endpoint_items(table)?;
     let space = RegionSpace {
         base: ram_base,
+        tables: 0,
         blocks: ram_blocks,
         endpoints: values.len() as u32,
     };
     let endpoints = endpoints_from(values, &space)?;
-    Ok(Manifest::of(Address(ram_base), ram_blocks, endpoints))
+    Ok(Manifest::of(
+        Address(ram_base),
+        ram_blocks,
+        PageNo(0),
+        endpoints,
+    ))
 }

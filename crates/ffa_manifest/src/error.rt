@@ -40,7 +40,7 @@ pub enum ManifestError {
     /// An endpoint has no region, or more than `MOST_REGIONS`.
     #[error("M11 RegionCount")]
     RegionCount,
-    /// A region isn't of whole pages, at least one, that all lie in RAM behind the table pages.
+    /// A region isn't of whole pages, at least one, that all lie in RAM and are none of the tables'.
     #[error("M12 RegionOutside")]
     RegionOutside,
     /// A region has a page of a region that was read before.
@@ -49,4 +49,8 @@ pub enum ManifestError {
     /// `version` is neither `1.1` nor `compact`.
     #[error("M14 Version")]
     Version,
+    /// RAM hasn't all tables from the page on that is told. No text tells one: its tables begin RAM. Numbers between are other
+    /// answers of the library for C.
+    #[error("M25 TablesOutside")]
+    TablesOutside,
 }

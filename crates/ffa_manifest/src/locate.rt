@@ -86,6 +86,7 @@ pub(crate) fn in_top(alloc: Global, table: &Table) -> Result<Location, AllocErro
     };
     let space = RegionSpace {
         base,
+        tables: 0,
         blocks,
         endpoints: values.len() as u32,
     };

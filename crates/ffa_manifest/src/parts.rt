@@ -10,11 +10,11 @@ ghost use Rattle.ffa_manifest.specs.Parts.{parts_from, first_cause, first_failur
 
 use crate::endpoints::receives;
 use crate::error::ManifestError;
-use crate::region_space::{RegionSpace, is_ram_base, is_ram_size};
+use crate::region_space::{RegionSpace, has_tables, is_ram_base, is_ram_size};
 use crate::regions::{is_apart_from_all, is_free};
 use arrayvec::ArrayVec;
 use bitflags::Flags;
-use ffa_model::{Address, Endpoint, MOST_BLOCKS, MOST_ENDPOINTS, Manifest, Properties, Region};
+use ffa_model::{Address, Endpoint, MOST_BLOCKS, MOST_ENDPOINTS, Manifest, PageNo, Properties, Region};
 
 fn is_nil(uuid: &[u8; 16]) -> bool
     ensures { result ≡ is_nil_in uuid.now }
@@ -108,19 +108,20 @@ fn check_endpoints(space: &RegionSpace, endpoints: &[Endpoint]) -> Result<(), Ma
 }
 
 /// The manifest of these parts, or the first cause for which they make no machine, in the order in which a text would be
-/// read: RAM's place and size, the count of endpoints, and then each endpoint whole before the next: its UUID (zeros for
+/// read: RAM's place and size, the count of endpoints, whether RAM has their tables from a page on, and then each endpoint whole before the next: its UUID (zeros for
 /// the normal world, other than zeros for a partition), its properties, the count of its regions, and each region: its
 /// place, and whether it is apart from all that came before it. It takes no memory.
 #[tactic(auto, unfolding(crate::specs::Parts::first_cause, crate::specs::Parts::tests_of))]
 pub fn of_parts(
     ram_base: u32,
     ram_blocks: u32,
+    tables: PageNo,
     endpoints: ArrayVec<Endpoint, MOST_ENDPOINTS>,
 ) -> Result<Manifest, ManifestError>
-    ensures accepted { IfOk result (λ m. (parts_of m ≡ parts_from ram_base ram_blocks endpoints.items)
-        × (first_cause (parts_from ram_base ram_blocks endpoints.items) ≡ None)) }
-    ensures refused { IfErr result (λ e. first_cause (parts_from ram_base ram_blocks endpoints.items) ≡ Some e) }
-    ensures accepted_where { IsOk result ↔ (is_accepted ram_base ram_blocks endpoints.items ≡ true) }
+    ensures accepted { IfOk result (λ m. (parts_of m ≡ parts_from ram_base tables.0 ram_blocks endpoints.items)
+        × (first_cause (parts_from ram_base tables.0 ram_blocks endpoints.items) ≡ None)) }
+    ensures refused { IfErr result (λ e. first_cause (parts_from ram_base tables.0 ram_blocks endpoints.items) ≡ Some e) }
+    ensures accepted_where { IsOk result ↔ (is_accepted ram_base tables.0 ram_blocks endpoints.items ≡ true) }
 {
     if !is_ram_base(ram_base) {
         return Err(ManifestError::RamBase);
@@ -131,11 +132,21 @@ pub fn of_parts(
     if endpoints.is_empty() {
         return Err(ManifestError::EndpointCount);
     }
+    let count = endpoints.len();
+    if !has_tables(tables.0, ram_blocks, count) {
+        return Err(ManifestError::TablesOutside);
+    }
     let space = RegionSpace {
         base: ram_base,
+        tables: tables.0,
         blocks: ram_blocks,
-        endpoints: endpoints.len() as u32,
+        endpoints: count as u32,
     };
     check_endpoints(&space, endpoints.as_slice())?;
-    Ok(Manifest::of(Address(ram_base), ram_blocks, endpoints))
+    Ok(Manifest::of(
+        Address(ram_base),
+        ram_blocks,
+        tables,
+        endpoints,
+    ))
 }

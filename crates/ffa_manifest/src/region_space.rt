@@ -1,9 +1,9 @@
 // SPDX-License-Identifier: MIT OR Apache-2.0
 //! Where the regions of a machine may lie.
-ghost use Rattle.std.specs.Prelude.{◌≡◌, ◌-◌, ◌^◌, ◌≤◌};
+ghost use Rattle.std.specs.Prelude.{◌≡◌, ◌-◌, ◌*◌, ◌^◌, ◌≤◌};
 ghost use Rattle.ffa_model.specs.declared.limits.TheConstants.{MOST_BLOCKS, MOST_ENDPOINTS, MOST_RAM};
 ghost use Rattle.ffa_manifest.specs.Document.{is_text_base};
-ghost use Rattle.ffa_model.specs.Manifest.{is_ram_base, is_ram_size, ram_end, tables_end};
+ghost use Rattle.ffa_model.specs.Manifest.{has_tables, is_ram_base, is_ram_size, ram_end, tables_end};
 
 use crate::refusal::Bounds;
 use ffa_model::{MOST_BLOCKS, MOST_RAM, Region, Rights};
@@ -37,11 +37,22 @@ pub(crate) fn is_ram_size(base: u32, blocks: u32) -> bool
     1 <= blocks && blocks <= MOST_BLOCKS && u64::from(base % GIB) + size <= u64::from(GIB)
 }
 
-/// A machine's RAM, of which the front holds the tables of its endpoints.
+/// Whether RAM of so many blocks has the tables of so many endpoints from a page on.
+pub(crate) fn has_tables(tables: u32, blocks: u32, endpoints: usize) -> bool
+    requires blocks { blocks ≤ MOST_BLOCKS }
+    requires few { endpoints ≤ MOST_ENDPOINTS }
+    ensures { result ≡ has_tables tables blocks endpoints }
+{
+    u64::from(tables) + endpoints as u64 * u64::from(2 + blocks) <= 512 * u64::from(blocks)
+}
+
+/// A machine's RAM, of which some pages hold the tables of its endpoints.
 #[derive(Clone, Copy)]
 pub(crate) struct RegionSpace {
     /// The address of RAM's first byte.
     pub base: u32,
+    /// The first page of the tables.
+    pub tables: u32,
     /// RAM's size, in blocks of 2 MiB.
     pub blocks: u32,
     /// How many endpoints have tables.
@@ -49,31 +60,43 @@ pub(crate) struct RegionSpace {
     ghost within: { ram_end base blocks ≤ 2 ^ 32 },
     ghost small: { blocks ≤ MOST_BLOCKS },
     ghost few: { endpoints ≤ MOST_ENDPOINTS },
+    ghost near: { tables ≤ 512 * MOST_BLOCKS },
 }
 
 impl RegionSpace {
-    ghost use Rattle.ffa_manifest.specs.RegionSpace.{placed};
+    ghost use Rattle.ffa_manifest.specs.RegionSpace.{is_clear, placed};
 
-    /// Where regions may lie: behind the table pages, and in RAM.
+    /// Where regions may lie, where the tables begin RAM: behind these, and in RAM.
     pub(crate) fn bounds(&self) -> Bounds
-        ensures first { result.first ≡ tables_end self.now.base self.now.blocks self.now.endpoints }
+        ensures first { result.first ≡ tables_end self.now.base self.now.tables self.now.blocks self.now.endpoints }
         ensures end { result.end ≡ ram_end self.now.base self.now.blocks }
     {
         let base = u64::from(self.base);
         Bounds {
-            first: base + 4096 * u64::from(self.endpoints * (2 + self.blocks)),
+            first: base + 4096 * u64::from(self.tables + self.endpoints * (2 + self.blocks)),
             end: base + BLOCK * u64::from(self.blocks),
         }
     }
 
-    /// The region of these numbers, where it's of whole pages, at least one, that all lie in RAM behind the table
-    /// pages.
+    // Whether all bytes from one address up to another lie in RAM, and none in the tables.
+    fn has(&self, base: u64, region_end: u128) -> bool
+        ensures { result ≡ is_clear self.now base region_end }
+    {
+        let Bounds { first, end } = self.bounds();
+        let ram = u64::from(self.base);
+        let tables = ram + 4096 * u64::from(self.tables);
+        ram <= base
+            && region_end <= u128::from(end)
+            && (region_end <= u128::from(tables) || first <= base)
+    }
+
+    /// The region of these numbers, where it's of whole pages, at least one, that all lie in RAM and are none of the
+    /// tables'.
     pub(crate) fn region(&self, base: u64, pages: u64, rights: Rights) -> Option<Region>
         ensures { result ≡ placed self.now (record { base = base; pages = pages; rights = rights }) }
     {
-        let Bounds { first, end } = self.bounds();
         let region_end = u128::from(base) + 4096 * u128::from(pages);
-        if base % 4096 == 0 && 1 <= pages && first <= base && region_end <= u128::from(end) {
+        if base % 4096 == 0 && 1 <= pages && self.has(base, region_end) {
             let (base, pages) = (base as u32, pages as u32);
             Some(Region {
                 base,

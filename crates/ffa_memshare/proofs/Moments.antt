@@ -11,19 +11,20 @@ use Rattle.ffa_model.specs.declared.rights.Rights.{Rights}
 use Rattle.ffa_model.specs.declared.transaction.Range.{Range}
 use Rattle.ffa_model.specs.Lists.{is_in_run}
 use Rattle.ffa_model.specs.State.{Buffers}
-use Rattle.ffa_physmem.specs.Moments.{IsBeside, IsSettledBy, IsWriting, Only, Step}
-use Rattle.ffa_physmem.proofs.Moments.{Only-map, Only-then, writing-below, writing-keeps}
+use Rattle.ffa_physmem.specs.Moments.{IsBeside, IsSettledBy, IsWriting, KeepsPages, Only, Step}
+use Rattle.ffa_physmem.proofs.Moments.{Only-map, Only-then, writing-aside, writing-keeps}
 use Rattle.ffa_rxtx.specs.Parts.{IsBesideRx, IsRxWriting}
 use Rattle.ffa_stage2.specs.Moments.{EndsSettled, IsBetween, IsMoment, IsOutOrStays, IsUnchanged}
 use Rattle.ffa_stage2.specs.Orders.{IsOrdered}
 use Rattle.ffa_stage2.specs.Tables.{IsBuilt, table_page}
 use Rattle.ffa_stage2.specs.Blocks.{IsEither}
 use Rattle.ffa_stage2.proofs.Kept.{built-kept, built_by-kept}
+use Rattle.ffa_stage2.proofs.Places.{not-both}
 use Rattle.ffa_stage2.proofs.Walks.{standing-of_built}
-use Rattle.ffa_stage2.proofs.Moments.{between-beside, between-last as between-behind, between-then, ends-of-rights, no-right-ends, ordered-behind}
+use Rattle.ffa_stage2.proofs.Moments.{between-beside, between-last as between-behind, between-then, ends-of-rights, no-right-ends, ordered-aside}
 use Rattle.ffa_memshare.specs.Callers.{IsRxApart}
 use Rattle.ffa_memshare.specs.Memory.{Memory}
-use Rattle.ffa_memshare.specs.Changes.{AreBehind, IsCleared}
+use Rattle.ffa_memshare.specs.Changes.{AreAside, IsCleared}
 use Rattle.ffa_memshare.specs.Grants.{with_rights}
 use Rattle.ffa_memshare.specs.Ranges.{in_range, in_ranges}
 use Rattle.ffa_memshare.proofs.Places.{between, between-last, between-next, between-none}
@@ -57,11 +58,11 @@ its-right : (access : ℕ → ℕ → Option Rights) (index : ℕ) (named : ℕ 
 its-right access index named right p is = let here : (index == index && named p) ≡ true = grind (arith, is, nat_tests) in rw here
 
 -- so a moment on the way to some of these rights is one on the way to all
-pub between-part : (ram : Ram) (n b : ℕ) (access : ℕ → ℕ → Option Rights) (index : ℕ) (named more all : ℕ → Bool) (right : ℕ → Option Rights) (g : ℕ → ℕ → Option Rights)
+pub between-part : (ram : Ram) (n tables b : ℕ) (access : ℕ → ℕ → Option Rights) (index : ℕ) (named more all : ℕ → Bool) (right : ℕ → Option Rights) (g : ℕ → ℕ → Option Rights)
     → ((p : ℕ) → named p ≡ true → all p ≡ true) → ((p : ℕ) → more p ≡ true → all p ≡ true) → ((e p : ℕ) → g e p ≡ with_rights access index more right e p)
-    → IsBetween ram n b (with_rights access index named right) g → IsBetween ram n b access (with_rights access index all right)
-between-part ram n b access index named more all right g first second is between =
-    between-then ram n b access (with_rights access index named right) g (with_rights access index all right) between
+    → IsBetween ram n tables b (with_rights access index named right) g → IsBetween ram n tables b access (with_rights access index all right)
+between-part ram n tables b access index named more all right g first second is between =
+    between-then ram n tables b access (with_rights access index named right) g (with_rights access index all right) between
     (rights-part access index named all right first (with_rights access index named right) (λ e p. refl))
     (rights-part access index more all right second g is)
 
@@ -111,10 +112,10 @@ stays-some (Some r) behind settled unchanged some begins = inr (refl, some)
 other-right : (access : ℕ → ℕ → Option Rights) (index : ℕ) (named : ℕ → Bool) (right : ℕ → Option Rights) (e p : ℕ) → (e ≡ index → ⊥) → with_rights access index named right e p ≡ access e p
 other-right access index named right e p other = let off : (e == index && named p) ≡ false = grind (arith, nat_tests) in rw off
 
-module _ (old new : Ram) (n b : ℕ) (access after : ℕ → ℕ → Option Rights) (built : IsBuilt old n b access) (is : IsBuilt new n b after) (stays : new.base ≡ old.base) where
+module _ (old new : Ram) (n tables b : ℕ) (access after : ℕ → ℕ → Option Rights) (built : IsBuilt old n tables b access) (is : IsBuilt new n tables b after) (stays : new.base ≡ old.base) where
   -- a word of an endpoint's tables
-  pub granted-moment : (index : ℕ) → index < n → (past : Option (List Step)) (h : List Step) (s : Step) → IsBetween s.after n b access after → s.after.base ≡ old.base → IsOrdered old b index h s
-      → IsMoment old new n b past h s
+  pub granted-moment : (index : ℕ) → index < n → (past : Option (List Step)) (h : List Step) (s : Step) → IsBetween s.after n tables b access after → s.after.base ≡ old.base → IsOrdered old tables b index h s
+      → IsMoment old new n tables b past h s
   granted-moment index lt past h s between base ordered = record {
     access = access;
     after = after;
@@ -122,42 +123,42 @@ module _ (old new : Ram) (n b : ℕ) (access after : ℕ → ℕ → Option Righ
     is = is;
     between = between;
     order = inr (index, lt, ordered);
-    unreached = inl (ordered-behind old b index n h s ordered lt);
+    unreached = inl (ordered-aside old tables b index n h s ordered lt);
     place = base;
     stays = stays;
   }
 
   -- nothing, while the tables give the rights in the end
-  pub settled-moment : (middle : Ram) → IsBuilt middle n b after → middle.base ≡ old.base → (past : Option (List Step)) (h : List Step) (s : Step) → s.after ≡ s.before → s.after ≡ middle → IsMoment old new n b past h s
+  pub settled-moment : (middle : Ram) → IsBuilt middle n tables b after → middle.base ≡ old.base → (past : Option (List Step)) (h : List Step) (s : Step) → s.after ≡ s.before → s.after ≡ middle → IsMoment old new n tables b past h s
   settled-moment middle done base past h s same at = record {
     access = access;
     after = after;
     was = built;
     is = is;
-    between = subst (λ r. IsBetween r n b access after) (sym at) (between-behind middle n b access after done);
-    order = inl (λ p _. ap (λ (r : Ram). page_of r p) same);
+    between = subst (λ r. IsBetween r n tables b access after) (sym at) (between-behind middle n tables b access after done);
+    order = inl (λ p _ _. ap (λ (r : Ram). page_of r p) same);
     unreached = inl (λ p _. ap (λ (r : Ram). page_of r p) same);
     place = ap (λ (r : Ram). r.base) at ∙ base;
     stays = stays;
   }
 
-  -- pages behind the tables, while these give one of the two
-  pub written-moment : (middle : Ram) (named : ℕ → Bool) (rights : ℕ → ℕ → Option Rights) → AreBehind n b named → IsBuilt middle n b rights → IsBetween middle n b access after → middle.base ≡ old.base
+  -- pages aside from the tables, while these give one of the two
+  pub written-moment : (middle : Ram) (named : ℕ → Bool) (rights : ℕ → ℕ → Option Rights) → AreAside n tables b named → IsBuilt middle n tables b rights → IsBetween middle n tables b access after → middle.base ≡ old.base
       → (past : Option (List Step)) (h : List Step) (s : Step) → IsWriting middle named s
       → ((p : ℕ) → named p ≡ true → (e : ℕ) → e < n
-      → IsOutOrStays (rights e p) (access e p) (after e p) (IsSettledBy (table_page b n 0) e p h) (IsUnchanged (table_page b n 0) past h))
-      → IsMoment old new n b past h s
-  written-moment middle named rights behind now between base past h s writing each = record {
+      → IsOutOrStays (rights e p) (access e p) (after e p) (IsSettledBy tables (table_page tables b n 0) e p h) (IsUnchanged tables (table_page tables b n 0) past h))
+      → IsMoment old new n tables b past h s
+  written-moment middle named rights aside now between base past h s writing each = record {
     access = access;
     after = after;
     was = built;
     is = is;
-    between = between-beside middle s.after n b named access after behind between writing.after;
-    order = inl (writing-below middle s named (table_page b n 0) below writing);
+    between = between-beside middle s.after n tables b named access after aside between writing.after;
+    order = inl (writing-aside middle s named tables (table_page tables b n 0) unnamed writing);
     unreached = inr (record {
       rights = rights;
-      stands = built_by-kept IsEither middle s.before n b rights (standing-of_built middle n b rights now) writing.before.base writing.before.size
-          (λ p low. writing.before.pages p (below p low));
+      stands = built_by-kept IsEither middle s.before n tables b rights (standing-of_built middle n tables b rights now) writing.before.base writing.before.size
+          (λ p from below. writing.before.pages p (unnamed p from below));
       place = writing.before.base ∙ base;
       each = λ p at. elim (cases_Bool (named p)) [ inl there ↦ inr (each p there) | inr off ↦ inl (writing-keeps middle s named writing p off) ];
     });
@@ -165,8 +166,8 @@ module _ (old new : Ram) (n b : ℕ) (access after : ℕ → ℕ → Option Righ
     stays = stays;
   }
     where
-      below : (p : ℕ) → p < table_page b n 0 → named p ≡ false
-      below p low = false_from_ne_true (named p) (λ at. absurd (omega (arith, low, behind p at)))
+      unnamed : (p : ℕ) → tables ≤ p → p < table_page tables b n 0 → named p ≡ false
+      unnamed p from below = false_from_ne_true (named p) (λ at. not-both n tables b p (from, below) (aside p at))
 
 -- rights that end: nobody who had one has it any more, and it is settled
 pub taken-each : (access : ℕ → ℕ → Option Rights) (index : ℕ) (named : ℕ → Bool) (right : ℕ → Option Rights) (e p : ℕ) (settled unchanged : Type 0)
@@ -188,33 +189,36 @@ given-each access index named right e p settled unchanged at some begins = elim 
   | inr other ↦ stays-same (access e p) (access e p) _ settled unchanged refl (other-right access index named right e p (λ same. other same))
 ]
 
--- no table changes while pages behind the tables are written
-pub unchanged-first : (end : ℕ) (past : Option (List Step)) (h : List Step) → past ≡ Some h → IsUnchanged end past h
-unchanged-first end past [] there = there
-unchanged-first end past (s ∷ h) there = inl there
+-- no table changes while other pages are written
+pub unchanged-first : (first end : ℕ) (past : Option (List Step)) (h : List Step) → past ≡ Some h → IsUnchanged first end past h
+unchanged-first first end past [] there = there
+unchanged-first first end past (s ∷ h) there = inl there
 
-pub unchanged-along : (ram : Ram) (named : ℕ → Bool) (end : ℕ) (past : Option (List Step)) → ((q : ℕ) → named q ≡ true → end ≤ q) → (h : List Step) (s : Step) → IsWriting ram named s
-    → IsUnchanged end past h → IsUnchanged end past (s ∷ h)
-unchanged-along ram named end past behind h s writing so_far =
-    inr (writing-below ram s named end (λ q low. false_from_ne_true (named q) (λ at. absurd (omega (arith, low, behind q at)))) writing, so_far)
+tables-keep : (ram : Ram) (named : ℕ → Bool) (n tables b : ℕ) → AreAside n tables b named → (s : Step) → IsWriting ram named s → KeepsPages tables (table_page tables b n 0) s
+tables-keep ram named n tables b aside s writing =
+    writing-aside ram s named tables (table_page tables b n 0)
+    (λ q from below. false_from_ne_true (named q) (λ at. not-both n tables b q (from, below) (aside q at))) writing
 
--- what is settled stays so while pages behind the tables are written
-pub settled-along : (ram : Ram) (named : ℕ → Bool) (end e p : ℕ) → ((q : ℕ) → named q ≡ true → end ≤ q) → (h : List Step) (s : Step) → IsWriting ram named s
-    → IsSettledBy end e p h → IsSettledBy end e p (s ∷ h)
-settled-along ram named end e p behind h s writing so_far =
-    inr (writing-below ram s named end (λ q low. false_from_ne_true (named q) (λ at. absurd (omega (arith, low, behind q at)))) writing, so_far)
+pub unchanged-along : (ram : Ram) (named : ℕ → Bool) (n tables b : ℕ) (past : Option (List Step)) → AreAside n tables b named → (h : List Step) (s : Step) → IsWriting ram named s
+    → IsUnchanged tables (table_page tables b n 0) past h → IsUnchanged tables (table_page tables b n 0) past (s ∷ h)
+unchanged-along ram named n tables b past aside h s writing so_far = inr (tables-keep ram named n tables b aside s writing, so_far)
+
+-- what is settled stays so while other pages are written
+pub settled-along : (ram : Ram) (named : ℕ → Bool) (n tables b e p : ℕ) → AreAside n tables b named → (h : List Step) (s : Step) → IsWriting ram named s
+    → IsSettledBy tables (table_page tables b n 0) e p h → IsSettledBy tables (table_page tables b n 0) e p (s ∷ h)
+settled-along ram named n tables b e p aside h s writing so_far = inr (tables-keep ram named n tables b aside s writing, so_far)
 
 -- nobody's rights end but those of one endpoint, to pages that are settled
-pub taken-ends : (old new : Ram) (n b index : ℕ) (access : ℕ → ℕ → Option Rights) (named : ℕ → Bool) (right : ℕ → Option Rights)
-    → IsBuilt old n b access → IsBuilt new n b (with_rights access index named right) → (past : Option (List Step))
-    → ((h : List Step) → past ≡ Some h → (p : ℕ) → named p ≡ true → IsSettledBy (table_page b n 0) index p h) → EndsSettled old new n b past
-taken-ends old new n b index access named right built is past settled =
-    ends-of-rights old new n b access (with_rights access index named right) built is past
+pub taken-ends : (old new : Ram) (n tables b index : ℕ) (access : ℕ → ℕ → Option Rights) (named : ℕ → Bool) (right : ℕ → Option Rights)
+    → IsBuilt old n tables b access → IsBuilt new n tables b (with_rights access index named right) → (past : Option (List Step))
+    → ((h : List Step) → past ≡ Some h → (p : ℕ) → named p ≡ true → IsSettledBy tables (table_page tables b n 0) index p h) → EndsSettled old new n tables b past
+taken-ends old new n tables b index access named right built is past settled =
+    ends-of-rights old new n tables b access (with_rights access index named right) built is past
     (λ h there e p he was gone. elim (cases_Bool (e == index && named p)) [
       | inl both ↦
           let same : e ≡ index = grind (arith, both, nat_tests) in
           let at : named p ≡ true = grind (arith, both, nat_tests) in
-          subst (λ i. IsSettledBy (table_page b n 0) i p h) (sym same) (settled h there p at)
+          subst (λ i. IsSettledBy tables (table_page tables b n 0) i p h) (sym same) (settled h there p at)
       | inr other ↦
           let kept : with_rights access index named right e p ≡ access e p = rw other in
           absurd (true≢false (sym was ∙ ap is_some (sym kept) ∙ gone))
@@ -228,13 +232,10 @@ given-stays access index named right some e p was = elim (cases_Bool (e == index
   | inr other ↦ rw other was
 ]
 
-before-run : (first n p : ℕ) → p < first → is_in_run first n p ≡ false
-before-run first n p low = grind (arith, nat_tests)
-
 -- rights, and then a response in RX, whose pages aren't named
 module _ (memory : Memory) (granted new : Ram) (index : ℕ) (named : ℕ → Bool) (right : ℕ → Option Rights) (own : Option Buffers) (rx : IsRxApart memory own named)
-    (access : ℕ → ℕ → Option Rights) (built : IsBuilt memory.ram memory.endpoints memory.blocks access)
-    (done : (f : ℕ → ℕ → Option Rights) → IsBuilt memory.ram memory.endpoints memory.blocks f → IsBuilt granted memory.endpoints memory.blocks (with_rights f index named right))
+    (access : ℕ → ℕ → Option Rights) (built : IsBuilt memory.ram memory.endpoints memory.tables memory.blocks access)
+    (done : (f : ℕ → ℕ → Option Rights) → IsBuilt memory.ram memory.endpoints memory.tables memory.blocks f → IsBuilt granted memory.endpoints memory.tables memory.blocks (with_rights f index named right))
     (base : granted.base ≡ memory.ram.base) (beside : IsBesideRx granted new own) where
   abbrev old : Ram
   old = memory.ram
@@ -242,26 +243,23 @@ module _ (memory : Memory) (granted new : Ram) (index : ℕ) (named : ℕ → Bo
   abbrev n : ℕ
   n = memory.endpoints
 
+  abbrev tables : ℕ
+  tables = memory.tables
+
   abbrev b : ℕ
   b = memory.blocks
 
-  behind-rx : (x : Buffers) → own ≡ Some x → AreBehind n b (is_in_run x.rx x.pages)
-  behind-rx x are p at = elim (cases_lt p x.rx) [
-    | inl low ↦ absurd (false≢true (sym (before-run x.rx x.pages p low) ∙ at))
-    | inr high ↦ let first = rx.behind x are in omega (arith, high, first)
-  ]
-
-  kept : (ram : Ram) → IsBesideRx granted ram own → (after : ℕ → ℕ → Option Rights) → IsBuilt granted n b after → IsBuilt ram n b after
+  kept : (ram : Ram) → IsBesideRx granted ram own → (after : ℕ → ℕ → Option Rights) → IsBuilt granted n tables b after → IsBuilt ram n tables b after
   kept ram its after is =
       let x = its.buffers in
-      built-kept granted ram n b after is its.beside.base its.beside.size
-      (λ p low. its.beside.pages p (before-run x.rx x.pages p (omega (arith, low, rx.behind x its.are))))
+      built-kept granted ram n tables b after is its.beside.base its.beside.size
+      (λ p from below. its.beside.pages p (false_from_ne_true (is_in_run x.rx x.pages p) (λ at. not-both n tables b p (from, below) (rx.aside x its.are p at))))
 
-  pub then-responded : (past middle last : Option (List Step)) → Only past middle (λ h s. IsMoment old granted n b past h s) → Only middle last (λ _ s. IsRxWriting granted own s)
-      → Only past last (λ h s. IsMoment old new n b past h s)
+  pub then-responded : (past middle last : Option (List Step)) → Only past middle (λ h s. IsMoment old granted n tables b past h s) → Only middle last (λ _ s. IsRxWriting granted own s)
+      → Only past last (λ h s. IsMoment old new n tables b past h s)
   then-responded past middle last first second =
       let after : ℕ → ℕ → Option Rights = with_rights access index named right in
-      let is : IsBuilt granted n b after = done access built in
+      let is : IsBuilt granted n tables b after = done access built in
       Only-then (Only-map first (λ _ s m. record {
         access = m.access;
         after = m.after;
@@ -276,12 +274,12 @@ module _ (memory : Memory) (granted new : Ram) (index : ℕ) (named : ℕ → Bo
       second
       (λ h s its.
       let x = its.buffers in
-      written-moment old new n b access after built (kept new beside after is) (beside.beside.base ∙ base) granted (is_in_run x.rx x.pages) after
-      (behind-rx x its.are) is (between-behind granted n b access after is) base past h s its.writing
+      written-moment old new n tables b access after built (kept new beside after is) (beside.beside.base ∙ base) granted (is_in_run x.rx x.pages) after
+      (rx.aside x its.are) is (between-behind granted n tables b access after is) base past h s its.writing
       (λ p at e he. let same : after e p ≡ access e p = sym (no-rights access index named right e p (rx.apart x its.are p at)) in stays-same (after e p) (access e p) (after e p) _ _ same same))
 
   -- and nobody's rights end
-  pub responded-ends : ((p : ℕ) → named p ≡ true → is_some (right p) ≡ true) → (last : Option (List Step)) → EndsSettled old new n b last
+  pub responded-ends : ((p : ℕ) → named p ≡ true → is_some (right p) ≡ true) → (last : Option (List Step)) → EndsSettled old new n tables b last
   responded-ends some last =
       let after : ℕ → ℕ → Option Rights = with_rights access index named right in
-      no-right-ends old new n b access after built (kept new beside after (done access built)) last (given-stays access index named right some)
+      no-right-ends old new n tables b access after built (kept new beside after (done access built)) last (given-stays access index named right some)

@@ -6,7 +6,7 @@ use Rattle.ffa_model.specs.Buffers.{buffers_in}
 use Rattle.ffa_model.specs.Lists.{is_in_run}
 use Rattle.ffa_model.specs.State.{Buffers, Transaction, is_known_among}
 use Rattle.ffa_rxtx.specs.Parts.{IsInRam}
-use Rattle.ffa_stage2.specs.Tables.{table_page}
+use Rattle.ffa_memshare.specs.Changes.{AreAside}
 use Rattle.ffa_memshare.specs.Memory.{Memory, MemoryParts}
 use Rattle.ffa_memshare.specs.Ranges.{in_ranges}
 use Rattle.ffa_memshare.specs.Stored.{pool_slot}
@@ -21,7 +21,7 @@ pub record IsCaller (memory : Memory) (buffers : List (Option Buffers)) (e : ℕ
 
 -- RX of the buffers, if there are any, is none of the tables, and none of the pages that are named
 pub record IsRxApart (memory : Memory) (own : Option Buffers) (named : ℕ → Bool) : Type 0 where
-  pub behind : (b : Buffers) → own ≡ Some b → table_page memory.blocks memory.endpoints 0 ≤ b.rx
+  pub aside : (b : Buffers) → own ≡ Some b → AreAside memory.endpoints memory.tables memory.blocks (is_in_run b.rx b.pages)
   pub apart : (b : Buffers) → own ≡ Some b → (p : ℕ) → is_in_run b.rx b.pages p ≡ true → named p ≡ false
 
 -- RX of e is so of the pages of each open transaction

@@ -10,12 +10,13 @@ use Rattle.ffa_stage2.specs.declared.layout.Layout.{Layout}
 use Rattle.ffa_stage2.specs.Layout.{normal_in}
 use Rattle.ffa_memshare.specs.Stored.{Pooled}
 
--- RAM at an address, with the tables of this many endpoints over its blocks of 2 MiB, the entries of its pages, and which
+-- RAM at an address, with the tables of this many endpoints over its blocks of 2 MiB from a page on, the entries of its pages, and which
 -- regions are non-secure, where worlds are told apart
 pub record Memory : Type 0 where
   pub ram : Ram
   pub base : ℕ
   pub endpoints : ℕ
+  pub tables : ℕ
   pub blocks : ℕ
   pub entries : List (Option Entry)
   pub normal : Option (List Region)
@@ -26,6 +27,7 @@ memory_of ram layout entries =
       ram = ram;
       base = layout.base.0;
       endpoints = array_vec_len layout.regions;
+      tables = layout.tables.0;
       blocks = layout.blocks;
       entries = entries;
       normal = normal_in layout;

@@ -25,6 +25,6 @@ pub record IsRelinquished (old new : MemoryParts) (e : ℕ) (bytes : List ℕ) (
   pub open_transactions :
       open_in new.pool ≡ with_transaction (open_in old.pool) asked.handle (not_holding transaction e)
   pub moved :
-      IsMoved old.memory.ram new.memory.ram old.memory.endpoints old.memory.blocks (place e)
+      IsMoved old.memory.ram new.memory.ram old.memory.endpoints old.memory.tables old.memory.blocks (place e)
       (in_ranges old.memory.base transaction.ranges) (λ p. None) asked.zero
   pub access : IsChanged changed transaction.ranges (Some (record { 0 = e }))

@@ -45,7 +45,7 @@ pub record IsResponded (old : Memory) (after : Ram) (own : Option Buffers)
     (version : Version) (told : ResponseRecord) (size : ℕ) : Type 0 where
   pub granted : Ram
   pub moved :
-      IsMoved old.ram granted old.endpoints old.blocks (place told.endpoint) (in_ranges old.base told.ranges)
+      IsMoved old.ram granted old.endpoints old.tables old.blocks (place told.endpoint) (in_ranges old.base told.ranges)
       (λ p. Some told.rights) false
   pub answered : after ≡ with_rx_bytes granted own (response_bytes version told)
   pub bytes : size ≡ response_size version told.ranges

@@ -48,6 +48,6 @@ pub record IsSent (old new : MemoryParts) (e : ℕ) (kind : Kind) (bytes : Versi
   pub marks :
       IsMarked old.memory.entries new.memory.entries (in_ranges old.memory.base offer.ranges) (Named (Some slot))
   pub moved :
-      IsMoved old.memory.ram new.memory.ram old.memory.endpoints old.memory.blocks (place e)
+      IsMoved old.memory.ram new.memory.ram old.memory.endpoints old.memory.tables old.memory.blocks (place e)
       (in_ranges old.memory.base offer.ranges) (new_right (right_after kind) old.memory.entries) offer.zero
   pub access : IsChanged changed offer.ranges (changed_sender kind e)

@@ -10,7 +10,7 @@ use Rattle.ffa_stage2.specs.Moments.{EndsSettled, IsMoment}
 -- each step from one history to a later one is such a moment
 abbrev pub OnlyMomentsFor : Layout → Ram → Ram → Option (List Step) → Option (List Step) → Type 0
 OnlyMomentsFor layout old new past later =
-    Only past later (λ h s. IsMoment old new (array_vec_len layout.regions) layout.blocks past h s)
+    Only past later (λ h s. IsMoment old new (array_vec_len layout.regions) layout.tables.0 layout.blocks past h s)
 
 abbrev pub EndsSettledFor : Layout → Ram → Ram → Option (List Step) → Type 0
-EndsSettledFor layout old new past = EndsSettled old new (array_vec_len layout.regions) layout.blocks past
+EndsSettledFor layout old new past = EndsSettled old new (array_vec_len layout.regions) layout.tables.0 layout.blocks past

@@ -1,6 +1,6 @@
 // SPDX-License-Identifier: MIT OR Apache-2.0
 //! FFA_MEM_DONATE, FFA_MEM_LEND and FFA_MEM_SHARE.
-ghost use Rattle.std.specs.Prelude.{◌≡◌, ◌<◌, ℕ, length, None, Some, IfOk, OnErr};
+ghost use Rattle.std.specs.Prelude.{◌≤◌, ◌≡◌, ◌<◌, ℕ, length, None, Some, IfOk, OnErr};
 ghost use Rattle.std.specs.Result.{result_err};
 ghost use Rattle.arrayvec.specs.ArrayVec.{array_vec_len};
 ghost use Rattle.ffa_model.specs.Calls.{first_failure};
@@ -57,8 +57,9 @@ impl<O: Room<OpenSlot> + Drop> Pool<O> {
         requires room { IsRoom (memory_of (M.ram ram.old) layout.now pages.old) }
         requires caller { IsCaller (memory_of (M.ram ram.old) layout.now pages.old) buffers.now caller.0 }
         requires endpoints { length self.old.sent ≡ array_vec_len layout.now.regions }
-        requires tables { let end = table_page layout.now.blocks (array_vec_len layout.now.regions) 0 in
-            (p : ℕ) → p < end → entry_at pages.old p ≡ None }
+        requires tables { let first = layout.now.tables.0 in
+            let end = table_page first layout.now.blocks (array_vec_len layout.now.regions) 0 in
+            (p : ℕ) → first ≤ p → p < end → entry_at pages.old p ≡ None }
         ensures refusal { let parts = memory_parts (M.ram ram.old) layout.now pages.old buffers.now self.old in
             let offer = send_of kind (descriptor_in (M.ram ram.old) buffers.now caller.0 call.now) in
             result_err result ≡ first_failure (send_guards (scene_in parts) caller.0 call.now.transfer offer) }

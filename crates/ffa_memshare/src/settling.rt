@@ -14,10 +14,10 @@ pub fn settle<M: PhysMem>(ram: &mut M, ranges: &PageRanges, index: usize)
     requires { ArePlaced (M.ram ram.old).base (length (M.ram ram.old).pages) ranges.now }
     ensures ram { M.ram ram.new ≡ M.ram ram.old }
     ensures steps { Only (M.past ram.old) (M.past ram.new) (λ _ s. (s.after ≡ s.before) × (s.after ≡ M.ram ram.old)) }
-    ensures settled { (end p : ℕ) (h : List Step)
+    ensures settled { (begin end p : ℕ) (h : List Step)
         → M.past ram.new ≡ Some h
         → in_ranges (M.ram ram.old).base ranges.now p ≡ true
-        → IsSettledBy end index p h }
+        → IsSettledBy begin end index p h }
 {
     for place in 0..ranges.len() {
         let range = ranges.at(place);

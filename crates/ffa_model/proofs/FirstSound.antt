@@ -20,7 +20,7 @@ use Rattle.ffa_model.specs.declared.endpoint.Region.{Region}
 use Rattle.ffa_model.specs.declared.manifest.Worlds.{Worlds}
 use Rattle.ffa_model.specs.declared.schedule.Work.{Work}
 use Rattle.ffa_model.specs.Identifiers.{identifier, manager, place}
-use Rattle.ffa_model.specs.Manifest.{is_accepted, is_ram_base}
+use Rattle.ffa_model.specs.Manifest.{has_tables, is_accepted, is_ram_base}
 use Rattle.ffa_model.specs.Regions.{has_page, owned_regions, owner_in}
 use Rattle.ffa_model.specs.First.{first, first_held, has_first_bitmaps, page_with_bytes, party_of}
 use Rattle.ffa_model.specs.State.{State, Page, Party, Transaction, Buffers, is_known_among, page_at, transaction_of}
@@ -76,16 +76,19 @@ none-open =
     ∙ sym (finite.len-entries (finite.empty {X = Transaction} {R = nat_cmp}))
     ∙ finite.len-empty nat_cmp Transaction
 
-module _ (worlds : Worlds) (base blocks : ℕ) (es : List Endpoint) (held : ℕ → List ℕ) (good : is_accepted base blocks es ≡ true)
+module _ (worlds : Worlds) (base tables blocks : ℕ) (es : List Endpoint) (held : ℕ → List ℕ) (good : is_accepted base tables blocks es ≡ true)
     (whole : (p : ℕ) → p < 512 * blocks → owner_in base es p ≢ manager → (length (held p) ≡ 4096) × are_bytes (held p)) where
   abbrev s : State
-  s = first_held worlds base blocks es held
+  s = first_held worlds base tables blocks es held
 
-  facts : Accepted base blocks es
-  facts = accepted base blocks es good
+  facts : Accepted base tables blocks es
+  facts = accepted base tables blocks es good
 
   placed : is_ram_base base ≡ true
   placed = (and_parts _ _ (and_parts _ _ (and_parts _ _ good).0).0).0
+
+  has-tables : has_tables tables blocks (length es) ≡ true
+  has-tables = (and_parts _ _ (and_parts _ _ (and_parts _ _ (and_parts _ _ good).0).1).0).1
 
   pub first-sized : IsSized s
   unfolding first
@@ -96,7 +99,7 @@ module _ (worlds : Worlds) (base blocks : ℕ) (es : List Endpoint) (held : ℕ 
         base = placed;
         within = (let size = length-listed (512 * blocks) (λ p. page_with_bytes base es p (held p)) in let end = facts.within in omega (arith, size, end));
         one_table = (let size = length-listed (512 * blocks) (λ p. page_with_bytes base es p (held p)) in let end = facts.one_table in omega (arith, size, end));
-        blocks = (blocks, length-listed (512 * blocks) (λ p. page_with_bytes base es p (held p)), facts.some_blocks, facts.few_blocks);
+        blocks = (blocks, length-listed (512 * blocks) (λ p. page_with_bytes base es p (held p)), facts.some_blocks, facts.few_blocks, subst (λ n. has_tables tables blocks n ≡ true) (sym (length-map es party_of)) has-tables);
         sent = length-replicate {A = ℕ} (length es) 0 ∙ sym (length-map es party_of);
         buffers = length-replicate {A = Option Buffers} (length es) None ∙ sym (length-map es party_of);
         works = length-replicate {A = Option Work} (length es) None ∙ sym (length-map es party_of);
@@ -116,11 +119,11 @@ module _ (worlds : Worlds) (base blocks : ℕ) (es : List Endpoint) (held : ℕ 
     where
       of : (o : Option (ℕ × Region)) → find (λ (x : ℕ × Region). has_page base p x.1) (owned_regions es) ≡ o
           → option_map (λ (x : ℕ × Region). let q : Page = record { owner = x.0; own_right = x.1.rights; bytes = held p } in q) o ≡ Some page
-          → IsSoundPage (first_held worlds base blocks es held) page
+          → IsSoundPage (first_held worlds base tables blocks es held) page
       of None found none = absurd (none-some page none)
       of (Some x) found some =
           let (size, bytes) = whole p inside (found-owner base p es x found) in
-          subst (λ (q : Page). IsSoundPage (first_held worlds base blocks es held) q) (same_Some _ page some)
+          subst (λ (q : Page). IsSoundPage (first_held worlds base tables blocks es held) q) (same_Some _ page some)
           (record {
             owner = subst (λ n. is_known_among n x.0 ≡ true) (sym (length-map es party_of))
                 (found-known (λ (y : ℕ × Region). has_page base p y.1) (λ (y : ℕ × Region). is_known_among (length es) y.0) (owned_regions es) x (all-known (length es) 0 es (omega arith)) found);
@@ -141,7 +144,7 @@ module _ (worlds : Worlds) (base blocks : ℕ) (es : List Endpoint) (held : ℕ 
         parties = parties;
         pages = λ p page is. let (inside, found) = page-first p page is in sound-page p page inside found;
         transactions = λ h t is. absurd (none-at h t is);
-        one = λ p h k lt at_h at_k. absurd (false≢true (sym (ap (λ o. is_naming (first_held worlds base blocks es held) p o) (finite.get-empty nat_cmp h)) ∙ at_h));
+        one = λ p h k lt at_h at_k. absurd (false≢true (sym (ap (λ o. is_naming (first_held worlds base tables blocks es held) p o) (finite.get-empty nat_cmp h)) ∙ at_h));
         few = λ e known. none-counted (λ (t : Transaction). t.sender == e) _ none-open;
         sent = λ e known. subst (λ n. n ≤ MOST_SENDS) (sym (same-all {X = ℕ} (length es) (place e) 0)) (omega arith);
         buffers = λ e b known is. absurd (none-some b (sym (same-all {X = Option Buffers} (length es) (place e) None) ∙ is));

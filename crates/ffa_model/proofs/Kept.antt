@@ -114,7 +114,7 @@ module _ (s : State) (ranges : List Range) where
               base = sound.sized.base;
               within = subst (λ n. s.ram_base + 4096 * n ≤ 2 ^ 32) (sym zeros-size) sound.sized.within;
               one_table = subst (λ n. s.ram_base % 2 ^ 30 + 4096 * n ≤ 2 ^ 30) (sym zeros-size) sound.sized.one_table;
-              blocks = (blocks.0, zeros-size ∙ blocks.1, blocks.2, blocks.3);
+              blocks = (blocks.0, zeros-size ∙ blocks.1, blocks.2, blocks.3, blocks.4);
               sent = sound.sized.sent;
               buffers = sound.sized.buffers;
               works = sound.sized.works;

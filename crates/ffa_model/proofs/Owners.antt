@@ -1,10 +1,10 @@
 -- SPDX-License-Identifier: MIT OR Apache-2.0
 -- Who owns a page of an accepted manifest: the endpoint with the one region that has it.
-use Rattle.std.proofs.Common.{◌≡◌, ◌≢◌, ◌∙◌, ℕ, suc, zero, ◌+◌, ◌*◌, ◌<◌, ◌≤◌, Bool, true, false, cond, List, [], ◌∷◌, ◌++◌, length, get_or, map, Option, Some, None, refl, sym, ap, subst, arith, inl, inr}
-use Rattle.std.specs.Prelude.{◌==◌, find, is_some}
+use Rattle.std.proofs.Common.{◌≡◌, ◌≢◌, ◌∙◌, ℕ, suc, zero, ◌+◌, ◌*◌, ◌<◌, ◌≤◌, Bool, true, false, cond, List, [], ◌∷◌, ◌++◌, length, get_or, map, Option, Some, None, refl, sym, ap, subst, arith, inl, inr, ◌⊎◌}
+use Rattle.std.specs.Prelude.{◌==◌, ◌&&◌, ◌||◌, ◌%◌, nat_le, find, is_some}
 use Rattle.std.specs.Option.{option_map, option_map_or, option_or}
 use Rattle.std.specs.List.{All, list_all, flat_map, enumerate_from}
-use Rattle.std.proofs.lemmas.Bool.{cases_eq, true≢false, false≢true, and_parts, eq-eqb, eqb-true, ne_eqb}
+use Rattle.std.proofs.lemmas.Bool.{cases_eq, true≢false, false≢true, and_parts, eq-eqb, eqb-true, leb-true, ne_eqb, or_cases}
 use Rattle.std.proofs.lemmas.Bool.Decides.{nat_tests}
 use Rattle.std.proofs.lemmas.Option.{none-some, same_Some}
 use Rattle.std.proofs.lemmas.List.Elements.{All-append, All-head, All-map, All-nil, All-tail}
@@ -12,7 +12,7 @@ use Rattle.std.proofs.lemmas.List.Folds.{find-append, list_all-append, list_all-
 use Rattle.ffa_model.specs.declared.endpoint.Region.{Region}
 use Rattle.ffa_model.specs.declared.endpoint.Endpoint.{Endpoint}
 use Rattle.ffa_model.specs.declared.rights.Rights.{Rights}
-use Rattle.ffa_model.specs.Manifest.{is_apart, are_apart, is_placed, regions_of, table_pages, tables_end}
+use Rattle.ffa_model.specs.Manifest.{is_apart, are_apart, is_placed, ram_end, regions_of, table_pages, tables_begin, tables_end}
 use Rattle.ffa_model.specs.Identifiers.{manager, identifier, place}
 use Rattle.ffa_model.specs.Regions.{has_page, right_in, regions_at, owned_regions, owner_in}
 use Rattle.ffa_model.specs.State.{Page}
@@ -226,22 +226,30 @@ all-owned test k (e ∷ es) h =
     list_all-append (λ (x : ℕ × Region). test x.1) (map (λ (r : Region). (identifier k, r)) e.regions.items) (owned_from (k + 1) es)
     ∙ rw (list_all-map (λ (x : ℕ × Region). test x.1) (λ (r : Region). (identifier k, r)) e.regions.items, here) (all-owned test (k + 1) es rest)
 
--- a page that an endpoint owns lies behind the table pages
-pub owned-behind : (base blocks n : ℕ) (es : List Endpoint) (p : ℕ) (bytes : List ℕ) (page : Page)
-    → list_all (is_placed base blocks n) (regions_of es) ≡ true → page_with_bytes base es p bytes ≡ Some page → n * table_pages blocks ≤ p
-owned-behind base blocks n es p bytes page placed is = of (find (has base p) (owned_regions es)) refl is
+-- a page that an endpoint owns is none of the table pages
+pub owned-aside : (base tables blocks n : ℕ) (es : List Endpoint) (p : ℕ) (bytes : List ℕ) (page : Page)
+    → list_all (is_placed base tables blocks n) (regions_of es) ≡ true → page_with_bytes base es p bytes ≡ Some page → (p < tables) ⊎ (tables + n * table_pages blocks ≤ p)
+owned-aside base tables blocks n es p bytes page placed is = of (find (has base p) (owned_regions es)) refl is
   where
     of : (o : Option (ℕ × Region)) → find (has base p) (owned_regions es) ≡ o
-        → option_map (λ (x : ℕ × Region). let q : Page = record { owner = x.0; own_right = x.1.rights; bytes = bytes } in q) o ≡ Some page → n * table_pages blocks ≤ p
+        → option_map (λ (x : ℕ × Region). let q : Page = record { owner = x.0; own_right = x.1.rights; bytes = bytes } in q) o ≡ Some page → (p < tables) ⊎ (tables + n * table_pages blocks ≤ p)
     of None _ none = absurd (none_some none)
       where
         none_some : None ≡ Some page → ⊥
         none_some e = cc
     of (Some x) found _ =
-        let (there, placed_x) = find-passes (has base p) (λ (y : ℕ × Region). is_placed base blocks n y.1) (owned_regions es) x (all-owned (is_placed base blocks n) 0 es placed) found in
-        let behind : tables_end base blocks n ≤ x.1.base = grind (arith, nat_tests, placed_x) in
+        let (there, placed_x) = find-passes (has base p) (λ (y : ℕ × Region). is_placed base tables blocks n y.1) (owned_regions es) x (all-owned (is_placed base tables blocks n) 0 es placed) found in
+        let end : ℕ = x.1.base + 4096 * x.1.pages in
+        let inside : Bool = (x.1.base % 4096 == 0 && nat_le 1 x.1.pages) && (nat_le base x.1.base && nat_le end (ram_end base blocks)) in
+        let before : Bool = nat_le end (tables_begin base tables blocks) in
+        let behind : Bool = nat_le (tables_end base tables blocks n) x.1.base in
+        let aside : (before || behind) ≡ true = (and_parts inside (before || behind) placed_x).1 in
         let low : x.1.base ≤ base + 4096 * p = grind (arith, nat_tests, there) in
-        omega arith
+        let high : base + 4096 * p < x.1.base + 4096 * x.1.pages = grind (arith, nat_tests, there) in
+        elim (or_cases before behind aside) [
+          | inl is ↦ inl (let last = leb-true end (tables_begin base tables blocks) is in omega (arith, last))
+          | inr is ↦ inr (let first = leb-true (tables_end base tables blocks n) x.1.base is in omega (arith, first))
+        ]
 
 -- each owner is the endpoint at its place
 all-named : (k : ℕ) (es : List Endpoint) → list_all (λ (x : ℕ × Region). identifier (place x.0) == x.0) (owned_from k es) ≡ true

@@ -16,7 +16,7 @@ blocks_of s = length s.pages / 512
 
 -- the address of the level 1 table of the endpoint at a place in the manifest
 abbrev pub root : State → ℕ → ℕ
-root s index = root_of s.ram_base (blocks_of s) index
+root s index = root_of s.ram_base s.tables (blocks_of s) index
 
 -- the same of each endpoint
 abbrev pub roots_of : State → List ℕ

@@ -151,23 +151,24 @@ coded_bits = finite_set.code (coded_list coded_ℕ)
 
 abbrev pub coded_state : Coded State
 coded_state =
-    code_by (ℕ × (List Party × (Option (List Region) × (List (Option Page) × (map.FinMap nat_cmp Transaction × (List ℕ × (List (Option Buffers) × (ℕ × (List Status × (List (Option Work) × (List Bool × (finite_set.FinSet (slice_cmp nat_cmp) × finite_set.FinSet (slice_cmp nat_cmp)))))))))))))
-    (coded× coded_ℕ (coded× (coded_list coded_party) (coded× (coded_option (coded_list coded_region)) (coded× (coded_list (coded_option coded_page)) (coded× (map.code coded_ℕ coded_transaction) (coded× (coded_list coded_ℕ) (coded× (coded_list (coded_option coded_buffers)) (coded× coded_ℕ (coded× (coded_list coded_status) (coded× (coded_list (coded_option coded_work)) (coded× (coded_list coded_bool) (coded× coded_bits coded_bits))))))))))))
-    (λ s. (s.ram_base, (s.parties, (s.normal, (s.pages, (s.transactions, (s.sent, (s.buffers, (s.runner, (s.statuses, (s.works, (s.bitmaps, (s.bound, s.pending)))))))))))))
+    code_by (ℕ × (ℕ × (List Party × (Option (List Region) × (List (Option Page) × (map.FinMap nat_cmp Transaction × (List ℕ × (List (Option Buffers) × (ℕ × (List Status × (List (Option Work) × (List Bool × (finite_set.FinSet (slice_cmp nat_cmp) × finite_set.FinSet (slice_cmp nat_cmp))))))))))))))
+    (coded× coded_ℕ (coded× coded_ℕ (coded× (coded_list coded_party) (coded× (coded_option (coded_list coded_region)) (coded× (coded_list (coded_option coded_page)) (coded× (map.code coded_ℕ coded_transaction) (coded× (coded_list coded_ℕ) (coded× (coded_list (coded_option coded_buffers)) (coded× coded_ℕ (coded× (coded_list coded_status) (coded× (coded_list (coded_option coded_work)) (coded× (coded_list coded_bool) (coded× coded_bits coded_bits)))))))))))))
+    (λ s. (s.ram_base, (s.tables, (s.parties, (s.normal, (s.pages, (s.transactions, (s.sent, (s.buffers, (s.runner, (s.statuses, (s.works, (s.bitmaps, (s.bound, s.pending))))))))))))))
     (λ p. record {
       ram_base = p.0;
-      parties = p.1.0;
-      normal = p.1.1.0;
-      pages = p.1.1.1.0;
-      transactions = p.1.1.1.1.0;
-      sent = p.1.1.1.1.1.0;
-      buffers = p.1.1.1.1.1.1.0;
-      runner = p.1.1.1.1.1.1.1.0;
-      statuses = p.1.1.1.1.1.1.1.1.0;
-      works = p.1.1.1.1.1.1.1.1.1.0;
-      bitmaps = p.1.1.1.1.1.1.1.1.1.1.0;
-      bound = p.1.1.1.1.1.1.1.1.1.1.1.0;
-      pending = p.1.1.1.1.1.1.1.1.1.1.1.1;
+      tables = p.1.0;
+      parties = p.1.1.0;
+      normal = p.1.1.1.0;
+      pages = p.1.1.1.1.0;
+      transactions = p.1.1.1.1.1.0;
+      sent = p.1.1.1.1.1.1.0;
+      buffers = p.1.1.1.1.1.1.1.0;
+      runner = p.1.1.1.1.1.1.1.1.0;
+      statuses = p.1.1.1.1.1.1.1.1.1.0;
+      works = p.1.1.1.1.1.1.1.1.1.1.0;
+      bitmaps = p.1.1.1.1.1.1.1.1.1.1.1.0;
+      bound = p.1.1.1.1.1.1.1.1.1.1.1.1.0;
+      pending = p.1.1.1.1.1.1.1.1.1.1.1.1.1;
     })
     (λ _. refl)
 

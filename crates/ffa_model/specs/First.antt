@@ -35,10 +35,11 @@ abbrev pub has_first_bitmaps : ℕ × Endpoint → Bool
 has_first_bitmaps endpoint = not (endpoint.0 == 0) && is_set 3 endpoint.1.properties.0
 
 -- all bytes are 0, nothing is open, sent, mapped, bound or pending
-unfoldable pub first : Worlds → ℕ → ℕ → List Endpoint → State
-first worlds base blocks es =
+unfoldable pub first : Worlds → ℕ → PageIndex → ℕ → List Endpoint → State
+first worlds base tables blocks es =
     record {
       ram_base = base;
+      tables = tables;
       parties = map party_of es;
       normal = normal_of worlds (regions_at es 0);
       pages = listed (512 * blocks) (λ p. page_with_bytes base es p (replicate 4096 0));
@@ -54,6 +55,6 @@ first worlds base blocks es =
     }
 
 -- the same where the pages of regions have these bytes, and not zeros
-abbrev pub first_held : Worlds → ℕ → ℕ → List Endpoint → (ℕ → List ℕ) → State
-first_held worlds base blocks es held =
-    record (first worlds base blocks es) { pages = listed (512 * blocks) (λ p. page_with_bytes base es p (held p)) }
+abbrev pub first_held : Worlds → ℕ → PageIndex → ℕ → List Endpoint → (ℕ → List ℕ) → State
+first_held worlds base tables blocks es held =
+    record (first worlds base tables blocks es) { pages = listed (512 * blocks) (λ p. page_with_bytes base es p (held p)) }

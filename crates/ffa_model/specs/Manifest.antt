@@ -6,18 +6,22 @@ use Rattle.ffa_model.specs.declared.limits.TheConstants.{MOST_BLOCKS, MOST_ENDPO
 use Rattle.ffa_model.specs.declared.endpoint.Region.{Region}
 use Rattle.ffa_model.specs.declared.endpoint.Endpoint.{Endpoint}
 use Rattle.ffa_model.specs.Bits.{is_set}
+use Rattle.ffa_model.specs.Numbers.{PageIndex}
 
 -- each endpoint has a level 1 page, a level 2 page and a level 3 page for each block of RAM
 abbrev pub table_pages : ℕ → ℕ
 table_pages blocks = 2 + blocks
 
--- the address of the level 1 page of the endpoint at a place in the manifest
-abbrev pub root_of : ℕ → ℕ → ℕ → ℕ
-root_of base blocks index = base + 4096 * (index * table_pages blocks)
+-- the address of the level 1 page of the endpoint at a place in the manifest, where the tables begin at a page of RAM
+abbrev pub root_of : ℕ → PageIndex → ℕ → ℕ → ℕ
+root_of base tables blocks index = base + 4096 * (tables + index * table_pages blocks)
 
--- the first address behind the table pages of this many endpoints, and the first behind RAM
-abbrev pub tables_end : ℕ → ℕ → ℕ → ℕ
-tables_end base blocks count = root_of base blocks count
+-- the first address of the table pages, the first behind those of this many endpoints, and the first behind RAM
+abbrev pub tables_begin : ℕ → PageIndex → ℕ → ℕ
+tables_begin base tables blocks = root_of base tables blocks 0
+
+abbrev pub tables_end : ℕ → PageIndex → ℕ → ℕ → ℕ
+tables_end base tables blocks count = root_of base tables blocks count
 
 abbrev pub ram_end : ℕ → ℕ → ℕ
 ram_end base blocks = base + 0x200000 * blocks
@@ -53,11 +57,16 @@ abbrev pub are_identified : List Endpoint → Bool
 are_identified [] = false
 are_identified (e ∷ es) = is_normal_world e && list_all is_partition es
 
--- whole pages, at least one, behind the table pages and in RAM
-abbrev pub is_placed : ℕ → ℕ → ℕ → Region → Bool
-is_placed base blocks count region =
-    ((region.base % 4096 == 0 && nat_le 1 region.pages) && nat_le (tables_end base blocks count) region.base)
-    && nat_le (region.base + 4096 * region.pages) (ram_end base blocks)
+-- RAM has the table pages of this many endpoints from that page on
+abbrev pub has_tables : PageIndex → ℕ → ℕ → Bool
+has_tables tables blocks count = nat_le (tables + count * table_pages blocks) (512 * blocks)
+
+-- whole pages, at least one, in RAM, and none of them a table's
+abbrev pub is_placed : ℕ → PageIndex → ℕ → ℕ → Region → Bool
+is_placed base tables blocks count region =
+    let end = region.base + 4096 * region.pages in
+    ((region.base % 4096 == 0 && nat_le 1 region.pages) && (nat_le base region.base && nat_le end (ram_end base blocks)))
+    && (nat_le end (tables_begin base tables blocks) || nat_le (tables_end base tables blocks count) region.base)
 
 -- the regions have no page in common
 abbrev pub is_apart : Region → Region → Bool
@@ -74,7 +83,8 @@ abbrev pub are_counted : List Endpoint → Bool
 are_counted es = list_all (λ (e : Endpoint). is_from_to 1 MOST_REGIONS (length e.regions.items)) es
 
 -- the conditions of an accepted manifest
-abbrev pub is_accepted : ℕ → ℕ → List Endpoint → Bool
-is_accepted base blocks es =
-    ((is_ram_base base && is_ram_size base blocks) && (is_from_to 1 MOST_ENDPOINTS (length es) && are_identified es))
-    && (are_counted es && (list_all (is_placed base blocks (length es)) (regions_of es) && are_apart (regions_of es)))
+abbrev pub is_accepted : ℕ → PageIndex → ℕ → List Endpoint → Bool
+is_accepted base tables blocks es =
+    ((is_ram_base base && is_ram_size base blocks)
+    && ((is_from_to 1 MOST_ENDPOINTS (length es) && has_tables tables blocks (length es)) && are_identified es))
+    && (are_counted es && (list_all (is_placed base tables blocks (length es)) (regions_of es) && are_apart (regions_of es)))

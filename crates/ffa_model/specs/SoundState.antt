@@ -8,7 +8,7 @@ use Rattle.ffa_model.specs.declared.rights.Rights.{Rights}
 use Rattle.ffa_model.specs.declared.rights.Kind.TheVariants.{Donate}
 use Rattle.ffa_model.specs.Numbers.{Identifier}
 use Rattle.ffa_model.specs.Lists.{is_in_run}
-use Rattle.ffa_model.specs.Manifest.{is_from_to, is_ram_base}
+use Rattle.ffa_model.specs.Manifest.{has_tables, is_from_to, is_ram_base}
 use Rattle.ffa_model.specs.Rights.{is_at_most}
 use Rattle.ffa_model.specs.State.{State, Page, Party, Transaction, Buffers, buffers_of, is_known, owner_of, page_at, sent_by, transaction_of}
 use Rattle.ffa_model.specs.Access.{ownership_of, held_by, is_naming, is_receiver, names}
@@ -94,14 +94,16 @@ pub record IsSoundPending (s : State) (entry : List ℕ) : Type 0 where
   pub in_word : bit < 64
   pub bound : class < manager_class → (sender : ℕ) × (is_bound (notifications_of s) receiver class bit sender ≡ true)
 
--- from one endpoint to as many as there may be, 2 to 64 MiB of RAM in one GiB, and a list by endpoint for each of them
+-- from one endpoint to as many as there may be, 2 to 64 MiB of RAM in one GiB, which has all tables, and a list by endpoint for each of them
 pub record IsSized (s : State) : Type 0 where
   pub some : 1 ≤ length s.parties
   pub few : length s.parties ≤ MOST_ENDPOINTS
   pub base : is_ram_base s.ram_base ≡ true
   pub within : s.ram_base + 4096 * length s.pages ≤ 2 ^ 32
   pub one_table : s.ram_base % 2 ^ 30 + 4096 * length s.pages ≤ 2 ^ 30
-  pub blocks : (n : ℕ) × (length s.pages ≡ 512 * n) × (1 ≤ n) × (n ≤ MOST_BLOCKS)
+  pub blocks :
+      (n : ℕ) × (length s.pages ≡ 512 * n) × (1 ≤ n) × (n ≤ MOST_BLOCKS)
+      × (has_tables s.tables n (length s.parties) ≡ true)
   pub sent : length s.sent ≡ length s.parties
   pub buffers : length s.buffers ≡ length s.parties
   pub works : length s.works ≡ length s.parties

@@ -53,6 +53,7 @@ pub record Buffers : Type 0 where
 -- an endpoint is named by its identifier; a list by endpoint is in the manifest's order
 pub record State : Type 0 where
   pub ram_base : ℕ
+  pub tables : PageIndex  -- the first page of the tables
   pub parties : List Party  -- by endpoint
   pub normal : Option (List Region)  -- of non-secure memory, where worlds are told apart
   pub pages : List (Option Page)  -- by page; None is a page of the manager

@@ -12,6 +12,9 @@ pub const FFA_ERROR: u32 = 0x8400_0060;
 /// What a caller sees of a call that is done.
 pub const FFA_SUCCESS: u32 = 0x8400_0061;
 
+/// The same of a call of the 64-bit form, which tells more than 32 bits a register.
+pub const FFA_SUCCESS_64: u32 = FFA_SUCCESS + WIDE;
+
 /// What the normal world sees of a partition that an interrupt stopped. It is no call.
 pub const FFA_INTERRUPT: u32 = 0x8400_0062;
 

@@ -25,19 +25,21 @@ pub enum Worlds {
 }
 
 /// A machine's RAM and endpoints, which meet the conditions of an accepted manifest: the RAM's place and size, the
-/// count of endpoints, and of each endpoint its UUID, its properties and its regions, which lie behind the table pages
-/// in RAM and apart from one another.
+/// count of endpoints, whose tables lie in RAM, and of each endpoint its UUID, its properties and its regions, which lie
+/// in RAM apart from the tables and from one another.
 #[derive(Drop)]
 pub struct Manifest {
     /// The address of RAM's first byte.
     pub ram_base: Address,
     /// RAM's size, in blocks of 2 MiB.
     pub ram_blocks: u32,
+    /// The first page of the tables, which stand in a row.
+    pub tables: PageNo,
     /// The normal world, then the partitions in the order of their identifiers.
     pub endpoints: ArrayVec<Endpoint, MOST_ENDPOINTS>,
     /// Whether the machine tells the worlds' memory apart.
     pub worlds: Worlds,
-    pub ghost accepted: { is_accepted ram_base.0 ram_blocks endpoints.items ≡ true },
+    pub ghost accepted: { is_accepted ram_base.0 tables.0 ram_blocks endpoints.items ≡ true },
 }
 
 impl Manifest {
@@ -45,17 +47,20 @@ impl Manifest {
     pub fn of(
         ram_base: Address,
         ram_blocks: u32,
+        tables: PageNo,
         endpoints: ArrayVec<Endpoint, MOST_ENDPOINTS>,
     ) -> Manifest
-        requires { is_accepted ram_base.0 ram_blocks endpoints.items ≡ true }
+        requires { is_accepted ram_base.0 tables.0 ram_blocks endpoints.items ≡ true }
         ensures base { result.ram_base ≡ ram_base }
         ensures blocks { result.ram_blocks ≡ ram_blocks }
+        ensures tables { result.tables ≡ tables }
         ensures endpoints { result.endpoints.items ≡ endpoints.items }
         ensures worlds { result.worlds ≡ One }
     {
         Manifest {
             ram_base,
             ram_blocks,
+            tables,
             endpoints,
             worlds: Worlds::One,
         }
@@ -68,12 +73,14 @@ impl Manifest {
         let Manifest {
             ram_base,
             ram_blocks,
+            tables,
             endpoints,
             worlds: _,
         } = self;
         Manifest {
             ram_base,
             ram_blocks,
+            tables,
             endpoints,
             worlds,
         }
@@ -89,9 +96,9 @@ impl Manifest {
     /// The address of an endpoint's level 1 table, by the endpoint's place in the manifest, from 0.
     pub fn root(&self, index: usize) -> u32
         requires { index < length self.now.endpoints.items }
-        ensures { result ≡ root_of self.now.ram_base.0 self.now.ram_blocks index }
+        ensures { result ≡ root_of self.now.ram_base.0 self.now.tables.0 self.now.ram_blocks index }
     {
-        self.ram_base.0 + 4096 * (index as u32 * (2 + self.ram_blocks))
+        self.ram_base.0 + 4096 * (self.tables.0 + index as u32 * (2 + self.ram_blocks))
     }
 
     /// The form in which a known endpoint writes and reads descriptors.
@@ -151,6 +158,7 @@ impl Manifest {
         for endpoint in self.endpoints.as_slice() {
             endpoints.push(endpoint.copy());
         }
-        Manifest::of(self.ram_base, self.ram_blocks, endpoints).with_worlds(self.worlds)
+        Manifest::of(self.ram_base, self.ram_blocks, self.tables, endpoints)
+            .with_worlds(self.worlds)
     }
 }

@@ -13,7 +13,7 @@ use crate::bitmaps::Bitmaps;
 use crate::class::Class;
 use crate::words::{CLASSES, MOST_PENDING, are_zeros, copy_words, keep_common, word_at};
 use arrayvec::ArrayVec;
-use ffa_model::function::{FFA_ERROR, FFA_SUCCESS, WIDE};
+use ffa_model::function::{FFA_ERROR, FFA_SUCCESS, FFA_SUCCESS_64};
 use ffa_model::{EndpointId, MOST_ENDPOINTS};
 use std::marker::Model;
 
@@ -148,7 +148,7 @@ pub fn info_registers(is_wide: bool, endpoints: &ArrayVec<EndpointId, MOST_ENDPO
     let w2 = 128 * endpoints.len() as u64;
     if is_wide {
         let [x3, x4, x5] = [four_from(ids, 0), four_from(ids, 4), four_from(ids, 8)];
-        let w0 = u64::from(FFA_SUCCESS + WIDE);
+        let w0 = u64::from(FFA_SUCCESS_64);
         [
             w0,
             0,

@@ -1,11 +1,11 @@
 -- SPDX-License-Identifier: MIT OR Apache-2.0
 -- Steps that follow one another.
-use Rattle.std.proofs.Common.{◌≡◌, ◌∙◌, ◌<◌, ℕ, Bool, true, false, List, [], ◌∷◌, length, Option, Some, refl, sym, ap, subst, inl, inr}
+use Rattle.std.proofs.Common.{◌≡◌, ◌∙◌, ◌<◌, ◌≤◌, ℕ, Bool, true, false, List, [], ◌∷◌, length, Option, Some, refl, sym, ap, subst, inl, inr}
 use Rattle.std.proofs.lemmas.Bool.{cases_Bool, false≢true}
 use Rattle.std.proofs.lemmas.List.{get_or-set_other, length-set}
 use Rattle.ffa_model.specs.Lists.{is_in_run}
 use Rattle.ffa_model.specs.Ram.{Ram, page_of, with_page}
-use Rattle.ffa_physmem.specs.Moments.{Step, IsInLoan, IsBeside, IsWriting, IsSettling, IsSettledBy, KeepsBelow, Adds, One, Only}
+use Rattle.ffa_physmem.specs.Moments.{Step, IsInLoan, IsBeside, IsWriting, IsSettling, IsSettledBy, KeepsPages, Adds, One, Only}
 
 -- nothing was added
 pub Adds-none : (old : Option (List Step)) (P : List Step → Step → Type 0) (h : List Step) → old ≡ Some h → Adds old P h
@@ -94,11 +94,11 @@ Only-each {old} {new} {P} only = record { each = λ h there. Adds-each old P h (
 -- ---- what is settled
 
 -- a step that settles pages settles each of them, and what was settled before stays so
-pub settled-here : (old : Ram) (end e first count p : ℕ) (s : Step) (h : List Step) → IsSettling old e first count s → is_in_run first count p ≡ true → IsSettledBy end e p (s ∷ h)
-settled-here old end e first count p s h settles inside = inl (record { endpoint = e; first = first; count = count }, settles.settled, refl, inside)
+pub settled-here : (old : Ram) (begin end e first count p : ℕ) (s : Step) (h : List Step) → IsSettling old e first count s → is_in_run first count p ≡ true → IsSettledBy begin end e p (s ∷ h)
+settled-here old begin end e first count p s h settles inside = inl (record { endpoint = e; first = first; count = count }, settles.settled, refl, inside)
 
-pub settled-still : (old : Ram) (end e d first count p : ℕ) (s : Step) (h : List Step) → IsSettling old d first count s → IsSettledBy end e p h → IsSettledBy end e p (s ∷ h)
-settled-still old end e d first count p s h settles before = inr (λ q below. ap (λ (r : Ram). page_of r q) (settles.after ∙ sym settles.before), before)
+pub settled-still : (old : Ram) (begin end e d first count p : ℕ) (s : Step) (h : List Step) → IsSettling old d first count s → IsSettledBy begin end e p h → IsSettledBy begin end e p (s ∷ h)
+settled-still old begin end e d first count p s h settles before = inr (λ q _ _. ap (λ (r : Ram). page_of r q) (settles.after ∙ sym settles.before), before)
 
 -- ---- pages that may differ
 
@@ -156,5 +156,5 @@ writing-more old s named all more its = record {
 pub writing-keeps : (old : Ram) (s : Step) (named : ℕ → Bool) → IsWriting old named s → (p : ℕ) → named p ≡ false → page_of s.after p ≡ page_of s.before p
 writing-keeps old s named its p off = its.after.pages p off ∙ sym (its.before.pages p off)
 
-pub writing-below : (old : Ram) (s : Step) (named : ℕ → Bool) (end : ℕ) → ((p : ℕ) → p < end → named p ≡ false) → IsWriting old named s → KeepsBelow end s
-writing-below old s named end behind its p below = writing-keeps old s named its p (behind p below)
+pub writing-aside : (old : Ram) (s : Step) (named : ℕ → Bool) (first end : ℕ) → ((p : ℕ) → first ≤ p → p < end → named p ≡ false) → IsWriting old named s → KeepsPages first end s
+writing-aside old s named first end aside its p from below = writing-keeps old s named its p (aside p from below)

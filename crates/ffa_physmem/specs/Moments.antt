@@ -1,6 +1,6 @@
 -- SPDX-License-Identifier: MIT OR Apache-2.0
 -- What was written to RAM, step by step.
-use Rattle.std.specs.Prelude.{◌≡◌, ⊤, ◌⊎◌, ◌<◌, ℕ, Bool, true, false, List, [], ◌∷◌, length, Option, Some, None}
+use Rattle.std.specs.Prelude.{◌≡◌, ⊤, ◌⊎◌, ◌<◌, ◌≤◌, ℕ, Bool, true, false, List, [], ◌∷◌, length, Option, Some, None}
 use Rattle.ffa_model.specs.Lists.{is_in_run}
 use Rattle.ffa_model.specs.Ram.{Ram, page_of, with_page, with_word}
 
@@ -58,18 +58,18 @@ pub record IsWriting (old : Ram) (named : ℕ → Bool) (s : Step) : Type 0 wher
   pub before : IsBeside old s.before named
   pub after : IsBeside old s.after named
 
--- a step that leaves the pages below one as they are
-abbrev pub KeepsBelow : ℕ → Step → Type 0
-KeepsBelow end s = (p : ℕ) → p < end → page_of s.after p ≡ page_of s.before p
+-- a step that leaves the pages from one up to another as they are
+abbrev pub KeepsPages : ℕ → ℕ → Step → Type 0
+KeepsPages first end s = (p : ℕ) → first ≤ p → p < end → page_of s.after p ≡ page_of s.before p
 
 -- a step that settles a page in the tables of an endpoint
 abbrev pub Settles : ℕ → ℕ → Step → Type 0
 Settles e p s = (x : Settled) × (s.settled ≡ Some x) × (x.endpoint ≡ e) × (is_in_run x.first x.count p ≡ true)
 
--- of these steps, the last first, one settled a page of an endpoint, and none since then changed a page below this one
-abbrev pub IsSettledBy : ℕ → ℕ → ℕ → List Step → Type 0
-IsSettledBy end e p [] = ⊥
-IsSettledBy end e p (s ∷ earlier) = Settles e p s ⊎ (KeepsBelow end s × IsSettledBy end e p earlier)
+-- of these steps, the last first, one settled a page of an endpoint, and none since then changed a page from one up to another
+abbrev pub IsSettledBy : ℕ → ℕ → ℕ → ℕ → List Step → Type 0
+IsSettledBy first end e p [] = ⊥
+IsSettledBy first end e p (s ∷ earlier) = Settles e p s ⊎ (KeepsPages first end s × IsSettledBy first end e p earlier)
 
 -- pages are read at once, and are from here on what this one reading gave; or from here on they are again whatever others
 -- write to them. Others may have written to them before.

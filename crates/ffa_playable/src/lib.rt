@@ -6,6 +6,7 @@
 ghost use Rattle.std.specs.Prelude.{◌≡◌, ℕ, ◌+◌, ◌*◌, ◌^◌, ◌<◌, ◌≤◌, IfSome, IsTrue, Some, is_some, length};
 ghost use Rattle.ffa_model.specs.declared.limits.TheConstants.{MOST_ENDPOINTS, MOST_PROCESSORS};
 ghost use Rattle.ffa_model.specs.Access.{access};
+ghost use Rattle.ffa_model.specs.Agreement.{root};
 ghost use Rattle.ffa_model.specs.Certificate.{IsRun, certificate, run_from};
 ghost use Rattle.ffa_model.specs.Ram.{word_of};
 ghost use Rattle.ffa_model.specs.State.{Page, owner_of, page_at};
@@ -73,6 +74,11 @@ pub trait Playable: Drop {
     /// The number of RAM's pages.
     fn ram_pages(&self) -> u32
         ensures { result ≡ length (bench self.now).state.pages };
+
+    /// The address of the level 1 table of the endpoint at a place, from 0.
+    fn root_at(&self, place: usize) -> u32
+        requires { place < length (bench self.now).state.parties }
+        ensures { result ≡ root (bench self.now).state place };
 
     /// The owner of a page of the RAM; 0x8000 is the manager.
     fn owner_of(&self, page: PageNo) -> EndpointId

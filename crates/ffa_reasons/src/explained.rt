@@ -58,6 +58,10 @@ impl<M: PhysMem + Drop, T: Translations + Drop, S: Store> Playable for Explained
         self.0.ram().pages()
     }
 
+    fn root_at(&self, place: usize) -> u32 {
+        self.0.root_at(place)
+    }
+
     fn owner_of(&self, page: PageNo) -> EndpointId {
         self.0.owner_of(page)
     }

@@ -114,6 +114,10 @@ impl<M: PhysMem + Drop, T: Translations + Drop, S: Store> Playable for Explained
         self.cluster.machine().ram().pages()
     }
 
+    fn root_at(&self, place: usize) -> u32 {
+        self.cluster.machine().root_at(place)
+    }
+
     fn owner_of(&self, page: PageNo) -> EndpointId {
         self.cluster.machine().owner_of(page)
     }

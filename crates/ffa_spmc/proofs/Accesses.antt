@@ -30,13 +30,13 @@ use Rattle.ffa_laws.proofs.ElsewhereLaws.{sound-elsewhere}
 use Rattle.ffa_walker.specs.Offset.{KeepsOffset}
 use Rattle.ffa_walker.proofs.Offsets.{KeepsOffset-walk}
 use Rattle.ffa_physmem.specs.Moments.{IsWriting, Only, Step, TurnsIn}
-use Rattle.ffa_stage2.specs.Tables.{table_page}
+use Rattle.ffa_stage2.specs.Tables.{IsAside}
 use Rattle.ffa_spmc.specs.Moments.{AreMoments}
 use Rattle.ffa_spmc.specs.Meaning.{HasTables, IsManager, Parts, access_by_place, state_of}
 use Rattle.ffa_spmc.specs.Walks.{walk_of}
 use Rattle.ffa_spmc.specs.Managed.{Managed}
 use Rattle.ffa_spmc.specs.Unowned.{KeepsUnowned}
-use Rattle.ffa_spmc.proofs.Held.{base_is, owned-behind, size_is}
+use Rattle.ffa_spmc.proofs.Held.{base_is, owned-aside, size_is}
 use Rattle.ffa_spmc.proofs.Agreements.{agrees}
 use Rattle.ffa_spmc.proofs.Machines.{StillHasTables, tables-same, tables-written}
 use Rattle.ffa_spmc.proofs.Moments.{beside-moments}
@@ -92,7 +92,7 @@ module _ (x : Parts) (machine : IsManager x) (e : ℕ) (there : is_known (state_
   aligned : s.ram_base % 4096 ≡ 0
   aligned =
       let base : s.ram_base ≡ x.manifest.ram_base.0 = base_is x in
-      let place = (accepted x.manifest.ram_base.0 x.manifest.ram_blocks x.manifest.endpoints.items x.manifest.accepted).aligned in
+      let place = (accepted x.manifest.ram_base.0 x.manifest.tables.0 x.manifest.ram_blocks x.manifest.endpoints.items x.manifest.accepted).aligned in
       omega (arith, base, place)
 
   -- its access over the walk ends where the state's does
@@ -162,17 +162,17 @@ module _ (x : Parts) (machine : IsManager x) (e : ℕ) (there : is_known (state_
         ),
       )
 
-  -- a store ends in a page behind the tables
-  behind-reached : (address physical : ℕ) (o : Option FaultKind) (n : ℕ) → fault_of (address % n == 0) (access_at s e address) may_store ≡ o → reached o address ≡ Ok physical
-      → table_page x.manifest.ram_blocks (length x.manifest.endpoints.items) 0 ≤ page_index x.ram physical
-  behind-reached address physical (Some fault) n is at = absurd (ok-no-err (sym at))
-  behind-reached address physical None n is at =
+  -- a store ends in no page of the tables
+  aside-reached : (address physical : ℕ) (o : Option FaultKind) (n : ℕ) → fault_of (address % n == 0) (access_at s e address) may_store ≡ o → reached o address ≡ Ok physical
+      → IsAside (length x.manifest.endpoints.items) x.manifest.tables.0 x.manifest.ram_blocks (page_index x.ram physical)
+  aside-reached address physical (Some fault) n is at = absurd (ok-no-err (sym at))
+  aside-reached address physical None n is at =
       let (r, right) = right-of (address % n == 0) (access_at s e address) may_store is in
       let p = placed s e address r right in
       let base : s.ram_base ≡ x.ram.base = base_is x ∙ sym machine.tables.base in
       let number : (address - s.ram_base) / 4096 ≡ (address - x.ram.base) / 4096 = omega (arith, base) in
       let stands : page_at s ((address - x.ram.base) / 4096) ≡ Some p.page = ap (page_at s) (sym number) ∙ p.there in
-      subst (λ (a : ℕ). table_page x.manifest.ram_blocks (length x.manifest.endpoints.items) 0 ≤ page_index x.ram a) (ok-same at) (owned-behind x machine ((address - x.ram.base) / 4096) p.page stands)
+      subst (λ (a : ℕ). IsAside (length x.manifest.endpoints.items) x.manifest.tables.0 x.manifest.ram_blocks (page_index x.ram a)) (ok-same at) (owned-aside x machine ((address - x.ram.base) / 4096) p.page stands)
 
   stored-reached : (address : ℕ) (size : Size) (value : ℕ)
       → ram_after_store x.ram own_root address (size_of size) value
@@ -273,8 +273,8 @@ module _ (x : Parts) (machine : IsManager x) (e : ℕ) (there : is_known (state_
           subst (λ (seen : Managed). AreMoments seen.state seen.ram new seen.past later) view
           (beside-moments x machine new (tables-stored new wrote) turns only (λ _ st (physical, is, writing). (
             λ p. p == page_index x.ram physical,
-            λ p same. subst (λ (q : ℕ). table_page x.manifest.ram_blocks (length x.manifest.endpoints.items) 0 ≤ q) (sym (eqb-true p (page_index x.ram physical) same))
-                (behind-reached address physical (fault_of (address % size_of size == 0) (access_at s e address) may_store) (size_of size) refl
+            λ p same. subst (IsAside (length x.manifest.endpoints.items) x.manifest.tables.0 x.manifest.ram_blocks) (sym (eqb-true p (page_index x.ram physical) same))
+                (aside-reached address physical (fault_of (address % size_of size == 0) (access_at s e address) may_store) (size_of size) refl
                 (sym (own-reach address (size_of size) may_store_to may_store (λ r. refl)) ∙ ap (λ (w : Answer). reach_by x.ram w address (size_of size) may_store_to) (sym walked-is) ∙ is)),
             writing,
           )))

@@ -23,11 +23,11 @@ module _ (x : Parts) (machine : IsManager x) where
   abbrev s : State
   s = state_of x
 
-  pub root-is : (i : ℕ) → root s i ≡ root_of x.ram.base x.manifest.ram_blocks i
+  pub root-is : (i : ℕ) → root s i ≡ root_of x.ram.base x.manifest.tables.0 x.manifest.ram_blocks i
   root-is i =
       let many : length s.pages ≡ 512 * x.manifest.ram_blocks = size_is x ∙ machine.tables.size in
       let blocks : blocks_of s ≡ x.manifest.ram_blocks = omega (arith, many) in
-      ap (λ (b : ℕ). root_of s.ram_base b i) blocks ∙ ap (λ (base : ℕ). root_of base x.manifest.ram_blocks i) (base_is x ∙ sym machine.tables.base)
+      ap (λ (b : ℕ). root_of s.ram_base s.tables b i) blocks ∙ ap (λ (base : ℕ). root_of base x.manifest.tables.0 x.manifest.ram_blocks i) (base_is x ∙ sym machine.tables.base)
 
   pub access_at-is : (i address : ℕ) → address < 2 ^ 32
       → access_at s (identifier i) address ≡ cond (is_in_ram x.ram address) (access s (identifier i) ((address - x.ram.base) / 4096)) None
@@ -75,7 +75,7 @@ module _ (x : Parts) (machine : IsManager x) where
         size = sym (size_is x);
         walks = λ i address lt low.
             ap (λ (r : ℕ). walk x.ram r address) (root-is i)
-            ∙ machine.laws.walk x.ram (length x.manifest.endpoints.items) x.manifest.ram_blocks (access_by_place s) machine.tables.built i address (subst (λ (n : ℕ). i < n) (parties_are x) lt) low
+            ∙ machine.laws.walk x.ram (length x.manifest.endpoints.items) x.manifest.tables.0 x.manifest.ram_blocks (access_by_place s) machine.tables.built i address (subst (λ (n : ℕ). i < n) (parties_are x) lt) low
             ∙ ap (λ (o : Option Rights). mapped_answer o address) (sym (access_at-is i address low));
         bytes = bytes-are;
       }

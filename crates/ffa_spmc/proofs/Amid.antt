@@ -3,11 +3,9 @@
 use Rattle.std.proofs.Common.{◌≡◌, ◌∙◌, ℕ, ◌+◌, ◌-◌, ◌*◌, ◌/◌, ◌%◌, ◌^◌, ◌<◌, ◌≤◌, true, false, cond, refl, ap, sym, subst, arith, List, ◌∷◌, length, Option, Some, None, Ok, Err, inl, inr, ◌⊎◌, is_some}
 use Rattle.std.specs.Prelude.{is_ok, nat_le, nat_lt, ◌&&◌}
 use Rattle.std.specs.Option.{option_and_then}
-use Rattle.std.proofs.lemmas.Bool.{cases_lt, false≢true}
+use Rattle.std.proofs.lemmas.Bool.{cases_lt, false≢true, leb-true}
 use Rattle.std.proofs.lemmas.Bool.Decides.{nat_tests}
-use Rattle.std.proofs.Math.Nat.{mul-le-mul_right}
 use Rattle.ffa_model.specs.declared.leaf.Leaf.{Leaf}
-use Rattle.ffa_model.specs.declared.limits.TheConstants.{MOST_ENDPOINTS}
 use Rattle.ffa_model.specs.declared.rights.Rights.{Rights}
 use Rattle.ffa_model.specs.Access.{access, right_of, transaction_at}
 use Rattle.ffa_model.specs.Agreement.{Agrees, blocks_of}
@@ -16,7 +14,7 @@ use Rattle.ffa_model.specs.Manifest.{root_of, table_pages}
 use Rattle.ffa_model.specs.Memory.{access_at}
 use Rattle.ffa_model.specs.Ram.{Ram}
 use Rattle.ffa_model.specs.SoundState.{IsSoundState}
-use Rattle.ffa_model.specs.State.{State, Page}
+use Rattle.ffa_model.specs.State.{State, Page, page_at as page_of_state}
 use Rattle.ffa_model.specs.Walk.{Answer, mapped_answer, walk}
 use Rattle.ffa_physmem.specs.Moments.{Adds, AreInTurn, Only, Step, TurnsIn}
 use Rattle.ffa_physmem.proofs.Moments.{Adds-none, Only-both, Only-each, Only-map}
@@ -25,52 +23,53 @@ use Rattle.ffa_stage2.specs.Held.{HeldBetween}
 use Rattle.ffa_stage2.specs.Mixtures.{IsMixture, MixedBetween, MixturesBetween, page_at}
 use Rattle.ffa_stage2.specs.Moments.{walk_at}
 use Rattle.ffa_stage2.specs.Rest.{RestIn}
-use Rattle.ffa_stage2.specs.Tables.{HasRoom, table_page}
+use Rattle.ffa_stage2.specs.Tables.{HasRoom, IsAside}
 use Rattle.ffa_stage2.proofs.Amid.{Along, Leads, LeadsBehind, along-amid, between-amid, leads-mixed, mixed-rest, mixtures-rest, rest-amid, walks-amid}
 use Rattle.ffa_stage2.proofs.Kept.{HasRoom-kept}
 use Rattle.ffa_stage2.proofs.Rest.{Only-turn, held-mixed}
 use Rattle.ffa_spmc.specs.Amid.{EndsAmid, StandsAmid, StaysAmid}
-use Rattle.ffa_spmc.specs.Unowned.{OwnsNoTables, pages_of_tables}
+use Rattle.ffa_spmc.specs.Unowned.{IsNoTable, OwnsNoTables}
+use Rattle.ffa_spmc.proofs.Besides.{placement}
 
 -- a walk gives the access
-pub seen : (x : State) (ram : Ram) (b e a : ℕ) → Agrees ram x → blocks_of x ≡ b → e < length x.parties → a < 2 ^ 32 → walk_at ram b e a ≡ mapped_answer (access_at x (identifier e) a) a
-seen x ram b e a agrees blocks he ha =
-    ap (λ (c : ℕ). walk ram (root_of c b e) a) agrees.place ∙ ap (λ (k : ℕ). walk ram (root_of x.ram_base k e) a) (sym blocks) ∙ agrees.walks e a he ha
+pub seen : (x : State) (ram : Ram) (tables b e a : ℕ) → Agrees ram x → x.tables ≡ tables → blocks_of x ≡ b → e < length x.parties → a < 2 ^ 32
+    → walk_at ram tables b e a ≡ mapped_answer (access_at x (identifier e) a) a
+seen x ram tables b e a agrees place blocks he ha =
+    ap (λ (c : ℕ). walk ram (root_of c tables b e) a) agrees.place ∙ ap (λ (t : ℕ). walk ram (root_of x.ram_base t b e) a) (sym place)
+    ∙ ap (λ (k : ℕ). walk ram (root_of x.ram_base x.tables k e) a) (sym blocks) ∙ agrees.walks e a he ha
 
 -- what may be held is the answer of a walk in a mixture
-pub held-between : (old new ram : Ram) (n b : ℕ) (h : List Step) → AreInTurn h ram → MixturesBetween old new n b h ram → HeldBetween old new n b h ram
-held-between old new ram n b h turn between a answer ha held =
+pub held-between : (old new ram : Ram) (n tables b : ℕ) (h : List Step) → AreInTurn h ram → MixturesBetween old new n tables b h ram → HeldBetween old new n tables b h ram
+held-between old new ram n tables b h turn between a answer ha held =
     elim (between a (λ e. (pick e).0) ha (λ e he. ((pick e).1 he).0)) [
       | inl each ↦ inl (λ e he. elim (each e he) [ inl is ↦ inl (((pick e).1 he).1 ∙ is) | inr none ↦ inr (((pick e).1 he).1 ∙ none) ])
       | inr each ↦ inr (λ e he. elim (each e he) [ inl is ↦ inl (((pick e).1 he).1 ∙ is) | inr none ↦ inr (((pick e).1 he).1 ∙ none) ])
     ]
   where
-    pick : (e : ℕ) → (m : Ram) × (e < n → IsMixture b e (page_at ram a) h ram m × (answer e ≡ walk_at m b e a))
+    pick : (e : ℕ) → (m : Ram) × (e < n → IsMixture tables b e (page_at ram a) h ram m × (answer e ≡ walk_at m tables b e a))
     pick e = elim (cases_lt e n) [
-      | inl lt ↦ let (m, mix, is) = held-mixed b e (page_at ram a) a h ram (answer e) turn (held e lt) in (m, λ _. (mix, is))
+      | inl lt ↦ let (m, mix, is) = held-mixed tables b e (page_at ram a) a h ram (answer e) turn (held e lt) in (m, λ _. (mix, is))
       | inr out ↦ (ram, λ lt. absurd (omega (arith, out, lt)))
     ]
 
 -- the tables of a sound state have room
-pub room-of : (s : State) (ram : Ram) → IsSoundState s → Agrees ram s → HasRoom ram (length s.parties) (blocks_of s)
+pub room-of : (s : State) (ram : Ram) → IsSoundState s → Agrees ram s → HasRoom ram (length s.parties) s.tables (blocks_of s)
 room-of s ram sound agrees =
-    let (k, size, some, few) = sound.sized.blocks in
+    let (k, size, some, few, has) = sound.sized.blocks in
     let blocks : blocks_of s ≡ k = omega (arith, size) in
     let place : ram.base ≡ s.ram_base = agrees.place in
-    let most : length s.parties ≤ MOST_ENDPOINTS = sound.sized.few in
     let ok = sound.sized.base in
     let aligned : s.ram_base % 0x200000 ≡ 0 = grind (arith, nat_tests, ok) in
     let high : s.ram_base + 4096 * length s.pages ≤ 2 ^ 32 = sound.sized.within in
     let one : s.ram_base % 2 ^ 30 + 4096 * length s.pages ≤ 2 ^ 30 = sound.sized.one_table in
     let same_one : ram.base % 2 ^ 30 ≡ s.ram_base % 2 ^ 30 = ap (λ (c : ℕ). c % 2 ^ 30) place in
-    let rows : length s.parties * (2 + k) ≤ MOST_ENDPOINTS * (2 + k) = mul-le-mul_right (2 + k) most in
     record {
       place = subst (λ (c : ℕ). c % 0x200000 ≡ 0) (sym place) aligned;
       one_table = omega (arith, blocks, size, same_one, one);
       few = omega (arith, blocks, few);
       within = omega (arith, blocks, size, place, high);
       size = agrees.size ∙ size ∙ ap (λ (x : ℕ). 512 * x) (sym blocks);
-      room = subst (λ (x : ℕ). length s.parties * table_pages x ≤ 512 * x) (sym blocks) (omega (arith, rows, some));
+      room = subst (λ (x : ℕ). s.tables + length s.parties * table_pages x ≤ 512 * x) (sym blocks) (leb-true (s.tables + length s.parties * table_pages k) (512 * k) has);
     }
 
 phys_of : Answer → ℕ
@@ -83,96 +82,102 @@ unfolding mapped_answer phys_of
 leaf-of None a leaf is = absurd (false≢true (ap (λ (x : Answer). is_ok x) is))
 leaf-of (Some r) a leaf is = (refl, sym (ap phys_of is))
 
--- a walk leads to pages behind the tables alone
-leaf-behind : (x : State) (ram : Ram) (e a : ℕ) (leaf : Leaf) → Agrees ram x → OwnsNoTables x → e < length x.parties → a < 2 ^ 32 → walk_at ram (blocks_of x) e a ≡ Ok leaf
-    → pages_of_tables x ≤ (leaf.phys - x.ram_base) / 4096
-leaf-behind x ram e a leaf agrees none he ha leads =
-    let (some, at) = leaf-of (access_at x (identifier e) a) a leaf (sym (seen x ram (blocks_of x) e a agrees refl he ha) ∙ leads) in
-    subst (λ (c : ℕ). pages_of_tables x ≤ (c - x.ram_base) / 4096) (sym at)
+-- a walk leads to no page of the tables
+leaf-aside : (x : State) (ram : Ram) (e a : ℕ) (leaf : Leaf) → Agrees ram x → OwnsNoTables x → e < length x.parties → a < 2 ^ 32 → walk_at ram x.tables (blocks_of x) e a ≡ Ok leaf
+    → IsNoTable x ((leaf.phys - x.ram_base) / 4096)
+leaf-aside x ram e a leaf agrees none he ha leads =
+    let (some, at) = leaf-of (access_at x (identifier e) a) a leaf (sym (seen x ram x.tables (blocks_of x) e a agrees refl refl he ha) ∙ leads) in
+    subst (λ (c : ℕ). IsNoTable x ((c - x.ram_base) / 4096)) (sym at)
     (elim (nat_le x.ram_base a && nat_lt a (2 ^ 32)) as (λ c. is_some (option_and_then (access x (identifier e)) (cond c (Some ((a - x.ram_base) / 4096)) None)) ≡ true
-    → pages_of_tables x ≤ (a - x.ram_base) / 4096) [
+    → IsNoTable x ((a - x.ram_base) / 4096)) [
       | true ↦ of ((a - x.ram_base) / 4096)
       | false ↦ λ no. absurd (false≢true no)
     ] some)
   where
-    of : (q : ℕ) → is_some (access x (identifier e) q) ≡ true → pages_of_tables x ≤ q
-    of q some = elim (cases_lt q (pages_of_tables x)) [
-      | inl low ↦ absurd (false≢true (sym (ap (λ (o : Option Page). is_some (right_of (identifier e) o (transaction_at x q))) (none q low)) ∙ some))
-      | inr far ↦ far
-    ]
+    by : (q : ℕ) (o : Option Page) → page_of_state x q ≡ o → is_some (right_of (identifier e) o (transaction_at x q)) ≡ true → IsNoTable x q
+    by q None is some = absurd (false≢true some)
+    by q (Some page) is some = none q page is
 
-module _ (s t : State) (old new : Ram) (was : Agrees old s) (is : Agrees new t) (parties : length t.parties ≡ length s.parties) (base : t.ram_base ≡ s.ram_base)
+    of : (q : ℕ) → is_some (access x (identifier e) q) ≡ true → IsNoTable x q
+    of q some = by q (page_of_state x q) refl some
+
+module _ (s t : State) (old new : Ram) (was : Agrees old s) (is : Agrees new t) (parties : length t.parties ≡ length s.parties) (placed : placement t ≡ placement s)
     (size : length t.pages ≡ length s.pages) (sound : IsSoundState s) (none : OwnsNoTables s) (none' : OwnsNoTables t) (past later : Option (List Step)) (turns : TurnsIn new later)
-    (rest : RestIn old (length s.parties) (blocks_of s) past) (rest' : RestIn new (length s.parties) (blocks_of s) later)
-    (mixed : Only past later (λ h step. MixedBetween old new (length s.parties) (blocks_of s) (step ∷ h) step.after))
-    (between : Only past later (λ h step. MixturesBetween old new (length s.parties) (blocks_of s) (step ∷ h) step.after)) where
+    (rest : RestIn old (length s.parties) s.tables (blocks_of s) past) (rest' : RestIn new (length s.parties) s.tables (blocks_of s) later)
+    (mixed : Only past later (λ h step. MixedBetween old new (length s.parties) s.tables (blocks_of s) (step ∷ h) step.after))
+    (between : Only past later (λ h step. MixturesBetween old new (length s.parties) s.tables (blocks_of s) (step ∷ h) step.after)) where
   abbrev n : ℕ
   n = length s.parties
+
+  abbrev tables : ℕ
+  tables = s.tables
 
   abbrev b : ℕ
   b = blocks_of s
 
-  room : HasRoom old n b
+  base : t.ram_base ≡ s.ram_base
+  base = ap (λ (at : ℕ × ℕ). at.0) placed
+
+  place : t.tables ≡ s.tables
+  place = ap (λ (at : ℕ × ℕ). at.1) placed
+
+  room : HasRoom old n tables b
   room = room-of s old sound was
 
   stays : new.base ≡ old.base
   stays = is.place ∙ base ∙ sym was.place
 
-  room' : HasRoom new n b
-  room' = HasRoom-kept old new n b room stays (is.size ∙ size ∙ sym was.size)
+  room' : HasRoom new n tables b
+  room' = HasRoom-kept old new n tables b room stays (is.size ∙ size ∙ sym was.size)
 
-  far : (e a : ℕ) (leaf : Leaf) → e < n → a < 2 ^ 32 → (walk_at old b e a ≡ Ok leaf) ⊎ (walk_at new b e a ≡ Ok leaf) → table_page b n 0 ≤ page_at old leaf.phys
-  far e a leaf he ha (inl led) =
-      subst (λ (c : ℕ). table_page b n 0 ≤ (leaf.phys - c) / 4096) (sym was.place)
-      (let low = leaf-behind s old e a leaf was none he ha led in omega (arith, low))
+  far : (e a : ℕ) (leaf : Leaf) → e < n → a < 2 ^ 32 → (walk_at old tables b e a ≡ Ok leaf) ⊎ (walk_at new tables b e a ≡ Ok leaf) → IsAside n tables b (page_at old leaf.phys)
+  far e a leaf he ha (inl led) = subst (λ (c : ℕ). IsAside n tables b ((leaf.phys - c) / 4096)) (sym was.place) (leaf-aside s old e a leaf was none he ha led)
   far e a leaf he ha (inr led) =
-      subst (λ (c : ℕ). table_page b n 0 ≤ (leaf.phys - c) / 4096) (sym was.place)
-      (let low = leaf-behind t new e a leaf is none' (subst (λ (k : ℕ). e < k) (sym parties) he) ha (ap (λ (k : ℕ). walk_at new (k / 512) e a) size ∙ led) in
-      let tables : pages_of_tables t ≡ pages_of_tables s = (λ i. parties i * table_pages (size i / 512)) in
-      let here : pages_of_tables s ≤ (leaf.phys - s.ram_base) / 4096 = subst (λ (c : ℕ). pages_of_tables s ≤ (leaf.phys - c) / 4096) base (subst (λ (k : ℕ). k ≤ (leaf.phys - t.ram_base) / 4096) tables low) in
-      omega (arith, here))
+      let there = leaf-aside t new e a leaf is none' (subst (λ (k : ℕ). e < k) (sym parties) he) ha ((λ i. walk_at new (place i) (size i / 512) e a) ∙ led) in
+      subst (λ (c : ℕ). IsAside n tables b ((leaf.phys - c) / 4096)) (base ∙ sym was.place)
+      (subst (λ z. z) (λ i. IsAside (parties i) (place i) (size i / 512) ((leaf.phys - t.ram_base) / 4096)) there)
 
   abbrev Leading : List Step → Step → Type 0
-  Leading h step = LeadsBehind old new n b h step
+  Leading h step = LeadsBehind old new n tables b h step
 
   leading : Only past later Leading
   leading = Only-map (Only-turn new turns (Only-both mixed between)) (λ h step its.
       let (turn, both) = its in
-      (turn, leads-mixed old new step.after n b (step ∷ h) turn both.0, both.1))
+      (turn, leads-mixed old new step.after n tables b (step ∷ h) turn both.0, both.1))
 
-  module _ (g : List Step) (there : past ≡ Some g) (alone memory : Moment) (written : List ℕ) (amid : Amid n b (record { history = g; ram = old }) alone memory written) where
-    first-leads : Leads old new n b g old
-    first-leads = leads-mixed old new old n b g (rest g there).turn (mixed-rest old new n b g room stays (rest g there))
+  module _ (g : List Step) (there : past ≡ Some g) (alone memory : Moment) (written : List ℕ) (amid : Amid n tables b (record { history = g; ram = old }) alone memory written) where
+    first-leads : Leads old new n tables b g old
+    first-leads = leads-mixed old new old n tables b g (rest g there).turn (mixed-rest old new n tables b g room stays (rest g there))
 
-    first-between : MixturesBetween old new n b g old
-    first-between = mixtures-rest old new n b g room (rest g there)
+    first-between : MixturesBetween old new n tables b g old
+    first-between = mixtures-rest old new n tables b g room (rest g there)
 
-    along : Adds past Leading alone.history → Along old new n b g (rest g there).begun (rest g there).turn first-leads first-between far alone memory written
+    along : Adds past Leading alone.history → Along old new n tables b g (rest g there).begun (rest g there).turn first-leads first-between far alone memory written
     along adds =
-        along-amid old new n b g (rest g there).begun (rest g there).turn first-leads first-between far alone memory written amid
+        along-amid old new n tables b g (rest g there).begun (rest g there).turn first-leads first-between far alone memory written amid
         (subst (λ (o : Option (List Step)). Adds o Leading alone.history) there adds)
 
-    walks-now : Adds past Leading alone.history → MixturesBetween old new n b memory.history memory.ram
-    walks-now adds = between-amid old new n b g (rest g there).begun (rest g there).turn first-leads first-between far alone memory written (along adds)
+    walks-now : Adds past Leading alone.history → MixturesBetween old new n tables b memory.history memory.ram
+    walks-now adds = between-amid old new n tables b g (rest g there).begun (rest g there).turn first-leads first-between far alone memory written (along adds)
 
-    stands-now : Adds past Leading alone.history → StandsAmid old new n b alone memory written
+    stands-now : Adds past Leading alone.history → StandsAmid old new n tables b alone memory written
     stands-now adds = record {
       theirs = (along adds).theirs;
       beside = (along adds).beside;
       bytes = (along adds).bytes;
       walks = walks-now adds;
-      held = held-between old new memory.ram n b memory.history (along adds).follow (walks-now adds);
+      held = held-between old new memory.ram n tables b memory.history (along adds).follow (walks-now adds);
     }
 
   module _ (g h : List Step) (there : past ≡ Some g) (last : later ≡ Some h) (memory : Moment) (written : List ℕ)
-      (amid : Amid n b (record { history = g; ram = old }) (record { history = h; ram = new }) memory written) where
-    ends-now : EndsAmid new n b memory
+      (amid : Amid n tables b (record { history = g; ram = old }) (record { history = h; ram = new }) memory written) where
+    ends-now : EndsAmid new n tables b memory
     ends-now =
         let along = along g there (record { history = h; ram = new }) memory written amid (leading.each h last) in
         record {
-          walks = walks-amid old new n b g (rest g there).begun (rest g there).turn (first-leads g there (record { history = h; ram = new }) memory written amid)
+          walks = walks-amid old new n tables b g (rest g there).begun (rest g there).turn (first-leads g there (record { history = h; ram = new }) memory written amid)
               (first-between g there (record { history = h; ram = new }) memory written amid) far room' h memory written (rest' h last) along;
-          rest = rest-amid old new n b g (rest g there).begun (rest g there).turn (first-leads g there (record { history = h; ram = new }) memory written amid)
+          rest = rest-amid old new n tables b g (rest g there).begun (rest g there).turn (first-leads g there (record { history = h; ram = new }) memory written amid)
               (first-between g there (record { history = h; ram = new }) memory written amid) far room' h memory written (rest' h last) along;
         }
 

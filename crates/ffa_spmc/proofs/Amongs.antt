@@ -10,12 +10,12 @@ use Rattle.ffa_model.specs.Step.{step}
 use Rattle.ffa_spmc.specs.declared.run.Run.{Run}
 use Rattle.ffa_spmc.specs.Among.{IsRead, is_in}
 use Rattle.ffa_spmc.specs.Snapshot.{Snapshot}
-use Rattle.ffa_spmc.specs.Unowned.{KeepsUnowned, pages_of_tables}
+use Rattle.ffa_spmc.specs.Unowned.{IsNoTable, KeepsUnowned}
 use Rattle.ffa_spmc.proofs.Besides.{beside-page, beside-tables}
-use Rattle.ffa_spmc.proofs.Sizes.{pages-step, tables-step}
+use Rattle.ffa_spmc.proofs.Sizes.{pages-step, tables-kept}
 
 module _ (run : Run) (old seen left : Snapshot) (op : Op) (read : IsRead run true old seen) (state : left.state ≡ (step seen.state op).state) (agrees : Agrees left.ram left.state) where
-  -- the pages that were read are pages still, behind the tables
+  -- the pages that were read are pages still, and none of the tables'
   pub left-within : run.first.0 + run.count ≤ length old.ram.pages → run.first.0 + run.count ≤ length left.ram.pages
   left-within within =
       let same : length left.ram.pages ≡ length old.ram.pages =
@@ -23,19 +23,16 @@ module _ (run : Run) (old seen left : Snapshot) (op : Op) (read : IsRead run tru
       in
       omega (arith, within, same)
 
-  pub left-behind : pages_of_tables old.state ≤ run.first.0 → pages_of_tables left.state ≤ run.first.0
-  left-behind behind =
-      let same : pages_of_tables left.state ≡ pages_of_tables old.state =
-      ap pages_of_tables state ∙ tables-step seen.state op ∙ beside-tables old.state seen.state (is_in run) read.state
-      in
-      omega (arith, behind, same)
+  pub left-aside : (p : ℕ) → IsNoTable old.state p → IsNoTable left.state p
+  left-aside p aside =
+      subst (λ (s : State). IsNoTable s p) (sym state)
+      (tables-kept seen.state op p (beside-tables old.state seen.state (is_in run) read.state p aside))
 
   -- pages that nobody owns keep their bytes
   pub among-unowned : (new : Snapshot) → IsRead run false left new → KeepsUnowned seen.state seen.ram left.ram
       → ((p : ℕ) → is_in run p ≡ true → IsSome (page_at old.state p)) → KeepsUnowned old.state old.ram new.ram
-  among-unowned new ended unowned owned p behind none =
+  among-unowned new ended unowned owned p aside none =
       let off : is_in run p ≡ false = false_from_ne_true (is_in run p) (λ at. false≢true (subst (λ (o : Option Page). IsSome o) none (owned p at))) in
-      let tables = beside-tables old.state seen.state (is_in run) read.state in
       ended.ram.pages p off
-      ∙ unowned p (omega (arith, behind, tables)) (beside-page old.state seen.state (is_in run) read.state p off ∙ none)
+      ∙ unowned p (beside-tables old.state seen.state (is_in run) read.state p aside) (beside-page old.state seen.state (is_in run) read.state p off ∙ none)
       ∙ read.ram.pages p off

@@ -1,14 +1,18 @@
 -- SPDX-License-Identifier: MIT OR Apache-2.0
 -- Two states that differ in bytes of pages alone.
-use Rattle.std.proofs.Common.{◌≡◌, ◌∙◌, ℕ, ◌/◌, ◌*◌, Bool, true, false, length, sym, ap}
+use Rattle.std.proofs.Common.{◌≡◌, ◌∙◌, ℕ, ◌/◌, Bool, true, false, length, sym, ap, subst}
 use Rattle.ffa_model.specs.Access.{access}
-use Rattle.ffa_model.specs.Manifest.{table_pages}
 use Rattle.ffa_model.specs.State.{State, is_known, page_at}
 use Rattle.ffa_model.proofs.Accesses.{length-map_at}
 use Rattle.ffa_laws.specs.Readable.{blank_where}
 use Rattle.ffa_laws.specs.Reads.{AreBeside}
 use Rattle.ffa_laws.proofs.Blanks.{access-b, page-b}
-use Rattle.ffa_spmc.specs.Unowned.{pages_of_tables}
+use Rattle.ffa_spmc.specs.Unowned.{IsNoTable}
+use Rattle.ffa_stage2.specs.Tables.{IsAside}
+
+-- where RAM begins, and the tables
+abbrev pub placement : State → ℕ × ℕ
+placement s = (s.ram_base, s.tables)
 
 module _ (s t : State) (named : ℕ → Bool) (beside : AreBeside s t named) where
   pub beside-base : t.ram_base ≡ s.ram_base
@@ -25,10 +29,13 @@ module _ (s t : State) (named : ℕ → Bool) (beside : AreBeside s t named) whe
       sym (length-map_at (λ p page. blank_where (named p) page) t.pages) ∙ ap (λ (u : State). length u.pages) (sym beside.same)
       ∙ length-map_at (λ p page. blank_where (named p) page) s.pages
 
-  pub beside-tables : pages_of_tables t ≡ pages_of_tables s
-  beside-tables =
-      ap (λ (u : State). length u.parties * table_pages (length t.pages / 512)) (sym beside.same)
-      ∙ ap (λ (n : ℕ). length s.parties * table_pages (n / 512)) beside-size
+  -- where RAM and the tables begin
+  pub beside-placed : placement t ≡ placement s
+  beside-placed = ap placement (sym beside.same)
+
+  pub beside-tables : (p : ℕ) → IsNoTable s p → IsNoTable t p
+  beside-tables p aside =
+      subst (λ z. z) (λ i. IsAside (length (beside.same i).parties) (beside.same i).tables (sym beside-size i / 512) p) aside
 
   -- a page that isn't named
   pub beside-page : (p : ℕ) → named p ≡ false → page_at t p ≡ page_at s p

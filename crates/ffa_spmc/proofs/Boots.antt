@@ -16,7 +16,6 @@ use Rattle.ffa_model.specs.declared.endpoint.Region.{Region}
 use Rattle.ffa_model.specs.declared.rights.Rights.{Rights}
 use Rattle.ffa_model.specs.declared.manifest.Manifest.{Manifest}
 use Rattle.ffa_model.specs.Lists.{listed}
-use Rattle.ffa_model.specs.Manifest.{table_pages}
 use Rattle.ffa_model.specs.Ram.{Ram, page_of, zero_ram}
 use Rattle.ffa_model.specs.Regions.{normal_of, has_page, owned_regions, regions_at, regions_of_each, right_in as right_among}
 use Rattle.ffa_model.specs.State.{State, Page, page_at}
@@ -24,13 +23,13 @@ use Rattle.ffa_model.specs.First.{first, first_held, has_first_bitmaps, page_wit
 use Rattle.ffa_model.specs.RunStates.{first_schedule}
 use Rattle.ffa_model.proofs.Accepted.{accepted}
 use Rattle.ffa_model.proofs.Listed.{get_or-listed, get_or-listed_past, length-listed, listed-same}
-use Rattle.ffa_model.proofs.Owners.{given-bytes, given-same, none-managers, owned-behind}
+use Rattle.ffa_model.proofs.Owners.{given-bytes, given-same, none-managers, owned-aside}
 use Rattle.ffa_model.proofs.FirstSound.{zeros-bytes}
 use Rattle.ffa_model.proofs.Slots.{entries_in}
 use Rattle.ffa_stage2.specs.declared.layout.Layout.{Layout}
 use Rattle.ffa_stage2.specs.declared.layout.Regions.{Regions}
 use Rattle.ffa_stage2.specs.Layout.{normal_in, regions_in, layout_right}
-use Rattle.ffa_stage2.specs.Tables.{IsBuilt, KeepsRest, TableLaws, table_page}
+use Rattle.ffa_stage2.specs.Tables.{IsAside, IsBuilt, KeepsRest, TableLaws, table_page}
 use Rattle.ffa_stage2.proofs.Rights.{built-same}
 use Rattle.ffa_pages.specs.Entry.{Entry, entry_at, first_entry, slot_at}
 use Rattle.ffa_memshare.specs.Stored.{map_in, pool_slot}
@@ -41,24 +40,28 @@ use Rattle.ffa_model.specs.Uuid.{is_uuid}
 use Rattle.ffa_laws.proofs.Firsts.{first-held-sound}
 use Rattle.ffa_spmc.specs.Booted.{IsBooted, IsBootedHeld}
 use Rattle.ffa_spmc.specs.Readied.{IsReadyFor, first_owner}
+use Rattle.ffa_spmc.specs.Unowned.{IsNoTable}
 use Rattle.ffa_model.specs.Identifiers.{manager}
 use Rattle.ffa_spmc.specs.Meaning.{AreOpenTransactions, AreOwners, HasTables, IsManager, Parts, access_by_place, held_page, slot_names, state_of}
-use Rattle.ffa_spmc.proofs.Held.{access-first, page-at, page-held, parties_are}
+use Rattle.ffa_spmc.proofs.Held.{access-first, by-manifest, page-at, page-held}
 
 regions-each : (es : List Endpoint) (i : ℕ) → get_or (regions_of_each es) i [] ≡ regions_at es i
 regions-each [] i = refl
 regions-each (e ∷ es) zero = refl
 regions-each (e ∷ es) (suc i) = regions-each es i
 
--- no endpoint owns a page before the end of the tables
-pub unowned : (m : Manifest) (p : ℕ) (bytes : List ℕ) → p < length m.endpoints.items * table_pages m.ram_blocks → page_with_bytes m.ram_base.0 m.endpoints.items p bytes ≡ None
-unowned m p bytes low = of (page_with_bytes m.ram_base.0 m.endpoints.items p bytes) refl
+-- no endpoint owns a page of the tables
+pub unowned : (m : Manifest) (p : ℕ) (bytes : List ℕ) → m.tables.0 ≤ p → p < table_page m.tables.0 m.ram_blocks (length m.endpoints.items) 0 → page_with_bytes m.ram_base.0 m.endpoints.items p bytes ≡ None
+unowned m p bytes from low = of (page_with_bytes m.ram_base.0 m.endpoints.items p bytes) refl
   where
     of : (o : Option Page) → page_with_bytes m.ram_base.0 m.endpoints.items p bytes ≡ o → page_with_bytes m.ram_base.0 m.endpoints.items p bytes ≡ None
     of None is = is
     of (Some page) is =
-        let placed = (accepted m.ram_base.0 m.ram_blocks m.endpoints.items m.accepted).placed in
-        absurd (omega (arith, low, owned-behind m.ram_base.0 m.ram_blocks (length m.endpoints.items) m.endpoints.items p bytes page placed is))
+        let placed = (accepted m.ram_base.0 m.tables.0 m.ram_blocks m.endpoints.items m.accepted).placed in
+        elim (owned-aside m.ram_base.0 m.tables.0 m.ram_blocks (length m.endpoints.items) m.endpoints.items p bytes page placed is) [
+          | inl before ↦ absurd (omega (arith, from, before))
+          | inr behind ↦ absurd (omega (arith, low, behind))
+        ]
 
 -- a RAM of zeros that stands where the manifest says
 pub zeros-of : (old zeros : Ram) (m : Manifest) → zeros ≡ zero_ram old.base (length old.pages) → old.base ≡ m.ram_base.0 → length old.pages ≡ 512 * m.ram_blocks
@@ -66,8 +69,8 @@ pub zeros-of : (old zeros : Ram) (m : Manifest) → zeros ≡ zero_ram old.base 
 zeros-of old zeros m cleared base size = cleared ∙ ap (λ (b : ℕ). zero_ram b (length old.pages)) base ∙ ap (zero_ram m.ram_base.0) size
 
 -- nobody owns a page of the tables at first
-unentered : (m : Manifest) (p : ℕ) → p < length m.endpoints.items * table_pages m.ram_blocks → first_entry m.ram_base.0 m.endpoints.items p ≡ None
-unentered m p low = of (find (λ (x : ℕ × Region). has_page m.ram_base.0 p x.1) (owned_regions m.endpoints.items)) (unowned m p [] low)
+unentered : (m : Manifest) (p : ℕ) → m.tables.0 ≤ p → p < table_page m.tables.0 m.ram_blocks (length m.endpoints.items) 0 → first_entry m.ram_base.0 m.endpoints.items p ≡ None
+unentered m p from low = of (find (λ (x : ℕ × Region). has_page m.ram_base.0 p x.1) (owned_regions m.endpoints.items)) (unowned m p [] from low)
   where
     of : (o : Option (ℕ × Region)) → option_map (λ (x : ℕ × Region). let q : Page = record { owner = x.0; own_right = x.1.rights; bytes = [] } in q) o ≡ None
         → option_map (λ (x : ℕ × Region). let e : Entry = record { owner = x.0; own_right = x.1.rights; slot = None } in e) o ≡ None
@@ -91,12 +94,12 @@ owners-first : (m : Manifest) → AreOwners m (first_owners m)
 owners-first m =
     record {
       size = length-listed (512 * m.ram_blocks) (first_entry m.ram_base.0 m.endpoints.items);
-      tables = λ p low. of p low (cases_lt p (512 * m.ram_blocks));
+      tables = λ p from low. of p from low (cases_lt p (512 * m.ram_blocks));
     }
   where
-    of : (p : ℕ) → p < table_page m.ram_blocks (length m.endpoints.items) 0 → (p < 512 * m.ram_blocks) ⊎ (512 * m.ram_blocks ≤ p) → entry_at (first_owners m) p ≡ None
-    of p low (inl lt) = get_or-listed (512 * m.ram_blocks) (first_entry m.ram_base.0 m.endpoints.items) p None lt ∙ unentered m p (omega (arith, low))
-    of p low (inr past) = get_or-listed_past (512 * m.ram_blocks) (first_entry m.ram_base.0 m.endpoints.items) p None past
+    of : (p : ℕ) → m.tables.0 ≤ p → p < table_page m.tables.0 m.ram_blocks (length m.endpoints.items) 0 → (p < 512 * m.ram_blocks) ⊎ (512 * m.ram_blocks ≤ p) → entry_at (first_owners m) p ≡ None
+    of p from low (inl lt) = get_or-listed (512 * m.ram_blocks) (first_entry m.ram_base.0 m.endpoints.items) p None lt ∙ unentered m p from low
+    of p from low (inr past) = get_or-listed_past (512 * m.ram_blocks) (first_entry m.ram_base.0 m.endpoints.items) p None past
 
 -- nothing is open where all slots are free
 free : (n k : ℕ) → pool_slot (replicate n None) k ≡ None
@@ -127,7 +130,7 @@ zero-page : (m : Manifest) (p : ℕ) → p < 512 * m.ram_blocks → page_of (zer
 zero-page m p lt = get_or-replicate (512 * m.ram_blocks) p (replicate 4096 0) [] lt
 
 -- a page of the first state
-page-there : (m : Manifest) (given : Ram) (p : ℕ) (page : Page) → page_at (first_held m.worlds m.ram_base.0 m.ram_blocks m.endpoints.items (page_of given)) p ≡ Some page
+page-there : (m : Manifest) (given : Ram) (p : ℕ) (page : Page) → page_at (first_held m.worlds m.ram_base.0 m.tables.0 m.ram_blocks m.endpoints.items (page_of given)) p ≡ Some page
     → (p < 512 * m.ram_blocks) × (page_with_bytes m.ram_base.0 m.endpoints.items p (page_of given p) ≡ Some page)
 page-there m given p page is = elim (cases_lt p (512 * m.ram_blocks)) [
   | inl lt ↦ (lt, sym (get_or-listed (512 * m.ram_blocks) (λ q. page_with_bytes m.ram_base.0 m.endpoints.items q (page_of given q)) p None lt) ∙ is)
@@ -139,10 +142,10 @@ abbrev own_right : Manifest → ℕ → ℕ → Option Rights
 own_right m i p = right_among m.ram_base.0 (regions_at m.endpoints.items i) p
 
 module _ (given : Ram) (x : Parts) (ready : IsReadyFor x.manifest given)
-    (base : x.kept.layout.base.0 ≡ x.manifest.ram_base.0) (blocks : x.kept.layout.blocks ≡ x.manifest.ram_blocks) (regions : regions_in x.kept.layout ≡ regions_of_each x.manifest.endpoints.items)
+    (base : x.kept.layout.base.0 ≡ x.manifest.ram_base.0) (blocks : x.kept.layout.blocks ≡ x.manifest.ram_blocks) (place : x.kept.layout.tables.0 ≡ x.manifest.tables.0) (regions : regions_in x.kept.layout ≡ regions_of_each x.manifest.endpoints.items)
     (normal : normal_in x.kept.layout ≡ normal_of x.manifest.worlds (regions_at x.manifest.endpoints.items 0))
-    (built : IsBuilt x.ram (array_vec_len x.kept.layout.regions) x.kept.layout.blocks (layout_right x.kept.layout))
-    (rest : KeepsRest given x.ram (array_vec_len x.kept.layout.regions) x.kept.layout.blocks)
+    (built : IsBuilt x.ram (array_vec_len x.kept.layout.regions) x.kept.layout.tables.0 x.kept.layout.blocks (layout_right x.kept.layout))
+    (rest : KeepsRest given x.ram (array_vec_len x.kept.layout.regions) x.kept.layout.tables.0 x.kept.layout.blocks)
     (owners : x.kept.pages ≡ first_owners x.manifest) (slots : x.kept.pool.slots ≡ replicate (MOST_OPEN * length x.manifest.endpoints.items) None)
     (sent : x.kept.pool.sent ≡ replicate (length x.manifest.endpoints.items) 0) (none : x.kept.buffers ≡ replicate (length x.manifest.endpoints.items) None) (schedule : x.kept.chain ≡ first_schedule (length x.manifest.endpoints.items))
     (bitmaps : x.kept.bitmaps.bitmaps ≡ map has_first_bitmaps (enumerate_from 0 x.manifest.endpoints.items)) (bound : x.kept.bitmaps.bound ≡ finite_set.empty) (pending : x.kept.bitmaps.pending ≡ finite_set.empty)
@@ -172,31 +175,32 @@ module _ (given : Ram) (x : Parts) (ready : IsReadyFor x.manifest given)
   access-is : (i p : ℕ) → p < 512 * x.manifest.ram_blocks → own_right x.manifest i p ≡ access_by_place (state_of x) i p
   access-is i p lt = sym (access-first x size-is owners (ap map_in slots ∙ none-open (MOST_OPEN * length es)) i p (omega (arith, lt, size-is)))
 
-  built-is : IsBuilt x.ram (length es) x.manifest.ram_blocks (access_by_place (state_of x))
+  built-is : IsBuilt x.ram (length es) x.manifest.tables.0 x.manifest.ram_blocks (access_by_place (state_of x))
   built-is =
-      built-same x.ram (length es) x.manifest.ram_blocks (own_right x.manifest) (access_by_place (state_of x))
-      (subst (λ (n : ℕ). IsBuilt x.ram n x.manifest.ram_blocks (own_right x.manifest)) many
-      (subst (λ (b : ℕ). IsBuilt x.ram (array_vec_len layout.regions) b (own_right x.manifest)) blocks
-      (subst (IsBuilt x.ram (array_vec_len layout.regions) layout.blocks) (λ i e p. right-is e p i) built)))
+      built-same x.ram (length es) x.manifest.tables.0 x.manifest.ram_blocks (own_right x.manifest) (access_by_place (state_of x))
+      (subst (λ (n : ℕ). IsBuilt x.ram n x.manifest.tables.0 x.manifest.ram_blocks (own_right x.manifest)) many
+      (subst (λ (t : ℕ). IsBuilt x.ram (array_vec_len layout.regions) t x.manifest.ram_blocks (own_right x.manifest)) place
+      (subst (λ (b : ℕ). IsBuilt x.ram (array_vec_len layout.regions) layout.tables.0 b (own_right x.manifest)) blocks
+      (subst (IsBuilt x.ram (array_vec_len layout.regions) layout.tables.0 layout.blocks) (λ i e p. right-is e p i) built))))
       (λ i p known lt. access-is i p lt)
 
   tables-first : HasTables x.ram x.manifest (access_by_place (state_of x))
   tables-first = record { base = base-is; size = size-is; built = built-is }
 
-  -- a page behind the tables has the bytes that were given
-  behind-given : (p : ℕ) → length es * table_pages x.manifest.ram_blocks ≤ p → page_of x.ram p ≡ page_of given p
-  behind-given p behind = rest.pages p (of_end many blocks behind)
-    where
-      of_end : {n b k c : ℕ} → n ≡ k → b ≡ c → k * table_pages c ≤ p → table_page b n 0 ≤ p
-      of_end same_n same_b h = rw (same_n, same_b) (omega (arith, h))
+  -- a page that is none of the tables' has the bytes that were given
+  aside-given : (p : ℕ) → IsAside (length es) x.manifest.tables.0 x.manifest.ram_blocks p → page_of x.ram p ≡ page_of given p
+  aside-given p aside = rest.pages p (subst (λ z. z) (λ i. IsAside (sym many i) (sym place i) (sym blocks i) p) aside)
 
   -- and nobody owns one before
   page-given : (p : ℕ) → p < length x.ram.pages → held_page x.ram x.kept.pages p ≡ page_with_bytes x.manifest.ram_base.0 es p (page_of given p)
   page-given p inside =
       sym (page-held x p inside) ∙ page-at x size-is owners p inside
-      ∙ elim (cases_lt p (length es * table_pages x.manifest.ram_blocks)) [
-        | inl low ↦ unowned x.manifest p (page_of x.ram p) low ∙ sym (unowned x.manifest p (page_of given p) low)
-        | inr behind ↦ ap (page_with_bytes x.manifest.ram_base.0 es p) (behind-given p behind)
+      ∙ elim (cases_lt p x.manifest.tables.0) [
+        | inl before ↦ ap (page_with_bytes x.manifest.ram_base.0 es p) (aside-given p (inl before))
+        | inr from ↦ elim (cases_lt p (table_page x.manifest.tables.0 x.manifest.ram_blocks (length es) 0)) [
+          | inl low ↦ unowned x.manifest p (page_of x.ram p) from low ∙ sym (unowned x.manifest p (page_of given p) from low)
+          | inr behind ↦ ap (page_with_bytes x.manifest.ram_base.0 es p) (aside-given p (inr behind))
+        ]
       ]
 
   pages-first : listed (length x.ram.pages) (held_page x.ram x.kept.pages) ≡ listed (512 * x.manifest.ram_blocks) (λ p. page_with_bytes x.manifest.ram_base.0 es p (page_of given p))
@@ -204,9 +208,9 @@ module _ (given : Ram) (x : Parts) (ready : IsReadyFor x.manifest given)
       listed-same (length x.ram.pages) (held_page x.ram x.kept.pages) (λ p. page_with_bytes x.manifest.ram_base.0 es p (page_of given p)) page-given
       ∙ ap (λ (n : ℕ). listed n (λ p. page_with_bytes x.manifest.ram_base.0 es p (page_of given p))) size-is
 
-  pub state-first : state_of x ≡ first_held x.manifest.worlds x.manifest.ram_base.0 x.manifest.ram_blocks es (page_of given)
+  pub state-first : state_of x ≡ first_held x.manifest.worlds x.manifest.ram_base.0 x.manifest.tables.0 x.manifest.ram_blocks es (page_of given)
   unfolding first
-  state-first = λ i. record (first x.manifest.worlds x.manifest.ram_base.0 x.manifest.ram_blocks es) {
+  state-first = λ i. record (first x.manifest.worlds x.manifest.ram_base.0 x.manifest.tables.0 x.manifest.ram_blocks es) {
     pages = pages-first i;
     transactions = (ap map_in slots ∙ none-open (MOST_OPEN * length es)) i;
     sent = sent i;
@@ -233,24 +237,23 @@ module _ (given : Ram) (x : Parts) (ready : IsReadyFor x.manifest given)
       record {
         laws = laws;
         tables = tables-first;
-        layout = record { base = base; blocks = blocks; endpoints = many; normal = normal };
+        layout = record { base = base; blocks = blocks; tables = place; endpoints = many; normal = normal };
         owners = subst (AreOwners x.manifest) (sym owners) (owners-first x.manifest);
         open_transactions =
             subst (λ (list : List (Option Entry)). AreOpenTransactions x.manifest list x.kept.pool.slots) (sym owners)
             (subst (AreOpenTransactions x.manifest (first_owners x.manifest)) (sym slots) (open-first x.manifest (MOST_OPEN * length es)));
         sound =
             subst IsSoundState (sym state-first)
-            (first-held-sound x.manifest.worlds x.manifest.ram_base.0 x.manifest.ram_blocks es (page_of given) x.manifest.accepted (uuid-at es uuids)
+            (first-held-sound x.manifest.worlds x.manifest.ram_base.0 x.manifest.tables.0 x.manifest.ram_blocks es (page_of given) x.manifest.accepted (uuid-at es uuids)
             (λ p inside. ready.whole p (omega (arith, inside, ready.size))));
       }
 
-  -- the pages behind the tables that nobody owns
-  pub cleared-behind : (p : ℕ) → length (state_of x).parties * table_pages x.manifest.ram_blocks ≤ p → p < length x.ram.pages → page_at (state_of x) p ≡ None
+  -- the pages that nobody owns, but for the tables'
+  pub cleared-aside : (p : ℕ) → IsNoTable (state_of x) p → p < length x.ram.pages → page_at (state_of x) p ≡ None
       → page_of x.ram p ≡ replicate 4096 0
-  cleared-behind p behind inside none =
-      let past = subst (λ (n : ℕ). n * table_pages x.manifest.ram_blocks ≤ p) (parties_are x) behind in
-      behind-given p past
-      ∙ ready.cleared p past (omega (arith, inside, rest.size))
+  cleared-aside p aside inside none =
+      aside-given p (by-manifest x machine-first p aside)
+      ∙ ready.cleared p (omega (arith, inside, rest.size))
       (none-managers x.manifest.ram_base.0 p es (page_of x.ram p) (sym (page-at x size-is owners p inside) ∙ none))
 
 -- RAM of zeros is ready
@@ -263,7 +266,7 @@ zeros-ready m ram zeros =
       whole = λ p inside other.
           subst (λ (bytes : List ℕ). (length bytes ≡ 4096) × are_bytes bytes) (sym (zero-page m p (omega (arith, inside, many))))
           (length-replicate {A = ℕ} 4096 0, zeros-bytes 4096);
-      cleared = λ p behind inside its. zero-page m p (omega (arith, inside, many));
+      cleared = λ p inside its. zero-page m p (omega (arith, inside, many));
     })
   where
     many : length (replicate (512 * m.ram_blocks) (replicate {A = ℕ} 4096 0)) ≡ 512 * m.ram_blocks
@@ -274,10 +277,10 @@ pub booted-zeros : (m : Manifest) (given : Ram) (s : State) (ram : Ram) → give
 unfolding first
 booted-zeros m given s ram zeros booted =
     record {
-      state = booted.state ∙ (λ i. record (first m.worlds m.ram_base.0 m.ram_blocks m.endpoints.items) { pages = same i });
+      state = booted.state ∙ (λ i. record (first m.worlds m.ram_base.0 m.tables.0 m.ram_blocks m.endpoints.items) { pages = same i });
       agrees = booted.agrees;
       words = booted.words;
-      cleared = λ p behind inside. of p behind inside (page_at s p) refl;
+      cleared = λ p aside inside. of p aside inside (page_at s p) refl;
       sound = booted.sound;
     }
   where
@@ -289,9 +292,9 @@ booted-zeros m given s ram zeros booted =
         listed-same (512 * m.ram_blocks) (λ p. page_with_bytes m.ram_base.0 m.endpoints.items p (page_of given p)) (λ p. page_with_bytes m.ram_base.0 m.endpoints.items p (replicate 4096 0))
         (λ p lt. ap (page_with_bytes m.ram_base.0 m.endpoints.items p) (bytes-at p lt))
 
-    of : (p : ℕ) → length s.parties * table_pages m.ram_blocks ≤ p → p < length ram.pages → (o : Option Page) → page_at s p ≡ o → page_of ram p ≡ replicate 4096 0
-    of p behind inside None none = booted.cleared p behind inside none
-    of p behind inside (Some page) some =
+    of : (p : ℕ) → IsNoTable s p → p < length ram.pages → (o : Option Page) → page_at s p ≡ o → page_of ram p ≡ replicate 4096 0
+    of p aside inside None none = booted.cleared p aside inside none
+    of p aside inside (Some page) some =
         let (lt, there) = page-there m given p page (sym (ap (λ (t : State). page_at t p) booted.state) ∙ some) in
         booted.agrees.bytes p page some ∙ given-bytes m.ram_base.0 p m.endpoints.items (page_of given p) page there ∙ bytes-at p lt
 
@@ -302,7 +305,7 @@ booted-kept m given cleared s ram kept booted =
     record {
       state =
           booted.state
-          ∙ (λ i. record (first m.worlds m.ram_base.0 m.ram_blocks m.endpoints.items) {
+          ∙ (λ i. record (first m.worlds m.ram_base.0 m.tables.0 m.ram_blocks m.endpoints.items) {
             pages =
                 listed-same (512 * m.ram_blocks) (λ p. page_with_bytes m.ram_base.0 m.endpoints.items p (page_of cleared p)) (λ p. page_with_bytes m.ram_base.0 m.endpoints.items p (page_of given p))
                 (λ p lt. given-same m.ram_base.0 p m.endpoints.items (page_of cleared p) (page_of given p) (kept p)) i;

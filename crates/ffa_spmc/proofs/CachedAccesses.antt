@@ -18,6 +18,7 @@ use Rattle.ffa_tlb.specs.Lookups.{is_pair, lookup}
 use Rattle.ffa_spmc.specs.Cached.{is_runners, missed_page}
 use Rattle.ffa_spmc.specs.Caching.{IsCached}
 use Rattle.ffa_spmc.specs.Snapshot.{Snapshot}
+use Rattle.ffa_spmc.proofs.Besides.{placement}
 
 -- the page of an address in a RAM that begins here
 abbrev page_from : ℕ → ℕ → Option ℕ
@@ -46,6 +47,9 @@ module _ (s : State) (e : ℕ) (new : State) (address : ℕ) (size : Size) (valu
 
   pub store-base : new.ram_base ≡ s.ram_base
   store-base = after (λ t. t.ram_base ≡ s.ram_base) refl refl
+
+  pub store-placed : placement new ≡ placement s
+  store-placed = after (λ t. placement t ≡ placement s) refl refl
 
   pub store-parties : length new.parties ≡ length s.parties
   store-parties = after (λ t. length t.parties ≡ length s.parties) refl refl

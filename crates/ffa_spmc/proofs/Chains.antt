@@ -18,8 +18,8 @@ use Rattle.ffa_laws.proofs.SoundSteady.{sound-steady}
 use Rattle.ffa_spmc.specs.Among.{AreDoneReading, IsDoneAlone, IsDoneReading, pages_read}
 use Rattle.ffa_spmc.specs.Operated.{AreOperated, AreOperatedAs, IsOperated, IsOperatedAs, numbered}
 use Rattle.ffa_spmc.specs.Snapshot.{Snapshot}
-use Rattle.ffa_spmc.specs.Unowned.{KeepsUnowned, pages_of_tables}
-use Rattle.ffa_spmc.proofs.Sizes.{tables-step}
+use Rattle.ffa_spmc.specs.Unowned.{IsNoTable, KeepsUnowned}
+use Rattle.ffa_spmc.proofs.Sizes.{tables-kept}
 use Rattle.ffa_spmc.proofs.Unowned.{unowned-same}
 
 -- one operation more: its outcome is filled in, and what is left then gives the rest
@@ -97,8 +97,8 @@ one-more_among alone old now next ops filled i d outcome lt inside done by_memor
 -- what nobody owns keeps its bytes
 pub unowned-chained : (old : Snapshot) (ops : List Op) (new : Snapshot) → IsSoundState old.state → AreOperated old ops new → KeepsUnowned old.state old.ram new.ram
 unowned-chained old [] new sound same = unowned-same old.state old.ram new.ram (ap (λ (seen : Snapshot). seen.ram) same)
-unowned-chained old (op ∷ ops) new sound (next, (done, rest)) = λ p end none.
+unowned-chained old (op ∷ ops) new sound (next, (done, rest)) = λ p aside none.
     let grown = step_never_grows old.state op (sound-steady old.state sound) in
-    let end' : pages_of_tables next.state ≤ p = subst (λ (n : ℕ). n ≤ p) (sym (ap pages_of_tables done.state ∙ tables-step old.state op)) end in
+    let aside' : IsNoTable next.state p = subst (λ (s : State). IsNoTable s p) (sym done.state) (tables-kept old.state op p aside) in
     let none' : page_at next.state p ≡ None = ap (λ (s : State). page_at s p) done.state ∙ grown.manager p none in
-    unowned-chained next ops new (subst IsSoundState (sym done.state) (step-sound old.state sound op)) rest p end' none' ∙ done.unowned p end none
+    unowned-chained next ops new (subst IsSoundState (sym done.state) (step-sound old.state sound op)) rest p aside' none' ∙ done.unowned p aside none

@@ -2,26 +2,23 @@
 -- RAM that is cleared page by page, but for the pages of regions.
 use Rattle.std.specs.Prelude.{replicate}
 use Rattle.std.proofs.Common.{◌≡◌, ◌≢◌, ◌∙◌, ℕ, ◌+◌, ◌*◌, ◌<◌, ◌≤◌, [], List, length, sym, ap, subst, arith, inl, inr}
-use Rattle.std.proofs.lemmas.Bool.{cases_eq, cases_lt}
+use Rattle.std.proofs.lemmas.Bool.{cases_eq}
 use Rattle.std.proofs.lemmas.List.{get_or-set_other, get_or-set_same, length-set}
 use Rattle.ffa_model.specs.declared.manifest.Manifest.{Manifest}
 use Rattle.ffa_model.specs.Identifiers.{manager}
-use Rattle.ffa_model.specs.Manifest.{table_pages}
 use Rattle.ffa_model.specs.Ram.{Ram, page_of, with_page}
 use Rattle.ffa_model.specs.SoundState.{are_bytes}
 use Rattle.ffa_spmc.specs.Readied.{IsReadyFor, first_owner}
-use Rattle.ffa_model.proofs.Owners.{none-managers}
-use Rattle.ffa_spmc.proofs.Boots.{unowned}
 
--- so it is from one page up to another
-pub record IsClearedTo (m : Manifest) (old ram : Ram) (first end : ℕ) : Type 0 where
+-- so it is up to a page
+pub record IsClearedTo (m : Manifest) (old ram : Ram) (end : ℕ) : Type 0 where
   pub base : ram.base ≡ old.base
   pub size : length ram.pages ≡ length old.pages
   pub kept : (p : ℕ) → first_owner m p ≢ manager → page_of ram p ≡ page_of old p
-  pub whole : (p : ℕ) → first ≤ p → p < end → (length (page_of ram p) ≡ 4096) × are_bytes (page_of ram p)
-  pub cleared : (p : ℕ) → first ≤ p → p < end → first_owner m p ≡ manager → page_of ram p ≡ replicate 4096 0
+  pub whole : (p : ℕ) → p < end → (length (page_of ram p) ≡ 4096) × are_bytes (page_of ram p)
+  pub cleared : (p : ℕ) → p < end → first_owner m p ≡ manager → page_of ram p ≡ replicate 4096 0
 
-module _ (m : Manifest) (old ram new : Ram) (first end : ℕ) (so_far : IsClearedTo m old ram first end) (inside : end < length ram.pages)
+module _ (m : Manifest) (old ram new : Ram) (end : ℕ) (so_far : IsClearedTo m old ram end) (inside : end < length ram.pages)
     (cleared : first_owner m end ≡ manager → new ≡ with_page ram end (replicate 4096 0)) (kept : first_owner m end ≢ manager → new ≡ ram) where
   base-same : new.base ≡ ram.base
   base-same = elim (cases_eq (first_owner m end) manager) [
@@ -53,36 +50,30 @@ module _ (m : Manifest) (old ram new : Ram) (first end : ℕ) (so_far : IsCleare
       ∙ get_or-set_same ram.pages end (replicate 4096 0) [] inside
 
   -- and up to the next
-  pub cleared-next : length (page_of new end) ≡ 4096 → are_bytes (page_of new end) → IsClearedTo m old new first (end + 1)
+  pub cleared-next : length (page_of new end) ≡ 4096 → are_bytes (page_of new end) → IsClearedTo m old new (end + 1)
   cleared-next size bytes =
       record {
         base = base-same ∙ so_far.base;
         size = size-same ∙ so_far.size;
         kept = λ p other. owned p other ∙ so_far.kept p other;
-        whole = λ p low high. elim (cases_eq p end) [
+        whole = λ p high. elim (cases_eq p end) [
           | inl is ↦ subst (λ (q : ℕ). (length (page_of new q) ≡ 4096) × are_bytes (page_of new q)) (sym is) (size, bytes)
           | inr apart ↦
-              subst (λ (page : List ℕ). (length page ≡ 4096) × are_bytes page) (sym (beside p apart)) (so_far.whole p low (omega (arith, high, apart)))
+              subst (λ (page : List ℕ). (length page ≡ 4096) × are_bytes page) (sym (beside p apart)) (so_far.whole p (omega (arith, high, apart)))
         ];
-        cleared = λ p low high its. elim (cases_eq p end) [
+        cleared = λ p high its. elim (cases_eq p end) [
           | inl is ↦ managers p is its
-          | inr apart ↦ beside p apart ∙ so_far.cleared p low (omega (arith, high, apart)) its
+          | inr apart ↦ beside p apart ∙ so_far.cleared p (omega (arith, high, apart)) its
         ];
       }
 
--- from the end of the tables to the end of RAM: a machine begins in it
+-- up to the end of RAM: a machine begins in it
 pub cleared-ready : (m : Manifest) (old ram : Ram) (end : ℕ) → old.base ≡ m.ram_base.0 → length old.pages ≡ 512 * m.ram_blocks → length old.pages ≤ end
-    → IsClearedTo m old ram (length m.endpoints.items * table_pages m.ram_blocks) end → IsReadyFor m ram
+    → IsClearedTo m old ram end → IsReadyFor m ram
 cleared-ready m old ram end base size past done =
     record {
       base = done.base ∙ base;
       size = done.size ∙ size;
-      whole = λ p inside other. done.whole p (behind p other) (omega (arith, inside, done.size, past));
-      cleared = λ p low inside its. done.cleared p low (omega (arith, inside, done.size, past)) its;
+      whole = λ p inside other. done.whole p (omega (arith, inside, done.size, past));
+      cleared = λ p inside its. done.cleared p (omega (arith, inside, done.size, past)) its;
     }
-  where
-    behind : (p : ℕ) → first_owner m p ≢ manager → length m.endpoints.items * table_pages m.ram_blocks ≤ p
-    behind p other = elim (cases_lt p (length m.endpoints.items * table_pages m.ram_blocks)) [
-      | inl low ↦ absurd (other (none-managers m.ram_base.0 p m.endpoints.items [] (unowned m p [] low)))
-      | inr past_tables ↦ past_tables
-    ]

@@ -62,27 +62,27 @@ number-at (e ∷ items) zero = refl
 number-at (e ∷ items) (suc p) = number-at items p
 
 -- where a machine has booted no partition runs elsewhere
-pub booted-here : (worlds : Worlds) (base blocks : ℕ) (es : List Endpoint) → 1 ≤ length es → IsHere (first worlds base blocks es)
+pub booted-here : (worlds : Worlds) (base tables blocks : ℕ) (es : List Endpoint) → 1 ≤ length es → IsHere (first worlds base tables blocks es)
 unfolding first
-booted-here worlds base blocks es some e its = first-here (length es) some e (record { partition = its.partition; status = its.status })
+booted-here worlds base tables blocks es some e its = first-here (length es) some e (record { partition = its.partition; status = its.status })
 
 pub boot-here : (m : Manifest) (s : State) (ram : Ram) → IsBooted m s ram → IsHere s
 unfolding first
 boot-here m s ram booted =
     let least : 1 ≤ length s.parties = booted.sound.sized.some in
     let size : length s.parties ≡ length m.endpoints.items = ap (λ (t : State). length t.parties) booted.state ∙ length-map m.endpoints.items party_of in
-    subst IsHere (sym booted.state) (booted-here m.worlds m.ram_base.0 m.ram_blocks m.endpoints.items (omega (arith, least, size)))
+    subst IsHere (sym booted.state) (booted-here m.worlds m.ram_base.0 m.tables.0 m.ram_blocks m.endpoints.items (omega (arith, least, size)))
 
-pub booted-here-held : (worlds : Worlds) (base blocks : ℕ) (es : List Endpoint) (held : ℕ → List ℕ) → 1 ≤ length es → IsHere (first_held worlds base blocks es held)
+pub booted-here-held : (worlds : Worlds) (base tables blocks : ℕ) (es : List Endpoint) (held : ℕ → List ℕ) → 1 ≤ length es → IsHere (first_held worlds base tables blocks es held)
 unfolding first
-booted-here-held worlds base blocks es held some e its = first-here (length es) some e (record { partition = its.partition; status = its.status })
+booted-here-held worlds base tables blocks es held some e its = first-here (length es) some e (record { partition = its.partition; status = its.status })
 
 pub boot-here-held : (m : Manifest) (given : Ram) (s : State) (ram : Ram) → IsBootedHeld m given s ram → IsHere s
 unfolding first
 boot-here-held m given s ram booted =
     let least : 1 ≤ length s.parties = booted.sound.sized.some in
     let size : length s.parties ≡ length m.endpoints.items = ap (λ (t : State). length t.parties) booted.state ∙ length-map m.endpoints.items party_of in
-    subst IsHere (sym booted.state) (booted-here-held m.worlds m.ram_base.0 m.ram_blocks m.endpoints.items (page_of given) (omega (arith, least, size)))
+    subst IsHere (sym booted.state) (booted-here-held m.worlds m.ram_base.0 m.tables.0 m.ram_blocks m.endpoints.items (page_of given) (omega (arith, least, size)))
 
 -- at first the normal world runs on all but the first
 pub first-placed : (s : State) → IsHere s → ArePlaced first_processors s

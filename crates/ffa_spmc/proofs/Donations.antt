@@ -21,7 +21,7 @@ use Rattle.ffa_spmc.specs.Meaning.{AreOwners, IsManager, Parts, held_page, state
 use Rattle.ffa_spmc.proofs.Moves.{SameOwners, owners-given, owners-moved, pages-given, pages-moved, same-owners}
 
 module _ (x : Parts) (machine : IsManager x) (ram : Ram) (pages : List (Option Entry)) (index : ℕ) (ranges : List Range) (e : EndpointId) (right : Rights)
-    (moved : IsMoved x.ram ram (length x.manifest.endpoints.items) x.manifest.ram_blocks index (names (state_of x) ranges) (λ p. Some right) false) where
+    (moved : IsMoved x.ram ram (length x.manifest.endpoints.items) x.manifest.tables.0 x.manifest.ram_blocks index (names (state_of x) ranges) (λ p. Some right) false) where
   abbrev s : State
   s = state_of x
 

@@ -4,7 +4,8 @@ use Rattle.std.proofs.Common.{◌≡◌, ◌∙◌, ℕ, ◌<◌, true, false, L
 use Rattle.std.specs.Prelude.{IsSomeAnd, is_some, nat_le}
 use Rattle.std.specs.Option.{option_map}
 use Rattle.std.proofs.lemmas.Bool.{and_parts, false≢true, leb-true}
-use Rattle.ffa_stage2.specs.Tables.{table_page}
+use Rattle.ffa_stage2.specs.Tables.{IsAside}
+use Rattle.ffa_stage2.proofs.Places.{not-both}
 use Rattle.ffa_model.proofs.Runs.{run-wider, to-run}
 use Rattle.ffa_model.proofs.CallAccesses.{access-written_run}
 use Rattle.ffa_model.specs.declared.rights.Rights.{Rights}
@@ -20,7 +21,7 @@ use Rattle.ffa_rxtx.specs.Parts.{with_rx_bytes, IsInRam, with_run}
 use Rattle.ffa_memshare.specs.Callers.{IsCaller}
 use Rattle.ffa_laws.proofs.SoundSteady.{runner-known}
 use Rattle.ffa_spmc.specs.Meaning.{IsManager, Parts, state_of, HasTables, access_by_place}
-use Rattle.ffa_spmc.proofs.Held.{each, parties_are, size_is, owned-behind}
+use Rattle.ffa_spmc.proofs.Held.{each, parties_are, size_is, owned-aside}
 use Rattle.ffa_spmc.proofs.Machines.{StillHasTables}
 use Rattle.ffa_spmc.proofs.Reaches.{owned-in}
 use Rattle.ffa_spmc.proofs.Stores.{state-written}
@@ -112,28 +113,29 @@ module _ (x : Parts) (machine : IsManager x) where
         inside = λ b is. in-ram e (runner-there e at) b is;
       })
 
-  -- bytes in pages in a row of RAM, behind the tables, leave the tables as they are
+  -- bytes in pages in a row of RAM, none of them a table's, leave the tables as they are
   abbrev rights : ℕ → ℕ → Option Rights
   rights = access_by_place s
 
   run-tables : (n : ℕ) (ram : Ram) (first : ℕ) (bytes : List ℕ) → HasTables ram x.manifest rights
-      → ((p : ℕ) → is_in_run first n p ≡ true → table_page x.manifest.ram_blocks (length x.manifest.endpoints.items) 0 ≤ p)
+      → ((p : ℕ) → is_in_run first n p ≡ true → IsAside (length x.manifest.endpoints.items) x.manifest.tables.0 x.manifest.ram_blocks p)
       → HasTables (with_run n ram first bytes) x.manifest rights
-  run-tables zero ram first bytes tables behind = tables
-  run-tables (suc n) ram first bytes tables behind =
+  run-tables zero ram first bytes tables aside = tables
+  run-tables (suc n) ram first bytes tables aside =
       run-tables n next (first + 1) (drop 4096 bytes)
       (record {
         base = tables.base;
         size = size ∙ tables.size;
         built =
-            machine.laws.stay ram next (length x.manifest.endpoints.items) x.manifest.ram_blocks rights tables.built
+            machine.laws.stay ram next (length x.manifest.endpoints.items) x.manifest.tables.0 x.manifest.ram_blocks rights tables.built
             (record {
               base = refl;
               size = size;
-              pages = λ q low. get_or-set_other ram.pages first q content [] (λ same. absurd (omega (arith, low, above, same)));
+              pages = λ q from low. get_or-set_other ram.pages first q content []
+                  (λ same. not-both (length x.manifest.endpoints.items) x.manifest.tables.0 x.manifest.ram_blocks q (from, low) (subst (IsAside (length x.manifest.endpoints.items) x.manifest.tables.0 x.manifest.ram_blocks) (sym same) there));
             });
       })
-      (λ p its. behind p (run-wider first n p its))
+      (λ p its. aside p (run-wider first n p its))
     where
       content : List ℕ
       content = with_bytes (page_of ram first) 0 (take 4096 bytes)
@@ -144,8 +146,8 @@ module _ (x : Parts) (machine : IsManager x) where
       size : length next.pages ≡ length ram.pages
       size = length-set ram.pages first content
 
-      above : table_page x.manifest.ram_blocks (length x.manifest.endpoints.items) 0 ≤ first
-      above = behind first (to-run first (suc n) first (omega arith) (omega arith))
+      there : IsAside (length x.manifest.endpoints.items) x.manifest.tables.0 x.manifest.ram_blocks first
+      there = aside first (to-run first (suc n) first (omega arith) (omega arith))
 
   -- and are written in the state alike
   run-state : (n : ℕ) (ram : Ram) (first : ℕ) (bytes : List ℕ) → ((p : ℕ) → is_in_run first n p ≡ true → p < length ram.pages)
@@ -176,7 +178,7 @@ module _ (x : Parts) (machine : IsManager x) where
           of : (o : Option Buffers) → buffers_in x.kept.buffers f ≡ o → HasTables (with_rx_bytes x.ram o bytes) x.manifest rights
           of None is = machine.tables
           of (Some b) is =
-              run-tables b.pages x.ram b.rx bytes machine.tables (λ p its. let (page, there) = (buffers-there f known b is).rx p its in owned-behind x machine p page there)
+              run-tables b.pages x.ram b.rx bytes machine.tables (λ p its. let (page, there) = (buffers-there f known b is).rx p its in owned-aside x machine p page there)
 
       pub tables-filled : StillHasTables x after_fill.ram
       tables-filled = of (buffers_in x.kept.buffers f) refl
@@ -188,7 +190,7 @@ module _ (x : Parts) (machine : IsManager x) where
               sym (ap (λ (pages : List (Option Page)). access (record s { pages = pages }) (identifier i) q) (filled-run b is)
               ∙ access-written_run s b.pages s.pages b.rx bytes (identifier i) q) in
               subst (HasTables (with_run b.pages x.ram b.rx bytes) x.manifest) (λ k i q. same i q k)
-              (run-tables b.pages x.ram b.rx bytes machine.tables (λ p its. let (page, there) = (buffers-there f known b is).rx p its in owned-behind x machine p page there))
+              (run-tables b.pages x.ram b.rx bytes machine.tables (λ p its. let (page, there) = (buffers-there f known b is).rx p its in owned-aside x machine p page there))
 
       pub state-filled : state_of after_fill ≡ filled s f bytes
       unfolding first

@@ -1,6 +1,6 @@
 -- SPDX-License-Identifier: MIT OR Apache-2.0
 -- The state that RAM and a manifest mean, part by part.
-use Rattle.std.proofs.Common.{◌≡◌, ◌∙◌, ℕ, ◌*◌, ◌<◌, ◌≤◌, true, List, length, map, Option, Some, None, refl, sym, ap, subst, inl, inr}
+use Rattle.std.proofs.Common.{◌≡◌, ◌∙◌, ℕ, ◌*◌, ◌<◌, ◌≤◌, true, List, length, map, Option, Some, None, refl, sym, ap, subst, arith, inl, inr}
 use Rattle.std.specs.Prelude.{find}
 use Rattle.std.specs.Option.{option_and_then, option_map, option_map_or}
 use Rattle.std.specs.Ordering.{nat_cmp}
@@ -10,6 +10,7 @@ use Rattle.std.proofs.lemmas.List.{get_or_past, length-map}
 use Rattle.std.proofs.lemmas.Option.{none-some}
 use Rattle.ffa_model.specs.declared.endpoint.Endpoint.{Endpoint}
 use Rattle.ffa_model.specs.declared.endpoint.Region.{Region}
+use Rattle.ffa_model.specs.Agreement.{blocks_of}
 use Rattle.ffa_model.specs.Identifiers.{identifier, manager, place}
 use Rattle.ffa_model.specs.Ram.{page_of}
 use Rattle.ffa_model.specs.Regions.{has_page, normal_of, owned_regions, right_in, regions_at}
@@ -23,9 +24,10 @@ use Rattle.ffa_model.proofs.Owners.{right-own}
 use Rattle.ffa_model.proofs.Places.{known-place}
 use Rattle.ffa_model.proofs.Handles.{find_none}
 use Rattle.ffa_pages.specs.Entry.{Entry, entry_at, first_entry, owner_at}
-use Rattle.ffa_stage2.specs.Tables.{table_page}
+use Rattle.ffa_stage2.specs.Tables.{IsAside, table_page}
 use Rattle.ffa_spmc.specs.Owners.{first_owners}
 use Rattle.ffa_spmc.specs.Meaning.{IsManager, Parts, held_page, state_of}
+use Rattle.ffa_spmc.specs.Unowned.{IsNoTable}
 
 -- no transaction is open where the map of them is empty
 handle-empty : (s : State) (p : ℕ) → s.transactions ≡ finite.empty → handle_at s p ≡ None
@@ -96,7 +98,7 @@ module _ (x : Parts) where
     pub access-first : s.transactions ≡ finite.empty → (i p : ℕ) → p < length x.ram.pages → access s (identifier i) p ≡ right_in x.manifest.ram_base.0 (regions_at x.manifest.endpoints.items i) p
     access-first none i p lt =
         ap (right_of (identifier i) (page_at s p)) (transaction-empty s p none) ∙ ap (λ (page : Option Page). right_of (identifier i) page None) (page-at p lt)
-        ∙ right-own x.manifest.ram_base.0 x.manifest.endpoints.items p i (page_of x.ram p) (accepted x.manifest.ram_base.0 x.manifest.ram_blocks x.manifest.endpoints.items x.manifest.accepted).apart
+        ∙ right-own x.manifest.ram_base.0 x.manifest.endpoints.items p i (page_of x.ram p) (accepted x.manifest.ram_base.0 x.manifest.tables.0 x.manifest.ram_blocks x.manifest.endpoints.items x.manifest.accepted).apart
 
   -- of a machine
   module _ (machine : IsManager x) where
@@ -122,17 +124,38 @@ module _ (x : Parts) where
         of None = refl
         of (Some e) = refl
 
-    -- a page that an endpoint owns is behind the tables
-    pub owned-behind : (p : ℕ) (page : Page) → page_at s p ≡ Some page → table_page x.manifest.ram_blocks (length x.manifest.endpoints.items) 0 ≤ p
-    owned-behind p page there = elim (cases_lt p (table_page x.manifest.ram_blocks (length x.manifest.endpoints.items) 0)) [
-      | inr behind ↦ behind
-      | inl low ↦ elim (cases_lt p (length x.ram.pages)) [
-        | inl lt ↦
-            absurd (none-some page
-            (sym (page-held p lt ∙ ap (option_map (λ (e : Entry). let q : Page = record { owner = e.owner; own_right = e.own_right; bytes = page_of x.ram p } in q)) (machine.owners.tables p low)) ∙ there))
-        | inr past ↦ absurd (none-some page (sym (page-past p past) ∙ there))
+    -- a page that has an entry is none of the tables'
+    pub entered-aside : (p : ℕ) (e : Entry) → entry_at x.kept.pages p ≡ Some e → IsAside (length x.manifest.endpoints.items) x.manifest.tables.0 x.manifest.ram_blocks p
+    entered-aside p e is = elim (cases_lt p x.manifest.tables.0) [
+      | inl before ↦ inl before
+      | inr from ↦ elim (cases_lt p (table_page x.manifest.tables.0 x.manifest.ram_blocks (length x.manifest.endpoints.items) 0)) [
+        | inr behind ↦ inr behind
+        | inl low ↦ absurd (none-some e (sym (machine.owners.tables p from low) ∙ is))
       ]
     ]
+
+    -- nor is a page that an endpoint owns
+    pub owned-aside : (p : ℕ) (page : Page) → page_at s p ≡ Some page → IsAside (length x.manifest.endpoints.items) x.manifest.tables.0 x.manifest.ram_blocks p
+    owned-aside p page there = elim (cases_lt p (length x.ram.pages)) [
+      | inl lt ↦ of (entry_at x.kept.pages p) refl (sym (page-held p lt) ∙ there)
+      | inr past ↦ absurd (none-some page (sym (page-past p past) ∙ there))
+    ]
+      where
+        of : (o : Option Entry) → entry_at x.kept.pages p ≡ o
+            → option_map (λ (e : Entry). let q : Page = record { owner = e.owner; own_right = e.own_right; bytes = page_of x.ram p } in q) o ≡ Some page
+            → IsAside (length x.manifest.endpoints.items) x.manifest.tables.0 x.manifest.ram_blocks p
+        of None is none = absurd (none-some page none)
+        of (Some e) is some = entered-aside p e is
+
+    blocks-are : blocks_of s ≡ x.manifest.ram_blocks
+    blocks-are = let size : length s.pages ≡ 512 * x.manifest.ram_blocks = size_is ∙ machine.tables.size in omega (arith, size)
+
+    -- the tables as the state counts them, and as the manifest does
+    pub by-state : (p : ℕ) → IsAside (length x.manifest.endpoints.items) x.manifest.tables.0 x.manifest.ram_blocks p → IsNoTable s p
+    by-state p aside = subst (λ z. z) (λ i. IsAside (sym parties_are i) x.manifest.tables.0 (sym blocks-are i) p) aside
+
+    pub by-manifest : (p : ℕ) → IsNoTable s p → IsAside (length x.manifest.endpoints.items) x.manifest.tables.0 x.manifest.ram_blocks p
+    by-manifest p aside = subst (λ z. z) (λ i. IsAside (parties_are i) x.manifest.tables.0 (blocks-are i) p) aside
 
     -- a list by endpoint has an element for each
     pub each : length x.kept.buffers ≡ length x.manifest.endpoints.items
@@ -149,5 +172,5 @@ module _ (x : Parts) where
     endpoint-known e known =
         subst (λ (n : ℕ). place e < n) counted
         (known-place (length x.kept.chain.works) e
-        (subst (λ (n : ℕ). 1 ≤ n) (sym counted) (accepted x.manifest.ram_base.0 x.manifest.ram_blocks x.manifest.endpoints.items x.manifest.accepted).some_endpoints)
+        (subst (λ (n : ℕ). 1 ≤ n) (sym counted) (accepted x.manifest.ram_base.0 x.manifest.tables.0 x.manifest.ram_blocks x.manifest.endpoints.items x.manifest.accepted).some_endpoints)
         known)

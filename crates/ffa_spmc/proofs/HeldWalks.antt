@@ -60,7 +60,7 @@ module _ (s : State) (sound : IsSoundState s) where
 
   pub few_pages : length s.pages ≤ MOST_PAGES
   few_pages =
-      let (n, size, _, few) = sound.sized.blocks in
+      let (n, size, _, few, _) = sound.sized.blocks in
       omega (arith, size, few)
 
   -- the first address of a page is one of the page

@@ -318,7 +318,7 @@ one-among (Some run) old op told new sound is among =
     (subst (λ (e : ℕ). is_known left e ≡ true) runs (subst (λ (t : State). is_known t seen.runner ≡ true) (sym acts) (known-step seen op among.read.sound)))
     among.ended.state.same last) in
     let base' : new.state.ram_base ≡ s.ram_base =
-    ap (λ (t : State). t.ram_base) (sym among.ended.state.same) ∙ ap (λ (t : State). t.ram_base) acts ∙ ap (λ (f : List Party × ℕ). f.1) (step-fixed seen op) ∙ base in
+    ap (λ (t : State). t.ram_base) (sym among.ended.state.same) ∙ ap (λ (t : State). t.ram_base) acts ∙ ap (λ (f : List Party × (ℕ × ℕ)). f.1.0) (step-fixed seen op) ∙ base in
     record {
       before = before;
       behind = behind;
@@ -349,7 +349,7 @@ known-both s xs ys front back = list_all-append (λ (x : ℕ × Op). is_known s 
 
 known-back : (s t : State) → fixed t ≡ fixed s → (xs : List (ℕ × Op)) → are_known t xs ≡ true → are_known s xs ≡ true
 known-back s t same xs known =
-    subst (λ (parts : List Party × ℕ). list_all (λ (x : ℕ × Op). is_known_among (length parts.0) x.0) xs ≡ true) same known
+    subst (λ (parts : List Party × (ℕ × ℕ)). list_all (λ (x : ℕ × Op). is_known_among (length parts.0) x.0) xs ≡ true) same known
 
 fixed-after : (xs : List (ℕ × Op)) (s : State) → fixed (state_after_as s xs) ≡ fixed s
 fixed-after [] s = refl

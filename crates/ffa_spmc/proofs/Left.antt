@@ -46,7 +46,7 @@ use Rattle.ffa_spmc.specs.Mixtures.{StayMixed, TablesRest}
 use Rattle.ffa_spmc.specs.Operated.{IsOperated, IsOperatedAs}
 use Rattle.ffa_spmc.specs.Snapshot.{Snapshot}
 use Rattle.ffa_spmc.proofs.Amid.{seen}
-use Rattle.ffa_spmc.proofs.Besides.{beside-access}
+use Rattle.ffa_spmc.proofs.Besides.{beside-access, placement}
 use Rattle.ffa_spmc.proofs.HeldWalks.{walks-after}
 use Rattle.ffa_spmc.proofs.Mixtures.{pages-as}
 use Rattle.ffa_spmc.proofs.Sizes.{pages-step}
@@ -82,11 +82,17 @@ may-at x e a q may at =
     ] may)
 
 module _ (old new : Snapshot) (was : Agrees old.ram old.state) (is : Agrees new.ram new.state) (sound : IsSoundState new.state) (parties : length new.state.parties ≡ length old.state.parties)
-    (base : new.state.ram_base ≡ old.state.ram_base) (size : length new.state.pages ≡ length old.state.pages) (memory : Moment) (written : List ℕ)
-    (stands : StandsAmid old.ram new.ram (length old.state.parties) (blocks_of old.state) (record { history = memory.history; ram = new.ram }) memory written)
-    (ends : EndsAmid new.ram (length old.state.parties) (blocks_of old.state) memory) where
+    (placed : placement new.state ≡ placement old.state) (size : length new.state.pages ≡ length old.state.pages) (memory : Moment) (written : List ℕ)
+    (stands : StandsAmid old.ram new.ram (length old.state.parties) old.state.tables (blocks_of old.state) (record { history = memory.history; ram = new.ram }) memory written)
+    (ends : EndsAmid new.ram (length old.state.parties) old.state.tables (blocks_of old.state) memory) where
   abbrev t : State
   t = held_in memory.ram new.state
+
+  base : new.state.ram_base ≡ old.state.ram_base
+  base = ap (λ (at : ℕ × ℕ). at.0) placed
+
+  place : new.state.tables ≡ old.state.tables
+  place = ap (λ (at : ℕ × ℕ). at.1) placed
 
   at-page : (p : ℕ) → page_at t p ≡ in_ram memory.ram p (page_at new.state p)
   at-page p = at-map_at (λ q page. in_ram memory.ram q page) new.state.pages p (λ q. refl)
@@ -158,29 +164,29 @@ module _ (old new : Snapshot) (was : Agrees old.ram old.state) (is : Agrees new.
     size = stands.beside.size ∙ is.size ∙ sym each;
     walks = λ e a he ha.
         let he' : e < length old.state.parties = subst (λ (k : ℕ). e < k) parties he in
-        ap (λ (k : ℕ). walk memory.ram (root_of new.state.ram_base (k / 512) e) a) each
-        ∙ ap (λ (c : ℕ). walk memory.ram (root_of c (blocks_of new.state) e) a) (sym (stands.beside.base ∙ is.place))
-        ∙ ap (λ (k : ℕ). walk_at memory.ram k e a) blocks
+        ap (λ (k : ℕ). walk memory.ram (root_of new.state.ram_base new.state.tables (k / 512) e) a) each
+        ∙ ap (λ (c : ℕ). walk memory.ram (root_of c new.state.tables (blocks_of new.state) e) a) (sym (stands.beside.base ∙ is.place))
+        ∙ (λ i. walk_at memory.ram (place i) (blocks i) e a)
         ∙ ends.walks e a he' ha
-        ∙ ap (λ (k : ℕ). walk_at new.ram k e a) (sym blocks)
-        ∙ seen new.state new.ram (blocks_of new.state) e a is refl he ha
+        ∙ (λ i. walk_at new.ram (sym place i) (sym blocks i) e a)
+        ∙ seen new.state new.ram new.state.tables (blocks_of new.state) e a is refl refl he ha
         ∙ sym (ap (λ (r : Option Rights). mapped_answer r a) (access-same (identifier e) a));
     bytes = bytes-left;
   }
 
-  could : (p : ℕ) → CouldWrite old.ram new.ram (length old.state.parties) (blocks_of old.state) p → MayStore old.state new.state p
+  could : (p : ℕ) → CouldWrite old.ram new.ram (length old.state.parties) old.state.tables (blocks_of old.state) p → MayStore old.state new.state p
   could p w = record {
     index = w.endpoint;
     there = w.one;
     right = elim w.walk [
       | inl led ↦
           let (may, at) = may-of (access_at old.state (identifier w.endpoint) w.address) w.address w.leaf
-          (sym (seen old.state old.ram (blocks_of old.state) w.endpoint w.address was refl w.one w.low) ∙ led) w.lets.write in
+          (sym (seen old.state old.ram old.state.tables (blocks_of old.state) w.endpoint w.address was refl refl w.one w.low) ∙ led) w.lets.write in
           inl (may-at old.state (identifier w.endpoint) w.address p may
           (ap (λ (x : ℕ). (x - old.state.ram_base) / 4096) (sym at) ∙ ap (λ (c : ℕ). (w.leaf.phys - c) / 4096) (sym was.place) ∙ w.lets.page))
       | inr led ↦
           let (may, at) = may-of (access_at new.state (identifier w.endpoint) w.address) w.address w.leaf
-          (sym (seen new.state new.ram (blocks_of old.state) w.endpoint w.address is blocks (subst (λ (k : ℕ). w.endpoint < k) (sym parties) w.one) w.low) ∙ led) w.lets.write in
+          (sym (seen new.state new.ram old.state.tables (blocks_of old.state) w.endpoint w.address is place blocks (subst (λ (k : ℕ). w.endpoint < k) (sym parties) w.one) w.low) ∙ led) w.lets.write in
           inr (may-at new.state (identifier w.endpoint) w.address p may
           (ap (λ (x : ℕ). (x - new.state.ram_base) / 4096) (sym at) ∙ ap (λ (c : ℕ). (w.leaf.phys - c) / 4096) (base ∙ sym was.place) ∙ w.lets.page))
     ];
@@ -192,9 +198,9 @@ module _ (old new : Snapshot) (was : Agrees old.ram old.state) (is : Agrees new.
   rest-left : TablesRest t memory.ram (Some memory.history)
   unfolding TablesRest
   rest-left = λ h there.
-      subst (λ (g : List Step). AreAtRest memory.ram (length new.state.parties) (blocks_of t) g) (same_Some memory.history h there)
-      (subst (λ (n : ℕ). AreAtRest memory.ram n (blocks_of t) memory.history) (sym parties)
-      (subst (λ (b : ℕ). AreAtRest memory.ram (length old.state.parties) b memory.history) (sym (ap (λ (n : ℕ). n / 512) (each ∙ size))) ends.rest))
+      subst (λ (g : List Step). AreAtRest memory.ram (length new.state.parties) t.tables (blocks_of t) g) (same_Some memory.history h there)
+      (subst (λ (n : ℕ). AreAtRest memory.ram n t.tables (blocks_of t) memory.history) (sym parties)
+      (subst (λ z. z) (λ i. AreAtRest memory.ram (length old.state.parties) (sym place i) (sym (ap (λ (n : ℕ). n / 512) (each ∙ size)) i) memory.history) ends.rest))
 
   pub is-left : AreWalks new → IsLeft old new left memory written
   is-left walks = record {
@@ -211,26 +217,26 @@ module _ (old new : Snapshot) (was : Agrees old.ram old.state) (is : Agrees new.
   }
 
 leaves-amid : (old new : Snapshot) → Agrees old.ram old.state → Agrees new.ram new.state → IsSoundState new.state → length new.state.parties ≡ length old.state.parties
-    → new.state.ram_base ≡ old.state.ram_base → length new.state.pages ≡ length old.state.pages → AreWalks new → StayMixed old.state old.ram new.ram old.past new.past → LeavesAmid old new
+    → placement new.state ≡ placement old.state → length new.state.pages ≡ length old.state.pages → AreWalks new → StayMixed old.state old.ram new.ram old.past new.past → LeavesAmid old new
 unfolding StayMixed
-leaves-amid old new was is sound parties base size walks mixed begun ended there last memory written amid =
+leaves-amid old new was is sound parties placed size walks mixed begun ended there last memory written amid =
     let (stands, ends) = mixed.amid.ended ended last begun there memory written amid in
-    let beside : StandsAmid old.ram new.ram (length old.state.parties) (blocks_of old.state) (record { history = memory.history; ram = new.ram }) memory written =
+    let beside : StandsAmid old.ram new.ram (length old.state.parties) old.state.tables (blocks_of old.state) (record { history = memory.history; ram = new.ram }) memory written =
     record { theirs = stands.theirs; beside = stands.beside; bytes = stands.bytes; walks = stands.walks; held = stands.held } in
-    (_, is-left old new was is sound parties base size memory written beside ends walks)
+    (_, is-left old new was is sound parties placed size memory written beside ends walks)
 
 pub left-operated : (old new : Snapshot) (op : Op) → IsOperated old op new → Agrees old.ram old.state → IsSoundState old.state → LeavesAmid old new
 left-operated old new op done was sound =
     leaves-amid old new was done.agrees (subst IsSoundState (sym done.state) (step-sound old.state sound op))
-    (ap (λ (s : State). length s.parties) done.state ∙ ap (λ (f : List Party × ℕ). length f.0) (step-fixed old.state op))
-    (ap (λ (s : State). s.ram_base) done.state ∙ ap (λ (f : List Party × ℕ). f.1) (step-fixed old.state op))
+    (ap (λ (s : State). length s.parties) done.state ∙ ap (λ (f : List Party × (ℕ × ℕ)). length f.0) (step-fixed old.state op))
+    (ap placement done.state ∙ ap (λ (f : List Party × (ℕ × ℕ)). f.1) (step-fixed old.state op))
     (ap (λ (s : State). length s.pages) done.state ∙ pages-step old.state op) done.walks done.mixtures
 
 pub left-operated_as : (old new : Snapshot) (e : ℕ) (op : Op) → IsOperatedAs old e op new → Agrees old.ram old.state → IsSoundState old.state → LeavesAmid old new
 left-operated_as old new e op done was sound =
     leaves-amid old new was done.agrees (subst IsSoundState (sym done.state) (sound-step_as old.state e op sound))
-    (ap (λ (s : State). length s.parties) done.state ∙ ap (λ (f : List Party × ℕ). length f.0) (fixed-step_as old.state e op))
-    (ap (λ (s : State). s.ram_base) done.state ∙ ap (λ (f : List Party × ℕ). f.1) (fixed-step_as old.state e op))
+    (ap (λ (s : State). length s.parties) done.state ∙ ap (λ (f : List Party × (ℕ × ℕ)). length f.0) (fixed-step_as old.state e op))
+    (ap placement done.state ∙ ap (λ (f : List Party × (ℕ × ℕ)). f.1) (fixed-step_as old.state e op))
     (ap (λ (s : State). length s.pages) done.state ∙ pages-as old.state e op) done.walks done.mixtures
 
 -- ---- one after another

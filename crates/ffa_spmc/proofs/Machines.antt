@@ -13,9 +13,10 @@ use Rattle.ffa_model.specs.SoundState.{IsSoundState}
 use Rattle.ffa_model.specs.Step.{serve}
 use Rattle.ffa_model.proofs.CallAccesses.{access-written}
 use Rattle.ffa_laws.proofs.SoundOperations.{call-sound}
-use Rattle.ffa_stage2.specs.Tables.{table_page}
+use Rattle.ffa_stage2.specs.Tables.{IsAside}
+use Rattle.ffa_stage2.proofs.Places.{not-both}
 use Rattle.ffa_spmc.specs.Meaning.{HasTables, IsManager, Parts, access_by_place, state_of}
-use Rattle.ffa_spmc.proofs.Held.{owned-behind}
+use Rattle.ffa_spmc.proofs.Held.{owned-aside}
 use Rattle.ffa_spmc.proofs.Stores.{state-written}
 
 -- the tables in this RAM, in place of the machine's own, give the access of the state
@@ -31,8 +32,8 @@ module _ (x : Parts) (machine : IsManager x) where
     size : length new.pages ≡ length x.ram.pages
     size = length-set x.ram.pages p (with_bytes (page_of x.ram p) at bytes)
 
-    behind : table_page x.manifest.ram_blocks (length x.manifest.endpoints.items) 0 ≤ p
-    behind = owned-behind x machine p page there
+    aside : IsAside (length x.manifest.endpoints.items) x.manifest.tables.0 x.manifest.ram_blocks p
+    aside = owned-aside x machine p page there
 
     same-access : (i q : ℕ) → access_by_place (state_of x) i q ≡ access_by_place (state_of (record x { ram = new })) i q
     same-access i q =
@@ -44,11 +45,12 @@ module _ (x : Parts) (machine : IsManager x) where
       base = machine.tables.base;
       size = size ∙ machine.tables.size;
       built =
-          machine.laws.stay x.ram new (length x.manifest.endpoints.items) x.manifest.ram_blocks (access_by_place (state_of x)) machine.tables.built
+          machine.laws.stay x.ram new (length x.manifest.endpoints.items) x.manifest.tables.0 x.manifest.ram_blocks (access_by_place (state_of x)) machine.tables.built
           (record {
             base = refl;
             size = size;
-            pages = λ q low. get_or-set_other x.ram.pages p q (with_bytes (page_of x.ram p) at bytes) [] (λ same. absurd (omega (arith, low, behind, same)));
+            pages = λ q from low. get_or-set_other x.ram.pages p q (with_bytes (page_of x.ram p) at bytes) []
+                (λ same. not-both (length x.manifest.endpoints.items) x.manifest.tables.0 x.manifest.ram_blocks q (from, low) (subst (IsAside (length x.manifest.endpoints.items) x.manifest.tables.0 x.manifest.ram_blocks) (sym same) aside));
           });
     }
 

@@ -32,6 +32,7 @@ use Rattle.ffa_spmc.specs.Mixtures.{StayMixed, TablesRest}
 use Rattle.ffa_spmc.specs.Moments.{AreMoments, IsMixed}
 use Rattle.ffa_spmc.specs.Unowned.{OwnsNoTables}
 use Rattle.ffa_spmc.proofs.Amid.{held-between, seen, stays-amid}
+use Rattle.ffa_spmc.proofs.Besides.{placement}
 use Rattle.ffa_spmc.proofs.Sizes.{pages-step}
 
 -- who isn't at the place of an identifier has another one
@@ -51,18 +52,24 @@ and-then-kept : (f g : ℕ → Option Rights) → ((p : ℕ) → IsSameOrNone (f
 and-then-kept f g same None = inl refl
 and-then-kept f g same (Some p) = same p
 
-module _ (s t : State) (old new : Ram) (was : Agrees old s) (is : Agrees new t) (parties : length t.parties ≡ length s.parties) (base : t.ram_base ≡ s.ram_base)
+module _ (s t : State) (old new : Ram) (was : Agrees old s) (is : Agrees new t) (parties : length t.parties ≡ length s.parties) (placed : placement t ≡ placement s)
     (size : length t.pages ≡ length s.pages) (r : ℕ) (others : (e p : ℕ) → r ≢ e → access t e p ≡ access s e p)
     (keeps : (p : ℕ) → IsSameOrNone (access s r p) (access t r p)) where
-  before : (e a : ℕ) → e < length s.parties → a < 2 ^ 32 → walk_at old (blocks_of s) e a ≡ mapped_answer (access_at s (identifier e) a) a
-  before e a he ha = seen s old (blocks_of s) e a was refl he ha
+  base : t.ram_base ≡ s.ram_base
+  base = ap (λ (at : ℕ × ℕ). at.0) placed
 
-  behind : (e a : ℕ) → e < length s.parties → a < 2 ^ 32 → walk_at new (blocks_of s) e a ≡ mapped_answer (option_and_then (access t (identifier e)) (page_of_address s a)) a
+  stand : t.tables ≡ s.tables
+  stand = ap (λ (at : ℕ × ℕ). at.1) placed
+
+  before : (e a : ℕ) → e < length s.parties → a < 2 ^ 32 → walk_at old s.tables (blocks_of s) e a ≡ mapped_answer (access_at s (identifier e) a) a
+  before e a he ha = seen s old s.tables (blocks_of s) e a was refl refl he ha
+
+  behind : (e a : ℕ) → e < length s.parties → a < 2 ^ 32 → walk_at new s.tables (blocks_of s) e a ≡ mapped_answer (option_and_then (access t (identifier e)) (page_of_address s a)) a
   behind e a he ha =
-      seen t new (blocks_of s) e a is (ap (λ (n : ℕ). n / 512) size) (subst (λ (n : ℕ). e < n) (sym parties) he) ha
+      seen t new s.tables (blocks_of s) e a is stand (ap (λ (n : ℕ). n / 512) size) (subst (λ (n : ℕ). e < n) (sym parties) he) ha
       ∙ ap (λ (c : ℕ). mapped_answer (option_and_then (access t (identifier e)) (if nat_le c a && nat_lt a (2 ^ 32) then Some ((a - c) / 4096) else None)) a) base
 
-  pub one-differs : OneDiffers old new (length s.parties) (blocks_of s)
+  pub one-differs : OneDiffers old new (length s.parties) s.tables (blocks_of s)
   one-differs = (
     place r,
     λ e a he ha far.
@@ -77,7 +84,7 @@ module _ (s t : State) (old new : Ram) (was : Agrees old s) (is : Agrees new t) 
     | inr far ↦ inr (inr (others e p far))
   ]
 
-  pub is-steady : WalksSameOrNone old new (length s.parties) (blocks_of s)
+  pub is-steady : WalksSameOrNone old new (length s.parties) s.tables (blocks_of s)
   is-steady e a he ha ok ok' = elim (and-then-kept (access s (identifier e)) (access t (identifier e)) (each-keeps (identifier e)) (page_of_address s a)) [
     | inl none ↦ absurd (at-none _ a none (ap is_ok (sym (behind e a he ha)) ∙ ok'))
     | inr (inl none) ↦ absurd (at-none _ a none (ap is_ok (sym (before e a he ha)) ∙ ok))
@@ -85,10 +92,10 @@ module _ (s t : State) (old new : Ram) (was : Agrees old s) (is : Agrees new t) 
   ]
 
   all-mixed : (past later : Option (List Step)) → AreMoments s old new past later → TablesRest s old past
-      → Only past later (λ h step. MixturesBetween old new (length s.parties) (blocks_of s) (step ∷ h) step.after)
+      → Only past later (λ h step. MixturesBetween old new (length s.parties) s.tables (blocks_of s) (step ∷ h) step.after)
   unfolding IsMixed TablesRest
   all-mixed past later moments rest =
-      Only-map (moments.mixtures.each rest) (λ h step its. mixtures-between old new step.after (length s.parties) (blocks_of s) (step ∷ h) one-differs its)
+      Only-map (moments.mixtures.each rest) (λ h step its. mixtures-between old new step.after (length s.parties) s.tables (blocks_of s) (step ∷ h) one-differs its)
 
   pub stay-mixed : IsSoundState s → OwnsNoTables s → OwnsNoTables t → (past later : Option (List Step)) → TurnsIn new later → AreMoments s old new past later → TablesRest s old past → StayMixed s old new past later
   unfolding StayMixed IsMixed TablesRest
@@ -96,11 +103,11 @@ module _ (s t : State) (old new : Ram) (was : Agrees old s) (is : Agrees new t) 
     walks = all-mixed past later moments rest;
     held = Only-map (Only-turn new turns (all-mixed past later moments rest)) (λ h step its.
         let (turn, between) = its in
-        held-between old new step.after (length s.parties) (blocks_of s) (step ∷ h) turn between);
+        held-between old new step.after (length s.parties) s.tables (blocks_of s) (step ∷ h) turn between);
     unheld = moments.mixtures.unheld rest;
     rest = moments.mixtures.rest rest is-steady;
     amid =
-        stays-amid s t old new was is parties base size sound none none' past later turns rest (moments.mixtures.rest rest is-steady) (moments.mixtures.each rest)
+        stays-amid s t old new was is parties placed size sound none none' past later turns rest (moments.mixtures.rest rest is-steady) (moments.mixtures.each rest)
         (all-mixed past later moments rest);
   }
 
@@ -108,26 +115,27 @@ module _ (s t : State) (old new : Ram) (was : Agrees old s) (is : Agrees new t) 
   pub rest-behind : (past later : Option (List Step)) → AreMoments s old new past later → TablesRest s old past → TablesRest t new later
   unfolding IsMixed TablesRest
   rest-behind past later moments rest =
-      subst (λ (n : ℕ). RestIn new n (blocks_of t) later) (sym parties)
-      (subst (λ (k : ℕ). RestIn new (length s.parties) (k / 512) later) (sym size) (moments.mixtures.rest rest is-steady))
+      subst (λ (n : ℕ). RestIn new n t.tables (blocks_of t) later) (sym parties)
+      (subst (λ (k : ℕ). RestIn new (length s.parties) k (blocks_of t) later) (sym stand)
+      (subst (λ (k : ℕ). RestIn new (length s.parties) s.tables (k / 512) later) (sym size) (moments.mixtures.rest rest is-steady)))
 
 -- where access is the same
-pub rest-alike : (s t : State) (old new : Ram) (past later : Option (List Step)) → Agrees old s → Agrees new t → length t.parties ≡ length s.parties → t.ram_base ≡ s.ram_base
+pub rest-alike : (s t : State) (old new : Ram) (past later : Option (List Step)) → Agrees old s → Agrees new t → length t.parties ≡ length s.parties → placement t ≡ placement s
     → length t.pages ≡ length s.pages → ((e p : ℕ) → access t e p ≡ access s e p) → AreMoments s old new past later → TablesRest s old past → TablesRest t new later
-rest-alike s t old new past later was is parties base size same moments rest =
-    rest-behind s t old new was is parties base size 0 (λ e p _. same e p) (λ p. inr (inr (same 0 p))) past later moments rest
+rest-alike s t old new past later was is parties placed size same moments rest =
+    rest-behind s t old new was is parties placed size 0 (λ e p _. same e p) (λ p. inr (inr (same 0 p))) past later moments rest
 
-pub mixed-alike : (s t : State) (old new : Ram) (past later : Option (List Step)) → Agrees old s → Agrees new t → length t.parties ≡ length s.parties → t.ram_base ≡ s.ram_base
+pub mixed-alike : (s t : State) (old new : Ram) (past later : Option (List Step)) → Agrees old s → Agrees new t → length t.parties ≡ length s.parties → placement t ≡ placement s
     → length t.pages ≡ length s.pages → ((e p : ℕ) → access t e p ≡ access s e p) → IsSoundState s → OwnsNoTables s → OwnsNoTables t → TurnsIn new later → AreMoments s old new past later → TablesRest s old past
     → StayMixed s old new past later
-mixed-alike s t old new past later was is parties base size same sound none none' turns moments rest =
-    stay-mixed s t old new was is parties base size 0 (λ e p _. same e p) (λ p. inr (inr (same 0 p))) sound none none' past later turns moments rest
+mixed-alike s t old new past later was is parties placed size same sound none none' turns moments rest =
+    stay-mixed s t old new was is parties placed size 0 (λ e p _. same e p) (λ p. inr (inr (same 0 p))) sound none none' past later turns moments rest
 
 -- of an operation
 pub op-mixed : (s t : State) (op : Op) (old new : Ram) (past later : Option (List Step)) → t ≡ (step s op).state → Agrees old s → Agrees new t → OwnAccess s op
     → IsSoundState s → OwnsNoTables s → OwnsNoTables t → TurnsIn new later → AreMoments s old new past later → TablesRest s old past → StayMixed s old new past later
 op-mixed s t op old new past later state was is own sound none none' turns moments =
-    stay-mixed s (step s op).state old new was (subst (Agrees new) state is) (ap (λ (f : List Party × ℕ). length f.0) (step-fixed s op)) (ap (λ (f : List Party × ℕ). f.1) (step-fixed s op))
+    stay-mixed s (step s op).state old new was (subst (Agrees new) state is) (ap (λ (f : List Party × (ℕ × ℕ)). length f.0) (step-fixed s op)) (ap (λ (f : List Party × (ℕ × ℕ)). f.1) (step-fixed s op))
     (pages-step s op) s.runner own.others own.keeps sound none (subst OwnsNoTables state none') past later turns moments
 
 -- and the tables are at rest behind a call
@@ -135,7 +143,7 @@ pub call-rest : (s t : State) (op : Op) (old new : Ram) (past later : Option (Li
     → AreMoments s old new past later → TablesRest s old past → TablesRest t new later
 call-rest s t op old new past later state was is own moments rest =
     subst (λ (u : State). TablesRest u new later) (sym state)
-    (rest-behind s (step s op).state old new was (subst (Agrees new) state is) (ap (λ (f : List Party × ℕ). length f.0) (step-fixed s op)) (ap (λ (f : List Party × ℕ). f.1) (step-fixed s op))
+    (rest-behind s (step s op).state old new was (subst (Agrees new) state is) (ap (λ (f : List Party × (ℕ × ℕ)). length f.0) (step-fixed s op)) (ap (λ (f : List Party × (ℕ × ℕ)). f.1) (step-fixed s op))
     (pages-step s op) s.runner own.others own.keeps past later moments rest)
 
 pub pages-elsewhere : (s : State) (e : ℕ) (op : Op) → length (step_elsewhere s e op).state.pages ≡ length s.pages
@@ -151,5 +159,5 @@ pages-as s e op = elim (s.runner == e) as (λ b. length (if b then step s op els
 pub op_as-mixed : (s t : State) (e : ℕ) (op : Op) (old new : Ram) (past later : Option (List Step)) → t ≡ (step_as s e op).state → Agrees old s → Agrees new t → OwnAccessAs s e op
     → IsSoundState s → OwnsNoTables s → OwnsNoTables t → TurnsIn new later → AreMoments s old new past later → TablesRest s old past → StayMixed s old new past later
 op_as-mixed s t e op old new past later state was is own sound none none' turns moments =
-    stay-mixed s (step_as s e op).state old new was (subst (Agrees new) state is) (ap (λ (f : List Party × ℕ). length f.0) (fixed-step_as s e op)) (ap (λ (f : List Party × ℕ). f.1) (fixed-step_as s e op))
+    stay-mixed s (step_as s e op).state old new was (subst (Agrees new) state is) (ap (λ (f : List Party × (ℕ × ℕ)). length f.0) (fixed-step_as s e op)) (ap (λ (f : List Party × (ℕ × ℕ)). f.1) (fixed-step_as s e op))
     (pages-as s e op) e (λ f p far. own.others f p far) own.keeps sound none (subst OwnsNoTables state none') past later turns moments

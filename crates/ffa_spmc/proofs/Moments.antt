@@ -10,7 +10,6 @@ use Rattle.ffa_model.specs.Lists.{is_in_run}
 use Rattle.ffa_model.specs.Ram.{Ram}
 use Rattle.ffa_model.specs.State.{Buffers, State, is_known}
 use Rattle.ffa_model.proofs.Accepted.{accepted}
-use Rattle.ffa_model.proofs.Runs.{to-run}
 use Rattle.ffa_memshare.specs.Callers.{IsRxApartOfOpen}
 use Rattle.ffa_memshare.specs.Ranges.{in_ranges}
 use Rattle.ffa_memshare.specs.Stored.{pool_slot}
@@ -20,7 +19,8 @@ use Rattle.ffa_physmem.proofs.Moments.{Only-map, Only-none, Only-one, beside-sam
 use Rattle.ffa_rxtx.specs.Parts.{IsRxWriting}
 use Rattle.ffa_stage2.specs.Moments.{EndsSettled, IsInOrder, IsMoment, WalksBetween, WritesUnreached}
 use Rattle.ffa_stage2.specs.Rest.{AreMixed, RestIn}
-use Rattle.ffa_stage2.specs.Tables.{table_page}
+use Rattle.ffa_stage2.specs.Tables.{IsAside}
+use Rattle.ffa_stage2.proofs.Places.{not-both}
 use Rattle.ffa_stage2.proofs.Kept.{built-kept}
 use Rattle.ffa_stage2.proofs.Moments.{between-first, moment-unreached, moment-walks, no-right-ends, nothing-ends}
 use Rattle.ffa_stage2.proofs.Rest.{mixed-of, mixed-still}
@@ -28,7 +28,7 @@ use Rattle.ffa_spmc.specs.Meaning.{HasTables, IsManager, Parts, access_by_place,
 use Rattle.ffa_spmc.specs.Mixtures.{TablesRest}
 use Rattle.ffa_spmc.specs.Moments.{AreMoments, IsMixed, IsSafeStep}
 use Rattle.ffa_spmc.proofs.Fills.{buffers-there, rx-unnamed, there-inside}
-use Rattle.ffa_spmc.proofs.Held.{owned-behind, parties_are, size_is}
+use Rattle.ffa_spmc.proofs.Held.{owned-aside, parties_are, size_is}
 use Rattle.ffa_spmc.proofs.Moves.{of-manifest}
 use Rattle.ffa_spmc.proofs.Pools.{named-kept}
 use Rattle.ffa_spmc.proofs.MemoryParts.{memory_parts_in}
@@ -38,8 +38,8 @@ pub still-moments : (s : State) (old new : Ram) (past later : Option (List Step)
 unfolding IsMixed
 still-moments s old new past later same same_past = record {
   steps = subst (λ (l : Option (List Step)). Only past l (λ h step. IsSafeStep s old new h step)) (sym same_past) Only-none;
-  ended = nothing-ends old new (length s.parties) (blocks_of s) later same;
-  mixtures = mixed-still old new (length s.parties) (blocks_of s) past later same same_past;
+  ended = nothing-ends old new (length s.parties) s.tables (blocks_of s) later same;
+  mixtures = mixed-still old new (length s.parties) s.tables (blocks_of s) past later same same_past;
 }
 
 pub no-moments : (s : State) (ram : Ram) (past : Option (List Step)) → AreMoments s ram ram past past
@@ -48,6 +48,9 @@ no-moments s ram past = still-moments s ram ram past past refl refl
 module _ (x : Parts) (machine : IsManager x) where
   abbrev n : ℕ
   n = length x.manifest.endpoints.items
+
+  abbrev tables : ℕ
+  tables = x.manifest.tables.0
 
   abbrev b : ℕ
   b = x.manifest.ram_blocks
@@ -58,96 +61,94 @@ module _ (x : Parts) (machine : IsManager x) where
       omega (arith, size)
 
   -- by the numbers of the state
-  of-state : (P : ℕ → ℕ → Type 0) → P n b → P (length (state_of x).parties) (blocks_of (state_of x))
-  of-state P its = subst (λ (k : ℕ). P k (blocks_of (state_of x))) (sym (parties_are x)) (subst (λ (k : ℕ). P n k) (sym blocks-are) its)
+  of-state : (P : ℕ → ℕ → ℕ → Type 0) → P n tables b → P (length (state_of x).parties) (state_of x).tables (blocks_of (state_of x))
+  of-state P its = subst (λ (k : ℕ). P k tables (blocks_of (state_of x))) (sym (parties_are x)) (subst (λ (k : ℕ). P n tables k) (sym blocks-are) its)
 
-  by-state : (old new : Ram) (h : List Step) (step : Step) → WalksBetween old new n b step.after → IsInOrder old n b h step → WritesUnreached old new n b h step
+  by-state : (old new : Ram) (h : List Step) (step : Step) → WalksBetween old new n tables b step.after → IsInOrder old n tables b h step → WritesUnreached old new n tables b h step
       → IsSafeStep (state_of x) old new h step
   by-state old new h step walks order unreached = record {
-    walks = of-state (λ k j. WalksBetween old new k j step.after) walks;
-    order = of-state (λ k j. IsInOrder old k j h step) order;
-    unreached = of-state (λ k j. WritesUnreached old new k j h step) unreached;
+    walks = of-state (λ k f j. WalksBetween old new k f j step.after) walks;
+    order = of-state (λ k f j. IsInOrder old k f j h step) order;
+    unreached = of-state (λ k f j. WritesUnreached old new k f j h step) unreached;
   }
 
   -- tables at rest, by the numbers of the layout
   pub rest-of : (past : Option (List Step))
-      → (0 < array_vec_len x.kept.layout.regions → RestIn x.ram (array_vec_len x.kept.layout.regions) x.kept.layout.blocks past)
+      → (0 < array_vec_len x.kept.layout.regions → RestIn x.ram (array_vec_len x.kept.layout.regions) x.kept.layout.tables.0 x.kept.layout.blocks past)
       → TablesRest (state_of x) x.ram past
   unfolding TablesRest
   rest-of past at_rest =
-      let some = (accepted x.manifest.ram_base.0 x.manifest.ram_blocks x.manifest.endpoints.items x.manifest.accepted).some_endpoints in
-      of-state (λ k j. RestIn x.ram k j past)
-      (of-manifest x machine (λ base endpoints blocks. RestIn x.ram endpoints blocks past) (at_rest (subst (λ (k : ℕ). 1 ≤ k) (sym machine.layout.endpoints) some)))
+      let some = (accepted x.manifest.ram_base.0 x.manifest.tables.0 x.manifest.ram_blocks x.manifest.endpoints.items x.manifest.accepted).some_endpoints in
+      of-state (λ k f j. RestIn x.ram k f j past)
+      (of-manifest x machine (λ base endpoints tables blocks. RestIn x.ram endpoints tables blocks past) (at_rest (subst (λ (k : ℕ). 1 ≤ k) (sym machine.layout.endpoints) some)))
 
   -- rights that change
   pub moments-of : (new : Ram) (past later : Option (List Step)) → TurnsIn new later
-      → Only past later (λ h s. IsMoment x.ram new (array_vec_len x.kept.layout.regions) x.kept.layout.blocks past h s)
-      → EndsSettled x.ram new (array_vec_len x.kept.layout.regions) x.kept.layout.blocks later → AreMoments (state_of x) x.ram new past later
+      → Only past later (λ h s. IsMoment x.ram new (array_vec_len x.kept.layout.regions) x.kept.layout.tables.0 x.kept.layout.blocks past h s)
+      → EndsSettled x.ram new (array_vec_len x.kept.layout.regions) x.kept.layout.tables.0 x.kept.layout.blocks later → AreMoments (state_of x) x.ram new past later
   unfolding IsMixed
   moments-of new past later turns only ended = record {
     steps =
-        Only-map (of-manifest x machine (λ base endpoints blocks. Only past later (λ h s. IsMoment x.ram new endpoints blocks past h s)) only)
-        (λ h s m. by-state x.ram new h s (moment-walks x.ram new n b past h s m) m.order (moment-unreached x.ram new n b past h s m));
-    ended = of-state (λ k j. EndsSettled x.ram new k j later) (of-manifest x machine (λ base endpoints blocks. EndsSettled x.ram new endpoints blocks later) ended);
-    mixtures = of-state (λ k j. AreMixed x.ram new k j past later) (mixed-of x.ram new n b past later turns
-        (of-manifest x machine (λ base endpoints blocks. Only past later (λ h s. IsMoment x.ram new endpoints blocks past h s)) only)
-        (of-manifest x machine (λ base endpoints blocks. EndsSettled x.ram new endpoints blocks later) ended));
+        Only-map (of-manifest x machine (λ base endpoints tables blocks. Only past later (λ h s. IsMoment x.ram new endpoints tables blocks past h s)) only)
+        (λ h s m. by-state x.ram new h s (moment-walks x.ram new n tables b past h s m) m.order (moment-unreached x.ram new n tables b past h s m));
+    ended = of-state (λ k f j. EndsSettled x.ram new k f j later) (of-manifest x machine (λ base endpoints tables blocks. EndsSettled x.ram new endpoints tables blocks later) ended);
+    mixtures = of-state (λ k f j. AreMixed x.ram new k f j past later) (mixed-of x.ram new n tables b past later turns
+        (of-manifest x machine (λ base endpoints tables blocks. Only past later (λ h s. IsMoment x.ram new endpoints tables blocks past h s)) only)
+        (of-manifest x machine (λ base endpoints tables blocks. EndsSettled x.ram new endpoints tables blocks later) ended));
   }
 
-  -- pages behind the tables that are written while these stay
+  -- pages that are none of the tables' are written while these stay
   pub beside-moments : (new : Ram) → HasTables new x.manifest (access_by_place (state_of x)) → {past later : Option (List Step)} {P : List Step → Step → Type 0} → TurnsIn new later → Only past later P
-      → ((h : List Step) (s : Step) → P h s → (named : ℕ → Bool) × ((p : ℕ) → named p ≡ true → table_page b n 0 ≤ p) × IsWriting x.ram named s)
+      → ((h : List Step) (s : Step) → P h s → (named : ℕ → Bool) × ((p : ℕ) → named p ≡ true → IsAside n tables b p) × IsWriting x.ram named s)
       → AreMoments (state_of x) x.ram new past later
   unfolding IsMixed
   beside-moments new still {past = past} {later = later} turns only its =
       let old = machine.tables.built in
       let rights = access_by_place (state_of x) in
-      let moments : Only past later (λ h s. IsMoment x.ram new n b past h s) =
+      let moments : Only past later (λ h s. IsMoment x.ram new n tables b past h s) =
       Only-map only (λ h s holds.
-      let (named, behind, writing) = its h s holds in
-      written-moment x.ram new n b rights rights old still.built (still.base ∙ sym machine.tables.base) x.ram named rights behind old
-      (between-first x.ram n b rights rights old) refl past h s writing
+      let (named, aside, writing) = its h s holds in
+      written-moment x.ram new n tables b rights rights old still.built (still.base ∙ sym machine.tables.base) x.ram named rights aside old
+      (between-first x.ram n tables b rights rights old) refl past h s writing
       (λ p at e he. stays-same (rights e p) (rights e p) (rights e p) _ _ refl refl))
       in
-      let ends : EndsSettled x.ram new n b later = no-right-ends x.ram new n b rights rights old still.built later (λ e p was. was) in
+      let ends : EndsSettled x.ram new n tables b later = no-right-ends x.ram new n tables b rights rights old still.built later (λ e p was. was) in
       record {
-        steps = Only-map moments (λ h s m. by-state x.ram new h s (moment-walks x.ram new n b past h s m) m.order (moment-unreached x.ram new n b past h s m));
-        ended = of-state (λ k j. EndsSettled x.ram new k j later) ends;
-        mixtures = of-state (λ k j. AreMixed x.ram new k j past later) (mixed-of x.ram new n b past later turns moments ends);
+        steps = Only-map moments (λ h s m. by-state x.ram new h s (moment-walks x.ram new n tables b past h s m) m.order (moment-unreached x.ram new n tables b past h s m));
+        ended = of-state (λ k f j. EndsSettled x.ram new k f j later) ends;
+        mixtures = of-state (λ k f j. AreMixed x.ram new k f j past later) (mixed-of x.ram new n tables b past later turns moments ends);
       }
 
-  -- pages behind the tables that are read at once
-  pub reading-moments : (new : Ram) (named : ℕ → Bool) → IsBeside x.ram new named → ((p : ℕ) → named p ≡ true → table_page b n 0 ≤ p) → (past later : Option (List Step)) (first count : ℕ) (begins : Bool)
+  -- pages that are none of the tables' are read at once
+  pub reading-moments : (new : Ram) (named : ℕ → Bool) → IsBeside x.ram new named → ((p : ℕ) → named p ≡ true → IsAside n tables b p) → (past later : Option (List Step)) (first count : ℕ) (begins : Bool)
       → TurnsIn new later → One past later (λ s. IsReading x.ram new first count begins s) → AreMoments (state_of x) x.ram new past later
-  reading-moments new named beside behind past later first count begins turns steps =
+  reading-moments new named beside aside past later first count begins turns steps =
       let still : HasTables new x.manifest (access_by_place (state_of x)) = record {
         base = beside.base ∙ machine.tables.base;
         size = beside.size ∙ machine.tables.size;
         built =
-            built-kept x.ram new n b (access_by_place (state_of x)) machine.tables.built beside.base beside.size
-            (λ p low. beside.pages p (false_from_ne_true (named p) (λ at. absurd (omega (arith, low, behind p at)))));
+            built-kept x.ram new n tables b (access_by_place (state_of x)) machine.tables.built beside.base beside.size
+            (λ p from below. beside.pages p (false_from_ne_true (named p) (λ at. not-both n tables b p (from, below) (aside p at))));
       } in
       beside-moments new still turns (Only-one steps) (λ _ s its. (
         named,
-        behind,
+        aside,
         record {
           before = subst (λ (r : Ram). IsBeside x.ram r named) (sym its.before) (beside-same x.ram named);
           after = subst (λ (r : Ram). IsBeside x.ram r named) (sym its.after) beside;
         },
       ))
 
-  -- RX of an endpoint is behind the tables
+  -- RX of an endpoint is none of the tables'
   rx-pages : (f : ℕ) → is_known (state_of x) f ≡ true → (buffers : Buffers) → buffers_in x.kept.buffers f ≡ Some buffers
-      → (p : ℕ) → is_in_run buffers.rx buffers.pages p ≡ true → table_page b n 0 ≤ p
-  rx-pages f known buffers are p its = let (page, there) = (buffers-there x machine f known buffers are).rx p its in owned-behind x machine p page there
+      → (p : ℕ) → is_in_run buffers.rx buffers.pages p ≡ true → IsAside n tables b p
+  rx-pages f known buffers are p its = let (page, there) = (buffers-there x machine f known buffers are).rx p its in owned-aside x machine p page there
 
   -- and no open transaction names its pages
   pub rx-apart : (f : ℕ) → is_known (state_of x) f ≡ true → IsRxApartOfOpen (memory_parts_in x) f
   rx-apart f known k h t is = record {
-    behind = λ buffers are.
-        let some : 1 ≤ buffers.pages = (buffers-there x machine f known buffers are).some in
-        let behind : table_page b n 0 ≤ buffers.rx = rx-pages f known buffers are buffers.rx (to-run buffers.rx buffers.pages buffers.rx (omega arith) (omega (arith, some))) in
-        rw (machine.layout.blocks, machine.layout.endpoints) behind;
+    aside = λ buffers are p its.
+        subst (λ z. z) (λ i. IsAside (sym machine.layout.endpoints i) (sym machine.layout.tables i) (sym machine.layout.blocks i) p) (rx-pages f known buffers are p its);
     apart = λ buffers are p its. false_from_ne_true (in_ranges x.kept.layout.base.0 t.ranges p) (named buffers are p its);
   }
     where

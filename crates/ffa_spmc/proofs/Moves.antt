@@ -24,15 +24,16 @@ use Rattle.ffa_memshare.specs.Changes.{IsMarked, IsMoved}
 use Rattle.ffa_memshare.specs.Grants.{with_rights}
 use Rattle.ffa_memshare.specs.declared.marks.Mark.TheVariants.{Given, Named}
 use Rattle.ffa_spmc.specs.Meaning.{AreOwners, HasTables, IsManager, Parts, access_by_place, held_page, state_of}
-use Rattle.ffa_spmc.proofs.Held.{size_is}
+use Rattle.ffa_spmc.proofs.Held.{entered-aside, size_is}
 
--- a fact on the layout's base, number of endpoints and blocks, of the manifest's
-pub of-manifest : (x : Parts) → IsManager x → (P : ℕ → ℕ → ℕ → Type 0) → P x.kept.layout.base.0 (array_vec_len x.kept.layout.regions) x.kept.layout.blocks
-    → P x.manifest.ram_base.0 (length x.manifest.endpoints.items) x.manifest.ram_blocks
+-- a fact on the layout's base, number of endpoints, tables and blocks, of the manifest's
+pub of-manifest : (x : Parts) → IsManager x → (P : ℕ → ℕ → ℕ → ℕ → Type 0) → P x.kept.layout.base.0 (array_vec_len x.kept.layout.regions) x.kept.layout.tables.0 x.kept.layout.blocks
+    → P x.manifest.ram_base.0 (length x.manifest.endpoints.items) x.manifest.tables.0 x.manifest.ram_blocks
 of-manifest x machine P is =
-    subst (λ (b : ℕ). P b (length x.manifest.endpoints.items) x.manifest.ram_blocks) machine.layout.base
-    (subst (λ (n : ℕ). P x.kept.layout.base.0 n x.manifest.ram_blocks) machine.layout.endpoints
-    (subst (λ (b : ℕ). P x.kept.layout.base.0 (array_vec_len x.kept.layout.regions) b) machine.layout.blocks is))
+    subst (λ (b : ℕ). P b (length x.manifest.endpoints.items) x.manifest.tables.0 x.manifest.ram_blocks) machine.layout.base
+    (subst (λ (n : ℕ). P x.kept.layout.base.0 n x.manifest.tables.0 x.manifest.ram_blocks) machine.layout.endpoints
+    (subst (λ (t : ℕ). P x.kept.layout.base.0 (array_vec_len x.kept.layout.regions) t x.manifest.ram_blocks) machine.layout.tables
+    (subst (λ (b : ℕ). P x.kept.layout.base.0 (array_vec_len x.kept.layout.regions) x.kept.layout.tables.0 b) machine.layout.blocks is)))
 
 -- what an entry says of owner and own right
 abbrev pub own_part : Entry → ℕ × Rights
@@ -56,12 +57,12 @@ marked-owners old new named slot marked =
     of false o = refl
 
 module _ (x : Parts) (machine : IsManager x) (ram : Ram) (pages : List (Option Entry)) (index : ℕ) (ranges : List Range) (right : ℕ → Option Rights) (zero : Bool)
-    (moved : IsMoved x.ram ram (length x.manifest.endpoints.items) x.manifest.ram_blocks index (names (state_of x) ranges) right zero)
+    (moved : IsMoved x.ram ram (length x.manifest.endpoints.items) x.manifest.tables.0 x.manifest.ram_blocks index (names (state_of x) ranges) right zero)
     (same : SameOwners x.kept.pages pages) where
   abbrev s : State
   s = state_of x
 
-  -- the bytes of pages behind the tables
+  -- the bytes of pages that have an owner
   held-moved : (p : ℕ) → held_page ram pages p ≡ cond (zero && names s ranges p) (zeroed_page (held_page x.ram x.kept.pages p)) (held_page x.ram x.kept.pages p)
   held-moved p = of (entry_at x.kept.pages p) (entry_at pages p) refl (same.owners p)
     where
@@ -84,10 +85,7 @@ module _ (x : Parts) (machine : IsManager x) (ram : Ram) (pages : List (Option E
       of (Some e) None is alike = absurd (none-some (own_part e) alike)
       of (Some e) (Some f) is alike =
           bytes (zero && names s ranges p) e f (same_Some (own_part f) (own_part e) alike)
-          (elim (cases_lt p (table_page x.manifest.ram_blocks (length x.manifest.endpoints.items) 0)) [
-            | inl low ↦ absurd (none-some e (sym (machine.owners.tables p low) ∙ is))
-            | inr behind ↦ moved.bytes p behind
-          ])
+          (moved.bytes p (entered-aside x machine p e is))
 
   -- the pages of the state after it
   pub pages-moved : listed (length ram.pages) (held_page ram pages) ≡ (if zero then changed_pages s ranges zeroed_page else s.pages)
@@ -108,7 +106,7 @@ module _ (x : Parts) (machine : IsManager x) (ram : Ram) (pages : List (Option E
         base = moved.base ∙ machine.tables.base;
         size = moved.size ∙ machine.tables.size;
         built =
-            built-same ram (length x.manifest.endpoints.items) x.manifest.ram_blocks (with_rights (access_by_place s) index (names s ranges) right) (access_by_place next)
+            built-same ram (length x.manifest.endpoints.items) x.manifest.tables.0 x.manifest.ram_blocks (with_rights (access_by_place s) index (names s ranges) right) (access_by_place next)
             (moved.built (access_by_place s) machine.tables.built)
             (λ i p known lt. granted i p (subst (λ (n : ℕ). p < n) (sym (size_is x ∙ machine.tables.size)) lt));
       }
@@ -117,7 +115,7 @@ module _ (x : Parts) (machine : IsManager x) (ram : Ram) (pages : List (Option E
   owners-moved =
       record {
         size = same.size ∙ machine.owners.size;
-        tables = λ p low. none (entry_at pages p) (same.owners p ∙ ap (option_map own_part) (machine.owners.tables p low));
+        tables = λ p from low. none (entry_at pages p) (same.owners p ∙ ap (option_map own_part) (machine.owners.tables p from low));
       }
     where
       none : (o : Option Entry) → option_map own_part o ≡ None → o ≡ None
@@ -146,7 +144,7 @@ module _ (old new : List (Option Entry)) (named : ℕ → Bool) (owner : Endpoin
       of false o is = is
 
 module _ (x : Parts) (machine : IsManager x) (ram : Ram) (pages : List (Option Entry)) (index : ℕ) (ranges : List Range) (rights : ℕ → Option Rights)
-    (moved : IsMoved x.ram ram (length x.manifest.endpoints.items) x.manifest.ram_blocks index (names (state_of x) ranges) rights false)
+    (moved : IsMoved x.ram ram (length x.manifest.endpoints.items) x.manifest.tables.0 x.manifest.ram_blocks index (names (state_of x) ranges) rights false)
     (owner : EndpointId) (right : Rights) (marked : IsMarked x.kept.pages pages (names (state_of x) ranges) (Given owner right)) where
   abbrev given : State
   given = state_of x
@@ -165,10 +163,7 @@ module _ (x : Parts) (machine : IsManager x) (ram : Ram) (pages : List (Option E
       of false None is = refl
       of b (Some e) is =
           by b
-          (elim (cases_lt p (table_page x.manifest.ram_blocks (length x.manifest.endpoints.items) 0)) [
-            | inl low ↦ absurd (none-some e (sym (machine.owners.tables p low) ∙ is))
-            | inr behind ↦ moved.bytes p behind
-          ])
+          (moved.bytes p (entered-aside x machine p e is))
         where
           by : (b : Bool) → page_of ram p ≡ page_of x.ram p
               → held (page_of ram p) (cond b (Some (let f : Entry = record { owner = owner.0; own_right = right; slot = None } in f)) (Some e))
@@ -186,5 +181,5 @@ module _ (x : Parts) (machine : IsManager x) (ram : Ram) (pages : List (Option E
   owners-given =
       record {
         size = marked.size ∙ machine.owners.size;
-        tables = λ p low. none-given x.kept.pages pages (names given ranges) owner right marked p (machine.owners.tables p low);
+        tables = λ p from low. none-given x.kept.pages pages (names given ranges) owner right marked p (machine.owners.tables p from low);
       }

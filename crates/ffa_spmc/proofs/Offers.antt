@@ -120,11 +120,11 @@ module _ (x : Parts) (machine : IsManager x) (e : ℕ) (at : e ≡ x.kept.chain.
     told-normal = λ i. is_told_normal ((ap (ownership_in x.kept.pages) machine.layout.base ∙ ownership-is x machine) i) (normal-is x machine i) r.ranges
 
     -- over the manifest and the state
-    moves : IsMoved x.ram ram (length x.manifest.endpoints.items) x.manifest.ram_blocks (place e) (names s r.ranges) right r.zero
-    moves = of-manifest x machine (λ base n blocks. IsMoved x.ram ram n blocks (place e) (in_ranges base r.ranges) right r.zero) done.moved
+    moves : IsMoved x.ram ram (length x.manifest.endpoints.items) x.manifest.tables.0 x.manifest.ram_blocks (place e) (names s r.ranges) right r.zero
+    moves = of-manifest x machine (λ base n tables blocks. IsMoved x.ram ram n tables blocks (place e) (in_ranges base r.ranges) right r.zero) done.moved
 
     marks : IsMarked x.kept.pages pages (names s r.ranges) (Named (Some done.slot))
-    marks = of-manifest x machine (λ base n blocks. IsMarked x.kept.pages pages (in_ranges base r.ranges) (Named (Some done.slot))) done.marks
+    marks = of-manifest x machine (λ base n tables blocks. IsMarked x.kept.pages pages (in_ranges base r.ranges) (Named (Some done.slot))) done.marks
 
     opened : IsOpened x.kept.pool pool done.slot h t
     opened = subst (λ (b : Bool). IsOpened x.kept.pool pool done.slot h (transaction_from kind b r)) told-normal done.opened

@@ -20,12 +20,12 @@ use Rattle.ffa_laws.specs.OwnAccess.{AreApart}
 use Rattle.ffa_laws.proofs.SoundSteady.{sound-steady}
 use Rattle.ffa_pages.specs.Entry.{Entry, own_right_at, entry_at, slot_at}
 use Rattle.ffa_stage2.specs.Layout.{normal_in}
-use Rattle.ffa_stage2.specs.Tables.{table_page}
+use Rattle.ffa_stage2.specs.Tables.{IsAside}
 use Rattle.ffa_memshare.specs.Memory.{Memory}
 use Rattle.ffa_memshare.specs.Shared.{IsHeld, IsRoom, IsShared}
 use Rattle.ffa_memshare.specs.Stored.{Slot, handle_in, named_in, page_in, pool_slot}
 use Rattle.ffa_spmc.specs.Meaning.{IsManager, Parts, access_by_place, slot_names, state_of}
-use Rattle.ffa_spmc.proofs.Held.{entry-past, owned-behind, owner-is, owners-size, page-held, page-past, parties_are, size_is}
+use Rattle.ffa_spmc.proofs.Held.{entry-past, owned-aside, owner-is, owners-size, page-held, page-past, parties_are, size_is}
 use Rattle.ffa_memshare.proofs.Offered.{named-within}
 use Rattle.ffa_spmc.proofs.MemoryParts.{memory_in}
 
@@ -172,6 +172,7 @@ module _ (x : Parts) (machine : IsManager x) where
         ram = x.ram;
         base = x.manifest.ram_base.0;
         endpoints = length x.manifest.endpoints.items;
+        tables = x.manifest.tables.0;
         blocks = x.manifest.ram_blocks;
         entries = pages;
         normal = normal_in x.kept.layout;
@@ -201,17 +202,18 @@ module _ (x : Parts) (machine : IsManager x) where
           sender = subst (λ (n : ℕ). place t.sender < n) (parties_are x) (known-place (length s.parties) t.sender machine.sound.sized.some known);
           placed = (machine.open_transactions.offered k h t at).placed;
           owned = λ p named is. known-owner (length s.parties) t.sender known (sym (own p named) ∙ owner-is x machine p ∙ is);
-          behind = λ p named. of p named (page_at s p) refl;
+          aside = λ p named. of p named (page_at s p) refl;
         }
       where
-        of : (p : ℕ) → names s t.ranges p ≡ true → (o : Option Page) → page_at s p ≡ o → table_page x.manifest.ram_blocks (length x.manifest.endpoints.items) 0 ≤ p
+        of : (p : ℕ) → names s t.ranges p ≡ true → (o : Option Page) → page_at s p ≡ o → IsAside (length x.manifest.endpoints.items) x.manifest.tables.0 x.manifest.ram_blocks p
         of p named None there = absurd (known-owner (length s.parties) t.sender known (sym (own p named) ∙ ap (λ (o : Option Page). option_map_or (λ (q : Page). q.owner) o manager) there))
-        of p named (Some page) there = owned-behind x machine p page there
+        of p named (Some page) there = owned-aside x machine p page there
 
   memory-is : of_manifest ≡ memory_in x
   memory-is = λ i. record of_manifest {
     base = sym machine.layout.base i;
     endpoints = sym machine.layout.endpoints i;
+    tables = sym machine.layout.tables i;
     blocks = sym machine.layout.blocks i;
   }
 

@@ -1,5 +1,5 @@
 -- SPDX-License-Identifier: MIT OR Apache-2.0
--- Pages behind the tables with other bytes: a machine is one still, and its state is the same but for these bytes.
+-- Pages that are none of the tables' with other bytes: a machine is one still, and its state is the same but for these bytes.
 use Rattle.std.proofs.Common.{◌≡◌, ◌∙◌, ℕ, suc, ◌+◌, ◌*◌, ◌/◌, ◌<◌, ◌≤◌, Bool, true, false, List, [], ◌∷◌, length, get_or, Option, Some, None, refl, sym, ap, subst, arith, inl, inr}
 use Rattle.std.specs.Option.{option_map, option_map_or}
 use Rattle.std.specs.Prelude.{IsSome, nat_le, nat_lt}
@@ -12,7 +12,6 @@ use Rattle.ffa_model.specs.Access.{access}
 use Rattle.ffa_model.specs.Buffers.{buffers_in}
 use Rattle.ffa_model.specs.Identifiers.{identifier}
 use Rattle.ffa_model.specs.Lists.{is_in_run}
-use Rattle.ffa_model.specs.Manifest.{table_pages}
 use Rattle.ffa_model.specs.Memory.{page_bytes}
 use Rattle.ffa_model.specs.Ram.{Ram, page_of}
 use Rattle.ffa_model.specs.SoundState.{IsSoundPage, are_bytes}
@@ -26,14 +25,15 @@ use Rattle.ffa_laws.proofs.SoundKept.{pages-sound}
 use Rattle.ffa_model.proofs.Runs.{in-run, to-run}
 use Rattle.ffa_pages.specs.Entry.{Entry, entry_at}
 use Rattle.ffa_physmem.specs.Moments.{IsBeside}
-use Rattle.ffa_stage2.specs.Tables.{IsBuilt, table_page}
+use Rattle.ffa_stage2.specs.Tables.{IsAside, IsBuilt}
 use Rattle.ffa_stage2.proofs.Kept.{built-kept}
+use Rattle.ffa_stage2.proofs.Places.{not-both}
 use Rattle.ffa_spmc.specs.declared.run.Run.{Run}
 use Rattle.ffa_spmc.specs.Among.{is_in}
 use Rattle.ffa_spmc.specs.Meaning.{HasTables, IsManager, Parts, access_by_place, state_of}
-use Rattle.ffa_spmc.specs.Unowned.{pages_of_tables}
+use Rattle.ffa_spmc.specs.Unowned.{IsNoTable}
 use Rattle.ffa_spmc.proofs.Fills.{buffers-there, in-ram, runner-there}
-use Rattle.ffa_spmc.proofs.Held.{owned-behind, page-held, page-past, parties_are, size_is}
+use Rattle.ffa_spmc.proofs.Held.{by-state, owned-aside, page-held, page-past, size_is}
 
 -- numbers each of which is a byte
 pub all-bytes : (xs : List ℕ) → ((k : ℕ) → k < length xs → get_or xs k 0 < 256) → are_bytes xs
@@ -116,16 +116,16 @@ module _ (x : Parts) (new : Ram) (named : ℕ → Bool) (beside : IsBeside x.ram
     states-beside = record { same = blank-same; whole = whole-pages }
 
     module _ (machine : IsManager x) (bytes : (p : ℕ) → named p ≡ true → are_bytes (page_of new p))
-        (behind : (p : ℕ) → named p ≡ true → table_page x.manifest.ram_blocks (length x.manifest.endpoints.items) 0 ≤ p) where
+        (aside : (p : ℕ) → named p ≡ true → IsAside (length x.manifest.endpoints.items) x.manifest.tables.0 x.manifest.ram_blocks p) where
       tables-read : HasTables new x.manifest (access_by_place (state_of read))
       tables-read =
           record {
             base = beside.base ∙ machine.tables.base;
             size = beside.size ∙ machine.tables.size;
             built =
-                subst (IsBuilt new (length x.manifest.endpoints.items) x.manifest.ram_blocks) (λ k i q. same-access (identifier i) q k)
-                (built-kept x.ram new (length x.manifest.endpoints.items) x.manifest.ram_blocks (access_by_place (state_of x)) machine.tables.built beside.base beside.size
-                (λ p low. beside.pages p (false_from_ne_true (named p) (λ at. absurd (omega (arith, low, behind p at))))));
+                subst (IsBuilt new (length x.manifest.endpoints.items) x.manifest.tables.0 x.manifest.ram_blocks) (λ k i q. same-access (identifier i) q k)
+                (built-kept x.ram new (length x.manifest.endpoints.items) x.manifest.tables.0 x.manifest.ram_blocks (access_by_place (state_of x)) machine.tables.built beside.base beside.size
+                (λ p from below. beside.pages p (false_from_ne_true (named p) (λ at. not-both (length x.manifest.endpoints.items) x.manifest.tables.0 x.manifest.ram_blocks p (from, below) (aside p at)))));
           }
 
       rewritten : AreRewritten (state_of x).pages (state_of read).pages
@@ -171,22 +171,11 @@ module _ (x : Parts) (new : Ram) (named : ℕ → Bool) (beside : IsBeside x.ram
             sound = pages-sound (state_of x) machine.sound (state_of read).pages rewritten sound-pages;
           }
 
--- pages behind the tables, counted by the state
-pub behind-tables : (x : Parts) → IsManager x → (run : Run) → pages_of_tables (state_of x) ≤ run.first.0 → (p : ℕ) → is_in run p ≡ true
-    → table_page x.manifest.ram_blocks (length x.manifest.endpoints.items) 0 ≤ p
-behind-tables x machine run behind p its =
-    let size : length (state_of x).pages ≡ 512 * x.manifest.ram_blocks = size_is x ∙ machine.tables.size in
-    let blocks : length (state_of x).pages / 512 ≡ x.manifest.ram_blocks = omega (arith, size) in
-    let tables : pages_of_tables (state_of x) ≡ length x.manifest.endpoints.items * table_pages x.manifest.ram_blocks =
-    (λ i. parties_are x i * table_pages (blocks i))
-    in
-    omega (arith, (in-run run.first.0 run.count p its).0, behind, tables)
-
 -- no more pages are read than there are
 pub holding-few : (pages bytes : ℕ) → pages_holding pages bytes ≤ pages
 holding-few pages bytes = grind (arith, nat_tests)
 
--- those of an endpoint's TX: they are in RAM, no more than a TX may have, behind the tables, and its own
+-- those of an endpoint's TX: they are in RAM, no more than a TX may have, none of them a table's, and its own
 module _ (x : Parts) (machine : IsManager x) (e bytes : ℕ) (at : e ≡ x.kept.chain.runner) (b : Buffers) (is : buffers_in x.kept.buffers e ≡ Some b) where
   few : (run : Run) → run.first.0 ≡ b.tx → run.count ≡ pages_holding b.pages bytes → (p : ℕ) → is_in run p ≡ true → is_in_run b.tx b.pages p ≡ true
   few run first count p its =
@@ -212,14 +201,7 @@ module _ (x : Parts) (machine : IsManager x) (e bytes : ℕ) (at : e ≡ x.kept.
       let (page, there) = (buffers-there x machine e (runner-there x machine e at) b is).tx p (few run first count p its) in
       subst IsSome (sym there) refl
 
-  pub front-behind : pages_of_tables (state_of x) ≤ b.tx
-  front-behind =
-      let there = buffers-there x machine e (runner-there x machine e at) b is in
-      let (page, owned) = there.tx b.tx (to-run b.tx b.pages b.tx (omega arith) (omega (arith, there.some))) in
-      let behind = owned-behind x machine b.tx page owned in
-      let size : length (state_of x).pages ≡ 512 * x.manifest.ram_blocks = size_is x ∙ machine.tables.size in
-      let blocks : length (state_of x).pages / 512 ≡ x.manifest.ram_blocks = omega (arith, size) in
-      let tables : pages_of_tables (state_of x) ≡ length x.manifest.endpoints.items * table_pages x.manifest.ram_blocks =
-      (λ i. parties_are x i * table_pages (blocks i))
-      in
-      omega (arith, behind, tables)
+  pub front-aside : (run : Run) → run.first.0 ≡ b.tx → run.count ≡ pages_holding b.pages bytes → (p : ℕ) → is_in run p ≡ true → IsNoTable (state_of x) p
+  front-aside run first count p its =
+      let (page, there) = (buffers-there x machine e (runner-there x machine e at) b is).tx p (few run first count p its) in
+      by-state x machine p (owned-aside x machine p page there)

@@ -65,7 +65,7 @@ module _ (x : Parts) (machine : IsManager x) (e : ℕ) (at : e ≡ x.kept.chain.
   pub record IsReclaimed : Type 0 where
     pub slot : IsClosed x.kept.pool pool h
     pub open_transactions : open_in pool ≡ closed (open_in x.kept.pool) h
-    pub moved : IsMoved x.ram ram (array_vec_len x.kept.layout.regions) x.kept.layout.blocks (place e) named (own_right_at x.kept.pages) (flags == 1)
+    pub moved : IsMoved x.ram ram (array_vec_len x.kept.layout.regions) x.kept.layout.tables.0 x.kept.layout.blocks (place e) named (own_right_at x.kept.pages) (flags == 1)
     pub marked : IsMarked x.kept.pages pages named (Named None)
 
   -- and what it tells of access
@@ -91,15 +91,15 @@ module _ (x : Parts) (machine : IsManager x) (e : ℕ) (at : e ≡ x.kept.chain.
     unheld = sym (ap is_unheld was) ∙ guard-passes guards 2 none
 
     -- over the manifest and the state
-    moves : IsMoved x.ram ram (length x.manifest.endpoints.items) x.manifest.ram_blocks (place e) (names s t.ranges) (own_right_at x.kept.pages) (flags == 1)
+    moves : IsMoved x.ram ram (length x.manifest.endpoints.items) x.manifest.tables.0 x.manifest.ram_blocks (place e) (names s t.ranges) (own_right_at x.kept.pages) (flags == 1)
     moves =
-        subst (λ o. IsMoved x.ram ram (length x.manifest.endpoints.items) x.manifest.ram_blocks (place e) (names s (named_ranges o)) (own_right_at x.kept.pages) (flags == 1)) was
-        (of-manifest x machine (λ base n blocks. IsMoved x.ram ram n blocks (place e) (in_ranges base (named_ranges (transaction_of s h))) (own_right_at x.kept.pages) (flags == 1)) done.moved)
+        subst (λ o. IsMoved x.ram ram (length x.manifest.endpoints.items) x.manifest.tables.0 x.manifest.ram_blocks (place e) (names s (named_ranges o)) (own_right_at x.kept.pages) (flags == 1)) was
+        (of-manifest x machine (λ base n tables blocks. IsMoved x.ram ram n tables blocks (place e) (in_ranges base (named_ranges (transaction_of s h))) (own_right_at x.kept.pages) (flags == 1)) done.moved)
 
     marks : IsMarked x.kept.pages pages (names s t.ranges) (Named None)
     marks =
         subst (λ o. IsMarked x.kept.pages pages (names s (named_ranges o)) (Named None)) was
-        (of-manifest x machine (λ base n blocks. IsMarked x.kept.pages pages (in_ranges base (named_ranges (transaction_of s h))) (Named None)) done.marked)
+        (of-manifest x machine (λ base n tables blocks. IsMarked x.kept.pages pages (in_ranges base (named_ranges (transaction_of s h))) (Named None)) done.marked)
 
     owners : SameOwners x.kept.pages pages
     owners = marked-owners x.kept.pages pages (names s t.ranges) None marks
@@ -151,7 +151,7 @@ module _ (x : Parts) (machine : IsManager x) (e : ℕ) (at : e ≡ x.kept.chain.
       (kept : OnErr r (pool ≡ x.kept.pool)) (kept_pages : OnErr r (pages ≡ x.kept.pages)) (kept_ram : OnErr r (ram ≡ x.ram))
       (nothing : IfOk r (λ (d : Done). d.value ≡ Nothing))
       (slot : OnOk r (IsClosed x.kept.pool pool h)) (open_transactions : OnOk r (open_in pool ≡ closed (open_in x.kept.pool) h))
-      (moved : OnOk r (IsMoved x.ram ram (array_vec_len x.kept.layout.regions) x.kept.layout.blocks (place e) named (own_right_at x.kept.pages) (flags == 1)))
+      (moved : OnOk r (IsMoved x.ram ram (array_vec_len x.kept.layout.regions) x.kept.layout.tables.0 x.kept.layout.blocks (place e) named (own_right_at x.kept.pages) (flags == 1)))
       (marked : OnOk r (IsMarked x.kept.pages pages named (Named None))) (changed : IfOk r (λ (d : Done). IsTold d.changed)) where
     unchanged : OnErr r (after_reclaim ≡ x)
     unchanged = of r kept kept_pages kept_ram
@@ -164,7 +164,7 @@ module _ (x : Parts) (machine : IsManager x) (e : ℕ) (at : e ≡ x.kept.chain.
     done = of r slot open_transactions moved marked
       where
         of : (r : Result Done ErrorCode) → OnOk r (IsClosed x.kept.pool pool h) → OnOk r (open_in pool ≡ closed (open_in x.kept.pool) h)
-            → OnOk r (IsMoved x.ram ram (array_vec_len x.kept.layout.regions) x.kept.layout.blocks (place e) named (own_right_at x.kept.pages) (flags == 1))
+            → OnOk r (IsMoved x.ram ram (array_vec_len x.kept.layout.regions) x.kept.layout.tables.0 x.kept.layout.blocks (place e) named (own_right_at x.kept.pages) (flags == 1))
             → OnOk r (IsMarked x.kept.pages pages named (Named None)) → OnOk r IsReclaimed
         of (Ok told) closes leaves moves marks = record { slot = closes; open_transactions = leaves; moved = moves; marked = marks }
         of (Err code) a b c d = tt

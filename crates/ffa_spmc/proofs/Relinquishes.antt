@@ -87,8 +87,8 @@ module _ (x : Parts) (machine : IsManager x) (e : ℕ) (at : e ≡ x.kept.chain.
         let slot = open-slot x machine d.handle t was in
         false≢true (sym (machine.open_transactions.offered slot.0 d.handle t slot.1).other ∙ ap (λ (f : ℕ). is_receiver f t) same ∙ offered)
 
-    moves : IsMoved x.ram ram (length x.manifest.endpoints.items) x.manifest.ram_blocks (place e) (names s t.ranges) (λ p. None) d.zero
-    moves = of-manifest x machine (λ base n blocks. IsMoved x.ram ram n blocks (place e) (in_ranges base t.ranges) (λ p. None) d.zero) done.moved
+    moves : IsMoved x.ram ram (length x.manifest.endpoints.items) x.manifest.tables.0 x.manifest.ram_blocks (place e) (names s t.ranges) (λ p. None) d.zero
+    moves = of-manifest x machine (λ base n tables blocks. IsMoved x.ram ram n tables blocks (place e) (in_ranges base t.ranges) (λ p. None) d.zero) done.moved
 
     state-from : state_of after_relinquish ≡ relinquished_from s d (Some t)
     state-from =

@@ -139,11 +139,11 @@ module _ (x : Parts) (machine : IsManager x) (e : EndpointId) (at : e.0 ≡ x.ke
     known : IsKnown s s.runner
     known = runner-known s machine.sound
 
-    moves : IsMoved x.ram done.answer.granted (length x.manifest.endpoints.items) x.manifest.ram_blocks (place e.0) (names s t.ranges) (λ p. Some right) false
-    moves = of-manifest x machine (λ base n blocks. IsMoved x.ram done.answer.granted n blocks (place e.0) (in_ranges base t.ranges) (λ p. Some right) false) done.answer.moved
+    moves : IsMoved x.ram done.answer.granted (length x.manifest.endpoints.items) x.manifest.tables.0 x.manifest.ram_blocks (place e.0) (names s t.ranges) (λ p. Some right) false
+    moves = of-manifest x machine (λ base n tables blocks. IsMoved x.ram done.answer.granted n tables blocks (place e.0) (in_ranges base t.ranges) (λ p. Some right) false) done.answer.moved
 
     passed : IsPassedOn t.kind x.kept.pages pages (names s t.ranges) e right
-    passed = of-manifest x machine (λ base n blocks. IsPassedOn t.kind x.kept.pages pages (in_ranges base t.ranges) e right) done.pages
+    passed = of-manifest x machine (λ base n tables blocks. IsPassedOn t.kind x.kept.pages pages (in_ranges base t.ranges) e right) done.pages
 
     -- before the answer
     abbrev before : Parts

@@ -1,6 +1,6 @@
 -- SPDX-License-Identifier: MIT OR Apache-2.0
 -- An operation changes neither how many endpoints there are nor how many pages.
-use Rattle.std.proofs.Common.{◌≡◌, ◌∙◌, ℕ, zero, suc, ◌+◌, ◌*◌, ◌/◌, ◌-◌, Bool, true, false, cond, List, length, take, drop, Option, Some, None, refl, ap, length-set}
+use Rattle.std.proofs.Common.{◌≡◌, ◌∙◌, ℕ, zero, suc, ◌+◌, ◌*◌, ◌/◌, ◌-◌, Bool, true, false, cond, List, length, take, drop, Option, Some, None, refl, sym, ap, subst, length-set}
 use Rattle.std.specs.Prelude.{if◌then◌else◌, slice_index_or}
 use Rattle.byteorder.specs.Endian.{little_bytes}
 use Rattle.ffa_model.specs.declared.call.Call as calls
@@ -17,7 +17,6 @@ use Rattle.ffa_model.specs.declared.transaction.Range.{Range}
 use Rattle.ffa_model.specs.Access.{names, ownership_of}
 use Rattle.ffa_model.specs.Bits.{is_set}
 use Rattle.ffa_model.specs.Buffers.{filled, filled_pages}
-use Rattle.ffa_model.specs.Manifest.{table_pages}
 use Rattle.ffa_model.specs.Memory.{changed_pages, fetch_fault, number_at, page_with, read_fault, size_of, store_fault, stored, written_pages, written_run, zeroed_page}
 use Rattle.ffa_model.specs.MemoryRetrieve.{donated_page, response_to, retrieve_read, retrieved, retrieved_from, right_for, with_retrieved}
 use Rattle.ffa_model.specs.MemoryReturn.{named_ranges, relinquish_read, relinquished, relinquished_from}
@@ -33,7 +32,9 @@ use Rattle.ffa_model.specs.Step.{service, step}
 use Rattle.ffa_model.specs.Transactions.{closed, not_holding, open_of, with_open, with_transaction}
 use Rattle.ffa_model.proofs.Accesses.{length-map_at}
 use Rattle.ffa_laws.proofs.Form.{accessed-kept, served-kept}
-use Rattle.ffa_spmc.specs.Unowned.{pages_of_tables}
+use Rattle.ffa_laws.proofs.Kept.{place-step}
+use Rattle.ffa_stage2.specs.Tables.{IsAside}
+use Rattle.ffa_spmc.specs.Unowned.{IsNoTable}
 
 -- how many endpoints there are, and how many pages
 abbrev sizes : State → ℕ × ℕ
@@ -111,6 +112,9 @@ step-sizes s (Fetch address) = accessed-kept (λ t. sizes t ≡ sizes s) s s (Da
 pub pages-step : (s : State) (op : Op) → length (step s op).state.pages ≡ length s.pages
 pages-step s op = ap (λ (n : ℕ × ℕ). n.1) (step-sizes s op)
 
--- and the tables end where they did
-pub tables-step : (s : State) (op : Op) → pages_of_tables (step s op).state ≡ pages_of_tables s
-tables-step s op = ap (λ (n : ℕ × ℕ). n.0 * table_pages (n.1 / 512)) (step-sizes s op)
+-- and the tables stand where they did
+pub tables-step : (s : State) (op : Op) (p : ℕ) → IsNoTable (step s op).state p ≡ IsNoTable s p
+tables-step s op p = λ i. IsAside (step-sizes s op i).0 (place-step s op i) ((step-sizes s op i).1 / 512) p
+
+pub tables-kept : (s : State) (op : Op) (p : ℕ) → IsNoTable s p → IsNoTable (step s op).state p
+tables-kept s op p aside = subst (λ z. z) (sym (tables-step s op p)) aside

@@ -1,5 +1,5 @@
 -- SPDX-License-Identifier: MIT OR Apache-2.0
--- A page behind the tables that nobody owns keeps its bytes: where RAM is the same, where a page is written that an
+-- A page that nobody owns, and that is none of the tables', keeps its bytes: where RAM is the same, where a page is written that an
 -- endpoint owns, and where rights to such pages change.
 use Rattle.std.proofs.Common.{◌≡◌, ◌∙◌, ℕ, zero, suc, ◌+◌, ◌*◌, ◌/◌, ◌<◌, ◌≤◌, Bool, true, false, List, [], length, take, drop, Option, Some, None, refl, sym, ap, subst, arith, inl, inr}
 use Rattle.std.specs.Prelude.{◌&&◌, if◌then◌else◌, replicate}
@@ -12,44 +12,32 @@ use Rattle.ffa_model.specs.declared.transaction.Range.{Range}
 use Rattle.ffa_model.specs.Access.{names}
 use Rattle.ffa_model.specs.Buffers.{buffers_in}
 use Rattle.ffa_model.specs.Lists.{is_in_run}
-use Rattle.ffa_model.specs.Manifest.{table_pages}
 use Rattle.ffa_model.specs.Ram.{Ram, page_of, with_page, with_bytes}
 use Rattle.ffa_model.specs.State.{State, Buffers, Page, Transaction, is_known, page_at, transaction_of}
 use Rattle.ffa_model.proofs.Runs.{run-wider, to-run}
 use Rattle.ffa_pages.specs.Entry.{Entry, entry_at}
 use Rattle.ffa_rxtx.specs.Parts.{with_run, with_rx_bytes}
-use Rattle.ffa_stage2.specs.Tables.{table_page}
 use Rattle.ffa_memshare.specs.Changes.{IsMoved}
 use Rattle.ffa_spmc.specs.Meaning.{IsManager, Parts, state_of}
-use Rattle.ffa_spmc.specs.Unowned.{KeepsUnowned, OwnsNoTables, pages_of_tables}
+use Rattle.ffa_spmc.specs.Unowned.{KeepsUnowned, OwnsNoTables}
 use Rattle.ffa_spmc.proofs.Fills.{buffers-there}
-use Rattle.ffa_spmc.proofs.Held.{owned-behind, page-held, parties_are, size_is}
+use Rattle.ffa_spmc.proofs.Held.{by-manifest, by-state, owned-aside, page-held}
 use Rattle.ffa_spmc.proofs.Pools.{named-marked, open-slot}
 
 -- nobody owns the tables' pages
 pub no-tables : (x : Parts) → IsManager x → OwnsNoTables (state_of x)
-no-tables x machine p low = of (page_at (state_of x) p) refl
-  where
-    of : (o : Option Page) → page_at (state_of x) p ≡ o → page_at (state_of x) p ≡ None
-    of None is = is
-    of (Some page) is =
-        let size : length (state_of x).pages ≡ 512 * x.manifest.ram_blocks = size_is x ∙ machine.tables.size in
-        let blocks : length (state_of x).pages / 512 ≡ x.manifest.ram_blocks = omega (arith, size) in
-        let tables : pages_of_tables (state_of x) ≡ length x.manifest.endpoints.items * table_pages x.manifest.ram_blocks =
-        (λ i. parties_are x i * table_pages (blocks i))
-        in
-        absurd (omega (arith, low, tables, owned-behind x machine p page is))
+no-tables x machine p page is = by-state x machine p (owned-aside x machine p page is)
 
 pub unowned-same : (s : State) (old new : Ram) → new ≡ old → KeepsUnowned s old new
-unowned-same s old new same p behind none = ap (λ (ram : Ram). page_of ram p) same
+unowned-same s old new same p aside none = ap (λ (ram : Ram). page_of ram p) same
 
 pub unowned-then : (s : State) (old middle new : Ram) → KeepsUnowned s old middle → KeepsUnowned s middle new → KeepsUnowned s old new
-unowned-then s old middle new before after p behind none = after p behind none ∙ before p behind none
+unowned-then s old middle new before after p aside none = after p aside none ∙ before p aside none
 
 -- a write to a page that an endpoint owns
 pub unowned-written : (s : State) (ram : Ram) (p at : ℕ) (bytes : List ℕ) (page : Page) → page_at s p ≡ Some page
     → KeepsUnowned s ram (with_page ram p (with_bytes (page_of ram p) at bytes))
-unowned-written s ram p at bytes page there q behind none =
+unowned-written s ram p at bytes page there q aside none =
     get_or-set_other ram.pages p q (with_bytes (page_of ram p) at bytes) [] (λ same. none-some page (sym none ∙ ap (page_at s) same ∙ there))
 
 module _ (x : Parts) (machine : IsManager x) where
@@ -75,14 +63,6 @@ module _ (x : Parts) (machine : IsManager x) where
       of None is = unowned-same s ram ram refl
       of (Some b) is = unowned-run b.pages ram b.rx bytes (buffers-there x machine f known b is).rx
 
-  behind : (p : ℕ) → pages_of_tables s ≤ p → table_page x.manifest.ram_blocks (length x.manifest.endpoints.items) 0 ≤ p
-  behind p end =
-      let many : length s.pages ≡ 512 * x.manifest.ram_blocks = size_is x ∙ machine.tables.size in
-      of_end (parties_are x) (omega (arith, many)) end
-    where
-      of_end : {n b k c : ℕ} → n ≡ k → b ≡ c → n * table_pages b ≤ p → table_page c k 0 ≤ p
-      of_end same_n same_b h = rw (← same_n, ← same_b) (omega (arith, h))
-
   -- these pages are endpoints' own
   abbrev pub AreEntered : List Range → Type 0
   AreEntered ranges = (p : ℕ) → p < length x.ram.pages → names s ranges p ≡ true → (e : Entry) × (entry_at x.kept.pages p ≡ Some e)
@@ -104,9 +84,9 @@ module _ (x : Parts) (machine : IsManager x) where
 
   -- other rights to such pages, and zeros where that is asked
   pub unowned-moved : (ram : Ram) (index : ℕ) (ranges : List Range) (right : ℕ → Option Rights) (zeros : Bool)
-      → IsMoved x.ram ram (length x.manifest.endpoints.items) x.manifest.ram_blocks index (names s ranges) right zeros → AreEntered ranges → KeepsUnowned s x.ram ram
-  unowned-moved ram index ranges right zeros moved entered p end none = elim (cases_lt p (length x.ram.pages)) [
-    | inl lt ↦ moved.bytes p (behind p end) ∙ of lt zeros (names s ranges p) refl
+      → IsMoved x.ram ram (length x.manifest.endpoints.items) x.manifest.tables.0 x.manifest.ram_blocks index (names s ranges) right zeros → AreEntered ranges → KeepsUnowned s x.ram ram
+  unowned-moved ram index ranges right zeros moved entered p aside none = elim (cases_lt p (length x.ram.pages)) [
+    | inl lt ↦ moved.bytes p (by-manifest x machine p aside) ∙ of lt zeros (names s ranges p) refl
     | inr past ↦ get_or_past ram.pages p [] (subst (λ (n : ℕ). n ≤ p) (sym moved.size) past) ∙ sym (get_or_past x.ram.pages p [] past)
   ]
     where

@@ -13,30 +13,30 @@ use Rattle.ffa_stage2.specs.Moments.{walk_at}
 use Rattle.ffa_stage2.specs.Rest.{AreAtRest}
 
 -- An operation leads from one RAM to another. At a moment of it, memory differs from RAM to which nobody else writes in pages that
--- others wrote, and these are behind the tables, and some endpoint could write there before the operation, or can behind it. And
+-- others wrote, and these are none of the tables', and some endpoint could write there before the operation, or can behind it. And
 -- walks in mixtures, and what translation units may hold, are in memory what they are between the one RAM and the other.
-pub record StandsAmid (old new : Ram) (endpoints blocks : ℕ) (alone memory : Moment) (written : List ℕ) : Type 0 where
-  pub theirs : AreTheirs old new endpoints blocks written
+pub record StandsAmid (old new : Ram) (endpoints tables blocks : ℕ) (alone memory : Moment) (written : List ℕ) : Type 0 where
+  pub theirs : AreTheirs old new endpoints tables blocks written
   pub beside : IsBeside alone.ram memory.ram (is_one_of written)
   pub bytes : (p : ℕ) → is_one_of written p ≡ true → IsPage (page_of memory.ram p)
-  pub walks : MixturesBetween old new endpoints blocks memory.history memory.ram
-  pub held : HeldBetween old new endpoints blocks memory.history memory.ram
+  pub walks : MixturesBetween old new endpoints tables blocks memory.history memory.ram
+  pub held : HeldBetween old new endpoints tables blocks memory.history memory.ram
 
 -- and at its end each walk of memory gives what it gives in the other RAM, and its tables are at rest
-pub record EndsAmid (new : Ram) (endpoints blocks : ℕ) (memory : Moment) : Type 0 where
+pub record EndsAmid (new : Ram) (endpoints tables blocks : ℕ) (memory : Moment) : Type 0 where
   pub walks :
-      (e address : ℕ) → e < endpoints → address < 2 ^ 32 → walk_at memory.ram blocks e address ≡ walk_at new blocks e address
-  pub rest : AreAtRest memory.ram endpoints blocks memory.history
+      (e address : ℕ) → e < endpoints → address < 2 ^ 32 → walk_at memory.ram tables blocks e address ≡ walk_at new tables blocks e address
+  pub rest : AreAtRest memory.ram endpoints tables blocks memory.history
 
 -- P holds of whatever memory others may have left at a moment, where an operation began with this RAM and history
 abbrev pub InEachMemory : State → Ram → Option (List Step) → Moment → (Moment → List ℕ → Type 0) → Type 0
 InEachMemory s old past alone P =
     (begun : List Step) → past ≡ Some begun → (memory : Moment) (written : List ℕ)
-    → Amid (length s.parties) (blocks_of s) (record { history = begun; ram = old }) alone memory written → P memory written
+    → Amid (length s.parties) s.tables (blocks_of s) (record { history = begun; ram = old }) alone memory written → P memory written
 
 abbrev pub StandsAt : State → Ram → Ram → Option (List Step) → Moment → Type 0
 StandsAt s old new past alone =
-    InEachMemory s old past alone (λ memory written. StandsAmid old new (length s.parties) (blocks_of s) alone memory written)
+    InEachMemory s old past alone (λ memory written. StandsAmid old new (length s.parties) s.tables (blocks_of s) alone memory written)
 
 -- So it is where an operation begins, behind each of its steps, and at its end.
 pub record StaysAmid (s : State) (old new : Ram) (past later : Option (List Step)) : Type 0 where
@@ -45,5 +45,5 @@ pub record StaysAmid (s : State) (old new : Ram) (past later : Option (List Step
   pub ended :
       (h : List Step) → later ≡ Some h
       → InEachMemory s old past (record { history = h; ram = new })
-      (λ memory written. StandsAmid old new (length s.parties) (blocks_of s) (record { history = h; ram = new }) memory written
-      × EndsAmid new (length s.parties) (blocks_of s) memory)
+      (λ memory written. StandsAmid old new (length s.parties) s.tables (blocks_of s) (record { history = h; ram = new }) memory written
+      × EndsAmid new (length s.parties) s.tables (blocks_of s) memory)

@@ -18,6 +18,7 @@ pub record AreFirstRecords (m : Manifest) (records : Records) : Type 0 where
   pub uuids : have_uuids m.endpoints.items ≡ true
   pub base : records.layout.base.0 ≡ m.ram_base.0
   pub ram_blocks : records.layout.blocks ≡ m.ram_blocks
+  pub tables : records.layout.tables.0 ≡ m.tables.0
   pub regions : regions_in records.layout ≡ regions_of_each m.endpoints.items
   pub normal : normal_in records.layout ≡ normal_of m.worlds (regions_at m.endpoints.items 0)
   pub bitmaps : records.bitmaps.bitmaps ≡ map has_first_bitmaps (enumerate_from 0 m.endpoints.items)

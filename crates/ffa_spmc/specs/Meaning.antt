@@ -1,7 +1,7 @@
 -- SPDX-License-Identifier: MIT OR Apache-2.0
 -- FOR PROOFS ALONE
 -- What the parts of a machine mean together.
-use Rattle.std.specs.Prelude.{◌≡◌, ◌<◌, ◌↔◌, ℕ, ◌*◌, Bool, true, false, List, length, Option, Some, None}
+use Rattle.std.specs.Prelude.{◌≡◌, ◌<◌, ◌≤◌, ◌↔◌, ℕ, ◌*◌, Bool, true, false, List, length, Option, Some, None}
 use Rattle.std.specs.Option.{option_map}
 use Rattle.arrayvec.specs.ArrayVec.{array_vec_len}
 use Rattle.ffa_model.specs.declared.manifest.Manifest.{Manifest}
@@ -36,8 +36,9 @@ pub record Parts : Type 0 where
 -- the state that they mean
 abbrev pub state_of : Parts → State
 state_of x =
-    record (first x.manifest.worlds x.manifest.ram_base.0 x.manifest.ram_blocks x.manifest.endpoints.items) {
+    record (first x.manifest.worlds x.manifest.ram_base.0 x.manifest.tables.0 x.manifest.ram_blocks x.manifest.endpoints.items) {
       ram_base = x.manifest.ram_base.0;
+      tables = x.manifest.tables.0;
       transactions = map_in x.kept.pool.slots;
       sent = x.kept.pool.sent;
       pages = listed (length x.ram.pages) (held_page x.ram x.kept.pages);
@@ -58,19 +59,22 @@ access_by_place s i p = access s (identifier i) p
 pub record HasTables (ram : Ram) (m : Manifest) (right : ℕ → ℕ → Option Rights) : Type 0 where
   pub base : ram.base ≡ m.ram_base.0
   pub size : length ram.pages ≡ 512 * m.ram_blocks
-  pub built : IsBuilt ram (length m.endpoints.items) m.ram_blocks right
+  pub built : IsBuilt ram (length m.endpoints.items) m.tables.0 m.ram_blocks right
 
 -- the layout by which rights are changed is that of the manifest's tables
 pub record IsLayoutOf (m : Manifest) (layout : Layout) : Type 0 where
   pub base : layout.base.0 ≡ m.ram_base.0
   pub blocks : layout.blocks ≡ m.ram_blocks
+  pub tables : layout.tables.0 ≡ m.tables.0
   pub endpoints : array_vec_len layout.regions ≡ length m.endpoints.items
   pub normal : normal_in layout ≡ normal_of m.worlds (regions_at m.endpoints.items 0)
 
 -- each page of RAM has its owner, which is nobody for the pages of tables
 pub record AreOwners (m : Manifest) (pages : List (Option Entry)) : Type 0 where
   pub size : length pages ≡ 512 * m.ram_blocks
-  pub tables : (p : ℕ) → p < table_page m.ram_blocks (length m.endpoints.items) 0 → entry_at pages p ≡ None
+  pub tables :
+      (p : ℕ) → m.tables.0 ≤ p → p < table_page m.tables.0 m.ram_blocks (length m.endpoints.items) 0
+      → entry_at pages p ≡ None
 
 -- what a send descriptor has said of an open transaction: its ranges are whole pages of RAM, and its sender is none of the
 -- receivers

@@ -43,7 +43,7 @@ pub record IsLeft (old new left : Snapshot) (memory : Moment) (written : List �
 abbrev pub LeavesAmid : Snapshot → Snapshot → Type 0
 LeavesAmid old new =
     (begun ended : List Step) → old.past ≡ Some begun → new.past ≡ Some ended → (memory : Moment) (written : List ℕ)
-    → Amid (length old.state.parties) (blocks_of old.state) (record { history = begun; ram = old.ram })
+    → Amid (length old.state.parties) old.state.tables (blocks_of old.state) (record { history = begun; ram = old.ram })
     (record { history = ended; ram = new.ram }) memory written
     → (left : Snapshot) × IsLeft old new left memory written
 

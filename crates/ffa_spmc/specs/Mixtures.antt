@@ -14,15 +14,15 @@ use Rattle.ffa_spmc.specs.Amid.{StaysAmid}
 
 -- the tables of all endpoints are at rest at the end of a history, where there is one
 unfoldable pub TablesRest : State → Ram → Option (List Step) → Type 0
-TablesRest s ram past = RestIn ram (length s.parties) (blocks_of s) past
+TablesRest s ram past = RestIn ram (length s.parties) s.tables (blocks_of s) past
 
 -- An operation led from one RAM and history to others: at each step, the walks of all endpoints in mixtures give what they gave
--- before it, or give behind it, or a translation fault; so do translation units; a page behind the tables changes only while no
+-- before it, or give behind it, or a translation fault; so do translation units; a page that is none of the tables' changes only while no
 -- unit may hold a way there; and behind it the tables are at rest. So it is of memory while others write to it.
 pub record DoStayMixed (s : State) (old new : Ram) (past later : Option (List Step)) : Type 0 where
-  pub walks : Only past later (λ h step. MixturesBetween old new (length s.parties) (blocks_of s) (step ∷ h) step.after)
-  pub held : Only past later (λ h step. HeldBetween old new (length s.parties) (blocks_of s) (step ∷ h) step.after)
-  pub unheld : Only past later (λ h step. WritesUnheld old new (length s.parties) (blocks_of s) h step)
+  pub walks : Only past later (λ h step. MixturesBetween old new (length s.parties) s.tables (blocks_of s) (step ∷ h) step.after)
+  pub held : Only past later (λ h step. HeldBetween old new (length s.parties) s.tables (blocks_of s) (step ∷ h) step.after)
+  pub unheld : Only past later (λ h step. WritesUnheld old new (length s.parties) s.tables (blocks_of s) h step)
   pub rest : TablesRest s new later
   pub amid : StaysAmid s old new past later
 

@@ -10,21 +10,21 @@ use Rattle.ffa_stage2.specs.Rest.{AreMixed}
 
 -- Behind the step, and at every address, the walks of all endpoints' tables give what they gave in the old RAM or nothing, or all
 -- give what they give in the new one or nothing. A descriptor that changes goes by way of nothing where it has to. And pages
--- behind the tables change only where no walk leads that isn't there both before and behind.
+-- but those of tables change only where no walk leads that isn't there both before and behind.
 pub record IsSafeStep (s : State) (old new : Ram) (h : List Step) (step : Step) : Type 0 where
-  pub walks : WalksBetween old new (length s.parties) (blocks_of s) step.after
-  pub order : IsInOrder old (length s.parties) (blocks_of s) h step
-  pub unreached : WritesUnreached old new (length s.parties) (blocks_of s) h step
+  pub walks : WalksBetween old new (length s.parties) s.tables (blocks_of s) step.after
+  pub order : IsInOrder old (length s.parties) s.tables (blocks_of s) h step
+  pub unreached : WritesUnreached old new (length s.parties) s.tables (blocks_of s) h step
 
 -- where the tables were at rest: each endpoint's walks in mixtures give what they give in either, or a translation fault, and
--- pages behind the tables change only while no translation unit may hold a way there
+-- pages but those of tables change only while no translation unit may hold a way there
 unfoldable pub IsMixed : State → Ram → Ram → Option (List Step) → Option (List Step) → Type 0
-IsMixed s old new past later = AreMixed old new (length s.parties) (blocks_of s) past later
+IsMixed s old new past later = AreMixed old new (length s.parties) s.tables (blocks_of s) past later
 
 -- Each step on the way from one history to a later one is such a one. And at its end, where an endpoint's walk led to a page and
 -- leads there no more, the page was settled in the endpoint's tables, and no table has changed since then.
 -- And so it is of walks in mixtures.
 pub record AreMoments (s : State) (old new : Ram) (past later : Option (List Step)) : Type 0 where
   pub steps : Only past later (λ h step. IsSafeStep s old new h step)
-  pub ended : EndsSettled old new (length s.parties) (blocks_of s) later
+  pub ended : EndsSettled old new (length s.parties) s.tables (blocks_of s) later
   pub mixtures : IsMixed s old new past later

@@ -95,8 +95,8 @@ fn clear<M: PhysMem>(ram: &mut M)
 }
 
 impl<M: PhysMem + Drop> Machine<M> {
-    /// The machine of a manifest in its first state: it clears the RAM and builds the tables. All pages behind the tables
-    /// are zeros, the manager's too. Each of its accesses walks the tables.
+    /// The machine of a manifest in its first state: it clears the RAM and builds the tables. All pages but the
+    /// tables' are zeros, the manager's too. Each of its accesses walks the tables.
     pub fn boot(manifest: &Manifest, ram: M) -> Machine<M>
         requires base { (M.ram ram).base ≡ manifest.now.ram_base.0 }
         requires size { length (M.ram ram).pages ≡ 512 * manifest.now.ram_blocks }
@@ -137,7 +137,7 @@ impl<M: PhysMem + Drop, T: Translations + Drop> Machine<M, T> {
     }
 
     /// The same machine, in RAM that comes with bytes: pages of the manifest's regions keep theirs, so that what was put there,
-    /// as an image of a partition, is there before the first operation. All other pages behind the tables are zeros.
+    /// as an image of a partition, is there before the first operation. All other pages but the tables' are zeros.
     #[inline(never)]
     pub fn boot_held(manifest: &Manifest, ram: M, cache: T) -> Machine<M, T>
         requires base { (M.ram ram).base ≡ manifest.now.ram_base.0 }

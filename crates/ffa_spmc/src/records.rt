@@ -4,7 +4,7 @@ ghost use Rattle.std.specs.Prelude.{◌≡◌};
 ghost use Rattle.ffa_spmc.specs.FirstRecords.{AreFirstRecords};
 
 use arrayvec::ArrayVec;
-use ffa_model::{Address, Endpoint, Manifest, Region};
+use ffa_model::{Address, Endpoint, Manifest, PageNo, Region};
 use ffa_notify::Bitmaps;
 use ffa_stage2::Layout;
 
@@ -62,5 +62,5 @@ fn smallest() -> Manifest {
         regions,
         ..Endpoint::default()
     });
-    Manifest::of(Address(base), 1, endpoints)
+    Manifest::of(Address(base), 1, PageNo(0), endpoints)
 }

@@ -20,24 +20,24 @@ use Rattle.ffa_stage2.specs.Held.{IsMixedAnswer, MayHold}
 use Rattle.ffa_stage2.specs.Mixtures.{IsMixture, MayRead, MixedBetween, MixturesBetween, page_at}
 use Rattle.ffa_stage2.specs.Moments.{walk_at}
 use Rattle.ffa_stage2.specs.Rest.{AreAtRest, IsAsIn, Reads}
-use Rattle.ffa_stage2.specs.Tables.{HasRoom, KeepsTables, level1_place, level2_place, table_link, table_page}
+use Rattle.ffa_stage2.specs.Tables.{HasRoom, IsAside, KeepsTables, level1_place, level2_place, table_link, table_page}
 use Rattle.ffa_stage2.proofs.Descriptors.{entry-page, from_level1-table, from_level1-zero, from_level2-block_word, from_level2-table, from_level2-zero}
 use Rattle.ffa_stage2.proofs.Kept.{HasRoom-kept}
 use Rattle.ffa_stage2.proofs.Mixtures.{IsAsInEither, may-now, mixed-between}
-use Rattle.ffa_stage2.proofs.Places.{table_page-address, table_page-below_end}
+use Rattle.ffa_stage2.proofs.Places.{IsTablePage, not-both, table_page-address, table_page-below_end, table_page-there}
 use Rattle.ffa_stage2.proofs.Rest.{held-mixed, reads-more}
 
 -- a walk that leads through the tables, where other RAM has the same tables
-module _ (m o : Ram) (n b e a : ℕ) (h : List Step) (fits : HasRoom m n b) (keeps : KeepsTables m o n b) (he : e < n) (ha : a < 2 ^ 32) (reads : Reads m.base n b h m (IsAsIn m b)) where
-  other : HasRoom o n b
-  other = HasRoom-kept m o n b fits keeps.base keeps.size
+module _ (m o : Ram) (n tables b e a : ℕ) (h : List Step) (fits : HasRoom m n tables b) (keeps : KeepsTables m o n tables b) (he : e < n) (ha : a < 2 ^ 32) (reads : Reads m.base n tables b h m (IsAsIn m tables b)) where
+  other : HasRoom o n tables b
+  other = HasRoom-kept m o n tables b fits keeps.base keeps.size
 
-  same-page : (t : ℕ) → t < table_pages b → page_of o (table_page b e t) ≡ page_of m (table_page b e t)
-  same-page t ht = keeps.pages (table_page b e t) (omega (arith, table_page-below_end n b e t he ht))
+  same-page : (t : ℕ) → t < table_pages b → page_of o (table_page tables b e t) ≡ page_of m (table_page tables b e t)
+  same-page t ht = let (from, below) = table_page-there n tables b e t he ht in keeps.pages (table_page tables b e t) from below
 
-  same-entry : (t j : ℕ) → t < table_pages b → entry o (o.base + 4096 * table_page b e t) j ≡ entry m (m.base + 4096 * table_page b e t) j
+  same-entry : (t j : ℕ) → t < table_pages b → entry o (o.base + 4096 * table_page tables b e t) j ≡ entry m (m.base + 4096 * table_page tables b e t) j
   same-entry t j ht =
-      entry-page o (table_page b e t) j ∙ ap (λ (bytes : List ℕ). word_of bytes j) (same-page t ht) ∙ sym (entry-page m (table_page b e t) j)
+      entry-page o (table_page tables b e t) j ∙ ap (λ (bytes : List ℕ). word_of bytes j) (same-page t ht) ∙ sym (entry-page m (table_page tables b e t) j)
 
   -- from a word of level 2 that walks may read
   from-zero : (word : ℕ) → word ≡ 0 → from_level2 o word a ≡ from_level2 m word a
@@ -55,44 +55,44 @@ module _ (m o : Ram) (n b e a : ℕ) (h : List Step) (fits : HasRoom m n b) (kee
       ap (λ (w : ℕ). from_level2 o w a) at ∙ from_level2-block_word o r g a small
       ∙ sym (ap (λ (w : ℕ). from_level2 m w a) at ∙ from_level2-block_word m r g a small)
 
-  from-table : (k : ℕ) → k < b → (word : ℕ) → word ≡ table_link m.base b e (2 + k) → from_level2 o word a ≡ from_level2 m word a
+  from-table : (k : ℕ) → k < b → (word : ℕ) → word ≡ table_link m.base tables b e (2 + k) → from_level2 o word a ≡ from_level2 m word a
   from-table k hk word is =
-      let t : ℕ = m.base + 4096 * table_page b e (2 + k) in
+      let t : ℕ = m.base + 4096 * table_page tables b e (2 + k) in
       let aligned : m.base % 0x200000 ≡ 0 = fits.place in
       let one : m.base % 2 ^ 30 + 0x200000 * b ≤ 2 ^ 30 = fits.one_table in
       let within : m.base + 0x200000 * b ≤ 2 ^ 32 = fits.within in
       let size : length m.pages ≡ 512 * b = fits.size in
-      let room : n * table_pages b ≤ 512 * b = fits.room in
-      let below = table_page-below_end n b e (2 + k) he (omega (arith, hk)) in
+      let room : tables + n * table_pages b ≤ 512 * b = fits.room in
+      let below = table_page-below_end n tables b e (2 + k) he (omega (arith, hk)) in
       let small : t < 2 ^ 48 = omega (arith, below) in
       let even : t % 4096 ≡ 0 = omega arith in
-      let there : o.base + 4096 * table_page b e (2 + k) ≡ t = ap (λ (c : ℕ). c + 4096 * table_page b e (2 + k)) keeps.base in
+      let there : o.base + 4096 * table_page tables b e (2 + k) ≡ t = ap (λ (c : ℕ). c + 4096 * table_page tables b e (2 + k)) keeps.base in
       ap (λ (w : ℕ). from_level2 o w a) is
-      ∙ from_level2-table o t a small even (subst (λ (x : ℕ). is_page_address o x ≡ true) there (table_page-address o n b e (2 + k) other he (omega (arith, hk))))
+      ∙ from_level2-table o t a small even (subst (λ (x : ℕ). is_page_address o x ≡ true) there (table_page-address o n tables b e (2 + k) other he (omega (arith, hk))))
       ∙ ap (λ (w : ℕ). from_level3 w a) (ap (λ (x : ℕ). entry o x (bits 20 12 a)) (sym there) ∙ same-entry (2 + k) (bits 20 12 a) (omega (arith, hk)))
       ∙ sym (ap (λ (w : ℕ). from_level2 m w a) is
-      ∙ from_level2-table m t a small even (table_page-address m n b e (2 + k) fits he (omega (arith, hk))))
+      ∙ from_level2-table m t a small even (table_page-address m n tables b e (2 + k) fits he (omega (arith, hk))))
 
   -- the word of level 2 on the way
-  in-second : (j word : ℕ) → j < 512 → word ≡ word_of (page_of m (table_page b e 1)) j → from_level2 o word a ≡ from_level2 m word a
+  in-second : (j word : ℕ) → j < 512 → word ≡ word_of (page_of m (table_page tables b e 1)) j → from_level2 o word a ≡ from_level2 m word a
   in-second j word hj at =
       let first : ℕ = level2_place m.base in
       let few : b ≤ MOST_BLOCKS = fits.few in
       elim (cases_lt j first) [
-        | inl low ↦ from-zero word (at ∙ reads.outside e 0 j _ he (omega arith) hj (inl low) (may-now e 0 h m (table_page b e 1) j))
+        | inl low ↦ from-zero word (at ∙ reads.outside e 0 j _ he (omega arith) hj (inl low) (may-now e 0 h m (table_page tables b e 1) j))
         | inr from ↦ elim (cases_lt j (first + b)) [
-          | inr high ↦ from-zero word (at ∙ reads.outside e 0 j _ he (omega arith) hj (inr high) (may-now e 0 h m (table_page b e 1) j))
+          | inr high ↦ from-zero word (at ∙ reads.outside e 0 j _ he (omega arith) hj (inr high) (may-now e 0 h m (table_page tables b e 1) j))
           | inl below ↦
               let k : ℕ = j - first in
               let hk : k < b = omega arith in
               let jk : j ≡ first + k = omega arith in
-              let here : word ≡ word_of (page_of m (table_page b e 1)) (first + k) = at ∙ ap (λ (i : ℕ). word_of (page_of m (table_page b e 1)) i) jk in
+              let here : word ≡ word_of (page_of m (table_page tables b e 1)) (first + k) = at ∙ ap (λ (i : ℕ). word_of (page_of m (table_page tables b e 1)) i) jk in
               elim (reads.each e k 0 he hk (omega arith)) [
-                | inl x ↦ elim (x.middle _ (may-now e (512 * k + 0) h m (table_page b e 1) (first + k))) [
+                | inl x ↦ elim (x.middle _ (may-now e (512 * k + 0) h m (table_page tables b e 1) (first + k))) [
                   | inl none ↦ from-zero word (here ∙ none)
                   | inr (r, its, is) ↦ from-block k hk r word (here ∙ is)
                 ]
-                | inr x ↦ elim (x.middle _ (may-now e (512 * k + 0) h m (table_page b e 1) (first + k))) [
+                | inr x ↦ elim (x.middle _ (may-now e (512 * k + 0) h m (table_page tables b e 1) (first + k))) [
                   | inl none ↦ from-zero word (here ∙ none)
                   | inr link ↦ from-table k hk word (here ∙ link)
                 ]
@@ -100,7 +100,7 @@ module _ (m o : Ram) (n b e a : ℕ) (h : List Step) (fits : HasRoom m n b) (kee
         ]
       ]
 
-  pub walk-kept : walk_at o b e a ≡ walk_at m b e a
+  pub walk-kept : walk_at o tables b e a ≡ walk_at m tables b e a
   unfolding walk
   walk-kept =
       let j : ℕ = bits 31 30 a in
@@ -110,30 +110,30 @@ module _ (m o : Ram) (n b e a : ℕ) (h : List Step) (fits : HasRoom m n b) (kee
       let one : m.base % 2 ^ 30 + 0x200000 * b ≤ 2 ^ 30 = fits.one_table in
       let within : m.base + 0x200000 * b ≤ 2 ^ 32 = fits.within in
       let size : length m.pages ≡ 512 * b = fits.size in
-      let room : n * table_pages b ≤ 512 * b = fits.room in
-      let root : root_of m.base b e ≡ m.base + 4096 * table_page b e 0 = omega arith in
-      let root' : root_of o.base b e ≡ o.base + 4096 * table_page b e 0 = omega arith in
-      let top : entry o (root_of o.base b e) j ≡ entry m (root_of m.base b e) j =
+      let room : tables + n * table_pages b ≤ 512 * b = fits.room in
+      let root : root_of m.base tables b e ≡ m.base + 4096 * table_page tables b e 0 = omega arith in
+      let root' : root_of o.base tables b e ≡ o.base + 4096 * table_page tables b e 0 = omega arith in
+      let top : entry o (root_of o.base tables b e) j ≡ entry m (root_of m.base tables b e) j =
       ap (λ (t : ℕ). entry o t j) root' ∙ same-entry 0 j (omega arith) ∙ sym (ap (λ (t : ℕ). entry m t j) root)
       in
-      let word = ap (λ (t : ℕ). entry m t j) root ∙ entry-page m (table_page b e 0) j ∙ reads.level1 e 0 j _ he (omega arith) hj (may-now e 0 h m (table_page b e 0) j) in
+      let word = ap (λ (t : ℕ). entry m t j) root ∙ entry-page m (table_page tables b e 0) j ∙ reads.level1 e 0 j _ he (omega arith) hj (may-now e 0 h m (table_page tables b e 0) j) in
       rw fits' (ap (λ (w : ℕ). from_level1 o w a) top ∙ elim (cases_eq j (level1_place m.base)) [
         | inl at ↦
-            let t : ℕ = m.base + 4096 * table_page b e 1 in
-            let below = table_page-below_end n b e 1 he (omega arith) in
+            let t : ℕ = m.base + 4096 * table_page tables b e 1 in
+            let below = table_page-below_end n tables b e 1 he (omega arith) in
             let small : t < 2 ^ 48 = omega (arith, below) in
             let even : t % 4096 ≡ 0 = omega arith in
             let here : (j == level1_place m.base) ≡ true = grind (arith, nat_tests) in
-            let there : o.base + 4096 * table_page b e 1 ≡ t = ap (λ (c : ℕ). c + 4096 * table_page b e 1) keeps.base in
-            let link : entry m (root_of m.base b e) j ≡ table_link m.base b e 1 = word ∙ rw here refl in
+            let there : o.base + 4096 * table_page tables b e 1 ≡ t = ap (λ (c : ℕ). c + 4096 * table_page tables b e 1) keeps.base in
+            let link : entry m (root_of m.base tables b e) j ≡ table_link m.base tables b e 1 = word ∙ rw here refl in
             ap (λ (w : ℕ). from_level1 o w a) link
-            ∙ from_level1-table o t a small even (subst (λ (x : ℕ). is_page_address o x ≡ true) there (table_page-address o n b e 1 other he (omega arith)))
+            ∙ from_level1-table o t a small even (subst (λ (x : ℕ). is_page_address o x ≡ true) there (table_page-address o n tables b e 1 other he (omega arith)))
             ∙ ap (λ (w : ℕ). from_level2 o w a) (ap (λ (x : ℕ). entry o x (bits 29 21 a)) (sym there) ∙ same-entry 1 (bits 29 21 a) (omega arith))
-            ∙ in-second (bits 29 21 a) _ (omega arith) (entry-page m (table_page b e 1) (bits 29 21 a))
-            ∙ sym (ap (λ (w : ℕ). from_level1 m w a) link ∙ from_level1-table m t a small even (table_page-address m n b e 1 fits he (omega arith)))
+            ∙ in-second (bits 29 21 a) _ (omega arith) (entry-page m (table_page tables b e 1) (bits 29 21 a))
+            ∙ sym (ap (λ (w : ℕ). from_level1 m w a) link ∙ from_level1-table m t a small even (table_page-address m n tables b e 1 fits he (omega arith)))
         | inr off ↦
             let none : (j == level1_place m.base) ≡ false = grind (arith, nat_tests) in
-            let zero : entry m (root_of m.base b e) j ≡ 0 = word ∙ rw none refl in
+            let zero : entry m (root_of m.base tables b e) j ≡ 0 = word ∙ rw none refl in
             ap (λ (w : ℕ). from_level1 o w a) zero ∙ from_level1-zero o a ∙ sym (ap (λ (w : ℕ). from_level1 m w a) zero ∙ from_level1-zero m a)
       ])
 
@@ -154,20 +154,20 @@ page-nor p pages q none = elim (cases_eq p q) [
 ]
 
 -- what lets an endpoint write at a moment is what lets it before all steps or behind all
-abbrev pub Leads : Ram → Ram → ℕ → ℕ → List Step → Ram → Type 0
-Leads old new n b h ram =
-    (e a : ℕ) (leaf : Leaf) → e < n → a < 2 ^ 32 → MayHold b e (page_at ram a) a h ram (Ok leaf)
-    → (walk_at old b e a ≡ Ok leaf) ⊎ (walk_at new b e a ≡ Ok leaf)
+abbrev pub Leads : Ram → Ram → ℕ → ℕ → ℕ → List Step → Ram → Type 0
+Leads old new n tables b h ram =
+    (e a : ℕ) (leaf : Leaf) → e < n → a < 2 ^ 32 → MayHold tables b e (page_at ram a) a h ram (Ok leaf)
+    → (walk_at old tables b e a ≡ Ok leaf) ⊎ (walk_at new tables b e a ≡ Ok leaf)
 
 -- so it is of a step that follows on what is before it
-abbrev pub LeadsBehind : Ram → Ram → ℕ → ℕ → List Step → Step → Type 0
-LeadsBehind old new n b h s = AreInTurn (s ∷ h) s.after × Leads old new n b (s ∷ h) s.after × MixturesBetween old new n b (s ∷ h) s.after
+abbrev pub LeadsBehind : Ram → Ram → ℕ → ℕ → ℕ → List Step → Step → Type 0
+LeadsBehind old new n tables b h s = AreInTurn (s ∷ h) s.after × Leads old new n tables b (s ∷ h) s.after × MixturesBetween old new n tables b (s ∷ h) s.after
 
 settles-too : (e p : ℕ) (s x : Step) → x.settled ≡ s.settled → Settles e p s → Settles e p x
 settles-too e p s x same (its, is, whose, inside) = (its, same ∙ is, whose, inside)
 
-module _ (old new : Ram) (n b : ℕ) (g : List Step) (begun : (s : Step) × (earlier : List Step) × (g ≡ s ∷ earlier)) (turn : AreInTurn g old) (first : Leads old new n b g old) (at_rest : MixturesBetween old new n b g old)
-    (far : (e a : ℕ) (leaf : Leaf) → e < n → a < 2 ^ 32 → (walk_at old b e a ≡ Ok leaf) ⊎ (walk_at new b e a ≡ Ok leaf) → table_page b n 0 ≤ page_at old leaf.phys) where
+module _ (old new : Ram) (n tables b : ℕ) (g : List Step) (begun : (s : Step) × (earlier : List Step) × (g ≡ s ∷ earlier)) (turn : AreInTurn g old) (first : Leads old new n tables b g old) (at_rest : MixturesBetween old new n tables b g old)
+    (far : (e a : ℕ) (leaf : Leaf) → e < n → a < 2 ^ 32 → (walk_at old tables b e a ≡ Ok leaf) ⊎ (walk_at new tables b e a ≡ Ok leaf) → IsAside n tables b (page_at old leaf.phys)) where
   abbrev origin : Moment
   origin = record { history = g; ram = old }
 
@@ -176,31 +176,31 @@ module _ (old new : Ram) (n b : ℕ) (g : List Step) (begun : (s : Step) × (ear
     pub place : memory.ram.base ≡ old.base
     pub some : (s : Step) × (earlier : List Step) × (memory.history ≡ s ∷ earlier)
     pub follow : AreInTurn memory.history memory.ram
-    pub leads : Leads old new n b alone.history alone.ram
-    pub between : MixturesBetween old new n b alone.history alone.ram
+    pub leads : Leads old new n tables b alone.history alone.ram
+    pub between : MixturesBetween old new n tables b alone.history alone.ram
     pub reads :
-        (e p page i v : ℕ) → page < table_page b n 0 → MayRead e p memory.history memory.ram page i v
+        (e p page i v : ℕ) → IsTablePage n tables b page → MayRead e p memory.history memory.ram page i v
         → MayRead e p alone.history alone.ram page i v
     pub holds :
-        (e p a : ℕ) (answer : Answer) → e < n → MayHold b e p a memory.history memory.ram answer → MayHold b e p a alone.history alone.ram answer
-    pub theirs : AreTheirs old new n b written
+        (e p a : ℕ) (answer : Answer) → e < n → MayHold tables b e p a memory.history memory.ram answer → MayHold tables b e p a alone.history alone.ram answer
+    pub theirs : AreTheirs old new n tables b written
     pub beside : IsBeside alone.ram memory.ram (is_one_of written)
     pub bytes : (p : ℕ) → is_one_of written p ≡ true → IsPage (page_of memory.ram p)
 
-  off-tables : (written : List ℕ) → AreTheirs old new n b written → (page : ℕ) → page < table_page b n 0 → is_one_of written page ≡ false
-  off-tables written theirs page low = false_from_ne_true (is_one_of written page) (λ is. absurd (omega (arith, low, theirs.behind page is)))
+  off-tables : (written : List ℕ) → AreTheirs old new n tables b written → (page : ℕ) → IsTablePage n tables b page → is_one_of written page ≡ false
+  off-tables written theirs page low = false_from_ne_true (is_one_of written page) (λ is. not-both n tables b page low (theirs.aside page is))
 
   -- a mixture of memory is one of the RAM
   pub mixture-alone : (alone memory : Moment) (e p : ℕ) (mixed : Ram) → e < n → memory.ram.base ≡ alone.ram.base → length memory.ram.pages ≡ length alone.ram.pages
-      → ((e p page i v : ℕ) → page < table_page b n 0 → MayRead e p memory.history memory.ram page i v → MayRead e p alone.history alone.ram page i v)
-      → IsMixture b e p memory.history memory.ram mixed → IsMixture b e p alone.history alone.ram mixed
+      → ((e p page i v : ℕ) → IsTablePage n tables b page → MayRead e p memory.history memory.ram page i v → MayRead e p alone.history alone.ram page i v)
+      → IsMixture tables b e p memory.history memory.ram mixed → IsMixture tables b e p alone.history alone.ram mixed
   mixture-alone alone memory e p mixed he base size reads mix = record {
     base = mix.base ∙ base;
     size = mix.size ∙ size;
-    words = λ t i ht hi. reads e p (table_page b e t) i _ (omega (arith, table_page-below_end n b e t he ht)) (mix.words t i ht hi);
+    words = λ t i ht hi. reads e p (table_page tables b e t) i _ (table_page-there n tables b e t he ht) (mix.words t i ht hi);
   }
 
-  hold-now : (e p a : ℕ) (h : List Step) (ram : Ram) (answer : Answer) → IsMixedAnswer b e p a h ram answer → MayHold b e p a h ram answer
+  hold-now : (e p a : ℕ) (h : List Step) (ram : Ram) (answer : Answer) → IsMixedAnswer tables b e p a h ram answer → MayHold tables b e p a h ram answer
   hold-now e p a [] ram answer now = now
   hold-now e p a (s ∷ h) ram answer now = inl now
 
@@ -213,15 +213,15 @@ module _ (old new : Ram) (n b : ℕ) (g : List Step) (begun : (s : Step) × (ear
     between = at_rest;
     reads = λ e p page i v low read. read;
     holds = λ e p a answer he held. held;
-    theirs = record { behind = λ p none. absurd (false≢true none); could = λ p none. absurd (false≢true none) };
+    theirs = record { aside = λ p none. absurd (false≢true none); could = λ p none. absurd (false≢true none) };
     beside = record { base = refl; size = refl; pages = λ p off. refl };
     bytes = λ p none. absurd (false≢true none);
   }
 
   -- a step as it is done in memory
   module _ (s : Step) (h : List Step) (x : Step) (memory : List Step) (written : List ℕ) (along : Along (before s h) (before x memory) written) (among : IsAmong written s x)
-      (here : LeadsBehind old new n b h s) where
-    now-reads : (e p page i v : ℕ) → page < table_page b n 0 → MayRead e p (x ∷ memory) x.after page i v → MayRead e p (s ∷ h) s.after page i v
+      (here : LeadsBehind old new n tables b h s) where
+    now-reads : (e p page i v : ℕ) → IsTablePage n tables b page → MayRead e p (x ∷ memory) x.after page i v → MayRead e p (s ∷ h) s.after page i v
     now-reads e p page i v low (inl is) = inl (is ∙ ap (λ (bytes : List ℕ). word_of bytes i) (among.pages page (off-tables written along.theirs page low)))
     now-reads e p page i v low (inr (off, read)) = inr ((λ settles. off (settles-too e p s x among.settled settles)), along.reads e p page i v low read)
 
@@ -231,7 +231,7 @@ module _ (old new : Ram) (n b : ℕ) (g : List Step) (begun : (s : Step) × (ear
     size-same : length x.after.pages ≡ length s.after.pages
     size-same = among.placed.size ∙ along.beside.size ∙ sym here.0.1.size
 
-    now-holds : (e p a : ℕ) (answer : Answer) → e < n → MayHold b e p a (x ∷ memory) x.after answer → MayHold b e p a (s ∷ h) s.after answer
+    now-holds : (e p a : ℕ) (answer : Answer) → e < n → MayHold tables b e p a (x ∷ memory) x.after answer → MayHold tables b e p a (s ∷ h) s.after answer
     now-holds e p a answer he (inl (mixed, mix, is)) = inl (mixed, mixture-alone (behind s h) (behind x memory) e p mixed he base-same size-same now-reads mix, is)
     now-holds e p a answer he (inr (off, held)) = inr ((λ settles. off (settles-too e p s x among.settled settles)), along.holds e p a answer he held)
 
@@ -250,24 +250,24 @@ module _ (old new : Ram) (n b : ℕ) (g : List Step) (begun : (s : Step) × (ear
     }
 
   -- a step of others
-  module _ (alone : Moment) (p : ℕ) (x : Step) (memory : List Step) (written : List ℕ) (along : Along alone (before x memory) written) (may : MayWrite n b p (before x memory))
+  module _ (alone : Moment) (p : ℕ) (x : Step) (memory : List Step) (written : List ℕ) (along : Along alone (before x memory) written) (may : MayWrite n tables b p (before x memory))
       (others : IsOthers p x) where
     same-place : x.before.base ≡ alone.ram.base
     same-place = along.beside.base
 
-    led : (walk_at old b may.endpoint may.address ≡ Ok may.leaf) ⊎ (walk_at new b may.endpoint may.address ≡ Ok may.leaf)
+    led : (walk_at old tables b may.endpoint may.address ≡ Ok may.leaf) ⊎ (walk_at new tables b may.endpoint may.address ≡ Ok may.leaf)
     led =
         along.leads may.endpoint may.address may.leaf may.one may.low
-        (subst (λ (c : ℕ). MayHold b may.endpoint ((may.address - c) / 4096) may.address alone.history alone.ram (Ok may.leaf)) same-place
+        (subst (λ (c : ℕ). MayHold tables b may.endpoint ((may.address - c) / 4096) may.address alone.history alone.ram (Ok may.leaf)) same-place
         (along.holds may.endpoint (page_at x.before may.address) may.address (Ok may.leaf) may.one may.held))
 
     their-page : page_at old may.leaf.phys ≡ p
     their-page = ap (λ (c : ℕ). (may.leaf.phys - c) / 4096) (sym along.place) ∙ may.lets.page
 
-    theirs-behind : table_page b n 0 ≤ p
-    theirs-behind = subst (λ (q : ℕ). table_page b n 0 ≤ q) their-page (far may.endpoint may.address may.leaf may.one may.low led)
+    theirs-aside : IsAside n tables b p
+    theirs-aside = subst (IsAside n tables b) their-page (far may.endpoint may.address may.leaf may.one may.low led)
 
-    theirs-could : CouldWrite old new n b p
+    theirs-could : CouldWrite old new n tables b p
     theirs-could = record {
       endpoint = may.endpoint;
       one = may.one;
@@ -281,14 +281,14 @@ module _ (old new : Ram) (n b : ℕ) (g : List Step) (begun : (s : Step) × (ear
     unsettled : (e q : ℕ) → Settles e q x → ⊥
     unsettled e q (its, is, _, _) = none-some its (sym others.none ∙ is)
 
-    others-reads : (e q page i v : ℕ) → page < table_page b n 0 → MayRead e q (x ∷ memory) x.after page i v → MayRead e q alone.history alone.ram page i v
+    others-reads : (e q page i v : ℕ) → IsTablePage n tables b page → MayRead e q (x ∷ memory) x.after page i v → MayRead e q alone.history alone.ram page i v
     others-reads e q page i v low (inl is) =
         along.reads e q page i v low
-        (subst (MayRead e q memory x.before page i) (sym (is ∙ ap (λ (bytes : List ℕ). word_of bytes i) (others.pages page (λ same. absurd (omega (arith, low, same, theirs-behind))))))
+        (subst (MayRead e q memory x.before page i) (sym (is ∙ ap (λ (bytes : List ℕ). word_of bytes i) (others.pages page (λ same. not-both n tables b p (subst (IsTablePage n tables b) same low) theirs-aside))))
         (may-now e q memory x.before page i))
     others-reads e q page i v low (inr (off, read)) = along.reads e q page i v low read
 
-    others-holds : (e q a : ℕ) (answer : Answer) → e < n → MayHold b e q a (x ∷ memory) x.after answer → MayHold b e q a alone.history alone.ram answer
+    others-holds : (e q a : ℕ) (answer : Answer) → e < n → MayHold tables b e q a (x ∷ memory) x.after answer → MayHold tables b e q a alone.history alone.ram answer
     others-holds e q a answer he (inl (mixed, mix, is)) =
         hold-now e q a alone.history alone.ram answer
         (mixed, mixture-alone alone (behind x memory) e q mixed he (others.placed.base ∙ along.beside.base) (others.placed.size ∙ along.beside.size) others-reads mix, is)
@@ -304,12 +304,12 @@ module _ (old new : Ram) (n b : ℕ) (g : List Step) (begun : (s : Step) × (ear
       reads = others-reads;
       holds = others-holds;
       theirs = record {
-        behind = λ q is. elim (page-or p written q is) [
-          | inl same ↦ subst (λ (r : ℕ). table_page b n 0 ≤ r) (sym same) theirs-behind
-          | inr earlier ↦ along.theirs.behind q earlier
+        aside = λ q is. elim (page-or p written q is) [
+          | inl same ↦ subst (IsAside n tables b) (sym same) theirs-aside
+          | inr earlier ↦ along.theirs.aside q earlier
         ];
         could = λ q is. elim (page-or p written q is) [
-          | inl same ↦ subst (CouldWrite old new n b) (sym same) theirs-could
+          | inl same ↦ subst (CouldWrite old new n tables b) (sym same) theirs-could
           | inr earlier ↦ along.theirs.could q earlier
         ];
       };
@@ -328,13 +328,13 @@ module _ (old new : Ram) (n b : ℕ) (g : List Step) (begun : (s : Step) × (ear
     }
 
   -- there are at least the steps that there were at first
-  longer : (alone memory : Moment) (written : List ℕ) → Amid n b origin alone memory written → length g ≤ length alone.history
+  longer : (alone memory : Moment) (written : List ℕ) → Amid n tables b origin alone memory written → length g ≤ length alone.history
   longer alone memory written Begun = omega arith
   longer alone memory written (Own s h x earlier pages amid among) = omega (arith, longer (before s h) (before x earlier) pages amid)
   longer alone memory written (Others alone' p x earlier rest amid may others) = longer alone (before x earlier) rest amid
 
   -- so it is of memory amid others
-  pub along-amid : (alone memory : Moment) (written : List ℕ) → Amid n b origin alone memory written → Adds (Some g) (λ h s. LeadsBehind old new n b h s) alone.history
+  pub along-amid : (alone memory : Moment) (written : List ℕ) → Amid n tables b origin alone memory written → Adds (Some g) (λ h s. LeadsBehind old new n tables b h s) alone.history
       → Along alone memory written
   along-amid alone memory written Begun adds = at-first
   along-amid alone memory written (Own s h x earlier pages amid among) (inl was) =
@@ -345,41 +345,41 @@ module _ (old new : Ram) (n b : ℕ) (g : List Step) (begun : (s : Step) × (ear
       others-step alone p x earlier rest (along-amid alone (before x earlier) rest amid adds) may others
 
   -- walks in mixtures of memory
-  pub between-amid : (alone memory : Moment) (written : List ℕ) → Along alone memory written → MixturesBetween old new n b memory.history memory.ram
+  pub between-amid : (alone memory : Moment) (written : List ℕ) → Along alone memory written → MixturesBetween old new n tables b memory.history memory.ram
   between-amid alone memory written along a mixed ha each =
       along.between a mixed ha (λ e he.
       mixture-alone alone memory e (page_at alone.ram a) (mixed e) he along.beside.base along.beside.size along.reads
-      (subst (λ (c : ℕ). IsMixture b e ((a - c) / 4096) memory.history memory.ram (mixed e)) along.beside.base (each e he)))
+      (subst (λ (c : ℕ). IsMixture tables b e ((a - c) / 4096) memory.history memory.ram (mixed e)) along.beside.base (each e he)))
 
   -- at the end of all steps memory has the tables of the other RAM, and they are at rest in it
-  module _ (room : HasRoom new n b) (h : List Step) (memory : Moment) (written : List ℕ) (rest : AreAtRest new n b h) (along : Along (record { history = h; ram = new }) memory written) where
-    pub keeps-amid : KeepsTables new memory.ram n b
+  module _ (room : HasRoom new n tables b) (h : List Step) (memory : Moment) (written : List ℕ) (rest : AreAtRest new n tables b h) (along : Along (record { history = h; ram = new }) memory written) where
+    pub keeps-amid : KeepsTables new memory.ram n tables b
     keeps-amid = record {
       base = along.beside.base;
       size = along.beside.size;
-      pages = λ p low. along.beside.pages p (off-tables written along.theirs p low);
+      pages = λ p from below. along.beside.pages p (off-tables written along.theirs p (from, below));
     }
 
-    pub walks-amid : (e a : ℕ) → e < n → a < 2 ^ 32 → walk_at memory.ram b e a ≡ walk_at new b e a
-    walks-amid e a he ha = walk-kept new memory.ram n b e a h room keeps-amid he ha rest.reads
+    pub walks-amid : (e a : ℕ) → e < n → a < 2 ^ 32 → walk_at memory.ram tables b e a ≡ walk_at new tables b e a
+    walks-amid e a he ha = walk-kept new memory.ram n tables b e a h room keeps-amid he ha rest.reads
 
-    as-amid : (e p : ℕ) → e < n → p < 512 * b → (r : Option Rights) → IsAsIn new b e p r → IsAsIn memory.ram b e p r
+    as-amid : (e p : ℕ) → e < n → p < 512 * b → (r : Option Rights) → IsAsIn new tables b e p r → IsAsIn memory.ram tables b e p r
     as-amid e p he hp r (inl none) = inl none
     as-amid e p he hp r (inr walked) = inr (λ i hi.
         let within : new.base + 0x200000 * b ≤ 2 ^ 32 = room.within in
-        subst (λ (c : ℕ). mapped_answer r (c + 4096 * p + i) ≡ walk_at memory.ram b e (c + 4096 * p + i)) (sym along.beside.base)
+        subst (λ (c : ℕ). mapped_answer r (c + 4096 * p + i) ≡ walk_at memory.ram tables b e (c + 4096 * p + i)) (sym along.beside.base)
         (walked i hi ∙ sym (walks-amid e (new.base + 4096 * p + i) he (omega (arith, within, hp, hi)))))
 
-    low-page : (e t : ℕ) → e < n → t < table_pages b → table_page b e t < table_page b n 0
-    low-page e t he ht = omega (arith, table_page-below_end n b e t he ht)
+    low-page : (e t : ℕ) → e < n → t < table_pages b → IsTablePage n tables b (table_page tables b e t)
+    low-page e t he ht = table_page-there n tables b e t he ht
 
-    reads-amid : Reads new.base n b memory.history memory.ram (IsAsIn memory.ram b)
+    reads-amid : Reads new.base n tables b memory.history memory.ram (IsAsIn memory.ram tables b)
     reads-amid = record {
-      level1 = λ e p i v he hp hi read. rest.reads.level1 e p i v he hp hi (along.reads e p (table_page b e 0) i v (low-page e 0 he (omega arith)) read);
-      outside = λ e p i v he hp hi off read. rest.reads.outside e p i v he hp hi off (along.reads e p (table_page b e 1) i v (low-page e 1 he (omega arith)) read);
+      level1 = λ e p i v he hp hi read. rest.reads.level1 e p i v he hp hi (along.reads e p (table_page tables b e 0) i v (low-page e 0 he (omega arith)) read);
+      outside = λ e p i v he hp hi off read. rest.reads.outside e p i v he hp hi off (along.reads e p (table_page tables b e 1) i v (low-page e 1 he (omega arith)) read);
       each = λ e k j he hk hj.
-          let second = along.reads e (512 * k + j) (table_page b e 1) (level2_place new.base + k) in
-          let third = along.reads e (512 * k + j) (table_page b e (2 + k)) j in
+          let second = along.reads e (512 * k + j) (table_page tables b e 1) (level2_place new.base + k) in
+          let third = along.reads e (512 * k + j) (table_page tables b e (2 + k)) j in
           let more = as-amid e (512 * k + j) he (omega (arith, hk, hj)) in
           elim (rest.reads.each e k j he hk hj) [
             | inl x ↦ inl (record {
@@ -392,17 +392,17 @@ module _ (old new : Ram) (n b : ℕ) (g : List Step) (begun : (s : Step) × (ear
           ];
     }
 
-    pub rest-amid : AreAtRest memory.ram n b memory.history
+    pub rest-amid : AreAtRest memory.ram n tables b memory.history
     rest-amid = record {
       begun = along.some;
       turn = along.follow;
-      reads = subst (λ (c : ℕ). Reads c n b memory.history memory.ram (IsAsIn memory.ram b)) (sym along.beside.base) reads-amid;
+      reads = subst (λ (c : ℕ). Reads c n tables b memory.history memory.ram (IsAsIn memory.ram tables b)) (sym along.beside.base) reads-amid;
     }
 
 -- what a translation unit may hold, where walks in mixtures give what they give in either of two RAMs
-pub leads-mixed : (old new ram : Ram) (n b : ℕ) (h : List Step) → AreInTurn h ram → MixedBetween old new n b h ram → Leads old new n b h ram
-leads-mixed old new ram n b h turn between e a leaf he ha held =
-    let (mixed, mix, is) = held-mixed b e (page_at ram a) a h ram (Ok leaf) turn held in
+pub leads-mixed : (old new ram : Ram) (n tables b : ℕ) (h : List Step) → AreInTurn h ram → MixedBetween old new n tables b h ram → Leads old new n tables b h ram
+leads-mixed old new ram n tables b h turn between e a leaf he ha held =
+    let (mixed, mix, is) = held-mixed tables b e (page_at ram a) a h ram (Ok leaf) turn held in
     elim (between e a mixed he ha mix) [
       | inl was ↦ inl (sym was ∙ sym is)
       | inr (inl now) ↦ inr (sym now ∙ sym is)
@@ -413,13 +413,13 @@ leads-mixed old new ram n b h turn between e a leaf he ha held =
     ok-err leaf same = false≢true (sym (ap (λ (x : Answer). is_ok x) same))
 
 -- at rest, of each endpoint
-pub mixed-rest : (old new : Ram) (n b : ℕ) (h : List Step) → HasRoom old n b → new.base ≡ old.base → AreAtRest old n b h → MixedBetween old new n b h old
-mixed-rest old new n b h room base rest =
-    mixed-between old new old n b h room refl base (reads-more old.base n b h old (IsAsIn old b) (IsAsInEither old new b) (λ e k j he hk hj r its. inl its) rest.reads)
+pub mixed-rest : (old new : Ram) (n tables b : ℕ) (h : List Step) → HasRoom old n tables b → new.base ≡ old.base → AreAtRest old n tables b h → MixedBetween old new n tables b h old
+mixed-rest old new n tables b h room base rest =
+    mixed-between old new old n tables b h room refl base (reads-more old.base n tables b h old (IsAsIn old tables b) (IsAsInEither old new tables b) (λ e k j he hk hj r its. inl its) rest.reads)
 
 -- at rest, of all endpoints at once
-pub mixtures-rest : (old new : Ram) (n b : ℕ) (h : List Step) → HasRoom old n b → AreAtRest old n b h → MixturesBetween old new n b h old
-mixtures-rest old new n b h room rest a mixed ha each = inl (λ e he. elim (mixed-rest old old n b h room refl rest e a (mixed e) he ha (each e he)) [
+pub mixtures-rest : (old new : Ram) (n tables b : ℕ) (h : List Step) → HasRoom old n tables b → AreAtRest old n tables b h → MixturesBetween old new n tables b h old
+mixtures-rest old new n tables b h room rest a mixed ha each = inl (λ e he. elim (mixed-rest old old n tables b h room refl rest e a (mixed e) he ha (each e he)) [
   | inl is ↦ inl is
   | inr (inl is) ↦ inl is
   | inr (inr none) ↦ inr none

@@ -1,6 +1,6 @@
 -- SPDX-License-Identifier: MIT OR Apache-2.0
 -- Tables of zeros, and the first tables.
-use Rattle.std.proofs.Common.{◌≡◌, ◌∙◌, ℕ, zero, suc, ◌+◌, ◌*◌, ◌<◌, refl, ap, sym, arith, List, length, replicate, get_or, true, false}
+use Rattle.std.proofs.Common.{◌≡◌, ◌∙◌, ℕ, zero, suc, ◌+◌, ◌*◌, ◌<◌, ◌≤◌, refl, ap, sym, arith, List, length, replicate, get_or, true, false}
 use Rattle.std.specs.Prelude.{nat_lt}
 use Rattle.std.proofs.lemmas.Bool.Decides.{nat_tests}
 use Rattle.std.proofs.lemmas.List.{length-replicate, get_or-drop}
@@ -21,11 +21,11 @@ word_of-zeros : (n i : ℕ) → word_of (replicate n 0) i ≡ 0
 word_of-zeros n i =
     same_number _ (replicate 8 0) (λ k _. get_or-drop (8 * i) (replicate n 0) k 0 ∙ get_or-zeros n (8 * i + k) ∙ sym (get_or-zeros 8 k))
 
-pub cleared : (ram : Ram) (n b base : ℕ) → HasRoom ram n b → ((p : ℕ) → p < table_page b n 0 → page_of ram p ≡ replicate 4096 0)
-    → TablesAre ram n b (linked base b 0)
-cleared ram n b base fits zeros =
-    let page : (e s : ℕ) → e < n → s < table_pages b → page_of ram (table_page b e s) ≡ replicate 4096 0 =
-    λ e s he hs. zeros (table_page b e s) (omega (arith, table_page-below_end n b e s he hs))
+pub cleared : (ram : Ram) (n tables b base : ℕ) → HasRoom ram n tables b → ((p : ℕ) → tables ≤ p → p < table_page tables b n 0 → page_of ram p ≡ replicate 4096 0)
+    → TablesAre ram n tables b (linked base tables b 0)
+cleared ram n tables b base fits zeros =
+    let page : (e s : ℕ) → e < n → s < table_pages b → page_of ram (table_page tables b e s) ≡ replicate 4096 0 =
+    λ e s he hs. zeros (table_page tables b e s) (omega arith) (omega (arith, table_page-below_end n tables b e s he hs))
     in
     record {
       fits = fits;
@@ -36,8 +36,8 @@ cleared ram n b base fits zeros =
     }
 
 -- all endpoints linked
-pub all-linked : (ram : Ram) (n b base : ℕ) → ram.base ≡ base → TablesAre ram n b (linked base b n) → IsBuilt ram n b no_access
-all-linked ram n b base stands t = IsBuilt-of_words ram n b (record {
+pub all-linked : (ram : Ram) (n tables b base : ℕ) → ram.base ≡ base → TablesAre ram n tables b (linked base tables b n) → IsBuilt ram n tables b no_access
+all-linked ram n tables b base stands t = IsBuilt-of_words ram n tables b (record {
   fits = t.fits;
   whole = t.whole;
   words = λ e s j he hs hj.

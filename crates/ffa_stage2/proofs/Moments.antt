@@ -13,8 +13,8 @@ use Rattle.ffa_model.specs.declared.rights.Rights.{Rights}
 use Rattle.ffa_stage2.specs.declared.blocks.BlockPlace.{BlockPlace}
 use Rattle.ffa_physmem.specs.Moments.{IsBeside, IsSettledBy, Step}
 use Rattle.ffa_stage2.specs.Blocks.{IsBlock, IsEither, block_word}
-use Rattle.ffa_stage2.specs.Moments.{EndsSettled, IsBetween, IsMoment, IsNoMore, KeepsBehind, WalksBetween, WritesUnreached, walk_at}
-use Rattle.ffa_stage2.specs.Tables.{IsBuilt, IsStanding, rights_of_block, table_page, with_pages}
+use Rattle.ffa_stage2.specs.Moments.{EndsSettled, IsBetween, IsMoment, IsNoMore, KeepsAside, WalksBetween, WritesUnreached, walk_at}
+use Rattle.ffa_stage2.specs.Tables.{IsAside, IsBuilt, IsStanding, rights_of_block, table_page, with_pages}
 use Rattle.ffa_stage2.specs.Orders.{IsBlockWrite, IsLeafWrite, IsLinkOrBlock, IsOrdered, IsSettledLast, IsWritten}
 use Rattle.ffa_stage2.specs.Places.{IsPlace, IsPlaceOf, Maps, Names, KeepsBeside, IsCut, IsOneOf, IsOrderly, IsFilled, IsFilling, IsOnTheWay, with_run, word_at}
 use Rattle.ffa_stage2.proofs.Changes.{standing-beside}
@@ -24,6 +24,7 @@ use Rattle.ffa_stage2.proofs.PageRuns.{KeepsBeside-of_filled, with_run-here, wit
 use Rattle.ffa_stage2.proofs.Rights.{with_pages-other, with_pages-more}
 use Rattle.ffa_stage2.proofs.RunChanges.{with_pages-block}
 use Rattle.ffa_stage2.proofs.Walks.{walk-standing, standing-of_built, walk-built}
+use Rattle.ffa_stage2.proofs.Places.{IsTablePage, not-both, table_page-there}
 
 -- ---- at one place
 
@@ -223,8 +224,8 @@ orderly-write x h s old value place fits before after order = inr (inr (record {
 }))
 
 -- a place is the same in RAM that stands alike
-pub place-of-kept : (old new : Ram) (b e k : ℕ) (x : BlockPlace) → new.base ≡ old.base → IsPlaceOf old b e k x → IsPlaceOf new b e k x
-place-of-kept old new b e k x base at = record {
+pub place-of-kept : (old new : Ram) (tables b e k : ℕ) (x : BlockPlace) → new.base ≡ old.base → IsPlaceOf old tables b e k x → IsPlaceOf new tables b e k x
+place-of-kept old new tables b e k x base at = record {
   middle = at.middle;
   entry = rw base at.entry;
   table = at.table;
@@ -256,8 +257,8 @@ pagewise e now access after p own now-far after-far = elim own [
   | inr nothing ↦ inl (λ e'. elim (cases_eq e' e) [ inl same ↦ inr (rw same nothing) | inr far ↦ inl (now-far e' far) ])
 ]
 
-module _ (old ram : Ram) (n b e k first next until end from to : ℕ) (access : ℕ → ℕ → Option Rights) (right : Option Rights) (x : BlockPlace)
-    (built : IsBuilt old n b (with_pages access e first next right)) (he : e < n) (hk : k < b) (at : IsPlaceOf old b e k x)
+module _ (old ram : Ram) (n tables b e k first next until end from to : ℕ) (access : ℕ → ℕ → Option Rights) (right : Option Rights) (x : BlockPlace)
+    (built : IsBuilt old n tables b (with_pages access e first next right)) (he : e < n) (hk : k < b) (at : IsPlaceOf old tables b e k x)
     (way : IsOnTheWay old ram x (rights_of_block (with_pages access e first next right e) k) from to right)
     (low : first ≤ next) (high : next ≤ until) (all : until ≤ end) (start : 512 * k + from ≡ next) (stop : 512 * k + to ≡ until) (few : to ≤ 512) where
   abbrev before : ℕ → ℕ → Option Rights
@@ -311,10 +312,10 @@ module _ (old ram : Ram) (n b e k first next until end from to : ℕ) (access : 
       rw off (with_pages-other access e first next right e' p (inl far))
 
   -- one block on its way
-  pub between-block : IsBetween ram n b access (with_pages access e first end right)
+  pub between-block : IsBetween ram n tables b access (with_pages access e first end right)
   between-block = record {
     rights = now;
-    stands = standing-beside old ram n b e k before now x (standing-of_built old n b before built) he hk at way.beside
+    stands = standing-beside old ram n tables b e k before now x (standing-of_built old n tables b before built) he hk at way.beside
         (IsEither-rights _ _ _ _ way.now (rights_of_block (now e) k) now-here way.stands)
         (λ e' k' j _ _ hj far. now-other e' k' j hj far);
     each = λ p. pagewise e now access (with_pages access e first end right) p (now-own p) (λ e' far. now-far e' p far)
@@ -326,8 +327,8 @@ no-more (inl is) same = inl (is ∙ same)
 no-more (inr none) same = inr none
 
 -- the other access, told in another way
-pub between-same : (ram : Ram) (n b : ℕ) (access f g : ℕ → ℕ → Option Rights) → IsBetween ram n b access f → ((e p : ℕ) → f e p ≡ g e p) → IsBetween ram n b access g
-between-same ram n b access f g between same = record {
+pub between-same : (ram : Ram) (n tables b : ℕ) (access f g : ℕ → ℕ → Option Rights) → IsBetween ram n tables b access f → ((e p : ℕ) → f e p ≡ g e p) → IsBetween ram n tables b access g
+between-same ram n tables b access f g between same = record {
   rights = between.rights;
   stands = between.stands;
   each = λ p. elim (between.each p) [ inl kept ↦ inl kept | inr changed ↦ inr (λ e. no-more (changed e) (same e p)) ];
@@ -339,40 +340,40 @@ nothing-there true r a none = ap (λ (q : Option Rights). mapped_answer q a) non
 nothing-there false r a none = refl
 
 -- so each walk is one of two, or gives nothing
-pub walks-between : (old new ram : Ram) (n b : ℕ) (access after : ℕ → ℕ → Option Rights) → IsBuilt old n b access → IsBuilt new n b after → IsBetween ram n b access after
-    → ram.base ≡ old.base → length ram.pages ≡ length old.pages → new.base ≡ old.base → length new.pages ≡ length old.pages → WalksBetween old new n b ram
-walks-between old new ram n b access after built built' between base size base' size' a ha =
+pub walks-between : (old new ram : Ram) (n tables b : ℕ) (access after : ℕ → ℕ → Option Rights) → IsBuilt old n tables b access → IsBuilt new n tables b after → IsBetween ram n tables b access after
+    → ram.base ≡ old.base → length ram.pages ≡ length old.pages → new.base ≡ old.base → length new.pages ≡ length old.pages → WalksBetween old new n tables b ram
+walks-between old new ram n tables b access after built built' between base size base' size' a ha =
     let page : ℕ = (a - old.base) / 4096 in
     elim (between.each page) [
       | inl kept ↦ inl (λ e he. elim (kept e) [
-        | inl is ↦ inl (walk-standing ram n b between.rights e a between.stands he ha
+        | inl is ↦ inl (walk-standing ram n tables b between.rights e a between.stands he ha
             ∙ rw (base, size) (ap (λ (r : Option Rights). mapped_answer (if is_in_ram old a then r else None) a) is)
-            ∙ sym (walk-built old n b access e a built he ha))
-        | inr none ↦ inr (walk-standing ram n b between.rights e a between.stands he ha ∙ rw (base, size) (nothing-there (is_in_ram old a) (between.rights e page) a none))
+            ∙ sym (walk-built old n tables b access e a built he ha))
+        | inr none ↦ inr (walk-standing ram n tables b between.rights e a between.stands he ha ∙ rw (base, size) (nothing-there (is_in_ram old a) (between.rights e page) a none))
       ])
       | inr changed ↦ inr (λ e he. elim (changed e) [
-        | inl is ↦ inl (walk-standing ram n b between.rights e a between.stands he ha
+        | inl is ↦ inl (walk-standing ram n tables b between.rights e a between.stands he ha
             ∙ rw (base, size, base', size') (ap (λ (r : Option Rights). mapped_answer (if is_in_ram old a then r else None) a) is)
-            ∙ sym (walk-built new n b after e a built' he ha))
-        | inr none ↦ inr (walk-standing ram n b between.rights e a between.stands he ha ∙ rw (base, size) (nothing-there (is_in_ram old a) (between.rights e page) a none))
+            ∙ sym (walk-built new n tables b after e a built' he ha))
+        | inr none ↦ inr (walk-standing ram n tables b between.rights e a between.stands he ha ∙ rw (base, size) (nothing-there (is_in_ram old a) (between.rights e page) a none))
       ])
     ]
 
-pub moment-walks : (old new : Ram) (n b : ℕ) (past : Option (List Step)) (h : List Step) (s : Step) → IsMoment old new n b past h s → WalksBetween old new n b s.after
-moment-walks old new n b past h s m =
-    walks-between old new s.after n b m.access m.after m.was m.is m.between m.place (m.between.stands.fits.size ∙ sym m.was.fits.size) m.stays (m.is.fits.size ∙ sym m.was.fits.size)
+pub moment-walks : (old new : Ram) (n tables b : ℕ) (past : Option (List Step)) (h : List Step) (s : Step) → IsMoment old new n tables b past h s → WalksBetween old new n tables b s.after
+moment-walks old new n tables b past h s m =
+    walks-between old new s.after n tables b m.access m.after m.was m.is m.between m.place (m.between.stands.fits.size ∙ sym m.was.fits.size) m.stays (m.is.fits.size ∙ sym m.was.fits.size)
 
 -- ---- pages that nobody reaches
 
 -- the walk of a page's first address gives the right to the page
-walk-page : (ram : Ram) (n b : ℕ) (rights : ℕ → ℕ → Option Rights) (e p base : ℕ) → IsStanding ram n b rights → base ≡ ram.base → e < n → p < 512 * b
-    → walk_at ram b e (base + 4096 * p) ≡ mapped_answer (rights e p) (base + 4096 * p)
-walk-page ram n b rights e p base stands is he hp =
+walk-page : (ram : Ram) (n tables b : ℕ) (rights : ℕ → ℕ → Option Rights) (e p base : ℕ) → IsStanding ram n tables b rights → base ≡ ram.base → e < n → p < 512 * b
+    → walk_at ram tables b e (base + 4096 * p) ≡ mapped_answer (rights e p) (base + 4096 * p)
+walk-page ram n tables b rights e p base stands is he hp =
     let size : length ram.pages ≡ 512 * b = stands.fits.size in
     let within : ram.base + 0x200000 * b ≤ 2 ^ 32 = stands.fits.within in
     let inside : is_in_ram ram (base + 4096 * p) ≡ true = grind (arith, nat_tests) in
     let page : (base + 4096 * p - ram.base) / 4096 ≡ p = omega arith in
-    walk-standing ram n b rights e (base + 4096 * p) stands he (omega arith)
+    walk-standing ram n tables b rights e (base + 4096 * p) stands he (omega arith)
     ∙ ap (λ (t : Bool). mapped_answer (if t then rights e ((base + 4096 * p - ram.base) / 4096) else None) (base + 4096 * p)) inside
     ∙ ap (λ (q : ℕ). mapped_answer (rights e q) (base + 4096 * p)) page
 
@@ -385,82 +386,80 @@ unfolding mapped_answer
 answer-some None a = refl
 answer-some (Some r) a = refl
 
-pub moment-unreached : (old new : Ram) (n b : ℕ) (past : Option (List Step)) (h : List Step) (s : Step) → IsMoment old new n b past h s → WritesUnreached old new n b h s
-moment-unreached old new n b past h s m p behind hp = elim m.unreached [
-  | inl kept ↦ inl (kept p behind)
-  | inr free ↦ elim (free.each p behind) [
+pub moment-unreached : (old new : Ram) (n tables b : ℕ) (past : Option (List Step)) (h : List Step) (s : Step) → IsMoment old new n tables b past h s → WritesUnreached old new n tables b h s
+moment-unreached old new n tables b past h s m p aside hp = elim m.unreached [
+  | inl kept ↦ inl (kept p aside)
+  | inr free ↦ elim (free.each p aside) [
     | inl kept ↦ inl kept
     | inr each ↦ inr (λ e he.
         let a : ℕ = old.base + 4096 * p in
-        let some-then : is_ok (walk_at old b e a) ≡ is_some (m.access e p) =
-        ap is_ok (walk-page old n b m.access e p old.base (standing-of_built old n b m.access m.was) refl he hp) ∙ sym (answer-some (m.access e p) a)
+        let some-then : is_ok (walk_at old tables b e a) ≡ is_some (m.access e p) =
+        ap is_ok (walk-page old n tables b m.access e p old.base (standing-of_built old n tables b m.access m.was) refl he hp) ∙ sym (answer-some (m.access e p) a)
         in
-        let some-now : is_ok (walk_at new b e a) ≡ is_some (m.after e p) =
-        ap is_ok (walk-page new n b m.after e p old.base (standing-of_built new n b m.after m.is) (sym m.stays) he hp) ∙ sym (answer-some (m.after e p) a)
+        let some-now : is_ok (walk_at new tables b e a) ≡ is_some (m.after e p) =
+        ap is_ok (walk-page new n tables b m.after e p old.base (standing-of_built new n tables b m.after m.is) (sym m.stays) he hp) ∙ sym (answer-some (m.after e p) a)
         in
         elim (each e he) [
-          | inl (none, settled, _) ↦ inl (walk-page s.before n b free.rights e p old.base free.stands (sym free.place) he hp ∙ answer-none (free.rights e p) a none, λ ok. settled (sym some-then ∙ ok))
+          | inl (none, settled, _) ↦ inl (walk-page s.before n tables b free.rights e p old.base free.stands (sym free.place) he hp ∙ answer-none (free.rights e p) a none, λ ok. settled (sym some-then ∙ ok))
           | inr (one, other) ↦ inr (some-then ∙ one, some-now ∙ other)
         ])
   ]
 ]
 
 -- rights that end, as walks tell it
-pub ends-of-rights : (old new : Ram) (n b : ℕ) (access after : ℕ → ℕ → Option Rights) → IsBuilt old n b access → IsBuilt new n b after → (past : Option (List Step))
-    → ((h : List Step) → past ≡ Some h → (e p : ℕ) → e < n → is_some (access e p) ≡ true → is_some (after e p) ≡ false → IsSettledBy (table_page b n 0) e p h)
-    → EndsSettled old new n b past
-ends-of-rights old new n b access after built is past each h there e p he hp was gone =
+pub ends-of-rights : (old new : Ram) (n tables b : ℕ) (access after : ℕ → ℕ → Option Rights) → IsBuilt old n tables b access → IsBuilt new n tables b after → (past : Option (List Step))
+    → ((h : List Step) → past ≡ Some h → (e p : ℕ) → e < n → is_some (access e p) ≡ true → is_some (after e p) ≡ false → IsSettledBy tables (table_page tables b n 0) e p h)
+    → EndsSettled old new n tables b past
+ends-of-rights old new n tables b access after built is past each h there e p he hp was gone =
     each h there e p he (some old access built ∙ was) (some new after is ∙ gone)
   where
-    some : (ram : Ram) (rights : ℕ → ℕ → Option Rights) → IsBuilt ram n b rights → is_some (rights e p) ≡ is_ok (walk_at ram b e (ram.base + 4096 * p))
+    some : (ram : Ram) (rights : ℕ → ℕ → Option Rights) → IsBuilt ram n tables b rights → is_some (rights e p) ≡ is_ok (walk_at ram tables b e (ram.base + 4096 * p))
     some ram rights its =
         answer-some (rights e p) (ram.base + 4096 * p)
-        ∙ sym (ap is_ok (walk-page ram n b rights e p ram.base (standing-of_built ram n b rights its) refl he hp))
+        ∙ sym (ap is_ok (walk-page ram n tables b rights e p ram.base (standing-of_built ram n tables b rights its) refl he hp))
 
 -- where none end
-pub no-right-ends : (old new : Ram) (n b : ℕ) (access after : ℕ → ℕ → Option Rights) → IsBuilt old n b access → IsBuilt new n b after → (past : Option (List Step))
-    → ((e p : ℕ) → is_some (access e p) ≡ true → is_some (after e p) ≡ true) → EndsSettled old new n b past
-no-right-ends old new n b access after built is past stays =
-    ends-of-rights old new n b access after built is past (λ h there e p he was gone. absurd (true≢false (sym (stays e p was) ∙ gone)))
+pub no-right-ends : (old new : Ram) (n tables b : ℕ) (access after : ℕ → ℕ → Option Rights) → IsBuilt old n tables b access → IsBuilt new n tables b after → (past : Option (List Step))
+    → ((e p : ℕ) → is_some (access e p) ≡ true → is_some (after e p) ≡ true) → EndsSettled old new n tables b past
+no-right-ends old new n tables b access after built is past stays =
+    ends-of-rights old new n tables b access after built is past (λ h there e p he was gone. absurd (true≢false (sym (stays e p was) ∙ gone)))
 
 -- where RAM is the same
-pub nothing-ends : (old new : Ram) (n b : ℕ) (past : Option (List Step)) → new ≡ old → EndsSettled old new n b past
-nothing-ends old new n b past same h there e p he hp was gone =
-    absurd (true≢false (sym was ∙ ap (λ (r : Ram). is_ok (walk_at r b e (r.base + 4096 * p))) (sym same) ∙ gone))
+pub nothing-ends : (old new : Ram) (n tables b : ℕ) (past : Option (List Step)) → new ≡ old → EndsSettled old new n tables b past
+nothing-ends old new n tables b past same h there e p he hp was gone =
+    absurd (true≢false (sym was ∙ ap (λ (r : Ram). is_ok (walk_at r tables b e (r.base + 4096 * p))) (sym same) ∙ gone))
 
 -- at the place of a block
-pub ordered-of : (old : Ram) (b e k : ℕ) (x : BlockPlace) → k < b → IsPlaceOf old b e k x → (h : List Step) (s : Step) → IsOrderly x h s → IsOrdered old b e h s
-ordered-of old b e k x hk at h s (inl same) = inl same
-ordered-of old b e k x hk at h s (inr (inl leaf)) = inr (k, hk, inl (leaf-at at.middle at.entry at.link at.table at.address leaf))
+pub ordered-of : (old : Ram) (tables b e k : ℕ) (x : BlockPlace) → k < b → IsPlaceOf old tables b e k x → (h : List Step) (s : Step) → IsOrderly x h s → IsOrdered old tables b e h s
+ordered-of old tables b e k x hk at h s (inl same) = inl same
+ordered-of old tables b e k x hk at h s (inr (inl leaf)) = inr (k, hk, inl (leaf-at at.middle at.entry at.link at.table at.address leaf))
   where
     leaf-at : {m m' n n' l l' t t' a a' : ℕ} → m ≡ m' → n ≡ n' → l ≡ l' → t ≡ t' → a ≡ a' → IsLeafWrite m n l t a s → IsLeafWrite m' n' l' t' a' s
     leaf-at p q r u v = subst (λ z. z) (λ i. IsLeafWrite (p i) (q i) (r i) (u i) (v i) s)
-ordered-of old b e k x hk at h s (inr (inr block)) = inr (k, hk, inr (block-at at.middle at.entry at.link at.address at.endpoint at.first block))
+ordered-of old tables b e k x hk at h s (inr (inr block)) = inr (k, hk, inr (block-at at.middle at.entry at.link at.address at.endpoint at.first block))
   where
     block-at : {m m' n n' l l' a a' d d' f f' : ℕ} → m ≡ m' → n ≡ n' → l ≡ l' → a ≡ a' → d ≡ d' → f ≡ f' → IsBlockWrite m n l a d f h s → IsBlockWrite m' n' l' a' d' f' h s
     block-at p q r t u v = subst (λ z. z) (λ i. IsBlockWrite (p i) (q i) (r i) (t i) (u i) (v i) h s)
 
--- a step in an endpoint's tables changes no page behind all tables
-pub ordered-behind : (old : Ram) (b e n : ℕ) (h : List Step) (s : Step) → IsOrdered old b e h s → e < n → KeepsBehind (table_page b n 0) s
-ordered-behind old b e n h s (inl same) he p behind = ap (λ (r : Ram). page_of r p) same
-ordered-behind old b e n h s (inr (k, hk, inl leaf)) he p behind =
-    let rows : (e + 1) * (2 + b) ≤ n * (2 + b) = mul-le-mul_right (2 + b) (omega (arith, he)) in
-    leaf.write.pages p (λ same. absurd (omega (arith, rows, behind, same, hk)))
-ordered-behind old b e n h s (inr (k, hk, inr block)) he p behind =
-    let rows : (e + 1) * (2 + b) ≤ n * (2 + b) = mul-le-mul_right (2 + b) (omega (arith, he)) in
-    block.write.pages p (λ same. absurd (omega (arith, rows, behind, same)))
+-- a step in an endpoint's tables changes no other page
+pub ordered-aside : (old : Ram) (tables b e n : ℕ) (h : List Step) (s : Step) → IsOrdered old tables b e h s → e < n → KeepsAside n tables b s
+ordered-aside old tables b e n h s (inl same) he p aside = ap (λ (r : Ram). page_of r p) same
+ordered-aside old tables b e n h s (inr (k, hk, inl leaf)) he p aside =
+    leaf.write.pages p (λ same. not-both n tables b p (subst (IsTablePage n tables b) (sym same) (table_page-there n tables b e (2 + k) he (omega (arith, hk)))) aside)
+ordered-aside old tables b e n h s (inr (k, hk, inr block)) he p aside =
+    block.write.pages p (λ same. not-both n tables b p (subst (IsTablePage n tables b) (sym same) (table_page-there n tables b e 1 he (omega arith))) aside)
 
 -- it is one in RAM that stands alike
-pub ordered-kept : (old new : Ram) (b e : ℕ) (h : List Step) (s : Step) → new.base ≡ old.base → IsOrdered old b e h s → IsOrdered new b e h s
-ordered-kept old new b e h s base (inl same) = inl same
-ordered-kept old new b e h s base (inr (k, hk, inl leaf)) = inr (k, hk, inl (rw base leaf))
-ordered-kept old new b e h s base (inr (k, hk, inr block)) = inr (k, hk, inr (rw base block))
+pub ordered-kept : (old new : Ram) (tables b e : ℕ) (h : List Step) (s : Step) → new.base ≡ old.base → IsOrdered old tables b e h s → IsOrdered new tables b e h s
+ordered-kept old new tables b e h s base (inl same) = inl same
+ordered-kept old new tables b e h s base (inr (k, hk, inl leaf)) = inr (k, hk, inl (rw base leaf))
+ordered-kept old new tables b e h s base (inr (k, hk, inr block)) = inr (k, hk, inr (rw base block))
 
 -- a moment of fewer changes is one of more
-pub between-then : (ram : Ram) (n b : ℕ) (access f g after : ℕ → ℕ → Option Rights) → IsBetween ram n b f g
+pub between-then : (ram : Ram) (n tables b : ℕ) (access f g after : ℕ → ℕ → Option Rights) → IsBetween ram n tables b f g
     → ((p : ℕ) → ((e : ℕ) → f e p ≡ access e p) ⊎ ((e : ℕ) → f e p ≡ after e p))
-    → ((p : ℕ) → ((e : ℕ) → g e p ≡ access e p) ⊎ ((e : ℕ) → g e p ≡ after e p)) → IsBetween ram n b access after
-between-then ram n b access f g after between first second = record {
+    → ((p : ℕ) → ((e : ℕ) → g e p ≡ access e p) ⊎ ((e : ℕ) → g e p ≡ after e p)) → IsBetween ram n tables b access after
+between-then ram n tables b access f g after between first second = record {
   rights = between.rights;
   stands = between.stands;
   each = λ p. elim (between.each p) [
@@ -470,18 +469,18 @@ between-then ram n b access f g after between first second = record {
 }
 
 -- where tables are built for the one access or for the other
-pub between-first : (ram : Ram) (n b : ℕ) (access after : ℕ → ℕ → Option Rights) → IsBuilt ram n b access → IsBetween ram n b access after
-between-first ram n b access after built = record { rights = access; stands = standing-of_built ram n b access built; each = λ p. inl (λ e. inl refl) }
+pub between-first : (ram : Ram) (n tables b : ℕ) (access after : ℕ → ℕ → Option Rights) → IsBuilt ram n tables b access → IsBetween ram n tables b access after
+between-first ram n tables b access after built = record { rights = access; stands = standing-of_built ram n tables b access built; each = λ p. inl (λ e. inl refl) }
 
-pub between-last : (ram : Ram) (n b : ℕ) (access after : ℕ → ℕ → Option Rights) → IsBuilt ram n b after → IsBetween ram n b access after
-between-last ram n b access after built = record { rights = after; stands = standing-of_built ram n b after built; each = λ p. inr (λ e. inl refl) }
+pub between-last : (ram : Ram) (n tables b : ℕ) (access after : ℕ → ℕ → Option Rights) → IsBuilt ram n tables b after → IsBetween ram n tables b access after
+between-last ram n tables b access after built = record { rights = after; stands = standing-of_built ram n tables b after built; each = λ p. inr (λ e. inl refl) }
 
--- pages behind the tables may differ
-pub between-beside : (old ram : Ram) (n b : ℕ) (named : ℕ → Bool) (access after : ℕ → ℕ → Option Rights) → ((p : ℕ) → named p ≡ true → table_page b n 0 ≤ p)
-    → IsBetween old n b access after → IsBeside old ram named → IsBetween ram n b access after
-between-beside old ram n b named access after behind between beside = record {
+-- pages that are none of a table's may differ
+pub between-beside : (old ram : Ram) (n tables b : ℕ) (named : ℕ → Bool) (access after : ℕ → ℕ → Option Rights) → ((p : ℕ) → named p ≡ true → IsAside n tables b p)
+    → IsBetween old n tables b access after → IsBeside old ram named → IsBetween ram n tables b access after
+between-beside old ram n tables b named access after aside between beside = record {
   rights = between.rights;
-  stands = built_by-kept IsEither old ram n b between.rights between.stands beside.base beside.size
-      (λ p low. beside.pages p (false_from_ne_true (named p) (λ at. absurd (omega (arith, low, behind p at)))));
+  stands = built_by-kept IsEither old ram n tables b between.rights between.stands beside.base beside.size
+      (λ p from below. beside.pages p (false_from_ne_true (named p) (λ at. not-both n tables b p (from, below) (aside p at))));
   each = between.each;
 }

@@ -1,17 +1,16 @@
 -- SPDX-License-Identifier: MIT OR Apache-2.0
 -- Where the table pages stand.
-use Rattle.std.proofs.Common.{◌≡◌, ℕ, ◌+◌, ◌*◌, ◌%◌, ◌<◌, ◌≤◌, true, false, arith, length}
+use Rattle.std.proofs.Common.{◌≡◌, ℕ, ◌+◌, ◌*◌, ◌%◌, ◌<◌, ◌≤◌, ◌⊎◌, true, false, arith, length, inl, inr}
 use Rattle.std.proofs.lemmas.Bool.Decides.{nat_tests}
 use Rattle.std.proofs.lemmas.Nat.{mul-add-lt}
-use Rattle.std.proofs.Common.{List, mul-le-mul_right}
-use Rattle.ffa_model.specs.declared.limits.TheConstants.{MOST_ENDPOINTS}
+use Rattle.std.proofs.Common.{List, subst, sym}
 use Rattle.ffa_model.specs.Ram.{Ram}
 use Rattle.ffa_model.specs.Manifest.{table_pages, root_of}
 use Rattle.ffa_model.specs.Walk.{is_in_ram, is_page_address}
 use Rattle.ffa_model.specs.Manifest.{is_accepted}
 use Rattle.ffa_model.specs.declared.endpoint.Endpoint.{Endpoint}
 use Rattle.ffa_model.proofs.Accepted.{accepted}
-use Rattle.ffa_stage2.specs.Tables.{HasRoom, table_page}
+use Rattle.ffa_stage2.specs.Tables.{HasRoom, IsAside, table_page}
 
 -- whether the RAM has an address
 pub is_in_ram-inside : (ram : Ram) (a : ℕ) → ram.base ≤ a → a < ram.base + 4096 * length ram.pages → is_in_ram ram a ≡ true
@@ -21,33 +20,39 @@ pub is_in_ram-outside : (ram : Ram) (a : ℕ) → (ram.base ≤ a → a < ram.ba
 is_in_ram-outside ram a h = grind (arith, nat_tests)
 
 -- a table page is before the end of the table pages
-pub table_page-below_end : (n b e s : ℕ) → e < n → s < table_pages b → table_page b e s < n * table_pages b
-table_page-below_end n b e s he hs = omega (arith, mul-add-lt e (2 + b) s n he hs)
+pub table_page-below_end : (n tables b e s : ℕ) → e < n → s < table_pages b → table_page tables b e s < tables + n * table_pages b
+table_page-below_end n tables b e s he hs = omega (arith, mul-add-lt e (2 + b) s n he hs)
+
+-- one of the table pages
+abbrev pub IsTablePage : ℕ → ℕ → ℕ → ℕ → Type 0
+IsTablePage n tables b p = (tables ≤ p) × (p < table_page tables b n 0)
+
+pub table_page-there : (n tables b e s : ℕ) → e < n → s < table_pages b → IsTablePage n tables b (table_page tables b e s)
+table_page-there n tables b e s he hs = (omega arith, omega (arith, table_page-below_end n tables b e s he hs))
+
+pub not-both : (n tables b p : ℕ) → IsTablePage n tables b p → IsAside n tables b p → ⊥
+not-both n tables b p (from, below) (inl before) = absurd (omega (arith, from, before))
+not-both n tables b p (from, below) (inr behind) = absurd (omega (arith, below, behind))
 
 -- a table page is one of the RAM's pages
-pub table_page-below : (ram : Ram) (n b e s : ℕ) → HasRoom ram n b → e < n → s < table_pages b → table_page b e s < length ram.pages
-table_page-below ram n b e s fits he hs = omega (arith, table_page-below_end n b e s he hs, fits.room, fits.size)
+pub table_page-below : (ram : Ram) (n tables b e s : ℕ) → HasRoom ram n tables b → e < n → s < table_pages b → table_page tables b e s < length ram.pages
+table_page-below ram n tables b e s fits he hs = omega (arith, table_page-below_end n tables b e s he hs, fits.room, fits.size)
 
 -- the address of a table page
-pub table_page-address : (ram : Ram) (n b e s : ℕ) → HasRoom ram n b → e < n → s < table_pages b
-    → is_page_address ram (ram.base + 4096 * table_page b e s) ≡ true
-table_page-address ram n b e s fits he hs =
-    let below : table_page b e s < length ram.pages = table_page-below ram n b e s fits he hs in
+pub table_page-address : (ram : Ram) (n tables b e s : ℕ) → HasRoom ram n tables b → e < n → s < table_pages b
+    → is_page_address ram (ram.base + 4096 * table_page tables b e s) ≡ true
+table_page-address ram n tables b e s fits he hs =
+    let below : table_page tables b e s < length ram.pages = table_page-below ram n tables b e s fits he hs in
     let place : ram.base % 0x200000 ≡ 0 = fits.place in
-    let aligned : (ram.base + 4096 * table_page b e s) % 4096 ≡ 0 = omega arith in
-    rw (aligned, is_in_ram-inside ram (ram.base + 4096 * table_page b e s) (omega arith) (omega arith))
+    let aligned : (ram.base + 4096 * table_page tables b e s) % 4096 ≡ 0 = omega arith in
+    rw (aligned, is_in_ram-inside ram (ram.base + 4096 * table_page tables b e s) (omega arith) (omega arith))
 
 -- the address of an endpoint's level 1 page
-pub root-address : (ram : Ram) (n b e : ℕ) → HasRoom ram n b → e < n → is_page_address ram (root_of ram.base b e) ≡ true
-root-address ram n b e fits he =
-    let top : root_of ram.base b e ≡ ram.base + 4096 * table_page b e 0 = omega arith in
-    rw top (table_page-address ram n b e 0 fits he (omega arith))
+pub root-address : (ram : Ram) (n tables b e : ℕ) → HasRoom ram n tables b → e < n → is_page_address ram (root_of ram.base tables b e) ≡ true
+root-address ram n tables b e fits he =
+    let top : root_of ram.base tables b e ≡ ram.base + 4096 * table_page tables b e 0 = omega arith in
+    rw top (table_page-address ram n tables b e 0 fits he (omega arith))
 
 -- the RAM of an accepted manifest has room for the tables
-pub accepted-room : (base b : ℕ) (es : List Endpoint) (n : ℕ) → is_accepted base b es ≡ true → n ≡ length es → n * table_pages b ≤ 512 * b
-accepted-room base b es n h count =
-    let a = accepted base b es h in
-    let some : 1 ≤ b = a.some_blocks in
-    let few : n ≤ MOST_ENDPOINTS = omega (arith, a.few_endpoints) in
-    let most : n * (2 + b) ≤ MOST_ENDPOINTS * (2 + b) = mul-le-mul_right (2 + b) few in
-    omega arith
+pub accepted-room : (base tables b : ℕ) (es : List Endpoint) (n : ℕ) → is_accepted base tables b es ≡ true → n ≡ length es → tables + n * table_pages b ≤ 512 * b
+accepted-room base tables b es n h count = subst (λ k. tables + k * table_pages b ≤ 512 * b) (sym count) (accepted base tables b es h).room

@@ -47,9 +47,9 @@ with_pages-one access e page right e' p =
     rw same
 
 -- tables are built alike for two accesses that agree on every endpoint and page
-pub built-same : (ram : Ram) (n b : ℕ) (f g : ℕ → ℕ → Option Rights) → IsBuilt ram n b f
-    → ((e p : ℕ) → e < n → p < 512 * b → f e p ≡ g e p) → IsBuilt ram n b g
-built-same ram n b f g built same = record {
+pub built-same : (ram : Ram) (n tables b : ℕ) (f g : ℕ → ℕ → Option Rights) → IsBuilt ram n tables b f
+    → ((e p : ℕ) → e < n → p < 512 * b → f e p ≡ g e p) → IsBuilt ram n tables b g
+built-same ram n tables b f g built same = record {
   fits = built.fits;
   whole = built.whole;
   level1 = built.level1;

@@ -24,36 +24,36 @@ with_pages-block access e k from to right j =
 
 -- ---- tables
 
-pub run-built : (old new : Ram) (n b e k from to : ℕ) (access : ℕ → ℕ → Option Rights) (right : Option Rights) (x : BlockPlace) → IsBuilt old n b access → e < n → k < b
-    → IsPlaceOf old b e k x → KeepsBeside old new x → to ≤ 512 → ((rights : ℕ → Option Rights) → Maps old x rights → Maps new x (with_run rights from to right))
-    → IsBuilt new n b (with_pages access e (512 * k + from) (512 * k + to) right)
-run-built old new n b e k from to access right x built he hk at beside few mapped =
+pub run-built : (old new : Ram) (n tables b e k from to : ℕ) (access : ℕ → ℕ → Option Rights) (right : Option Rights) (x : BlockPlace) → IsBuilt old n tables b access → e < n → k < b
+    → IsPlaceOf old tables b e k x → KeepsBeside old new x → to ≤ 512 → ((rights : ℕ → Option Rights) → Maps old x rights → Maps new x (with_run rights from to right))
+    → IsBuilt new n tables b (with_pages access e (512 * k + from) (512 * k + to) right)
+run-built old new n tables b e k from to access right x built he hk at beside few mapped =
     let after : ℕ → ℕ → Option Rights = with_pages access e (512 * k + from) (512 * k + to) right in
-    built-beside old new n b e k access after x built he hk at beside
+    built-beside old new n tables b e k access after x built he hk at beside
     (IsMapped-rights _ _ _ _ (with_run (rights_of_block (access e) k) from to right) (rights_of_block (after e) k) (λ j _. with_pages-block access e k from to right j)
-    (mapped (rights_of_block (access e) k) (maps-of old b e k x (access e) at (built.each e k he hk))))
+    (mapped (rights_of_block (access e) k) (maps-of old tables b e k x (access e) at (built.each e k he hk))))
     (λ e' k' j _ _ hj far. sym (with_pages-other access e (512 * k + from) (512 * k + to) right e' (512 * k' + j) (elim far [
       | inl other ↦ inl other
       | inr other ↦ inr (elim (cases_lt k' k) [ inl low ↦ inl (omega (arith, low, hj)) | inr high ↦ inr (omega (arith, high, other, few)) ])
     ])))
 
 -- pages from the first up to the next have the right, and then those up to another
-pub runs-built : (old new : Ram) (n b e first next end k from to : ℕ) (access : ℕ → ℕ → Option Rights) (right : Option Rights) (x : BlockPlace)
-    → IsBuilt old n b (with_pages access e first next right) → e < n → k < b → IsPlaceOf old b e k x → KeepsBeside old new x → first ≤ next → next ≤ end
+pub runs-built : (old new : Ram) (n tables b e first next end k from to : ℕ) (access : ℕ → ℕ → Option Rights) (right : Option Rights) (x : BlockPlace)
+    → IsBuilt old n tables b (with_pages access e first next right) → e < n → k < b → IsPlaceOf old tables b e k x → KeepsBeside old new x → first ≤ next → next ≤ end
     → 512 * k + from ≡ next → 512 * k + to ≡ end → to ≤ 512
     → ((rights : ℕ → Option Rights) → Maps old x rights → Maps new x (with_run rights from to right))
-    → IsBuilt new n b (with_pages access e first end right)
-runs-built old new n b e first next end k from to access right x built he hk at beside low high start stop few mapped =
-    let one = run-built old new n b e k from to (with_pages access e first next right) right x built he hk at beside few mapped in
-    built-same new n b (with_pages (with_pages access e first next right) e next end right) (with_pages access e first end right)
+    → IsBuilt new n tables b (with_pages access e first end right)
+runs-built old new n tables b e first next end k from to access right x built he hk at beside low high start stop few mapped =
+    let one = run-built old new n tables b e k from to (with_pages access e first next right) right x built he hk at beside few mapped in
+    built-same new n tables b (with_pages (with_pages access e first next right) e next end right) (with_pages access e first end right)
     (rw (start, stop) at one)
     (λ e' p _ _. with_pages-more access e first next end right e' p low high)
 
-pub KeepsOthers-same : (ram : Ram) (b e : ℕ) → KeepsOthers ram ram b e
-KeepsOthers-same ram b e = record { base = refl; size = refl; pages = λ p _. refl }
+pub KeepsOthers-same : (ram : Ram) (tables b e : ℕ) → KeepsOthers ram ram tables b e
+KeepsOthers-same ram tables b e = record { base = refl; size = refl; pages = λ p _. refl }
 
-pub KeepsOthers-then : (old middle new : Ram) (b e : ℕ) → KeepsOthers old middle b e → KeepsOthers middle new b e → KeepsOthers old new b e
-KeepsOthers-then old middle new b e first second = record {
+pub KeepsOthers-then : (old middle new : Ram) (tables b e : ℕ) → KeepsOthers old middle tables b e → KeepsOthers middle new tables b e → KeepsOthers old new tables b e
+KeepsOthers-then old middle new tables b e first second = record {
   base = second.base ∙ first.base;
   size = second.size ∙ first.size;
   pages = λ p h. second.pages p h ∙ first.pages p h;
@@ -61,8 +61,8 @@ KeepsOthers-then old middle new b e first second = record {
 
 -- ---- walks
 
-module _ (old new : Ram) (n b : ℕ) (access : ℕ → ℕ → Option Rights) (e first end : ℕ) (right : Option Rights) (built : IsBuilt old n b access)
-    (after : IsBuilt new n b (with_pages access e first end right)) (inside : end ≤ 512 * b) (base : new.base ≡ old.base) (size : length new.pages ≡ length old.pages) where
+module _ (old new : Ram) (n tables b : ℕ) (access : ℕ → ℕ → Option Rights) (e first end : ℕ) (right : Option Rights) (built : IsBuilt old n tables b access)
+    (after : IsBuilt new n tables b (with_pages access e first end right)) (inside : end ≤ 512 * b) (base : new.base ≡ old.base) (size : length new.pages ≡ length old.pages) where
   answer-changed : (e' a : ℕ) → answer new (with_pages access e first end right) e' a ≡ (if e' == e && is_in_pages old first end a then mapped_answer right a else answer old access e' a)
   answer-changed e' a = rw (base, size) (elim (cases_Bool (is_in_ram old a)) [
     | inl here ↦
@@ -77,7 +77,7 @@ module _ (old new : Ram) (n b : ℕ) (access : ℕ → ℕ → Option Rights) (e
         rw (out, t)
   ])
 
-  pub runs-walk : WalksChange old new n b e first end right
+  pub runs-walk : WalksChange old new n tables b e first end right
   runs-walk e' a he' ha =
-      walk-built new n b (with_pages access e first end right) e' a after he' ha ∙ answer-changed e' a
-      ∙ ap (λ (r : Answer). if e' == e && is_in_pages old first end a then mapped_answer right a else r) (sym (walk-built old n b access e' a built he' ha))
+      walk-built new n tables b (with_pages access e first end right) e' a after he' ha ∙ answer-changed e' a
+      ∙ ap (λ (r : Answer). if e' == e && is_in_pages old first end a then mapped_answer right a else r) (sym (walk-built old n tables b access e' a built he' ha))

@@ -10,7 +10,7 @@ use Rattle.ffa_physmem.specs.Moments.{StaysPlaced, Step}
 use Rattle.ffa_stage2.specs.Held.{MayHold}
 use Rattle.ffa_stage2.specs.Mixtures.{page_at}
 use Rattle.ffa_stage2.specs.Moments.{walk_at}
-use Rattle.ffa_stage2.specs.Tables.{table_page}
+use Rattle.ffa_stage2.specs.Tables.{IsAside}
 
 -- a RAM, and the steps that led to it, the last first
 pub record Moment : Type 0 where
@@ -37,13 +37,13 @@ pub record LetsWrite (ram : Ram) (p : ℕ) (leaf : Leaf) : Type 0 where
   pub page : page_at ram leaf.phys ≡ p
 
 -- others may write into page p: what a translation unit may hold for some endpoint at some address lets them
-pub record MayWrite (endpoints blocks p : ℕ) (now : Moment) : Type 0 where
+pub record MayWrite (endpoints tables blocks p : ℕ) (now : Moment) : Type 0 where
   pub endpoint : ℕ
   pub one : endpoint < endpoints
   pub address : ℕ
   pub low : address < 2 ^ 32
   pub leaf : Leaf
-  pub held : MayHold blocks endpoint (page_at now.ram address) address now.history now.ram (Ok leaf)
+  pub held : MayHold tables blocks endpoint (page_at now.ram address) address now.history now.ram (Ok leaf)
   pub lets : LetsWrite now.ram p leaf
 
 -- a step of others: any bytes stand in page p behind it, and it changes nothing else
@@ -65,28 +65,28 @@ pub record IsAmong (written : List ℕ) (s x : Step) : Type 0 where
 
 -- Where steps have led from one moment to another while nobody else wrote, memory may stand at this moment, and others have
 -- written to these pages: at first it is as it was; a step of theirs leads on, or a step as it is done in that memory.
-pub data Amid (endpoints blocks : ℕ) (begun : Moment) : Moment → Moment → List ℕ → Type 0 where
-  Begun : Amid endpoints blocks begun begun begun []
+pub data Amid (endpoints tables blocks : ℕ) (begun : Moment) : Moment → Moment → List ℕ → Type 0 where
+  Begun : Amid endpoints tables blocks begun begun begun []
   Own :
       (s : Step) (h : List Step) (x : Step) (memory : List Step) (written : List ℕ)
-      → Amid endpoints blocks begun (before s h) (before x memory) written → IsAmong written s x
-      → Amid endpoints blocks begun (behind s h) (behind x memory) written
+      → Amid endpoints tables blocks begun (before s h) (before x memory) written → IsAmong written s x
+      → Amid endpoints tables blocks begun (behind s h) (behind x memory) written
   Others :
       (alone : Moment) (p : ℕ) (x : Step) (memory : List Step) (written : List ℕ)
-      → Amid endpoints blocks begun alone (before x memory) written → MayWrite endpoints blocks p (before x memory) → IsOthers p x
-      → Amid endpoints blocks begun alone (behind x memory) (p ∷ written)
+      → Amid endpoints tables blocks begun alone (before x memory) written → MayWrite endpoints tables blocks p (before x memory) → IsOthers p x
+      → Amid endpoints tables blocks begun alone (behind x memory) (p ∷ written)
 
 -- in one RAM or in the other an endpoint's walk lets write into page p
-pub record CouldWrite (old new : Ram) (endpoints blocks p : ℕ) : Type 0 where
+pub record CouldWrite (old new : Ram) (endpoints tables blocks p : ℕ) : Type 0 where
   pub endpoint : ℕ
   pub one : endpoint < endpoints
   pub address : ℕ
   pub low : address < 2 ^ 32
   pub leaf : Leaf
-  pub walk : (walk_at old blocks endpoint address ≡ Ok leaf) ⊎ (walk_at new blocks endpoint address ≡ Ok leaf)
+  pub walk : (walk_at old tables blocks endpoint address ≡ Ok leaf) ⊎ (walk_at new tables blocks endpoint address ≡ Ok leaf)
   pub lets : LetsWrite old p leaf
 
--- of pages that others wrote: each is behind the tables, and to each some endpoint could write before all steps, or can behind all
-pub record AreTheirs (old new : Ram) (endpoints blocks : ℕ) (written : List ℕ) : Type 0 where
-  pub behind : (p : ℕ) → is_one_of written p ≡ true → table_page blocks endpoints 0 ≤ p
-  pub could : (p : ℕ) → is_one_of written p ≡ true → CouldWrite old new endpoints blocks p
+-- of pages that others wrote: each is none of a table's, and to each some endpoint could write before all steps, or can behind all
+pub record AreTheirs (old new : Ram) (endpoints tables blocks : ℕ) (written : List ℕ) : Type 0 where
+  pub aside : (p : ℕ) → is_one_of written p ≡ true → IsAside endpoints tables blocks p
+  pub could : (p : ℕ) → is_one_of written p ≡ true → CouldWrite old new endpoints tables blocks p

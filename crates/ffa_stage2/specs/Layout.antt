@@ -28,20 +28,20 @@ normal_in layout = normal_of layout.worlds (slice_index_or (regions_in layout) 0
 
 -- the tables of the layout's endpoints stand in the RAM, and endpoint e has `access e p` to page p
 abbrev pub IsBuiltFor : Layout → Ram → (ℕ → ℕ → Option Rights) → Type 0
-IsBuiltFor layout ram access = IsBuilt ram (array_vec_len layout.regions) layout.blocks access
+IsBuiltFor layout ram access = IsBuilt ram (array_vec_len layout.regions) layout.tables.0 layout.blocks access
 
 -- the walk of each endpoint's table gives its access at every address
 abbrev pub WalksToFor : Layout → Ram → (ℕ → ℕ → Option Rights) → Type 0
-WalksToFor layout ram access = WalksTo ram (array_vec_len layout.regions) layout.blocks access
+WalksToFor layout ram access = WalksTo ram (array_vec_len layout.regions) layout.tables.0 layout.blocks access
 
 -- blocks of 2 MiB stand exactly where 512 pages have one right other than nothing
 abbrev pub BlocksWhereOneFor : Layout → Ram → (ℕ → ℕ → Option Rights) → Type 0
-BlocksWhereOneFor layout ram access = BlocksWhereOne ram (array_vec_len layout.regions) layout.blocks access
+BlocksWhereOneFor layout ram access = BlocksWhereOne ram (array_vec_len layout.regions) layout.tables.0 layout.blocks access
 
 -- word j of endpoint e's table page s is `word e s j`
 abbrev pub TablesAreFor : Layout → Ram → (ℕ → ℕ → ℕ → ℕ) → Type 0
-TablesAreFor layout ram word = TablesAre ram (array_vec_len layout.regions) layout.blocks word
+TablesAreFor layout ram word = TablesAre ram (array_vec_len layout.regions) layout.tables.0 layout.blocks word
 
--- the RAM stands where it did, and no page behind the table pages changed
+-- the RAM stands where it did, and no page but the table pages changed
 abbrev pub KeepsRestFor : Layout → Ram → Ram → Type 0
-KeepsRestFor layout old new = KeepsRest old new (array_vec_len layout.regions) layout.blocks
+KeepsRestFor layout old new = KeepsRest old new (array_vec_len layout.regions) layout.tables.0 layout.blocks

@@ -56,11 +56,11 @@ pub record IsBlockWrite (middle entry link address endpoint first : ℕ) (h : Li
       × (word_of (page_of s.before middle) entry ≡ block_word address r) × (value ≡ block_word address q)))
 
 -- a step in the tables of endpoint e: it leaves RAM as it is, or is such a write for one of the blocks
-abbrev pub IsOrdered : Ram → ℕ → ℕ → List Step → Step → Type 0
-IsOrdered old blocks e h s =
+abbrev pub IsOrdered : Ram → ℕ → ℕ → ℕ → List Step → Step → Type 0
+IsOrdered old tables blocks e h s =
     (s.after ≡ s.before)
     ⊎ ((k : ℕ) × (k < blocks)
-    × (IsLeafWrite (table_page blocks e 1) (level2_place old.base + k) (table_link old.base blocks e (2 + k))
-    (table_page blocks e (2 + k)) (block_address old k) s
-    ⊎ IsBlockWrite (table_page blocks e 1) (level2_place old.base + k) (table_link old.base blocks e (2 + k))
+    × (IsLeafWrite (table_page tables blocks e 1) (level2_place old.base + k) (table_link old.base tables blocks e (2 + k))
+    (table_page tables blocks e (2 + k)) (block_address old k) s
+    ⊎ IsBlockWrite (table_page tables blocks e 1) (level2_place old.base + k) (table_link old.base tables blocks e (2 + k))
     (block_address old k) e (512 * k) h s))

@@ -11,11 +11,11 @@ use Rattle.ffa_stage2.specs.Orders.{IsBlockWrite, IsLeafWrite, IsSettledLast, Is
 use Rattle.ffa_stage2.specs.Tables.{table_page, table_link, level2_place, block_address}
 
 -- where endpoint e's tables speak of block k
-pub record IsPlaceOf (ram : Ram) (blocks e k : ℕ) (x : BlockPlace) : Type 0 where
-  pub middle : x.middle.0 ≡ table_page blocks e 1
+pub record IsPlaceOf (ram : Ram) (tables blocks e k : ℕ) (x : BlockPlace) : Type 0 where
+  pub middle : x.middle.0 ≡ table_page tables blocks e 1
   pub entry : x.entry ≡ level2_place ram.base + k
-  pub table : x.table.0 ≡ table_page blocks e (2 + k)
-  pub link : x.link ≡ table_link ram.base blocks e (2 + k)
+  pub table : x.table.0 ≡ table_page tables blocks e (2 + k)
+  pub link : x.link ≡ table_link ram.base tables blocks e (2 + k)
   pub address : x.address ≡ block_address ram k
   pub endpoint : x.endpoint ≡ e
   pub first : x.first.0 ≡ 512 * k

@@ -14,80 +14,80 @@ use Rattle.ffa_stage2.specs.Moments.{walk_at}
 use Rattle.ffa_stage2.specs.Tables.{level1_place, level2_place, table_link, table_page}
 
 -- this right is what an endpoint's walks into a page give in a RAM, at each of its addresses
-abbrev pub IsWalked : Ram → ℕ → ℕ → ℕ → Option Rights → Type 0
-IsWalked ram blocks e p right =
+abbrev pub IsWalked : Ram → ℕ → ℕ → ℕ → ℕ → Option Rights → Type 0
+IsWalked ram tables blocks e p right =
     (i : ℕ) → i < 4096
-    → mapped_answer right (ram.base + 4096 * p + i) ≡ walk_at ram blocks e (ram.base + 4096 * p + i)
+    → mapped_answer right (ram.base + 4096 * p + i) ≡ walk_at ram tables blocks e (ram.base + 4096 * p + i)
 
 -- that, or nothing
-abbrev pub IsAsIn : Ram → ℕ → ℕ → ℕ → Option Rights → Type 0
-IsAsIn ram blocks e p right = (right ≡ None) ⊎ IsWalked ram blocks e p right
+abbrev pub IsAsIn : Ram → ℕ → ℕ → ℕ → ℕ → Option Rights → Type 0
+IsAsIn ram tables blocks e p right = (right ≡ None) ⊎ IsWalked ram tables blocks e p right
 
 -- A walk to page j of block k may read nothing at level 2, or a block of a right that is one of these.
-pub record ReadsBlock (base blocks e k j : ℕ) (h : List Step) (ram : Ram) (Is : Option Rights → Type 0) : Type 0 where
+pub record ReadsBlock (base tables blocks e k j : ℕ) (h : List Step) (ram : Ram) (Is : Option Rights → Type 0) : Type 0 where
   pub middle :
-      (v : ℕ) → MayRead e (512 * k + j) h ram (table_page blocks e 1) (level2_place base + k) v
+      (v : ℕ) → MayRead e (512 * k + j) h ram (table_page tables blocks e 1) (level2_place base + k) v
       → (v ≡ 0) ⊎ ((r : Rights) × Is (Some r) × (v ≡ block_word (base + 0x200000 * k) r))
 
 -- Or it may read nothing there, or the descriptor of the level 3 page, and in that page the descriptor of page j for a right that
 -- is one of these, or for none.
-pub record ReadsTable (base blocks e k j : ℕ) (h : List Step) (ram : Ram) (Is : Option Rights → Type 0) : Type 0 where
+pub record ReadsTable (base tables blocks e k j : ℕ) (h : List Step) (ram : Ram) (Is : Option Rights → Type 0) : Type 0 where
   pub middle :
-      (v : ℕ) → MayRead e (512 * k + j) h ram (table_page blocks e 1) (level2_place base + k) v
-      → (v ≡ 0) ⊎ (v ≡ table_link base blocks e (2 + k))
+      (v : ℕ) → MayRead e (512 * k + j) h ram (table_page tables blocks e 1) (level2_place base + k) v
+      → (v ≡ 0) ⊎ (v ≡ table_link base tables blocks e (2 + k))
   pub leaf :
-      (v : ℕ) → MayRead e (512 * k + j) h ram (table_page blocks e (2 + k)) j v
+      (v : ℕ) → MayRead e (512 * k + j) h ram (table_page tables blocks e (2 + k)) j v
       → (r : Option Rights) × Is r × (v ≡ page_word (base + 0x200000 * k + 4096 * j) r)
 
 -- All that walks may read: at level 1 the one descriptor, at level 2 outside the blocks nothing; and at each page either of the
 -- two, with rights that are what they may be.
-pub record Reads (base endpoints blocks : ℕ) (h : List Step) (ram : Ram) (Is : ℕ → ℕ → Option Rights → Type 0) : Type 0 where
+pub record Reads (base endpoints tables blocks : ℕ) (h : List Step) (ram : Ram) (Is : ℕ → ℕ → Option Rights → Type 0) : Type 0 where
   pub level1 :
-      (e p i v : ℕ) → e < endpoints → p < 2 ^ 20 → i < 512 → MayRead e p h ram (table_page blocks e 0) i v
-      → v ≡ (if i == level1_place base then table_link base blocks e 1 else 0)
+      (e p i v : ℕ) → e < endpoints → p < 2 ^ 20 → i < 512 → MayRead e p h ram (table_page tables blocks e 0) i v
+      → v ≡ (if i == level1_place base then table_link base tables blocks e 1 else 0)
   pub outside :
       (e p i v : ℕ) → e < endpoints → p < 2 ^ 20 → i < 512 → ((i < level2_place base) ⊎ (level2_place base + blocks ≤ i))
-      → MayRead e p h ram (table_page blocks e 1) i v → v ≡ 0
+      → MayRead e p h ram (table_page tables blocks e 1) i v → v ≡ 0
   pub each :
       (e k j : ℕ) → e < endpoints → k < blocks → j < 512
-      → ReadsBlock base blocks e k j h ram (Is e (512 * k + j)) ⊎ ReadsTable base blocks e k j h ram (Is e (512 * k + j))
+      → ReadsBlock base tables blocks e k j h ram (Is e (512 * k + j)) ⊎ ReadsTable base tables blocks e k j h ram (Is e (512 * k + j))
 
 -- Tables at rest: the steps follow one another, and there was one; and whatever words walks may read, they give what the RAM gives
 -- or nothing.
-pub record AreAtRest (ram : Ram) (endpoints blocks : ℕ) (h : List Step) : Type 0 where
+pub record AreAtRest (ram : Ram) (endpoints tables blocks : ℕ) (h : List Step) : Type 0 where
   pub begun : (s : Step) × (earlier : List Step) × (h ≡ s ∷ earlier)
   pub turn : AreInTurn h ram
-  pub reads : Reads ram.base endpoints blocks h ram (IsAsIn ram blocks)
+  pub reads : Reads ram.base endpoints tables blocks h ram (IsAsIn ram tables blocks)
 
 -- at the end of a history, where there is one
-abbrev pub RestIn : Ram → ℕ → ℕ → Option (List Step) → Type 0
-RestIn ram endpoints blocks past = (h : List Step) → past ≡ Some h → AreAtRest ram endpoints blocks h
+abbrev pub RestIn : Ram → ℕ → ℕ → ℕ → Option (List Step) → Type 0
+RestIn ram endpoints tables blocks past = (h : List Step) → past ≡ Some h → AreAtRest ram endpoints tables blocks h
 
 -- each page below 2^20 was settled for each endpoint, and no table has changed since then
-abbrev pub AllSettled : ℕ → ℕ → Option (List Step) → Type 0
-AllSettled endpoints blocks past =
+abbrev pub AllSettled : ℕ → ℕ → ℕ → Option (List Step) → Type 0
+AllSettled endpoints tables blocks past =
     (h : List Step) → past ≡ Some h
-    → (e p : ℕ) → e < endpoints → p < 2 ^ 20 → IsSettledBy (table_page blocks endpoints 0) e p h
+    → (e p : ℕ) → e < endpoints → p < 2 ^ 20 → IsSettledBy tables (table_page tables blocks endpoints 0) e p h
 
 -- where the tables were at rest: at each step, the walks of all endpoints in mixtures give what they gave before all steps, or
 -- what they give behind all, or a translation fault
-abbrev pub WalksMixed : Ram → Ram → ℕ → ℕ → Option (List Step) → Option (List Step) → Type 0
-WalksMixed old new endpoints blocks past later =
-    RestIn old endpoints blocks past → Only past later (λ h s. MixturesBetween old new endpoints blocks (s ∷ h) s.after)
+abbrev pub WalksMixed : Ram → Ram → ℕ → ℕ → ℕ → Option (List Step) → Option (List Step) → Type 0
+WalksMixed old new endpoints tables blocks past later =
+    RestIn old endpoints tables blocks past → Only past later (λ h s. MixturesBetween old new endpoints tables blocks (s ∷ h) s.after)
 
 -- where an endpoint's walk leads somewhere in both of two RAMs, it gives the same in both
-abbrev pub WalksSameOrNone : Ram → Ram → ℕ → ℕ → Type 0
-WalksSameOrNone old new endpoints blocks =
-    (e address : ℕ) → e < endpoints → address < 2 ^ 32 → is_ok (walk_at old blocks e address) ≡ true
-    → is_ok (walk_at new blocks e address) ≡ true
-    → walk_at new blocks e address ≡ walk_at old blocks e address
+abbrev pub WalksSameOrNone : Ram → Ram → ℕ → ℕ → ℕ → Type 0
+WalksSameOrNone old new endpoints tables blocks =
+    (e address : ℕ) → e < endpoints → address < 2 ^ 32 → is_ok (walk_at old tables blocks e address) ≡ true
+    → is_ok (walk_at new tables blocks e address) ≡ true
+    → walk_at new tables blocks e address ≡ walk_at old tables blocks e address
 
--- The same of each endpoint for itself; and pages behind the tables change only while no translation unit may hold a way there;
+-- The same of each endpoint for itself; and pages but those of tables change only while no translation unit may hold a way there;
 -- and the tables are at rest again, where nobody got another right in the place of one.
-pub record AreMixed (old new : Ram) (endpoints blocks : ℕ) (past later : Option (List Step)) : Type 0 where
+pub record AreMixed (old new : Ram) (endpoints tables blocks : ℕ) (past later : Option (List Step)) : Type 0 where
   pub each :
-      RestIn old endpoints blocks past → Only past later (λ h s. MixedBetween old new endpoints blocks (s ∷ h) s.after)
+      RestIn old endpoints tables blocks past → Only past later (λ h s. MixedBetween old new endpoints tables blocks (s ∷ h) s.after)
   pub unheld :
-      RestIn old endpoints blocks past → Only past later (λ h s. WritesUnheld old new endpoints blocks h s)
+      RestIn old endpoints tables blocks past → Only past later (λ h s. WritesUnheld old new endpoints tables blocks h s)
   pub rest :
-      RestIn old endpoints blocks past → WalksSameOrNone old new endpoints blocks → RestIn new endpoints blocks later
+      RestIn old endpoints tables blocks past → WalksSameOrNone old new endpoints tables blocks → RestIn new endpoints tables blocks later

@@ -42,10 +42,10 @@ impl BlockPlace {
         index: usize,
         block: u32,
     ) -> BlockPlace
-        requires fits { HasRoom (M.ram memory.now) (array_vec_len layout.now.regions) layout.now.blocks }
+        requires fits { HasRoom (M.ram memory.now) (array_vec_len layout.now.regions) layout.now.tables.0 layout.now.blocks }
         requires index { index < array_vec_len layout.now.regions }
         requires block { block < layout.now.blocks }
-        ensures { IsPlaceOf (M.ram memory.now) layout.now.blocks index block result }
+        ensures { IsPlaceOf (M.ram memory.now) layout.now.tables.0 layout.now.blocks index block result }
     {
         let Address(base) = memory.base();
         let table = layout.table_page(index, 2 + block);

@@ -51,6 +51,8 @@ pub struct Layout {
     pub base: Address,
     /// RAM's size, in blocks of 2 MiB.
     pub blocks: u32,
+    /// The first page of the tables.
+    pub tables: PageNo,
     /// The regions by the endpoint's place in the manifest.
     pub regions: ArrayVec<Regions, MOST_ENDPOINTS>,
     /// Whether worlds are told apart.
@@ -59,7 +61,7 @@ pub struct Layout {
     pub ghost one_table: { base.0 % 2 ^ 30 + 0x200000 * blocks ≤ 2 ^ 30 },
     pub ghost few: { blocks ≤ MOST_BLOCKS },
     pub ghost within: { base.0 + 0x200000 * blocks ≤ 2 ^ 32 },
-    pub ghost room: { array_vec_len regions * table_pages blocks ≤ 512 * blocks },
+    pub ghost room: { tables.0 + array_vec_len regions * table_pages blocks ≤ 512 * blocks },
 }
 
 impl Layout {
@@ -71,6 +73,7 @@ impl Layout {
     pub fn of(manifest: &Manifest) -> Layout
         ensures base { result.base.0 ≡ manifest.now.ram_base.0 }
         ensures blocks { result.blocks ≡ manifest.now.ram_blocks }
+        ensures tables { result.tables ≡ manifest.now.tables }
         ensures regions { regions_in result ≡ regions_of_each manifest.now.endpoints.items }
         ensures normal { normal_in result ≡ normal_of manifest.now.worlds (regions_at manifest.now.endpoints.items 0) }
     {
@@ -81,6 +84,7 @@ impl Layout {
         Layout {
             base: manifest.ram_base,
             blocks: manifest.ram_blocks,
+            tables: manifest.tables,
             regions,
             worlds: manifest.worlds,
         }
@@ -97,6 +101,7 @@ impl Layout {
         Layout {
             base: self.base,
             blocks: self.blocks,
+            tables: self.tables,
             regions,
             worlds: self.worlds,
         }
@@ -163,17 +168,17 @@ impl Layout {
     pub(crate) fn table_page(&self, index: usize, table: u32) -> PageNo
         requires index { index < array_vec_len self.now.regions }
         requires table { table < table_pages self.now.blocks }
-        ensures number { result.0 ≡ table_page self.now.blocks index table }
+        ensures number { result.0 ≡ table_page self.now.tables.0 self.now.blocks index table }
         ensures within { result.0 < 512 * self.now.blocks }
     {
-        PageNo(index as u32 * (2 + self.blocks) + table)
+        PageNo(self.tables.0 + index as u32 * (2 + self.blocks) + table)
     }
 
     // The descriptor that names it.
     pub(crate) fn table_link(&self, index: usize, table: u32) -> u64
         requires index { index < array_vec_len self.now.regions }
         requires table { table < table_pages self.now.blocks }
-        ensures { result ≡ table_link self.now.base.0 self.now.blocks index table }
+        ensures { result ≡ table_link self.now.base.0 self.now.tables.0 self.now.blocks index table }
     {
         let page = self.table_page(index, table);
         u64::from(self.base.0) + PAGE_SIZE as u64 * u64::from(page.0) + TABLE

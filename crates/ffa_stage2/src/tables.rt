@@ -1,6 +1,6 @@
 // SPDX-License-Identifier: MIT OR Apache-2.0
-//! The tables in RAM's first pages: for each endpoint in order a page of level 1, one of level 2, and one of level 3 for
-//! each block of 2 MiB.
+//! The tables in RAM, from a page of the layout's on: for each endpoint in order a page of level 1, one of level 2, and one
+//! of level 3 for each block of 2 MiB.
 ghost use Rattle.std.specs.Prelude.{◌≡◌, ℕ, ◌+◌, ◌*◌, ◌<◌, ◌≤◌, length, Option};
 ghost use Rattle.arrayvec.specs.ArrayVec.{array_vec_len};
 ghost use Rattle.ffa_model.specs.Descriptor.{page_word};
@@ -60,8 +60,8 @@ pub fn set_page<M: PhysMem>(
         → Only (M.past memory.old) (M.past memory.new)
         (λ _ s. IsBetweenFor layout.now s.after access (with_right access index page.0 right)) }
     ensures walks { WalkChanges (M.ram memory.old) (M.ram memory.new)
-        (array_vec_len layout.now.regions) layout.now.blocks index page.0 right }
-    ensures others { KeepsOthers (M.ram memory.old) (M.ram memory.new) layout.now.blocks index }
+        (array_vec_len layout.now.regions) layout.now.tables.0 layout.now.blocks index page.0 right }
+    ensures others { KeepsOthers (M.ram memory.old) (M.ram memory.new) layout.now.tables.0 layout.now.blocks index }
     ensures blocks { (access : ℕ → ℕ → Option Rights)
         → IsBuiltFor layout.now (M.ram memory.old) access
         → BlocksWhereOneFor layout.now (M.ram memory.new) (with_right access index page.0 right) }
@@ -86,8 +86,8 @@ pub fn set_pages<M: PhysMem>(
         → IsBuiltFor layout.now (M.ram memory.old) access
         → IsBuiltFor layout.now (M.ram memory.new) (with_pages access index first.0 (first.0 + count) right) }
     ensures walks { WalksChange (M.ram memory.old) (M.ram memory.new)
-        (array_vec_len layout.now.regions) layout.now.blocks index first.0 (first.0 + count) right }
-    ensures others { KeepsOthers (M.ram memory.old) (M.ram memory.new) layout.now.blocks index }
+        (array_vec_len layout.now.regions) layout.now.tables.0 layout.now.blocks index first.0 (first.0 + count) right }
+    ensures others { KeepsOthers (M.ram memory.old) (M.ram memory.new) layout.now.tables.0 layout.now.blocks index }
 
     // At each moment an endpoint has to a page the right that it had or the one that it is to have: so each walk is the one
     // from before or the one behind. No page but the endpoint's table pages differs at any moment.
@@ -97,19 +97,19 @@ pub fn set_pages<M: PhysMem>(
         Only (M.past memory.old) (M.past memory.new) (λ _ s. IsBetweenFor layout.now s.after access after) }
     ensures each_walk { let endpoints = array_vec_len layout.now.regions in
         Only (M.past memory.old) (M.past memory.new)
-        (λ _ s. WalksBetween (M.ram memory.old) (M.ram memory.new) endpoints layout.now.blocks s.after) }
+        (λ _ s. WalksBetween (M.ram memory.old) (M.ram memory.new) endpoints layout.now.tables.0 layout.now.blocks s.after) }
     // Where the tables were at rest, so it is of walks in mixtures, whose words are of different moments, are kept until the
     // page is settled, or are seen out of order.
     ensures mixtures { WalksMixed (M.ram memory.old) (M.ram memory.new)
-        (array_vec_len layout.now.regions) layout.now.blocks (M.past memory.old) (M.past memory.new) }
+        (array_vec_len layout.now.regions) layout.now.tables.0 layout.now.blocks (M.past memory.old) (M.past memory.new) }
 
     // Break before make: each step is one at the place of a block in the endpoint's tables, and there a level 2 word that is
     // valid gives way to one of another size only by way of an invalid one, behind which every translation unit has
     // forgotten the block.
     ensures orders { Only (M.past memory.old) (M.past memory.new)
-        (λ h s. IsOrdered (M.ram memory.old) layout.now.blocks index h s) }
+        (λ h s. IsOrdered (M.ram memory.old) layout.now.tables.0 layout.now.blocks index h s) }
     ensures others_stay { Only (M.past memory.old) (M.past memory.new)
-        (λ _ s. KeepsOthers (M.ram memory.old) s.after layout.now.blocks index) }
+        (λ _ s. KeepsOthers (M.ram memory.old) s.after layout.now.tables.0 layout.now.blocks index) }
     ensures blocks { (access : ℕ → ℕ → Option Rights)
         → IsBuiltFor layout.now (M.ram memory.old) access
         → BlocksWhereOneFor layout.now (M.ram memory.new) (with_pages access index first.0 (first.0 + count) right) }
@@ -129,10 +129,11 @@ pub fn set_pages<M: PhysMem>(
 fn clear_tables<M: PhysMem>(memory: &mut M, layout: &Layout)
     requires base { (M.ram memory.old).base ≡ layout.now.base.0 }
     requires size { length (M.ram memory.old).pages ≡ 512 * layout.now.blocks }
-    ensures tables { TablesAreFor layout.now (M.ram memory.new) (linked layout.now.base.0 layout.now.blocks 0) }
+    ensures tables { TablesAreFor layout.now (M.ram memory.new) (linked layout.now.base.0 layout.now.tables.0 layout.now.blocks 0) }
     ensures rest { KeepsRestFor layout.now (M.ram memory.old) (M.ram memory.new) }
 {
-    for page in 0..layout.regions.len() as u32 * (2 + layout.blocks) {
+    let first = layout.tables.0;
+    for page in first..first + layout.regions.len() as u32 * (2 + layout.blocks) {
         memory.clear_page(PageNo(page));
     }
 }
@@ -141,8 +142,8 @@ fn clear_tables<M: PhysMem>(memory: &mut M, layout: &Layout)
 fn link<M: PhysMem>(memory: &mut M, layout: &Layout, index: usize)
     requires index { index < array_vec_len layout.now.regions }
     requires base { (M.ram memory.old).base ≡ layout.now.base.0 }
-    requires tables { TablesAreFor layout.now (M.ram memory.old) (linked layout.now.base.0 layout.now.blocks index) }
-    ensures tables { let linked_to = linked layout.now.base.0 layout.now.blocks in
+    requires tables { TablesAreFor layout.now (M.ram memory.old) (linked layout.now.base.0 layout.now.tables.0 layout.now.blocks index) }
+    ensures tables { let linked_to = linked layout.now.base.0 layout.now.tables.0 layout.now.blocks in
         TablesAreFor layout.now (M.ram memory.new) (linked_to (index + 1)) }
     ensures rest { KeepsRestFor layout.now (M.ram memory.old) (M.ram memory.new) }
 {
@@ -195,7 +196,7 @@ fn link_all<M: PhysMem>(memory: &mut M, layout: &Layout)
 // Has all pages settled in the tables of each endpoint.
 fn settle_all<M: PhysMem>(memory: &mut M, layout: &Layout)
     ensures ram { M.ram memory.new ≡ M.ram memory.old }
-    ensures settled { AllSettled (array_vec_len layout.now.regions) layout.now.blocks (M.past memory.new) }
+    ensures settled { AllSettled (array_vec_len layout.now.regions) layout.now.tables.0 layout.now.blocks (M.past memory.new) }
 {
     for index in 0..layout.regions.len() {
         memory.settle(index, PageNo(0), ALL_PAGES);
@@ -208,13 +209,13 @@ pub fn settle_tables<M: PhysMem>(memory: &mut M, layout: &Layout)
     requires { (access : ℕ → ℕ → Option Rights) × IsBuiltFor layout.now (M.ram memory.old) access }
     ensures ram { M.ram memory.new ≡ M.ram memory.old }
     ensures at_rest { 0 < array_vec_len layout.now.regions
-        → RestIn (M.ram memory.new) (array_vec_len layout.now.regions) layout.now.blocks (M.past memory.new) }
+        → RestIn (M.ram memory.new) (array_vec_len layout.now.regions) layout.now.tables.0 layout.now.blocks (M.past memory.new) }
 {
     settle_all(memory, layout);
 }
 
 /// Builds the tables of all endpoints, where each has the rights of its regions and no other, in a RAM that stands
-/// where the layout says. No page behind the table pages changes. Whatever walks read while tables were built is settled, so
+/// where the layout says. No other page changes. Whatever walks read while tables were built is settled, so
 /// behind it the tables are at rest.
 pub fn build<M: PhysMem>(memory: &mut M, layout: &Layout)
     requires base { (M.ram memory.old).base ≡ layout.now.base.0 }
@@ -224,7 +225,7 @@ pub fn build<M: PhysMem>(memory: &mut M, layout: &Layout)
     ensures walks { WalksToFor layout.now (M.ram memory.new) (layout_right layout.now) }
     ensures blocks { BlocksWhereOneFor layout.now (M.ram memory.new) (layout_right layout.now) }
     ensures at_rest { 0 < array_vec_len layout.now.regions
-        → RestIn (M.ram memory.new) (array_vec_len layout.now.regions) layout.now.blocks (M.past memory.new) }
+        → RestIn (M.ram memory.new) (array_vec_len layout.now.regions) layout.now.tables.0 layout.now.blocks (M.past memory.new) }
 {
     link_all(memory, layout);
     for index in 0..layout.regions.len() {

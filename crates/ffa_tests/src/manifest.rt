@@ -4,7 +4,7 @@
 use crate::checks::same;
 use arrayvec::ArrayVec;
 use ffa_manifest::{ManifestError, of_parts, read};
-use ffa_model::{Endpoint, Manifest, Properties, Region, Rights, Version};
+use ffa_model::{Endpoint, Manifest, PageNo, Properties, Region, Rights, Version};
 use fixtures::{ROW_TEXT, row_machine};
 use std::process::Abort;
 use std::test::Fail;
@@ -42,7 +42,7 @@ fn whole_or_no_memory(rt: HostRuntime) {
 }
 
 // Every cause, and its name.
-const CAUSES: [ManifestError; 14] = [
+const CAUSES: [ManifestError; 15] = [
     ManifestError::NoMemory,
     ManifestError::Toml,
     ManifestError::UnknownKey,
@@ -57,6 +57,7 @@ const CAUSES: [ManifestError; 14] = [
     ManifestError::RegionOutside,
     ManifestError::RegionOverlap,
     ManifestError::Version,
+    ManifestError::TablesOutside,
 ];
 
 const NAMES: &str = "\
@@ -74,6 +75,7 @@ M11 RegionCount
 M12 RegionOutside
 M13 RegionOverlap
 M14 Version
+M25 TablesOutside
 ";
 
 #[test]
@@ -125,33 +127,51 @@ fn cause_of_two(first: Endpoint, second: Endpoint) -> Option<ManifestError> {
     let mut endpoints = ArrayVec::new();
     endpoints.push(first);
     endpoints.push(second);
-    of_parts(0x4000_0000, 1, endpoints).err()
+    of_parts(0x4000_0000, 1, PageNo(0), endpoints).err()
 }
 
 #[test]
 fn machines_of_parts(rt: HostRuntime) -> Result<(), Fail> {
-    let manifest = of_parts(0x4000_0000, 1, row_machine().endpoints)?;
+    let manifest = of_parts(0x4000_0000, 1, PageNo(0), row_machine().endpoints)?;
     assert_row_machine(&rt, &manifest);
     same(
         &rt,
-        of_parts(0x4010_0000, 1, row_machine().endpoints).err(),
+        of_parts(0x4010_0000, 1, PageNo(0), row_machine().endpoints).err(),
         Some(ManifestError::RamBase),
     );
     same(
         &rt,
-        of_parts(0x3FE0_0000, 2, row_machine().endpoints).err(),
+        of_parts(0x3FE0_0000, 2, PageNo(0), row_machine().endpoints).err(),
         Some(ManifestError::RamBlocks),
     );
     same(
         &rt,
-        of_parts(0x4000_0000, 33, row_machine().endpoints).err(),
+        of_parts(0x4000_0000, 33, PageNo(0), row_machine().endpoints).err(),
         Some(ManifestError::RamBlocks),
     );
     same(
         &rt,
-        of_parts(0x4000_0000, 1, ArrayVec::new()).err(),
+        of_parts(0x4000_0000, 1, PageNo(0), ArrayVec::new()).err(),
         Some(ManifestError::EndpointCount),
     );
+    Ok(())
+}
+
+// Nine pages of tables: of three endpoints, each with three.
+#[test]
+fn tables_of_parts(rt: HostRuntime) -> Result<(), Fail> {
+    // Regions have pages 10 to 3F.
+    let row = |tables| of_parts(0x4000_0000, 1, PageNo(tables), row_machine().endpoints);
+    let manifest = row(0x40)?;
+    assert_row_machine(&rt, &manifest);
+    same(&rt, manifest.root(0), 0x4004_0000);
+    same(&rt, manifest.root(2), 0x4004_6000);
+    same(&rt, row(7).err(), None);
+    same(&rt, row(8).err(), Some(ManifestError::RegionOutside));
+    same(&rt, row(0x3F).err(), Some(ManifestError::RegionOutside));
+    same(&rt, row(503).err(), None);
+    same(&rt, row(504).err(), Some(ManifestError::TablesOutside));
+    same(&rt, row(u32::MAX).err(), Some(ManifestError::TablesOutside));
     Ok(())
 }
 

@@ -37,6 +37,7 @@ fn two_blocks(rights: Rights) -> Layout
     Layout {
         base: Address(0x4000_0000),
         blocks: 2,
+        tables: PageNo(0),
         regions,
         worlds: Worlds::One,
     }
@@ -151,6 +152,7 @@ fn whole_blocks() -> Layout
     Layout {
         base: Address(0x4000_0000),
         blocks: 32,
+        tables: PageNo(0),
         regions,
         worlds: Worlds::One,
     }

@@ -29,14 +29,14 @@ use Rattle.play_files.specs.declared.commands.Files.{Files}
 
 -- the state in which a machine of these parts starts
 abbrev pub first_of : Parts → State
-first_of parts = first parts.worlds parts.ram_base parts.ram_blocks parts.endpoints
+first_of parts = first parts.worlds parts.ram_base parts.tables parts.ram_blocks parts.endpoints
 
 -- with worlds told apart where that is asked for
 abbrev pub with_worlds : Bool → Parts → Parts
 with_worlds tells parts = record parts { worlds = if tells then Two else parts.worlds }
 
 abbrev pub built_in_parts : Parts
-built_in_parts = record { ram_base = 0x40000000; ram_blocks = 1; endpoints = built_in_endpoints; worlds = One }
+built_in_parts = record { ram_base = 0x40000000; ram_blocks = 1; tables = 0; endpoints = built_in_endpoints; worlds = One }
 
 -- COMMANDS
 

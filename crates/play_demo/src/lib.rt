@@ -9,7 +9,7 @@ ghost use Rattle.play_demo.specs.Machine.{sixteen_writable, endpoint_with, built
 use arrayvec::ArrayVec;
 use bitflags::Flags;
 use ffa_model::{
-    Address, Data, Endpoint, MOST_ENDPOINTS, Manifest, Properties, Region, Rights, Version,
+    Address, Data, Endpoint, MOST_ENDPOINTS, Manifest, PageNo, Properties, Region, Rights, Version,
 };
 
 // Sixteen writable pages.
@@ -55,8 +55,9 @@ fn two_endpoints() -> ArrayVec<Endpoint, MOST_ENDPOINTS>
 pub fn built_in() -> Manifest
     ensures base { result.ram_base.0 ≡ 0x40000000 }
     ensures blocks { result.ram_blocks ≡ 1 }
+    ensures tables { result.tables.0 ≡ 0 }
     ensures endpoints { result.endpoints.items ≡ built_in_endpoints }
     ensures worlds { result.worlds ≡ One }
 {
-    Manifest::of(Address(0x4000_0000), 1, two_endpoints())
+    Manifest::of(Address(0x4000_0000), 1, PageNo(0), two_endpoints())
 }

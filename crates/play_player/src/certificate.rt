@@ -4,7 +4,6 @@ ghost use Rattle.std.specs.Prelude.{◌≡◌, ◌+◌, ◌*◌, ◌<◌, ◌≤
 ghost use Rattle.std.specs.List.{flat_map, range_with_len};
 ghost use Rattle.arrayvec.specs.ArrayVec.{array_vec_len};
 ghost use Rattle.ffa_model.specs.declared.limits.TheConstants.{MOST_ENDPOINTS};
-ghost use Rattle.ffa_model.specs.Agreement.{root};
 ghost use Rattle.ffa_model.specs.Certificate.{certificate};
 ghost use Rattle.play_syntax.specs.TraceText.{audit_text, cert_run_text, cert_text, ended, handle_text, rights_text, root_text, spaced};
 ghost use Rattle.play_syntax.specs.Output.{Writes, WritesIfRoom};
@@ -125,24 +124,15 @@ fn push_roots<P: Playable>(text: &mut Text, machine: &P)
 #[tactic(auto, unfolding(play_syntax::specs::TraceText::root_text))]
 fn push_root<P: Playable>(text: &mut Text, machine: &P, place: usize)
     requires room { array_vec_len text.old + 19 ≤ CAPACITY }
-    requires place { place < MOST_ENDPOINTS }
+    requires few { place < MOST_ENDPOINTS }
+    requires there { place < length (P.bench machine.now).state.parties }
     ensures items { text.new.items ≡ text.old.items ++ root_text (P.bench machine.now).state place }
     ensures len { array_vec_len text.new ≡ array_vec_len text.old + 19 }
 {
     text::push_word(text, b"root");
     text::push_hex(text, 4, u64::from(EndpointId::at(place).0));
-    text::push_hex(text, 8, root_at(machine, place));
+    text::push_hex(text, 8, u64::from(machine.root_at(place)));
     text.push(b'\n');
-}
-
-// The address of the level 1 table of the endpoint at a place: its table pages stand behind those of the endpoints
-// before.
-fn root_at<P: Playable>(machine: &P, place: usize) -> u64
-    requires { place < MOST_ENDPOINTS }
-    ensures { result ≡ root (P.bench machine.now).state place }
-{
-    let blocks = u64::from(machine.ram_pages() / 512);
-    u64::from(machine.ram_base().0) + 4096 * (place as u64 * (2 + blocks))
 }
 
 // Appends a run to no text yet.

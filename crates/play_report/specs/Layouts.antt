@@ -7,7 +7,7 @@ use Rattle.ffa_model.specs.declared.endpoint.Region.{Region}
 use Rattle.ffa_model.specs.declared.endpoint.Endpoint.{Endpoint}
 use Rattle.ffa_model.specs.Lists.{listed}
 use Rattle.ffa_model.specs.Identifiers.{identifier}
-use Rattle.ffa_model.specs.Manifest.{ram_end, root_of, tables_end}
+use Rattle.ffa_model.specs.Manifest.{ram_end, root_of, tables_begin, tables_end}
 use Rattle.play_syntax.specs.TraceText.{hex, spaced, ended, rights_text}
 use Rattle.ffa_manifest.specs.Document.{Parts}
 
@@ -18,7 +18,7 @@ endpoint_line place root =
     (hex 4 (identifier place) ++ spaced (hex 8 root) ++ spaced (hex 8 (root + 4096)) ++ spaced (hex 8 (root + 8192)))
 
 abbrev pub layout_line : Parts → ℕ → List ℕ
-layout_line m place = endpoint_line place (root_of m.ram_base m.ram_blocks place)
+layout_line m place = endpoint_line place (root_of m.ram_base m.tables m.ram_blocks place)
 
 abbrev pub layout_text : Parts → List ℕ
 layout_text m = flat_map (layout_line m) (listed (length m.endpoints) (λ place. place))
@@ -48,9 +48,10 @@ span_line name first end = ended (name ++ spaced (hex 8 first) ++ spaced (hex 8 
 -- the table pages, what lies behind them, and all of RAM
 abbrev pub spans_text : Parts → List ℕ
 spans_text m =
-    let behind = tables_end m.ram_base m.ram_blocks (length m.endpoints) in
+    let begin = tables_begin m.ram_base m.tables m.ram_blocks in
+    let behind = tables_end m.ram_base m.tables m.ram_blocks (length m.endpoints) in
     let end = ram_end m.ram_base m.ram_blocks in
-    span_line (codes "tables") m.ram_base behind ++ span_line (codes "space") behind end
+    span_line (codes "tables") begin behind ++ span_line (codes "space") behind end
     ++ span_line (codes "ram") m.ram_base end
 
 abbrev pub regions_text : Parts → List ℕ

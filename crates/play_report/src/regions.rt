@@ -67,9 +67,10 @@ fn push_spans(lines: &mut Text, manifest: &Manifest)
 {
     let base = u64::from(manifest.ram_base.0);
     let blocks = u64::from(manifest.ram_blocks);
-    let tables_end = base + 4096 * (manifest.endpoints.len() as u64 * (2 + blocks));
+    let tables = base + 4096 * u64::from(manifest.tables.0);
+    let tables_end = tables + 4096 * (manifest.endpoints.len() as u64 * (2 + blocks));
     let ram_end = base + 0x20_0000 * blocks;
-    push_span(lines, b"tables", base, tables_end);
+    push_span(lines, b"tables", tables, tables_end);
     push_span(lines, b"space", tables_end, ram_end);
     push_span(lines, b"ram", base, ram_end);
 }

@@ -20,7 +20,7 @@ use fixtures::{FIRST, partition, word, writable};
 fn three_partitions() -> Result<Manifest, ManifestError> {
     let mut endpoints = row_machine().endpoints;
     endpoints.push(partition(0x20, writable(0x4004_0000, 16)));
-    of_parts(0x4000_0000, 1, endpoints)
+    of_parts(0x4000_0000, 1, PageNo(0), endpoints)
 }
 
 // The first page of the first partition's TX, and the words of the page that its descriptor names and of its message's receiver.

@@ -1,13 +1,13 @@
 // SPDX-License-Identifier: MIT OR Apache-2.0
 //! An operation while other processors of its runner write to the runner's TX.
-ghost use Rattle.std.specs.Prelude.{true, false, ◌≡◌, ◌+◌, ◌≤◌, length};
+ghost use Rattle.std.specs.Prelude.{ℕ, true, false, ◌≡◌, ◌+◌, ◌≤◌, length};
 ghost use Rattle.ffa_model.specs.declared.limits.TheConstants.{MOST_BUFFER_PAGES};
 ghost use Rattle.ffa_model.specs.Agreement.{Agrees};
 ghost use Rattle.ffa_model.specs.SoundState.{IsSoundState};
-ghost use Rattle.ffa_spmc.specs.Among.{AreDoneReading, IsDone, IsDoneAlone, IsDoneReading, IsRead, pages_read};
+ghost use Rattle.ffa_spmc.specs.Among.{is_in, AreDoneReading, IsDone, IsDoneAlone, IsDoneReading, IsRead, pages_read};
 ghost use Rattle.ffa_spmc.specs.Cached.{AreWalks};
 ghost use Rattle.ffa_spmc.specs.Interleaved.{IsInterleaved};
-ghost use Rattle.ffa_spmc.specs.Unowned.{KeepsUnowned, pages_of_tables};
+ghost use Rattle.ffa_spmc.specs.Unowned.{KeepsUnowned, IsNoTable};
 
 use super::Machine;
 use crate::run::Run;
@@ -73,11 +73,11 @@ impl<M: Observed + Drop, T: Translations + Drop, S: Store> Machine<M, T, S> {
         }
     }
 
-    // Reads pages behind the tables at once.
+    // Reads pages that are none of the tables' at once.
     fn begin_reading(&mut self, run: Run)
         requires within { run.first.0 + run.count ≤ length self.old.ram.pages }
         requires few { run.count ≤ MOST_BUFFER_PAGES }
-        requires behind { pages_of_tables self.old.state ≤ run.first.0 }
+        requires aside { (p : ℕ) → is_in run p ≡ true → IsNoTable self.old.state p }
         ensures read { IsRead run true self.old self.new }
         ensures kept { M.is_alone ≡ true → self.new.state ≡ self.old.state }
     {
@@ -91,7 +91,7 @@ impl<M: Observed + Drop, T: Translations + Drop, S: Store> Machine<M, T, S> {
     // Ends that.
     fn end_reading(&mut self, run: Run)
         requires within { run.first.0 + run.count ≤ length self.old.ram.pages }
-        requires behind { pages_of_tables self.old.state ≤ run.first.0 }
+        requires aside { (p : ℕ) → is_in run p ≡ true → IsNoTable self.old.state p }
         ensures { IsRead run false self.old self.new }
     {
         // Proof step: the state is sound, and the tables give its access.

@@ -53,10 +53,18 @@ impl<M: PhysMem + Drop, T: Translations + Drop, S: Store> Machine<M, T, S> {
             result ≡ (if known then Some (root self.now.state (place endpoint.0)) else None) }
     {
         if endpoint.is_among(self.endpoints()) {
-            Some(self.manager.root_at(endpoint.place()))
+            Some(self.root_at(endpoint.place()))
         } else {
             None
         }
+    }
+
+    /// The same of the endpoint at a place, from 0.
+    pub fn root_at(&self, place: usize) -> u32
+        requires { place < length self.now.state.parties }
+        ensures { result ≡ root self.now.state place }
+    {
+        self.manager.root_at(place)
     }
 
     // Whether two pages have the same owner, and each endpoint has the same access to both.

@@ -2,7 +2,6 @@
 //! RAM that comes with bytes: which of its pages keep them.
 ghost use Rattle.std.specs.Prelude.{◌≡◌, ◌≢◌, ℕ, ◌*◌, ◌<◌, length, replicate};
 ghost use Rattle.ffa_model.specs.Identifiers.{manager};
-ghost use Rattle.ffa_model.specs.Manifest.{table_pages};
 ghost use Rattle.ffa_model.specs.Ram.{page_of, with_page};
 ghost use Rattle.ffa_model.specs.SoundState.{are_bytes};
 ghost use Rattle.ffa_spmc.specs.Readied.{IsReadyFor, first_owner};
@@ -11,7 +10,7 @@ use super::readings::holds_bytes;
 use ffa_model::{EndpointId, Manifest, PageNo};
 use ffa_physmem::PhysMem;
 
-// Fills all pages behind the tables with zeros but those of the manifest's regions, which keep their bytes.
+// Fills all pages with zeros but those of the manifest's regions, which keep their bytes.
 // Not inlined, so that no boot has its frame while it builds tables.
 #[inline(never)]
 pub(crate) fn clear_rest<M: PhysMem>(ram: &mut M, manifest: &Manifest)
@@ -21,7 +20,7 @@ pub(crate) fn clear_rest<M: PhysMem>(ram: &mut M, manifest: &Manifest)
     ensures kept { (p : ℕ) → first_owner manifest.now p ≢ manager
         → page_of (M.ram ram.new) p ≡ page_of (M.ram ram.old) p }
 {
-    for page in pages_of_tables(manifest)..ram.pages() {
+    for page in 0..ram.pages() {
         clear_unowned(ram, manifest, PageNo(page));
     }
 }
@@ -40,11 +39,4 @@ fn clear_unowned<M: PhysMem>(ram: &mut M, manifest: &Manifest, page: PageNo)
     }
     // Proof step: what the page holds are bytes.
     holds_bytes(ram.page(page));
-}
-
-// How many pages the tables have, which are RAM's first.
-fn pages_of_tables(manifest: &Manifest) -> u32
-    ensures { result ≡ length manifest.now.endpoints.items * table_pages manifest.now.ram_blocks }
-{
-    manifest.endpoints.len() as u32 * (2 + manifest.ram_blocks)
 }

@@ -9,7 +9,7 @@ ghost use Rattle.ffa_physmem.specs.Moments.{IsBeside, IsReading, One};
 ghost use Rattle.ffa_laws.specs.Reads.{AreBeside, bytes_read, pages_holding};
 ghost use Rattle.ffa_spmc.specs.Among.{is_in, pages_read, reads_tx};
 ghost use Rattle.ffa_spmc.specs.Moments.{AreMoments};
-ghost use Rattle.ffa_spmc.specs.Unowned.{pages_of_tables};
+ghost use Rattle.ffa_spmc.specs.Unowned.{IsNoTable};
 
 use super::Manager;
 use crate::run::Run;
@@ -129,7 +129,7 @@ impl<M: PhysMem + Drop, S: Store> Manager<M, S> {
         ensures pages { result ≡ pages_read self.now.state op.now }
         ensures within { IfSome result (λ run. run.first.0 + run.count ≤ length self.now.ram.pages) }
         ensures few { IfSome result (λ run. run.count ≤ MOST_BUFFER_PAGES) }
-        ensures behind { IfSome result (λ run. pages_of_tables self.now.state ≤ run.first.0) }
+        ensures aside { IfSome result (λ run. (p : ℕ) → is_in run p ≡ true → IsNoTable self.now.state p) }
         ensures owned { IfSome result (λ run. (p : ℕ) → is_in run p ≡ true → IsSome (page_at self.now.state p)) }
     {
         let Op::Call(x) = op else { return None };
@@ -150,11 +150,11 @@ impl<M: PhysMem + Drop, S: Store> Manager<M, S> {
 }
 
 impl<M: Observed + Drop, S: Store> Manager<M, S> {
-    // Reads pages behind the tables at once.
+    // Reads pages that are none of the tables' at once.
     pub(crate) fn begin_reading(&mut self, run: Run)
         requires within { run.first.0 + run.count ≤ length self.old.ram.pages }
         requires few { run.count ≤ MOST_BUFFER_PAGES }
-        requires behind { pages_of_tables self.old.state ≤ run.first.0 }
+        requires aside { (p : ℕ) → is_in run p ≡ true → IsNoTable self.old.state p }
         ensures state { AreBeside self.old.state self.new.state (is_in run) }
         ensures ram { IsBeside self.old.ram self.new.ram (is_in run) }
         ensures step { One self.old.past self.new.past (λ s.
@@ -168,7 +168,7 @@ impl<M: Observed + Drop, S: Store> Manager<M, S> {
     // Ends that.
     pub(crate) fn end_reading(&mut self, run: Run)
         requires within { run.first.0 + run.count ≤ length self.old.ram.pages }
-        requires behind { pages_of_tables self.old.state ≤ run.first.0 }
+        requires aside { (p : ℕ) → is_in run p ≡ true → IsNoTable self.old.state p }
         ensures state { AreBeside self.old.state self.new.state (is_in run) }
         ensures ram { IsBeside self.old.ram self.new.ram (is_in run) }
         ensures step { One self.old.past self.new.past (λ s.

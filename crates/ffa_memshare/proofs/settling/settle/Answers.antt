@@ -12,7 +12,7 @@ use Rattle.ffa_memshare.proofs.Places.{in_range-between, in_ranges-more}
 use Rattle.ffa_memshare.proofs.settling.settle.Goals as goal
 
 pub loop-place-init : goal.loop-place-init
-loop-place-init g c = record { same = refl; steps = Only-none; settled = λ end p h there inside. absurd (false≢true inside) }
+loop-place-init g c = record { same = refl; steps = Only-none; settled = λ begin end p h there inside. absurd (false≢true inside) }
 
 pub loop-place-preserved : goal.loop-place-preserved
 loop-place-preserved g c =
@@ -28,21 +28,21 @@ loop-place-preserved g c =
     record {
       same = c.settle.ensures.ram ∙ i.same;
       steps = Only-then i.steps (Only-one c.settle.ensures.steps) (λ _ s its. (its.after ∙ sym its.before, its.after ∙ i.same));
-      settled = λ end p h there inside.
+      settled = λ begin end p h there inside.
           let (s, earlier, is, was, its) = c.settle.ensures.steps.each h there in
-          subst (IsSettledBy end c.args.index p) (sym is)
+          subst (IsSettledBy begin end c.args.index p) (sym is)
           (elim (cases_Bool (in_ranges old.base (take k ranges) p)) [
-            | inl before ↦ settled-still now end c.args.index c.args.index c.first_page-first.result range.pages p s earlier its (i.settled end p earlier was before)
+            | inl before ↦ settled-still now begin end c.args.index c.args.index c.first_page-first.result range.pages p s earlier its (i.settled begin end p earlier was before)
             | inr not_before ↦
                 let here : in_range old.base range p ≡ true =
                 sym (ap (λ b. b || in_range old.base range p) not_before) ∙ sym (in_ranges-more old.base ranges k range below (c.at-range.ensures range) p) ∙ inside in
-                settled-here now end c.args.index c.first_page-first.result range.pages p s earlier its
+                settled-here now begin end c.args.index c.first_page-first.result range.pages p s earlier its
                 (ap (λ f. is_in_run f range.pages p) first ∙ sym (in_range-between old.base _ range (c.requires k range below (c.at-range.ensures range)) p) ∙ here)
           ]);
     }
 
 pub returns-clause-settled : goal.returns-clause-settled
-returns-clause-settled g c end p h there inside =
+returns-clause-settled g c begin end p h there inside =
     let i = c.loop-place.invariant in
     let all : take c.loop-place.place c.args.ranges.now ≡ c.args.ranges.now = take_all c.loop-place.place c.args.ranges.now (omega (arith, c.len-place-end.ensures.count)) in
-    i.settled end p h there (ap (λ ranges. in_ranges (g.M.PhysMem.ram c.args.ram.now).base ranges p) all ∙ inside)
+    i.settled begin end p h there (ap (λ ranges. in_ranges (g.M.PhysMem.ram c.args.ram.now).base ranges p) all ∙ inside)

@@ -6,7 +6,7 @@ use Rattle.ffa_stage2.proofs.tables.built_tables.Goals as goal
 
 pub returns : goal.returns
 returns c = record {
-  walk = λ ram n b access built e a he ha. walk-built ram n b access e a built he ha;
-  stay = λ old new n b access built same. built-kept old new n b access built same.base same.size same.pages;
-  begin = λ ram n b access e built he. root-address ram n b e built.fits he;
+  walk = λ ram n tables b access built e a he ha. walk-built ram n tables b access e a built he ha;
+  stay = λ old new n tables b access built same. built-kept old new n tables b access built same.base same.size same.pages;
+  begin = λ ram n tables b access e built he. root-address ram n tables b e built.fits he;
 }

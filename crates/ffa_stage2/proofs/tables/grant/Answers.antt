@@ -20,13 +20,13 @@ loop-next-preserved-then-is_some g c =
     let end : next + (until - next) ≡ until = omega (arith, some) in
     record {
       until = c.right_until-until.ensures.end;
-      built = built-same (g.M.PhysMem.ram c.set_pages.new.memory) (array_vec_len l.regions) l.blocks _ (rights_until (layout_right l) c.args.index until)
-          (subst (λ n. IsBuilt (g.M.PhysMem.ram c.set_pages.new.memory) (array_vec_len l.regions) l.blocks (with_pages now c.args.index next n c.right-right.result)) end
+      built = built-same (g.M.PhysMem.ram c.set_pages.new.memory) (array_vec_len l.regions) l.tables.0 l.blocks _ (rights_until (layout_right l) c.args.index until)
+          (subst (λ n. IsBuilt (g.M.PhysMem.ram c.set_pages.new.memory) (array_vec_len l.regions) l.tables.0 l.blocks (with_pages now c.args.index next n c.right-right.result)) end
           (c.set_pages.ensures.built now i.built))
           (λ e p _ _. rights_until-next (layout_right l) c.args.index next until c.right-right.result (omega (arith, some))
           (λ q low high. c.right_until-until.ensures.same q low high ∙ sym c.right-right.ensures) e p);
-      rest = KeepsRest-then (g.M.PhysMem.ram c.args.memory.now) (g.M.PhysMem.ram c.loop-next.memory) (g.M.PhysMem.ram c.set_pages.new.memory) (array_vec_len l.regions) l.blocks
-          i.rest (KeepsRest-of_others _ _ _ _ c.args.index c.set_pages.ensures.others c.requires.index);
+      rest = KeepsRest-then (g.M.PhysMem.ram c.args.memory.now) (g.M.PhysMem.ram c.loop-next.memory) (g.M.PhysMem.ram c.set_pages.new.memory) (array_vec_len l.regions) l.tables.0 l.blocks
+          i.rest (KeepsRest-of_others _ _ _ _ _ c.args.index c.set_pages.ensures.others c.requires.index);
     }
 
 pub loop-next-preserved : goal.loop-next-preserved
@@ -38,7 +38,7 @@ loop-next-preserved g c =
     let none : c.right-right.result ≡ None = grind (arith, common_steps) in
     record {
       until = until.end;
-      built = built-same (g.M.PhysMem.ram c.loop-next.memory) (array_vec_len l.regions) l.blocks _ (rights_until (layout_right l) c.args.index c.right_until-until.result) i.built
+      built = built-same (g.M.PhysMem.ram c.loop-next.memory) (array_vec_len l.regions) l.tables.0 l.blocks _ (rights_until (layout_right l) c.args.index c.right_until-until.result) i.built
           (λ e p _ _. rights_until-skip (layout_right l) c.args.index c.loop-next.next c.right_until-until.result le
           (λ q low high. until.same q low high ∙ sym c.right-right.ensures ∙ none) e p);
       rest = i.rest;
@@ -47,6 +47,6 @@ loop-next-preserved g c =
 pub returns-clause-built : goal.returns-clause-built
 returns-clause-built g c =
     let l = c.args.layout.now in
-    built-same (g.M.PhysMem.ram c.loop-next.memory) (array_vec_len l.regions) l.blocks (rights_until (layout_right l) c.args.index c.loop-next.next) (rights_until (layout_right l) (c.args.index + 1) 0)
+    built-same (g.M.PhysMem.ram c.loop-next.memory) (array_vec_len l.regions) l.tables.0 l.blocks (rights_until (layout_right l) c.args.index c.loop-next.next) (rights_until (layout_right l) (c.args.index + 1) 0)
     c.loop-next.invariant.built
     (λ e p _ hp. rights_until-full (layout_right l) c.args.index c.loop-next.next e p (omega (arith, hp, c.loop-next-test.false)))

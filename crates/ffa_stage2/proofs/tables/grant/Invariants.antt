@@ -10,8 +10,8 @@ use Rattle.ffa_stage2.proofs.tables.grant.Given as goal
 abbrev pub invariant-loop-next : goal.invariant-loop-next
 invariant-loop-next g l = record {
   until : l.next ≤ l.end;
-  built : IsBuilt (g.M.PhysMem.ram l.memory) (array_vec_len l.layout.regions) l.layout.blocks (rights_until (layout_right l.layout) l.index l.next);
-  rest : KeepsRest (g.M.PhysMem.ram l.fn.memory) (g.M.PhysMem.ram l.memory) (array_vec_len l.layout.regions) l.layout.blocks;
+  built : IsBuilt (g.M.PhysMem.ram l.memory) (array_vec_len l.layout.regions) l.layout.tables.0 l.layout.blocks (rights_until (layout_right l.layout) l.index l.next);
+  rest : KeepsRest (g.M.PhysMem.ram l.fn.memory) (g.M.PhysMem.ram l.memory) (array_vec_len l.layout.regions) l.layout.tables.0 l.layout.blocks;
 }
 
 -- the pages that are left

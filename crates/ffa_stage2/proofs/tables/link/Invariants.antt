@@ -6,4 +6,4 @@ use Rattle.ffa_stage2.proofs.tables.link.Given as goal
 -- the blocks so far
 abbrev pub invariant-loop-block : goal.invariant-loop-block
 invariant-loop-block g l =
-    IsLinking (g.M.PhysMem.ram l.fn.memory) (g.M.PhysMem.ram l.memory) (array_vec_len l.layout.regions) l.layout.blocks l.layout.base.0 l.index l.block
+    IsLinking (g.M.PhysMem.ram l.fn.memory) (g.M.PhysMem.ram l.memory) (array_vec_len l.layout.regions) l.layout.tables.0 l.layout.blocks l.layout.base.0 l.index l.block

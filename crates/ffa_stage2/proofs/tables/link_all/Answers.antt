@@ -13,6 +13,6 @@ returns-clause-built g c =
     let l = c.args.layout.now in
     let all : c.loop-index.index ≡ array_vec_len l.regions = omega arith in
     let ram = g.M.PhysMem.ram c.loop-index.memory in
-    built-same ram (array_vec_len l.regions) l.blocks no_access (rights_until (layout_right l) 0 0)
-    (all-linked ram (array_vec_len l.regions) l.blocks l.base.0 (i.rest.base ∙ c.requires.base) (rw all at i.tables))
+    built-same ram (array_vec_len l.regions) l.tables.0 l.blocks no_access (rights_until (layout_right l) 0 0)
+    (all-linked ram (array_vec_len l.regions) l.tables.0 l.blocks l.base.0 (i.rest.base ∙ c.requires.base) (rw all at i.tables))
     (λ e p _ _. rights_until-none (layout_right l) e p)

@@ -7,6 +7,6 @@ use Rattle.ffa_stage2.proofs.tables.link_all.Given as goal
 -- the endpoints so far
 abbrev pub invariant-loop-index : goal.invariant-loop-index
 invariant-loop-index g l = record {
-  tables : TablesAre (g.M.PhysMem.ram l.memory) (array_vec_len l.layout.regions) l.layout.blocks (linked l.layout.base.0 l.layout.blocks l.index);
-  rest : KeepsRest (g.M.PhysMem.ram l.fn.memory) (g.M.PhysMem.ram l.memory) (array_vec_len l.layout.regions) l.layout.blocks;
+  tables : TablesAre (g.M.PhysMem.ram l.memory) (array_vec_len l.layout.regions) l.layout.tables.0 l.layout.blocks (linked l.layout.base.0 l.layout.tables.0 l.layout.blocks l.index);
+  rest : KeepsRest (g.M.PhysMem.ram l.fn.memory) (g.M.PhysMem.ram l.memory) (array_vec_len l.layout.regions) l.layout.tables.0 l.layout.blocks;
 }

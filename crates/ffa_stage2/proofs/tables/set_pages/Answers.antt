@@ -17,8 +17,8 @@ loop-next-init g c =
     record {
       from = omega arith;
       upto = omega arith;
-      built = λ access h. built-same (g.M.PhysMem.ram c.args.memory.now) (array_vec_len l.regions) l.blocks access _ h (λ e p _ _. with_pages-none access c.args.index c.args.first.0 c.args.right e p);
-      others = KeepsOthers-same _ _ _;
+      built = λ access h. built-same (g.M.PhysMem.ram c.args.memory.now) (array_vec_len l.regions) l.tables.0 l.blocks access _ h (λ e p _ _. with_pages-none access c.args.index c.args.first.0 c.args.right e p);
+      others = KeepsOthers-same _ _ _ _;
       steps = λ access h. Only-none;
       orders = Only-none;
       others_stay = Only-none;
@@ -34,7 +34,7 @@ change-requires-clause-place g c =
     let (access, built) = c.requires.built in
     let now = c.loop-next.invariant.built access built in
     let index = c.args.index in
-    place-of (g.M.PhysMem.ram c.loop-next.memory) _ _ index (c.loop-next.next / 512) _ now.fits (λ s hs. now.whole index s c.requires.index hs)
+    place-of (g.M.PhysMem.ram c.loop-next.memory) _ _ _ index (c.loop-next.next / 512) _ now.fits (λ s hs. now.whole index s c.requires.index hs)
     c.requires.index (omega (arith, c.requires.pages, c.loop-next-test.true)) c.of-place.ensures
 
 pub change-requires-clause-mapped : goal.change-requires-clause-mapped
@@ -44,7 +44,7 @@ change-requires-clause-mapped g c =
     let k = c.loop-next.next / 512 in
     let rights = with_pages access c.args.index c.args.first.0 c.loop-next.next c.args.right c.args.index in (
       rights_of_block rights k,
-      maps-of (g.M.PhysMem.ram c.loop-next.memory) _ c.args.index k _ rights c.of-place.ensures
+      maps-of (g.M.PhysMem.ram c.loop-next.memory) _ _ c.args.index k _ rights c.of-place.ensures
           (now.each c.args.index k c.requires.index (omega (arith, c.requires.pages, c.loop-next-test.true))),
     )
 
@@ -57,23 +57,23 @@ loop-next-preserved g c =
       from = omega (arith, i.from, c.min-to.ensures, c.loop-next-test.true);
       upto = omega (arith, c.min-to.ensures);
       built = λ access h.
-          runs-built (g.M.PhysMem.ram c.loop-next.memory) (g.M.PhysMem.ram c.change.new.memory) _ _ c.args.index c.args.first.0 c.loop-next.next c.min-to.result k
+          runs-built (g.M.PhysMem.ram c.loop-next.memory) (g.M.PhysMem.ram c.change.new.memory) _ _ _ c.args.index c.args.first.0 c.loop-next.next c.min-to.result k
           (c.loop-next.next % 512) (c.min-to.result - 512 * k) access c.args.right _ (i.built access h) c.requires.index hk c.of-place.ensures c.change.ensures.beside
           i.from (omega (arith, c.min-to.ensures, c.loop-next-test.true)) (omega arith) (omega (arith, c.min-to.ensures, c.loop-next-test.true)) (omega (arith, c.min-to.ensures))
           c.change.ensures.mapped;
-      others = KeepsOthers-then _ _ _ _ _ i.others (others-beside (g.M.PhysMem.ram c.loop-next.memory) (g.M.PhysMem.ram c.change.new.memory) _ c.args.index k _ hk c.of-place.ensures c.change.ensures.beside);
+      others = KeepsOthers-then _ _ _ _ _ _ i.others (others-beside (g.M.PhysMem.ram c.loop-next.memory) (g.M.PhysMem.ram c.change.new.memory) _ _ c.args.index k _ hk c.of-place.ensures c.change.ensures.beside);
       steps = λ access h.
           let built = i.built access h in
           let rights = with_pages access c.args.index c.args.first.0 c.loop-next.next c.args.right c.args.index in
           Only-then (i.steps access h)
           (c.change.ensures.steps (rights_of_block rights k)
-          (maps-of (g.M.PhysMem.ram c.loop-next.memory) _ c.args.index k _ rights c.of-place.ensures (built.each c.args.index k c.requires.index hk)))
-          (λ hist s way. between-block (g.M.PhysMem.ram c.loop-next.memory) s.after _ _ c.args.index k c.args.first.0 c.loop-next.next c.min-to.result (c.args.first.0 + c.args.count)
+          (maps-of (g.M.PhysMem.ram c.loop-next.memory) _ _ c.args.index k _ rights c.of-place.ensures (built.each c.args.index k c.requires.index hk)))
+          (λ hist s way. between-block (g.M.PhysMem.ram c.loop-next.memory) s.after _ _ _ c.args.index k c.args.first.0 c.loop-next.next c.min-to.result (c.args.first.0 + c.args.count)
           (c.loop-next.next % 512) (c.min-to.result - 512 * k) access c.args.right _ built c.requires.index hk c.of-place.ensures way
           i.from (omega (arith, c.min-to.ensures, c.loop-next-test.true)) (omega (arith, c.min-to.ensures)) (omega arith) (omega (arith, c.min-to.ensures, c.loop-next-test.true)) (omega (arith, c.min-to.ensures)));
       orders = Only-then i.orders c.change.ensures.orders
-          (λ h s its. ordered-of (g.M.PhysMem.ram c.args.memory.now) c.args.layout.now.blocks c.args.index k c.of-place.result hk
-          (place-of-kept (g.M.PhysMem.ram c.loop-next.memory) (g.M.PhysMem.ram c.args.memory.now) c.args.layout.now.blocks c.args.index k c.of-place.result (sym i.others.base) c.of-place.ensures)
+          (λ h s its. ordered-of (g.M.PhysMem.ram c.args.memory.now) c.args.layout.now.tables.0 c.args.layout.now.blocks c.args.index k c.of-place.result hk
+          (place-of-kept (g.M.PhysMem.ram c.loop-next.memory) (g.M.PhysMem.ram c.args.memory.now) c.args.layout.now.tables.0 c.args.layout.now.blocks c.args.index k c.of-place.result (sym i.others.base) c.of-place.ensures)
           h s its);
       others_stay =
           let (access, h) = c.requires.built in
@@ -81,8 +81,8 @@ loop-next-preserved g c =
           let rights = with_pages access c.args.index c.args.first.0 c.loop-next.next c.args.right c.args.index in
           Only-then i.others_stay
           (c.change.ensures.steps (rights_of_block rights k)
-          (maps-of (g.M.PhysMem.ram c.loop-next.memory) _ c.args.index k _ rights c.of-place.ensures (built.each c.args.index k c.requires.index hk)))
-          (λ hist s way. KeepsOthers-then _ _ s.after _ _ i.others (others-beside (g.M.PhysMem.ram c.loop-next.memory) s.after _ c.args.index k _ hk c.of-place.ensures way.beside));
+          (maps-of (g.M.PhysMem.ram c.loop-next.memory) _ _ c.args.index k _ rights c.of-place.ensures (built.each c.args.index k c.requires.index hk)))
+          (λ hist s way. KeepsOthers-then _ _ s.after _ _ _ i.others (others-beside (g.M.PhysMem.ram c.loop-next.memory) s.after _ _ c.args.index k _ hk c.of-place.ensures way.beside));
     }
 
 pub returns-clause-built : goal.returns-clause-built
@@ -90,7 +90,7 @@ returns-clause-built g c access h =
     let i = c.loop-next.invariant in
     let l = c.args.layout.now in
     let all : c.loop-next.next ≡ c.args.first.0 + c.args.count = omega (arith, i.upto, c.loop-next-test.false) in
-    subst (λ n. IsBuilt (g.M.PhysMem.ram c.loop-next.memory) (array_vec_len l.regions) l.blocks (with_pages access c.args.index c.args.first.0 n c.args.right)) all (i.built access h)
+    subst (λ n. IsBuilt (g.M.PhysMem.ram c.loop-next.memory) (array_vec_len l.regions) l.tables.0 l.blocks (with_pages access c.args.index c.args.first.0 n c.args.right)) all (i.built access h)
 
 pub returns-clause-walks : goal.returns-clause-walks
 returns-clause-walks g c =
@@ -98,8 +98,8 @@ returns-clause-walks g c =
     let i = c.loop-next.invariant in
     let l = c.args.layout.now in
     let all : c.loop-next.next ≡ c.args.first.0 + c.args.count = omega (arith, i.upto, c.loop-next-test.false) in
-    runs-walk (g.M.PhysMem.ram c.args.memory.now) (g.M.PhysMem.ram c.loop-next.memory) (array_vec_len l.regions) l.blocks access c.args.index c.args.first.0 _ c.args.right built
-    (subst (λ n. IsBuilt (g.M.PhysMem.ram c.loop-next.memory) (array_vec_len l.regions) l.blocks (with_pages access c.args.index c.args.first.0 n c.args.right)) all (i.built access built))
+    runs-walk (g.M.PhysMem.ram c.args.memory.now) (g.M.PhysMem.ram c.loop-next.memory) (array_vec_len l.regions) l.tables.0 l.blocks access c.args.index c.args.first.0 _ c.args.right built
+    (subst (λ n. IsBuilt (g.M.PhysMem.ram c.loop-next.memory) (array_vec_len l.regions) l.tables.0 l.blocks (with_pages access c.args.index c.args.first.0 n c.args.right)) all (i.built access built))
     c.requires.pages i.others.base i.others.size
 
 pub returns-clause-blocks : goal.returns-clause-blocks
@@ -107,8 +107,8 @@ returns-clause-blocks g c access h =
     let i = c.loop-next.invariant in
     let l = c.args.layout.now in
     let all : c.loop-next.next ≡ c.args.first.0 + c.args.count = omega (arith, i.upto, c.loop-next-test.false) in
-    blocks-built (g.M.PhysMem.ram c.loop-next.memory) _ _ _
-    (subst (λ n. IsBuilt (g.M.PhysMem.ram c.loop-next.memory) (array_vec_len l.regions) l.blocks (with_pages access c.args.index c.args.first.0 n c.args.right)) all (i.built access h))
+    blocks-built (g.M.PhysMem.ram c.loop-next.memory) _ _ _ _
+    (subst (λ n. IsBuilt (g.M.PhysMem.ram c.loop-next.memory) (array_vec_len l.regions) l.tables.0 l.blocks (with_pages access c.args.index c.args.first.0 n c.args.right)) all (i.built access h))
 
 pub returns-clause-steps : goal.returns-clause-steps
 returns-clause-steps g c access h = c.loop-next.invariant.steps access h
@@ -123,7 +123,7 @@ returns-clause-each_walk g c =
     let old = g.M.PhysMem.ram c.args.memory.now in
     let new = g.M.PhysMem.ram c.loop-next.memory in
     Only-map (Only-both (i.steps access h) i.others_stay)
-    (λ hist s (between, others). walks-between old new s.after _ _ access _ h (returns-clause-built g c access h) between others.base others.size i.others.base i.others.size)
+    (λ hist s (between, others). walks-between old new s.after _ _ _ access _ h (returns-clause-built g c access h) between others.base others.size i.others.base i.others.size)
 
 pub returns-clause-orders : goal.returns-clause-orders
 returns-clause-orders g c = c.loop-next.invariant.orders
@@ -137,6 +137,6 @@ returns-clause-mixtures g c rest =
     let new = g.M.PhysMem.ram c.loop-next.memory in
     let is = returns-clause-built g c access h in
     Only-map
-    (mixed-along old new _ _ _ _ rest (g.met.M.PhysMem.in_turn c.loop-next.memory) (Only-map (Only-both (Only-both (i.steps access h) i.others_stay) i.orders)
-    (λ hist s ((between, others), ordered). pages-moment old new _ _ access _ h is i.others.base c.args.index c.requires.index _ hist s between others.base ordered)))
-    (λ hist s its. mixtures-between old new s.after _ _ (s ∷ hist) (one-changes old new _ _ c.args.index _ _ c.args.right (returns-clause-walks g c)) its)
+    (mixed-along old new _ _ _ _ _ rest (g.met.M.PhysMem.in_turn c.loop-next.memory) (Only-map (Only-both (Only-both (i.steps access h) i.others_stay) i.orders)
+    (λ hist s ((between, others), ordered). pages-moment old new _ _ _ access _ h is i.others.base c.args.index c.requires.index _ hist s between others.base ordered)))
+    (λ hist s its. mixtures-between old new s.after _ _ _ (s ∷ hist) (one-changes old new _ _ _ c.args.index _ _ c.args.right (returns-clause-walks g c)) its)

@@ -14,14 +14,14 @@ invariant-loop-next g l = record {
   from : l.fn.first.0 ≤ l.next;
   upto : l.next ≤ l.end;
   built : (access : ℕ → ℕ → Option Rights)
-      → IsBuilt (g.M.PhysMem.ram l.fn.memory) (array_vec_len l.layout.regions) l.layout.blocks access
-      → IsBuilt (g.M.PhysMem.ram l.memory) (array_vec_len l.layout.regions) l.layout.blocks (with_pages access l.index l.fn.first.0 l.next l.right);
-  others : KeepsOthers (g.M.PhysMem.ram l.fn.memory) (g.M.PhysMem.ram l.memory) l.layout.blocks l.index;
+      → IsBuilt (g.M.PhysMem.ram l.fn.memory) (array_vec_len l.layout.regions) l.layout.tables.0 l.layout.blocks access
+      → IsBuilt (g.M.PhysMem.ram l.memory) (array_vec_len l.layout.regions) l.layout.tables.0 l.layout.blocks (with_pages access l.index l.fn.first.0 l.next l.right);
+  others : KeepsOthers (g.M.PhysMem.ram l.fn.memory) (g.M.PhysMem.ram l.memory) l.layout.tables.0 l.layout.blocks l.index;
   steps : (access : ℕ → ℕ → Option Rights)
-      → IsBuilt (g.M.PhysMem.ram l.fn.memory) (array_vec_len l.layout.regions) l.layout.blocks access
-      → Only (g.M.PhysMem.past l.fn.memory) (g.M.PhysMem.past l.memory) (λ _ s. IsBetween s.after (array_vec_len l.layout.regions) l.layout.blocks access (with_pages access l.index l.fn.first.0 l.end l.right));
-  orders : Only (g.M.PhysMem.past l.fn.memory) (g.M.PhysMem.past l.memory) (λ h s. IsOrdered (g.M.PhysMem.ram l.fn.memory) l.layout.blocks l.index h s);
-  others_stay : Only (g.M.PhysMem.past l.fn.memory) (g.M.PhysMem.past l.memory) (λ _ s. KeepsOthers (g.M.PhysMem.ram l.fn.memory) s.after l.layout.blocks l.index);
+      → IsBuilt (g.M.PhysMem.ram l.fn.memory) (array_vec_len l.layout.regions) l.layout.tables.0 l.layout.blocks access
+      → Only (g.M.PhysMem.past l.fn.memory) (g.M.PhysMem.past l.memory) (λ _ s. IsBetween s.after (array_vec_len l.layout.regions) l.layout.tables.0 l.layout.blocks access (with_pages access l.index l.fn.first.0 l.end l.right));
+  orders : Only (g.M.PhysMem.past l.fn.memory) (g.M.PhysMem.past l.memory) (λ h s. IsOrdered (g.M.PhysMem.ram l.fn.memory) l.layout.tables.0 l.layout.blocks l.index h s);
+  others_stay : Only (g.M.PhysMem.past l.fn.memory) (g.M.PhysMem.past l.memory) (λ _ s. KeepsOthers (g.M.PhysMem.ram l.fn.memory) s.after l.layout.tables.0 l.layout.blocks l.index);
 }
 
 -- the pages that are left

@@ -13,13 +13,14 @@ loop-index-preserved g c =
     let i = c.loop-index.invariant in
     let index = c.loop-index.index in
     let ram = g.M.PhysMem.ram c.loop-index.memory in
-    let end : ℕ = table_page c.args.layout.now.blocks (array_vec_len c.args.layout.now.regions) 0 in
+    let begin : ℕ = c.args.layout.now.tables.0 in
+    let end : ℕ = table_page c.args.layout.now.tables.0 c.args.layout.now.blocks (array_vec_len c.args.layout.now.regions) 0 in
     record {
       ram = c.settle.ensures.ram ∙ i.ram;
       settled = λ h there e p he hp.
           let (s, earlier, is, was, its) = c.settle.ensures.steps.each h there in
-          subst (IsSettledBy end e p) (sym is) (elim (cases_eq e index) [
-            | inl same ↦ subst (λ f. IsSettledBy end f p (s ∷ earlier)) (sym same) (settled-here ram end index 0 (2 ^ 20) p s earlier its (to-run 0 (2 ^ 20) p (omega arith) (omega (arith, hp))))
-            | inr other ↦ settled-still ram end e index 0 (2 ^ 20) p s earlier its (i.settled earlier was e p (omega (arith, he, other)) hp)
+          subst (IsSettledBy begin end e p) (sym is) (elim (cases_eq e index) [
+            | inl same ↦ subst (λ f. IsSettledBy begin end f p (s ∷ earlier)) (sym same) (settled-here ram begin end index 0 (2 ^ 20) p s earlier its (to-run 0 (2 ^ 20) p (omega arith) (omega (arith, hp))))
+            | inr other ↦ settled-still ram begin end e index 0 (2 ^ 20) p s earlier its (i.settled earlier was e p (omega (arith, he, other)) hp)
           ]);
     }

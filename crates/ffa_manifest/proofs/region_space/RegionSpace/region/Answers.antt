@@ -7,6 +7,3 @@ overflow_cast-base c = search rules
 
 pub overflow_cast-pages : goal.overflow_cast-pages
 overflow_cast-pages c = search rules
-
-pub returns-then-region_end-from : goal.returns-then-region_end-from
-returns-then-region_end-from c = search rules

@@ -46,8 +46,8 @@ returns-clause-done g c =
       slot = record { slot = found.slot; transaction = view_of it; was = there; slots = c.set_held.ensures.slots its.asked.handle (view_of it) there };
       open_transactions = c.set_held.ensures.open_transactions its.asked.handle (view_of it) there;
       moved =
-          subst (λ (zero : Bool). IsMoved old new (array_vec_len l.regions) l.blocks (place c.args.caller.0) (in_ranges l.base.0 it.ranges) (λ p. None) zero) its.zero
-          (subst (λ (i : ℕ). IsMoved old new (array_vec_len l.regions) l.blocks i (in_ranges l.base.0 it.ranges) (λ p. None) found.zero) c.place-index.ensures
+          subst (λ (zero : Bool). IsMoved old new (array_vec_len l.regions) l.tables.0 l.blocks (place c.args.caller.0) (in_ranges l.base.0 it.ranges) (λ p. None) zero) its.zero
+          (subst (λ (i : ℕ). IsMoved old new (array_vec_len l.regions) l.tables.0 l.blocks i (in_ranges l.base.0 it.ranges) (λ p. None) found.zero) c.place-index.ensures
           c.change_pages.ensures.moved);
       access = c.tell-changed.ensures.changed;
     }
@@ -56,7 +56,7 @@ pub returns-in_err-found-clause-steps : goal.returns-in_err-found-clause-steps
 returns-in_err-found-clause-steps g c = Only-none
 
 pub returns-in_err-found-clause-ended : goal.returns-in_err-found-clause-ended
-returns-in_err-found-clause-ended g c = nothing-ends _ _ _ _ _ refl
+returns-in_err-found-clause-ended g c = nothing-ends _ _ _ _ _ _ refl
 
 pub change_pages-requires-clause-placed : goal.change_pages-requires-clause-placed
 change_pages-requires-clause-placed g c =

@@ -33,7 +33,7 @@ returns-clause-answered g c =
     record {
       granted = granted;
       moved =
-          subst (λ (k : ℕ). IsMoved old granted (array_vec_len l.regions) l.blocks k (in_ranges l.base.0 ranges) (λ p. Some c.args.found.now.right) false) c.place-index.ensures
+          subst (λ (k : ℕ). IsMoved old granted (array_vec_len l.regions) l.tables.0 l.blocks k (in_ranges l.base.0 ranges) (λ p. Some c.args.found.now.right) false) c.place-index.ensures
           c.change_pages.ensures.moved;
       answered =
           c.deliver.ensures.ram

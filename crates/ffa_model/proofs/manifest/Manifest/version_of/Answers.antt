@@ -16,7 +16,7 @@ pub returns : goal.returns
 returns c =
     let m = c.args.self.now in
     let es = m.endpoints.items in
-    let within = known-place (length es) c.args.endpoint.0 (accepted m.ram_base.0 m.ram_blocks es m.accepted).some_endpoints c.requires in
+    let within = known-place (length es) c.args.endpoint.0 (accepted m.ram_base.0 m.tables.0 m.ram_blocks es m.accepted).some_endpoints c.requires in
     let i = place c.args.endpoint.0 in
     let found = c.index-as_slice-place.result in
     let read : slice_get es i ≡ Some found =

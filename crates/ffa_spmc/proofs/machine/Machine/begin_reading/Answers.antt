@@ -3,8 +3,8 @@ use Rattle.std.proofs.Common.{◌≡◌, ◌+◌, ◌≤◌, length, true, refl,
 use Rattle.ffa_model.specs.State.{State}
 use Rattle.ffa_spmc.specs.Among.{IsRead, is_in}
 use Rattle.ffa_spmc.specs.Snapshot.{Snapshot}
-use Rattle.ffa_spmc.specs.Unowned.{pages_of_tables}
-use Rattle.ffa_spmc.proofs.Besides.{beside-access, beside-base, beside-known, beside-size}
+use Rattle.ffa_spmc.specs.Unowned.{IsNoTable}
+use Rattle.ffa_spmc.proofs.Besides.{beside-access, beside-base, beside-known, beside-placed, beside-size}
 use Rattle.ffa_spmc.proofs.HeldWalks.{walks-after}
 use Rattle.ffa_spmc.proofs.Mixtures.{mixed-alike, rest-alike}
 use Rattle.ffa_spmc.proofs.machine.Machine.begin_reading.Goals as goal
@@ -13,9 +13,9 @@ pub begin_reading-requires-clause-within : goal.begin_reading-requires-clause-wi
 begin_reading-requires-clause-within g c =
     subst (λ (seen : Snapshot). c.args.run.first.0 + c.args.run.count ≤ length seen.ram.pages) (sym c.self.view_is) c.requires.within
 
-pub begin_reading-requires-clause-behind : goal.begin_reading-requires-clause-behind
-begin_reading-requires-clause-behind g c =
-    subst (λ (seen : Snapshot). pages_of_tables seen.state ≤ c.args.run.first.0) (sym c.self.view_is) c.requires.behind
+pub begin_reading-requires-clause-aside : goal.begin_reading-requires-clause-aside
+begin_reading-requires-clause-aside g c =
+    λ p its. subst (λ (seen : Snapshot). IsNoTable seen.state p) (sym c.self.view_is) (c.requires.aside p its)
 
 pub invariant_of-self : goal.invariant_of-self
 invariant_of-self g c =
@@ -28,7 +28,7 @@ invariant_of-self g c =
           (beside-base s t (is_in c.args.run) beside) (beside-known s t (is_in c.args.run) beside) held held
           (λ e p leaf there. (there, beside-access s t (is_in c.args.run) beside e p)) c.self.invariant.0,
       rest-alike s t c.self.inside.manager.ram c.begin_reading.new.self.ram c.self.inside.manager.past c.begin_reading.new.self.past c.holds.ensures.agrees c.holds-2.ensures.agrees
-          (ap (λ (u : State). length u.parties) (sym beside.same)) (beside-base s t (is_in c.args.run) beside) (beside-size s t (is_in c.args.run) beside)
+          (ap (λ (u : State). length u.parties) (sym beside.same)) (beside-placed s t (is_in c.args.run) beside) (beside-size s t (is_in c.args.run) beside)
           (beside-access s t (is_in c.args.run) beside) c.begin_reading.ensures.moments c.self.invariant.1,
     )
 
@@ -45,7 +45,7 @@ returns-clause-read g c =
       step = c.begin_reading.ensures.step;
       mixtures =
           mixed-alike s new.state c.self.inside.manager.ram new.ram c.self.inside.manager.past new.past c.holds.ensures.agrees c.holds-2.ensures.agrees
-          (ap (λ (u : State). length u.parties) (sym beside.same)) (beside-base s new.state (is_in c.args.run) beside) (beside-size s new.state (is_in c.args.run) beside)
+          (ap (λ (u : State). length u.parties) (sym beside.same)) (beside-placed s new.state (is_in c.args.run) beside) (beside-size s new.state (is_in c.args.run) beside)
           (beside-access s new.state (is_in c.args.run) beside) c.holds.ensures.sound c.holds.ensures.tables c.holds-2.ensures.tables c.holds-2.ensures.turn c.begin_reading.ensures.moments c.self.invariant.1;
       held = refl;
       told = refl;

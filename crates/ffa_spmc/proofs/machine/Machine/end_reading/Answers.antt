@@ -3,8 +3,8 @@ use Rattle.std.proofs.Common.{◌+◌, ◌≤◌, length, false, refl, sym, ap, 
 use Rattle.ffa_model.specs.State.{State}
 use Rattle.ffa_spmc.specs.Among.{IsRead, is_in}
 use Rattle.ffa_spmc.specs.Snapshot.{Snapshot}
-use Rattle.ffa_spmc.specs.Unowned.{pages_of_tables}
-use Rattle.ffa_spmc.proofs.Besides.{beside-access, beside-base, beside-known, beside-size}
+use Rattle.ffa_spmc.specs.Unowned.{IsNoTable}
+use Rattle.ffa_spmc.proofs.Besides.{beside-access, beside-base, beside-known, beside-placed, beside-size}
 use Rattle.ffa_spmc.proofs.HeldWalks.{walks-after}
 use Rattle.ffa_spmc.proofs.Mixtures.{mixed-alike, rest-alike}
 use Rattle.ffa_spmc.proofs.machine.Machine.end_reading.Goals as goal
@@ -13,9 +13,9 @@ pub end_reading-requires-clause-within : goal.end_reading-requires-clause-within
 end_reading-requires-clause-within g c =
     subst (λ (seen : Snapshot). c.args.run.first.0 + c.args.run.count ≤ length seen.ram.pages) (sym c.self.view_is) c.requires.within
 
-pub end_reading-requires-clause-behind : goal.end_reading-requires-clause-behind
-end_reading-requires-clause-behind g c =
-    subst (λ (seen : Snapshot). pages_of_tables seen.state ≤ c.args.run.first.0) (sym c.self.view_is) c.requires.behind
+pub end_reading-requires-clause-aside : goal.end_reading-requires-clause-aside
+end_reading-requires-clause-aside g c =
+    λ p its. subst (λ (seen : Snapshot). IsNoTable seen.state p) (sym c.self.view_is) (c.requires.aside p its)
 
 pub invariant_of-self : goal.invariant_of-self
 invariant_of-self g c =
@@ -28,7 +28,7 @@ invariant_of-self g c =
           (beside-base s t (is_in c.args.run) beside) (beside-known s t (is_in c.args.run) beside) held held
           (λ e p leaf there. (there, beside-access s t (is_in c.args.run) beside e p)) c.self.invariant.0,
       rest-alike s t c.self.inside.manager.ram c.end_reading.new.self.ram c.self.inside.manager.past c.end_reading.new.self.past c.holds.ensures.agrees c.holds-2.ensures.agrees
-          (ap (λ (u : State). length u.parties) (sym beside.same)) (beside-base s t (is_in c.args.run) beside) (beside-size s t (is_in c.args.run) beside)
+          (ap (λ (u : State). length u.parties) (sym beside.same)) (beside-placed s t (is_in c.args.run) beside) (beside-size s t (is_in c.args.run) beside)
           (beside-access s t (is_in c.args.run) beside) c.end_reading.ensures.moments c.self.invariant.1,
     )
 
@@ -45,7 +45,7 @@ returns g c =
       step = c.end_reading.ensures.step;
       mixtures =
           mixed-alike s new.state c.self.inside.manager.ram new.ram c.self.inside.manager.past new.past c.holds.ensures.agrees c.holds-2.ensures.agrees
-          (ap (λ (u : State). length u.parties) (sym beside.same)) (beside-base s new.state (is_in c.args.run) beside) (beside-size s new.state (is_in c.args.run) beside)
+          (ap (λ (u : State). length u.parties) (sym beside.same)) (beside-placed s new.state (is_in c.args.run) beside) (beside-size s new.state (is_in c.args.run) beside)
           (beside-access s new.state (is_in c.args.run) beside) c.holds.ensures.sound c.holds.ensures.tables c.holds-2.ensures.tables c.holds-2.ensures.turn c.end_reading.ensures.moments c.self.invariant.1;
       held = refl;
       told = refl;

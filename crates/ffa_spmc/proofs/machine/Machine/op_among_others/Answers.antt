@@ -7,8 +7,8 @@ use Rattle.ffa_laws.specs.Reads.{AreBeside}
 use Rattle.ffa_spmc.specs.declared.run.Run.{Run}
 use Rattle.ffa_spmc.specs.Among.{IsDoneAmong, IsDoneReading, are_in, is_in, pages_read}
 use Rattle.ffa_spmc.specs.Snapshot.{Snapshot}
-use Rattle.ffa_spmc.specs.Unowned.{pages_of_tables}
-use Rattle.ffa_spmc.proofs.Amongs.{among-unowned, left-behind, left-within}
+use Rattle.ffa_spmc.specs.Unowned.{IsNoTable}
+use Rattle.ffa_spmc.proofs.Amongs.{among-unowned, left-aside, left-within}
 use Rattle.ffa_spmc.proofs.machine.Machine.op_among_others.Goals as goal
 
 pub returns-in_default-clause-done : goal.returns-in_default-clause-done
@@ -27,13 +27,11 @@ end_reading-requires-clause-within g c =
     left-within c.in-Some.run' c.args.self.now c.begin_reading.new.self c.op_apart-outcome.new.self c.args.op.now c.begin_reading.ensures.read
     c.op_apart-outcome.ensures.done.operated.state c.op_apart-outcome.ensures.done.operated.agrees within
 
-pub end_reading-requires-clause-behind : goal.end_reading-requires-clause-behind
-end_reading-requires-clause-behind g c =
-    let behind : pages_of_tables c.args.self.now.state ≤ c.in-Some.run'.first.0 =
-    subst (λ (seen : Snapshot). pages_of_tables seen.state ≤ c.in-Some.run'.first.0) c.self.view_is c.in-Some.ensures.behind
-    in
-    left-behind c.in-Some.run' c.args.self.now c.begin_reading.new.self c.op_apart-outcome.new.self c.args.op.now c.begin_reading.ensures.read
-    c.op_apart-outcome.ensures.done.operated.state c.op_apart-outcome.ensures.done.operated.agrees behind
+pub end_reading-requires-clause-aside : goal.end_reading-requires-clause-aside
+end_reading-requires-clause-aside g c = λ p its.
+    left-aside c.in-Some.run' c.args.self.now c.begin_reading.new.self c.op_apart-outcome.new.self c.args.op.now c.begin_reading.ensures.read
+    c.op_apart-outcome.ensures.done.operated.state c.op_apart-outcome.ensures.done.operated.agrees p
+    (subst (λ (seen : Snapshot). IsNoTable seen.state p) c.self.view_is (c.in-Some.ensures.aside p its))
 
 pub returns-clause-done : goal.returns-clause-done
 returns-clause-done g c =

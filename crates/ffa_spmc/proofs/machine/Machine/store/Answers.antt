@@ -10,7 +10,7 @@ use Rattle.ffa_spmc.specs.Managed.{Managed}
 use Rattle.ffa_spmc.specs.Snapshot.{Snapshot}
 use Rattle.ffa_spmc.specs.Unowned.{KeepsUnowned}
 use Rattle.ffa_spmc.specs.Walks.{walk_of}
-use Rattle.ffa_spmc.proofs.CachedAccesses.{cached-from, missed-same, store-access, store-base, store-known, store-parties}
+use Rattle.ffa_spmc.proofs.CachedAccesses.{cached-from, missed-same, store-access, store-base, store-known, store-parties, store-placed}
 use Rattle.ffa_spmc.proofs.HeldWalks.{answer-after, walks-after}
 use Rattle.ffa_spmc.proofs.Mixtures.{pages-elsewhere, rest-alike}
 use Rattle.ffa_spmc.proofs.machine.Machine.store.Goals as goal
@@ -27,7 +27,7 @@ invariant_of-self g c =
           (store-base s e t c.args.addr c.args.size c.args.value is) (store-known s e t c.args.addr c.args.size c.args.value is) held held
           (λ f p leaf there. (there, store-access s e t c.args.addr c.args.size c.args.value is f p)) c.self.invariant.0,
       rest-alike s t c.self.inside.manager.ram c.store-outcome.new.self.ram c.self.inside.manager.past c.store-outcome.new.self.past c.holds.ensures.agrees c.holds-2.ensures.agrees
-          (store-parties s e t c.args.addr c.args.size c.args.value is) (store-base s e t c.args.addr c.args.size c.args.value is)
+          (store-parties s e t c.args.addr c.args.size c.args.value is) (store-placed s e t c.args.addr c.args.size c.args.value is)
           (ap (λ (u : State). length u.pages) is ∙ pages-elsewhere s e (Store c.args.addr c.args.size c.args.value))
           (store-access s e t c.args.addr c.args.size c.args.value is) c.store-outcome.ensures.moments c.self.invariant.1,
     )

@@ -7,10 +7,11 @@ use Rattle.ffa_spmc.specs.Among.{is_in}
 use Rattle.ffa_spmc.specs.Managed.{Managed}
 use Rattle.ffa_spmc.specs.Meaning.{state_of}
 use Rattle.ffa_spmc.specs.Moments.{AreMoments}
-use Rattle.ffa_spmc.specs.Unowned.{pages_of_tables}
+use Rattle.ffa_spmc.specs.Unowned.{IsNoTable}
+use Rattle.ffa_spmc.proofs.Held.{by-manifest}
 use Rattle.ffa_spmc.proofs.Inside.{parts_of}
 use Rattle.ffa_spmc.proofs.Moments.{reading-moments}
-use Rattle.ffa_spmc.proofs.Readings.{behind-tables, machine-read, read, states-beside}
+use Rattle.ffa_spmc.proofs.Readings.{machine-read, read, states-beside}
 use Rattle.ffa_spmc.proofs.manager.Manager.begin_reading.Goals as goal
 
 pub observe_in-requires-clause-within : goal.observe_in-requires-clause-within
@@ -22,8 +23,7 @@ invariant_of-self g c =
     let x = parts_of g.M.PhysMem.ram g.S.Records.Home.value c.self.inside in
     machine-read x (g.M.PhysMem.ram c.observe_in.new.ram) (is_in c.args.run) c.observe_in.ensures.beside c.observe_in.ensures.whole
     c.self.invariant c.observe_in.ensures.bytes
-    (behind-tables x c.self.invariant c.args.run
-    (subst (λ (seen : Managed). pages_of_tables seen.state ≤ c.args.run.first.0) (sym c.self.view_is) c.requires.behind))
+    (λ p its. by-manifest x c.self.invariant p (subst (λ (seen : Managed). IsNoTable seen.state p) (sym c.self.view_is) (c.requires.aside p its)))
 
 pub returns-clause-state : goal.returns-clause-state
 returns-clause-state g c =
@@ -58,6 +58,5 @@ returns-clause-moments g c =
     let later = g.M.PhysMem.past c.observe_in.new.ram in
     subst (λ (seen : Managed). AreMoments seen.state seen.ram new seen.past later) c.self.view_is
     (reading-moments x c.self.invariant new (is_in c.args.run) c.observe_in.ensures.beside
-    (behind-tables x c.self.invariant c.args.run
-    (subst (λ (seen : Managed). pages_of_tables seen.state ≤ c.args.run.first.0) (sym c.self.view_is) c.requires.behind))
+    (λ p its. by-manifest x c.self.invariant p (subst (λ (seen : Managed). IsNoTable seen.state p) (sym c.self.view_is) (c.requires.aside p its)))
     _ later c.args.run.first.0 c.args.run.count true (g.met.M.PhysMem.in_turn c.observe_in.new.ram) c.observe_in.ensures.steps)

@@ -19,7 +19,7 @@ returns-clause-rest g c =
     let machine : IsManager (within ram) =
     subst (λ (r : Ram). IsManager (within r)) (sym (c.settle_tables.ensures.ram ∙ c.copy_pages.ensures)) c.self.invariant in
     let at_rest =
-    subst (λ (own : Records). 0 < array_vec_len own.layout.regions → RestIn ram (array_vec_len own.layout.regions) own.layout.blocks past)
+    subst (λ (own : Records). 0 < array_vec_len own.layout.regions → RestIn ram (array_vec_len own.layout.regions) own.layout.tables.0 own.layout.blocks past)
     c.get.ensures c.settle_tables.ensures.at_rest in
     let same = c.copy_in.ensures in
     let here : Records = g.R.Records.Home.value c.copy_in.result.records in

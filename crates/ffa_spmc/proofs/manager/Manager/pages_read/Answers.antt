@@ -6,10 +6,10 @@ use Rattle.ffa_model.specs.declared.operation.Op.{Op}
 use Rattle.ffa_model.specs.State.{buffers_of, page_at}
 use Rattle.ffa_spmc.specs.Among.{pages_read, reads_tx}
 use Rattle.ffa_spmc.specs.Managed.{Managed}
-use Rattle.ffa_spmc.specs.Unowned.{pages_of_tables}
+use Rattle.ffa_spmc.specs.Unowned.{IsNoTable}
 use Rattle.ffa_spmc.proofs.Inside.{parts_of}
 use Rattle.ffa_spmc.proofs.Readers.{front-none, reads-none}
-use Rattle.ffa_spmc.proofs.Readings.{front-behind, front-few, front-owned, front-within}
+use Rattle.ffa_spmc.proofs.Readings.{front-aside, front-few, front-owned, front-within}
 use Rattle.ffa_spmc.proofs.manager.Manager.pages_read.Goals as goal
 
 pub returns-clause-within : goal.returns-clause-within
@@ -26,11 +26,12 @@ returns-clause-few g c =
     subst (λ (n : ℕ). n ≤ MOST_BUFFER_PAGES) (sym c.pages_holding-count.ensures)
     (front-few x c.self.invariant c.runner.result.0 c.bytes_read-bytes.result c.runner.ensures.runner _ (sym c.in_ok-mapped.ensures))
 
-pub returns-clause-behind : goal.returns-clause-behind
-returns-clause-behind g c =
+pub returns-clause-aside : goal.returns-clause-aside
+returns-clause-aside g c = λ p its.
     let x = parts_of g.M.PhysMem.ram g.S.Records.Home.value c.self.inside in
-    subst (λ (seen : Managed). pages_of_tables seen.state ≤ c.in_ok-mapped.mapped.tx.0) c.self.view_is
-    (front-behind x c.self.invariant c.runner.result.0 c.bytes_read-bytes.result c.runner.ensures.runner _ (sym c.in_ok-mapped.ensures))
+    subst (λ (seen : Managed). IsNoTable seen.state p) c.self.view_is
+    (front-aside x c.self.invariant c.runner.result.0 c.bytes_read-bytes.result c.runner.ensures.runner _ (sym c.in_ok-mapped.ensures)
+    (record { first = c.in_ok-mapped.mapped.tx; count = c.pages_holding-count.result }) refl c.pages_holding-count.ensures p its)
 
 pub returns-clause-owned : goal.returns-clause-owned
 returns-clause-owned g c = λ p its.

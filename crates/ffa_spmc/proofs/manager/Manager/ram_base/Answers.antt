@@ -7,4 +7,4 @@ use Rattle.ffa_spmc.proofs.manager.Manager.ram_base.Goals as goal
 pub returns-clause-few : goal.returns-clause-few
 returns-clause-few g c =
     subst (λ (seen : Managed). length seen.state.pages ≤ most_pages) c.self.view_is
-    (let (n, whole, some, few) = c.self.invariant.sound.sized.blocks in omega (arith, whole, few))
+    (let (n, whole, some, few, _) = c.self.invariant.sound.sized.blocks in omega (arith, whole, few))

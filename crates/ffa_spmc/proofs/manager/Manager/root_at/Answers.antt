@@ -24,7 +24,7 @@ returns-clause-value g c =
     let machine = machine-alike old (sym c.get.ensures) c.self.invariant in
     let view = view-alike old (sym c.get.ensures) c.self.view_is in
     c.root.ensures
-    ∙ ap (λ (base : ℕ). root_of base x.manifest.ram_blocks c.args.place) (sym machine.tables.base)
+    ∙ ap (λ (base : ℕ). root_of base x.manifest.tables.0 x.manifest.ram_blocks c.args.place) (sym machine.tables.base)
     ∙ sym (root-is x machine c.args.place)
     ∙ ap (λ (seen : Managed). root seen.state c.args.place) view
 
@@ -37,5 +37,5 @@ returns-clause-page g c =
     let inside = subst (λ (n : ℕ). c.args.place < n) (parties_are x) (subst (λ (seen : Managed). c.args.place < length seen.state.parties) (sym view) c.requires) in
     subst (λ (seen : Managed). is_page_address seen.ram c.root.result ≡ true) view
     (ap (is_page_address x.ram)
-    (c.root.ensures ∙ ap (λ (base : ℕ). root_of base x.manifest.ram_blocks c.args.place) (sym machine.tables.base))
-    ∙ machine.laws.begin x.ram (length x.manifest.endpoints.items) x.manifest.ram_blocks (access_by_place (state_of x)) c.args.place machine.tables.built inside)
+    (c.root.ensures ∙ ap (λ (base : ℕ). root_of base x.manifest.tables.0 x.manifest.ram_blocks c.args.place) (sym machine.tables.base))
+    ∙ machine.laws.begin x.ram (length x.manifest.endpoints.items) x.manifest.tables.0 x.manifest.ram_blocks (access_by_place (state_of x)) c.args.place machine.tables.built inside)

@@ -7,7 +7,7 @@ pub loop-page-preserved : goal.loop-page-preserved
 loop-page-preserved g c =
     let its = c.clear_unowned.ensures in
     let so_far = c.loop-page.invariant in
-    cleared-next c.args.manifest.now (g.M.PhysMem.ram c.args.ram.now) (g.M.PhysMem.ram c.loop-page.ram) (g.M.PhysMem.ram c.clear_unowned.new.ram) _ c.loop-page.page
+    cleared-next c.args.manifest.now (g.M.PhysMem.ram c.args.ram.now) (g.M.PhysMem.ram c.loop-page.ram) (g.M.PhysMem.ram c.clear_unowned.new.ram) c.loop-page.page
     so_far (omega (arith, c.loop-page-test.true, c.pages-page-end.ensures, so_far.size)) its.cleared its.kept its.whole its.bytes
 
 pub returns-clause-ready : goal.returns-clause-ready

@@ -1,10 +1,7 @@
 -- SPDX-License-Identifier: MIT OR Apache-2.0
-use Rattle.std.proofs.Common.{◌*◌, length}
-use Rattle.ffa_model.specs.Manifest.{table_pages}
 use Rattle.ffa_spmc.proofs.Clearings.{IsClearedTo}
 use Rattle.ffa_spmc.proofs.manager.clearing.clear_rest.Given as goal
 
 -- the pages so far
 abbrev pub invariant-loop-page : goal.invariant-loop-page
-invariant-loop-page g l =
-    IsClearedTo l.manifest (g.M.PhysMem.ram l.fn.ram) (g.M.PhysMem.ram l.ram) (length l.manifest.endpoints.items * table_pages l.manifest.ram_blocks) l.page
+invariant-loop-page g l = IsClearedTo l.manifest (g.M.PhysMem.ram l.fn.ram) (g.M.PhysMem.ram l.ram) l.page

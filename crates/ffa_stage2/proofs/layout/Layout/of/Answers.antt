@@ -26,5 +26,5 @@ loop-endpoint-preserved c =
 
 pub invariant_of-result-clause-room : goal.invariant_of-result-clause-room
 invariant_of-result-clause-room c =
-    accepted-room c.args.manifest.now.ram_base.0 c.args.manifest.now.ram_blocks c.args.manifest.now.endpoints.items _ c.args.manifest.now.accepted
+    accepted-room c.args.manifest.now.ram_base.0 c.args.manifest.now.tables.0 c.args.manifest.now.ram_blocks c.args.manifest.now.endpoints.items _ c.args.manifest.now.accepted
     (omega (arith, c.loop-endpoint.invariant.count, c.loop-endpoint-test.false, c.loop-endpoint.auto.endpoint-index-end, ap length c.as_slice-endpoint-items.ensures.value))
