@@ -22,10 +22,11 @@ static void lend_block(struct board *board, struct gorseplumb_lent *list) {
 
 /* Who the endpoints are, and where their tables begin. */
 static void name_endpoints(struct board *board) {
+    uint32_t tables = 2 + board->pages / PAGES_OF_BLOCK;
     board->count = gorseplumb_endpoints(&board->machine);
     for (uint32_t i = 0; i < board->count; i++) {
         board->endpoints[i].identifier = identifier_of(i);
-        board->endpoints[i].root = gorseplumb_root(&board->machine, identifier_of(i));
+        board->endpoints[i].root = TABLES_AT + (uint64_t)GORSEPLUMB_PAGE_SIZE * i * tables;
     }
 }
 

@@ -11,6 +11,9 @@
 #ifndef RAM_BASE
 #define RAM_BASE 0x40000000
 #endif
+#ifndef TABLES_AT
+#define TABLES_AT RAM_BASE /* where the endpoints' tables begin */
+#endif
 #ifndef FIRMWARE_BASE
 #define FIRMWARE_BASE 0x44000000 /* board.ld has it too */
 #endif

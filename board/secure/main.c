@@ -62,7 +62,6 @@ void firmware(void) {
     read_manifest();
     place_images();
     boot(&board, manifest_text, boot_manifest);
-    if (normal_world(&board)->root != TABLES_AT) stop("the tables stand elsewhere");
     place_endpoints(&board, endpoint_list);
     begin_partitions();
     run_first();

@@ -5,11 +5,6 @@
 #define BOARD_SECURE_SECURE_H
 
 #include "board.h"
-#include "layout.h"
-
-#ifndef TABLES_AT
-#define TABLES_AT RAM_BASE /* where the tables begin */
-#endif
 
 /* In the image: the manifest, and the list of endpoints as place.c of board/linux wants it. */
 extern const char manifest_text[], endpoint_list[];

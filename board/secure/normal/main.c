@@ -1,5 +1,6 @@
 /* SPDX-License-Identifier: MIT OR Apache-2.0 */
 #include "bytes.h"
+#include "layout.h"
 #include "normal.h"
 #include "text.h"
 
@@ -11,10 +12,6 @@
 #endif
 #ifndef TWO
 #define TWO 0 /* 1 turns a second processor on */
-#endif
-
-#ifndef TABLES_AT
-#define TABLES_AT 0 /* where that has its tables */
 #endif
 
 #define SMALL_PARTITION 0x0E500000
