@@ -1,6 +1,6 @@
 /* SPDX-License-Identifier: MIT OR Apache-2.0 */
-/* Reads manifests' texts whose keys and values stand deep in one another, and boots from them, each on a stack of 256 KiB that is
- * painted anew, and prints how much of it was written. The reader takes 80 levels, and calls itself for each, before it is known that
+/* Reads manifests' texts whose keys and values stand deep in one another, boots from them, and asks why they are refused, each on a
+ * stack of 256 KiB that is painted anew, and prints how much of it was written. The reader takes 80 levels, and calls itself for each, before it is known that
  * such a key is none of a manifest's. Where a text has another answer, or writes below the stack, the status is 1. A library that is
  * compiled unproved tests more and takes more: it is given GORSEPLUMB_STACK_BYTES. */
 #define _XOPEN_SOURCE 700
@@ -61,6 +61,14 @@ static void tables(void) {
     put("\n", 1);
 }
 
+/* What is told of a value is its text. */
+static void arrays_at_a_key(void) {
+    put("ram_base = ", 1);
+    put("[", MOST_PARTS - 1);
+    put("]", MOST_PARTS - 1);
+    put("\n#", 1);
+}
+
 static void half_a_key(void) {
     put_key(MOST_PARTS / 2);
     put(" = 1\n", 1);
@@ -90,6 +98,12 @@ static void key_of_a_table(void) {
 }
 
 static void read_text(void) { answer = gorseplumb_read_manifest((const uint8_t *)text, size, &manifest); }
+
+static void why(void) {
+    static struct gorseplumb_refusal refusal;
+    static uint8_t words[256];
+    answer = gorseplumb_why_text((const uint8_t *)text, size, &refusal, words, sizeof words);
+}
 
 static void boot(void) { answer = gorseplumb_boot(&machine, (const uint8_t *)text, size); }
 
@@ -123,19 +137,21 @@ int main(void) {
     } texts[] = {
         {"arrays in arrays", arrays, GORSEPLUMB_MANIFEST_UNKNOWN_KEY},
         {"tables in tables", tables, GORSEPLUMB_MANIFEST_UNKNOWN_KEY},
+        {"arrays where a number stands", arrays_at_a_key, GORSEPLUMB_MANIFEST_WRONG_KIND},
         {"a key of 40 parts", half_a_key, GORSEPLUMB_MANIFEST_UNKNOWN_KEY},
         {"a key of 80 parts", key, GORSEPLUMB_MANIFEST_UNKNOWN_KEY},
         {"such a key in arrays", arrays_round_a_key, GORSEPLUMB_MANIFEST_UNKNOWN_KEY},
         {"such a key in a table of such a name", key_of_a_table, GORSEPLUMB_MANIFEST_UNKNOWN_KEY},
         {"the manifest", plain, GORSEPLUMB_OK}, /* which leaves a machine */
     };
-    printf("bytes of stack to read a text and to boot from it:");
+    printf("bytes of stack to read a text, to boot from it, and to ask why it is refused:");
     for (size_t i = 0; i < sizeof texts / sizeof *texts; i++) {
         size = 0;
         texts[i].put();
         put(manifest_text, 1);
+        unsigned long to_ask = taken(why, texts[i].answer);
         unsigned long to_read = taken(read_text, texts[i].answer), to_boot = taken(boot, texts[i].answer);
-        printf("%s %s %lu and %lu", i == 0 ? "" : ",", texts[i].name, to_read, to_boot);
+        printf("%s %s %lu, %lu and %lu", i == 0 ? "" : ",", texts[i].name, to_read, to_boot, to_ask);
     }
     printf("\n");
     CHECK(gorseplumb_free(&machine, &none) == GORSEPLUMB_OK);

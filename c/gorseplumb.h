@@ -293,6 +293,27 @@ enum gorseplumb_answer gorseplumb_copy_lent(struct gorseplumb_machine *machine, 
  * memory, all of which it gives back, or the cause for which gorseplumb_boot would refuse the text. */
 enum gorseplumb_answer gorseplumb_read_manifest(const uint8_t *text, size_t size, struct gorseplumb_manifest *manifest);
 
+/* Why a manifest is refused, and where. No byte lies between the fields. */
+struct gorseplumb_refusal {
+    uint32_t cause;    /* an enum gorseplumb_answer: GORSEPLUMB_MANIFEST_TOML and so on */
+    uint32_t endpoint; /* the identifier of the endpoint that is refused; GORSEPLUMB_NOTHING where something else is */
+    uint64_t region;   /* the endpoint's region, counted from 1; 0 where none is refused */
+    uint64_t line;     /* of a text that is no UTF-8 or no TOML: the line in which it ceases to be, counted from 1; else 0 */
+    uint64_t column;   /* and the character in that line, counted from 1; else 0 */
+    uint64_t words;    /* how many bytes the words have that say it; 0 of numbers */
+};
+
+/* Why a boot refuses a manifest's text, where, and in words: what the program says of it with --verbose, as which key has
+ * which value, and what it may be. GORSEPLUMB_OK: it describes a machine. GORSEPLUMB_NO_MEMORY, since it takes memory, all
+ * of which it gives back. With either nothing is written; else the answer is the cause, `refusal` tells it, and `words`,
+ * an array of `room` bytes, has as much of the words as there is room for, in UTF-8, and a NUL behind it. */
+enum gorseplumb_answer gorseplumb_why_text(const uint8_t *text, size_t size, struct gorseplumb_refusal *refusal,
+                                           uint8_t *words, size_t room);
+
+/* The same of a manifest as numbers, without words and without memory. GORSEPLUMB_OK: it is that of a machine, and
+ * `refusal` stays. */
+enum gorseplumb_answer gorseplumb_why_manifest(const struct gorseplumb_manifest *manifest, struct gorseplumb_refusal *refusal);
+
 /* One operation of the endpoint that runs: a call with eight registers, a load of 1, 2, 4 or 8 bytes, a store of the
  * value's lowest bytes, as many as `size` says, and a fetch of one instruction. The outcome and the machine's next
  * state are those of the definition of the machine, and with them goes every promise that the machine's own operations

@@ -18,7 +18,7 @@ if [[ ${1:-} == --install-only ]]; then exit 0; fi
 to=$(mktemp -d)
 trap 'rm -rf "$to"' EXIT
 strict="-std=c11 -Wall -Wextra -Wpedantic -Wshadow -Werror -I$here"
-tests="test test_copies test_ffa test_questions test_reasons test_runs test_races test_walks test_processors test_worlds test_tables"
+tests="test test_copies test_ffa test_questions test_reasons test_refusals test_runs test_races test_walks test_processors test_worlds test_tables"
 sanitized="-O1 -g -fsanitize=address,undefined -fno-sanitize-recover=all"
 deep=${UNPROVED:+-DGORSEPLUMB_STACK_BYTES=0x80000} # what tests/all compiled without proofs tests more, and takes more stack
 renamed="-Dmemcpy=copy_bytes -Dmemmove=move_bytes -Dmemset=set_bytes" # bytes.c beside a C library, which has these
@@ -76,7 +76,7 @@ stores() {
 asks() {
     local found others
     found=$("$here/reaches" "$2" "$3" | sed 's/^gorseplumb_//' | tr '\n' ' ')
-    others=$(tr ' ' '\n' <<<"$found" | grep -Evx '(boot.*|copy|copy_lent|read_manifest|audit|audit_tables|free|begin_lending|lend|lend_span|)' || true)
+    others=$(tr ' ' '\n' <<<"$found" | grep -Evx '(boot.*|copy|copy_lent|read_manifest|why_text|audit|audit_tables|free|begin_lending|lend|lend_span|)' || true)
     if [[ $others ]]; then echo "$1: asks for memory:" $others >&2; exit 1; fi
     echo "$1: only these ask for memory: $found"
 }

@@ -74,6 +74,17 @@ class Manifest(Structure):
     ]
 
 
+class Refusal(Structure):
+    _fields_ = [
+        ("cause", c_uint32),
+        ("endpoint", c_uint32),
+        ("region", c_uint64),
+        ("line", c_uint64),
+        ("column", c_uint64),
+        ("words", c_uint64),
+    ]
+
+
 class Range(Structure):
     _fields_ = [("address", c_uint64), ("size", c_uint64)]
 
@@ -132,6 +143,8 @@ _DECLARED: dict[str, tuple[Any, ...]] = {
     "boot_held": (c_uint32, _MACHINE, _LENT, c_char_p, c_size_t),
     "boot_held_manifest": (c_uint32, _MACHINE, _LENT, POINTER(Manifest)),
     "read_manifest": (c_uint32, c_char_p, c_size_t, POINTER(Manifest)),
+    "why_text": (c_uint32, c_char_p, c_size_t, POINTER(Refusal), c_void_p, c_size_t),
+    "why_manifest": (c_uint32, POINTER(Manifest), POINTER(Refusal)),
     "copy": (c_uint32, _MACHINE, _MACHINE),
     "copy_lent": (c_uint32, _MACHINE, _LENT, _MACHINE),
     "free": (c_uint32, _MACHINE, _LENT),

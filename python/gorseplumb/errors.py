@@ -39,15 +39,30 @@ class OutOfMemory(GorseplumbError, MemoryError):
 
 
 class ManifestRefused(GorseplumbError, ValueError):
-    """A manifest makes no machine: `cause` is the first that applies. `hint`, which the message ends in, says what was
-    given in a manifest's place, where that can be told."""
+    """A manifest makes no machine: `cause` is the first that applies. Where it does: `endpoint`, an identifier, and its
+    `region`, counted from 1; of a text that is no UTF-8 or no TOML `line` and `column`, counted from 1; None is none.
+    `words`, of a text, are the program's. `hint` says what was given in a manifest's place, where that can be told."""
 
-    def __init__(self, cause: Cause, hint: str = "") -> None:
+    def __init__(
+        self,
+        cause: Cause,
+        hint: str = "",
+        *,
+        words: str = "",
+        endpoint: int | None = None,
+        region: int | None = None,
+        line: int | None = None,
+        column: int | None = None,
+    ) -> None:
         super().__init__(cause, hint)
-        self.cause, self.hint = cause, hint
+        self.cause, self.hint, self.words = cause, hint, words
+        self.endpoint, self.region, self.line, self.column = endpoint, region, line, column
 
     def __str__(self) -> str:
-        return f"{self.cause.text}: {self.hint}" if self.hint else self.cause.text
+        places = [] if self.endpoint is None else [f"endpoint {self.endpoint:04X}"]
+        places += [] if self.region is None else [f"region {self.region}"]
+        told = self.hint or self.words or ", ".join(places)
+        return f"{self.cause.text}: {told}" if told else self.cause.text
 
 
 class WrongRamSize(GorseplumbError, ValueError):

@@ -106,11 +106,11 @@ class Machine(Questions):
         """Has the library make the machine of what it is told, in RAM of the heap or in a Ram."""
         self._raw, self._ram = c.Held(), ram
         if ram is None:
-            checked_boot(make(self._raw, *told), given)
+            checked_boot(make(self._raw, *told), given, told[0])
         else:
             lent = ram.lend()
             try:
-                checked_boot(make(self._raw, lent, *told), given)
+                checked_boot(make(self._raw, lent, *told), given, told[0])
             except BaseException:
                 ram.take_back()
                 raise

@@ -2,6 +2,7 @@
 """A manifest as values, from which a machine boots without a text."""
 from __future__ import annotations
 
+import ctypes
 import os
 import uuid as uuids
 from dataclasses import dataclass
@@ -10,7 +11,7 @@ from typing import Sequence
 
 from . import _library as c
 from ._library import library
-from .codes import Answer, Cause, Form, Properties, Right
+from .codes import MANAGER, NORMAL_WORLD, Answer, Cause, Form, Properties, Right
 from .errors import LibraryError, ManifestRefused, OutOfMemory, WrongRamSize
 from .hexadecimal import by_fields
 from .misuse import check_each, check_member_or_number, check_number, check_numbers, file_hint, refuse
@@ -80,7 +81,7 @@ class Manifest:
         text that can't be read is refused by its cause, as a boot does."""
         data = text_of(text)
         raw = c.Manifest()
-        checked_boot(library.read_manifest(data, len(data), raw), text)
+        checked_boot(library.read_manifest(data, len(data), raw), text, data)
         endpoints = [_endpoint(it, place) for place, it in enumerate(raw.endpoints[: raw.endpoint_count])]
         return cls(raw.ram_base, raw.ram_blocks, endpoints, bool(raw.worlds), raw.tables)
 
@@ -107,8 +108,8 @@ class Manifest:
             _fit("ram_blocks", self.ram_blocks, Cause.RAM_BLOCKS),
             len(self.endpoints),
         )
-        for place, endpoint in zip(raw.endpoints, self.endpoints):
-            _put_endpoint(place, endpoint)
+        for number, (place, endpoint) in enumerate(zip(raw.endpoints, self.endpoints)):
+            _put_endpoint(place, endpoint, MANAGER + number if number else NORMAL_WORLD)
         raw.worlds = int(self.worlds)
         raw.tables = _fit("tables", self.tables, Cause.TABLES_OUTSIDE)
         return raw
@@ -125,8 +126,9 @@ def text_of(given: str | bytes | os.PathLike[str], wanted: str = "a text or a pa
     return bytes(given)
 
 
-def checked_boot(answer: int, given: object = None) -> None:
-    """Raises what a boot of what was given answers, where it isn't that it is done."""
+def checked_boot(answer: int, given: object = None, told: object = None) -> None:
+    """Raises what a boot of what was given answers, where it isn't that it is done. What the library was told of it is the
+    bytes of a text, or numbers."""
     if answer == Answer.OK:
         return
     if answer == Answer.NO_MEMORY:
@@ -137,7 +139,31 @@ def checked_boot(answer: int, given: object = None) -> None:
         cause = Cause(answer)
     except ValueError:
         raise LibraryError(f"a boot answers {answer}") from None
-    raise ManifestRefused(cause, _hint(given))
+    raise _refused(cause, _hint(given), told)
+
+
+_WORDS = 1024
+"""How many bytes of words are taken; none of the program's are more."""
+
+
+def _refused(cause: Cause, hint: str, told: object) -> ManifestRefused:
+    """The exception for this cause, with the place for which the library is asked once more."""
+    raw, words, answer = c.Refusal(), ctypes.create_string_buffer(_WORDS), None
+    if isinstance(told, c.Manifest):
+        answer = library.why_manifest(told, raw)
+    elif isinstance(told, bytes):
+        answer = library.why_text(told, len(told), raw, words, _WORDS)
+    if answer != cause:  # (there is no memory to say where)
+        return ManifestRefused(cause, hint)
+    return ManifestRefused(
+        cause,
+        hint,
+        words=words.value.decode(errors="replace"),
+        endpoint=None if raw.endpoint == c.NOTHING else raw.endpoint,
+        region=raw.region or None,
+        line=raw.line or None,
+        column=raw.column or None,
+    )
 
 
 def _hint(given: object) -> str:
@@ -148,23 +174,23 @@ def _hint(given: object) -> str:
     return file_hint(given, "a manifest's text", not any(it in given for it in "=[#\n"))
 
 
-def _fit(what: str, number: int, cause: Cause) -> int:
+def _fit(what: str, number: int, cause: Cause, endpoint: int | None = None, region: int | None = None) -> int:
     check_number(what, number)
     if number >> 32:
-        raise ManifestRefused(cause)
+        raise ManifestRefused(cause, endpoint=endpoint, region=region)
     return number
 
 
-def _put_endpoint(place: c.Endpoint, endpoint: Endpoint) -> None:
+def _put_endpoint(place: c.Endpoint, endpoint: Endpoint, named: int) -> None:
     if len(endpoint.regions) > c.MOST_REGIONS:
-        raise ManifestRefused(Cause.REGION_COUNT)
+        raise ManifestRefused(Cause.REGION_COUNT, endpoint=named)
     place.version = int(endpoint.form)
-    place.properties = _fit("properties", int(endpoint.properties), Cause.PROPERTY)
+    place.properties = _fit("properties", int(endpoint.properties), Cause.PROPERTY, named)
     place.uuid[:] = (endpoint.uuid or _NIL).bytes
     place.region_count = len(endpoint.regions)
-    for slot, region in zip(place.regions, endpoint.regions):
-        slot.base = _fit("base", region.base, Cause.REGION_OUTSIDE)
-        slot.pages = _fit("pages", region.pages, Cause.REGION_OUTSIDE)
+    for number, (slot, region) in enumerate(zip(place.regions, endpoint.regions), 1):
+        slot.base = _fit("base", region.base, Cause.REGION_OUTSIDE, named, number)
+        slot.pages = _fit("pages", region.pages, Cause.REGION_OUTSIDE, named, number)
         slot.rights = int(region.rights)
 
 

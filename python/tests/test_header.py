@@ -23,6 +23,7 @@ STRUCTS: dict[str, type[ctypes.Structure]] = {
     "region": c.Region,
     "endpoint": c.Endpoint,
     "manifest": c.Manifest,
+    "refusal": c.Refusal,
     "range": c.Range,
     "change": c.Change,
     "grant": c.Grant,

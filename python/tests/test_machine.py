@@ -268,7 +268,7 @@ def test_says_why_a_text_is_refused(change: tuple[str, str], cause: Cause) -> No
     text = (EXAMPLES / "partitions.toml").read_text()
     with pytest.raises(ManifestRefused) as refused:
         Machine(text.replace(*change))
-    assert refused.value.cause is cause and str(refused.value) == cause.text
+    assert refused.value.cause is cause and str(refused.value) == f"{cause.text}: {refused.value.words}"
 
 
 def test_says_that_a_str_is_no_path(tmp_path: Path) -> None:
@@ -289,7 +289,7 @@ def test_says_that_a_str_is_no_path(tmp_path: Path) -> None:
         for text in ("", " ", "# nothing", "[endpoint", "ram_base 1\nram_blocks", "ram_base = x"):
             with pytest.raises(ManifestRefused) as refused:
                 asked(text)
-            assert str(refused.value) == refused.value.cause.text and not refused.value.hint
+            assert not refused.value.hint and refused.value.words and str(refused.value).endswith(refused.value.words)
 
 
 def test_says_why_values_are_refused() -> None:

@@ -7,7 +7,7 @@ from typing import Any, Callable
 from uuid import UUID
 
 import pytest
-from conftest import EXAMPLES
+from conftest import EXAMPLES, Program
 
 from gorseplumb import Cause, Endpoint, Form, Machine, Manifest, ManifestRefused, Properties, Region, Right
 
@@ -101,3 +101,42 @@ def test_says_why_a_text_is_refused() -> None:
         with pytest.raises(ManifestRefused) as refused:
             Manifest.read(text)
         assert refused.value.cause is cause
+
+
+def test_says_where_a_text_is_refused(program: Program) -> None:
+    path = EXAMPLES / "partitions.toml"
+    changes = [
+        ("ram_blocks = 2", "ram_blocks = 2 2", (None, None, 3, 14)),
+        ("ram_blocks", "ram_block", (None, None, None, None)),
+        ("[[endpoint]]", "# \udcff\n[[endpoint]]", (None, None, 5, 3)),
+        ('uuid = "0011', 'uuid = "00', (0x8001, None, None, None)),
+        ("base = 0x40028000", "base = 0x40027000", (0x8001, 2, None, None)),
+    ]
+    for old, new, place in changes:
+        text = path.read_text().replace(old, new, 1).encode(errors="surrogateescape")
+        readers: list[Callable[[bytes], object]] = [Manifest.read, Machine]
+        for asked in readers:
+            with pytest.raises(ManifestRefused) as refused:
+                asked(text)
+            it = refused.value
+            assert (it.endpoint, it.region, it.line, it.column) == place
+            # and the words are the program's
+            said = program("check", "--verbose", "-", text=text).stderr.decode().splitlines()
+            assert said[:2] == [f"ffaplay: manifest: {it.cause.text}", f"ffaplay: {it.words}"]
+
+
+def test_says_where_values_are_refused() -> None:
+    first, second = PARTITIONS.endpoints[:2]
+    many = Endpoint([Region(0x40010000 + 4096 * place, 1) for place in range(17)])
+    for manifest, cause, endpoint, region in [
+        (Manifest(0, 2, [first]), Cause.RAM_BASE, None, None),
+        (Manifest(0x40000000, 2, [first, first]), Cause.UUID, 0x8001, None),
+        (Manifest(0x40000000, 2, [first, second, second]), Cause.REGION_OVERLAP, 0x8002, 1),
+        (Manifest(0x40000000, 2, [first, many]), Cause.REGION_COUNT, 0x8001, None),
+        (Manifest(0x40000000, 2, [Endpoint([Region(0x40010000, 1), Region(1 << 32, 1)])]), Cause.REGION_OUTSIDE, 0, 2),
+        (Manifest(0x40000000, 2, [Endpoint([Region(0x40010000, 1, Right.NONE)])]), Cause.WRONG_KIND, 0, 1),
+    ]:
+        with pytest.raises(ManifestRefused) as refused:
+            Machine(manifest)
+        it = refused.value
+        assert (it.cause, it.endpoint, it.region, it.line, it.column) == (cause, endpoint, region, None, None)

@@ -134,7 +134,8 @@ def test_reads_standard_input() -> None:
     done = subprocess.run([*words[:3], "/nowhere"], capture_output=True, text=True, check=False)
     assert done.returncode == 3 and "No such file" in done.stderr
     refused = subprocess.run([*words[:3], str(EXAMPLES / "first.trace")], capture_output=True, text=True, check=False)
-    assert (refused.returncode, refused.stderr) == (1, "gorseplumb: manifest: M2 Toml\n")
+    told = "gorseplumb: manifest: M2 Toml: TOML parse error at line 1, column 6: "
+    assert refused.returncode == 1 and refused.stderr.startswith(told)
 
 
 def test_completes_and_remembers_on_a_terminal(tmp_path: Path) -> None:

@@ -1,5 +1,6 @@
 // SPDX-License-Identifier: MIT OR Apache-2.0
 //! What may go wrong, by number, name and words.
+use crate::refusal::Refusal;
 use core::fmt;
 
 /// An enum whose variants have the library's numbers, each with its words.
@@ -115,16 +116,27 @@ pub enum BootError {
     /// Memory was refused.
     NoMemory,
     /// The manifest describes no machine.
-    Refused(Cause),
+    Refused(Refusal),
     /// The lent pages are more or fewer than the machine's RAM has, 512 for each block.
     WrongCount,
+}
+
+impl BootError {
+    /// The cause for which the manifest is refused, if it is.
+    #[must_use]
+    pub const fn cause(self) -> Option<Cause> {
+        match self {
+            BootError::Refused(refusal) => Some(refusal.cause),
+            BootError::NoMemory | BootError::WrongCount => None,
+        }
+    }
 }
 
 impl fmt::Display for BootError {
     fn fmt(&self, to: &mut fmt::Formatter<'_>) -> fmt::Result {
         match self {
             BootError::NoMemory => to.write_str("there is no memory for a machine"),
-            BootError::Refused(cause) => write!(to, "the manifest is refused by {cause}"),
+            BootError::Refused(refusal) => write!(to, "the manifest is refused by {refusal}"),
             BootError::WrongCount => to.write_str("there are more or fewer pages than the machine's RAM has"),
         }
     }
@@ -186,7 +198,7 @@ mod errors {
     impl Error for BootError {
         fn source(&self) -> Option<&(dyn Error + 'static)> {
             match self {
-                BootError::Refused(cause) => Some(cause),
+                BootError::Refused(refusal) => Some(&refusal.cause),
                 BootError::NoMemory | BootError::WrongCount => None,
             }
         }

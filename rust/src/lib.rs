@@ -142,6 +142,7 @@ mod questions;
 mod ram;
 pub mod raw;
 mod reasons;
+mod refusal;
 mod sending;
 mod settling;
 
@@ -167,6 +168,7 @@ pub use operation::{registers, Answer, Registers, Size};
 pub use processors::{Effect, Processor};
 pub use ram::{Heap, Lent, Page, Ram, PAGE_SIZE};
 pub use reasons::{About, AccessReason, CallReason, Obstacle};
+pub use refusal::Refusal;
 pub use sending::{Descriptor, SendError};
 #[doc(hidden)]
 pub use settling::settling;

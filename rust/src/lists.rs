@@ -148,7 +148,7 @@ impl Manifest {
     /// const DATA: Region = Region::new(0x4001_0000, 16, Rights::Rw);
     /// const WORLD: Endpoint = Endpoint::normal_world(Version::V1_1, Properties::SENDS_REQUESTS, &[DATA]);
     /// assert_eq!(Manifest::read(text), Ok(Manifest::new(0x4000_0000, 1, &[WORLD])));
-    /// assert_eq!(Manifest::read(""), Err(BootError::Refused(Cause::MissingKey)));
+    /// assert_eq!(Manifest::read(""), Err(BootError::Refused(Refusal::new(Cause::MissingKey))));
     /// ```
     ///
     /// # Errors
@@ -157,7 +157,32 @@ impl Manifest {
         let text = text.as_ref();
         let mut manifest = Manifest::EMPTY;
         // SAFETY: the text is as long as is said, and the manifest is live.
-        booted(unsafe { raw::gorseplumb_read_manifest(text.as_ptr(), text.len(), manifest.raw_mut()) })?;
+        booted(unsafe { raw::gorseplumb_read_manifest(text.as_ptr(), text.len(), manifest.raw_mut()) }, text)?;
         Ok(manifest)
+    }
+
+    /// Why a text is refused, in the words of the program's `check --verbose`, as far as `room` has place for them, with a
+    /// byte behind them. Nothing where the text describes a machine, or there is no memory.
+    ///
+    /// ```
+    /// # use gorseplumb::*;
+    /// let mut room = [0; 256];
+    /// let said = Manifest::why("rambase = 1", &mut room);
+    /// assert_eq!(said, Some("key 'rambase' is unknown: did you mean 'ram_base'?"));
+    /// ```
+    pub fn why(text: impl AsRef<[u8]>, room: &mut [u8]) -> Option<&str> {
+        let text = text.as_ref();
+        let mut told = raw::Refusal::NONE;
+        // SAFETY: the text and the room are as long as is said, and the struct is live.
+        unsafe { raw::gorseplumb_why_text(text.as_ptr(), text.len(), &mut told, room.as_mut_ptr(), room.len()) };
+        if told.cause == 0 {
+            return None;
+        }
+        let words = &room[..usize::try_from(told.words).ok()?.min(room.len().saturating_sub(1))];
+        // (words that are cut may end inside a character)
+        match core::str::from_utf8(words) {
+            Ok(words) => Some(words),
+            Err(error) => core::str::from_utf8(&words[..error.valid_up_to()]).ok(),
+        }
     }
 }

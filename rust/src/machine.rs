@@ -4,6 +4,7 @@ use crate::codes::{AccessError, BootError, Cause, Fault, NoEndpoint};
 use crate::hexadecimal::shown;
 use crate::operation::{accessed, accessed_by, known, Answer, Registers, Size};
 use crate::ram::{Heap, Lent, Page, Ram};
+use crate::refusal::Refusal;
 use crate::{raw, Id, Manifest};
 use core::fmt;
 use core::mem::ManuallyDrop;
@@ -20,6 +21,7 @@ mod sealed {
         unsafe fn boot(&self, machine: *mut raw::Machine) -> u32;
         unsafe fn boot_lent(&self, machine: *mut raw::Machine, lent: *mut raw::Lent) -> u32;
         unsafe fn boot_held(&self, machine: *mut raw::Machine, lent: *mut raw::Lent) -> u32;
+        unsafe fn why(&self, refusal: *mut raw::Refusal) -> u32;
     }
 }
 
@@ -42,6 +44,11 @@ impl sealed::Description for [u8] {
     unsafe fn boot_held(&self, machine: *mut raw::Machine, lent: *mut raw::Lent) -> u32 {
         unsafe { raw::gorseplumb_boot_held(machine, lent, self.as_ptr(), self.len()) }
     }
+
+    unsafe fn why(&self, refusal: *mut raw::Refusal) -> u32 {
+        let mut no_words = [0; 0];
+        unsafe { raw::gorseplumb_why_text(self.as_ptr(), self.len(), refusal, no_words.as_mut_ptr(), 0) }
+    }
 }
 
 impl sealed::Description for str {
@@ -55,6 +62,10 @@ impl sealed::Description for str {
 
     unsafe fn boot_held(&self, machine: *mut raw::Machine, lent: *mut raw::Lent) -> u32 {
         unsafe { self.as_bytes().boot_held(machine, lent) }
+    }
+
+    unsafe fn why(&self, refusal: *mut raw::Refusal) -> u32 {
+        unsafe { self.as_bytes().why(refusal) }
     }
 }
 
@@ -70,16 +81,32 @@ impl sealed::Description for Manifest {
     unsafe fn boot_held(&self, machine: *mut raw::Machine, lent: *mut raw::Lent) -> u32 {
         unsafe { raw::gorseplumb_boot_held_manifest(machine, lent, self.raw()) }
     }
+
+    unsafe fn why(&self, refusal: *mut raw::Refusal) -> u32 {
+        unsafe { raw::gorseplumb_why_manifest(self.raw(), refusal) }
+    }
 }
 
-/// What the answer of a boot, or of a list, is here.
-pub(crate) fn booted(answer: u32) -> Result<(), BootError> {
+/// What the answer of a list, or of a boot or a reading is here, without the place where a manifest is refused.
+pub(crate) fn made(answer: u32) -> Result<(), BootError> {
     match answer {
         raw::OK => Ok(()),
         raw::NO_MEMORY => Err(BootError::NoMemory),
         raw::WRONG_COUNT => Err(BootError::WrongCount),
-        cause => Err(BootError::Refused(known(Cause::of(cause)))),
+        cause => Err(BootError::Refused(Refusal::new(known(Cause::of(cause))))),
     }
+}
+
+/// The same with that place, which is asked for once more: where there is no memory for that, it isn't told.
+pub(crate) fn booted<D: sealed::Description + ?Sized>(answer: u32, description: &D) -> Result<(), BootError> {
+    made(answer).map_err(|error| {
+        let mut told = raw::Refusal::NONE;
+        // SAFETY: the struct is live.
+        if error.cause().is_none() || unsafe { description.why(&mut told) } != answer {
+            return error;
+        }
+        BootError::Refused(Refusal::of(&told))
+    })
 }
 
 /// A machine, with RAM of its own on the heap (`Machine`), or in pages that are lent (`Machine<Lent<'_>>`).
@@ -105,7 +132,7 @@ impl Machine {
     pub fn boot<D: Description + ?Sized>(description: &D) -> Result<Machine, BootError> {
         let mut at = raw::Machine::NONE;
         // SAFETY: the struct is live, and holds no machine.
-        booted(unsafe { description.boot(&mut at) })?;
+        booted(unsafe { description.boot(&mut at) }, description)?;
         Ok(Machine { at, ram: Heap(raw::Lent::NONE) })
     }
 }
@@ -143,7 +170,7 @@ impl<R: Ram> Machine<R> {
     {
         let mut at = raw::Machine::NONE;
         // SAFETY: the struct is live and holds no machine, and the list is another's.
-        booted(unsafe { description.boot_lent(&mut at, ram.list()) })?;
+        booted(unsafe { description.boot_lent(&mut at, ram.list()) }, description)?;
         Ok(Machine { at, ram })
     }
 
@@ -153,7 +180,7 @@ impl<R: Ram> Machine<R> {
     {
         let mut at = raw::Machine::NONE;
         // SAFETY: as above.
-        booted(unsafe { description.boot_held(&mut at, ram.list()) })?;
+        booted(unsafe { description.boot_held(&mut at, ram.list()) }, description)?;
         Ok(Machine { at, ram })
     }
 
@@ -165,7 +192,7 @@ impl<R: Ram> Machine<R> {
     pub fn try_clone(&self) -> Result<Machine, BootError> {
         let mut at = raw::Machine::NONE;
         // SAFETY: the struct is live and holds no machine, and this machine is another, asked for this one call.
-        booted(unsafe { raw::gorseplumb_copy(&mut at, self.asked()) })?;
+        made(unsafe { raw::gorseplumb_copy(&mut at, self.asked()) })?;
         Ok(Machine { at, ram: Heap(raw::Lent::NONE) })
     }
 
@@ -180,7 +207,7 @@ impl<R: Ram> Machine<R> {
     pub(crate) fn copied_in<T: Ram>(&self, mut ram: T) -> Result<Machine<T>, BootError> {
         let mut at = raw::Machine::NONE;
         // SAFETY: as above, and the list is a third one's.
-        booted(unsafe { raw::gorseplumb_copy_lent(&mut at, ram.list(), self.asked()) })?;
+        made(unsafe { raw::gorseplumb_copy_lent(&mut at, ram.list(), self.asked()) })?;
         Ok(Machine { at, ram })
     }
 

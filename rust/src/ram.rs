@@ -1,7 +1,7 @@
 // SPDX-License-Identifier: MIT OR Apache-2.0
 //! Where a machine's RAM is: on the heap, or in pages that are lent.
 use crate::codes::BootError;
-use crate::machine::{booted, Description, Machine};
+use crate::machine::{made, Description, Machine};
 use crate::raw;
 use core::marker::PhantomData;
 use core::ptr::NonNull;
@@ -79,10 +79,10 @@ impl<'ram> Lent<'ram> {
         let mut lent = Lent { list: raw::Lent::NONE, first, count, pages: PhantomData };
         let mut span = raw::Span { at: first.as_ptr().cast(), pages: count };
         // SAFETY: the list and the span are live and apart, and the pages are nobody else's for `'ram`.
-        booted(unsafe { raw::gorseplumb_begin_lending(&mut lent.list, told) })?;
+        made(unsafe { raw::gorseplumb_begin_lending(&mut lent.list, told) })?;
         if count > 0 {
             // SAFETY: as above.
-            booted(unsafe { raw::gorseplumb_lend_span(&mut lent.list, &mut span) })?;
+            made(unsafe { raw::gorseplumb_lend_span(&mut lent.list, &mut span) })?;
         }
         Ok(lent)
     }

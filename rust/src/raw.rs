@@ -114,6 +114,21 @@ pub struct Manifest {
     pub tables: u32,
 }
 
+#[derive(Clone, Copy, Debug, PartialEq, Eq)]
+#[repr(C)]
+pub struct Refusal {
+    pub cause: u32,
+    pub endpoint: u32,
+    pub region: u64,
+    pub line: u64,
+    pub column: u64,
+    pub words: u64,
+}
+
+impl Refusal {
+    pub const NONE: Refusal = Refusal { cause: 0, endpoint: 0, region: 0, line: 0, column: 0, words: 0 };
+}
+
 pub const OK: u32 = 0;
 pub const NO_MEMORY: u32 = 1;
 pub const OCCUPIED: u32 = 15;
@@ -288,6 +303,9 @@ extern "C" {
     pub fn gorseplumb_why_store(machine: *const Machine, address: u64, size: u32, reason: *mut Reason) -> bool;
     pub fn gorseplumb_why_fetch(machine: *const Machine, address: u64, reason: *mut Reason) -> bool;
     pub fn gorseplumb_read_manifest(text: *const u8, size: usize, manifest: *mut Manifest) -> u32;
+    pub fn gorseplumb_why_text(text: *const u8, size: usize, refusal: *mut Refusal, words: *mut u8, room: usize)
+        -> u32;
+    pub fn gorseplumb_why_manifest(manifest: *const Manifest, refusal: *mut Refusal) -> u32;
     pub fn gorseplumb_end(machine: *mut Machine) -> u32;
     pub fn gorseplumb_copy(machine: *mut Machine, original: *const Machine) -> u32;
     pub fn gorseplumb_copy_lent(machine: *mut Machine, lent: *mut Lent, original: *const Machine) -> u32;

@@ -5,7 +5,8 @@ mod common;
 use common::machines::{MACHINE, WORLD};
 use common::{example, ram, RAM};
 use gorseplumb::{
-    BootError, Cause, CountError, Endpoint, Lent, Machine, Manifest, Properties, Region, Rights, Version, MOST_BLOCKS,
+    BootError, Cause, CountError, Endpoint, Id, Lent, Machine, Manifest, Properties, Refusal, Region, Rights, Version,
+    MOST_BLOCKS,
 };
 
 /// Stands for all of the text from the first endpoint on.
@@ -45,8 +46,8 @@ fn refused_text(cause: Cause) -> String {
 
 /// Nothing boots from this, on RAM of the heap or in pages, which keep their bytes.
 fn refuses<D: gorseplumb::Description + ?Sized>(description: &D, cause: Cause) {
-    let refused = BootError::Refused(cause);
-    assert_eq!(Machine::boot(description).err(), Some(refused));
+    let refused = Machine::boot(description).err().unwrap();
+    assert_eq!(refused.cause(), Some(cause));
     let mut pages = ram(1);
     pages.iter_mut().for_each(|page| page.0.fill(0x5A));
     assert_eq!(Machine::boot_lent(description, &mut pages).err(), Some(refused));
@@ -93,6 +94,44 @@ fn each_cause_of_numbers() {
     refuses(&MACHINE.with_tables(63), Cause::RegionOutside);
 }
 
+/// Where and why nothing boots from this.
+fn refusal<D: gorseplumb::Description + ?Sized>(description: &D) -> Refusal {
+    match Machine::boot(description).err() {
+        Some(BootError::Refused(refusal)) => refusal,
+        other => panic!("{other:?}"),
+    }
+}
+
+/// Where a text and numbers are refused is told.
+#[test]
+fn places_are_told() {
+    let toml = refusal("ram_base = 0x40000000\nx = 1 2");
+    assert_eq!((toml.cause, toml.line, toml.column, toml.endpoint), (Cause::Toml, Some(2), Some(5), None));
+    assert!(toml.to_string().ends_with(": line 2, column 5"), "{toml}");
+    let overlap = refusal(&*refused_text(Cause::RegionOverlap));
+    let place = (overlap.endpoint, overlap.region, overlap.line);
+    assert_eq!((overlap.cause, place), (Cause::RegionOverlap, (Some(Id(0x8001)), Some(1), None)));
+    assert!(BootError::Refused(overlap).to_string().ends_with(": endpoint 8001, region 1"), "{overlap}");
+    let version = refusal(&*refused_text(Cause::Version));
+    assert!(version.to_string().ends_with(": endpoint 0000"), "{version}");
+    let (base, rights) = (RAM as u32, Rights::Rw);
+    let regions = [Region::new(base + 0x20000, 1, rights), Region::new(base + 0x1F000, 2, rights)];
+    let partition = Endpoint::partition([1; 16], Version::V1_1, Properties::ALL, &regions);
+    let wanted = Refusal { endpoint: Some(Id(0x8001)), region: Some(2), ..Refusal::new(Cause::RegionOverlap) };
+    assert_eq!(refusal(&Manifest::new(base, 1, &[WORLD, partition])), wanted);
+}
+
+#[test]
+fn words_are_those_of_the_program() {
+    let mut room = [0; 300];
+    assert_eq!(Manifest::why(example("machine.toml").as_str(), &mut room), None);
+    let text = refused_text(Cause::RamBlocks);
+    assert_eq!(Manifest::why(&text, &mut room), Some("ram_blocks = 33: 1 to 32"));
+    assert_eq!(Manifest::why(&text, &mut room[..6]), Some("ram_b"));
+    assert_eq!(Manifest::why("\"\u{e9}\" = 1", &mut room[..7]), Some("key '"), "a character is cut");
+    assert_eq!(Manifest::why(&text, &mut []), Some(""));
+}
+
 #[test]
 fn counts_that_numbers_cant_have() {
     let region = Region::new(RAM as u32 + 0x20000, 1, Rights::Ro);
@@ -121,7 +160,7 @@ fn more_or_fewer_pages_than_ram_has() {
 
 #[test]
 fn causes_are_said_by_number_name_and_words() {
-    let told = BootError::Refused(Cause::RegionOverlap).to_string();
+    let told = BootError::Refused(Refusal::new(Cause::RegionOverlap)).to_string();
     assert_eq!(told, "the manifest is refused by M13 RegionOverlap: a region has a page of a region before it");
     for cause in Cause::ALL {
         assert_eq!(Cause::of(cause.number()), Some(*cause));
@@ -132,7 +171,7 @@ fn causes_are_said_by_number_name_and_words() {
 #[test]
 fn errors_name_what_they_come_of() {
     use std::error::Error;
-    let refused: Box<dyn Error> = Box::new(BootError::Refused(Cause::Toml));
+    let refused: Box<dyn Error> = Box::new(BootError::Refused(Refusal::new(Cause::Toml)));
     assert_eq!(refused.source().unwrap().to_string(), Cause::Toml.to_string());
     assert!(BootError::NoMemory.source().is_none());
 }

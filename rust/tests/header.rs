@@ -48,6 +48,7 @@ fn operations() -> Vec<(String, i64)> {
     rows.extend(fields!(Region, "region", base pages rights));
     rows.extend(fields!(Endpoint, "endpoint", version properties uuid region_count regions));
     rows.extend(fields!(Manifest, "manifest", ram_base ram_blocks endpoint_count endpoints worlds tables));
+    rows.extend(fields!(Refusal, "refusal", cause endpoint region line column words));
     rows.extend(fields!(Range, "range", address size));
     rows.extend(fields!(Change, "change", endpoint range_count ranges));
     rows.extend(fields!(Settling, "settling", endpoint address size));

@@ -5,7 +5,8 @@ mod common;
 use common::example;
 use common::machines::{MACHINE, PARTITIONS};
 use gorseplumb::{
-    declarations, raw, registers, BootError, Cause, Fault, Id, Machine, Manifest, Operation, Outcome, Size, Told,
+    declarations, raw, registers, BootError, Cause, Fault, Id, Machine, Manifest, Operation, Outcome, Refusal, Size,
+    Told,
 };
 
 const PLACE: u64 = 0x4001_0008;
@@ -52,8 +53,8 @@ fn as_many_as_both_lists_have() {
 fn texts_are_read_as_numbers() {
     assert_eq!(Manifest::read(example("machine.toml")), Ok(MACHINE));
     assert_eq!(Manifest::read(example("partitions.toml")), Ok(PARTITIONS));
-    assert_eq!(Manifest::read("").err(), Some(BootError::Refused(Cause::MissingKey)));
-    assert_eq!(Manifest::read(b"\xFF").err(), Some(BootError::Refused(Cause::Toml)));
+    assert_eq!(Manifest::read("").err(), Some(BootError::Refused(Refusal::new(Cause::MissingKey))));
+    assert_eq!(Manifest::read(b"\xFF").err().and_then(BootError::cause), Some(Cause::Toml));
 }
 
 #[test]

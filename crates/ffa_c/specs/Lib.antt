@@ -17,6 +17,7 @@ pub mod Lending
 pub mod Numbers
 pub mod Operations
 pub mod Reading
+pub mod Refusing
 pub mod Spans
 pub mod Why
 pub mod Follows

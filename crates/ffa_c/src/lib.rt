@@ -31,6 +31,7 @@ pub mod processors;
 pub mod questions;
 pub mod reading;
 pub mod reason;
+pub mod refusing;
 pub mod seat;
 pub mod spans;
 pub mod why;

@@ -9,8 +9,8 @@ use arrayvec::ArrayVec;
 use bitflags::Flags;
 use ffa_manifest::ManifestError;
 use ffa_model::{
-    Data, Endpoint, MOST_ENDPOINTS, MOST_REGIONS, Manifest, PageNo, Properties, Region, Rights, Version,
-    Worlds,
+    Data, Endpoint, MOST_ENDPOINTS, MOST_REGIONS, Manifest, PageNo, Properties, Region, Rights,
+    Version, Worlds,
 };
 
 /// Pages in a row that an endpoint owns from the start.
@@ -70,7 +70,7 @@ pub(crate) fn rights_of(code: u32) -> Option<Rights>
     Some(Rights { level, exec })
 }
 
-fn version_of(code: u32) -> Option<Version>
+pub(crate) fn version_of(code: u32) -> Option<Version>
     ensures { result ≡ version_given code }
 {
     match code {
@@ -80,7 +80,7 @@ fn version_of(code: u32) -> Option<Version>
     }
 }
 
-fn worlds_of(code: u32) -> Option<Worlds>
+pub(crate) fn worlds_of(code: u32) -> Option<Worlds>
     ensures { result ≡ worlds_given code }
 {
     match code {
@@ -90,7 +90,7 @@ fn worlds_of(code: u32) -> Option<Worlds>
     }
 }
 
-fn region_of(given: &CRegion) -> Result<Region, ManifestError>
+pub(crate) fn region_of(given: &CRegion) -> Result<Region, ManifestError>
     ensures { Exact (λ r. r) result (region_given given.now) }
 {
     let Some(rights) = rights_of(given.rights) else {
@@ -126,7 +126,7 @@ fn counted_regions(given: &CEndpoint) -> Result<ArrayVec<Region, MOST_REGIONS>, 
     }
 }
 
-fn endpoint_of(given: &CEndpoint) -> Result<Endpoint, ManifestError>
+pub(crate) fn endpoint_of(given: &CEndpoint) -> Result<Endpoint, ManifestError>
     ensures { Exact (λ e. e) result (endpoint_given given.now) }
 {
     let Some(version) = version_of(given.version) else {
@@ -153,7 +153,9 @@ fn endpoints_of(given: &[CEndpoint]) -> Result<ArrayVec<Endpoint, MOST_ENDPOINTS
 }
 
 // The endpoints that are given, where the array has so many places.
-fn counted_endpoints(given: &CManifest) -> Result<ArrayVec<Endpoint, MOST_ENDPOINTS>, ManifestError>
+pub(crate) fn counted_endpoints(
+    given: &CManifest,
+) -> Result<ArrayVec<Endpoint, MOST_ENDPOINTS>, ManifestError>
     ensures { Exact (λ es. es.items) result (endpoints_given given.now) }
 {
     let count = given.endpoint_count as usize;

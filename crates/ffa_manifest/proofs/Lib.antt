@@ -9,3 +9,5 @@ pub mod RegionsRead
 pub mod Accepted
 pub mod FirstFailure
 pub mod AcceptedParts
+pub mod PartsPlaces
+pub mod TextPlaces

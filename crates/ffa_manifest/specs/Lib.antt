@@ -8,3 +8,5 @@ pub mod Document
 pub mod Parts
 pub mod Meeting
 pub mod Places
+pub mod PartsPlaces
+pub mod TextPlaces

@@ -1,7 +1,8 @@
 -- SPDX-License-Identifier: MIT OR Apache-2.0
 -- Where a document is refused: at which endpoint, and in which of its regions.
-use Rattle.std.specs.Prelude.{◌≡◌, ℕ, zero, suc, Bool, ◌==◌, List, ◌++◌, length, Option, Some, None, Result, Ok, IsErr, MatchOption, MatchResult, if◌then◌else◌, codes}
+use Rattle.std.specs.Prelude.{◌≡◌, ◌≤◌, ◌⊎◌, ℕ, zero, suc, Bool, ◌==◌, List, ◌++◌, length, Option, Some, None, Result, Ok, Err, IsErr, IsSomeAnd, IsUtf8, MatchOption, MatchResult, if◌then◌else◌, codes}
 use Rattle.toml.specs.Data.{Data, Items, no_items, item, Members, as_table, get_item}
+use Rattle.std.specs.Str.{IsValidUpTo}
 use Rattle.toml.specs.Parse.{parse_document}
 use Rattle.ffa_model.specs.declared.limits.TheConstants.{MOST_REGIONS}
 use Rattle.ffa_model.specs.declared.endpoint.Region.{Region}
@@ -9,13 +10,14 @@ use Rattle.ffa_model.specs.declared.endpoint.Endpoint.{Endpoint}
 use Rattle.ffa_model.specs.Identifiers.{identifier}
 use Rattle.ffa_model.specs.Manifest.{is_placed, regions_of}
 use Rattle.ffa_manifest.specs.declared.error.ManifestError.{ManifestError}
-use Rattle.ffa_manifest.specs.declared.error.ManifestError.TheVariants.{WrongKind, RegionCount}
+use Rattle.ffa_manifest.specs.declared.error.ManifestError.TheVariants.{Toml, WrongKind, RegionCount}
 use Rattle.ffa_manifest.specs.declared.refusal.Location.{Location}
+use Rattle.ffa_manifest.specs.declared.refusal.ManifestRefusal.{ManifestRefusal}
 use Rattle.ffa_manifest.specs.Reading.{◌>>=◌, or_cause, item_count}
 use Rattle.ffa_manifest.specs.Keys.{items_at}
 use Rattle.ffa_manifest.specs.Regions.{next_region, regions_from}
 use Rattle.ffa_manifest.specs.Endpoints.{normal_world_keys, partition_keys, version_at, uuid_at, properties_at, normal_world_properties, endpoint_items, next_endpoint, endpoints_from}
-use Rattle.ffa_manifest.specs.Document.{top_keys, ram_base_at, ram_blocks_at}
+use Rattle.ffa_manifest.specs.Document.{top_keys, ram_base_at, ram_blocks_at, machine_of}
 
 -- so many items of an array, from its first on
 abbrev pub first_items : ℕ → Items → Items
@@ -104,3 +106,25 @@ IsPlaceOf ms location =
 -- the same of a text, which may be no document
 abbrev pub IsPlaceIn : List ℕ → Location → Type 0
 IsPlaceIn text location = MatchOption (parse_document text) (IsAtTop location) (λ ms. IsPlaceOf ms location)
+
+-- a byte of a text is told, or its end, exactly where it is no document
+abbrev pub IsByteIn : List ℕ → Option ℕ → Type 0
+IsByteIn text byte = MatchOption (parse_document text) (IsSomeAnd byte (λ at. at ≤ length text)) (λ ms. byte ≡ None)
+
+-- bytes are no text in UTF-8, from the byte on that is told
+pub record IsGarbled (bytes : List ℕ) (r : ManifestRefusal) : Type 0 where
+  pub garbled : ¬ (IsUtf8 bytes)
+  pub cause : r.cause ≡ Toml
+  pub place : IsAtTop r.place
+  pub byte : IsSomeAnd r.byte (IsValidUpTo bytes)
+
+-- they are one, which is refused
+pub record IsUnread (bytes : List ℕ) (r : ManifestRefusal) : Type 0 where
+  pub text : IsUtf8 bytes
+  pub cause : machine_of bytes ≡ Err r.cause
+  pub place : IsPlaceIn bytes r.place
+  pub byte : IsByteIn bytes r.byte
+
+-- why and where bytes are refused
+abbrev pub IsRefused : List ℕ → ManifestRefusal → Type 0
+IsRefused bytes r = IsGarbled bytes r ⊎ IsUnread bytes r

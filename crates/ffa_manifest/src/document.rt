@@ -75,10 +75,5 @@ pub(crate) fn machine(table: &Table) -> Result<Manifest, ManifestError>
         endpoints: values.len() as u32,
     };
     let endpoints = endpoints_from(values, &space)?;
-    Ok(Manifest::of(
-        Address(ram_base),
-        ram_blocks,
-        PageNo(0),
-        endpoints,
-    ))
+    Ok(Manifest::of(Address(ram_base), ram_blocks, PageNo(0), endpoints))
 }

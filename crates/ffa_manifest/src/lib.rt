@@ -2,10 +2,10 @@
 //! Reads manifests: the description of a machine in TOML, accepted whole or refused by its first cause.
 #![tactic(auto)]
 
-ghost use Rattle.std.specs.Prelude.{◌≡◌, ◌≢◌, Ok, Err, IfOk, IfErr};
+ghost use Rattle.std.specs.Prelude.{◌≡◌, ◌≢◌, Ok, Err, IfOk, IfErr, IsUtf8};
 ghost use Rattle.ffa_manifest.specs.Document.{machine_of, parts_of};
 ghost use Rattle.ffa_manifest.specs.Meeting.{SharesPage};
-ghost use Rattle.ffa_manifest.specs.Places.{IsPlaceIn};
+ghost use Rattle.ffa_manifest.specs.Places.{IsByteIn, IsPlaceIn, IsRefused};
 
 mod document;
 mod endpoints;
@@ -16,15 +16,19 @@ mod locate;
 mod met;
 mod near;
 mod parts;
+mod parts_place;
 pub mod refusal;
 mod region_space;
 mod regions;
+mod text_place;
 
 pub use error::ManifestError;
 pub use ffa_model::Manifest;
 pub use parts::of_parts;
-pub use refusal::ManifestRefusal;
+pub use parts_place::{PartsPlace, place_of_parts};
+pub use refusal::{Found, ManifestRefusal};
 use std::alloc::{AllocError, Global};
+pub use text_place::TextPlace;
 
 /// Reads the text of a manifest: a machine's RAM, and its endpoints with their regions.
 ///
@@ -42,20 +46,38 @@ pub fn read(alloc: Global, text: &str) -> Result<Manifest, ManifestError>
     }
 }
 
-/// Reads a text as `read` does, and of one that is refused finds where.
+/// Reads the bytes of a text as `read` does, and of those that are refused finds where.
 ///
-/// The cause is the one that `read` answers. The place is where reading ends: the endpoint and the region before which all
-/// is read, and which is refused. With it come the key and the value that stand there, which tests show, or the region
-/// that another one meets, which does have a page of it.
+/// The cause is the one that `read` answers; bytes that are no UTF-8 are no TOML. The place is where reading ends: the
+/// endpoint and the region before which all is read, and which is refused. With it come the key and the value that stand
+/// there, which tests show, or the region that another one meets, which does have a page of it. Of what is no TOML the byte
+/// is told.
 ///
 /// # Errors
 ///
 /// There is no memory.
+pub fn explain(alloc: Global, bytes: &[u8]) -> Result<Result<Manifest, ManifestRefusal>, AllocError>
+    ensures accepted { IfOk result (λ read. IfOk read (λ m. IsUtf8 bytes.now × (machine_of bytes.now ≡ Ok (parts_of m)))) }
+    ensures refused { IfOk result (λ read. IfErr read (λ r. IsRefused bytes.now r)) }
+    ensures met { IfOk result (λ read. IfErr read (λ r. SharesPage r.place.found)) }
+{
+    match str::from_utf8(bytes) {
+        Ok(text) => explain_text(alloc, text),
+        Err(error) => Ok(Err(ManifestRefusal {
+            cause: ManifestError::Toml,
+            place: locate::in_no_endpoint(Found::NoText(error)),
+            byte: Some(error.valid_up_to()),
+        })),
+    }
+}
+
+// Reads a text, and of one that is refused finds where.
 #[tactic(auto, unfolding(crate::specs::Document::machine_of))]
-pub fn explain(alloc: Global, text: &str) -> Result<Result<Manifest, ManifestRefusal>, AllocError>
+fn explain_text(alloc: Global, text: &str) -> Result<Result<Manifest, ManifestRefusal>, AllocError>
     ensures accepted { IfOk result (λ read. IfOk read (λ m. machine_of text.now ≡ Ok (parts_of m))) }
-    ensures refused { IfOk result (λ read. IfErr read (λ r. machine_of text.now ≡ Err r.cause)) }
+    ensures cause { IfOk result (λ read. IfErr read (λ r. machine_of text.now ≡ Err r.cause)) }
     ensures place { IfOk result (λ read. IfErr read (λ r. IsPlaceIn text.now r.place)) }
+    ensures byte { IfOk result (λ read. IfErr read (λ r. IsByteIn text.now r.byte)) }
     ensures met { IfOk result (λ read. IfErr read (λ r. SharesPage r.place.found)) }
 {
     let table = match toml::table_from_str(alloc, text) {
@@ -65,6 +87,7 @@ pub fn explain(alloc: Global, text: &str) -> Result<Result<Manifest, ManifestRef
             return Ok(Err(ManifestRefusal {
                 cause: ManifestError::Toml,
                 place: locate::in_text(alloc, &e)?,
+                byte: locate::byte_of(&e),
             }));
         }
     };
@@ -73,6 +96,7 @@ pub fn explain(alloc: Global, text: &str) -> Result<Result<Manifest, ManifestRef
         Err(cause) => Ok(Err(ManifestRefusal {
             cause,
             place: locate::in_top(alloc, &table)?,
+            byte: None,
         })),
     }
 }

@@ -6,6 +6,7 @@
 //! which endpoint and in which of its regions the walk ends: what stands before is read, and this is refused. Which key
 //! and value is told there, and in which words, is shown by tests.
 ghost use Rattle.std.specs.Prelude.{◌≡◌, ◌≤◌, [], Some, IfOk, IsErr, length};
+ghost use Rattle.toml.specs.Errors.{IsMemory, span_start};
 ghost use Rattle.toml.specs.View.{view, table_view, items_view};
 ghost use Rattle.ffa_model.specs.Manifest.{regions_of};
 ghost use Rattle.ffa_manifest.specs.Document.{machine};
@@ -44,14 +45,10 @@ pub(crate) fn in_text(alloc: Global, error: &toml::de::Error) -> Result<Location
 {
     let said = error.to_string(alloc)?;
     let said = said.as_str().trim_end().replace(alloc, "\n", ": ")?;
-    let at = match error.span() {
-        Some(span) => Some(span.start),
-        None => None,
-    };
-    Ok(in_no_endpoint(Found::NoToml { said, at }))
+    Ok(in_no_endpoint(Found::NoToml(said)))
 }
 
-fn in_no_endpoint(found: Found) -> Location
+pub(crate) fn in_no_endpoint(found: Found) -> Location
     ensures found { result.found ≡ found }
     ensures place { IsAtTop result }
 {
@@ -59,6 +56,17 @@ fn in_no_endpoint(found: Found) -> Location
         endpoint: None,
         region: None,
         found,
+    }
+}
+
+/// At which byte a text is no TOML.
+pub(crate) fn byte_of(error: &toml::de::Error) -> Option<usize>
+    requires { IsMemory error.now → ⊥ }
+    ensures { result ≡ Some (span_start error.now) }
+{
+    match error.span() {
+        Some(span) => Some(span.start),
+        None => None,
     }
 }
 

@@ -14,7 +14,9 @@ use crate::region_space::{RegionSpace, has_tables, is_ram_base, is_ram_size};
 use crate::regions::{is_apart_from_all, is_free};
 use arrayvec::ArrayVec;
 use bitflags::Flags;
-use ffa_model::{Address, Endpoint, MOST_BLOCKS, MOST_ENDPOINTS, Manifest, PageNo, Properties, Region};
+use ffa_model::{
+    Address, Endpoint, MOST_BLOCKS, MOST_ENDPOINTS, Manifest, PageNo, Properties, Region,
+};
 
 fn is_nil(uuid: &[u8; 16]) -> bool
     ensures { result ≡ is_nil_in uuid.now }
@@ -23,7 +25,7 @@ fn is_nil(uuid: &[u8; 16]) -> bool
 }
 
 // Whether an endpoint after these may have the UUID.
-fn is_uuid_after(before: &[Endpoint], uuid: &[u8; 16]) -> bool
+pub(crate) fn is_uuid_after(before: &[Endpoint], uuid: &[u8; 16]) -> bool
     ensures { result ≡ is_uuid_after before.now uuid.now }
 {
     if before.is_empty() {
@@ -34,7 +36,7 @@ fn is_uuid_after(before: &[Endpoint], uuid: &[u8; 16]) -> bool
 }
 
 // Whether an endpoint after these may have the properties.
-fn are_properties_after(before: &[Endpoint], properties: Properties) -> bool
+pub(crate) fn are_properties_after(before: &[Endpoint], properties: Properties) -> bool
     ensures { result ≡ are_properties_after before.now properties.0 }
 {
     properties.bits() < 16 && !(before.is_empty() && receives(properties))
@@ -42,7 +44,7 @@ fn are_properties_after(before: &[Endpoint], properties: Properties) -> bool
 
 // A region's place, and whether a region of an endpoint before it or an own one before it has a page of it.
 #[tactic(auto, using(crate::proofs::Taken::is_free_of_both), unfolding(crate::specs::Parts::region_tests))]
-fn check_region(
+pub(crate) fn check_region(
     space: &RegionSpace,
     before: &[Endpoint],
     own: &[Region],
@@ -79,7 +81,7 @@ fn check_regions(
 
 // An endpoint after these.
 #[tactic(auto, unfolding(crate::specs::Parts::endpoint_tests))]
-fn check_endpoint(
+pub(crate) fn check_endpoint(
     space: &RegionSpace,
     before: &[Endpoint],
     endpoint: &Endpoint,
@@ -143,10 +145,5 @@ pub fn of_parts(
         endpoints: count as u32,
     };
     check_endpoints(&space, endpoints.as_slice())?;
-    Ok(Manifest::of(
-        Address(ram_base),
-        ram_blocks,
-        tables,
-        endpoints,
-    ))
+    Ok(Manifest::of(Address(ram_base), ram_blocks, tables, endpoints))
 }

@@ -7,6 +7,7 @@
 use crate::error::ManifestError;
 use ffa_model::{EndpointId, MOST_BLOCKS, MOST_RAM, Region};
 use std::fmt;
+use std::str::Utf8Error;
 
 /// Why a manifest is refused, and where. It prints as one line.
 #[derive(Debug, Drop)]
@@ -15,6 +16,8 @@ pub struct ManifestRefusal {
     pub cause: ManifestError,
     /// Where it applies.
     pub place: Location,
+    /// At which byte, from 0, the text is no UTF-8 or no TOML.
+    pub byte: Option<usize>,
 }
 
 /// Where a manifest is refused.
@@ -32,12 +35,10 @@ pub struct Location {
 /// where they are cut.
 #[derive(Debug, Drop)]
 pub enum Found {
-    /// The text is no TOML: what the parser says of it, with a line and a column that count from 1, and at which byte of
-    /// the text, from 0, where that is known.
-    NoToml {
-        said: String,
-        at: Option<usize>,
-    },
+    /// The text is no UTF-8.
+    NoText(Utf8Error),
+    /// The text is no TOML: what the parser says of it, with a line and a column that count from 1.
+    NoToml(String),
     /// A key that isn't one of the table's, and the one of these that it is nearest to, where it is near to one.
     UnknownKey {
         key: String,
@@ -261,7 +262,8 @@ fn write_region<W: fmt::Write>(f: &mut fmt::Formatter<W>, base: u64, pages: u64)
 impl fmt::Display for Found {
     fn fmt<W: fmt::Write>(&self, f: &mut fmt::Formatter<W>) -> fmt::Result {
         match self {
-            Found::NoToml { said, at: _ } => write!(f, "{said}"),
+            Found::NoText(error) => write!(f, "{error}"),
+            Found::NoToml(said) => write!(f, "{said}"),
             Found::UnknownKey { key, near: None } => write!(f, "key '{key}' is unknown"),
             Found::UnknownKey {
                 key,

@@ -1,6 +1,6 @@
 // SPDX-License-Identifier: MIT OR Apache-2.0
 //! Commands that want a manifest alone, and the reading of one.
-ghost use Rattle.std.specs.Prelude.{◌≡◌, ◌++◌, None, Ok, OnOk, IfErr, IfOk, true};
+ghost use Rattle.std.specs.Prelude.{◌≡◌, ◌++◌, None, Some, Ok, OnOk, IfErr, IfOk, true};
 ghost use Rattle.ffa_manifest.specs.Document.{machine_of, parts_of};
 ghost use Rattle.play_report.specs.Layouts.{regions_text};
 ghost use Rattle.play_report.specs.Manifests.{Describes, FailsToRead, FailsUnplayed, IsChecked, IsLaidOut, bytes_of};
@@ -81,47 +81,38 @@ pub fn read_manifest<'a, A: Allocator>(
     let Some(bytes) = bytes else {
         return Err(Failure::Read(path));
     };
+    if notes.verbose {
+        return explain_bytes(alloc, bytes, notes);
+    }
     match str::from_utf8(bytes) {
-        Ok(text) => read_text(alloc, text, notes),
-        Err(error) => {
-            notes.manifest = Some(More::Bytes(error));
-            Err(Failure::Manifest(ManifestError::Toml))
-        }
+        Ok(text) => read_text(alloc, text),
+        Err(_) => Err(Failure::Manifest(ManifestError::Toml)),
     }
 }
 
 // Reads the text of a manifest.
-fn read_text<A: Allocator>(
-    alloc: Global,
-    text: &str,
-    notes: &mut Notes<A>,
-) -> Result<Manifest, Failure<'static>>
+fn read_text(alloc: Global, text: &str) -> Result<Manifest, Failure<'static>>
     ensures described { IfOk result (λ m. machine_of text.now ≡ Ok (parts_of m)) }
     ensures failed { IfErr result (FailsToRead text.now) }
-    ensures noted { IfErr result (IsNoted notes.old.verbose notes.new.manifest) }
 {
-    if notes.verbose {
-        explain_text(alloc, text, notes)
-    } else {
-        match ffa_manifest::read(alloc, text) {
-            Ok(manifest) => Ok(manifest),
-            Err(ManifestError::NoMemory) => Err(Failure::NoMemory),
-            Err(cause) => Err(Failure::Manifest(cause)),
-        }
+    match ffa_manifest::read(alloc, text) {
+        Ok(manifest) => Ok(manifest),
+        Err(ManifestError::NoMemory) => Err(Failure::NoMemory),
+        Err(cause) => Err(Failure::Manifest(cause)),
     }
 }
 
-// Reads the text of a manifest, and of one that is refused notes where.
-fn explain_text<A: Allocator>(
+// Reads the bytes of a manifest, and of one that is refused notes where.
+fn explain_bytes<A: Allocator>(
     alloc: Global,
-    text: &str,
+    bytes: &[u8],
     notes: &mut Notes<A>,
 ) -> Result<Manifest, Failure<'static>>
-    ensures described { IfOk result (λ m. machine_of text.now ≡ Ok (parts_of m)) }
-    ensures failed { IfErr result (FailsToRead text.now) }
+    ensures described { IfOk result (λ m. Describes (Some bytes.now) (parts_of m)) }
+    ensures failed { IfErr result (FailsUnplayed (Some bytes.now) None None) }
     ensures noted { IfErr result (IsNoted true notes.new.manifest) }
 {
-    match ffa_manifest::explain(alloc, text) {
+    match ffa_manifest::explain(alloc, bytes) {
         Ok(Ok(manifest)) => Ok(manifest),
         Ok(Err(refusal)) => {
             let cause = refusal.cause;

@@ -4,20 +4,16 @@ ghost use Rattle.std.specs.Prelude.{◌≡◌, is_some, true};
 
 use crate::excerpt::Excerpt;
 use crate::failure::{Failure, LineFlaw};
-use ffa_manifest::refusal::Found;
 use ffa_manifest::{ManifestError, ManifestRefusal};
 use std::alloc::Allocator;
 use std::fmt::{self, Display};
 use std::io::ErrorKind;
-use std::str::Utf8Error;
 
 /// What more there is to say of why a command isn't done. It prints as one line.
 #[derive(Drop)]
 pub enum More {
     /// Where the manifest is refused.
     Place(ManifestRefusal),
-    /// Where the manifest is no text.
-    Bytes(Utf8Error),
     /// What is wrong with the line.
     Line(LineFlaw),
     /// Why the file can't be read.
@@ -28,7 +24,6 @@ impl Display for More {
     fn fmt<W: fmt::Write>(&self, f: &mut fmt::Formatter<W>) -> fmt::Result {
         match self {
             More::Place(refusal) => write!(f, "{refusal}"),
-            More::Bytes(error) => write!(f, "{error}"),
             More::Line(flaw) => write!(f, "{}", flaw.fault),
             More::File(reason) => write!(f, "{reason}"),
         }
@@ -39,11 +34,7 @@ impl More {
     /// The line in which that is, where it is in one: of the bytes of the manifest, or of the trace.
     pub fn excerpt(&self, manifest: Option<&[u8]>) -> Option<Excerpt> {
         let at = match self {
-            More::Place(refusal) => match &refusal.place.found {
-                Found::NoToml { at, .. } => *at,
-                _ => None,
-            },
-            More::Bytes(error) => Some(error.valid_up_to()),
+            More::Place(refusal) => refusal.byte,
             More::Line(flaw) => return flaw.excerpt,
             More::File(_) => None,
         };

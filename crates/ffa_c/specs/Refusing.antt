@@ -1,0 +1,102 @@
+-- SPDX-License-Identifier: MIT OR Apache-2.0
+-- What C is told of a manifest that is refused: why, and where.
+use Rattle.std.specs.Prelude.{◌≡◌, ℕ, suc, Bool, ◌&&◌, ◌<◌, nat_le, length, List, [], ◌∷◌, take, Option, Some, None, Result, Ok, Err, is_ok, is_some, if◌then◌else◌}
+use Rattle.std.specs.Option.{option_map_or}
+use Rattle.ffa_model.specs.declared.endpoint.Endpoint.{Endpoint}
+use Rattle.ffa_model.specs.declared.endpoint.EndpointId.{EndpointId}
+use Rattle.ffa_model.specs.declared.limits.TheConstants.{MOST_ENDPOINTS, MOST_REGIONS}
+use Rattle.ffa_model.specs.Identifiers.{identifier}
+use Rattle.ffa_manifest.specs.declared.error.ManifestError.{ManifestError}
+use Rattle.ffa_manifest.specs.declared.parts_place.PartsPlace.{PartsPlace}
+use Rattle.ffa_manifest.specs.declared.refusal.ManifestRefusal.{ManifestRefusal}
+use Rattle.ffa_manifest.specs.Document.{Parts}
+use Rattle.ffa_manifest.specs.Parts.{parts_from}
+use Rattle.ffa_manifest.specs.PartsPlaces.{nowhere, place_of}
+use Rattle.ffa_manifest.specs.Places.{IsRefused}
+use Rattle.ffa_manifest.specs.TextPlaces.{column_behind, line_behind}
+use Rattle.ffa_c.specs.declared.codes.TheConstants.{NOTHING}
+use Rattle.ffa_c.specs.declared.manifest.CRegion.{CRegion}
+use Rattle.ffa_c.specs.declared.manifest.CEndpoint.{CEndpoint}
+use Rattle.ffa_c.specs.declared.manifest.CManifest.{CManifest}
+use Rattle.ffa_c.specs.declared.refusing.CRefusal.{CRefusal}
+use Rattle.ffa_c.specs.Booting.{Describes, cause_number}
+use Rattle.ffa_c.specs.Given.{Gives, endpoint_given, endpoints_given, parts_given, refusal_of, region_given, version_given, worlds_given}
+
+-- an endpoint's identifier, and a region's number, or what stands for none
+abbrev pub endpoint_told : Option EndpointId → ℕ
+endpoint_told None = NOTHING
+endpoint_told (Some e) = e.0
+
+abbrev pub region_told : Option ℕ → ℕ
+region_told None = 0
+region_told (Some n) = n
+
+-- OF A TEXT
+-- its line and its column, from 1, of a byte, or 0 where none is told
+abbrev pub line_told : List ℕ → Option ℕ → ℕ
+line_told text None = 0
+line_told text (Some at) = line_behind (take at text)
+
+abbrev pub column_told : List ℕ → Option ℕ → ℕ
+column_told text None = 0
+column_told text (Some at) = column_behind (take at text)
+
+-- why and where a text is refused, as the program's reader says it
+pub record TellsText (text : List ℕ) (told : CRefusal) : Type 0 where
+  pub its : ManifestRefusal
+  pub refused : IsRefused text its
+  pub cause : told.cause ≡ cause_number its.cause
+  pub endpoint : told.endpoint ≡ endpoint_told its.place.endpoint
+  pub region : told.region ≡ region_told its.place.region
+  pub line : told.line ≡ line_told text its.byte
+  pub column : told.column ≡ column_told text its.byte
+
+-- it is that of a machine
+abbrev pub IsText : List ℕ → Type 0
+IsText text = (parts : Parts) × Describes text parts
+
+-- OF NUMBERS
+-- in which region, counted from here, rights are given that there are none of
+abbrev pub region_from : ℕ → List CRegion → Option ℕ
+region_from n [] = None
+region_from n (r ∷ rs) = if is_ok (region_given r) then region_from (suc n) rs else Some (suc n)
+
+-- of an endpoint that tells none: none where its version or the count of its regions does it
+abbrev pub untold_region : CEndpoint → Option ℕ
+untold_region e =
+    if is_some (version_given e.version) && nat_le e.region_count MOST_REGIONS
+    then region_from 0 (take e.region_count e.regions)
+    else None
+
+-- at which endpoint, counted from here, one is given that there is none of
+abbrev pub untold_from : ℕ → List CEndpoint → PartsPlace
+untold_from n [] = nowhere
+untold_from n (e ∷ es) =
+    if is_ok (endpoint_given e)
+    then untold_from (suc n) es
+    else record { endpoint = Some (record { 0 = identifier n }); region = untold_region e }
+
+abbrev pub untold_place : CManifest → PartsPlace
+untold_place m =
+    if nat_le m.endpoint_count MOST_ENDPOINTS then untold_from 0 (take m.endpoint_count m.endpoints) else nowhere
+
+-- where numbers are refused: where they tell no endpoints, or else where the parts make no machine
+abbrev pub place_among : CManifest → Result (List Endpoint) ManifestError → PartsPlace
+place_among m (Err cause) = untold_place m
+place_among m (Ok es) =
+    if is_some (worlds_given m.worlds) then place_of (parts_from m.ram_base m.tables m.ram_blocks es) else nowhere
+
+abbrev pub given_place : CManifest → PartsPlace
+given_place m = place_among m (endpoints_given m)
+
+pub record TellsGiven (m : CManifest) (told : CRefusal) : Type 0 where
+  pub its : ManifestError
+  pub refused : refusal_of (parts_given m) ≡ Some its
+  pub cause : told.cause ≡ cause_number its
+  pub endpoint : told.endpoint ≡ endpoint_told (given_place m).endpoint
+  pub region : told.region ≡ region_told (given_place m).region
+  pub line : told.line ≡ 0
+  pub column : told.column ≡ 0
+
+abbrev pub IsGiven : CManifest → Type 0
+IsGiven m = (parts : Parts) × Gives m parts

@@ -1,0 +1,211 @@
+// SPDX-License-Identifier: MIT OR Apache-2.0
+//! Why and where a manifest is refused, for C.
+ghost use Rattle.std.specs.Prelude.{◌≡◌, ◌≢◌, ◌⊎◌, ◌≤◌, ◌++◌, [], ◌∷◌, None, IfSome, length, take, drop, min};
+ghost use Rattle.ffa_manifest.specs.declared.parts_place.PartsPlace.{PartsPlace};
+ghost use Rattle.ffa_model.specs.declared.limits.TheConstants.{MOST_ENDPOINTS, MOST_REGIONS};
+ghost use Rattle.ffa_c.specs.Booting.{cause_number};
+ghost use Rattle.ffa_c.specs.Refusing.{IsGiven, IsText, TellsGiven, TellsText, column_told, endpoint_told, given_place, line_told, region_from, region_told, untold_from, untold_place, untold_region};
+
+use crate::booting::number_of;
+use crate::codes::{NO_MEMORY, NOTHING, OK};
+use crate::manifest::{
+    CEndpoint, CManifest, CRegion, counted_endpoints, endpoint_of, manifest_of_numbers, region_of,
+    version_of, worlds_of,
+};
+use ffa_manifest::{ManifestError, ManifestRefusal, PartsPlace, TextPlace, place_of_parts};
+use ffa_model::{EndpointId, MOST_ENDPOINTS, MOST_REGIONS, PageNo};
+use std::alloc::Global;
+
+/// Why a manifest is refused, and where.
+#[repr(C)]
+#[derive(Clone, Copy)]
+pub struct CRefusal {
+    /// The cause, from `MANIFEST_TOML` to `MANIFEST_VERSION`, or `MANIFEST_TABLES_OUTSIDE`.
+    pub cause: u32,
+    /// The identifier of the endpoint that is refused, or `NOTHING` where that is something else.
+    pub endpoint: u32,
+    /// The endpoint's region, counted from 1, or 0 where that isn't refused.
+    pub region: u64,
+    /// The line of a text that is no UTF-8 or no TOML, counted from 1; else 0.
+    pub line: u64,
+    /// The character in that line, counted from 1; else 0.
+    pub column: u64,
+    /// How many bytes the words have that say it; 0 of numbers.
+    pub words: u64,
+}
+
+/// Why a manifest's text is refused, and where, and in words: what the program says of it with `--verbose`. 0 is that it
+/// describes a machine, and then nothing is written. Else `NO_MEMORY`, or the cause, with `refusal` and as much of
+/// the words as there is room for, with a NUL behind it.
+#[unsafe(no_mangle)]
+pub extern "C" fn gorseplumb_why_text(
+    alloc: Global,
+    text: &[u8],
+    refusal: &mut CRefusal,
+    words: &mut [u8],
+) -> u32
+    ensures accepted { result ≡ 0 → IsText text.now }
+    ensures told { result ≢ 0 → result ≢ NO_MEMORY → (result ≡ refusal.new.cause) × TellsText text.now refusal.new }
+    ensures stays { (result ≡ 0) ⊎ (result ≡ NO_MEMORY) → (refusal.new ≡ refusal.old) × (words.new ≡ words.old) }
+{
+    let Ok(read) = ffa_manifest::explain(alloc, text) else {
+        return NO_MEMORY;
+    };
+    let Err(its) = read else {
+        return OK;
+    };
+    let cause = number_of(its.cause);
+    let Ok(said) = its.to_string(alloc) else {
+        return NO_MEMORY;
+    };
+    if cause != NO_MEMORY {
+        *refusal = told_of_text(text, &its, said.len());
+        put_words(words, said.as_bytes());
+    }
+    cause
+}
+
+/// Why a manifest that is given as numbers is refused, and where. 0 is that it gives a machine, and then `refusal` stays.
+/// Else the cause. It takes no memory.
+#[unsafe(no_mangle)]
+pub extern "C" fn gorseplumb_why_manifest(given: &CManifest, refusal: &mut CRefusal) -> u32
+    ensures accepted { result ≡ 0 → IsGiven given.now }
+    ensures told { result ≢ 0 → (result ≡ refusal.new.cause) × TellsGiven given.now refusal.new }
+    ensures stays { result ≡ 0 → refusal.new ≡ refusal.old }
+{
+    match manifest_of_numbers(given) {
+        Ok(_) => OK,
+        Err(cause) => {
+            let place = place_of_numbers(given);
+            *refusal = CRefusal::at(cause, place.endpoint, place.region);
+            number_of(cause)
+        }
+    }
+}
+
+impl CRefusal {
+    // For this cause, at an endpoint and one of its regions, or at none.
+    fn at(cause: ManifestError, endpoint: Option<EndpointId>, region: Option<usize>) -> CRefusal
+        ensures { result ≡ record {
+          cause = cause_number cause;
+          endpoint = endpoint_told endpoint;
+          region = region_told region;
+          line = 0;
+          column = 0;
+          words = 0;
+        } }
+    {
+        CRefusal {
+            cause: number_of(cause),
+            endpoint: match endpoint {
+                Some(endpoint) => u32::from(endpoint.0),
+                None => NOTHING,
+            },
+            region: match region {
+                Some(number) => number as u64,
+                None => 0,
+            },
+            line: 0,
+            column: 0,
+            words: 0,
+        }
+    }
+}
+
+// What is told of a text, with so many words.
+fn told_of_text(text: &[u8], its: &ManifestRefusal, words: usize) -> CRefusal
+    requires { IfSome its.now.byte (λ at. at ≤ length text.now) }
+    ensures cause { result.cause ≡ cause_number its.now.cause }
+    ensures endpoint { result.endpoint ≡ endpoint_told its.now.place.endpoint }
+    ensures region { result.region ≡ region_told its.now.place.region }
+    ensures line { result.line ≡ line_told text.now its.now.byte }
+    ensures column { result.column ≡ column_told text.now its.now.byte }
+{
+    let mut told = CRefusal::at(its.cause, its.place.endpoint, its.place.region);
+    if let Some(at) = its.byte {
+        let place = TextPlace::of(text, at);
+        told.line = place.line as u64;
+        told.column = place.column as u64;
+    }
+    told.words = words as u64;
+    told
+}
+
+// Copies a text to the front of an array, as far as it has room for it and a NUL behind it.
+fn put_words(words: &mut [u8], said: &[u8]) {
+    let Some(last) = words.len().checked_sub(1) else {
+        return;
+    };
+    let size = said.len().min(last);
+    words[..size].copy_from_slice(&said[..size]);
+    words[size] = 0;
+}
+
+// Where numbers are refused.
+fn place_of_numbers(given: &CManifest) -> PartsPlace
+    ensures { result ≡ given_place given.now }
+{
+    let Ok(endpoints) = counted_endpoints(given) else {
+        return untold_place(given);
+    };
+    if worlds_of(given.worlds).is_none() {
+        return PartsPlace::nowhere();
+    }
+    place_of_parts(
+        given.ram_base,
+        given.ram_blocks,
+        PageNo(given.tables),
+        endpoints.as_slice(),
+    )
+}
+
+// Where numbers tell no endpoints.
+fn untold_place(given: &CManifest) -> PartsPlace
+    ensures { result ≡ untold_place given.now }
+{
+    let count = given.endpoint_count as usize;
+    if count <= MOST_ENDPOINTS {
+        untold_among(&given.endpoints[..count])
+    } else {
+        PartsPlace::nowhere()
+    }
+}
+
+fn untold_among(endpoints: &[CEndpoint]) -> PartsPlace
+    requires { length endpoints.now ≤ MOST_ENDPOINTS }
+    ensures { result ≡ untold_from 0 endpoints.now }
+{
+    for (index, endpoint) in endpoints.iter().enumerate() {
+        if endpoint_of(endpoint).is_err() {
+            return PartsPlace {
+                endpoint: Some(EndpointId::at(index)),
+                region: untold_region(endpoint),
+            };
+        }
+    }
+    PartsPlace::nowhere()
+}
+
+// In which region an endpoint is refused that tells none.
+fn untold_region(given: &CEndpoint) -> Option<usize>
+    ensures { result ≡ untold_region given.now }
+{
+    let count = given.region_count as usize;
+    if version_of(given.version).is_some() && count <= MOST_REGIONS {
+        region_among(&given.regions[..count])
+    } else {
+        None
+    }
+}
+
+fn region_among(regions: &[CRegion]) -> Option<usize>
+    requires { length regions.now ≤ MOST_REGIONS }
+    ensures { result ≡ region_from 0 regions.now }
+{
+    for (index, region) in regions.iter().enumerate() {
+        if region_of(region).is_err() {
+            return Some(index + 1);
+        }
+    }
+    None
+}
