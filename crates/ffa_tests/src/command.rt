@@ -98,6 +98,7 @@ fn push_command(words: &mut String, request: &Request<'_>) -> Result<(), AllocEr
             write!(words, "generate {manifest} {seed} {lines}")
         }
         Request::Test(options) => write!(words, "test {}", options.folder),
+        Request::Lower { trace, .. } => write!(words, "lower {trace}"),
     }
 }
 
@@ -129,6 +130,7 @@ fn push_options(words: &mut String, request: &Request<'_>) -> Result<(), AllocEr
     match *request {
         Request::Play(options) => {
             push_machine(words, options.machine)?;
+            push_flags(words, &[("words", options.words)])?;
             push_purpose(words, options.purpose)
         }
         Request::Layout { regions, .. } => push_flags(words, &[("regions", regions)]),
@@ -140,9 +142,10 @@ fn push_options(words: &mut String, request: &Request<'_>) -> Result<(), AllocEr
         }
         Request::Test(options) => {
             push_flags(words, &[("tap", options.tap)])?;
-            push_setting(words, options.processors, options.worlds)
+            push_setting(words, options.processors, options.worlds)?;
+            push_flags(words, &[("words", options.words)])
         }
-        Request::Check { .. } | Request::Descriptor { .. } => Ok(()),
+        Request::Check { .. } | Request::Descriptor { .. } | Request::Lower { .. } => Ok(()),
     }
 }
 
@@ -268,6 +271,18 @@ ffaplay record row.toml --worlds first.trace --tlb => record row.toml first.trac
 ffaplay compare a b --worlds c --names => compare a b c --worlds --names
 ffaplay picture a b --worlds => picture a b 0 0 --worlds
 ffaplay test --worlds rows --tap => test rows --tap --worlds
+ffaplay run --words row.toml --tlb first.trace => run row.toml first.trace --tlb --words
+ffaplay demo --names --words first.trace => demo first.trace --words --names
+ffaplay record row.toml first.trace --words => record row.toml first.trace --words
+ffaplay compare a b --words c => compare a b c --words
+ffaplay picture a b --words --page => picture a b 0 0 --words --page
+ffaplay test rows --words --worlds => test rows --worlds --words
+ffaplay lower first.trace => lower first.trace
+ffaplay lower - => lower - --at-once
+ffaplay lower --verbose first.trace => lower first.trace --verbose
+ffaplay lower => MissingRequiredArgument
+ffaplay lower --words first.trace => UnknownArgument
+ffaplay check --words row.toml => UnknownArgument
 ffaplay generate row.toml --worlds --count => generate row.toml 1 1000 --count --worlds
 ffaplay check --worlds row.toml => UnknownArgument
 ffaplay layout row.toml --worlds => UnknownArgument

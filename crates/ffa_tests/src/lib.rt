@@ -37,3 +37,5 @@ mod tlb;
 mod told;
 #[cfg(test)]
 mod walker;
+#[cfg(test)]
+mod words;

@@ -19,7 +19,7 @@ use Rattle.play_arguments.specs.declared.command_line.Source.{Source}
 use Rattle.play_arguments.specs.declared.command_line.Source.TheVariants.{BuiltIn, File}
 use Rattle.play_arguments.specs.declared.command_line.TextOptions.{TextOptions}
 use Rattle.play_arguments.specs.declared.command_line.Request.{Request}
-use Rattle.play_arguments.specs.declared.command_line.Request.TheVariants.{Play, Check, Layout, Descriptor, Generate, Test}
+use Rattle.play_arguments.specs.declared.command_line.Request.TheVariants.{Play, Check, Layout, Descriptor, Generate, Test, Lower}
 
 -- a path that has to be given
 abbrev pub path_rule : Text → Rule
@@ -57,9 +57,9 @@ with_optional id app = with_rule app (value_rule id)
 abbrev pub with_worlds : App → App
 with_worlds app = with_flag (codes "worlds") app
 
--- how many processors run the machine, and whether it tells worlds apart
+-- how many processors run the machine, whether it tells worlds apart, and whether the trace is in words
 abbrev pub with_setting : App → App
-with_setting app = with_worlds (with_optional (codes "processors") app)
+with_setting app = with_flag (codes "words") (with_worlds (with_optional (codes "processors") app))
 
 -- how the machine is built: with RAM in frames, and with a cache of translations; and its setting
 abbrev pub with_machine_flags : App → App
@@ -148,6 +148,9 @@ with_folder app = with_rule app (path_rule (codes "folder"))
 unfoldable pub test_app : App
 test_app = with_setting (with_flag (codes "tap") (with_folder (new_app (codes "test"))))
 
+unfoldable pub lower_app : App
+lower_app = with_verbose (with_trace (new_app (codes "lower")))
+
 -- the program, which has a version and has to be given a command
 unfoldable pub bare : App
 bare =
@@ -170,7 +173,7 @@ with_writers app = with_subcommand (with_subcommand app descriptor_app.top) gene
 unfoldable pub program : App
 program =
     let made = with_writers (with_manifests (with_texts (with_plays bare))) in
-    with_subcommand (with_subcommand made picture_app.top) test_app.top
+    with_subcommand (with_subcommand (with_subcommand made picture_app.top) test_app.top) lower_app.top
 
 -- what a descriptor is to hold, in words
 pub record Described : Type 0 where
@@ -219,55 +222,60 @@ path_of (File path) = Some path.now
 
 -- a command with its paths and what its flags say
 pub data Ask : Type 0 where
-  play : (manifest : Option Text) → (trace : Text) → MachineOptions → Aim → (verbose : Bool) → Ask
+  play : (manifest : Option Text) → (trace : Text) → MachineOptions → Aim → (words verbose : Bool) → Ask
   check : Text → Bool → Ask
   layout : Text → (regions verbose : Bool) → Ask
   descriptor : (manifest : Option Text) → Described → Ask
   generate : Text → (seed lines : ℕ) → (count worlds verbose : Bool) → Ask
-  test : (folder : Text) → (tap : Bool) → (processors : Option ℕ) → (worlds : Bool) → Ask
+  test : (folder : Text) → (tap : Bool) → (processors : Option ℕ) → (worlds words : Bool) → Ask
+  lower : (trace : Text) → (verbose : Bool) → Ask
 
 abbrev pub ask_of : Request → Ask
-ask_of (Play o) = play (path_of o.source) o.trace.now o.machine (aim_of o.purpose) o.verbose
+ask_of (Play o) = play (path_of o.source) o.trace.now o.machine (aim_of o.purpose) o.words o.verbose
 ask_of (Check manifest verbose) = check manifest.now verbose
 ask_of (Layout manifest regions verbose) = layout manifest.now regions verbose
 ask_of (Descriptor manifest words) = descriptor (option_map (λ s. s.now) manifest) (words_of words)
 ask_of (Generate o) = generate o.manifest.now o.seed o.lines o.count o.worlds o.verbose
-ask_of (Test o) = test o.folder.now o.tap o.processors o.worlds
+ask_of (Test o) = test o.folder.now o.tap o.processors o.worlds o.words
+ask_of (Lower trace verbose) = lower trace.now verbose
 
--- the path of the manifest that is asked for, that of the trace, and that of the expected text
+-- the path of the manifest that is asked for, that of the trace that is played, and that of the expected text
 abbrev pub manifest_of : Ask → Option Text
-manifest_of (play manifest trace machine aim verbose) = manifest
+manifest_of (play manifest trace machine aim words verbose) = manifest
 manifest_of (check manifest verbose) = Some manifest
 manifest_of (layout manifest regions verbose) = Some manifest
 manifest_of (descriptor manifest words) = manifest
 manifest_of (generate manifest seed lines count worlds verbose) = Some manifest
-manifest_of (test folder tap processors worlds) = None
+manifest_of (test folder tap processors worlds words) = None
+manifest_of (lower trace verbose) = None
 
 abbrev pub trace_of : Ask → Option Text
-trace_of (play manifest trace machine aim verbose) = Some trace
+trace_of (play manifest trace machine aim words verbose) = Some trace
 trace_of _ = None
 
 abbrev pub expected_of : Ask → Option Text
-expected_of (play manifest trace machine (compare expected text) verbose) = Some expected
+expected_of (play manifest trace machine (compare expected text) words verbose) = Some expected
 expected_of _ = None
 
 -- whether more is to be said of what is refused
 abbrev pub verbose_of : Ask → Bool
-verbose_of (play manifest trace machine aim verbose) = verbose
+verbose_of (play manifest trace machine aim words verbose) = verbose
 verbose_of (check manifest verbose) = verbose
 verbose_of (layout manifest regions verbose) = verbose
 verbose_of (descriptor manifest words) = false
 verbose_of (generate manifest seed lines count worlds verbose) = verbose
-verbose_of (test folder tap processors worlds) = false
+verbose_of (test folder tap processors worlds words) = false
+verbose_of (lower trace verbose) = verbose
 
 -- the same, of which more is to be said, where it can be
 abbrev pub said_more : Ask → Ask
-said_more (play manifest trace machine aim verbose) = play manifest trace machine aim true
+said_more (play manifest trace machine aim words verbose) = play manifest trace machine aim words true
 said_more (check manifest verbose) = check manifest true
 said_more (layout manifest regions verbose) = layout manifest regions true
 said_more (descriptor manifest words) = descriptor manifest words
 said_more (generate manifest seed lines count worlds verbose) = generate manifest seed lines count worlds true
-said_more (test folder tap processors worlds) = test folder tap processors worlds
+said_more (test folder tap processors worlds words) = test folder tap processors worlds words
+said_more (lower trace verbose) = lower trace true
 
 -- whether a path is given and is `-`, which stands for standard input
 unfoldable pub is_input : Option Text → Bool
@@ -275,8 +283,9 @@ is_input path = option_map_or (λ p. bytes_eq p (codes "-")) path false
 
 -- whether each text is to be written before more of the trace is read
 abbrev pub answers_at_once : Ask → Bool
-answers_at_once (play manifest trace machine (print text strict keep_going interactive) verbose) =
+answers_at_once (play manifest trace machine (print text strict keep_going interactive) words verbose) =
     text.line_buffered || (interactive || is_input (Some trace))
+answers_at_once (lower trace verbose) = is_input (Some trace)
 answers_at_once _ = false
 
 -- standard input can be read once: at most one of the paths is `-`
@@ -285,7 +294,7 @@ reads_once ask = nat_le (count_by is_input (manifest_of ask ∷ trace_of ask ∷
 
 -- flags that exclude one another: a play that checks guards isn't one that lives on behind a bad line
 abbrev pub excludes_none : Ask → Bool
-excludes_none (play manifest trace machine (print text strict keep_going interactive) verbose) =
+excludes_none (play manifest trace machine (print text strict keep_going interactive) words verbose) =
     not ((strict || keep_going) && interactive)
 excludes_none _ = true
 
@@ -372,7 +381,7 @@ unfoldable pub play_in : List Row → (manifest : Option Text) → Aim → Optio
 play_in rows manifest aim = do
   trace ← first_of (codes "trace") rows
   processors ← processors_in rows
-  Some (play manifest trace (machine_in rows processors) aim (is_given (codes "verbose") rows))
+  Some (play manifest trace (machine_in rows processors) aim (is_given (codes "words") rows) (is_given (codes "verbose") rows))
 
 unfoldable pub play_file_in : List Row → Aim → Option Ask
 play_file_in rows aim = do
@@ -419,7 +428,12 @@ unfoldable pub test_in : List Row → Option Ask
 test_in rows = do
   folder ← first_of (codes "folder") rows
   processors ← processors_in rows
-  Some (test folder (is_given (codes "tap") rows) processors (is_given (codes "worlds") rows))
+  Some (test folder (is_given (codes "tap") rows) processors (is_given (codes "worlds") rows) (is_given (codes "words") rows))
+
+unfoldable pub lower_in : List Row → Option Ask
+lower_in rows = do
+  trace ← first_of (codes "trace") rows
+  Some (lower trace (is_given (codes "verbose") rows))
 
 unfoldable pub ask_in : Text → List Row → Option Ask
 ask_in name rows =
@@ -433,6 +447,7 @@ ask_in name rows =
     else if bytes_eq name (codes "descriptor") then descriptor_in rows
     else if bytes_eq name (codes "generate") then generate_in rows
     else if bytes_eq name (codes "test") then test_in rows
+    else if bytes_eq name (codes "lower") then lower_in rows
     else None
 
 -- what the command that was met asks for, by its name and its matches

@@ -3,7 +3,7 @@
 ghost use Rattle.std.specs.Prelude.{◌≡◌, option_map, codes, drop, nat_eq, true};
 ghost use Rattle.std.specs.List.{starts_with};
 ghost use Rattle.clap.specs.Words.{found_of, first_of, rows_of, subcommand_rows_of};
-ghost use Rattle.play_arguments.specs.Commands.{aim_of, ask_of, path_of, words_of, manifest_of, trace_of, expected_of, verbose_of, answers_at_once, is_input, reads_once, asked_in, is_given, number_of, numeral_of, machine_in, text_in, words_in, ask_in, ask_met, number_in, print_in, compare_in, draw_in, play_in, play_file_in, count_of, processors_in, check_in, layout_in, descriptor_in, generate_in, test_in, said_more, excludes_none};
+ghost use Rattle.play_arguments.specs.Commands.{aim_of, ask_of, path_of, words_of, manifest_of, trace_of, expected_of, verbose_of, answers_at_once, is_input, reads_once, asked_in, is_given, number_of, numeral_of, machine_in, text_in, words_in, ask_in, ask_met, number_in, print_in, compare_in, draw_in, play_in, play_file_in, count_of, processors_in, check_in, layout_in, descriptor_in, generate_in, test_in, lower_in, said_more, excludes_none};
 
 use clap::ArgMatches;
 use ffa_model::MOST_PROCESSORS;
@@ -146,6 +146,8 @@ pub struct PlayOptions<'a> {
     pub trace: &'a str,
     pub machine: MachineOptions,
     pub purpose: Purpose<'a>,
+    /// The trace is in words, and comes to one of the plain format, which is played.
+    pub words: bool,
     /// More is said of what is refused.
     pub verbose: bool,
 }
@@ -175,6 +177,8 @@ pub struct TestOptions<'a> {
     pub processors: Option<usize>,
     /// Each machine tells worlds apart, as `MachineOptions` has it.
     pub worlds: bool,
+    /// The traces are in words, as `PlayOptions` has it.
+    pub words: bool,
 }
 
 /// A command with its paths, which are words of the command line, and what its flags say.
@@ -205,6 +209,11 @@ pub enum Request<'a> {
     Generate(GenerateOptions<'a>),
     /// To play the traces of a folder, each with its guards.
     Test(TestOptions<'a>),
+    /// To print a trace in words as one of the plain format.
+    Lower {
+        trace: &'a str,
+        verbose: bool,
+    },
 }
 
 impl<'a> Request<'a> {
@@ -217,11 +226,11 @@ impl<'a> Request<'a> {
             Request::Check { manifest, .. } | Request::Layout { manifest, .. } => Some(manifest),
             Request::Generate(options) => Some(options.manifest),
             Request::Descriptor { manifest, .. } => manifest,
-            Request::Test(_) => None,
+            Request::Test(_) | Request::Lower { .. } => None,
         }
     }
 
-    /// The path of the trace that it names.
+    /// The path of the trace that it plays.
     pub fn trace(&self) -> Option<&'a str>
         ensures { option_map (λ path. path.now) result ≡ trace_of (ask_of self.now) }
     {
@@ -254,6 +263,7 @@ impl<'a> Request<'a> {
             Request::Play(options) => options.verbose,
             Request::Check { verbose, .. } | Request::Layout { verbose, .. } => verbose,
             Request::Generate(options) => options.verbose,
+            Request::Lower { verbose, .. } => verbose,
             Request::Descriptor { .. } | Request::Test(_) => false,
         }
     }
@@ -276,6 +286,7 @@ impl<'a> Request<'a> {
                     ..
                 },
             ) => text.line_buffered || interactive || is_input(Some(trace)),
+            Request::Lower { trace, .. } => is_input(Some(trace)),
             _ => false,
         }
     }
@@ -317,6 +328,10 @@ impl<'a> Request<'a> {
                 verbose: true,
                 ..options
             }),
+            Request::Lower { trace, .. } => Request::Lower {
+                trace,
+                verbose: true,
+            },
             Request::Descriptor { .. } | Request::Test(_) => self,
         }
     }
@@ -511,6 +526,7 @@ fn play_in<'a>(
         trace,
         machine: machine_in(matches, processors),
         purpose,
+        words: is_given(matches, "words"),
         verbose: is_given(matches, "verbose"),
     }))
 }
@@ -596,7 +612,17 @@ fn test_in<'a>(matches: &ArgMatches<'a>) -> Option<Request<'a>>
         tap: is_given(matches, "tap"),
         processors: processors_in(matches)?,
         worlds: is_given(matches, "worlds"),
+        words: is_given(matches, "words"),
     }))
+}
+
+#[tactic(auto, unfolding(crate::specs::Commands::lower_in))]
+fn lower_in<'a>(matches: &ArgMatches<'a>) -> Option<Request<'a>>
+    ensures { option_map ask_of result ≡ lower_in (rows_of (found_of matches.now)) }
+{
+    let trace = text_of(matches, "trace")?;
+    let verbose = is_given(matches, "verbose");
+    Some(Request::Lower { trace, verbose })
 }
 
 #[tactic(auto, unfolding(crate::specs::Commands::ask_in))]
@@ -623,6 +649,8 @@ fn request_in<'a>(name: &str, matches: &ArgMatches<'a>) -> Option<Request<'a>>
         generate_in(matches)
     } else if name == "test" {
         test_in(matches)
+    } else if name == "lower" {
+        lower_in(matches)
     } else {
         None
     }

@@ -98,6 +98,11 @@ const WORLDS: Word = Word::Flag {
     help: "Tells memory of the normal world, which is non-secure, from all other",
 };
 
+const WORDS: Word = Word::Flag {
+    id: "words",
+    help: "Reads a trace in words: calls and what registers hold by their names, and numbers with 0x",
+};
+
 const LINE_BUFFERED: Word = Word::Flag {
     id: "line-buffered",
     help: "Writes the text of each line before more of the trace is read",
@@ -153,6 +158,7 @@ const RUN: Entry = Entry {
         TLB,
         PROCESSORS,
         WORLDS,
+        WORDS,
         LINE_BUFFERED,
         NUMBER,
         NAMES,
@@ -174,6 +180,7 @@ const DEMO: Entry = Entry {
         TLB,
         PROCESSORS,
         WORLDS,
+        WORDS,
         LINE_BUFFERED,
         NUMBER,
         NAMES,
@@ -189,15 +196,17 @@ const DEMO: Entry = Entry {
 const RECORD: Entry = Entry {
     name: "record",
     about: "Prints a trace with the guards of its own play on the machine of a manifest",
-    words: &[MANIFEST, TRACE, FRAMES, TLB, PROCESSORS, WORLDS, VERBOSE],
+    words: &[
+        MANIFEST, TRACE, FRAMES, TLB, PROCESSORS, WORLDS, WORDS, VERBOSE,
+    ],
 };
 
 const COMPARE: Entry = Entry {
     name: "compare",
     about: "Compares what a trace prints with what is expected",
     words: &[
-        MANIFEST, TRACE, EXPECTED, FRAMES, TLB, PROCESSORS, WORLDS, NUMBER, NAMES, EXPLAIN, SHORT,
-        VERBOSE,
+        MANIFEST, TRACE, EXPECTED, FRAMES, TLB, PROCESSORS, WORLDS, WORDS, NUMBER, NAMES, EXPLAIN,
+        SHORT, VERBOSE,
     ],
 };
 
@@ -317,7 +326,7 @@ const TAP: Word = Word::Flag {
 const TEST: Entry = Entry {
     name: "test",
     about: "Plays the traces of a folder, and checks their guards",
-    words: &[FOLDER, TAP, PROCESSORS, WORLDS],
+    words: &[FOLDER, TAP, PROCESSORS, WORLDS, WORDS],
 };
 
 const EVERY: Word = Word::Number {
@@ -346,8 +355,14 @@ const PICTURE: Entry = Entry {
     name: "picture",
     about: "Prints a picture, as SVG, of who reaches which page along a trace",
     words: &[
-        MANIFEST, TRACE, EVERY, WIDTH, REFUSED, PAGE, PROCESSORS, WORLDS, VERBOSE,
+        MANIFEST, TRACE, EVERY, WIDTH, REFUSED, PAGE, PROCESSORS, WORLDS, WORDS, VERBOSE,
     ],
+};
+
+const LOWER: Entry = Entry {
+    name: "lower",
+    about: "Prints a trace in words as one of the plain format",
+    words: &[TRACE, VERBOSE],
 };
 
 fn arg<'a>(alloc: Global, word: &Word<'a>) -> Arg<'a>
@@ -424,14 +439,14 @@ fn with_commands<'a>(alloc: Global, entries: &[Entry<'a>]) -> Result<Command<'a>
 }
 
 /// The program's command line.
-#[tactic(auto, unfolding(crate::specs::Commands::program, crate::specs::Commands::run_app, crate::specs::Commands::demo_app, crate::specs::Commands::record_app, crate::specs::Commands::compare_app, crate::specs::Commands::check_app, crate::specs::Commands::layout_app, crate::specs::Commands::descriptor_app, crate::specs::Commands::generate_app, crate::specs::Commands::picture_app, crate::specs::Commands::test_app))]
+#[tactic(auto, unfolding(crate::specs::Commands::program, crate::specs::Commands::run_app, crate::specs::Commands::demo_app, crate::specs::Commands::record_app, crate::specs::Commands::compare_app, crate::specs::Commands::check_app, crate::specs::Commands::layout_app, crate::specs::Commands::descriptor_app, crate::specs::Commands::generate_app, crate::specs::Commands::picture_app, crate::specs::Commands::test_app, crate::specs::Commands::lower_app))]
 pub(crate) fn program<'a>(alloc: Global) -> Result<Command<'a>, AllocError>
     ensures { IfOk result (λ c. app_of c ≡ program) }
 {
     with_commands(
         alloc,
         &[
-            RUN, DEMO, RECORD, COMPARE, CHECK, LAYOUT, DESCRIPTOR, GENERATE, PICTURE, TEST,
+            RUN, DEMO, RECORD, COMPARE, CHECK, LAYOUT, DESCRIPTOR, GENERATE, PICTURE, TEST, LOWER,
         ],
     )
 }

@@ -100,6 +100,7 @@ module _ (ran : Ran) (holds : Option (List ℕ)) (kept : Keeps ran.streams.holds
   done (request.Descriptor path words) (own, are, (said, is, (text, grows, p))) = (own, are, (said, is, (text, grows, written _ p)))
   done (request.Generate o) (parts, is, p) = (parts, is, λ prints. wrote (p prints))
   done (request.Test o) p = quiet p
+  done (request.Lower trace verbose) p = quiet p
 
   stops : (request : Request) (n : ℕ) → StopsAt request ran n → StopsAt request (with_holds ran holds) n
   stops (request.Play o) n p = leaves o (λ t start. stops_by t start n) p

@@ -96,7 +96,8 @@ pub record Played (o : PlayOptions) (ran : Ran) (Left : KnownTask → Bench → 
   pub serves : IsTaskFor o.purpose ran.expected task
   pub left : Left task (begun_by o.machine.processors (first_of (with_worlds o.machine.worlds parts)))
 
--- a command was done, on whichever machine; a test comes to plays, which are commands of their own
+-- a command was done, on whichever machine; a test comes to plays, which are commands of their own, and a trace in words is
+-- printed by none of this
 abbrev pub IsDone : Request → Ran → Type 0
 IsDone (request.Play o) ran = Played o ran (λ task start. IsDoneBy task start ran.streams)
 IsDone (request.Check manifest verbose) ran = IsChecked ran.manifest ran.streams.held ran.streams.holds
@@ -105,6 +106,7 @@ IsDone (request.Descriptor path words) ran =
     IsSaidFor path words ran.manifest ran.streams.held ran.streams.holds
 IsDone (request.Generate o) ran = IsMade o.lines o.count ran.manifest ran.streams.held ran.streams.holds
 IsDone (request.Test o) ran = IsQuiet ran
+IsDone (request.Lower trace verbose) ran = IsQuiet ran
 
 -- a command's play stopped at line n
 abbrev pub StopsAt : Request → Ran → ℕ → Type 0

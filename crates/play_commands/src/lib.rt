@@ -4,6 +4,7 @@
 #![tactic(auto)]
 
 mod generating;
+mod lowering;
 mod playing;
 mod program;
 

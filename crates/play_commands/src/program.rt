@@ -4,6 +4,7 @@ ghost use Rattle.std.specs.Prelude.{◌≡◌, ◌≤◌, ◌⊎◌, true, false
 ghost use Rattle.std.specs.Io.KnownBytes.{Keeps};
 ghost use Rattle.play_commands.specs.Performed.{Differs, Does, FailsFor, IsDone, IsRead, IsUnsaid, is_session, is_strict, SomeBadLine, SomeRefusal, SomeUnmetGuard, needs_manifest, needs_trace, ran};
 
+use crate::lowering::lower;
 use play_arguments::{PlayOptions, Purpose, Request};
 use play_files::{Commands, Files};
 use play_report::{Failure, Notes, accept, describe_for, lay_out, show, tell, tell_more};
@@ -70,6 +71,17 @@ impl<M: Machines, A: Allocator + Copy> Commands for Program<M, A> {
                 status
             }
         }
+    }
+
+    fn lower<R: Read + Drop, W: Write, E: Write>(
+        &self,
+        path: &str,
+        files: Files<'_, R>,
+        verbose: bool,
+        out: &mut W,
+        err: &mut E,
+    ) -> u8 {
+        lower(self.alloc, path, files, verbose, out, err)
     }
 
     fn show<T: Display, W: Write, E: Write>(&self, help: &T, out: &mut W, err: &mut E) -> u8 {
@@ -156,8 +168,8 @@ impl<M: Machines, A: Allocator + Copy> Program<M, A> {
                 words,
             } => { describe_for(self.alloc, alloc, path, manifest, words, out, notes) }
             Request::Generate(options) => self.generate(options, manifest, out, notes),
-            // Its traces are played as commands of their own.
-            Request::Test(_) => Ok(()),
+            // Its traces are played as commands of their own, and a trace in words isn't played.
+            Request::Test(_) | Request::Lower { .. } => Ok(()),
         }
     }
 }

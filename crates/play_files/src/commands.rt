@@ -28,6 +28,17 @@ pub trait Commands {
         err: &mut E,
     ) -> u8;
 
+    /// Prints the trace at this path as one of the plain format, if it could be opened, and says more of a bad line where that
+    /// is asked for.
+    fn lower<R: Read + Drop, W: Write, E: Write>(
+        &self,
+        path: &str,
+        files: Files<'_, R>,
+        verbose: bool,
+        out: &mut W,
+        err: &mut E,
+    ) -> u8;
+
     /// Writes the help or the version that was asked for.
     fn show<T: Display, W: Write, E: Write>(&self, help: &T, out: &mut W, err: &mut E) -> u8;
 }

@@ -8,6 +8,7 @@ mod input;
 mod output;
 mod running;
 mod testing;
+mod wording;
 
 pub use commands::{Commands, Files};
 pub use running::run;

@@ -4,8 +4,9 @@ use crate::commands::{Commands, Files};
 use crate::input::Input;
 use crate::output::{Output, Told};
 use crate::testing::test;
+use crate::wording::Text;
 use play_arguments::{ErrorKind, Request, STANDARD_INPUT, request};
-use std::alloc::AllocError;
+use std::alloc::{AllocError, Global};
 use std::env::Env;
 use std::io::{BufWriter, IsTerminal, Read, Write};
 use std::{env, fs, io};
@@ -97,12 +98,13 @@ pub(crate) fn carry_out<
     let alloc = rt.alloc();
     let mut reason = None;
     let manifest = unless_no_memory(read_whole(rt, input, request.manifest()), &mut reason)?;
-    let trace = unless_no_memory(open(rt, input, request.trace()), &mut reason)?;
+    let path = lowered(request).or(request.trace());
+    let trace = unless_no_memory(open(rt, input, path), &mut reason)?;
     let expected = unless_no_memory(open(rt, input, request.expected()), &mut reason)?;
     let files = Files {
         manifest: manifest.as_ref().map(|bytes| bytes.as_slice()),
-        trace,
-        expected,
+        trace: text_of(alloc, trace, is_in_words(request))?,
+        expected: text_of(alloc, expected, false)?,
         reason,
     };
     // With no room nothing is gathered: each write goes to standard output at once.
@@ -117,19 +119,60 @@ pub(crate) fn carry_out<
     )
     .map_err(|_| AllocError)?;
     if request.answers_at_once() {
-        return Ok(commands.perform(request, files, &mut out, err));
+        return Ok(perform(commands, request, files, &mut out, err));
     }
     let mut told = Told {
         err,
         kept: Vec::new(alloc),
     };
-    let status = commands.perform(request, files, &mut out, &mut told);
+    let status = perform(commands, request, files, &mut out, &mut told);
     let Told { err, kept } = told;
     if status == 3 && out.get_ref().is_closed {
         return Ok(CLOSED);
     }
     let _ = err.write_all(&kept);
     Ok(status)
+}
+
+// The path of a trace that is to be printed in the plain format.
+fn lowered<'a>(request: &Request<'a>) -> Option<&'a str> {
+    match *request {
+        Request::Lower { trace, .. } => Some(trace),
+        _ => None,
+    }
+}
+
+// Whether the trace that it plays is in words.
+fn is_in_words(request: &Request<'_>) -> bool {
+    match *request {
+        Request::Play(options) => options.words,
+        _ => false,
+    }
+}
+
+// What a reader reads, where there is one, in words or not.
+fn text_of<R: Read + Drop>(
+    alloc: Global,
+    reader: Option<R>,
+    words: bool,
+) -> Result<Option<Text<R, Global>>, AllocError> {
+    match reader {
+        Some(reader) => Ok(Some(Text::new(alloc, reader, words)?)),
+        None => Ok(None),
+    }
+}
+
+fn perform<C: Commands, R: Read + Drop, W: Write, E: Write>(
+    commands: &C,
+    request: &Request<'_>,
+    files: Files<'_, R>,
+    out: &mut W,
+    err: &mut E,
+) -> u8 {
+    match *request {
+        Request::Lower { trace, verbose } => { commands.lower(trace, files, verbose, out, err) }
+        _ => commands.perform(request, files, out, err),
+    }
 }
 
 // What reads the file at a path, where one is named.

@@ -105,12 +105,17 @@ fn play_one<H: AllocGlobal + fs::Files + Clone + Drop, S: Read + Copy + Drop, C:
         processors: options.processors,
         worlds: options.worlds,
     };
-    let request = play_of(manifest.as_str(), trace.as_str(), machine);
+    let request = play_of(manifest.as_str(), trace.as_str(), machine, options.words);
     Ok(carry_out(rt, input, io::sink(), told, commands, &request)?)
 }
 
 // To play a trace past guards that aren't met, on a machine that is built so.
-fn play_of<'a>(manifest: &'a str, trace: &'a str, machine: MachineOptions) -> Request<'a> {
+fn play_of<'a>(
+    manifest: &'a str,
+    trace: &'a str,
+    machine: MachineOptions,
+    words: bool,
+) -> Request<'a> {
     Request::Play(PlayOptions {
         source: Source::File(manifest),
         trace,
@@ -121,6 +126,7 @@ fn play_of<'a>(manifest: &'a str, trace: &'a str, machine: MachineOptions) -> Re
             keep_going: true,
             interactive: false,
         },
+        words,
         verbose: true,
     })
 }

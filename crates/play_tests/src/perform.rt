@@ -43,6 +43,7 @@ const ROW: PlayOptions<'static> = PlayOptions {
     trace: "row.trace",
     machine: MACHINE,
     purpose: PRINT,
+    words: false,
     verbose: false,
 };
 
@@ -53,6 +54,7 @@ const DEMO: Request<'static> = Request::Play(PlayOptions {
     trace: "no.trace",
     machine: MACHINE,
     purpose: PRINT,
+    words: false,
     verbose: false,
 });
 

@@ -18,6 +18,7 @@ const COMPARE: Request<'static> = Request::Play(PlayOptions {
         expected: "row.text",
         text: TEXT,
     },
+    words: false,
     verbose: false,
 });
 
@@ -31,6 +32,7 @@ const SESSION: Request<'static> = Request::Play(PlayOptions {
         keep_going: false,
         interactive: true,
     },
+    words: false,
     verbose: false,
 });
 

@@ -1,0 +1,16 @@
+-- SPDX-License-Identifier: MIT OR Apache-2.0
+use Rattle.std.proofs.Common.{◌≡◌, ◌++◌}
+use Rattle.std.specs.List.{flat_map}
+use Rattle.play_syntax.specs.TraceLines.{words_of}
+use Rattle.play_syntax.specs.TraceText.{spaced}
+use Rattle.play_words.specs.Cuts.{left_length, words_left}
+use Rattle.play_words.specs.Numbers.{bare}
+use Rattle.play_words.specs.Words.{unmarked}
+use Rattle.play_words.proofs.lowering.put_unmarked.Given as goal
+
+abbrev pub invariant-words : goal.invariant-words
+invariant-words g l =
+    l.fn.text.items ++ unmarked (words_of l.line) ≡ l.text.items ++ flat_map (λ word. spaced (bare word)) (words_left l.rest)
+
+abbrev pub decreases-words : goal.decreases-words
+decreases-words g l = left_length l.rest

@@ -1,0 +1,6 @@
+-- SPDX-License-Identifier: MIT OR Apache-2.0
+pub mod Calls
+pub mod Cuts
+pub mod Names
+pub mod Numbers
+pub mod Words

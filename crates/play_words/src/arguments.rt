@@ -1,0 +1,122 @@
+// SPDX-License-Identifier: MIT OR Apache-2.0
+//! What the registers of each call hold, once: definitions, contracts and functions name this table (DEN0077A, 11 to
+//! 16). A wrong row breaks no proof: they are to be read beside the standard's tables.
+
+use crate::name::Name;
+use ffa_model::function::*;
+
+/// Where a number stands, in the register of this number or from it on.
+#[derive(Clone, Copy, Debug, PartialEq, Eq)]
+pub enum Place {
+    /// Bits 31 to 16.
+    High(u32),
+    /// Bits 15 to 0.
+    Low(u32),
+    /// Bits 31 to 0, or all 64 where the call's form reads the register whole.
+    Word(u32),
+    /// Bits 31 to 0 of registers side by side, of which the first has the lowest bits of the number.
+    Words(u32),
+}
+
+/// What stands for an argument that isn't given.
+#[derive(Clone, Copy, Debug, PartialEq, Eq)]
+pub enum Usual {
+    /// Nothing: it has to be given.
+    Needed,
+    Zero,
+    /// What is given as `length`.
+    Length,
+}
+
+/// Of an argument its name; where its number stands; the largest that it may be, in the 32-bit form; and what stands for it.
+pub type Argument = (Name, Place, u128, Usual);
+
+macro_rules! rows {
+    ($($function:ident [$($name:ident $place:ident $register:literal $most:literal $usual:ident),*];)*) => {
+        [$(($function, &[$((Name::$name, Place::$place($register), $most, Usual::$usual)),*])),*]
+    };
+}
+
+/// The calls with their arguments, by the identifier of the 32-bit form.
+#[rattlefmt::skip]
+pub const ARGUMENTS: &[(u32, &[Argument])] = &rows![
+    FFA_VERSION [Major High 1 0x7FFF Needed, Minor Low 1 0xFFFF Needed];
+    FFA_FEATURES [Feature Word 1 0xFFFF_FFFF Needed];
+    FFA_RX_RELEASE [];
+    FFA_RXTX_MAP [Tx Word 1 0xFFFF_FFFF Needed, Rx Word 2 0xFFFF_FFFF Needed, Pages Word 3 0xFFFF_FFFF Needed];
+    FFA_RXTX_UNMAP [Endpoint Word 1 0xFFFF_FFFF Zero];
+    FFA_PARTITION_INFO_GET [Uuid Words 1 0xFFFF_FFFF_FFFF_FFFF_FFFF_FFFF_FFFF_FFFF Zero, CountOnly Low 5 0x1 Zero];
+    FFA_ID_GET [];
+    FFA_MSG_WAIT [Partition High 1 0xFFFF Zero, Context Low 1 0xFFFF Zero];
+    FFA_YIELD [Partition High 1 0xFFFF Zero, Context Low 1 0xFFFF Zero];
+    FFA_RUN [Partition High 1 0xFFFF Needed, Context Low 1 0xFFFF Zero];
+    FFA_MSG_SEND_DIRECT_REQ [
+        Sender High 1 0xFFFF Needed,
+        Receiver Low 1 0xFFFF Needed,
+        Flags Word 2 0xFFFF_FFFF Zero,
+        Payload0 Word 3 0xFFFF_FFFF Zero,
+        Payload1 Word 4 0xFFFF_FFFF Zero,
+        Payload2 Word 5 0xFFFF_FFFF Zero,
+        Payload3 Word 6 0xFFFF_FFFF Zero,
+        Payload4 Word 7 0xFFFF_FFFF Zero
+    ];
+    FFA_MSG_SEND_DIRECT_RESP [
+        Sender High 1 0xFFFF Needed,
+        Receiver Low 1 0xFFFF Needed,
+        Flags Word 2 0xFFFF_FFFF Zero,
+        Payload0 Word 3 0xFFFF_FFFF Zero,
+        Payload1 Word 4 0xFFFF_FFFF Zero,
+        Payload2 Word 5 0xFFFF_FFFF Zero,
+        Payload3 Word 6 0xFFFF_FFFF Zero,
+        Payload4 Word 7 0xFFFF_FFFF Zero
+    ];
+    FFA_MEM_DONATE [
+        Length Word 1 0xFFFF_FFFF Needed,
+        Fragment Word 2 0xFFFF_FFFF Length,
+        Address Word 3 0xFFFF_FFFF Zero,
+        Pages Word 4 0xFFFF_FFFF Zero
+    ];
+    FFA_MEM_LEND [
+        Length Word 1 0xFFFF_FFFF Needed,
+        Fragment Word 2 0xFFFF_FFFF Length,
+        Address Word 3 0xFFFF_FFFF Zero,
+        Pages Word 4 0xFFFF_FFFF Zero
+    ];
+    FFA_MEM_SHARE [
+        Length Word 1 0xFFFF_FFFF Needed,
+        Fragment Word 2 0xFFFF_FFFF Length,
+        Address Word 3 0xFFFF_FFFF Zero,
+        Pages Word 4 0xFFFF_FFFF Zero
+    ];
+    FFA_MEM_RETRIEVE_REQ [
+        Length Word 1 0xFFFF_FFFF Needed,
+        Fragment Word 2 0xFFFF_FFFF Length,
+        Address Word 3 0xFFFF_FFFF Zero,
+        Pages Word 4 0xFFFF_FFFF Zero
+    ];
+    FFA_MEM_RELINQUISH [];
+    FFA_MEM_RECLAIM [Handle Words 1 0xFFFF_FFFF_FFFF_FFFF Needed, Flags Word 3 0xFFFF_FFFF Zero];
+    FFA_NOTIFICATION_BITMAP_CREATE [Endpoint Word 1 0xFFFF_FFFF Needed, Contexts Word 2 0xFFFF_FFFF Needed];
+    FFA_NOTIFICATION_BITMAP_DESTROY [Endpoint Word 1 0xFFFF_FFFF Needed];
+    FFA_NOTIFICATION_BIND [
+        Sender High 1 0xFFFF Needed,
+        Receiver Low 1 0xFFFF Needed,
+        Flags Word 2 0xFFFF_FFFF Zero,
+        Bits Words 3 0xFFFF_FFFF_FFFF_FFFF Needed
+    ];
+    FFA_NOTIFICATION_UNBIND [
+        Sender High 1 0xFFFF Needed,
+        Receiver Low 1 0xFFFF Needed,
+        Flags Word 2 0xFFFF_FFFF Zero,
+        Bits Words 3 0xFFFF_FFFF_FFFF_FFFF Needed
+    ];
+    FFA_NOTIFICATION_SET [
+        Sender High 1 0xFFFF Needed,
+        Receiver Low 1 0xFFFF Needed,
+        Flags Word 2 0xFFFF_FFFF Zero,
+        Bits Words 3 0xFFFF_FFFF_FFFF_FFFF Needed
+    ];
+    FFA_NOTIFICATION_GET [Receiver Low 1 0xFFFF Needed, Context High 1 0xFFFF Zero, Flags Word 2 0xFFFF_FFFF Needed];
+    FFA_SPM_ID_GET [];
+    FFA_MSG_SEND2 [];
+];

@@ -1,0 +1,78 @@
+// SPDX-License-Identifier: MIT OR Apache-2.0
+//! Why the words of a call say none.
+
+use crate::arguments::Usual;
+use crate::function::arguments_of;
+use crate::name::Name;
+use std::fmt;
+
+/// What is wrong first with a call in words, and the column of its word, where the first byte of the line has column 1. An
+/// argument that is missing would stand behind the line's last byte.
+#[derive(Clone, Copy, Debug)]
+pub struct WordsFault {
+    pub column: usize,
+    pub cause: Cause,
+}
+
+/// What is wrong with a word of a call.
+#[derive(Clone, Copy, Debug)]
+pub enum Cause {
+    /// No call has the name.
+    UnknownCall,
+    /// No `=` stands in the word.
+    NoArgument,
+    /// The call whose 32-bit form has this identifier has no argument of the name.
+    UnknownArgument(u32),
+    /// The argument was given before.
+    Twice,
+    /// No hexadecimal number stands behind the `=`.
+    NoNumber,
+    /// The number is larger than this one, which is the largest that the argument may be.
+    TooLarge(u128),
+    /// The argument of this name isn't given.
+    Missing(Name),
+}
+
+/// Why a line isn't lowered.
+#[derive(Clone, Copy, Debug)]
+pub enum LowerError {
+    /// There is no memory.
+    NoMemory,
+    /// The words say no call.
+    Words(WordsFault),
+}
+
+impl fmt::Display for WordsFault {
+    fn fmt<W: fmt::Write>(&self, f: &mut fmt::Formatter<W>) -> fmt::Result {
+        write!(f, "column {}: {}", self.column, self.cause)
+    }
+}
+
+impl fmt::Display for Cause {
+    fn fmt<W: fmt::Write>(&self, f: &mut fmt::Formatter<W>) -> fmt::Result {
+        match self {
+            Cause::UnknownCall => write!(f, "no call has this name"),
+            Cause::NoArgument => write!(f, "an argument is NAME=NUMBER"),
+            Cause::UnknownArgument(function) => put_known(*function, f),
+            Cause::Twice => write!(f, "an argument that was given before"),
+            Cause::NoNumber => write!(f, "no hexadecimal number behind the ="),
+            Cause::TooLarge(most) => write!(f, "a number above {most:X}"),
+            Cause::Missing(name) => write!(f, "the argument {name} is missing"),
+        }
+    }
+}
+
+fn put_known<W: fmt::Write>(function: u32, f: &mut fmt::Formatter<W>) -> fmt::Result {
+    let known = arguments_of(function).unwrap_or(&[]);
+    if known.is_empty() {
+        return write!(f, "the call has no arguments");
+    }
+    write!(f, "no argument of this call, which has")?;
+    for (name, _, _, usual) in known {
+        match usual {
+            Usual::Needed => write!(f, " {name}")?,
+            Usual::Zero | Usual::Length => write!(f, " [{name}]")?,
+        }
+    }
+    Ok(())
+}

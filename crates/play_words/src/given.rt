@@ -1,0 +1,230 @@
+// SPDX-License-Identifier: MIT OR Apache-2.0
+//! The arguments that words give, and the registers that they make.
+ghost use Rattle.std.specs.Prelude.{◌≡◌, ◌+◌, ◌<◌, ◌≤◌, ◌^◌, ◌==◌, [], ◌∷◌, find, length, option_map, position};
+ghost use Rattle.play_syntax.specs.TraceLines.{words_of};
+ghost use Rattle.play_words.specs.Calls.{form_of};
+ghost use Rattle.play_words.specs.Cuts.{left_length, words_left};
+ghost use Rattle.play_words.specs.Words.{Gives, argument_named, given_in, givens, is_given, is_missing, is_whole, most_of, named_in, register_of, registers, share, usual_of, value_named, value_of, word_at};
+
+use crate::arguments::{Argument, Place, Usual};
+use crate::fault::{Cause, LowerError, WordsFault};
+use crate::function::Function;
+use crate::name::Name;
+use crate::number::number_in;
+use std::alloc::Allocator;
+
+/// An argument with the number that was given for it.
+#[derive(Clone, Copy)]
+pub struct Given {
+    pub argument: Argument,
+    pub value: u128,
+}
+
+/// The first word, and what stands behind the space after it.
+pub(crate) fn cut_word(text: &[u8]) -> (&[u8], Option<&[u8]>)
+    ensures words { words_of text.now ≡ result.0.now ∷ words_left result.1 }
+    ensures length { length text.now ≡ length result.0.now + left_length result.1 }
+{
+    match first_of(text, b' ') {
+        Some(end) => (&text[..end], Some(&text[end + 1..])),
+        None => (text, None),
+    }
+}
+
+// Where a byte stands first.
+fn first_of(text: &[u8], byte: u8) -> Option<usize>
+    ensures { result ≡ position (λ c. c == byte) text.now }
+{
+    text.iter().position(|c| *c == byte)
+}
+
+/// The arguments that words give, of which the first stands at this column, in the order in which they stand.
+pub(crate) fn read_given<A: Allocator + Copy>(
+    alloc: A,
+    function: &Function,
+    words: Option<&[u8]>,
+    column: usize,
+) -> Result<Vec<Given, A>, LowerError>
+    requires { column + left_length words < 2 ^ 64 }
+    ensures { Gives (λ given. given.items) (givens (form_of function.now) column [] (words_left words.entry)) result }
+{
+    let mut given = Vec::new(alloc);
+    let mut rest = words;
+    let mut column = column;
+    'words: while let Some(left) = rest {
+        let (word, behind) = cut_word(left);
+        match given_in(function, &given, word) {
+            Ok(one) => match given.push(one) {
+                Ok(()) => (),
+                Err(_) => return Err(LowerError::NoMemory),
+            },
+            Err(cause) => return Err(LowerError::Words(WordsFault { column, cause })),
+        }
+        column += word.len() + 1;
+        rest = behind;
+    }
+    Ok(given)
+}
+
+// What one word gives, behind what was given before it.
+#[tactic(auto, unfolding(crate::specs::Words::given_in))]
+fn given_in(function: &Function, before: &[Given], word: &[u8]) -> Result<Given, Cause>
+    ensures { result ≡ given_in (form_of function.now) before.now word.now }
+{
+    match first_of(word, b'=') {
+        Some(end) => named_in(function, before, &word[..end], &word[end + 1..]),
+        None => Err(Cause::NoArgument),
+    }
+}
+
+#[tactic(auto, unfolding(crate::specs::Words::named_in))]
+fn named_in(function: &Function, before: &[Given], name: &[u8], text: &[u8]) -> Result<Given, Cause>
+    ensures { result ≡ named_in (form_of function.now) before.now name.now text.now }
+{
+    let Some(argument) = argument_named(function.arguments, name) else {
+        return Err(Cause::UnknownArgument(function.narrow));
+    };
+    if is_given(before, name) {
+        return Err(Cause::Twice);
+    }
+    let most = most_of(function, &argument);
+    match number_in(text) {
+        None => Err(Cause::NoNumber),
+        Some(value) if value > most => Err(Cause::TooLarge(most)),
+        Some(value) => Ok(Given { argument, value }),
+    }
+}
+
+fn argument_named(arguments: &[Argument], name: &[u8]) -> Option<Argument>
+    ensures { result ≡ argument_named arguments.now name.now }
+{
+    arguments
+        .iter()
+        .find(|argument| argument.0.text().as_bytes() == name)
+        .copied()
+}
+
+fn is_given(given: &[Given], name: &[u8]) -> bool
+    ensures { result ≡ is_given given.now name.now }
+{
+    given
+        .iter()
+        .any(|one| one.argument.0.text().as_bytes() == name)
+}
+
+// The largest number that an argument may be in the form that the call has.
+fn most_of(function: &Function, argument: &Argument) -> u128
+    ensures { result ≡ most_of (form_of function.now) argument.now }
+{
+    match argument.1 {
+        Place::Word(register) if is_whole(function, register) => 0xFFFF_FFFF_FFFF_FFFF,
+        _ => argument.2,
+    }
+}
+
+// Whether the form reads a register whole.
+fn is_whole(function: &Function, register: u32) -> bool
+    ensures { result ≡ is_whole (form_of function.now) register }
+{
+    function.is_wide && function.whole.contains(&register)
+}
+
+/// The first argument that isn't given and has to be.
+pub(crate) fn first_missing(function: &Function, given: &[Given]) -> Option<Name>
+    ensures { result ≡ option_map (λ argument. argument.0) (find (is_missing given.now) function.now.arguments.now) }
+{
+    match function
+        .arguments
+        .iter()
+        .find(|argument| value_of(given, argument).is_none())
+    {
+        Some(argument) => Some(argument.0),
+        None => None,
+    }
+}
+
+fn value_of(given: &[Given], argument: &Argument) -> Option<u128>
+    ensures { result ≡ value_of given.now argument.now }
+{
+    match value_named(given, argument.0.text().as_bytes()) {
+        Some(value) => Some(value),
+        None => usual_of(given, argument.3),
+    }
+}
+
+fn usual_of(given: &[Given], usual: Usual) -> Option<u128>
+    ensures { result ≡ usual_of given.now usual }
+{
+    match usual {
+        Usual::Needed => None,
+        Usual::Zero => Some(0),
+        Usual::Length => value_named(given, b"length"),
+    }
+}
+
+fn value_named(given: &[Given], name: &[u8]) -> Option<u128>
+    ensures { result ≡ value_named given.now name.now }
+{
+    match given
+        .iter()
+        .find(|one| one.argument.0.text().as_bytes() == name)
+    {
+        Some(one) => Some(one.value),
+        None => None,
+    }
+}
+
+/// The registers of a call with these arguments.
+pub(crate) fn registers(function: &Function, given: &[Given]) -> [u64; 8]
+    ensures { result ≡ registers (form_of function.now) given.now }
+{
+    [
+        u64::from(function.number),
+        register_of(function, given, 1),
+        register_of(function, given, 2),
+        register_of(function, given, 3),
+        register_of(function, given, 4),
+        register_of(function, given, 5),
+        register_of(function, given, 6),
+        register_of(function, given, 7),
+    ]
+}
+
+// What a register has, by its number.
+fn register_of(function: &Function, given: &[Given], number: u32) -> u64
+    ensures { result ≡ register_of (form_of function.now) given.now number }
+{
+    let mut held = 0;
+    for argument in function.arguments {
+        let value = value_of(given, argument).unwrap_or(0);
+        held |= share(function, argument.1, value, number);
+    }
+    held
+}
+
+// What a register, by its number, has of an argument of this value.
+fn share(function: &Function, place: Place, value: u128, number: u32) -> u64
+    ensures { result ≡ share (form_of function.now) place value number }
+{
+    match place {
+        Place::High(its) if number == its => (value % 0x1_0000 * 0x1_0000) as u64,
+        Place::Low(its) if number == its => (value % 0x1_0000) as u64,
+        Place::Word(its) if number == its && is_whole(function, its) => {
+            (value % 0x1_0000_0000_0000_0000) as u64
+        }
+        Place::Word(its) if number == its => (value % 0x1_0000_0000) as u64,
+        Place::Words(first) if first <= number => word_at(value, number - first),
+        _ => 0,
+    }
+}
+
+// The 32-bit word of a number at this place, from the lowest.
+fn word_at(value: u128, place: u32) -> u64
+    ensures { result ≡ word_at value place }
+{
+    if place < 4 {
+        ((value >> (32 * place)) % 0x1_0000_0000) as u64
+    } else {
+        0
+    }
+}
