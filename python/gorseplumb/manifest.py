@@ -57,9 +57,9 @@ class Endpoint:
 @dataclass(frozen=True)
 class Manifest:
     """RAM, from `ram_base` on in blocks of 2 MiB, and the endpoints in their order. Where `worlds` is set, the machine tells
-    memory of the normal world's regions, which is non-secure, from all other, which is secure. The endpoints' tables stand in a
-    row from the page `tables` of RAM on, 2 pages and one for each block for each endpoint, and regions before them or behind. No text
-    says either."""
+    memory of the normal world's regions, which is non-secure, from all other, which is secure. The endpoints' tables stand in
+    a row from the page `tables` of RAM on, 2 pages and one for each block for each endpoint, and regions before them or
+    behind. No text says either."""
 
     ram_base: int
     ram_blocks: int

@@ -29,7 +29,7 @@ _WORDS = re.compile(
 _NUMBER = re.compile(f"{_HEX}+")
 _PREFIXED = re.compile(f"0[xX]{_HEX}+")
 _OF_SESSIONS = {
-    "help": "a line is call X0 .. X7, load A N, store A V, fetch A, show or audit, in hexadecimal",
+    "help": "a line is call X0 .. X7, load A N, store A V, fetch A, show or audit, in hexadecimal; quit ends a session",
     "quit": "the end of the input ends a session, as Ctrl+D does",
 }
 _RUNNER = re.compile("[0-9A-F]{4}")

@@ -1,5 +1,5 @@
 # SPDX-License-Identifier: MIT OR Apache-2.0
-"""Machines whose tables stand elsewhere than at RAM's start: RAM is a block, so each of three endpoints has three pages of them."""
+"""Machines whose tables stand elsewhere than at RAM's start: RAM is a block, so each of three endpoints has three pages."""
 from __future__ import annotations
 
 from dataclasses import replace

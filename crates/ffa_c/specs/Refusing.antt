@@ -1,6 +1,6 @@
 -- SPDX-License-Identifier: MIT OR Apache-2.0
 -- What C is told of a manifest that is refused: why, and where.
-use Rattle.std.specs.Prelude.{◌≡◌, ℕ, suc, Bool, ◌&&◌, ◌<◌, nat_le, length, List, [], ◌∷◌, take, Option, Some, None, Result, Ok, Err, is_ok, is_some, if◌then◌else◌}
+use Rattle.std.specs.Prelude.{◌≡◌, ℕ, suc, Bool, ◌&&◌, ◌<◌, nat_le, length, List, [], ◌∷◌, take, Option, Some, None, Result, Ok, Err, is_ok, is_some, IsOk, IsUtf8, if◌then◌else◌}
 use Rattle.std.specs.Option.{option_map_or}
 use Rattle.ffa_model.specs.declared.endpoint.Endpoint.{Endpoint}
 use Rattle.ffa_model.specs.declared.endpoint.EndpointId.{EndpointId}
@@ -9,7 +9,7 @@ use Rattle.ffa_model.specs.Identifiers.{identifier}
 use Rattle.ffa_manifest.specs.declared.error.ManifestError.{ManifestError}
 use Rattle.ffa_manifest.specs.declared.parts_place.PartsPlace.{PartsPlace}
 use Rattle.ffa_manifest.specs.declared.refusal.ManifestRefusal.{ManifestRefusal}
-use Rattle.ffa_manifest.specs.Document.{Parts}
+use Rattle.ffa_manifest.specs.Document.{machine_of}
 use Rattle.ffa_manifest.specs.Parts.{parts_from}
 use Rattle.ffa_manifest.specs.PartsPlaces.{nowhere, place_of}
 use Rattle.ffa_manifest.specs.Places.{IsRefused}
@@ -19,8 +19,8 @@ use Rattle.ffa_c.specs.declared.manifest.CRegion.{CRegion}
 use Rattle.ffa_c.specs.declared.manifest.CEndpoint.{CEndpoint}
 use Rattle.ffa_c.specs.declared.manifest.CManifest.{CManifest}
 use Rattle.ffa_c.specs.declared.refusing.CRefusal.{CRefusal}
-use Rattle.ffa_c.specs.Booting.{Describes, cause_number}
-use Rattle.ffa_c.specs.Given.{Gives, endpoint_given, endpoints_given, parts_given, refusal_of, region_given, version_given, worlds_given}
+use Rattle.ffa_c.specs.Booting.{cause_number}
+use Rattle.ffa_c.specs.Given.{endpoint_given, endpoints_given, parts_given, refusal_of, region_given, version_given, worlds_given}
 
 -- an endpoint's identifier, and a region's number, or what stands for none
 abbrev pub endpoint_told : Option EndpointId → ℕ
@@ -41,19 +41,21 @@ abbrev pub column_told : List ℕ → Option ℕ → ℕ
 column_told text None = 0
 column_told text (Some at) = column_behind (take at text)
 
--- why and where a text is refused, as the program's reader says it
-pub record TellsText (text : List ℕ) (told : CRefusal) : Type 0 where
-  pub its : ManifestRefusal
-  pub refused : IsRefused text its
+-- what is told of why and where a text is refused
+pub record IsToldOf (text : List ℕ) (its : ManifestRefusal) (told : CRefusal) : Type 0 where
   pub cause : told.cause ≡ cause_number its.cause
   pub endpoint : told.endpoint ≡ endpoint_told its.place.endpoint
   pub region : told.region ≡ region_told its.place.region
   pub line : told.line ≡ line_told text its.byte
   pub column : told.column ≡ column_told text its.byte
 
+-- it is what the program's reader says of it
+abbrev pub TellsText : List ℕ → CRefusal → Type 0
+TellsText text told = (its : ManifestRefusal) × IsRefused text its × IsToldOf text its told
+
 -- it is that of a machine
 abbrev pub IsText : List ℕ → Type 0
-IsText text = (parts : Parts) × Describes text parts
+IsText text = IsUtf8 text × IsOk (machine_of text)
 
 -- OF NUMBERS
 -- in which region, counted from here, rights are given that there are none of
@@ -89,14 +91,20 @@ place_among m (Ok es) =
 abbrev pub given_place : CManifest → PartsPlace
 given_place m = place_among m (endpoints_given m)
 
-pub record TellsGiven (m : CManifest) (told : CRefusal) : Type 0 where
-  pub its : ManifestError
-  pub refused : refusal_of (parts_given m) ≡ Some its
-  pub cause : told.cause ≡ cause_number its
-  pub endpoint : told.endpoint ≡ endpoint_told (given_place m).endpoint
-  pub region : told.region ≡ region_told (given_place m).region
-  pub line : told.line ≡ 0
-  pub column : told.column ≡ 0
+-- the number of the cause, or 0 where there is none
+abbrev pub cause_told : Option ManifestError → ℕ
+cause_told None = 0
+cause_told (Some cause) = cause_number cause
 
-abbrev pub IsGiven : CManifest → Type 0
-IsGiven m = (parts : Parts) × Gives m parts
+abbrev pub given_cause : CManifest → ℕ
+given_cause m = cause_told (refusal_of (parts_given m))
+
+abbrev pub given_told : CManifest → CRefusal
+given_told m = record {
+  cause = given_cause m;
+  endpoint = endpoint_told (given_place m).endpoint;
+  region = region_told (given_place m).region;
+  line = 0;
+  column = 0;
+  words = 0;
+}

@@ -1,10 +1,9 @@
 // SPDX-License-Identifier: MIT OR Apache-2.0
 //! Why and where a manifest is refused, for C.
-ghost use Rattle.std.specs.Prelude.{◌≡◌, ◌≢◌, ◌⊎◌, ◌≤◌, ◌++◌, [], ◌∷◌, None, IfSome, length, take, drop, min};
-ghost use Rattle.ffa_manifest.specs.declared.parts_place.PartsPlace.{PartsPlace};
+ghost use Rattle.std.specs.Prelude.{◌≡◌, ◌≢◌, ◌⊎◌, ◌≤◌, IfSome, length};
 ghost use Rattle.ffa_model.specs.declared.limits.TheConstants.{MOST_ENDPOINTS, MOST_REGIONS};
 ghost use Rattle.ffa_c.specs.Booting.{cause_number};
-ghost use Rattle.ffa_c.specs.Refusing.{IsGiven, IsText, TellsGiven, TellsText, column_told, endpoint_told, given_place, line_told, region_from, region_told, untold_from, untold_place, untold_region};
+ghost use Rattle.ffa_c.specs.Refusing.{IsText, IsToldOf, TellsText, endpoint_told, given_cause, given_place, given_told, region_from, region_told, untold_from, untold_place, untold_region};
 
 use crate::booting::number_of;
 use crate::codes::{NO_MEMORY, NOTHING, OK};
@@ -48,20 +47,37 @@ pub extern "C" fn gorseplumb_why_text(
     ensures told { result ≢ 0 → result ≢ NO_MEMORY → (result ≡ refusal.new.cause) × TellsText text.now refusal.new }
     ensures stays { (result ≡ 0) ⊎ (result ≡ NO_MEMORY) → (refusal.new ≡ refusal.old) × (words.new ≡ words.old) }
 {
-    let Ok(read) = ffa_manifest::explain(alloc, text) else {
-        return NO_MEMORY;
-    };
-    let Err(its) = read else {
-        return OK;
-    };
+    match ffa_manifest::explain(alloc, text) {
+        Ok(Ok(_)) => OK,
+        Ok(Err(its)) => tell_text(alloc, text, &its, refusal, words),
+        Err(_) => NO_MEMORY,
+    }
+}
+
+// Tells why and where a text is refused, where there is memory for the words.
+fn tell_text(
+    alloc: Global,
+    text: &[u8],
+    its: &ManifestRefusal,
+    refusal: &mut CRefusal,
+    words: &mut [u8],
+) -> u32
+    requires { IfSome its.now.byte (λ at. at ≤ length text.now) }
+    ensures refused { result ≢ 0 }
+    ensures cause { result ≢ NO_MEMORY → result ≡ refusal.new.cause }
+    ensures told { result ≢ NO_MEMORY → IsToldOf text.now its.now refusal.new }
+    ensures refusal { result ≡ NO_MEMORY → refusal.new ≡ refusal.old }
+    ensures words { result ≡ NO_MEMORY → words.new ≡ words.old }
+{
     let cause = number_of(its.cause);
     let Ok(said) = its.to_string(alloc) else {
         return NO_MEMORY;
     };
-    if cause != NO_MEMORY {
-        *refusal = told_of_text(text, &its, said.len());
-        put_words(words, said.as_bytes());
+    if cause == NO_MEMORY {
+        return NO_MEMORY;
     }
+    *refusal = told_of_text(text, its, said.len());
+    put_words(words, said.as_bytes());
     cause
 }
 
@@ -69,8 +85,8 @@ pub extern "C" fn gorseplumb_why_text(
 /// Else the cause. It takes no memory.
 #[unsafe(no_mangle)]
 pub extern "C" fn gorseplumb_why_manifest(given: &CManifest, refusal: &mut CRefusal) -> u32
-    ensures accepted { result ≡ 0 → IsGiven given.now }
-    ensures told { result ≢ 0 → (result ≡ refusal.new.cause) × TellsGiven given.now refusal.new }
+    ensures cause { result ≡ given_cause given.now }
+    ensures told { result ≢ 0 → refusal.new ≡ given_told given.now }
     ensures stays { result ≡ 0 → refusal.new ≡ refusal.old }
 {
     match manifest_of_numbers(given) {
@@ -115,11 +131,7 @@ impl CRefusal {
 // What is told of a text, with so many words.
 fn told_of_text(text: &[u8], its: &ManifestRefusal, words: usize) -> CRefusal
     requires { IfSome its.now.byte (λ at. at ≤ length text.now) }
-    ensures cause { result.cause ≡ cause_number its.now.cause }
-    ensures endpoint { result.endpoint ≡ endpoint_told its.now.place.endpoint }
-    ensures region { result.region ≡ region_told its.now.place.region }
-    ensures line { result.line ≡ line_told text.now its.now.byte }
-    ensures column { result.column ≡ column_told text.now its.now.byte }
+    ensures { IsToldOf text.now its.now result }
 {
     let mut told = CRefusal::at(its.cause, its.place.endpoint, its.place.region);
     if let Some(at) = its.byte {

@@ -2,7 +2,7 @@
 //! Reads manifests: the description of a machine in TOML, accepted whole or refused by its first cause.
 #![tactic(auto)]
 
-ghost use Rattle.std.specs.Prelude.{◌≡◌, ◌≢◌, Ok, Err, IfOk, IfErr, IsUtf8};
+ghost use Rattle.std.specs.Prelude.{◌≡◌, ◌≢◌, ◌≤◌, Ok, Err, IfOk, IfErr, IfSome, IsUtf8, length};
 ghost use Rattle.ffa_manifest.specs.Document.{machine_of, parts_of};
 ghost use Rattle.ffa_manifest.specs.Meeting.{SharesPage};
 ghost use Rattle.ffa_manifest.specs.Places.{IsByteIn, IsPlaceIn, IsRefused};
@@ -59,6 +59,7 @@ pub fn read(alloc: Global, text: &str) -> Result<Manifest, ManifestError>
 pub fn explain(alloc: Global, bytes: &[u8]) -> Result<Result<Manifest, ManifestRefusal>, AllocError>
     ensures accepted { IfOk result (λ read. IfOk read (λ m. IsUtf8 bytes.now × (machine_of bytes.now ≡ Ok (parts_of m)))) }
     ensures refused { IfOk result (λ read. IfErr read (λ r. IsRefused bytes.now r)) }
+    ensures inside { IfOk result (λ read. IfErr read (λ r. IfSome r.byte (λ at. at ≤ length bytes.now))) }
     ensures met { IfOk result (λ read. IfErr read (λ r. SharesPage r.place.found)) }
 {
     match str::from_utf8(bytes) {
@@ -78,6 +79,7 @@ fn explain_text(alloc: Global, text: &str) -> Result<Result<Manifest, ManifestRe
     ensures cause { IfOk result (λ read. IfErr read (λ r. machine_of text.now ≡ Err r.cause)) }
     ensures place { IfOk result (λ read. IfErr read (λ r. IsPlaceIn text.now r.place)) }
     ensures byte { IfOk result (λ read. IfErr read (λ r. IsByteIn text.now r.byte)) }
+    ensures inside { IfOk result (λ read. IfErr read (λ r. IfSome r.byte (λ at. at ≤ length text.now))) }
     ensures met { IfOk result (λ read. IfErr read (λ r. SharesPage r.place.found)) }
 {
     let table = match toml::table_from_str(alloc, text) {

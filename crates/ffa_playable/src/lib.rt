@@ -12,6 +12,7 @@ ghost use Rattle.ffa_model.specs.Ram.{word_of};
 ghost use Rattle.ffa_model.specs.State.{Page, owner_of, page_at};
 ghost use Rattle.ffa_model.specs.Why.{outcome_of};
 ghost use Rattle.ffa_mend.specs.Mend.{mend_why};
+ghost use Rattle.ffa_mend.specs.Offered.{offered};
 ghost use Rattle.ffa_playable.specs.Bench.{Bench, after_interrupt, after_op, as_done, effect_of, outcome_of_interrupt, processors_of, refuses, turned_to, why_of};
 
 use ffa_mend::Mend;
@@ -88,6 +89,12 @@ pub trait Playable: Drop {
     /// The right of an endpoint to a page: nothing outside the RAM, or for an endpoint that isn't there.
     fn access(&self, endpoint: EndpointId, page: PageNo) -> Option<Rights>
         ensures { result ≡ access (bench self.now).state endpoint.0 page.0 };
+
+    /// The most that an endpoint may still get of the open transaction in which a page of the RAM stands, if it may retrieve
+    /// that: it is among the receivers, and doesn't hold it.
+    fn offered(&self, endpoint: EndpointId, page: PageNo) -> Option<Rights>
+        requires { page.0 < length (bench self.now).state.pages }
+        ensures { result ≡ offered (bench self.now).state endpoint.0 page.0 };
 
     /// The longest run from a page of the RAM on whose pages have one owner, one open transaction or none, and one
     /// access of each endpoint. It takes no memory.

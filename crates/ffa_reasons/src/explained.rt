@@ -70,6 +70,10 @@ impl<M: PhysMem + Drop, T: Translations + Drop, S: Store> Playable for Explained
         self.0.access(endpoint, page)
     }
 
+    fn offered(&self, endpoint: EndpointId, page: PageNo) -> Option<Rights> {
+        crate::offered(&self.0, endpoint, page)
+    }
+
     fn cert_run(&self, from: PageNo) -> CertRun {
         self.0.cert_run(from)
     }

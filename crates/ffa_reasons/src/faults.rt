@@ -8,6 +8,7 @@ ghost use Rattle.ffa_model.specs.Memory.{access_at, fault_of, fetch_fault, page_
 ghost use Rattle.ffa_model.specs.Obstacles.{obstacle_at, obstacle_of};
 ghost use Rattle.ffa_model.specs.Rights.{may_fetch, may_store};
 ghost use Rattle.ffa_model.specs.Why.{granted};
+ghost use Rattle.ffa_mend.specs.Offered.{offered};
 
 use crate::reasons::Reasons;
 use ffa_model::{Data, EndpointId, FaultKind, Grant, Obstacle, PageNo, Rights, Size};
@@ -120,6 +121,16 @@ impl<M: PhysMem + Drop, T: Translations + Drop, S: Store> Reasons<'_, M, T, S> {
         ensures { result ≡ is_held_by endpoint.0 (transaction_at self.now page.0) }
     {
         self.parts.pool.is_held_at(self.parts.pages, endpoint, page)
+    }
+
+    // The most that an endpoint may still get of the open transaction in which a page stands.
+    pub(crate) fn offered(&self, endpoint: EndpointId, page: PageNo) -> Option<Rights>
+        requires { page.0 < length self.now.pages }
+        ensures { result ≡ offered self.now endpoint.0 page.0 }
+    {
+        let parts = &self.parts;
+        let base = parts.records.layout.base;
+        parts.pool.offered_at(parts.pages, base, endpoint, page)
     }
 }
 

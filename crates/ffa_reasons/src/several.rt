@@ -126,6 +126,10 @@ impl<M: PhysMem + Drop, T: Translations + Drop, S: Store> Playable for Explained
         self.cluster.machine().access(endpoint, page)
     }
 
+    fn offered(&self, endpoint: EndpointId, page: PageNo) -> Option<Rights> {
+        crate::offered(self.cluster.machine(), endpoint, page)
+    }
+
     fn cert_run(&self, from: PageNo) -> CertRun {
         self.cluster.machine().cert_run(from)
     }

@@ -1,17 +1,19 @@
 // SPDX-License-Identifier: MIT OR Apache-2.0
-//! Why an operation of the runner would be refused now, and by what an endpoint has its access to a page.
-ghost use Rattle.std.specs.Prelude.{◌≡◌, IfSome, None, false, is_some, if◌then◌else◌};
+//! Why an operation of the runner would be refused now, by what an endpoint has its access to a page, and what it may still
+//! retrieve.
+ghost use Rattle.std.specs.Prelude.{◌≡◌, ◌<◌, IfSome, None, false, is_some, length, if◌then◌else◌};
 ghost use Rattle.ffa_model.specs.Access.{access};
 ghost use Rattle.ffa_model.specs.Processors.{resumed_by, resumed_by_call, step_resuming};
 ghost use Rattle.ffa_model.specs.Refusals.{is_refusal};
 ghost use Rattle.ffa_model.specs.Step.{step};
 ghost use Rattle.ffa_model.specs.Why.{granted, outcome_of, why, why_fault};
 ghost use Rattle.ffa_mend.specs.Mend.{address_of, call_of, mend_why};
+ghost use Rattle.ffa_mend.specs.Offered.{offered};
 ghost use Rattle.ffa_playable.specs.Bench.{is_refused};
 
 use crate::reasons::Reasons;
 use ffa_mend::Mend;
-use ffa_model::{Call, Effect, EndpointId, FaultKind, Grant, Op, PageNo, Why};
+use ffa_model::{Call, Effect, EndpointId, FaultKind, Grant, Op, PageNo, Rights, Why};
 use ffa_physmem::PhysMem;
 use ffa_spmc::{Machine, Store};
 use ffa_tlb::Translations;
@@ -80,6 +82,19 @@ pub fn grant_of<M: PhysMem + Drop, T: Translations + Drop, S: Store>(
     ensures access { is_some result ≡ is_some (access machine.now.state endpoint.0 page.0) }
 {
     Reasons::of(machine).grant_of(endpoint, page)
+}
+
+/// The most that an endpoint may still get of the open transaction in which a page stands, if it may retrieve that: it is among
+/// the receivers, and doesn't hold it.
+pub fn offered<M: PhysMem + Drop, T: Translations + Drop, S: Store>(
+    machine: &Machine<M, T, S>,
+    endpoint: EndpointId,
+    page: PageNo,
+) -> Option<Rights>
+    requires { page.0 < length machine.now.state.pages }
+    ensures { result ≡ offered machine.now.state endpoint.0 page.0 }
+{
+    Reasons::of(machine).offered(endpoint, page)
 }
 
 impl<M: PhysMem + Drop, T: Translations + Drop, S: Store> Reasons<'_, M, T, S> {

@@ -1,5 +1,5 @@
 // SPDX-License-Identifier: MIT OR Apache-2.0
-//! Stage 2 tables of all endpoints, in the RAM's first pages.
+//! Stage 2 tables of all endpoints, in pages of RAM from one on.
 #![tactic(auto)]
 
 mod blocks;

@@ -141,7 +141,7 @@ fn push_options(words: &mut String, request: &Request<'_>) -> Result<(), AllocEr
             )
         }
         Request::Test(options) => {
-            push_flags(words, &[("tap", options.tap)])?;
+            push_flags(words, &[("tap", options.tap), ("count", options.count)])?;
             push_setting(words, options.processors, options.worlds)?;
             push_flags(words, &[("words", options.words)])
         }
@@ -329,6 +329,8 @@ ffaplay generate row.toml --seed 18446744073709551616 => ValueValidation
 ffaplay generate row.toml --strict => UnknownArgument
 ffaplay test rows => test rows
 ffaplay test - --tap => test - --tap
+ffaplay test rows --count --tap => test rows --tap --count
+ffaplay test --count=1 rows => TooManyValues
 ffaplay test => MissingRequiredArgument
 ";
     check(&rt, rt.alloc(), rows)

@@ -141,12 +141,12 @@ picture_app =
     with_verbose
     (with_setting (with_flag (codes "page") (with_rows (with_trace (with_manifest (new_app (codes "picture")))))))
 
--- a folder of traces, how it is told what came of them, and each machine's setting
+-- a folder of traces, how it is told what came of them, whether that is counted, and each machine's setting
 abbrev pub with_folder : App → App
 with_folder app = with_rule app (path_rule (codes "folder"))
 
 unfoldable pub test_app : App
-test_app = with_setting (with_flag (codes "tap") (with_folder (new_app (codes "test"))))
+test_app = with_setting (with_flag (codes "count") (with_flag (codes "tap") (with_folder (new_app (codes "test")))))
 
 unfoldable pub lower_app : App
 lower_app = with_verbose (with_trace (new_app (codes "lower")))
@@ -227,7 +227,7 @@ pub data Ask : Type 0 where
   layout : Text → (regions verbose : Bool) → Ask
   descriptor : (manifest : Option Text) → Described → Ask
   generate : Text → (seed lines : ℕ) → (count worlds verbose : Bool) → Ask
-  test : (folder : Text) → (tap : Bool) → (processors : Option ℕ) → (worlds words : Bool) → Ask
+  test : (folder : Text) → (tap count : Bool) → (processors : Option ℕ) → (worlds words : Bool) → Ask
   lower : (trace : Text) → (verbose : Bool) → Ask
 
 abbrev pub ask_of : Request → Ask
@@ -236,7 +236,7 @@ ask_of (Check manifest verbose) = check manifest.now verbose
 ask_of (Layout manifest regions verbose) = layout manifest.now regions verbose
 ask_of (Descriptor manifest words) = descriptor (option_map (λ s. s.now) manifest) (words_of words)
 ask_of (Generate o) = generate o.manifest.now o.seed o.lines o.count o.worlds o.verbose
-ask_of (Test o) = test o.folder.now o.tap o.processors o.worlds o.words
+ask_of (Test o) = test o.folder.now o.tap o.count o.processors o.worlds o.words
 ask_of (Lower trace verbose) = lower trace.now verbose
 
 -- the path of the manifest that is asked for, that of the trace that is played, and that of the expected text
@@ -246,7 +246,7 @@ manifest_of (check manifest verbose) = Some manifest
 manifest_of (layout manifest regions verbose) = Some manifest
 manifest_of (descriptor manifest words) = manifest
 manifest_of (generate manifest seed lines count worlds verbose) = Some manifest
-manifest_of (test folder tap processors worlds words) = None
+manifest_of (test folder tap count processors worlds words) = None
 manifest_of (lower trace verbose) = None
 
 abbrev pub trace_of : Ask → Option Text
@@ -264,7 +264,7 @@ verbose_of (check manifest verbose) = verbose
 verbose_of (layout manifest regions verbose) = verbose
 verbose_of (descriptor manifest words) = false
 verbose_of (generate manifest seed lines count worlds verbose) = verbose
-verbose_of (test folder tap processors worlds words) = false
+verbose_of (test folder tap count processors worlds words) = false
 verbose_of (lower trace verbose) = verbose
 
 -- the same, of which more is to be said, where it can be
@@ -274,7 +274,7 @@ said_more (check manifest verbose) = check manifest true
 said_more (layout manifest regions verbose) = layout manifest regions true
 said_more (descriptor manifest words) = descriptor manifest words
 said_more (generate manifest seed lines count worlds verbose) = generate manifest seed lines count worlds true
-said_more (test folder tap processors worlds words) = test folder tap processors worlds words
+said_more (test folder tap count processors worlds words) = test folder tap count processors worlds words
 said_more (lower trace verbose) = lower trace true
 
 -- whether a path is given and is `-`, which stands for standard input
@@ -428,7 +428,7 @@ unfoldable pub test_in : List Row → Option Ask
 test_in rows = do
   folder ← first_of (codes "folder") rows
   processors ← processors_in rows
-  Some (test folder (is_given (codes "tap") rows) processors (is_given (codes "worlds") rows) (is_given (codes "words") rows))
+  Some (test folder (is_given (codes "tap") rows) (is_given (codes "count") rows) processors (is_given (codes "worlds") rows) (is_given (codes "words") rows))
 
 unfoldable pub lower_in : List Row → Option Ask
 lower_in rows = do

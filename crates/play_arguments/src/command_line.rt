@@ -173,6 +173,8 @@ pub struct TestOptions<'a> {
     pub folder: &'a str,
     /// What came of each is told as the Test Anything Protocol has it.
     pub tap: bool,
+    /// The calls and accesses of all are counted, which is told behind that.
+    pub count: bool,
     /// So many processors run each machine, as `MachineOptions` has it.
     pub processors: Option<usize>,
     /// Each machine tells worlds apart, as `MachineOptions` has it.
@@ -610,6 +612,7 @@ fn test_in<'a>(matches: &ArgMatches<'a>) -> Option<Request<'a>>
     Some(Request::Test(TestOptions {
         folder: text_of(matches, "folder")?,
         tap: is_given(matches, "tap"),
+        count: is_given(matches, "count"),
         processors: processors_in(matches)?,
         worlds: is_given(matches, "worlds"),
         words: is_given(matches, "words"),

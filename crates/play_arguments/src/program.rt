@@ -323,10 +323,15 @@ const TAP: Word = Word::Flag {
     help: "Tells what came of each as the Test Anything Protocol has it",
 };
 
+const REACHED: Word = Word::Flag {
+    id: "count",
+    help: "Prints behind it what all these traces reach: how often each call succeeded, each error and fault came, and each check was the first to fail",
+};
+
 const TEST: Entry = Entry {
     name: "test",
     about: "Plays the traces of a folder, and checks their guards",
-    words: &[FOLDER, TAP, PROCESSORS, WORLDS, WORDS],
+    words: &[FOLDER, TAP, REACHED, PROCESSORS, WORLDS, WORDS],
 };
 
 const EVERY: Word = Word::Number {

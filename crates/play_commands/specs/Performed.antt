@@ -1,6 +1,6 @@
 -- SPDX-License-Identifier: MIT OR Apache-2.0
 -- What a command of the program leaves.
-use Rattle.std.specs.Prelude.{◌≡◌, ◌⊎◌, ℕ, Bool, true, false, List, None, Option, Result, IfErr, OnOk, is_some, option_map, ⊤, if◌then◌else◌}
+use Rattle.std.specs.Prelude.{◌≡◌, ◌⊎◌, ℕ, Bool, true, false, List, None, Option, Result, Ok, Err, IfErr, OnOk, is_some, option_map, ⊤, if◌then◌else◌}
 use Rattle.std.specs.Option.{option_and_then}
 use Rattle.std.specs.Io.KnownBytes.{Keeps}
 use Rattle.ffa_model.specs.State.{State}
@@ -9,13 +9,17 @@ use Rattle.ffa_model.specs.declared.manifest.Worlds.TheVariants.{One, Two}
 use Rattle.ffa_playable.specs.Bench.{Bench}
 use Rattle.play_demo.specs.Machine.{built_in_endpoints}
 use Rattle.ffa_manifest.specs.Document.{Parts}
+use Rattle.play_syntax.specs.declared.output.PlayError.{PlayError}
+use Rattle.play_syntax.specs.declared.output.PlayError.TheVariants as play_error
 use Rattle.play_writer.specs.declared.unfit.Unfit.{Unfit}
+use Rattle.play_transcript.specs.Counting.{Tally}
 use Rattle.play_transcript.specs.Traces.{Wrote}
 use Rattle.play_descriptor.specs.declared.fault.WordsFault.{WordsFault}
 use Rattle.play_report.specs.Descriptors.{AreWords, IsMisread, IsSaidFor, IsUnfit}
 use Rattle.play_report.specs.Manifests.{Describes, FailsUnplayed, IsAccepted, IsChecked, IsLaidOut, IsRefused, SomeCause, bytes_of}
 use Rattle.play_report.specs.declared.failure.Failure.{Failure}
 use Rattle.play_report.specs.declared.failure.Failure.TheVariants as failure
+use Rattle.play_tasks.specs.Counted.{CountsTrace}
 use Rattle.play_tasks.specs.Plays.{DiffersBy, IsDoneBy, KnownTask, OverfullBy, StopsBy, Streams, UnmetBy, streams_of}
 use Rattle.play_tasks.specs.Starts.{begun_by}
 use Rattle.play_tasks.specs.Purposes.{IsTaskFor, is_session_for, is_strict_for}
@@ -95,6 +99,20 @@ pub record Played (o : PlayOptions) (ran : Ran) (Left : KnownTask → Bench → 
   pub task : KnownTask
   pub serves : IsTaskFor o.purpose ran.expected task
   pub left : Left task (begun_by o.machine.processors (first_of (with_worlds o.machine.worlds parts)))
+
+-- a trace was counted on the machine of its source, as far as this says
+abbrev pub IsCounted : PlayOptions → (manifest trace : Option (List ℕ)) → Tally → Tally → Result (Unit {0}) PlayError → Type 0
+IsCounted o manifest trace old new came =
+    (parts : Parts) × HasParts o.source manifest parts
+    × CountsTrace (begun_by o.machine.processors (first_of (with_worlds o.machine.worlds parts))) trace old new came
+
+-- a trace was counted to its end, or as far as its lines are good, or could be read; or there is no machine for it, and nothing was
+abbrev pub CountsFor : PlayOptions → (manifest trace : Option (List ℕ)) → Tally → Tally → Result (Unit {0}) Failure → Type 0
+CountsFor o manifest trace old new (Ok done) = IsCounted o manifest trace old new (Ok done)
+CountsFor o manifest trace old new (Err (failure.BadLine n fault)) = IsCounted o manifest trace old new (Err (play_error.BadLine n))
+CountsFor o manifest trace old new (Err (failure.Read path)) = (new ≡ old) ⊎ IsCounted o manifest trace old new (Err play_error.Read)
+CountsFor o manifest trace old new (Err failure.NoMemory) = ⊤
+CountsFor o manifest trace old new (Err other) = new ≡ old
 
 -- a command was done, on whichever machine; a test comes to plays, which are commands of their own, and a trace in words is
 -- printed by none of this

@@ -3,6 +3,7 @@
 //! writes traces, and says what went wrong. It opens nothing: readers and writers are given.
 #![tactic(auto)]
 
+mod counting;
 mod generating;
 mod lowering;
 mod playing;

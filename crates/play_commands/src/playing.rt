@@ -50,7 +50,7 @@ impl<M: Machines, A: Allocator + Copy> Program<M, A> {
 }
 
 // The manifest of the machine of a source, of whose file these are the bytes, if it could be read.
-fn machine_of<'a, A: Allocator>(
+pub(crate) fn machine_of<'a, A: Allocator>(
     alloc: Global,
     source: Source<'a>,
     bytes: Option<&[u8]>,

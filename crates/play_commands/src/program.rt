@@ -1,15 +1,18 @@
 // SPDX-License-Identifier: MIT OR Apache-2.0
 //! The commands of the program.
-ghost use Rattle.std.specs.Prelude.{◌≡◌, ◌≤◌, ◌⊎◌, true, false, IfErr, OnOk, is_some};
+ghost use Rattle.std.specs.Prelude.{◌≡◌, ◌≤◌, ◌⊎◌, true, false, IfErr, OnOk, Result, Some, is_some};
 ghost use Rattle.std.specs.Io.KnownBytes.{Keeps};
-ghost use Rattle.play_commands.specs.Performed.{Differs, Does, FailsFor, IsDone, IsRead, IsUnsaid, is_session, is_strict, SomeBadLine, SomeRefusal, SomeUnmetGuard, needs_manifest, needs_trace, ran};
+ghost use Rattle.play_tasks.specs.Counted.{tally_of};
+ghost use Rattle.play_report.specs.declared.failure.Failure.{Failure};
+ghost use Rattle.play_commands.specs.Performed.{CountsFor, Differs, Does, FailsFor, IsDone, IsRead, IsUnsaid, is_session, is_strict, SomeBadLine, SomeRefusal, SomeUnmetGuard, needs_manifest, needs_trace, ran};
 
 use crate::lowering::lower;
 use play_arguments::{PlayOptions, Purpose, Request};
 use play_files::{Commands, Files};
 use play_report::{Failure, Notes, accept, describe_for, lay_out, show, tell, tell_more};
 use play_tasks::Machines;
-use std::alloc::{Allocator, Global};
+use play_transcript::Counts;
+use std::alloc::{AllocError, Allocator, Global};
 use std::fmt::Display;
 use std::io::{Read, Write};
 
@@ -82,6 +85,22 @@ impl<M: Machines, A: Allocator + Copy> Commands for Program<M, A> {
         err: &mut E,
     ) -> u8 {
         lower(self.alloc, path, files, verbose, out, err)
+    }
+
+    fn count<R: Read + Drop>(
+        &self,
+        options: &PlayOptions<'_>,
+        manifest: &[u8],
+        trace: R,
+        counts: &mut Counts,
+    ) -> Result<(), AllocError>
+        ensures { OnOk result ((came : Result (Unit {0}) Failure)
+            × CountsFor options.now (Some manifest.now) (R.remaining trace.entry) (tally_of counts.old) (tally_of counts.new) came) }
+    {
+        match self.count_play(*options, manifest, trace, counts) {
+            Err(Failure::NoMemory) => Err(AllocError),
+            _ => Ok(()),
+        }
     }
 
     fn show<T: Display, W: Write, E: Write>(&self, help: &T, out: &mut W, err: &mut E) -> u8 {

@@ -1,6 +1,8 @@
 // SPDX-License-Identifier: MIT OR Apache-2.0
 //! What does what the words ask for.
-use play_arguments::Request;
+use play_arguments::{PlayOptions, Request};
+use play_transcript::Counts;
+use std::alloc::AllocError;
 use std::fmt::Display;
 use std::io::{ErrorKind, Read, Write};
 
@@ -38,6 +40,16 @@ pub trait Commands {
         out: &mut W,
         err: &mut E,
     ) -> u8;
+
+    /// Plays a trace on the machine of the manifest of which these are the bytes, and counts what comes of its operations, behind
+    /// what was counted before. It tells nothing of what is wrong, which `perform` does.
+    fn count<R: Read + Drop>(
+        &self,
+        options: &PlayOptions<'_>,
+        manifest: &[u8],
+        trace: R,
+        counts: &mut Counts,
+    ) -> Result<(), AllocError>;
 
     /// Writes the help or the version that was asked for.
     fn show<T: Display, W: Write, E: Write>(&self, help: &T, out: &mut W, err: &mut E) -> u8;

@@ -150,8 +150,8 @@ fn is_in_words(request: &Request<'_>) -> bool {
     }
 }
 
-// What a reader reads, where there is one, in words or not.
-fn text_of<R: Read + Drop>(
+/// What a reader reads, where there is one, in words or not.
+pub(crate) fn text_of<R: Read + Drop>(
     alloc: Global,
     reader: Option<R>,
     words: bool,
@@ -175,8 +175,8 @@ fn perform<C: Commands, R: Read + Drop, W: Write, E: Write>(
     }
 }
 
-// What reads the file at a path, where one is named.
-fn open<H: fs::Files, S: Read + Drop>(
+/// What reads the file at a path, where one is named.
+pub(crate) fn open<H: fs::Files, S: Read + Drop>(
     rt: &H,
     input: S,
     path: Option<&str>,
@@ -188,8 +188,8 @@ fn open<H: fs::Files, S: Read + Drop>(
     }
 }
 
-// The bytes of the file at a path, where one is named.
-fn read_whole<H: AllocGlobal + fs::Files, S: Read + Drop>(
+/// The bytes of the file at a path, where one is named.
+pub(crate) fn read_whole<H: AllocGlobal + fs::Files, S: Read + Drop>(
     rt: &H,
     input: S,
     path: Option<&str>,
@@ -206,8 +206,8 @@ fn read_whole<H: AllocGlobal + fs::Files, S: Read + Drop>(
     }
 }
 
-// What was read, or nothing where it can't be read. The first reason for that stays.
-fn unless_no_memory<T>(
+/// What was read, or nothing where it can't be read. The first reason for that stays.
+pub(crate) fn unless_no_memory<T>(
     read: io::Result<Option<T>>,
     reason: &mut Option<io::ErrorKind>,
 ) -> Result<Option<T>, AllocError> {

@@ -1,10 +1,11 @@
 // SPDX-License-Identifier: MIT OR Apache-2.0
 //! Traces that are tested: all of a folder, each played with its guards.
 use crate::commands::Commands;
-use crate::running::carry_out;
+use crate::running::{carry_out, open, read_whole, text_of, unless_no_memory};
 use play_arguments::{
     MachineOptions, PlayOptions, Purpose, Request, Source, TestOptions, TextOptions,
 };
+use play_transcript::{Counts, Everyone};
 use std::alloc::AllocError;
 use std::io::{ErrorKind, Read, Write};
 use std::{fs, io};
@@ -19,7 +20,8 @@ const TEXT: TextOptions = TextOptions {
 };
 
 /// Plays each trace of a folder on the machine of its manifest, past guards that aren't met, and prints what came of it: a line
-/// for each in the order of their names, under one that failed what was told of it, and how many passed.
+/// for each in the order of their names, under one that failed what was told of it, and how many passed. Where that is asked
+/// for, it prints behind that what all of them reach.
 pub(crate) fn test<
     H: AllocGlobal + fs::Files + Clone + Drop,
     S: Read + Copy + Drop,
@@ -73,16 +75,31 @@ fn play_all<
     report: &mut Report,
 ) -> io::Result<()> {
     let alloc = rt.alloc();
+    let mut counts = Counts::new();
+    counts.everyone = Everyone::NOWHERE;
     report.begin(names.len(), out)?;
     for name in names {
         let mut told = Vec::new(alloc);
-        let status = play_one(rt, input, commands, options, name.as_str(), &mut told)?;
+        let status = play_one(
+            rt,
+            input,
+            commands,
+            options,
+            name.as_str(),
+            &mut told,
+            &mut counts,
+        )?;
         report.put(name.as_str(), status, &told, out)?;
     }
-    report.end(out)
+    report.end(out)?;
+    if options.count {
+        let text = format!(in alloc; "{counts}")?;
+        put_lines(report.front(), text.as_bytes(), out)?;
+    }
+    out.flush()
 }
 
-// Plays a trace of a folder, and answers the status with which that ends.
+// Plays a trace of a folder, and answers the status with which that ends. Where that is asked for, it is counted too.
 fn play_one<H: AllocGlobal + fs::Files + Clone + Drop, S: Read + Copy + Drop, C: Commands>(
     rt: &H,
     input: S,
@@ -90,6 +107,7 @@ fn play_one<H: AllocGlobal + fs::Files + Clone + Drop, S: Read + Copy + Drop, C:
     options: TestOptions<'_>,
     name: &str,
     told: &mut Vec<u8>,
+    counts: &mut Counts,
 ) -> io::Result<u8> {
     let (alloc, folder) = (rt.alloc(), options.folder);
     let trace = format!(in alloc; "{folder}/{name}{ENDING}")?;
@@ -105,18 +123,43 @@ fn play_one<H: AllocGlobal + fs::Files + Clone + Drop, S: Read + Copy + Drop, C:
         processors: options.processors,
         worlds: options.worlds,
     };
-    let request = play_of(manifest.as_str(), trace.as_str(), machine, options.words);
+    let play = play_of(manifest.as_str(), trace.as_str(), machine, options.words);
+    let request = Request::Play(play);
+    if options.count {
+        count_one(rt, input, commands, &play, &request, counts)?;
+    }
     Ok(carry_out(rt, input, io::sink(), told, commands, &request)?)
 }
 
-// To play a trace past guards that aren't met, on a machine that is built so.
+// Counts what comes of a trace's operations. Files that can't be read are told where it is played.
+fn count_one<H: AllocGlobal + fs::Files, S: Read + Copy + Drop, C: Commands>(
+    rt: &H,
+    input: S,
+    commands: &C,
+    play: &PlayOptions<'_>,
+    request: &Request<'_>,
+    counts: &mut Counts,
+) -> Result<(), AllocError> {
+    let mut reason = None;
+    let manifest = unless_no_memory(read_whole(rt, input, request.manifest()), &mut reason)?;
+    let trace = unless_no_memory(open(rt, input, request.trace()), &mut reason)?;
+    let trace = text_of(rt.alloc(), trace, play.words)?;
+    match (manifest, trace) {
+        (Some(manifest), Some(trace)) => {
+            commands.count(play, manifest.as_slice(), trace, counts)
+        }
+        _ => Ok(()),
+    }
+}
+
+// A play of a trace past guards that aren't met, on a machine that is built so.
 fn play_of<'a>(
     manifest: &'a str,
     trace: &'a str,
     machine: MachineOptions,
     words: bool,
-) -> Request<'a> {
-    Request::Play(PlayOptions {
+) -> PlayOptions<'a> {
+    PlayOptions {
         source: Source::File(manifest),
         trace,
         machine,
@@ -128,7 +171,7 @@ fn play_of<'a>(
         },
         words,
         verbose: true,
-    })
+    }
 }
 
 // What the names of traces end in.
@@ -196,7 +239,7 @@ impl Report {
             (false, false) => writeln!(out, "{name}: FAILED, with status {status}")?,
         }
         if !passed {
-            put_told(if self.tap { "# " } else { "  " }, told, out)?;
+            put_lines(if self.tap { "# " } else { "  " }, told, out)?;
         }
         out.flush()
     }
@@ -209,14 +252,19 @@ impl Report {
         out.flush()
     }
 
+    // What stands in front of each line of what was counted.
+    fn front(&self) -> &'static str {
+        if self.tap { "# " } else { "" }
+    }
+
     fn status(&self) -> u8 {
         if self.failed == 0 { 0 } else { 5 }
     }
 }
 
-// Writes the lines that were told, each with this in front.
-fn put_told<W: Write>(front: &str, told: &[u8], out: &mut W) -> io::Result<()> {
-    for line in told.split(|byte| *byte == b'\n') {
+// Writes the lines of a text, each with this in front.
+fn put_lines<W: Write>(front: &str, text: &[u8], out: &mut W) -> io::Result<()> {
+    for line in text.split(|byte| *byte == b'\n') {
         if !line.is_empty() {
             out.write_all(front.as_bytes())?;
             out.write_all(line)?;

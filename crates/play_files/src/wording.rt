@@ -1,5 +1,8 @@
 // SPDX-License-Identifier: MIT OR Apache-2.0
 //! A trace in words, read as the trace of the plain format to which it comes.
+ghost use Rattle.std.specs.Counts.{IsPrefixLen};
+ghost use Rattle.std.specs.Result.{IfOk};
+
 use play_words::{LowerError, lower_line};
 use std::alloc::{AllocError, Allocator};
 use std::io::{self, BufRead, BufReader, ErrorKind, Read};
@@ -47,17 +50,19 @@ pub(crate) struct InWords<R, A: Allocator> {
 }
 
 impl<R: Read + Drop, A: Allocator + Copy> InWords<R, A> {
-    fn read(&mut self, buf: &mut [u8]) -> io::Result<usize> {
+    fn read(&mut self, buf: &mut [u8]) -> io::Result<usize>
+        ensures { IfOk result (λ n. IsPrefixLen n buf.new) }
+    {
         if self.taken >= self.lowered.len() {
             self.next_line()?;
         }
-        let left = self.lowered.get(self.taken..).unwrap_or(&[]);
-        let mut count: usize = 0;
-        for (byte, its) in buf.iter_mut().zip(left) {
-            *byte = *its;
-            count = usize::saturating_add(count, 1);
-        }
-        self.taken = usize::saturating_add(self.taken, count);
+        let taken = self.taken;
+        let Some(left) = self.lowered.get(taken..) else {
+            return Ok(0);
+        };
+        let count = left.len().min(buf.len());
+        buf[..count].copy_from_slice(&left[..count]);
+        self.taken = taken.saturating_add(count);
         Ok(count)
     }
 

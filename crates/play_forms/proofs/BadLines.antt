@@ -1,17 +1,18 @@
 -- SPDX-License-Identifier: MIT OR Apache-2.0
 -- What a session tells of bad lines.
-use Rattle.std.proofs.Common.{◌≡◌, ℕ, ◌+◌, Bool, true, false, List, [], ◌∷◌, ◌++◌, length, Option, None, Some, Result, Ok, Err, inl, inr, sym, ap, ◌∙◌, subst, arith, append_assoc, append-nil, refl}
-use Rattle.std.specs.Prelude.{is_some}
+use Rattle.std.proofs.Common.{◌≡◌, ℕ, ◌+◌, ◌<◌, ◌^◌, Bool, true, false, List, [], ◌∷◌, ◌++◌, length, Option, None, Some, Result, Ok, Err, inl, inr, sym, ap, ◌∙◌, subst, arith, append_assoc, append-nil, refl}
+use Rattle.std.specs.Prelude.{is_some, not}
 use Rattle.std.specs.Io.KnownBytes.{Appends, Consumes, IsAtEnd, Keeps}
 use Rattle.std.specs.List.{list_all}
 use Rattle.std.proofs.KnownBytes.{Appends-kept, Appends-nil, Appends-trans, Keeps-refl}
+use Rattle.std.proofs.lemmas.Bool.{and_from}
 use Rattle.play_syntax.specs.Output.{Writes}
-use Rattle.play_syntax.specs.TraceLines.{Line, feed, has_no_feed, joined, line_in}
+use Rattle.play_syntax.specs.TraceLines.{Line, feed, joined, line_in}
 use Rattle.play_syntax.specs.declared.output.PlayError.{PlayError}
 use Rattle.play_syntax.specs.declared.output.PlayError.TheVariants.{Read, Write, NoMemory, BadLine}
 use Rattle.play_forms.specs.Reading.{IsAll, ReadsLine}
-use Rattle.play_forms.specs.Sessions.{TellsBadLines, TellsOf, ToldOfAll, ToldOfLine, ToldOfRest}
-use Rattle.play_forms.specs.SessionSteps.{AnswersTelling, HearsTelling, TellsBadLine, TellsOrLoses}
+use Rattle.play_forms.specs.Sessions.{BeginsWithEnd, IsOver, TellsBadLines, TellsOf, asks_end, is_heard, ToldOfAll, ToldOfLine, ToldOfRest}
+use Rattle.play_forms.specs.SessionSteps.{AnswersTelling, HearsLine, HearsTelling, TellsBadLine, TellsOrLoses}
 
 -- ONE LINE
 
@@ -51,13 +52,41 @@ no_rest (Some xs) ended = ended
 -- nothing was told of what was read
 pub read_told : (processors : Option ℕ) (had has : Option (List ℕ)) (line : List ℕ) (number : ℕ) (held : Option (List ℕ)) (r : Result Bool PlayError) → ReadsLine had has line number r → HearsTelling processors had number held held r
 read_told processors had has line number held (Ok true) r = Keeps-refl held
-read_told processors had has line number held (Ok false) r = ([], [], no_rest had r, refl, inl (refl, refl), Appends-nil held)
+read_told processors had has line number held (Ok false) r = ([], [], no_rest had r, inl (refl, refl), Appends-nil held)
 read_told processors had has line number held (Err e) r = Keeps-refl held
 
 -- the rest was told
 pub rest_told : (processors : Option ℕ) (had has : Option (List ℕ)) (line : List ℕ) (number n : ℕ) (held holds : Option (List ℕ)) → ReadsLine had has line number (Err (BadLine n))
     → TellsOrLoses {X = Unit {0}} processors number line held holds (Ok tt) → HearsTelling processors had number held holds (Ok false)
-rest_told processors had has line number n held holds (is, all, single, some) (said, told, written) = (line, said, all, single, inr (some, told), written)
+rest_told processors had has line number n held holds (is, all, single, some) (said, told, written) = (line, said, all, inr (inr (single, some, told)), written)
+
+-- A LINE THAT ASKS FOR THE END
+
+asked_all : (had has : Option (List ℕ)) (line : List ℕ) → Consumes had has (line ++ feed ∷ []) → asks_end line ≡ true → (rest : List ℕ) × BeginsWithEnd rest × IsAll had rest
+asked_all None has line read asks = (line ++ feed ∷ [], (line, [], asks, refl), tt)
+asked_all (Some xs) None line read asks = absurd read
+asked_all (Some xs) (Some ys) line read asks = (xs, (line, ys, asks, read ∙ append_assoc line (feed ∷ []) ys), refl)
+
+-- the session ends there, or goes on
+pub heard_or_asked : (had has : Option (List ℕ)) (line : List ℕ) (number : ℕ) (asks : Bool) → asks ≡ asks_end line → number + 1 < 2 ^ 64 → ReadsLine had has line number (Ok true) → HearsLine had has line number (Ok (not asks))
+heard_or_asked had has line number true is small (read, single) = let r = asked_all had has line read (sym is) in (r.0, inr r.1, r.2)
+heard_or_asked had has line number false is small (read, single) = (read, and_from _ _ single (ap not (sym is)), small)
+
+pub line_read : (had has : Option (List ℕ)) (line : List ℕ) (number : ℕ) (b : Bool) → b ≡ true → ReadsLine had has line number (Ok b) → ReadsLine had has line number (Ok true)
+line_read had has line number true is r = r
+line_read had has line number false is r = absurd cc
+
+-- nothing is told of it
+pub asked_told : (processors : Option ℕ) (had has : Option (List ℕ)) (line : List ℕ) (number : ℕ) (held : Option (List ℕ)) (asks : Bool) → asks ≡ asks_end line → ReadsLine had has line number (Ok true) → HearsTelling processors had number held held (Ok (not asks))
+asked_told processors had has line number held true is (read, single) = let r = asked_all had has line read (sym is) in (r.0, [], r.2, inr (inl (r.1, refl)), Appends-nil held)
+asked_told processors had has line number held false is r = Keeps-refl held
+
+-- a reader at its end, or a rest that no LF ends, ends a session
+pub over_read : (had has : Option (List ℕ)) (line : List ℕ) (number : ℕ) → ReadsLine had has line number (Ok false) → IsOver had
+over_read had has line number r = ([], inl refl, no_rest had r)
+
+pub over_rest : (had has : Option (List ℕ)) (line : List ℕ) (number n : ℕ) → ReadsLine had has line number (Err (BadLine n)) → IsOver had
+over_rest had has line number n (is, all, single, some) = (line, inl single, all)
 
 -- there is a line
 pub heard_told : (processors : Option ℕ) (had : Option (List ℕ)) (number : ℕ) (held holds : Option (List ℕ)) (b : Bool) → b ≡ true → HearsTelling processors had number held holds (Ok b) → Keeps held holds
@@ -86,7 +115,7 @@ told_from processors number (first ∷ lines) line said own (its, more, is, what
     )
 
 -- This was told of these lines, which were read.
-module _ (processors : Option ℕ) (had has : Option (List ℕ)) (lines : List (List ℕ)) (each : list_all has_no_feed lines ≡ true) (read : Consumes had has (joined lines)) (number : ℕ) (count : number ≡ 1 + length lines) (held mid : Option (List ℕ)) (said : List ℕ) (told : ToldOfAll processors 1 lines said) (written : Appends held mid said) where
+module _ (processors : Option ℕ) (had has : Option (List ℕ)) (lines : List (List ℕ)) (each : list_all is_heard lines ≡ true) (read : Consumes had has (joined lines)) (number : ℕ) (count : number ≡ 1 + length lines) (held mid : Option (List ℕ)) (said : List ℕ) (told : ToldOfAll processors 1 lines said) (written : Appends held mid said) where
   -- and of one line more
   pub told_more : (line : List ℕ) (heard holds : Option (List ℕ)) → Keeps mid heard → AnswersTelling {X = Unit {0}} processors line number heard holds (Ok tt)
       → (all : List ℕ) × ToldOfAll processors 1 (lines ++ line ∷ []) all × Appends held holds all
@@ -99,11 +128,10 @@ module _ (processors : Option ℕ) (had has : Option (List ℕ)) (lines : List (
   -- no line is left
   pub over_told : (holds : Option (List ℕ)) (b : Bool) → b ≡ false → HearsTelling processors has number mid holds (Ok b) → TellsBadLines {X = Unit {0}} processors had held holds (Ok tt)
   over_told holds true h r = absurd cc
-  over_told holds false h (rest, last, all, single, what, more) = (
+  over_told holds false h (rest, last, all, what, more) = (
     lines,
     rest,
     each,
-    single,
     behind_all had has (joined lines) rest read all,
     (said, last, told, subst (λ n. ToldOfRest processors n rest last) count what, Appends-trans held mid holds said last written more),
   )

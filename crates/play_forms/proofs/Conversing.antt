@@ -9,7 +9,7 @@ use Rattle.std.proofs.KnownBytes.{Appends-nil, Consumes-trans}
 use Rattle.std.proofs.lemmas.Bool.{and_from, cases_Bool}
 use Rattle.std.proofs.lemmas.List.Folds.{list_all-append}
 use Rattle.ffa_playable.specs.Bench.{Bench, processors_of}
-use Rattle.play_syntax.specs.TraceLines.{Line, feed, has_no_feed, is_good, joined, line_in}
+use Rattle.play_syntax.specs.TraceLines.{Line, feed, is_good, joined, line_in}
 use Rattle.play_syntax.specs.TraceText.{after, after_all, line_after, line_text, text, text_of}
 use Rattle.play_syntax.specs.Output.{TookFront}
 use Rattle.play_syntax.specs.declared.output.PlayError.{PlayError}
@@ -17,7 +17,7 @@ use Rattle.play_syntax.specs.declared.output.PlayError.TheVariants.{Read, Write,
 use Rattle.play_player.proofs.Runs.{joined-append}
 use Rattle.play_forms.specs.Cut.{CutsTo}
 use Rattle.play_forms.specs.Forms.{line_text_in, text_in, text_of_in}
-use Rattle.play_forms.specs.Sessions.{Conversed, IsOver, SessionIn, good_lines, good_text_in}
+use Rattle.play_forms.specs.Sessions.{Conversed, IsOver, SessionIn, good_lines, good_text_in, is_heard}
 use Rattle.play_forms.specs.SessionSteps.{AnswersLine, HearsLine, TellsOrLoses}
 use Rattle.play_forms.specs.Steps.{PrintsLine}
 use Rattle.play_forms.specs.declared.form.Form.{Form}
@@ -116,7 +116,7 @@ answers_bad form start number bytes held none before after (Err (BadLine n)) nev
 
 -- there is a line
 pub heard : (had has : Option (List ℕ)) (line : List ℕ) (number : ℕ) (b : Bool) → b ≡ true → HearsLine had has line number (Ok b)
-    → Consumes had has (line ++ feed ∷ []) × (has_no_feed line ≡ true) × (number + 1 < 2 ^ 64)
+    → Consumes had has (line ++ feed ∷ []) × (is_heard line ≡ true) × (number + 1 < 2 ^ 64)
 heard had has line number true h r = r
 heard had has line number false h r = absurd cc
 
@@ -128,7 +128,7 @@ over had has line number false h r = r
 -- A SESSION
 
 -- These lines were read, good ones and bad ones.
-module _ (form : Form) (start mid : Bench) (had has : Option (List ℕ)) (lines : List (List ℕ)) (printed : List ℕ) (each : list_all has_no_feed lines ≡ true) (read : Consumes had has (joined lines)) (state : mid ≡ after_all start lines) (said : printed ≡ text_in form 1 start lines) where
+module _ (form : Form) (start mid : Bench) (had has : Option (List ℕ)) (lines : List (List ℕ)) (printed : List ℕ) (each : list_all is_heard lines ≡ true) (read : Consumes had has (joined lines)) (state : mid ≡ after_all start lines) (said : printed ≡ text_in form 1 start lines) where
   pub conversed : Conversed form start mid had has lines printed
   conversed =
       let is = said ∙ good_text form 1 start lines in
@@ -148,9 +148,9 @@ module _ (form : Form) (start mid : Bench) (had has : Option (List ℕ)) (lines 
   unheard (BadLine n) then bytes number held holds written r = absurd r
 
   -- one more
-  module _ (now : Bench) (then : Option (List ℕ)) (line : List ℕ) (number : ℕ) (count : number ≡ 1 + length lines) (taken : Consumes has then (line ++ feed ∷ [])) (single : has_no_feed line ≡ true) where
-    more_each : list_all has_no_feed (lines ++ line ∷ []) ≡ true
-    more_each = list_all-append has_no_feed lines (line ∷ []) ∙ and_from _ _ each (and_from _ _ single refl)
+  module _ (now : Bench) (then : Option (List ℕ)) (line : List ℕ) (number : ℕ) (count : number ≡ 1 + length lines) (taken : Consumes has then (line ++ feed ∷ [])) (single : is_heard line ≡ true) where
+    more_each : list_all is_heard (lines ++ line ∷ []) ≡ true
+    more_each = list_all-append is_heard lines (line ∷ []) ∙ and_from _ _ each (and_from _ _ single refl)
 
     more_read : Consumes had then (joined (lines ++ line ∷ []))
     more_read = subst (Consumes had then) (sym (joined-append lines (line ∷ []))) (Consumes-trans had has then (joined lines) (line ++ feed ∷ []) read taken)
@@ -164,7 +164,7 @@ module _ (form : Form) (start mid : Bench) (had has : Option (List ℕ)) (lines 
     more_said : printed ++ text_of_in form number mid line ≡ text_in form 1 start (lines ++ line ∷ [])
     more_said = ap (λ t. t ++ text_of_in form number mid line) said ∙ ap (λ t. text_in form 1 start lines ++ t) own_is ∙ sym (text_one form 1 start lines line)
 
-    pub more : now ≡ after mid line → (list_all has_no_feed (lines ++ line ∷ []) ≡ true) × Consumes had then (joined (lines ++ line ∷ [])) × (now ≡ after_all start (lines ++ line ∷ []))
+    pub more : now ≡ after mid line → (list_all is_heard (lines ++ line ∷ []) ≡ true) × Consumes had then (joined (lines ++ line ∷ [])) × (now ≡ after_all start (lines ++ line ∷ []))
         × (printed ++ text_of_in form number mid line ≡ text_in form 1 start (lines ++ line ∷ []))
     more next = (more_each, more_read, more_state next, more_said)
 

@@ -4,7 +4,7 @@
 use Rattle.std.specs.Prelude.{◌≡◌, ◌<◌, ◌^◌, ℕ, ◌+◌, Bool, true, false, List, [], ◌∷◌, ◌++◌, Option, Result, Ok, Err, ⊤}
 use Rattle.std.specs.Io.KnownBytes.{Appends, Consumes, Keeps}
 use Rattle.ffa_playable.specs.Bench.{Bench, processors_of}
-use Rattle.play_syntax.specs.TraceLines.{feed, has_no_feed, is_good}
+use Rattle.play_syntax.specs.TraceLines.{feed, is_good}
 use Rattle.play_syntax.specs.TraceText.{after}
 use Rattle.play_syntax.specs.Output.{TookFront}
 use Rattle.play_syntax.specs.declared.output.PlayError.{PlayError}
@@ -12,12 +12,12 @@ use Rattle.play_syntax.specs.declared.output.PlayError.TheVariants.{Read, Write,
 use Rattle.play_forms.specs.declared.form.Form.{Form}
 use Rattle.play_forms.specs.Forms.{text_of_in}
 use Rattle.play_forms.specs.Reading.{IsAll, ReadsNoLine}
-use Rattle.play_forms.specs.Sessions.{IsOver, TellsOf, ToldOf, ToldOfLine, ToldOfRest}
+use Rattle.play_forms.specs.Sessions.{is_heard, IsOver, TellsOf, ToldOf, ToldOfLine, ToldOfRest}
 
--- a line of this number was read, which leaves a number for the next; or none is left
+-- a line of this number was read, which leaves a number for the next; or what was left ends a session
 abbrev pub HearsLine : Option (List ℕ) → Option (List ℕ) → List ℕ → ℕ → Result Bool PlayError → Type 0
 HearsLine had has line number (Ok true) =
-    Consumes had has (line ++ feed ∷ []) × (has_no_feed line ≡ true) × (number + 1 < 2 ^ 64)
+    Consumes had has (line ++ feed ∷ []) × (is_heard line ≡ true) × (number + 1 < 2 ^ 64)
 HearsLine had has line number (Ok false) = IsOver had
 HearsLine had has line number (Err Read) = ReadsNoLine had has
 HearsLine had has line number (Err NoMemory) = ⊤
@@ -61,8 +61,7 @@ TellsOrLoses processors number bytes held holds (Err (BadLine n)) = ⊥
 abbrev pub HearsTelling : Option ℕ → Option (List ℕ) → ℕ → (held holds : Option (List ℕ)) → Result Bool PlayError → Type 0
 HearsTelling processors had number held holds (Ok true) = Keeps held holds
 HearsTelling processors had number held holds (Ok false) =
-    (rest said : List ℕ) × IsAll had rest × (has_no_feed rest ≡ true) × ToldOfRest processors number rest said
-    × Appends held holds said
+    (rest said : List ℕ) × IsAll had rest × ToldOfRest processors number rest said × Appends held holds said
 HearsTelling processors had number held holds (Err e) = Keeps held holds
 
 -- a bad line was told, and a good one wasn't

@@ -1,8 +1,9 @@
 -- SPDX-License-Identifier: MIT OR Apache-2.0
 -- What a session leaves: a play that tells of a bad line and goes on.
-use Rattle.std.specs.Prelude.{◌≡◌, ◌≤◌, ◌⊎◌, ◌↔◌, ℕ, ◌+◌, true, false, List, [], ◌∷◌, ◌++◌, codes, decimal, filter, length, Option, None, Some, IsNone, Result, Ok, Err, ⊤, if◌then◌else◌}
-use Rattle.std.specs.Io.KnownBytes.{Appends, Consumes, IsAtEnd}
+use Rattle.std.specs.Prelude.{◌≡◌, ◌≤◌, ◌⊎◌, ◌↔◌, ◌&&◌, ◌||◌, not, ℕ, ◌+◌, Bool, true, false, List, [], ◌∷◌, ◌++◌, codes, decimal, filter, length, Option, None, Some, IsNone, Result, Ok, Err, ⊤, if◌then◌else◌}
+use Rattle.std.specs.Io.KnownBytes.{Appends, Consumes}
 use Rattle.std.specs.List.{list_all}
+use Rattle.std.specs.Str.{bytes_eq}
 use Rattle.ffa_playable.specs.Bench.{Bench, processors_of}
 use Rattle.play_syntax.specs.TraceLines.{feed, has_no_feed, is_good, joined}
 use Rattle.play_syntax.specs.TraceText.{after, after_all, text}
@@ -17,6 +18,22 @@ use Rattle.play_forms.specs.declared.form.Form.{Form}
 use Rattle.play_forms.specs.Cut.{CutsTo}
 use Rattle.play_forms.specs.Forms.{text_of_in}
 use Rattle.play_forms.specs.Reading.{IsAll, ReadsNoLine}
+
+-- whether a line asks that the session end
+abbrev pub asks_end : List ℕ → Bool
+asks_end line = bytes_eq line (codes "quit") || bytes_eq line (codes "exit")
+
+-- whether the bytes are a line behind which a session goes on, where they have no LF
+abbrev pub is_heard : List ℕ → Bool
+is_heard line = has_no_feed line && not (asks_end line)
+
+-- these bytes begin with a line that asks for the end
+abbrev pub BeginsWithEnd : List ℕ → Type 0
+BeginsWithEnd bytes = (line more : List ℕ) × (asks_end line ≡ true) × (bytes ≡ line ++ feed ∷ more)
+
+-- a session ends where this is left: no line, but maybe a rest that no LF ends; or a line that asks for the end
+abbrev pub EndsSession : List ℕ → Type 0
+EndsSession rest = (has_no_feed rest ≡ true) ⊎ BeginsWithEnd rest
 
 -- the good ones of these lines of a trace of so many processors, in order
 abbrev pub good_lines : Option ℕ → List (List ℕ) → List (List ℕ)
@@ -33,20 +50,19 @@ good_text_in form number s (line ∷ lines) =
 -- What follows speaks of what is played on before and now (`start`, `now`), of what was unread in the reader before
 -- and after, and of what the writer held before, and holds.
 
--- These lines were read, and the good ones were done, and no other. This is their text, of which their plain text is left
+-- These lines were read, none of which asks for the end, and the good ones were done, and no other. This is their text, of which their plain text is left
 -- when numbers and names are cut off, unless it is short.
 pub record Conversed (form : Form) (start now : Bench) (had has : Option (List ℕ)) (lines : List (List ℕ))
     (printed : List ℕ) : Type 0 where
-  pub each : list_all has_no_feed lines ≡ true
+  pub each : list_all is_heard lines ≡ true
   pub read : Consumes had has (joined lines)
   pub state : now ≡ after_all start (good_lines (processors_of start) lines)
   pub said : printed ≡ good_text_in form 1 start lines
   pub cut : form.short ≡ false → CutsTo printed (text start (good_lines (processors_of start) lines))
 
--- nothing is left, or a rest that no LF ends
+-- what is left ends a session
 abbrev pub IsOver : Option (List ℕ) → Type 0
-IsOver left =
-    IsAtEnd left ⊎ ((rest : List ℕ) × (has_no_feed rest ≡ true) × (1 ≤ length rest) × IsAll left rest)
+IsOver left = (rest : List ℕ) × EndsSession rest × IsAll left rest
 
 -- these lines were read and their text was written, and so was a good one behind them, of whose text the writer took a
 -- beginning
@@ -63,7 +79,7 @@ pub record FailsToAnswer (form : Form) (start now : Bench) (held holds had : Opt
       TookFront between holds
       (text_of_in form (1 + length lines) (after_all start (good_lines (processors_of start) lines)) last)
 
--- A session: whole, or as far as could be read, where these are all lines that were read whole, or as far as could be
+-- A session: to its end, or as far as could be read, where these are all lines that were read whole, or as far as could be
 -- written. Of what it leaves where there is no memory nothing is said.
 abbrev pub SessionIn : {X : Type 0} → Form → Bench → Bench → (held holds had has : Option (List ℕ))
     → Result X PlayError → Type 0
@@ -118,24 +134,24 @@ ToldOfAll processors number (line ∷ lines) said =
     (own more : List ℕ) × (said ≡ own ++ more) × ToldOfLine processors number line own
     × ToldOfAll processors (number + 1) lines more
 
--- this was told of a rest that no LF ends, if there is one
+-- this was told of what is left where a session ends: of a rest that no LF ends, and else nothing
 abbrev pub ToldOfRest : Option ℕ → ℕ → List ℕ → List ℕ → Type 0
 ToldOfRest processors number rest said =
-    ((rest ≡ []) × (said ≡ [])) ⊎ ((1 ≤ length rest) × ToldOf processors number rest said)
+    ((rest ≡ []) × (said ≡ [])) ⊎ (BeginsWithEnd rest × (said ≡ []))
+    ⊎ ((has_no_feed rest ≡ true) × (1 ≤ length rest) × ToldOf processors number rest said)
 
 -- lines were read, and this was told of them
 abbrev pub ToldOfRead : Option ℕ → (had held holds : Option (List ℕ)) → Type 0
 ToldOfRead processors had held holds =
-    (lines : List (List ℕ)) × (left : Option (List ℕ)) × (list_all has_no_feed lines ≡ true)
+    (lines : List (List ℕ)) × (left : Option (List ℕ)) × (list_all is_heard lines ≡ true)
     × Consumes had left (joined lines) × ((said : List ℕ) × ToldOfAll processors 1 lines said × Appends held holds said)
 
 -- What a session told in a trace of so many processors, by what was unread in the reader before, and by what `told` held and
--- holds: of all lines that the reader had, and of the rest that no LF ends; or, where it could read or write no further, of
--- lines that it had read.
+-- holds: of all lines up to the end, and of a rest that no LF ends; or, where it could read or write no further, of lines
+-- that it had read.
 abbrev pub TellsBadLines : {X : Type 0} → Option ℕ → (had held holds : Option (List ℕ)) → Result X PlayError → Type 0
 TellsBadLines processors had held holds (Ok _) =
-    (lines : List (List ℕ)) × (rest : List ℕ) × (list_all has_no_feed lines ≡ true) × (has_no_feed rest ≡ true)
-    × IsAll had (joined lines ++ rest)
+    (lines : List (List ℕ)) × (rest : List ℕ) × (list_all is_heard lines ≡ true) × IsAll had (joined lines ++ rest)
     × ((said last : List ℕ) × ToldOfAll processors 1 lines said × ToldOfRest processors (1 + length lines) rest last
     × Appends held holds (said ++ last))
 TellsBadLines processors had held holds (Err Read) = ToldOfRead processors had held holds

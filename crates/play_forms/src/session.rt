@@ -4,7 +4,7 @@ ghost use Rattle.std.specs.Prelude.{◌≡◌, ◌++◌, ◌∷◌, []};
 ghost use Rattle.ffa_playable.specs.Bench.{processors_of};
 ghost use Rattle.play_syntax.specs.TraceLines.{feed};
 ghost use Rattle.play_reasons.specs.Drafts.{Puts};
-ghost use Rattle.play_forms.specs.Sessions.{SessionIn, TellsBadLines, bad_line_text, cause_text, joint_of};
+ghost use Rattle.play_forms.specs.Sessions.{SessionIn, TellsBadLines, asks_end, bad_line_text, cause_text, joint_of};
 ghost use Rattle.play_forms.specs.SessionSteps.{AnswersLine, AnswersTelling, HearsLine, HearsTelling, TellsBadLine, TellsOrLoses};
 
 use crate::form::{Form, Texts};
@@ -18,7 +18,8 @@ use std::alloc::Allocator;
 use std::io::{BufRead, Write};
 
 /// Does the good ones of the lines that the reader gives, one after another, and writes the text of each in this form
-/// before the next is read. Lines count from 1, bad ones too.
+/// before the next is read. Lines count from 1, bad ones too. A line that is the word `quit` or `exit` ends the session as
+/// the reader's end does, and nothing is told of it.
 ///
 /// A bad line isn't done, and the machine stays as it is: `told` is told its number and what is wrong with it. A rest that
 /// no LF ends is a bad line, and the last. What `told` doesn't take is lost: it was told of each bad line, in order, or a
@@ -61,8 +62,8 @@ pub fn play_session<P: Playable, A: Allocator + Copy, R: BufRead, W: Write, E: W
     Ok(())
 }
 
-// Reads the line of this number, and answers whether there is one. A rest that no LF ends is told, and is none. No more
-// lines are read than can be counted.
+// Reads the line of this number, and answers whether there is one. A rest that no LF ends is told, and is none, as a line
+// that asks for the end is. No more lines are read than can be counted.
 fn hear_line<A: Allocator, R: BufRead, E: Write>(
     processors: Option<usize>,
     reader: &mut R,
@@ -84,8 +85,16 @@ fn hear_line<A: Allocator, R: BufRead, E: Write>(
             tell_or_lose(processors, told, number, bytes, text)?;
             Ok(false)
         }
+        Ok(true) => Ok(!asks_end(bytes)),
         read => read,
     }
+}
+
+// Whether a line asks that the session end.
+fn asks_end(line: &[u8]) -> bool
+    ensures { result ≡ asks_end line.now }
+{
+    line == b"quit".as_slice() || line == b"exit".as_slice()
 }
 
 // Does the line of this number that these bytes are, and writes its text, or tells that they are none.

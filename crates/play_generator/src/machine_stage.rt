@@ -3,7 +3,7 @@
 ghost use Rattle.std.specs.Prelude.{◌<◌, length, IfSome};
 
 use ffa_model::function::FFA_ERROR;
-use ffa_model::{Effect, EndpointId, Manifest, Op, Outcome, PageNo, Rights, Why};
+use ffa_model::{Effect, EndpointId, Manifest, Op, Outcome, PageNo, Rights};
 use ffa_playable::Readable;
 use play_scenes::{PAGE, Stage};
 use play_transcript::{Counts, GenerateError, TraceEntry, actor_of, fit_store};
@@ -65,12 +65,12 @@ impl<M: Readable, A: Allocator + Copy> MachineStage<M, A> {
     // Counts what came of an operation, and the check at which it was refused. That is asked behind it, since a refusal leaves
     // the machine as it was.
     fn count(&mut self, op: &Op, outcome: &Outcome) {
-        self.counts.note(op, outcome);
-        if is_error(outcome)
-            && let Some(Why::Refused { refusal, .. }) = self.machine.why(op)
-        {
-            self.counts.note_check(op, refusal);
-        }
+        let why = if is_error(outcome) {
+            self.machine.why(op)
+        } else {
+            None
+        };
+        self.counts.count(op, outcome, why);
     }
 
     /// How often what came.

@@ -2,8 +2,10 @@
 //! The machines of `ffa_spmc` for the program: they are booted with the RAM and the cache that are asked for.
 #![tactic(auto)]
 
+mod counting;
 mod playing;
 
+use counting::count_in;
 use ffa_model::Manifest;
 use ffa_physmem::{FlatRam, FrameRam};
 use ffa_reasons::Explained;
@@ -11,6 +13,7 @@ use ffa_spmc::{Machine, Storage};
 use ffa_tlb::NoTlb;
 use play_generator::{Counts, GenerateError, generate};
 use play_report::Failure;
+use play_syntax::PlayError;
 use play_tasks::{Machines, Play};
 use playing::play_in;
 use std::alloc::Allocator;
@@ -40,6 +43,21 @@ impl Machines for Booted {
                 Ok(ram) => play_in(play, manifest, ram, out, err, told),
                 Err(_) => Err(Failure::NoMemory),
             }
+        }
+    }
+
+    fn count<A: Allocator + Copy, R: Read + Drop>(
+        &self,
+        alloc: A,
+        manifest: &Manifest,
+        processors: Option<usize>,
+        reader: R,
+        counts: &mut Counts,
+    ) -> Result<(), PlayError> {
+        let (base, pages) = (manifest.ram_base, 512 * manifest.ram_blocks);
+        match FlatRam::new_in(alloc, base, pages) {
+            Ok(ram) => count_in(alloc, manifest, ram, processors, reader, counts),
+            Err(_) => Err(PlayError::NoMemory),
         }
     }
 

@@ -89,8 +89,8 @@ fn play_with<
     }
 }
 
-// The machine that boots so, of which a trace may name so many processors.
-fn boot_for<M: PhysMem + Drop, T: Translations + Drop, S: Store>(
+/// The machine that boots so, of which a trace may name so many processors.
+pub(crate) fn boot_for<M: PhysMem + Drop, T: Translations + Drop, S: Store>(
     count: usize,
     storage: Storage<S>,
     manifest: &Manifest,

@@ -7,4 +7,4 @@ mod html;
 mod page;
 
 pub use html::write_page;
-pub use page::{Entry, Page};
+pub use page::{Entry, Offers, Page, RowOffers};

@@ -1,7 +1,7 @@
 // SPDX-License-Identifier: MIT OR Apache-2.0
 //! What a page is written from.
 
-use ffa_model::{Address, EndpointId, Outcome};
+use ffa_model::{Address, EndpointId, MOST_ENDPOINTS, Outcome, Rights};
 use play_drawing::Row;
 use std::alloc::{Allocator, Global};
 
@@ -20,6 +20,17 @@ pub struct Entry<A: Allocator = Global> {
     pub reason: Vec<u8, A>,
 }
 
+/// The most that each endpoint may still get of the open transaction in which a run's pages stand, by the endpoints' places in the
+/// manifest; nothing where it may retrieve none, and past the last endpoint.
+pub type Offers = [Option<Rights>; MOST_ENDPOINTS];
+
+/// What may still be retrieved behind a line.
+#[derive(Drop)]
+pub struct RowOffers<A: Allocator = Global> {
+    /// Of each run of the certificate of its row.
+    pub runs: Vec<Offers, A>,
+}
+
 /// A trace that was done on a machine, line by line.
 #[derive(Drop)]
 pub struct Page<A: Allocator = Global> {
@@ -29,6 +40,8 @@ pub struct Page<A: Allocator = Global> {
     pub endpoints: usize,
     /// The beginning, and each line that changes the certificate, with the certificate behind it.
     pub rows: Vec<Row<A>, A>,
+    /// What may still be retrieved behind the line of each row.
+    pub offers: Vec<RowOffers<A>, A>,
     /// Each line.
     pub entries: Vec<Entry<A>, A>,
 }

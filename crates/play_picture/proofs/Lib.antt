@@ -2,4 +2,5 @@
 pub mod Bare
 pub mod Entries
 pub mod Fitting
+mod MayRetrieve
 pub mod Watches

@@ -2,6 +2,7 @@
 //! The picture and the page of a trace: a machine is watched while the trace is played on it.
 #![tactic(auto)]
 
+mod offers;
 mod page;
 mod picture;
 mod seen;

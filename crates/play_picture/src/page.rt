@@ -6,6 +6,7 @@ ghost use Rattle.play_syntax.specs.TraceText.{line_after};
 ghost use Rattle.play_picture.specs.Paging.{Paging};
 ghost use Rattle.play_picture.specs.Steps.{TellsEntry};
 
+use crate::offers::put_offers;
 use crate::seen::Seen;
 use ffa_model::Outcome;
 use ffa_playable::Playable;
@@ -36,17 +37,20 @@ pub fn watch_page<P: Playable, A: Allocator + Copy, R: BufRead>(
         Paging player.old.bench player.new.bench had has bytes.new.items result }
 {
     let mut seen = Seen::begin(player, alloc)?;
-    let mut entries = Vec::new(alloc);
+    let (mut entries, mut offers) = (Vec::new(alloc), Vec::new(alloc));
+    put_offers(player, alloc, &seen.rows, &mut offers)?;
     let mut lines = Lines::new(player.processors());
     while let Some((number, line)) = lines.next(reader, bytes)? {
         let outcome = tell(player, alloc, &line, bytes, &mut entries)?;
         seen.see(player, alloc, CHANGES, number, &line, bytes, outcome)?;
+        put_offers(player, alloc, &seen.rows, &mut offers)?;
     }
     let machine = player.machine();
     Ok(Page {
         base: machine.ram_base(),
         endpoints: machine.endpoints(),
         rows: seen.rows,
+        offers,
         entries,
     })
 }

@@ -16,9 +16,9 @@ abbrev pub word_fault_words : WordFault → List ℕ
 word_fault_words Empty = codes "an empty word"
 word_fault_words UnknownCommand = codes "an unknown command"
 word_fault_words Help =
-    codes "a line is call X0 .. X7, load A N, store A V, fetch A, show or audit, in hexadecimal"
+    codes "a line is call X0 .. X7, load A N, store A V, fetch A, show or audit, in hexadecimal; quit ends a session"
 word_fault_words HelpOnSeveral =
-    codes "a line is call X0 .. X7, load A N, store A V, fetch A, show, audit, on N or interrupt, in hexadecimal"
+    codes "a line is call X0 .. X7, load A N, store A V, fetch A, show, audit, on N or interrupt, in hexadecimal; quit ends a session"
 word_fault_words Quit = codes "the end of the input ends a session, as Ctrl+D does"
 word_fault_words NoNumber = codes "no hexadecimal number"
 word_fault_words Prefix = codes "a number is written without 0x"

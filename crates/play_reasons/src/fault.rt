@@ -245,11 +245,11 @@ impl fmt::Display for WordFault {
             WordFault::UnknownCommand => write!(f, "an unknown command"),
             WordFault::Help => write!(
                 f,
-                "a line is call X0 .. X7, load A N, store A V, fetch A, show or audit, in hexadecimal"
+                "a line is call X0 .. X7, load A N, store A V, fetch A, show or audit, in hexadecimal; quit ends a session"
             ),
             WordFault::HelpOnSeveral => write!(
                 f,
-                "a line is call X0 .. X7, load A N, store A V, fetch A, show, audit, on N or interrupt, in hexadecimal"
+                "a line is call X0 .. X7, load A N, store A V, fetch A, show, audit, on N or interrupt, in hexadecimal; quit ends a session"
             ),
             WordFault::Quit => write!(f, "the end of the input ends a session, as Ctrl+D does"),
             WordFault::NoNumber => write!(f, "no hexadecimal number"),

@@ -5,7 +5,7 @@ use Rattle.std.specs.Prelude.{slice_index_or, OnOk, unwrap_or}
 use Rattle.std.specs.Io.KnownBytes.{Appends, Consumes, IsAtEnd, Keeps, prepend_known}
 use Rattle.std.proofs.KnownBytes.{Consumes-trans}
 use Rattle.ffa_playable.specs.Bench.{Bench, processors_of}
-use Rattle.play_syntax.specs.TraceLines.{feed, has_no_feed, joined}
+use Rattle.play_syntax.specs.TraceLines.{feed, joined}
 use Rattle.play_syntax.specs.TraceText.{text}
 use Rattle.play_player.specs.Played.{Played}
 use Rattle.play_syntax.specs.declared.output.PlayError.{PlayError}
@@ -21,7 +21,7 @@ use Rattle.play_forms.specs.Recorded.{RecordedIn}
 use Rattle.play_report.specs.Guarded.{met_text, near_text}
 use Rattle.play_forms.specs.declared.guards.Breach.{Breach}
 use Rattle.play_forms.specs.Reading.{IsAll}
-use Rattle.play_forms.specs.Sessions.{Conversed, SessionIn}
+use Rattle.play_forms.specs.Sessions.{Conversed, EndsSession, SessionIn}
 use Rattle.play_forms.specs.declared.comparison.CompareError.TheVariants as compare_error
 use Rattle.play_forms.proofs.Plain.{plain_text}
 use Rattle.play_forms.proofs.Sifts.{all_met}
@@ -53,7 +53,7 @@ pub unread_yet : (had : Option (List ℕ)) → prepend_known [] had ≡ had
 unread_yet None = refl
 unread_yet (Some bytes) = refl
 
-all_consumed : (had has : Option (List ℕ)) (bytes : List ℕ) → Consumes had has bytes → IsAtEnd has → IsAll had bytes
+pub all_consumed : (had has : Option (List ℕ)) (bytes : List ℕ) → Consumes had has bytes → IsAtEnd has → IsAll had bytes
 all_consumed None has bytes c e = tt
 all_consumed (Some xs) None bytes c e = absurd c
 all_consumed (Some xs) (Some ys) bytes c e = c ∙ ap (λ l. bytes ++ l) e ∙ append-nil bytes
@@ -382,12 +382,12 @@ differing form start streams expected path never_prints (TooManyRows most) never
 -- SESSIONS
 
 held_of : (form : Form) (start now : Bench) (held holds had left : Option (List ℕ)) (lines : List (List ℕ)) (said rest : List ℕ) → Conversed form start now had left lines said → Appends held holds said
-    → has_no_feed rest ≡ true → IsAll left rest → IsHeld form start (passed had held holds)
-held_of form start now held holds had left lines said rest heard written single all = record {
+    → EndsSession rest → IsAll left rest → IsHeld form start (passed had held holds)
+held_of form start now held holds had left lines said rest heard written ends all = record {
   lines = lines;
   rest = rest;
   each = heard.each;
-  single = single;
+  ends = ends;
   all = rest_behind had left (joined lines) rest heard.read all;
   written = subst (Appends held holds) heard.said written;
 }
@@ -397,15 +397,9 @@ held_of form start now held holds had left lines said rest heard written single 
     rest_behind (Some xs) None before rest c all = absurd c
     rest_behind (Some xs) (Some ys) before rest c all = c ∙ ap (λ l. before ++ l) all
 
-no_rest : (left : Option (List ℕ)) → IsAtEnd left → IsAll left []
-no_rest None ended = tt
-no_rest (Some xs) ended = ended
-
 pub held_whole : {X : Type 0} (x : X) (form : Form) (start now : Bench) (held holds had has : Option (List ℕ)) → SessionIn form start now held holds had has (Ok x) → IsHeld form start (passed had held holds)
-held_whole x form start now held holds had has (left, lines, said, heard, inl ended, written) =
-    held_of form start now held holds had left lines said [] heard written refl (no_rest left ended)
-held_whole x form start now held holds had has (left, lines, said, heard, inr (rest, single, some, all), written) =
-    held_of form start now held holds had left lines said rest heard written single all
+held_whole x form start now held holds had has (left, lines, said, heard, (rest, ends, all), written) =
+    held_of form start now held holds had left lines said rest heard written ends all
 
 pub held_failed : (form : Form) (start now : Bench) (held holds had has : Option (List ℕ)) (path : Bor (List ℕ)) (fault : Option LineFlaw) (error : PlayError)
     → SessionIn {X = Unit {0}} form start now held holds had has (Err error) → PlayFails (Session form) path start (passed had held holds) (failure_of (Read path) fault error)

@@ -17,7 +17,7 @@ use Rattle.play_forms.specs.Guards.{AreMet, IsMet, guard_of, guards_among, near_
 use Rattle.play_forms.specs.Past.{UnmetAmong}
 use Rattle.play_forms.specs.Reading.{IsAll, IsBadLine}
 use Rattle.play_forms.specs.Recorded.{Replays, recorded}
-use Rattle.play_forms.specs.Sessions.{good_text_in}
+use Rattle.play_forms.specs.Sessions.{EndsSession, good_text_in, is_heard}
 use Rattle.play_drawing.specs.declared.row.Keep.{Keep}
 use Rattle.play_drawing.specs.declared.row.Pace.TheVariants.{Changes, Every}
 use Rattle.play_drawing.specs.Written.{WritesPicture}
@@ -156,20 +156,20 @@ IsRecordUnread start streams =
     (lines : List (List ℕ)) × BeganWith (processors_of start) streams.trace lines
     × Appends streams.held streams.holds (joined (recorded start lines))
 
--- a session with a trace was held to its end: what its reader had are lines, good and bad, and a rest that no LF ends, and
--- the text of the good ones was written in this form
+-- a session with a trace was held to its end: what its reader had are lines, good and bad, and what ends a session, and the
+-- text of the good ones was written in this form
 pub record IsHeld (form : Form) (start : Bench) (streams : Streams) : Type 0 where
   pub lines : List (List ℕ)
   pub rest : List ℕ
-  pub each : list_all has_no_feed lines ≡ true
-  pub single : has_no_feed rest ≡ true
+  pub each : list_all is_heard lines ≡ true
+  pub ends : EndsSession rest
   pub all : IsAll streams.trace (joined lines ++ rest)
   pub written : Appends streams.held streams.holds (good_text_in form 1 start lines)
 
 -- a session could read no further: the good ones of these lines were done, and their text was written
 abbrev pub IsUnheard : Form → Bench → Streams → Type 0
 IsUnheard form start streams =
-    (lines : List (List ℕ)) × (list_all has_no_feed lines ≡ true)
+    (lines : List (List ℕ)) × (list_all is_heard lines ≡ true)
     × ((left : Option (List ℕ)) × Consumes streams.trace left (joined lines))
     × Appends streams.held streams.holds (good_text_in form 1 start lines)
 

@@ -3,10 +3,12 @@
 #![tactic(auto)]
 
 mod comparing;
+mod counting;
 mod machines;
 mod paging;
 mod playing;
 mod task;
 
+pub use counting::count_trace;
 pub use machines::{Machines, Play};
 pub use task::{Expected, Task, Trace, do_task};

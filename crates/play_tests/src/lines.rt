@@ -143,6 +143,13 @@ fn goes_on_behind_a_session(rt: HostRuntime) -> Result<(), Fail> {
     holds_session(&rt, rt.alloc(), Form::default(), trace, "done\n", told)
 }
 
+// It ends at a line that asks for that, and leaves alone what stands behind it.
+#[test]
+fn goes_on_behind_a_session_that_was_ended(rt: HostRuntime) -> Result<(), Fail> {
+    let trace = "store 40010000 2A\nquit\nload 4001\nload 40010000 1\n";
+    holds_session(&rt, rt.alloc(), Form::default(), trace, "done\n", "")
+}
+
 // The next line, and what comes of reading it.
 fn reads(
     rt: &impl Abort,

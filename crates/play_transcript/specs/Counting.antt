@@ -15,6 +15,8 @@ use Rattle.ffa_model.specs.declared.operation.Outcome.{Outcome}
 use Rattle.ffa_model.specs.declared.operation.Outcome.TheVariants.{Regs, Data, Done, Fault}
 use Rattle.ffa_model.specs.Calls.{code_number}
 use Rattle.ffa_model.specs.declared.refusal.Refusal.{Refusal}
+use Rattle.ffa_model.specs.declared.why.Why.{Why}
+use Rattle.ffa_model.specs.declared.why.Why.TheVariants as whys
 use Rattle.ffa_model.specs.Registers.{low}
 use Rattle.ffa_model.specs.Rows.{place_in_rows, rows}
 use Rattle.play_reasons.specs.Checks.{number_of}
@@ -78,9 +80,12 @@ column_of (Fault fault) = column_of_fault fault
 abbrev pub cell : ℕ → ℕ → ℕ
 cell row column = 6 * row + column
 
--- one count grew by one, but for one that was the highest, and all others stayed
+-- one count grows by one, but for one that is the highest, and all others stay
+abbrev pub one_more : ℕ → List ℕ → List ℕ
+one_more at counts = slice_set counts at (min (slice_index counts at + 1) (2 ^ 64 - 1))
+
 abbrev pub CountsOne : ℕ → List ℕ → List ℕ → Type 0
-CountsOne at old new = new ≡ slice_set old at (min (slice_index old at + 1) (2 ^ 64 - 1))
+CountsOne at old new = new ≡ one_more at old
 
 -- CHECKS
 
@@ -95,7 +100,30 @@ check_cell_of (Load addr size) refusal = None
 check_cell_of (Store addr size value) refusal = None
 check_cell_of (Fetch addr) refusal = None
 
--- one count grew by one, or none where there is none
+-- the same of an operation that is refused for this reason, or isn't refused
+abbrev pub check_of : Op → Option Why → Option ℕ
+check_of op (Some (whys.Refused refusal about)) = check_cell_of op refusal
+check_of op (Some (whys.Fault kind obstacle)) = None
+check_of op None = None
+
+-- one count grows by one, or none where there is none
+abbrev pub one_more_in : Option ℕ → List ℕ → List ℕ
+one_more_in (Some at) counts = one_more at counts
+one_more_in None counts = counts
+
 abbrev pub CountsCheck : Option ℕ → List ℕ → List ℕ → Type 0
-CountsCheck (Some at) old new = CountsOne at old new
-CountsCheck None old new = new ≡ old
+CountsCheck at old new = new ≡ one_more_in at old
+
+-- WHAT IS COUNTED
+
+-- the counts of calls and accesses, and those of checks
+pub record Tally : Type 0 where
+  pub cells : List ℕ
+  pub checks : List ℕ
+
+-- an operation counts by what comes of it and why it is refused, if it is
+abbrev pub count_one : Op → Outcome → Option Why → Tally → Tally
+count_one op outcome why t = record {
+  cells = one_more (cell (row_of_operation op) (column_of outcome)) t.cells;
+  checks = one_more_in (check_of op why) t.checks;
+}

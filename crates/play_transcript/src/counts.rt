@@ -5,12 +5,12 @@ ghost use Rattle.std.specs.Option.{option_map_or};
 ghost use Rattle.ffa_model.specs.Registers.{low};
 ghost use Rattle.ffa_model.specs.Rows.{place_in_rows};
 ghost use Rattle.play_reasons.specs.Checks.{number_of};
-ghost use Rattle.play_transcript.specs.Counting.{row_of_access, row_of_operation, column_of_error, column_of_fault, error_numbers, column_of_registers, column_of, cell, check_cell, check_cell_of, CountsOne, CountsCheck};
+ghost use Rattle.play_transcript.specs.Counting.{row_of_access, row_of_operation, column_of_error, column_of_fault, error_numbers, column_of_registers, column_of, cell, check_cell, check_cell_of, check_of, CountsOne, CountsCheck};
 
 use crate::unreached::Everyone;
 use ffa_abi::{call_place, low};
 use ffa_model::function::FFA_ERROR;
-use ffa_model::{CALLS, ErrorCode, FaultKind, Manifest, Op, Outcome, Refusal};
+use ffa_model::{CALLS, ErrorCode, FaultKind, Manifest, Op, Outcome, Refusal, Why};
 use play_reasons::check_number;
 
 /// The row of what is no call.
@@ -212,6 +212,17 @@ impl Counts {
         let mut counts = Counts::new();
         counts.everyone = Everyone::of(manifest);
         counts
+    }
+
+    /// Counts what came of an operation, and the check at which it was refused, where it is refused for that.
+    pub fn count(&mut self, op: &Op, outcome: &Outcome, why: Option<Why>)
+        ensures cells { CountsOne (cell (row_of_operation op.now) (column_of outcome.now)) self.old.cells self.new.cells }
+        ensures checks { CountsCheck (check_of op.now why) self.old.checks self.new.checks }
+    {
+        self.note(op, outcome);
+        if let Some(Why::Refused { refusal, .. }) = why {
+            self.note_check(op, refusal);
+        }
     }
 
     /// Counts what came of an operation.

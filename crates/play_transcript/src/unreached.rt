@@ -1,21 +1,33 @@
 // SPDX-License-Identifier: MIT OR Apache-2.0
-//! Why a generated trace doesn't reach a check.
+//! Why traces don't reach a check.
+ghost use Rattle.std.specs.Prelude.{◌≡◌, ◌&&◌};
+
 use bitflags::Flags;
 use ffa_model::function::{FFA_MEM_DONATE, FFA_MEM_SHARE, FFA_RUN};
 use ffa_model::{Endpoint, Manifest, Properties, Refusal};
 
 /// What every endpoint of a machine may do, of direct requests and of indirect messages; of receiving requests every partition.
-/// And whether all of its memory is alike.
+/// And whether all of its memory is alike, and one processor alone runs it.
 #[derive(Clone, Copy, Default)]
 pub struct Everyone {
     pub sends_requests: bool,
     pub receives_requests: bool,
     pub takes_messages: bool,
     pub tells_no_worlds: bool,
+    pub runs_alone: bool,
 }
 
 impl Everyone {
-    /// On the machine of a manifest.
+    /// On no machine at all, where all of it is so.
+    pub const NOWHERE: Everyone = Everyone {
+        sends_requests: true,
+        receives_requests: true,
+        takes_messages: true,
+        tells_no_worlds: true,
+        runs_alone: true,
+    };
+
+    /// On the machine of a manifest, which one processor runs alone.
     pub fn of(manifest: &Manifest) -> Everyone {
         let all = manifest.endpoints.as_slice();
         let partitions = all.get(1..).unwrap_or(&[]);
@@ -24,6 +36,24 @@ impl Everyone {
             receives_requests: all_have(partitions, Properties::RECEIVES_DIRECT_REQUESTS),
             takes_messages: all_have(all, Properties::INDIRECT_MESSAGES),
             tells_no_worlds: !manifest.tells_worlds(),
+            runs_alone: true,
+        }
+    }
+
+    /// On these machines and on others.
+    pub fn and(self, other: Everyone) -> Everyone
+        ensures sends { result.sends_requests ≡ (self.sends_requests && other.sends_requests) }
+        ensures receives { result.receives_requests ≡ (self.receives_requests && other.receives_requests) }
+        ensures takes { result.takes_messages ≡ (self.takes_messages && other.takes_messages) }
+        ensures worlds { result.tells_no_worlds ≡ (self.tells_no_worlds && other.tells_no_worlds) }
+        ensures alone { result.runs_alone ≡ (self.runs_alone && other.runs_alone) }
+    {
+        Everyone {
+            sends_requests: self.sends_requests && other.sends_requests,
+            receives_requests: self.receives_requests && other.receives_requests,
+            takes_messages: self.takes_messages && other.takes_messages,
+            tells_no_worlds: self.tells_no_worlds && other.tells_no_worlds,
+            runs_alone: self.runs_alone && other.runs_alone,
         }
     }
 }
@@ -37,12 +67,12 @@ fn all_have(endpoints: &[Endpoint], wanted: Properties) -> bool {
     true
 }
 
-/// Why no generated trace fails a check of a call, by the call's identifier, where a trace of any length, or one of fewer
-/// than 65,535 sends, never does.
+/// Why no trace fails a check of a call, by the call's identifier, where a trace of any length, or one of fewer than 65,535
+/// sends, never does.
 pub fn why_unreached(everyone: Everyone, function: u32, refusal: Refusal) -> Option<&'static str> {
     match refusal {
         Refusal::TargetNotReady => of_call(
-            function == FFA_RUN,
+            function == FFA_RUN && everyone.runs_alone,
             "each partition waits or has yielded while the normal world runs",
         ),
         Refusal::GrantTooMuch => { of_call(function == FFA_MEM_DONATE, "a donate grants no right") }

@@ -4,7 +4,7 @@ ghost use Rattle.std.specs.Prelude.{◌≡◌, true, OnOk};
 ghost use Rattle.play_page.specs.Written.{Grows, WritesData, is_inert};
 
 use super::answer::{write_answer, write_reason, write_words};
-use crate::page::{Entry, Page};
+use crate::page::{Entry, Offers, Page};
 use ffa_model::{Address, CertRun, EndpointId, MOST_ENDPOINTS, PageNo, Rights};
 use play_drawing::Row;
 use play_syntax::text::{Text, push_right};
@@ -14,8 +14,8 @@ use std::io::{self, Write};
 /// Writes the endpoints, who runs at the beginning, the changes and the lines.
 ///
 /// A change is the number of a line with the runs that its certificate has and the one before it had not; the first
-/// change has number 0 and all runs of the beginning. A run is written as `audit` prints it, without its first word. A
-/// line is the endpoint that runs behind it, what it says, what it answers, and why it is refused, with tabs between
+/// change has number 0 and all runs of the beginning. A run is written as `audit` prints it, without its first word, and
+/// behind it, where somebody may still retrieve it, the most that each endpoint may get. A line is the endpoint that runs behind it, what it says, what it answers, and why it is refused, with tabs between
 /// them.
 pub(super) fn write_data<A: Allocator, W: Write>(page: &Page<A>, writer: &mut W) -> io::Result<()>
     ensures { OnOk result (WritesData (W.contents writer.old) (W.contents writer.new)) }
@@ -58,27 +58,32 @@ fn write_changes<A: Allocator, W: Write>(page: &Page<A>, writer: &mut W) -> io::
             Some(last) => page.rows.get(last),
             None => None,
         };
-        write_change(page, before, row, writer)?;
+        let offers = match page.offers.get(place) {
+            Some(offers) => offers.runs.as_slice(),
+            None => &[],
+        };
+        write_change(page, before, row, offers, writer)?;
         writer.write_all(b"]")?;
     }
     writer.write_all(b"],\n")
 }
 
-// Writes the runs of a row that aren't among those of the row before it.
+// Writes the runs of a row that aren't among those of the row before it, with what may still be retrieved of each.
 fn write_change<A: Allocator, W: Write>(
     page: &Page<A>,
     before: Option<&Row<A>>,
     row: &Row<A>,
+    offers: &[Offers],
     writer: &mut W,
 ) -> io::Result<()>
     ensures { OnOk result (Grows (W.contents writer.old) (W.contents writer.new)) }
 {
-    for run in &row.runs {
+    for (place, run) in row.runs.iter().enumerate() {
         let stands = match before {
             Some(before) => before.runs.iter().any(|its| its == run),
             None => false,
         };
-        write_run(page, run, stands, writer)?;
+        write_run(page, run, offers.get(place), stands, writer)?;
     }
     Ok(())
 }
@@ -87,6 +92,7 @@ fn write_change<A: Allocator, W: Write>(
 fn write_run<A: Allocator, W: Write>(
     page: &Page<A>,
     run: &CertRun,
+    offers: Option<&Offers>,
     stands: bool,
     writer: &mut W,
 ) -> io::Result<()>
@@ -103,7 +109,28 @@ fn write_run<A: Allocator, W: Write>(
     for right in run.access.iter().take(page.endpoints) {
         write_right(*right, writer)?;
     }
+    write_offers(page.endpoints, offers, writer)?;
     writer.write_all(b"\"")
+}
+
+// Writes the most that each of so many endpoints may still get of a run, where one of them may retrieve it.
+fn write_offers<W: Write>(
+    endpoints: usize,
+    offers: Option<&Offers>,
+    writer: &mut W,
+) -> io::Result<()>
+    ensures { OnOk result (Grows (W.contents writer.old) (W.contents writer.new)) }
+{
+    let Some(offers) = offers else {
+        return Ok(());
+    };
+    if offers.iter().all(|right| right.is_none()) {
+        return Ok(());
+    }
+    for right in offers.iter().take(endpoints) {
+        write_right(*right, writer)?;
+    }
+    Ok(())
 }
 
 // Writes the handle of the transaction in which a run's pages stand, or that they stand in none.

@@ -3,15 +3,15 @@ use Rattle.std.proofs.Common.{◌≡◌, ◌+◌, ◌-◌, ◌^◌, ℕ, true, L
 use Rattle.std.specs.Io.KnownBytes.{Appends, Consumes}
 use Rattle.std.specs.List.{list_all}
 use Rattle.ffa_playable.specs.Bench.{processors_of}
-use Rattle.play_syntax.specs.TraceLines.{has_no_feed, joined}
+use Rattle.play_syntax.specs.TraceLines.{joined}
 use Rattle.play_syntax.specs.TraceText.{after_all}
 use Rattle.play_forms.specs.Forms.{text_in}
-use Rattle.play_forms.specs.Sessions.{ToldOfAll}
+use Rattle.play_forms.specs.Sessions.{ToldOfAll, is_heard}
 use Rattle.play_forms.proofs.session.play_session.Given as goal
 
 abbrev pub invariant-loop-texts : goal.invariant-loop-texts
 invariant-loop-texts g l =
-    (lines : List (List ℕ)) × (printed : List ℕ) × (list_all has_no_feed lines ≡ true)
+    (lines : List (List ℕ)) × (printed : List ℕ) × (list_all is_heard lines ≡ true)
     × Consumes (g.R.Read.remaining l.fn.reader) (g.R.Read.remaining l.reader) (joined lines)
     × (l.player.bench ≡ after_all l.fn.player.bench lines) × (printed ≡ text_in l.fn.form 1 l.fn.player.bench lines)
     × Appends (g.W.Write.contents l.fn.writer) (g.W.Write.contents l.writer) printed × (l.number ≡ 1 + length lines)

@@ -2,5 +2,5 @@
 use Rattle.play_page.specs.Written.{Grows}
 use Rattle.play_page.proofs.html.data.write_change.Given as goal
 
-abbrev pub invariant-loop-run : goal.invariant-loop-run
-invariant-loop-run g l = Grows (g.W.Write.contents l.fn.writer) (g.W.Write.contents l.writer)
+abbrev pub invariant-loop-place : goal.invariant-loop-place
+invariant-loop-place g l = Grows (g.W.Write.contents l.fn.writer) (g.W.Write.contents l.writer)

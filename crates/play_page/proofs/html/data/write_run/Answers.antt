@@ -14,4 +14,4 @@ loop-right-preserved g c =
 
 pub returns : goal.returns
 returns g c =
-    last_by c.write_all.result (g.W.Write.contents c.args.writer.now) (g.W.Write.contents c.loop-right.writer) (g.W.Write.contents c.write_all.new.self) (codes "\"") refl (c.loop-right.invariant) c.write_all.ensures.bytes
+    last_by c.write_all.result (g.W.Write.contents c.args.writer.now) (g.W.Write.contents c.write_offers.new.writer) (g.W.Write.contents c.write_all.new.self) (codes "\"") refl (grows_then (g.W.Write.contents c.args.writer.now) (g.W.Write.contents c.loop-right.writer) (g.W.Write.contents c.write_offers.new.writer) (c.loop-right.invariant) (c.in_ok-write_offers.ensures)) c.write_all.ensures.bytes

@@ -1,0 +1,42 @@
+// SPDX-License-Identifier: MIT OR Apache-2.0
+//! Traces that are counted.
+ghost use Rattle.std.specs.Prelude.{Some};
+ghost use Rattle.play_commands.specs.Performed.{CountsFor};
+ghost use Rattle.play_tasks.specs.Counted.{tally_of};
+
+use crate::playing::{machine_of, with_worlds};
+use crate::program::Program;
+use play_arguments::PlayOptions;
+use play_report::{Failure, Notes};
+use play_tasks::Machines;
+use play_transcript::{Counts, Everyone};
+use std::alloc::Allocator;
+use std::io::Read;
+
+impl<M: Machines, A: Allocator + Copy> Program<M, A> {
+    /// Plays a trace on the machine of its source, and counts what comes of its operations, behind what was counted before.
+    pub(crate) fn count_play<'a, R: Read + Drop>(
+        &self,
+        options: PlayOptions<'a>,
+        manifest: &[u8],
+        trace: R,
+        counts: &mut Counts,
+    ) -> Result<(), Failure<'a>>
+        ensures { CountsFor options.entry (Some manifest.now) (R.remaining trace.entry) (tally_of counts.old) (tally_of counts.new) result }
+    {
+        let mut notes = Notes::new(self.alloc, false);
+        let manifest = machine_of(self.manifests, options.source, Some(manifest), &mut notes)?;
+        let manifest = with_worlds(manifest, options.machine.worlds);
+        let processors = options.machine.processors;
+        let mut everyone = Everyone::of(&manifest);
+        everyone.runs_alone = processors.is_none();
+        counts.everyone = counts.everyone.and(everyone);
+        match self
+            .machines
+            .count(self.alloc, &manifest, processors, trace, counts)
+        {
+            Ok(()) => Ok(()),
+            Err(error) => Err(Failure::of_play(options.trace, error, None)),
+        }
+    }
+}
