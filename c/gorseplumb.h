@@ -501,8 +501,8 @@ enum gorseplumb_check {
     GORSEPLUMB_CHECK_ENDPOINT_NOT_ZERO = 19, /* the endpoint is not 0 */
     GORSEPLUMB_CHECK_RX_EMPTY = 20, /* the caller has no RX and TX, or its RX is not full */
     GORSEPLUMB_CHECK_RECEIVER_IS_NORMAL_WORLD = 21, /* the receiver is the normal world */
-    GORSEPLUMB_CHECK_REQUESTS_UNSENT = 22, /* the caller does not send direct requests */
-    GORSEPLUMB_CHECK_REQUESTS_UNRECEIVED = 23, /* the receiver does not receive direct requests */
+    GORSEPLUMB_CHECK_REQUESTS_UNSENT = 22, /* the caller does not send direct requests (bit 1 of its properties) */
+    GORSEPLUMB_CHECK_REQUESTS_UNRECEIVED = 23, /* the receiver does not receive direct requests (bit 0 of its properties) */
     GORSEPLUMB_CHECK_RECEIVER_NOT_WAITING = 24, /* the receiver does not wait */
     GORSEPLUMB_CHECK_NO_REQUEST = 25, /* the caller works on no direct request */
     GORSEPLUMB_CHECK_ANSWER_MISDIRECTED = 26, /* the response is not from the caller to the endpoint that asked */
@@ -514,8 +514,8 @@ enum gorseplumb_check {
     GORSEPLUMB_CHECK_MESSAGE_IN_HEADER = 32, /* the message begins inside its header */
     GORSEPLUMB_CHECK_MESSAGE_EMPTY = 33, /* the message has no byte */
     GORSEPLUMB_CHECK_MESSAGE_TOO_LONG = 34, /* the message does not end inside TX */
-    GORSEPLUMB_CHECK_MESSAGES_UNSENT = 35, /* the caller does not send indirect messages */
-    GORSEPLUMB_CHECK_MESSAGES_UNRECEIVED = 36, /* the receiver does not receive indirect messages */
+    GORSEPLUMB_CHECK_MESSAGES_UNSENT = 35, /* the caller does not send indirect messages (bit 2 of its properties) */
+    GORSEPLUMB_CHECK_MESSAGES_UNRECEIVED = 36, /* the receiver does not receive indirect messages (bit 2 of its properties) */
     GORSEPLUMB_CHECK_RECEIVER_BUFFERS_MISSING = 37, /* the receiver has no RX and TX */
     GORSEPLUMB_CHECK_RECEIVER_RX_FULL = 38, /* the receiver's RX is full */
     GORSEPLUMB_CHECK_RECEIVER_RX_SMALL = 39, /* the message with its header is longer than the receiver's RX */

@@ -30,7 +30,7 @@ struct function {
 
 static const struct function functions[] = {
     {"FFA_ERROR", 0x84000060, false, {CHECK(FUNCTION_UNKNOWN)}},
-    {"FFA_SUCCESS", 0x84000061, false, {CHECK(FUNCTION_UNKNOWN)}},
+    {"FFA_SUCCESS", 0x84000061, true, {CHECK(FUNCTION_UNKNOWN)}},
     {"FFA_INTERRUPT", 0x84000062, false, {CHECK(FUNCTION_UNKNOWN)}},
     {"FFA_VERSION", 0x84000063, false, {0}},
     {"FFA_FEATURES", 0x84000064, false, {CHECK(FUNCTION_UNKNOWN)}},
@@ -122,8 +122,8 @@ static const char check_names[] =
     "the endpoint is not 0\0"
     "the caller has no RX and TX, or its RX is not full\0"
     "the receiver is the normal world\0"
-    "the caller does not send direct requests\0"
-    "the receiver does not receive direct requests\0"
+    "the caller does not send direct requests (bit 1 of its properties)\0"
+    "the receiver does not receive direct requests (bit 0 of its properties)\0"
     "the receiver does not wait\0"
     "the caller works on no direct request\0"
     "the response is not from the caller to the endpoint that asked\0"
@@ -135,8 +135,8 @@ static const char check_names[] =
     "the message begins inside its header\0"
     "the message has no byte\0"
     "the message does not end inside TX\0"
-    "the caller does not send indirect messages\0"
-    "the receiver does not receive indirect messages\0"
+    "the caller does not send indirect messages (bit 2 of its properties)\0"
+    "the receiver does not receive indirect messages (bit 2 of its properties)\0"
     "the receiver has no RX and TX\0"
     "the receiver's RX is full\0"
     "the message with its header is longer than the receiver's RX\0"

@@ -7,8 +7,9 @@ use Rattle.ffa_model.specs.declared.call.Call.{Call}
 use Rattle.ffa_model.specs.declared.call.Call.TheVariants.{RxtxMap, MemDonate, MemLend, MemShare, MemReclaim}
 use Rattle.ffa_model.specs.declared.call.Transfer.{Transfer}
 use Rattle.ffa_model.specs.declared.endpoint.PageNo.{PageNo}
+use Rattle.ffa_model.specs.declared.endpoint.Region.{Region}
 use Rattle.ffa_model.specs.declared.refusal.Refusal.{Refusal}
-use Rattle.ffa_model.specs.declared.refusal.Refusal.TheVariants.{TxUnusable, RxUnusable, PageUnsendable, GrantTooMuch, ZerosUnwritable}
+use Rattle.ffa_model.specs.declared.refusal.Refusal.TheVariants.{TxUnusable, RxUnusable, PageUnsendable, GrantTooMuch, ZerosUnwritable, WorldsMixed}
 use Rattle.ffa_model.specs.declared.rights.Kind.{Kind}
 use Rattle.ffa_model.specs.declared.rights.Kind.TheVariants.{Share, Lend, Donate}
 use Rattle.ffa_model.specs.declared.transaction.Range.{Range}
@@ -24,6 +25,7 @@ use Rattle.ffa_model.specs.Lists.{run}
 use Rattle.ffa_model.specs.MemoryReturn.{named_ranges}
 use Rattle.ffa_model.specs.MemorySend.{transfer_guards, are_grants_within, is_sendable, send_read}
 use Rattle.ffa_model.specs.Obstacles.{obstacle_at, unless_own}
+use Rattle.ffa_model.specs.Regions.{is_normal}
 use Rattle.ffa_model.specs.Rights.{may_store}
 use Rattle.ffa_model.specs.SendDescriptor.{SendRecord}
 use Rattle.ffa_model.specs.State.{State, Buffers, Transaction, transaction_of}
@@ -48,23 +50,26 @@ failing_map e ram tx rx pages TxUnusable = unusable_from e ram pages tx
 failing_map e ram tx rx pages RxUnusable = unusable_from e ram pages rx
 failing_map e ram tx rx pages refusal = None
 
--- FFA_MEM_DONATE, FFA_MEM_LEND and FFA_MEM_SHARE by e: whether a page passes a check of pages, as each does one of something else
-abbrev pub passes : Identifier → Ownership → List (Option Buffers) → SendRecord → Refusal → PageIndex → Bool
-passes e ram buffers send PageUnsendable p = is_sendable e ram buffers p
-passes e ram buffers send GrantTooMuch p = are_grants_within ram send.receivers p
-passes e ram buffers send ZerosUnwritable p = may_store (ram.own_right p)
-passes e ram buffers send refusal p = true
+-- FFA_MEM_DONATE, FFA_MEM_LEND and FFA_MEM_SHARE by e: whether a page passes a check of pages, as each does one of something
+-- else. Where worlds are mixed there is a secure page
+abbrev pub passes : Identifier → Ownership → List (Option Buffers) → Option (List Region) → SendRecord → Refusal → PageIndex → Bool
+passes e ram buffers normal send PageUnsendable p = is_sendable e ram buffers p
+passes e ram buffers normal send GrantTooMuch p = are_grants_within ram send.receivers p
+passes e ram buffers normal send ZerosUnwritable p = may_store (ram.own_right p)
+passes e ram buffers normal send WorldsMixed p = is_normal ram.base normal p
+passes e ram buffers normal send refusal p = true
 
 -- the least page of RAM that the ranges name and that doesn't
-abbrev pub failing_offer : Identifier → Ownership → List (Option Buffers) → Refusal → SendRecord → Option PageNo
-failing_offer e ram buffers refusal send = first_failing (passes e ram buffers send refusal) (pages_in ram send.ranges)
+abbrev pub failing_offer : Identifier → Ownership → List (Option Buffers) → Option (List Region) → Refusal → SendRecord → Option PageNo
+failing_offer e ram buffers normal refusal send =
+    first_failing (passes e ram buffers normal send refusal) (pages_in ram send.ranges)
 
 -- of a descriptor that stands whole in TX
-abbrev pub failing_send : Identifier → Ownership → List (Option Buffers) → Transfer → Option SendRecord
+abbrev pub failing_send : Identifier → Ownership → List (Option Buffers) → Option (List Region) → Transfer → Option SendRecord
     → Refusal → Option PageNo
-failing_send e ram buffers transfer send refusal =
+failing_send e ram buffers normal transfer send refusal =
     if is_none (first_refusal (transfer_guards buffers e transfer))
-    then option_and_then (failing_offer e ram buffers refusal) send
+    then option_and_then (failing_offer e ram buffers normal refusal) send
     else None
 
 -- FFA_MEM_RECLAIM: the least page of RAM that the transaction names and that its owner may not write
@@ -78,7 +83,7 @@ failing_reclaim ram t refusal = None
 -- ON A STATE
 abbrev pub failing_sent : State → Kind → Transfer → Refusal → Option PageNo
 failing_sent s kind transfer refusal =
-    failing_send s.runner (ownership_of s) s.buffers transfer (send_read s kind transfer.total) refusal
+    failing_send s.runner (ownership_of s) s.buffers s.normal transfer (send_read s kind transfer.total) refusal
 
 abbrev pub failing_page : State → Call → Refusal → Option PageNo
 failing_page s (RxtxMap tx rx pages) refusal = failing_map s.runner (ownership_of s) tx rx pages refusal

@@ -158,7 +158,8 @@ impl Manifest {
         for endpoint in self.endpoints.as_slice() {
             endpoints.push(endpoint.copy());
         }
-        Manifest::of(self.ram_base, self.ram_blocks, self.tables, endpoints)
-            .with_worlds(self.worlds)
+        Manifest::of(self.ram_base, self.ram_blocks, self.tables, endpoints).with_worlds(
+            self.worlds,
+        )
     }
 }

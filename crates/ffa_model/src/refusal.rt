@@ -197,8 +197,8 @@ pub const WORDS: &[(Refusal, &str)] = &words![
     EndpointNotZero "the endpoint is not 0";
     RxEmpty "the caller has no RX and TX, or its RX is not full";
     ReceiverIsNormalWorld "the receiver is the normal world";
-    RequestsUnsent "the caller does not send direct requests";
-    RequestsUnreceived "the receiver does not receive direct requests";
+    RequestsUnsent "the caller does not send direct requests (bit 1 of its properties)";
+    RequestsUnreceived "the receiver does not receive direct requests (bit 0 of its properties)";
     ReceiverNotWaiting "the receiver does not wait";
     NoRequest "the caller works on no direct request";
     AnswerMisdirected "the response is not from the caller to the endpoint that asked";
@@ -210,8 +210,8 @@ pub const WORDS: &[(Refusal, &str)] = &words![
     MessageInHeader "the message begins inside its header";
     MessageEmpty "the message has no byte";
     MessageTooLong "the message does not end inside TX";
-    MessagesUnsent "the caller does not send indirect messages";
-    MessagesUnreceived "the receiver does not receive indirect messages";
+    MessagesUnsent "the caller does not send indirect messages (bit 2 of its properties)";
+    MessagesUnreceived "the receiver does not receive indirect messages (bit 2 of its properties)";
     ReceiverBuffersMissing "the receiver has no RX and TX";
     ReceiverRxFull "the receiver's RX is full";
     ReceiverRxSmall "the message with its header is longer than the receiver's RX";

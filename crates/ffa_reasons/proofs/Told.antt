@@ -1,6 +1,6 @@
 -- SPDX-License-Identifier: MIT OR Apache-2.0
 -- What a check that fails is about: the code sees of the machine's parts what the definition sees of its state.
-use Rattle.std.proofs.Common.{◌≡◌, ◌∙◌, ℕ, length, take, ap}
+use Rattle.std.proofs.Common.{◌≡◌, ◌∙◌, ℕ, List, Option, length, take, ap}
 use Rattle.std.specs.FinMap as finite
 use Rattle.ffa_memshare.specs.declared.descriptor_call.DescriptorCall.{DescriptorCall}
 use Rattle.ffa_model.specs.Access.{ownership_of}
@@ -8,6 +8,7 @@ use Rattle.ffa_memshare.specs.Scenes.{descriptor_in}
 use Rattle.ffa_memshare.specs.Stored.{map_in}
 use Rattle.ffa_messages.specs.Parts.{sent_in}
 use Rattle.ffa_model.specs.declared.call.Call.{Call}
+use Rattle.ffa_model.specs.declared.endpoint.Region.{Region}
 use Rattle.ffa_model.specs.declared.refusal.Refusal.{Refusal}
 use Rattle.ffa_model.specs.declared.rights.Kind.{Kind}
 use Rattle.ffa_model.specs.About.{failing_map, failing_reclaim, failing_send, failing_sent}
@@ -45,11 +46,12 @@ module _ (x : Parts) (machine : IsManager x) (e : ℕ) (at : e ≡ x.kept.chain.
 
   -- a call whose descriptor stands in TX
   pub sent-failing : (call : DescriptorCall) → call.version ≡ version_of (state_of x) (state_of x).runner → (kind : Kind)
-      → failing_send e (ownership_in x.kept.pages x.manifest.ram_base.0) x.kept.buffers call.transfer (send_of kind (descriptor_in x.ram x.kept.buffers e call)) refusal
+      → (normal : Option (List Region)) → normal ≡ s.normal
+      → failing_send e (ownership_in x.kept.pages x.kept.layout.base.0) x.kept.buffers normal call.transfer (send_of kind (descriptor_in x.ram x.kept.buffers e call)) refusal
       ≡ failing_sent s kind call.transfer refusal
   unfolding first
-  sent-failing call spoken kind =
-      λ i. failing_send (at i) (ownership-is x machine i) x.kept.buffers call.transfer
+  sent-failing call spoken kind normal told =
+      λ i. failing_send (at i) ((ap (ownership_in x.kept.pages) machine.layout.base ∙ ownership-is x machine) i) x.kept.buffers (told i) call.transfer
       (send_of kind (in_version (spoken i) (take call.transfer.total (sent-is x machine e at i)))) refusal
 
   pub message-told : about_message (buffers_in x.kept.buffers e) (header_in (sent_in x.ram x.kept.buffers e)) refusal ≡ about_message (buffers_of s s.runner) (header_in (tx_bytes s s.runner)) refusal

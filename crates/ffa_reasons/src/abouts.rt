@@ -67,10 +67,10 @@ impl<M: PhysMem + Drop, T: Translations + Drop, S: Store> Reasons<'_, M, T, S> {
     {
         let version = self.version();
         let call = DescriptorCall { transfer, version };
-        let base = self.parts.records.manifest.ram_base;
+        let layout = &self.parts.records.layout;
         let runner = self.parts.chain.runner();
         let (ram, pages, buffers) = (self.parts.ram, self.parts.pages, self.parts.buffers);
-        ffa_memshare::failing_send(ram, base, pages, buffers, runner, kind, &call, refusal)
+        ffa_memshare::failing_send(ram, layout, pages, buffers, runner, kind, &call, refusal)
     }
 
     // Of FFA_MEM_RECLAIM.

@@ -49,7 +49,7 @@ module _ (ran : Ran) (holds : Option (List ℕ)) (kept : Keeps ran.streams.holds
   done_by (task.Guarded form) start p = played p
   done_by (task.GuardedToEnd form) start p = played p
   done_by task.Recorded start p = record { lines = p.lines; each = p.each; all = p.all; written = written _ p.written; replays = p.replays }
-  done_by (task.Session form) start p = record { lines = p.lines; rest = p.rest; each = p.each; single = p.single; all = p.all; written = written _ p.written }
+  done_by (task.Session form) start p = record { lines = p.lines; rest = p.rest; each = p.each; ends = p.ends; all = p.all; written = written _ p.written }
   done_by (task.Compare expected form) start (p, still) = (p, quiet still)
   done_by (task.Drawn keep width) start (p, picture) = (p, record { front = picture.front; written = written _ picture.written })
   done_by task.Paged start (p, page) = (p, record { rest = page.rest; inert = page.inert; written = written _ page.written })

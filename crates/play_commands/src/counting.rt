@@ -22,7 +22,7 @@ impl<M: Machines, A: Allocator + Copy> Program<M, A> {
         trace: R,
         counts: &mut Counts,
     ) -> Result<(), Failure<'a>>
-        ensures { CountsFor options.entry (Some manifest.now) (R.remaining trace.entry) (tally_of counts.old) (tally_of counts.new) result }
+        ensures { CountsFor options.entry (Some manifest.now) (R.remaining trace) (tally_of counts.old) (tally_of counts.new) result }
     {
         let mut notes = Notes::new(self.alloc, false);
         let manifest = machine_of(self.manifests, options.source, Some(manifest), &mut notes)?;

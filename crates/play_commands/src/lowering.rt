@@ -49,7 +49,8 @@ pub(crate) fn lower<A: Allocator + Copy, R: Read + Drop, W: Write, E: Write>(
     out: &mut W,
     err: &mut E,
 ) -> u8 {
-    let lowered = match files.trace {
+    let Files { trace, reason, .. } = files;
+    let lowered = match trace {
         Some(reader) => put_lines(alloc, reader, out),
         None => Err(Stop::Read),
     };
@@ -60,7 +61,7 @@ pub(crate) fn lower<A: Allocator + Copy, R: Read + Drop, W: Write, E: Write>(
         Err(Stop::Line(..)) if flushed.is_err() => tell(err, &Failure::Write, &[]),
         Err(Stop::Read) => {
             let status = tell(err, &Failure::Read(path), &[]);
-            if let Some(reason) = files.reason
+            if let Some(reason) = reason
                 && verbose
             {
                 let _ = writeln!(err, "ffaplay: {reason}");

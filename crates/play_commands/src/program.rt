@@ -1,9 +1,10 @@
 // SPDX-License-Identifier: MIT OR Apache-2.0
 //! The commands of the program.
-ghost use Rattle.std.specs.Prelude.{◌≡◌, ◌≤◌, ◌⊎◌, true, false, IfErr, OnOk, Result, Some, is_some};
+ghost use Rattle.std.specs.Prelude.{◌≡◌, ◌≢◌, ◌≤◌, ◌⊎◌, true, false, Err, IfErr, OnOk, Result, Some, is_some};
 ghost use Rattle.std.specs.Io.KnownBytes.{Keeps};
 ghost use Rattle.play_tasks.specs.Counted.{tally_of};
 ghost use Rattle.play_report.specs.declared.failure.Failure.{Failure};
+ghost use Rattle.play_report.specs.declared.failure.Failure.TheVariants.{NoMemory};
 ghost use Rattle.play_commands.specs.Performed.{CountsFor, Differs, Does, FailsFor, IsDone, IsRead, IsUnsaid, is_session, is_strict, SomeBadLine, SomeRefusal, SomeUnmetGuard, needs_manifest, needs_trace, ran};
 
 use crate::lowering::lower;
@@ -95,7 +96,8 @@ impl<M: Machines, A: Allocator + Copy> Commands for Program<M, A> {
         counts: &mut Counts,
     ) -> Result<(), AllocError>
         ensures { OnOk result ((came : Result (Unit {0}) Failure)
-            × CountsFor options.now (Some manifest.now) (R.remaining trace.entry) (tally_of counts.old) (tally_of counts.new) came) }
+            × (came ≢ Err NoMemory)
+            × CountsFor options.now (Some manifest.now) (R.remaining trace) (tally_of counts.old) (tally_of counts.new) came) }
     {
         match self.count_play(*options, manifest, trace, counts) {
             Err(Failure::NoMemory) => Err(AllocError),

@@ -101,6 +101,7 @@ fn is_answer_name(word: &[u8]) -> bool
 {
     word == b"FFA_ERROR".as_slice()
         || word == b"FFA_SUCCESS".as_slice()
+        || word == b"FFA_INTERRUPT".as_slice()
         || word == b"FFA_MEM_RETRIEVE_RESP".as_slice()
 }
 

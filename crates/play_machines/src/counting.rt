@@ -30,7 +30,7 @@ pub(crate) fn count_in<M: PhysMem + Drop, A: Allocator + Copy, R: Read + Drop>(
 ) -> Result<(), PlayError>
     requires { M.ram ram ≡ zero_ram manifest.now.ram_base.0 (512 * manifest.now.ram_blocks) }
     ensures { let start = start_of processors manifest.now in
-        CountsTrace start (R.remaining reader.entry) (tally_of counts.old) (tally_of counts.new) result }
+        CountsTrace start (R.remaining reader) (tally_of counts.old) (tally_of counts.new) result }
 {
     let Ok(storage) = Storage::allocate_for(alloc, manifest) else {
         return Err(PlayError::NoMemory);

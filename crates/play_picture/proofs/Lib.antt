@@ -3,4 +3,5 @@ pub mod Bare
 pub mod Entries
 pub mod Fitting
 mod MayRetrieve
+mod Places
 pub mod Watches

@@ -1,6 +1,6 @@
 -- SPDX-License-Identifier: MIT OR Apache-2.0
 -- What may still be retrieved behind each row's line, as rows come one after another.
-use Rattle.std.proofs.Common.{◌≡◌, ◌≤◌, ◌+◌, ◌∙◌, ℕ, Bool, List, [], ◌∷◌, ◌++◌, length, Option, None, Some, inl, inr, arith, refl, sym, ap, subst, length-append}
+use Rattle.std.proofs.Common.{◌≡◌, ◌≤◌, ◌+◌, ◌∙◌, ℕ, Bool, List, [], ◌∷◌, ◌++◌, length, None, Some, inl, inr, arith, refl, sym, ap, subst, length-append}
 use Rattle.std.specs.List.{All, slice_get}
 use Rattle.std.proofs.lemmas.List.{take-append-le, take_all}
 use Rattle.std.proofs.lemmas.List.Elements.{All-head, All-tail}
@@ -16,6 +16,10 @@ use Rattle.play_drawing.proofs.RowsAmong.{rows-among}
 use Rattle.play_page.specs.declared.page.RowOffers.{RowOffers}
 use Rattle.play_picture.specs.Offers.{AreOffers, PutsOffers, offers_of}
 
+-- behind the last line
+behind_all : (start : Bench) (lines : List (List ℕ)) (n : ℕ) → length lines ≤ n → state_behind start lines n ≡ (after_all start lines).state
+behind_all start lines n past = ap (λ (ls : List (List ℕ)). (after_all start ls).state) (take_all n lines past)
+
 module _ {A : Type 0} (start : Bench) where
   -- no more rows than the beginning and the lines
   rows_few : (keep : Keep) (lines : List (List ℕ)) (rows : List (Row A)) → AreRows keep start lines rows → length rows ≤ 1 + length lines
@@ -24,15 +28,11 @@ module _ {A : Type 0} (start : Bench) where
       omega (arith, rows_few keep ls rs are, length-append rs (row ∷ []), length-append ls (line ∷ []))
   rows_few keep lines rows (without ls rs line are none) = omega (arith, rows_few keep ls rs are, length-append ls (line ∷ []))
 
-  -- behind the last line
-  behind_all : (lines : List (List ℕ)) (n : ℕ) → length lines ≤ n → state_behind start lines n ≡ (after_all start lines).state
-  behind_all lines n past = ap (λ (ls : List (List ℕ)). (after_all start ls).state) (take_all n lines past)
-
   first_of_rows : (rows : List (Row A)) (new : List (RowOffers A)) → length rows ≤ 1 → PutsOffers start.state (slice_get rows 0) [] new → AreOffers start [] rows new
   first_of_rows [] new few put = subst (AreOffers start [] []) (sym put) tt
   first_of_rows (row ∷ []) new few (its, is, put) =
       subst (AreOffers start [] (row ∷ [])) (sym put)
-      (is ∙ ap (λ (s : State). offers_of s row.runs.items) (sym (behind_all [] row.number (omega arith))), tt)
+      (is ∙ ap (λ (s : State). offers_of s row.runs.items) (sym (behind_all start [] row.number (omega arith))), tt)
   first_of_rows (row ∷ other ∷ rows) new few put = absurd (omega (arith, few))
 
   -- at the beginning
@@ -55,7 +55,7 @@ module _ {A : Type 0} (start : Bench) where
   offers_many lines [] [] are = refl
   offers_many lines [] (its ∷ offers) are = absurd are
   offers_many lines (row ∷ rows) [] are = absurd are
-  offers_many lines (row ∷ rows) (its ∷ offers) (is, are) = ap (λ n. 1 + n) (offers_many lines rows offers are)
+  offers_many lines (row ∷ rows) (its ∷ offers) (is, are) = let same = offers_many lines rows offers are in omega (arith, same)
 
   -- one row more
   offers_put : (lines : List (List ℕ)) (rows : List (Row A)) (offers : List (RowOffers A)) (row : Row A) (its : RowOffers A) → AreOffers start lines rows offers
@@ -70,22 +70,22 @@ module _ {A : Type 0} (start : Bench) where
   next_of (first ∷ rows) row = next_of rows row
 
   -- a line was seen, and what may be retrieved behind it was put
-  pub offers_more : (keep : Keep) (lines : List (List ℕ)) (line : List ℕ) (rows after : List (Row A)) (old new : List (RowOffers A)) {n runner : ℕ} {own : List ℕ} {refused : Bool} {before behind : List CertRun}
+  pub offers_more : (keep : Keep) (lines : List (List ℕ)) (line : List ℕ) (rows after : List (Row A)) (old new : List (RowOffers A)) (n runner : ℕ) (own : List ℕ) (refused : Bool) (before behind : List CertRun)
       → AreRows keep start lines rows → AreOffers start lines rows old → n ≡ 1 + length lines → PutsRow keep n own runner refused before behind rows after
       → PutsOffers (after_all start (lines ++ line ∷ [])).state (slice_get after (length old)) old new
       → AreOffers start (lines ++ line ∷ []) after new
-  offers_more keep lines line rows after old new are offers count (inr (none, same)) put =
+  offers_more keep lines line rows after old new n runner own refused before behind are offers count (inr (none, same)) put =
       let kept = offers_kept lines line rows old (rows-among start keep lines rows are) offers in
       let many = offers_many lines rows old offers in
       let past : slice_get after (length old) ≡ None = slice_get_past after (length old) (omega (arith, many, ap length same)) in
       let still : new ≡ old = subst (λ o. PutsOffers (after_all start (lines ++ line ∷ [])).state o old new) past put in
       subst (λ rs. AreOffers start (lines ++ line ∷ []) rs new) (sym same) (subst (AreOffers start (lines ++ line ∷ []) rows) (sym still) kept)
-  offers_more keep lines line rows after old new are offers count (inl (has, (row, is, put_row))) put =
+  offers_more keep lines line rows after old new n runner own refused before behind are offers count (inl (has, (row, is, put_row))) put =
       let kept = offers_kept lines line rows old (rows-among start keep lines rows are) offers in
       let many = offers_many lines rows old offers in
       let here : slice_get after (length old) ≡ Some row = ap (λ rs. slice_get rs (length old)) put_row ∙ ap (slice_get (rows ++ row ∷ [])) many ∙ next_of rows row in
       let (its, own, put_its) = subst (λ o. PutsOffers (after_all start (lines ++ line ∷ [])).state o old new) here put in
-      let last = behind_all (lines ++ line ∷ []) row.number (omega (arith, is.number, count, length-append lines (line ∷ []))) in
+      let last = behind_all start (lines ++ line ∷ []) row.number (omega (arith, is.number, count, length-append lines (line ∷ []))) in
       subst (λ rs. AreOffers start (lines ++ line ∷ []) rs new) (sym put_row)
       (subst (AreOffers start (lines ++ line ∷ []) (rows ++ row ∷ [])) (sym put_its)
       (offers_put (lines ++ line ∷ []) rows old row its kept (own ∙ ap (λ (s : State). offers_of s row.runs.items) (sym last))))

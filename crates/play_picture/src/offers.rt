@@ -30,7 +30,8 @@ pub(crate) fn put_offers<P: Playable, A: Allocator + Copy>(
     let runs = offers_of(player.machine(), alloc, &row.runs)?;
     offers
         .push(RowOffers { runs })
-        .map_err(|_| PlayError::NoMemory)
+        .map_err(|_| PlayError::NoMemory)?;
+    Ok(())
 }
 
 // What may still be retrieved of each run.

@@ -103,6 +103,7 @@ fn read_text(alloc: Global, text: &str) -> Result<Manifest, Failure<'static>>
 }
 
 // Reads the bytes of a manifest, and of one that is refused notes where.
+#[tactic(auto, using(crate::proofs::Refusals::refused_as_read))]
 fn explain_bytes<A: Allocator>(
     alloc: Global,
     bytes: &[u8],

@@ -1,7 +1,7 @@
 -- SPDX-License-Identifier: MIT OR Apache-2.0
 -- What is counted of a trace that is played: each operation, by what comes of it where it is done, and the check at which it is
 -- refused there.
-use Rattle.std.specs.Prelude.{◌≡◌, ℕ, true, List, [], ◌∷◌, Option, Some, None, Result, Ok, Err, ⊤, ⊥, unwrap_or}
+use Rattle.std.specs.Prelude.{◌≡◌, ℕ, true, List, [], ◌∷◌, Option, Some, None, Result, Ok, Err, ⊤, unwrap_or}
 use Rattle.std.specs.Option.{option_map_or}
 use Rattle.ffa_model.specs.declared.operation.Outcome.TheVariants.{Done}
 use Rattle.ffa_model.specs.declared.why.Why.{Why}

@@ -4,7 +4,7 @@ ghost use Rattle.std.specs.Prelude.{◌≡◌, IfErr, OnOk};
 ghost use Rattle.ffa_playable.specs.Bench.{why_of};
 ghost use Rattle.play_syntax.specs.Lines.{meant};
 ghost use Rattle.play_syntax.specs.TraceText.{line_after};
-ghost use Rattle.play_tasks.specs.Counted.{Counted, CountsTrace, line_counted, tally_of, why_in};
+ghost use Rattle.play_tasks.specs.Counted.{CountsTrace, line_counted, tally_of, why_in};
 
 use crate::playing::buffer;
 use ffa_model::{Outcome, Why};

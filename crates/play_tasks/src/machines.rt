@@ -54,7 +54,7 @@ pub trait Machines {
         counts: &mut Counts,
     ) -> Result<(), PlayError>
         ensures { let start = start_of processors manifest.now in
-            CountsTrace start (R.remaining reader.entry) (tally_of counts.old) (tally_of counts.new) result };
+            CountsTrace start (R.remaining reader) (tally_of counts.old) (tally_of counts.new) result };
 
     /// Writes so many lines of a trace for the machine of this manifest, and answers how often what came. The same seed
     /// gives the same lines.

@@ -1,6 +1,6 @@
 // SPDX-License-Identifier: MIT OR Apache-2.0
 //! The first page that fails a check of a send or a reclaim.
-ghost use Rattle.std.specs.Prelude.{◌≡◌, ◌<◌, ◌&&◌, ℕ, [], Some, length, not};
+ghost use Rattle.std.specs.Prelude.{◌≡◌, ◌<◌, ◌&&◌, [], Some, length, not};
 ghost use Rattle.std.specs.List.{list_all};
 ghost use Rattle.ffa_model.specs.declared.limits.TheConstants.{MOST_PAGES};
 ghost use Rattle.ffa_model.specs.declared.transaction.Receiver.{Receiver as Named};
@@ -13,6 +13,7 @@ ghost use Rattle.ffa_model.specs.SendDescriptor.{send_of, send_record};
 ghost use Rattle.ffa_model.specs.State.{Buffers as Own};
 ghost use Rattle.ffa_pages.specs.Entry.{own_right_at};
 ghost use Rattle.ffa_rxtx.specs.Parts.{IsInRam, ownership_in};
+ghost use Rattle.ffa_stage2.specs.Layout.{normal_in};
 ghost use Rattle.ffa_memshare.specs.Ranges.{in_range, in_ranges};
 ghost use Rattle.ffa_memshare.specs.Scenes.{descriptor_in};
 ghost use Rattle.ffa_memshare.specs.Stored.{transaction_in};
@@ -30,12 +31,13 @@ use ffa_model::{
 use ffa_pages::{KeptPage, PageTable};
 use ffa_physmem::PhysMem;
 use ffa_rxtx::Buffers;
+use ffa_stage2::Layout;
 
 /// The page that a check of FFA_MEM_DONATE, FFA_MEM_LEND or FFA_MEM_SHARE of an endpoint is about, where it
-/// fails: the first page of the RAM from `base` on that the descriptor in TX names and that fails it.
+/// fails: the first page of the layout's RAM that the descriptor in TX names and that fails it.
 pub fn failing_send<M: PhysMem, P: Room<KeptPage> + Drop>(
     ram: &M,
-    base: Address,
+    layout: &Layout,
     pages: &PageTable<P>,
     buffers: &Buffers,
     caller: EndpointId,
@@ -44,9 +46,9 @@ pub fn failing_send<M: PhysMem, P: Room<KeptPage> + Drop>(
     refusal: Refusal,
 ) -> Option<PageNo>
     requires tx { (b : Own) → buffers_in buffers.now caller.0 ≡ Some b → IsInRam (length (M.ram ram.now).pages) b }
-    ensures { let owners = ownership_in pages.now base.0 in
+    ensures { let owners = ownership_in pages.now layout.now.base.0 in
         let offer = send_of kind (descriptor_in (M.ram ram.now) buffers.now caller.0 call.now) in
-        result ≡ failing_send caller.0 owners buffers.now call.now.transfer offer refusal }
+        result ≡ failing_send caller.0 owners buffers.now (normal_in layout.now) call.now.transfer offer refusal }
 {
     let Ok(found) = call.descriptor(ram, buffers, caller) else {
         return None;
@@ -55,24 +57,24 @@ pub fn failing_send<M: PhysMem, P: Room<KeptPage> + Drop>(
     if read_send(&found.bytes, call.version, kind, &mut offer).is_err() {
         return None;
     }
-    failing_offer(&offer, pages, base, buffers, caller, refusal)
+    failing_offer(&offer, pages, layout, buffers, caller, refusal)
 }
 
 // The first page that is offered and that fails a check.
 fn failing_offer<P: Room<KeptPage> + Drop>(
     offer: &SendDesc,
     pages: &PageTable<P>,
-    base: Address,
+    layout: &Layout,
     buffers: &Buffers,
     sender: EndpointId,
     refusal: Refusal,
 ) -> Option<PageNo>
-    ensures { let owners = ownership_in pages.now base.0 in
-        result ≡ failing_offer sender.0 owners buffers.now refusal (send_record offer.now) }
+    ensures { let owners = ownership_in pages.now layout.now.base.0 in
+        result ≡ failing_offer sender.0 owners buffers.now (normal_in layout.now) refusal (send_record offer.now) }
 {
     for number in 0..pages.pages() {
         let page = PageNo(number);
-        if fails(offer, pages, base, buffers, sender, refusal, page) {
+        if fails(offer, pages, layout, buffers, sender, refusal, page) {
             return Some(page);
         }
     }
@@ -83,33 +85,34 @@ fn failing_offer<P: Room<KeptPage> + Drop>(
 fn fails<P: Room<KeptPage> + Drop>(
     offer: &SendDesc,
     pages: &PageTable<P>,
-    base: Address,
+    layout: &Layout,
     buffers: &Buffers,
     sender: EndpointId,
     refusal: Refusal,
     page: PageNo,
 ) -> bool
     requires { page.0 < length pages.now }
-    ensures { let owners = ownership_in pages.now base.0 in
-        let passes = passes sender.0 owners buffers.now (send_record offer.now) refusal page.0 in
-        result ≡ (in_ranges base.0 offer.now.ranges.items page.0 && not passes) }
+    ensures { let owners = ownership_in pages.now layout.now.base.0 in
+        let passes = passes sender.0 owners buffers.now (normal_in layout.now) (send_record offer.now) refusal page.0 in
+        result ≡ (in_ranges layout.now.base.0 offer.now.ranges.items page.0 && not passes) }
 {
-    is_in_any(offer.ranges.as_slice(), base, page)
-        && !passes(offer, pages, buffers, sender, refusal, page)
+    is_in_any(offer.ranges.as_slice(), layout.base, page)
+        && !passes(offer, pages, layout, buffers, sender, refusal, page)
 }
 
 // Whether a page passes a check.
 fn passes<P: Room<KeptPage> + Drop>(
     offer: &SendDesc,
     pages: &PageTable<P>,
+    layout: &Layout,
     buffers: &Buffers,
     sender: EndpointId,
     refusal: Refusal,
     page: PageNo,
 ) -> bool
     requires { page.0 < length pages.now }
-    ensures { (base : ℕ) → let owners = ownership_in pages.now base in
-        result ≡ passes sender.0 owners buffers.now (send_record offer.now) refusal page.0 }
+    ensures { let owners = ownership_in pages.now layout.now.base.0 in
+        result ≡ passes sender.0 owners buffers.now (normal_in layout.now) (send_record offer.now) refusal page.0 }
 {
     match refusal {
         Refusal::PageUnsendable => is_sendable(pages, buffers, sender, page),
@@ -117,6 +120,7 @@ fn passes<P: Room<KeptPage> + Drop>(
             are_grantable(offer.receivers.as_slice(), pages.own_right_of(page))
         }
         Refusal::ZerosUnwritable => may_store(pages.own_right_of(page)),
+        Refusal::WorldsMixed => layout.is_normal(page),
         _ => true,
     }
 }

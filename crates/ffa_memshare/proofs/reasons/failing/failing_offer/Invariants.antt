@@ -4,6 +4,7 @@ use Rattle.std.specs.Prelude.{◌&&◌, not}
 use Rattle.ffa_model.specs.About.{passes}
 use Rattle.ffa_model.specs.SendDescriptor.{send_record}
 use Rattle.ffa_rxtx.specs.Parts.{ownership_in}
+use Rattle.ffa_stage2.specs.Layout.{normal_in}
 use Rattle.ffa_memshare.specs.Ranges.{in_ranges}
 use Rattle.ffa_memshare.proofs.reasons.failing.failing_offer.Given as goal
 
@@ -11,4 +12,4 @@ use Rattle.ffa_memshare.proofs.reasons.failing.failing_offer.Given as goal
 abbrev pub invariant-loop-number : goal.invariant-loop-number
 invariant-loop-number g l =
     (k : ℕ) → k < l.number
-    → (in_ranges l.base.0 l.offer.ranges.items k && not (passes l.sender.0 (ownership_in l.pages l.base.0) l.buffers (send_record l.offer) l.refusal k)) ≡ false
+    → (in_ranges l.layout.base.0 l.offer.ranges.items k && not (passes l.sender.0 (ownership_in l.pages l.layout.base.0) l.buffers (normal_in l.layout) (send_record l.offer) l.refusal k)) ≡ false

@@ -6,6 +6,7 @@ use Rattle.ffa_memshare.specs.declared.descriptor_call.DescriptorCall.{Descripto
 use Rattle.ffa_spmc.specs.Lent.{lent_parts}
 use Rattle.ffa_reasons.proofs.Told.{seen-in, sent-failing}
 use Rattle.ffa_spmc.proofs.Fills.{caller-is}
+use Rattle.ffa_spmc.proofs.Pools.{normal-is}
 use Rattle.ffa_reasons.proofs.reasons.Reasons.failing_sent.Goals as goal
 
 pub returns : goal.returns
@@ -15,7 +16,7 @@ returns g c =
     let its : DescriptorCall = record { transfer = c.args.transfer; version = c.version-version.result } in
     seen-in x c.args.self.now view (λ (s : State). failing_sent s c.args.kind c.args.transfer c.args.refusal) c.failing_send.result
     (c.failing_send.ensures ∙ sent-failing x c.self.invariant.managed c.runner-runner.result.0 c.runner-runner.ensures.runner c.args.refusal its
-    (c.version-version.ensures ∙ sym (ap (λ (s : State). version_of s s.runner) view)) c.args.kind)
+    (c.version-version.ensures ∙ sym (ap (λ (s : State). version_of s s.runner) view)) c.args.kind _ (normal-is x c.self.invariant.managed))
 
 pub failing_send-requires : goal.failing_send-requires
 failing_send-requires g c =
