@@ -39,7 +39,7 @@ static void has_name(uint32_t function, const char *name) {
 /* Each identifier that the library has a name of, in each form that it has. */
 static void identifiers(void) {
     NARROW(FFA_ERROR);
-    NARROW(FFA_SUCCESS);
+    WIDE(FFA_SUCCESS);
     NARROW(FFA_INTERRUPT);
     NARROW(FFA_VERSION);
     NARROW(FFA_FEATURES);

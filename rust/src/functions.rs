@@ -39,6 +39,7 @@ macro_rules! functions {
 functions! {
     0x8400_0060 Error "FFA_ERROR",
     0x8400_0061 Success "FFA_SUCCESS",
+    0xC400_0061 Success64 "FFA_SUCCESS",
     0x8400_0062 Interrupt "FFA_INTERRUPT",
     0x8400_0063 Version "FFA_VERSION",
     0x8400_0064 Features "FFA_FEATURES",
