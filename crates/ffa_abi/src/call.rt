@@ -1,6 +1,7 @@
 // SPDX-License-Identifier: MIT OR Apache-2.0
 //! Calls in registers.
-ghost use Rattle.std.specs.Prelude.{◌≡◌, ◌<◌, slice_index};
+ghost use Rattle.std.specs.Prelude.{◌≡◌, ◌<◌, is_some, slice_index};
+ghost use Rattle.std.specs.Option.{unwrap_or};
 ghost use Rattle.ffa_model.specs.Bits.{high_half, is_set, low_half, word_of_halves};
 ghost use Rattle.ffa_model.specs.Registers.{additions, decode, functions, high_endpoint, is_function, low, low_endpoint, memory, messages, notifications, setup};
 ghost use Rattle.ffa_abi.specs.Parts.{called_in, bits_of_call, message_of, payload_of, transfer_of, widest};
@@ -52,188 +53,224 @@ fn word_of_halves(low: u32, high: u32) -> u64
     u64::from(high) * (1 << 32) + u64::from(low)
 }
 
-/// The registers x0 to x7 of a call, of which the low half of x0 names the function.
-#[derive(Clone, Copy)]
-struct Registers([u64; 8]);
+// The low half of a register, by its number: of x0 it names the function.
+fn w(registers: &[u64; 8], index: usize) -> u32
+    requires { index < 8 }
+    ensures { result ≡ low (slice_index registers.now index) }
+{
+    low(registers[index])
+}
 
-impl Registers {
-    // The low half of a register, by its number.
-    fn w(&self, index: usize) -> u32
-        requires { index < 8 }
-        ensures { result ≡ low (slice_index self.now.0 index) }
-    {
-        low(self.0[index])
+// Whether this is the 64-bit form of a call, whose identifier has bit 30 set.
+fn is_wide(registers: &[u64; 8]) -> bool
+    ensures { result ≡ is_set 30 (low (slice_index registers.now 0)) }
+{
+    (w(registers, 0) >> 30) % 2 == 1
+}
+
+// A whole register in the 64-bit form of a call, and else its low half.
+fn x(registers: &[u64; 8], index: usize) -> u64
+    requires { index < 8 }
+    ensures { result ≡ widest registers.now index }
+{
+    if is_wide(registers) {
+        registers[index]
+    } else {
+        u64::from(w(registers, index))
     }
+}
 
-    // Whether this is the 64-bit form of a call, whose identifier has bit 30 set.
-    fn is_wide(&self) -> bool
-        ensures { result ≡ is_set 30 (low (slice_index self.now.0 0)) }
-    {
-        (self.w(0) >> 30) % 2 == 1
-    }
-
-    // A whole register in the 64-bit form of a call, and else its low half.
-    fn x(&self, index: usize) -> u64
-        requires { index < 8 }
-        ensures { result ≡ widest self.now.0 index }
-    {
-        if self.is_wide() {
-            self.0[index]
-        } else {
-            u64::from(self.w(index))
-        }
-    }
-
-    // The call, where it is of setup.
-    fn setup(&self) -> Option<Call>
-        ensures { result ≡ called_in setup self.now.0 }
-    {
-        let call = match self.w(0) {
-            FFA_VERSION => Call::Version { version: self.w(1) },
-            FFA_FEATURES => Call::Features {
-                function: self.w(1),
-            },
-            FFA_RX_RELEASE => Call::RxRelease,
-            FFA_RXTX_MAP | FFA_RXTX_MAP_64 => Call::RxtxMap {
-                tx: self.x(1),
-                rx: self.x(2),
-                pages: self.w(3),
-            },
-            FFA_RXTX_UNMAP => Call::RxtxUnmap {
-                endpoint: self.w(1),
-            },
-            FFA_PARTITION_INFO_GET => Call::PartitionInfoGet {
-                uuid: [self.w(1), self.w(2), self.w(3), self.w(4)],
-                flags: self.w(5),
-            },
-            FFA_ID_GET => Call::IdGet,
-            _ => return None,
-        };
-        Some(call)
-    }
-
-    // The call, where it is of run states or a direct message.
-    fn message(&self) -> Option<Call>
-        ensures { result ≡ called_in messages self.now.0 }
-    {
-        let call = match self.w(0) {
-            FFA_MSG_WAIT => Call::MsgWait,
-            FFA_YIELD => Call::Yield,
-            FFA_RUN => Call::Run {
-                target: high_endpoint(self.w(1)),
-                context: low_half(self.w(1)),
-            },
-            FFA_MSG_SEND_DIRECT_REQ | FFA_MSG_SEND_DIRECT_REQ_64 => {
-                Call::DirectRequest(self.direct_message())
+// Whether the call is of setup, which is then filled in. Here and below each arm fills it in where it stands: handed back by
+// value, a compiler would keep all fields of all calls in registers.
+fn setup(registers: &[u64; 8], call: &mut Call) -> bool
+    ensures found { result ≡ is_some (called_in setup registers.now) }
+    ensures call { call.new ≡ unwrap_or (called_in setup registers.now) call.old }
+{
+    match w(registers, 0) {
+        FFA_VERSION => {
+            *call = Call::Version {
+                version: w(registers, 1),
             }
-            FFA_MSG_SEND_DIRECT_RESP | FFA_MSG_SEND_DIRECT_RESP_64 => {
-                Call::DirectResponse(self.direct_message())
+        }
+        FFA_FEATURES => {
+            *call = Call::Features {
+                function: w(registers, 1),
             }
-            _ => return None,
-        };
-        Some(call)
-    }
-
-    // A direct message, in either form.
-    #[inline(always)]
-    fn direct_message(&self) -> DirectMessage
-        ensures { result ≡ message_of self.now.0 }
-    {
-        DirectMessage {
-            function: self.w(0),
-            sender: high_endpoint(self.w(1)),
-            receiver: low_endpoint(self.w(1)),
-            flags: self.w(2),
-            payload: self.payload(),
         }
-    }
-
-    // What a direct message carries.
-    #[inline(always)]
-    fn payload(&self) -> [u64; 5]
-        ensures { result ≡ payload_of self.now.0 }
-    {
-        [self.x(3), self.x(4), self.x(5), self.x(6), self.x(7)]
-    }
-
-    // What is said of a descriptor in TX.
-    fn transfer(&self) -> Transfer
-        ensures { result ≡ transfer_of self.now.0 }
-    {
-        Transfer {
-            total: self.w(1),
-            fragment: self.w(2),
-            address: self.x(3),
-            pages: self.w(4),
+        FFA_RX_RELEASE => *call = Call::RxRelease,
+        FFA_RXTX_MAP | FFA_RXTX_MAP_64 => {
+            *call = Call::RxtxMap {
+                tx: x(registers, 1),
+                rx: x(registers, 2),
+                pages: w(registers, 3),
+            }
         }
-    }
-
-    // The call, where it is of memory.
-    fn memory(&self) -> Option<Call>
-        ensures { result ≡ called_in memory self.now.0 }
-    {
-        let call = match self.w(0) {
-            FFA_MEM_DONATE | FFA_MEM_DONATE_64 => Call::MemDonate(self.transfer()),
-            FFA_MEM_LEND | FFA_MEM_LEND_64 => Call::MemLend(self.transfer()),
-            FFA_MEM_SHARE | FFA_MEM_SHARE_64 => Call::MemShare(self.transfer()),
-            FFA_MEM_RETRIEVE_REQ | FFA_MEM_RETRIEVE_REQ_64 => { Call::MemRetrieve(self.transfer()) }
-            FFA_MEM_RELINQUISH => Call::MemRelinquish,
-            FFA_MEM_RECLAIM => Call::MemReclaim {
-                handle: Handle(word_of_halves(self.w(1), self.w(2))),
-                flags: self.w(3),
-            },
-            _ => return None,
-        };
-        Some(call)
-    }
-
-    // The call, where it is of notifications.
-    fn notification(&self) -> Option<Call>
-        ensures { result ≡ called_in notifications self.now.0 }
-    {
-        let call = match self.w(0) {
-            FFA_NOTIFICATION_BITMAP_CREATE => Call::BitmapCreate {
-                endpoint: self.w(1),
-                contexts: self.w(2),
-            },
-            FFA_NOTIFICATION_BITMAP_DESTROY => Call::BitmapDestroy {
-                endpoint: self.w(1),
-            },
-            FFA_NOTIFICATION_BIND => Call::NotificationBind(self.notification_bits()),
-            FFA_NOTIFICATION_UNBIND => Call::NotificationUnbind(self.notification_bits()),
-            FFA_NOTIFICATION_SET => Call::NotificationSet(self.notification_bits()),
-            FFA_NOTIFICATION_GET => Call::NotificationGet {
-                receiver: low_endpoint(self.w(1)),
-                context: high_half(self.w(1)),
-                flags: self.w(2),
-            },
-            _ => return None,
-        };
-        Some(call)
-    }
-
-    // The bits of a receiver that a call names, for a sender.
-    fn notification_bits(&self) -> NotificationBits
-        ensures { result ≡ bits_of_call self.now.0 }
-    {
-        NotificationBits {
-            sender: high_endpoint(self.w(1)),
-            receiver: low_endpoint(self.w(1)),
-            flags: self.w(2),
-            bitmap: word_of_halves(self.w(3), self.w(4)),
+        FFA_RXTX_UNMAP => {
+            *call = Call::RxtxUnmap {
+                endpoint: w(registers, 1),
+            }
         }
-    }
-
-    // The call, where version 1.1 added it.
-    fn addition(&self) -> Option<Call>
-        ensures { result ≡ called_in additions self.now.0 }
-    {
-        match self.w(0) {
-            FFA_SPM_ID_GET => Some(Call::SpmIdGet),
-            FFA_MSG_SEND2 => Some(Call::MsgSend2),
-            _ => None,
+        FFA_PARTITION_INFO_GET => {
+            *call = Call::PartitionInfoGet {
+                uuid: [
+                    w(registers, 1),
+                    w(registers, 2),
+                    w(registers, 3),
+                    w(registers, 4),
+                ],
+                flags: w(registers, 5),
+            }
         }
+        FFA_ID_GET => *call = Call::IdGet,
+        _ => return false,
     }
+    true
+}
+
+// Whether the call is of run states or a direct message.
+fn message(registers: &[u64; 8], call: &mut Call) -> bool
+    ensures found { result ≡ is_some (called_in messages registers.now) }
+    ensures call { call.new ≡ unwrap_or (called_in messages registers.now) call.old }
+{
+    match w(registers, 0) {
+        FFA_MSG_WAIT => *call = Call::MsgWait,
+        FFA_YIELD => *call = Call::Yield,
+        FFA_RUN => {
+            *call = Call::Run {
+                target: high_endpoint(w(registers, 1)),
+                context: low_half(w(registers, 1)),
+            }
+        }
+        FFA_MSG_SEND_DIRECT_REQ | FFA_MSG_SEND_DIRECT_REQ_64 => {
+            *call = Call::DirectRequest(direct_message(registers))
+        }
+        FFA_MSG_SEND_DIRECT_RESP | FFA_MSG_SEND_DIRECT_RESP_64 => {
+            *call = Call::DirectResponse(direct_message(registers))
+        }
+        _ => return false,
+    }
+    true
+}
+
+// A direct message, in either form.
+#[inline(always)]
+fn direct_message(registers: &[u64; 8]) -> DirectMessage
+    ensures { result ≡ message_of registers.now }
+{
+    DirectMessage {
+        function: w(registers, 0),
+        sender: high_endpoint(w(registers, 1)),
+        receiver: low_endpoint(w(registers, 1)),
+        flags: w(registers, 2),
+        payload: payload(registers),
+    }
+}
+
+// What a direct message carries.
+#[inline(always)]
+fn payload(registers: &[u64; 8]) -> [u64; 5]
+    ensures { result ≡ payload_of registers.now }
+{
+    [
+        x(registers, 3),
+        x(registers, 4),
+        x(registers, 5),
+        x(registers, 6),
+        x(registers, 7),
+    ]
+}
+
+// What is said of a descriptor in TX.
+fn transfer(registers: &[u64; 8]) -> Transfer
+    ensures { result ≡ transfer_of registers.now }
+{
+    Transfer {
+        total: w(registers, 1),
+        fragment: w(registers, 2),
+        address: x(registers, 3),
+        pages: w(registers, 4),
+    }
+}
+
+// Whether the call is of memory.
+fn memory(registers: &[u64; 8], call: &mut Call) -> bool
+    ensures found { result ≡ is_some (called_in memory registers.now) }
+    ensures call { call.new ≡ unwrap_or (called_in memory registers.now) call.old }
+{
+    match w(registers, 0) {
+        FFA_MEM_DONATE | FFA_MEM_DONATE_64 => *call = Call::MemDonate(transfer(registers)),
+        FFA_MEM_LEND | FFA_MEM_LEND_64 => *call = Call::MemLend(transfer(registers)),
+        FFA_MEM_SHARE | FFA_MEM_SHARE_64 => *call = Call::MemShare(transfer(registers)),
+        FFA_MEM_RETRIEVE_REQ | FFA_MEM_RETRIEVE_REQ_64 => {
+            *call = Call::MemRetrieve(transfer(registers))
+        }
+        FFA_MEM_RELINQUISH => *call = Call::MemRelinquish,
+        FFA_MEM_RECLAIM => {
+            *call = Call::MemReclaim {
+                handle: Handle(word_of_halves(w(registers, 1), w(registers, 2))),
+                flags: w(registers, 3),
+            }
+        }
+        _ => return false,
+    }
+    true
+}
+
+// Whether the call is of notifications.
+fn notification(registers: &[u64; 8], call: &mut Call) -> bool
+    ensures found { result ≡ is_some (called_in notifications registers.now) }
+    ensures call { call.new ≡ unwrap_or (called_in notifications registers.now) call.old }
+{
+    match w(registers, 0) {
+        FFA_NOTIFICATION_BITMAP_CREATE => {
+            *call = Call::BitmapCreate {
+                endpoint: w(registers, 1),
+                contexts: w(registers, 2),
+            }
+        }
+        FFA_NOTIFICATION_BITMAP_DESTROY => {
+            *call = Call::BitmapDestroy {
+                endpoint: w(registers, 1),
+            }
+        }
+        FFA_NOTIFICATION_BIND => *call = Call::NotificationBind(notification_bits(registers)),
+        FFA_NOTIFICATION_UNBIND => *call = Call::NotificationUnbind(notification_bits(registers)),
+        FFA_NOTIFICATION_SET => *call = Call::NotificationSet(notification_bits(registers)),
+        FFA_NOTIFICATION_GET => {
+            *call = Call::NotificationGet {
+                receiver: low_endpoint(w(registers, 1)),
+                context: high_half(w(registers, 1)),
+                flags: w(registers, 2),
+            }
+        }
+        _ => return false,
+    }
+    true
+}
+
+// The bits of a receiver that a call names, for a sender.
+fn notification_bits(registers: &[u64; 8]) -> NotificationBits
+    ensures { result ≡ bits_of_call registers.now }
+{
+    NotificationBits {
+        sender: high_endpoint(w(registers, 1)),
+        receiver: low_endpoint(w(registers, 1)),
+        flags: w(registers, 2),
+        bitmap: word_of_halves(w(registers, 3), w(registers, 4)),
+    }
+}
+
+// Whether version 1.1 added the call.
+fn addition(registers: &[u64; 8], call: &mut Call) -> bool
+    ensures found { result ≡ is_some (called_in additions registers.now) }
+    ensures call { call.new ≡ unwrap_or (called_in additions registers.now) call.old }
+{
+    match w(registers, 0) {
+        FFA_SPM_ID_GET => *call = Call::SpmIdGet,
+        FFA_MSG_SEND2 => *call = Call::MsgSend2,
+        _ => return false,
+    }
+    true
 }
 
 /// The call that the registers x0 to x7 hold. The low half of x0 names it; its other arguments are low halves of
@@ -241,19 +278,31 @@ impl Registers {
 pub fn decode(x: [u64; 8]) -> Call
     ensures { result ≡ decode x }
 {
-    called(x).unwrap_or(Call::Unknown)
+    let mut call = Call::Unknown;
+    decode_into(&x, &mut call);
+    call
 }
 
-fn called(x: [u64; 8]) -> Option<Call>
-    ensures { result ≡ called_in functions x }
+/// The same, filled in where it stands.
+#[inline(never)]
+pub fn decode_into(x: &[u64; 8], call: &mut Call)
+    ensures { call.new ≡ decode x.now }
 {
-    let registers = Registers(x);
-    registers
-        .setup()
-        .or_else(|| registers.message())
-        .or_else(|| registers.memory())
-        .or_else(|| registers.notification())
-        .or_else(|| registers.addition())
+    if !is_called(x, call) {
+        *call = Call::Unknown;
+    }
+}
+
+// Whether the registers name a call, which is then filled in.
+fn is_called(registers: &[u64; 8], call: &mut Call) -> bool
+    ensures found { result ≡ is_some (called_in functions registers.now) }
+    ensures call { call.new ≡ unwrap_or (called_in functions registers.now) call.old }
+{
+    setup(registers, call)
+        || message(registers, call)
+        || memory(registers, call)
+        || notification(registers, call)
+        || addition(registers, call)
 }
 
 /// Whether the call that the registers hold reads this one whole, as its 64-bit form does some, or the low half alone.
@@ -261,7 +310,7 @@ fn called(x: [u64; 8]) -> Option<Call>
 pub fn is_read_whole(x: &[u64; 8], register: u32) -> bool
     ensures { result ≡ is_read_whole x.now register }
 {
-    Registers(*x).is_wide() && is_widened(low(x[0]), register)
+    is_wide(x) && is_widened(low(x[0]), register)
 }
 
 // Whether the 64-bit form of a call reads a register whole.
@@ -275,8 +324,44 @@ fn is_widened(function: u32, register: u32) -> bool
 }
 
 /// Whether a number is the identifier of a call, in either form that the call has (DEN0077A, 13).
+// Of numbers alone, since to decode a call takes more.
 pub fn is_function(function: u32) -> bool
     ensures { result ≡ is_function function }
 {
-    called([u64::from(function), 0, 0, 0, 0, 0, 0, 0]).is_some()
+    matches!(
+        function,
+        FFA_VERSION
+            | FFA_FEATURES
+            | FFA_RX_RELEASE
+            | FFA_RXTX_MAP
+            | FFA_RXTX_MAP_64
+            | FFA_RXTX_UNMAP
+            | FFA_PARTITION_INFO_GET
+            | FFA_ID_GET
+            | FFA_MSG_WAIT
+            | FFA_YIELD
+            | FFA_RUN
+            | FFA_MSG_SEND_DIRECT_REQ
+            | FFA_MSG_SEND_DIRECT_REQ_64
+            | FFA_MSG_SEND_DIRECT_RESP
+            | FFA_MSG_SEND_DIRECT_RESP_64
+            | FFA_MEM_DONATE
+            | FFA_MEM_DONATE_64
+            | FFA_MEM_LEND
+            | FFA_MEM_LEND_64
+            | FFA_MEM_SHARE
+            | FFA_MEM_SHARE_64
+            | FFA_MEM_RETRIEVE_REQ
+            | FFA_MEM_RETRIEVE_REQ_64
+            | FFA_MEM_RELINQUISH
+            | FFA_MEM_RECLAIM
+            | FFA_NOTIFICATION_BITMAP_CREATE
+            | FFA_NOTIFICATION_BITMAP_DESTROY
+            | FFA_NOTIFICATION_BIND
+            | FFA_NOTIFICATION_UNBIND
+            | FFA_NOTIFICATION_SET
+            | FFA_NOTIFICATION_GET
+            | FFA_SPM_ID_GET
+            | FFA_MSG_SEND2
+    )
 }

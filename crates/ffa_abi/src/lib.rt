@@ -6,7 +6,7 @@ mod call;
 mod names;
 mod reply;
 
-pub use call::{decode, is_function, is_read_whole, low};
+pub use call::{decode, decode_into, is_function, is_read_whole, low};
 pub use ffa_model::{Call, CallRow, Reply};
 pub use names::{call_name, call_place, call_row, error_name};
-pub use reply::encode;
+pub use reply::{encode, encode_into};

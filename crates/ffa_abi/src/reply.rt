@@ -101,32 +101,41 @@ fn word_of_two(high: u16, low: u16) -> u32
 }
 
 /// The registers x0 to x7 of a reply. Those that it does not use, and the upper halves of 32-bit values, are zero.
-// Inlined, since what calls it copies the registers a few times, which a compiler only then sees to be one array.
-#[inline(always)]
+#[inline]
 pub fn encode(reply: &Reply) -> [u64; 8]
     ensures { result ≡ encode reply.now }
 {
+    let mut x = [0; 8];
+    encode_into(reply, &mut x);
+    x
+}
+
+/// The same, filled in where they stand.
+#[inline(never)]
+pub fn encode_into(reply: &Reply, x: &mut [u64; 8])
+    ensures { x.new ≡ encode reply.now }
+{
     match reply {
-        Reply::Version(version) => [u64::from(*version), 0, 0, 0, 0, 0, 0, 0],
+        Reply::Version(version) => *x = [u64::from(*version), 0, 0, 0, 0, 0, 0, 0],
         Reply::Error(code) => {
             let w2 = u64::from(code_number(*code));
-            [u64::from(FFA_ERROR), 0, w2, 0, 0, 0, 0, 0]
+            *x = [u64::from(FFA_ERROR), 0, w2, 0, 0, 0, 0, 0]
         }
-        Reply::Success(results) => success_registers(*results),
-        Reply::Sent(handle) => handle_registers(*handle),
+        Reply::Success(results) => *x = success_registers(*results),
+        Reply::Sent(handle) => *x = handle_registers(*handle),
         Reply::Pending {
             partitions,
             normal_world,
             manager,
-        } => pending_registers(*partitions, *normal_world, *manager),
-        Reply::Passed(message) => message_registers(message),
+        } => *x = pending_registers(*partitions, *normal_world, *manager),
+        Reply::Passed(message) => *x = message_registers(message),
         Reply::Scheduled {
             function,
             partition,
-        } => cycles_registers(*function, *partition),
+        } => *x = cycles_registers(*function, *partition),
         Reply::Retrieved(size) => {
             let size = u64::from(*size);
-            [u64::from(FFA_MEM_RETRIEVE_RESP), size, size, 0, 0, 0, 0, 0]
+            *x = [u64::from(FFA_MEM_RETRIEVE_RESP), size, size, 0, 0, 0, 0, 0]
         }
     }
 }

@@ -87,7 +87,7 @@ pub record HasDone (old new : Snapshot) (op : Op) (told : COutcome) : Type 0 whe
   pub only_writers : OnlyWriters old.state op
   pub silent_offers : OfferSaysNothing old.state op
 
--- so it was while others may have written to the runner's TX: of that it read each page once, as the machine's own call
+-- so it was while others may have written to the runner's TX: what it read of that it read once, as the machine's own call
 -- promises it
 pub record HasDoneAmong (old new : Snapshot) (op : Op) (told : COutcome) : Type 0 where
   pub outcome : Outcome

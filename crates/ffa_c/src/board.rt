@@ -2,6 +2,7 @@
 //! A machine with the outcomes that C sees, whichever RAM it has.
 ghost use Rattle.std.specs.Prelude.{◌≡◌, ◌≢◌, ◌<◌, ◌≤◌, ◌*◌, ◌↔◌, IsTrue, true, false, length, is_some};
 ghost use Rattle.std.specs.FinSet as finite_set;
+ghost use Rattle.std.specs.Option.{option_and_then};
 ghost use Rattle.ffa_model.specs.declared.limits.TheConstants.{MOST_PROCESSORS};
 ghost use Rattle.ffa_model.specs.Access.{access};
 ghost use Rattle.ffa_model.specs.Agreement.{Agrees, blocks_of, roots_of};
@@ -16,6 +17,7 @@ ghost use Rattle.ffa_model.specs.Why.{granted, why};
 ghost use Rattle.ffa_manifest.specs.Document.{parts_of};
 ghost use Rattle.ffa_spmc.specs.Storages.{IsRoomFor};
 ghost use Rattle.ffa_notify.specs.Notices.{is_due, still_told};
+ghost use Rattle.ffa_playable.specs.Standing.{standing};
 ghost use Rattle.ffa_c.specs.Boarded.{cluster_of};
 ghost use Rattle.ffa_c.specs.Booting.{IsFirst, IsFirstBy};
 ghost use Rattle.ffa_c.specs.Border.{HasDoneIn, access_code, nothing_done, owner_number, root_number};
@@ -37,6 +39,7 @@ use ffa_model::{
 };
 use ffa_notify::Told;
 use ffa_physmem::{FlatRam, PhysMem};
+use ffa_playable::Standing;
 use ffa_spmc::{Cluster, Given, Ready, Storage};
 use ffa_tlb::NoTlb;
 use std::alloc::Global;
@@ -161,16 +164,16 @@ impl Board {
     }
 
     /// Does one operation of the runner, to whose TX others may write at the same time where the RAM is lent. The processor
-    /// is the one that did the last operation.
-    pub fn op(&mut self, op: &Op) -> COutcome
-        ensures done { HasDoneIn self.old.is_lent self.old.machine self.new.machine op.now result }
+    /// is the one that did the last operation. The outcome is filled in where it stands.
+    pub fn op(&mut self, op: &Op, outcome: &mut COutcome)
+        ensures done { HasDoneIn self.old.is_lent self.old.machine self.new.machine op.now outcome.new }
         ensures notices { self.new.notices ≡ still_told self.old.notices (notifications_of self.new.machine.state) }
         ensures processors { self.new.processors ≡ self.old.processors }
         ensures kind { self.new.is_lent ≡ self.old.is_lent }
     {
         match &mut self.kind {
-            BoardMachine::Heap(cluster) => done_by(cluster, &mut self.notices, op),
-            BoardMachine::Lent(cluster) => done_among(cluster, &mut self.notices, op),
+            BoardMachine::Heap(cluster) => done_by(cluster, &mut self.notices, op, outcome),
+            BoardMachine::Lent(cluster) => done_among(cluster, &mut self.notices, op, outcome),
         }
     }
 
@@ -235,7 +238,9 @@ impl Board {
             return COutcome::nothing(KIND_NO_ENDPOINT);
         }
         if u32::from(endpoint.0) == self.runner() {
-            return self.op(op);
+            let mut outcome = COutcome::nothing(KIND_NO_ENDPOINT);
+            self.op(op, &mut outcome);
+            return outcome;
         }
         either!(&mut self.kind, cluster => acted_by(cluster, &mut self.notices, endpoint, op))
     }
@@ -324,6 +329,14 @@ impl Board {
         ensures refused { is_some result ≡ is_refusal (step self.now.machine.state op.now).outcome }
     {
         asked!(&self.kind, machine => ffa_reasons::why(machine, op))
+    }
+
+    /// How that stands which the check is about, where an operation of the runner is refused.
+    pub fn standing(&self, why: Option<Why>) -> Option<Standing>
+        ensures { result ≡ option_and_then (standing self.now.machine.state) why }
+    {
+        let why = why?;
+        asked!(&self.kind, machine => ffa_reasons::standing(machine, why))
     }
 
     /// Whether an endpoint has a notification pending.

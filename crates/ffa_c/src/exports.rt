@@ -62,11 +62,11 @@ pub extern "C" fn gorseplumb_fetch(machine: &mut CMachine, addr: u64) -> COutcom
 pub(crate) fn operate(machine: &mut CMachine, op: &Op) -> COutcome
     ensures { Operated machine.old.held.value machine.new.held.value op.now result }
 {
+    let mut outcome = COutcome::nothing(KIND_NO_MACHINE);
     if machine.live {
-        machine.held.seat_mut().op(op)
-    } else {
-        COutcome::nothing(KIND_NO_MACHINE)
+        machine.held.seat_mut().op(op, &mut outcome);
     }
+    outcome
 }
 
 // The size of so many bytes, if it is one.

@@ -15,7 +15,9 @@ ghost use Rattle.ffa_c.specs.Runs.{run_at};
 use crate::codes::{EXECUTE, NOTHING, READ, WRITE};
 use crate::outcome::COutcome;
 use ffa_lent::LentRam;
-use ffa_model::{CertRun, Data, EndpointId, MOST_ENDPOINTS, MOST_PROCESSORS, Op, PageNo, Rights};
+use ffa_model::{
+    CertRun, Data, EndpointId, MOST_ENDPOINTS, MOST_PROCESSORS, Op, Outcome, PageNo, Rights,
+};
 use ffa_notify::Told;
 use ffa_physmem::{FlatRam, PhysMem};
 use ffa_spmc::{Cluster, Given, Machine, Ready, Store};
@@ -31,20 +33,22 @@ pub enum BoardMachine {
     Lent(Cluster<LentRam, NoTlb, Ready<Global>>),
 }
 
-/// An operation of the processor that did the last one, with the outcome for C.
+/// An operation of the processor that did the last one, with the outcome for C, which is filled in where it stands.
 #[inline]
 pub(crate) fn done_by<M: PhysMem + Drop, S: Store>(
     cluster: &mut Cluster<M, NoTlb, S>,
     notices: &mut Told,
     op: &Op,
-) -> COutcome
-    ensures done { HasDone cluster.old.machine cluster.new.machine op.now result }
+    outcome: &mut COutcome,
+)
+    ensures done { HasDone cluster.old.machine cluster.new.machine op.now outcome.new }
     ensures processors { cluster.new.processors ≡ cluster.old.processors }
     ensures notices { notices.new ≡ still_told notices.old (notifications_of cluster.new.machine.state) }
 {
-    let outcome = cluster.op_here(op);
+    let mut done = Outcome::Done;
+    cluster.op_here(op, &mut done);
     cluster.follow(notices);
-    COutcome::of(&outcome)
+    outcome.tell(&done);
 }
 
 /// The same over RAM that is lent, while others may write to the runner's TX.
@@ -53,14 +57,16 @@ pub(crate) fn done_among<S: Store>(
     cluster: &mut Cluster<LentRam, NoTlb, S>,
     notices: &mut Told,
     op: &Op,
-) -> COutcome
-    ensures done { HasDoneAmong cluster.old.machine cluster.new.machine op.now result }
+    outcome: &mut COutcome,
+)
+    ensures done { HasDoneAmong cluster.old.machine cluster.new.machine op.now outcome.new }
     ensures processors { cluster.new.processors ≡ cluster.old.processors }
     ensures notices { notices.new ≡ still_told notices.old (notifications_of cluster.new.machine.state) }
 {
-    let outcome = cluster.op_here_among_others(op);
+    let mut done = Outcome::Done;
+    cluster.op_here_among_others(op, &mut done);
     cluster.follow(notices);
-    COutcome::of(&outcome)
+    outcome.tell(&done);
 }
 
 /// An operation of an endpoint of a machine, whoever runs, with the outcome for C.

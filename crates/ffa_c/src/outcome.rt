@@ -29,16 +29,28 @@ impl COutcome {
     pub fn of(outcome: &Outcome) -> COutcome
         ensures { result ≡ packed outcome.now }
     {
-        match *outcome {
-            Outcome::Regs { runner, x } => COutcome {
-                kind: KIND_REGISTERS,
-                runner: u32::from(runner.0),
-                value: 0,
-                x,
-            },
-            Outcome::Data(value) => plain(KIND_DATA, value),
-            Outcome::Done => plain(KIND_DONE, 0),
-            Outcome::Fault(fault) => plain(KIND_FAULT, u64::from(fault_code(fault))),
+        let mut told = COutcome::nothing(KIND_DONE);
+        told.tell(outcome);
+        told
+    }
+
+    /// The same, filled in where it stands.
+    #[inline]
+    pub fn tell(&mut self, outcome: &Outcome)
+        ensures { self.new ≡ packed outcome.now }
+    {
+        match outcome {
+            Outcome::Regs { runner, x } => {
+                *self = COutcome {
+                    kind: KIND_REGISTERS,
+                    runner: u32::from(runner.0),
+                    value: 0,
+                    x: *x,
+                }
+            }
+            Outcome::Data(value) => *self = plain(KIND_DATA, *value),
+            Outcome::Done => *self = plain(KIND_DONE, 0),
+            Outcome::Fault(fault) => *self = plain(KIND_FAULT, u64::from(fault_code(*fault))),
         }
     }
 

@@ -72,16 +72,17 @@ impl Seat {
         self.board.as_ref().unwrap()
     }
 
-    /// Does one operation of the runner.
-    pub fn op(&mut self, op: &Op) -> COutcome
+    /// Does one operation of the runner. The outcome is filled in where it stands.
+    #[inline]
+    pub fn op(&mut self, op: &Op, outcome: &mut COutcome)
         requires { IsSome self.old }
-        ensures done { Operated self.old self.new op.now result }
+        ensures done { Operated self.old self.new op.now outcome.new }
         ensures there { IsSome self.new }
     {
         let Some(board) = &mut self.board else {
             unreachable!()
         };
-        board.op(op)
+        board.op(op, outcome)
     }
 
     /// Does one operation of whoever runs on a processor.

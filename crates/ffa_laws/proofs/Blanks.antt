@@ -137,12 +137,13 @@ module _ (hides : ℕ → Bool) where
   filled-blind bytes None ps = blanked-twice ps
   filled-blind bytes (Some b) ps = run-blind b.pages b.rx bytes ps
 
+  -- what is blind to these bytes, of lists that are the same without them
+  pub both-blind : (f : List (Option Page) → List (Option Page)) → ((ps : List (Option Page)) → blanked hides (f (blanked hides ps)) ≡ blanked hides (f ps))
+      → (ps qs : List (Option Page)) → blanked hides ps ≡ blanked hides qs → blanked hides (f ps) ≡ blanked hides (f qs)
+  both-blind f blind ps qs same = sym (blind ps) ∙ ap (λ rs. blanked hides (f rs)) same ∙ blind qs
+
   pub changed-blind : (s : State) (ranges : List Range) (f : Option Page → Option Page) → IsBlind f → blanked hides (changed_pages (blank hides s) ranges f) ≡ blanked hides (changed_pages s ranges f)
   changed-blind s ranges f blind = each-blind (λ p page. cond (names s ranges p) (f page) page) (λ p. blind-where (names s ranges p) f blind) s.pages
-
-  pub zeroed-blind : (asked : Bool) (s : State) (ranges : List Range) → blanked hides (zeroed_if asked (blank hides s) ranges).pages ≡ blanked hides (zeroed_if asked s ranges).pages
-  zeroed-blind true s ranges = changed-blind s ranges zeroed_page blind-zeroed
-  zeroed-blind false s ranges = blanked-twice s.pages
 
 -- ---- what is read of TX: the same of both, by what a call makes of it
 abbrev pub AreReadAlike : calls.Call → List ℕ → List ℕ → Type 0
@@ -154,7 +155,7 @@ AreReadAlike MemRelinquish tx other = relinquish_of tx ≡ relinquish_of other
 AreReadAlike MsgSend2 tx other = tx ≡ other
 AreReadAlike call tx other = Unit {0}
 
-read-same : (call : calls.Call) (tx other : List ℕ) → tx ≡ other → AreReadAlike call tx other
+pub read-same : (call : calls.Call) (tx other : List ℕ) → tx ≡ other → AreReadAlike call tx other
 read-same (MemDonate x) tx other same = ap (take x.total) same
 read-same (MemLend x) tx other same = ap (take x.total) same
 read-same (MemShare x) tx other same = ap (take x.total) same
@@ -174,41 +175,8 @@ op-read-same (Load address size) tx other same = tt
 op-read-same (Store address size value) tx other same = tt
 op-read-same (Fetch address) tx other same = tt
 
--- ---- a state, some pages of which are blank
+-- ---- a state, and one with other bytes in pages that are hidden
 module _ (s : State) (hides : ℕ → Bool) where
-  abbrev b : State
-  b = blank hides s
-
-  pub page-b : (p : ℕ) → page_at b p ≡ blank_where (hides p) (page_at s p)
-  page-b p = at-blanked hides s.pages p
-
-  pub access-b : (e p : ℕ) → access b e p ≡ access s e p
-  access-b e p = ap (λ page. right_of e page (transaction_at s p)) (page-b p) ∙ right-blank e (hides p) (page_at s p) (transaction_at s p)
-
-  size-b : length b.pages ≡ length s.pages
-  size-b = length-map_at (λ p page. blank_where (hides p) page) s.pages
-
-  owner-blank : (c : Bool) (page : Option Page) → option_map_or (λ (q : Page). q.owner) (blank_where c page) 0x8000 ≡ option_map_or (λ (q : Page). q.owner) page 0x8000
-  owner-blank false page = refl
-  owner-blank true None = refl
-  owner-blank true (Some q) = refl
-
-  own_right-blank : (c : Bool) (page : Option Page) → option_map (λ (q : Page). q.own_right) (blank_where c page) ≡ option_map (λ (q : Page). q.own_right) page
-  own_right-blank false page = refl
-  own_right-blank true None = refl
-  own_right-blank true (Some q) = refl
-
-  pub ownership-b : ownership_of b ≡ ownership_of s
-  ownership-b =
-      λ i. record (ownership_of s) {
-        count = size-b i;
-        owner = fun_ext {f = owner_of b} {g = owner_of s} (λ p. ap (λ page. option_map_or (λ (q : Page). q.owner) page 0x8000) (page-b p) ∙ owner-blank (hides p) (page_at s p)) i;
-        own_right = fun_ext {f = own_right_of b} {g = own_right_of s} (λ p. ap (option_map (λ (q : Page). q.own_right)) (page-b p) ∙ own_right-blank (hides p) (page_at s p)) i;
-      }
-
-  scene-b : scene_of b ≡ scene_of s
-  scene-b = λ i. record { endpoints = length s.parties; ram = ownership-b i; normal = s.normal; buffers = s.buffers; open_transactions = open_of s }
-
   -- two services that differ in such bytes at most
   pub record Alike (c d : Service) : Type 0 where
     pub guards : first_failure c.guards ≡ first_failure d.guards
@@ -220,17 +188,259 @@ module _ (s : State) (hides : ℕ → Bool) where
     pub outcome : c.outcome ≡ d.outcome
     pub state : blank hides c.state ≡ blank hides d.state
 
-  pub twice : blank hides b ≡ blank hides s
-  twice = λ i. record s { pages = blanked-twice hides s.pages i }
+  owner-blank : (c : Bool) (page : Option Page) → option_map_or (λ (q : Page). q.owner) (blank_where c page) 0x8000 ≡ option_map_or (λ (q : Page). q.owner) page 0x8000
+  owner-blank false page = refl
+  owner-blank true None = refl
+  owner-blank true (Some q) = refl
+
+  own_right-blank : (c : Bool) (page : Option Page) → option_map (λ (q : Page). q.own_right) (blank_where c page) ≡ option_map (λ (q : Page). q.own_right) page
+  own_right-blank false page = refl
+  own_right-blank true None = refl
+  own_right-blank true (Some q) = refl
+
+  module _ (ps : List (Option Page)) (same : blanked hides ps ≡ blanked hides s.pages) where
+    abbrev o : State
+    o = record s { pages = ps }
+
+    page-o : (p : ℕ) → blank_where (hides p) (page_at o p) ≡ blank_where (hides p) (page_at s p)
+    page-o p = sym (at-blanked hides ps p) ∙ ap (λ qs. get_or qs p None) same ∙ at-blanked hides s.pages p
+
+    access-o : (e p : ℕ) → access o e p ≡ access s e p
+    access-o e p =
+        sym (right-blank e (hides p) (page_at o p) (transaction_at s p)) ∙ ap (λ page. right_of e page (transaction_at s p)) (page-o p)
+        ∙ right-blank e (hides p) (page_at s p) (transaction_at s p)
+
+    size-o : length ps ≡ length s.pages
+    size-o =
+        sym (length-map_at (λ p page. blank_where (hides p) page) ps) ∙ ap (λ (qs : List (Option Page)). length qs) same
+        ∙ length-map_at (λ p page. blank_where (hides p) page) s.pages
+
+    ownership-o : ownership_of o ≡ ownership_of s
+    ownership-o =
+        λ i. record (ownership_of s) {
+          count = size-o i;
+          owner = fun_ext {f = owner_of o} {g = owner_of s}
+              (λ p. sym (owner-blank (hides p) (page_at o p)) ∙ ap (λ page. option_map_or (λ (q : Page). q.owner) page 0x8000) (page-o p) ∙ owner-blank (hides p) (page_at s p)) i;
+          own_right = fun_ext {f = own_right_of o} {g = own_right_of s}
+              (λ p. sym (own_right-blank (hides p) (page_at o p)) ∙ ap (option_map (λ (q : Page). q.own_right)) (page-o p) ∙ own_right-blank (hides p) (page_at s p)) i;
+        }
+
+    scene-o : scene_of o ≡ scene_of s
+    scene-o = λ i. record { endpoints = length s.parties; ram = ownership-o i; normal = s.normal; buffers = s.buffers; open_transactions = open_of s }
+
+    twice-o : blank hides o ≡ blank hides s
+    twice-o = λ i. record s { pages = same i }
+
+    access_at-o : (address : ℕ) → access_at o s.runner address ≡ access_at s s.runner address
+    access_at-o address = elim (page_of_address s address) as (λ at. option_and_then (access o s.runner) at ≡ option_and_then (access s s.runner) at) [ None ↦ refl | Some p ↦ access-o s.runner p ]
+
+    -- pages that change alike
+    written-o : (p at : ℕ) (bytes : List ℕ) → blanked hides (written_pages ps p at bytes) ≡ blanked hides (written_pages s.pages p at bytes)
+    written-o p at bytes = both-blind hides (λ qs. written_pages qs p at bytes) (written-blind hides p at bytes) ps s.pages same
+
+    filled-o : (bytes : List ℕ) (at : Option Buffers) → blanked hides (filled_pages ps bytes at) ≡ blanked hides (filled_pages s.pages bytes at)
+    filled-o bytes at = both-blind hides (λ qs. filled_pages qs bytes at) (filled-blind hides bytes at) ps s.pages same
+
+    changed-o : (ranges : List Range) (f : Option Page → Option Page) → IsBlind f → blanked hides (changed_pages o ranges f) ≡ blanked hides (changed_pages s ranges f)
+    changed-o ranges f blind =
+        both-blind hides (λ qs. map_at (λ p page. cond (names s ranges p) (f page) page) qs)
+        (each-blind hides (λ p page. cond (names s ranges p) (f page) page) (λ p. blind-where (names s ranges p) f blind)) ps s.pages same
+
+    zeroed-o : (asked : Bool) (ranges : List Range) → blanked hides (zeroed_if asked o ranges).pages ≡ blanked hides (zeroed_if asked s ranges).pages
+    zeroed-o true ranges = changed-o ranges zeroed_page blind-zeroed
+    zeroed-o false ranges = same
+
+    sent-o : (kind : Kind) (at : Option SendRecord) → blank hides (memory_sent o kind at) ≡ blank hides (memory_sent s kind at)
+    sent-o kind None = twice-o
+    sent-o kind (Some r) =
+        ap (λ ram. blank hides (zeroed_if r.zero (with_open o (offered_in (open_of s) s.runner kind (is_told_normal ram s.normal r.ranges) r)) r.ranges)) ownership-o
+        ∙ (λ i. record (memory_sent s kind (Some r)) { pages = zeroed-o r.zero r.ranges i })
+
+    -- ---- what the runner does, where what it reads of TX is the same
+    send-o : (kind : Kind) (x : Transfer) → take x.total (tx_bytes o s.runner) ≡ take x.total (tx_bytes s s.runner) → Alike (memory_send o kind x) (memory_send s kind x)
+    send-o kind x part =
+        record {
+          guards = λ i. first_failure (send_guards (scene-o i) s.runner x (send_of kind (in_version (version_of s s.runner) (part i))));
+          reply = refl;
+          state = ap (λ said. blank hides (memory_sent o kind (send_of kind (in_version (version_of s s.runner) said)))) part ∙ sent-o kind (send_read s kind x.total);
+        }
+
+    retrieved-o : (at : Option RetrieveDesc) → blank hides (retrieved o at) ≡ blank hides (retrieved s at)
+    retrieved-o None = twice-o
+    retrieved-o (Some d) = from (transaction_of s d.handle)
+      where
+        given : (kind : Kind) (ranges : List Range) (e : ℕ) (right : Rights) (bytes : List ℕ)
+            → blanked hides (filled_pages (cond (is_donate kind) (changed_pages o ranges (donated_page e right)) ps) bytes (buffers_of s e))
+            ≡ blanked hides (filled_pages (cond (is_donate kind) (changed_pages s ranges (donated_page e right)) s.pages) bytes (buffers_of s e))
+        given kind ranges e right bytes =
+            both-blind hides (λ qs. filled_pages qs bytes (buffers_of s e)) (filled-blind hides bytes (buffers_of s e))
+            (cond (is_donate kind) (changed_pages o ranges (donated_page e right)) ps) (cond (is_donate kind) (changed_pages s ranges (donated_page e right)) s.pages) (by (is_donate kind))
+          where
+            by : (donated : Bool) → blanked hides (cond donated (changed_pages o ranges (donated_page e right)) ps) ≡ blanked hides (cond donated (changed_pages s ranges (donated_page e right)) s.pages)
+            by true = changed-o ranges (donated_page e right) (blind-donated e right)
+            by false = same
+
+        from : (at : Option Transaction) → blank hides (retrieved_from o d at) ≡ blank hides (retrieved_from s d at)
+        from None = twice-o
+        from (Some t) =
+            ap (λ ram. blank hides (retrieved_right o d.handle t s.runner (right_for ram t s.runner d))) ownership-o
+            ∙ (let right = right_for (ownership_of s) t s.runner d in
+            λ i. record (retrieved_right s d.handle t s.runner right) { pages = given t.kind t.ranges s.runner right (response_bytes (version_of s s.runner) (response_to d.handle t s.runner right)) i })
+
+    retrieve-o : (x : Transfer) → take x.total (tx_bytes o s.runner) ≡ take x.total (tx_bytes s s.runner) → Alike (memory_retrieve o x) (memory_retrieve s x)
+    retrieve-o x part =
+        record {
+          guards = λ i. first_failure (retrieve_guards (scene-o i) s.runner x (retrieve_of s.runner (in_version (version_of s s.runner) (part i))));
+          reply = λ i. Retrieved (response_length s (retrieve_of s.runner (in_version (version_of s s.runner) (part i))));
+          state = ap (λ said. blank hides (retrieved o (retrieve_of s.runner (in_version (version_of s s.runner) said)))) part ∙ retrieved-o (retrieve_read s x.total);
+        }
+
+    relinquished-o : (at : Option RelinquishDesc) → blank hides (relinquished o at) ≡ blank hides (relinquished s at)
+    relinquished-o None = twice-o
+    relinquished-o (Some d) = from (transaction_of s d.handle)
+      where
+        from : (at : Option Transaction) → blank hides (relinquished_from o d at) ≡ blank hides (relinquished_from s d at)
+        from None = twice-o
+        from (Some t) = λ i. record (relinquished_from s d (Some t)) { pages = zeroed-o d.zero t.ranges i }
+
+    relinquish-o : relinquish_of (tx_bytes o s.runner) ≡ relinquish_of (tx_bytes s s.runner) → Alike (memory_relinquish o) (memory_relinquish s)
+    relinquish-o part =
+        record {
+          guards = λ i. first_failure (relinquish_guards (buffers_of s s.runner) (open_of s) s.runner (part i));
+          reply = refl;
+          state = ap (λ said. blank hides (relinquished o said)) part ∙ relinquished-o (relinquish_of (tx_bytes s s.runner));
+        }
+
+    reclaim-o : (handle flags : ℕ) → Alike (memory_reclaim o handle flags) (memory_reclaim s handle flags)
+    reclaim-o handle flags =
+        record {
+          guards = λ i. first_failure (reclaim_guards (ownership-o i) s.runner flags (transaction_of s handle));
+          reply = refl;
+          state = λ i. record (memory_reclaim s handle flags).state { pages = zeroed-o (is_set 0 flags) (named_ranges (transaction_of s handle)) i };
+        }
+
+    send2-o : tx_bytes o s.runner ≡ tx_bytes s s.runner → Alike (msg_send2 o) (msg_send2 s)
+    send2-o tx-o =
+        record {
+          guards = λ i. first_failure (send2_guards s.parties s.buffers s.runner (header_in (tx-o i)));
+          reply = refl;
+          state =
+              ap (λ tx. blank hides (delivered o (header_in tx).receiver (message_in tx))) tx-o
+              ∙ (λ i. record (msg_send2 s).state { pages = filled-o (message_in (tx_bytes s s.runner)) (buffers_of s (header_in (tx_bytes s s.runner)).receiver) i });
+        }
+
+    service-o : (call : calls.Call) → AreReadAlike call (tx_bytes o s.runner) (tx_bytes s s.runner) → Alike (service o call) (service s call)
+    service-o (RxtxMap tx rx pages) part =
+        record {
+          guards = λ i. first_failure (map_guards s.runner (buffers_of s s.runner) (ownership-o i) tx rx pages);
+          reply = refl;
+          state = λ i. record (service s (RxtxMap tx rx pages)).state { pages = same i };
+        }
+    service-o (PartitionInfoGet uuid flags) part =
+        record {
+          guards = refl;
+          reply = refl;
+          state = elim (is_count_alone flags) as (λ c. blank hides (cond c o (filled o s.runner (info_bytes (version_of s s.runner) s.parties (uuid_bytes uuid)))) ≡ blank hides (cond c s (filled s s.runner (info_bytes (version_of s s.runner) s.parties (uuid_bytes uuid))))) [
+            | true ↦ twice-o
+            | false ↦ λ i. record (filled s s.runner (info_bytes (version_of s s.runner) s.parties (uuid_bytes uuid))) { pages = filled-o (info_bytes (version_of s s.runner) s.parties (uuid_bytes uuid)) (buffers_of s s.runner) i }
+          ];
+        }
+    service-o (MemDonate x) part = send-o Donate x part
+    service-o (MemLend x) part = send-o Lend x part
+    service-o (MemShare x) part = send-o Share x part
+    service-o (MemRetrieve x) part = retrieve-o x part
+    service-o MemRelinquish part = relinquish-o part
+    service-o (MemReclaim handle flags) part = reclaim-o handle.0 flags
+    service-o MsgSend2 part = send2-o part
+    service-o call part = record { guards = refl; reply = refl; state = λ i. record (service s call).state { pages = same i } }
+
+    served-o : (c d : Service) → Alike c d → Steps (served o c) (served s d)
+    served-o c d alike = subst (λ g. Steps (answered g o c.state c.reply) (served s d)) (sym alike.guards) (of (first_failure d.guards))
+      where
+        of : (g : Option ErrorCode) → Steps (answered g o c.state c.reply) (answered g s d.state d.reply)
+        of None = record { outcome = λ i. Regs (record { 0 = (alike.state i).runner }) (encode (alike.reply i)); state = alike.state }
+        of (Some code) = record { outcome = refl; state = twice-o }
+
+    call-o : (call : calls.Call) → AreReadAlike call (tx_bytes o s.runner) (tx_bytes s s.runner) → Steps (serve o call) (serve s call)
+    call-o call part = served-o (service o call) (service s call) (service-o call part)
+
+    accessed-state : (f g : Option FaultKind) (new next : State) (told said : Outcome) → f ≡ g → blank hides new ≡ blank hides next
+        → blank hides (accessed f o new told).state ≡ blank hides (accessed g s next said).state
+    accessed-state f g new next told said is states = ap (λ h. blank hides (accessed h o new told).state) is ∙ of g
+      where
+        of : (h : Option FaultKind) → blank hides (accessed h o new told).state ≡ blank hides (accessed h s next said).state
+        of None = states
+        of (Some fault) = twice-o
+
+    -- the state after it, also where it reads bytes that are hidden
+    state-o : (op : Op) → IsReadAlike op (tx_bytes o s.runner) (tx_bytes s s.runner) → blank hides (step o op).state ≡ blank hides (step s op).state
+    state-o (Call x) part = (call-o (decode x) part).state
+    state-o (Load address size) part =
+        accessed-state (read_fault o address (size_of size)) (read_fault s address (size_of size)) o s (Data (number_at o address (size_of size))) (Data (number_at s address (size_of size)))
+        (ap (λ right. fault_of (address % size_of size == 0) right (λ r. true)) (access_at-o address)) twice-o
+    state-o (Store address size value) part =
+        accessed-state (store_fault o address (size_of size)) (store_fault s address (size_of size)) (stored o address (little_bytes (size_of size) value)) (stored s address (little_bytes (size_of size) value)) Done Done
+        (ap (λ right. fault_of (address % size_of size == 0) right may_store) (access_at-o address))
+        (λ i. record s { pages = written-o ((address - s.ram_base) / 4096) (address % 4096) (little_bytes (size_of size) value) i })
+    state-o (Fetch address) part =
+        accessed-state (fetch_fault o address) (fetch_fault s address) o s (Data (number_at o address 4)) (Data (number_at s address 4))
+        (ap (λ right. fault_of (address % 4 == 0) right may_fetch) (access_at-o address)) twice-o
+
+    -- ---- and its outcome, where what it may read at its address is the same
+    abbrev pub IsSameAt : ℕ → ℕ → Type 0
+    IsSameAt address n = is_some (access_at s s.runner address) ≡ true → number_at o address n ≡ number_at s address n
+
+    abbrev pub IsSameTo : Op → Type 0
+    IsSameTo (Call x) = Unit {0}
+    IsSameTo (Load address size) = IsSameAt address (size_of size)
+    IsSameTo (Store address size value) = Unit {0}
+    IsSameTo (Fetch address) = IsSameAt address 4
+
+    accessed-o : (f g : Option FaultKind) (new next : State) (told said : Outcome) → f ≡ g → (g ≡ None → told ≡ said) → blank hides new ≡ blank hides next
+        → Steps (accessed f o new told) (accessed g s next said)
+    accessed-o f g new next told said is outcome states = subst (λ h. Steps (accessed h o new told) (accessed g s next said)) (sym is) (of g outcome)
+      where
+        of : (h : Option FaultKind) → (h ≡ None → told ≡ said) → Steps (accessed h o new told) (accessed h s next said)
+        of None outcome = record { outcome = outcome refl; state = states }
+        of (Some fault) outcome = record { outcome = refl; state = twice-o }
+
+    pub outcome-o : (op : Op) → IsReadAlike op (tx_bytes o s.runner) (tx_bytes s s.runner) → IsSameTo op → Steps (step o op) (step s op)
+    outcome-o (Call x) part same = call-o (decode x) part
+    outcome-o (Load address size) part same =
+        accessed-o (read_fault o address (size_of size)) (read_fault s address (size_of size)) o s (Data (number_at o address (size_of size))) (Data (number_at s address (size_of size)))
+        (ap (λ right. fault_of (address % size_of size == 0) right (λ r. true)) (access_at-o address))
+        (λ none. ap Data (same (fault-none (address % size_of size == 0) (access_at s s.runner address) (λ r. true) none)))
+        twice-o
+    outcome-o (Store address size value) part same =
+        accessed-o (store_fault o address (size_of size)) (store_fault s address (size_of size)) (stored o address (little_bytes (size_of size) value)) (stored s address (little_bytes (size_of size) value)) Done Done
+        (ap (λ right. fault_of (address % size_of size == 0) right may_store) (access_at-o address))
+        (λ none. refl)
+        (λ i. record s { pages = written-o ((address - s.ram_base) / 4096) (address % 4096) (little_bytes (size_of size) value) i })
+    outcome-o (Fetch address) part same =
+        accessed-o (fetch_fault o address) (fetch_fault s address) o s (Data (number_at o address 4)) (Data (number_at s address 4))
+        (ap (λ right. fault_of (address % 4 == 0) right may_fetch) (access_at-o address))
+        (λ none. ap Data (same (fault-none (address % 4 == 0) (access_at s s.runner address) may_fetch none)))
+        twice-o
+
+-- ---- a state, some pages of which are blank
+module _ (s : State) (hides : ℕ → Bool) where
+  abbrev b : State
+  b = blank hides s
+
+  pub page-b : (p : ℕ) → page_at b p ≡ blank_where (hides p) (page_at s p)
+  page-b p = at-blanked hides s.pages p
+
+  pub access-b : (e p : ℕ) → access b e p ≡ access s e p
+  access-b = access-o s hides b.pages (blanked-twice hides s.pages)
+
+  pub ownership-b : ownership_of b ≡ ownership_of s
+  ownership-b = ownership-o s hides b.pages (blanked-twice hides s.pages)
 
   pub access_at-b : (address : ℕ) → access_at b s.runner address ≡ access_at s s.runner address
-  access_at-b address = elim (page_of_address s address) as (λ o. option_and_then (access b s.runner) o ≡ option_and_then (access s s.runner) o) [ None ↦ refl | Some p ↦ access-b s.runner p ]
+  access_at-b = access_at-o s hides b.pages (blanked-twice hides s.pages)
 
-  pub sent-b : (kind : Kind) (o : Option SendRecord) → blank hides (memory_sent b kind o) ≡ blank hides (memory_sent s kind o)
-  sent-b kind None = λ i. record s { pages = blanked-twice hides s.pages i }
-  sent-b kind (Some r) =
-      ap (λ ram. blank hides (zeroed_if r.zero (with_open b (offered_in (open_of s) s.runner kind (is_told_normal ram s.normal r.ranges) r)) r.ranges)) ownership-b
-      ∙ (λ i. record (memory_sent s kind (Some r)) { pages = zeroed-blind hides r.zero s r.ranges i })
+  pub sent-b : (kind : Kind) (at : Option SendRecord) → blank hides (memory_sent b kind at) ≡ blank hides (memory_sent s kind at)
+  sent-b = sent-o s hides b.pages (blanked-twice hides s.pages)
 
   -- a page that isn't blank has its bytes
   pub bytes-b : (p : ℕ) → hides p ≡ false → page_bytes b p ≡ page_bytes s p
@@ -257,192 +467,21 @@ module _ (s : State) (hides : ℕ → Bool) where
         of None is = refl
         of (Some x) is = flat-run-same (page_bytes b) (page_bytes s) x.tx x.pages (λ p its. bytes-alone p ((steady.buffers s.runner x steady.runner is).tx p its))
 
-  -- ---- what the runner does, where what it reads of TX has its bytes
-  send-b : (kind : Kind) (x : Transfer) → take x.total (tx_bytes b s.runner) ≡ take x.total (tx_bytes s s.runner) → Alike (memory_send b kind x) (memory_send s kind x)
-  send-b kind x part =
-      record {
-        guards = λ i. first_failure (send_guards (scene-b i) s.runner x (send_of kind (in_version (version_of s s.runner) (part i))));
-        reply = refl;
-        state = ap (λ said. blank hides (memory_sent b kind (send_of kind (in_version (version_of s s.runner) said)))) part ∙ sent-b kind (send_read s kind x.total);
-      }
-
-  retrieved-b : (o : Option RetrieveDesc) → blank hides (retrieved b o) ≡ blank hides (retrieved s o)
-  retrieved-b None = λ i. record s { pages = blanked-twice hides s.pages i }
-  retrieved-b (Some d) = from (transaction_of s d.handle)
-    where
-      given : (kind : Kind) (ranges : List Range) (e : ℕ) (right : Rights) (bytes : List ℕ)
-          → blanked hides (filled_pages (cond (is_donate kind) (changed_pages b ranges (donated_page e right)) b.pages) bytes (buffers_of s e))
-          ≡ blanked hides (filled_pages (cond (is_donate kind) (changed_pages s ranges (donated_page e right)) s.pages) bytes (buffers_of s e))
-      given kind ranges e right bytes =
-          sym (filled-blind hides bytes (buffers_of s e) (cond (is_donate kind) (changed_pages b ranges (donated_page e right)) b.pages))
-          ∙ ap (λ ps. blanked hides (filled_pages ps bytes (buffers_of s e))) (by (is_donate kind))
-          ∙ filled-blind hides bytes (buffers_of s e) (cond (is_donate kind) (changed_pages s ranges (donated_page e right)) s.pages)
-        where
-          by : (donated : Bool) → blanked hides (cond donated (changed_pages b ranges (donated_page e right)) b.pages) ≡ blanked hides (cond donated (changed_pages s ranges (donated_page e right)) s.pages)
-          by true = changed-blind hides s ranges (donated_page e right) (blind-donated e right)
-          by false = blanked-twice hides s.pages
-
-      from : (o : Option Transaction) → blank hides (retrieved_from b d o) ≡ blank hides (retrieved_from s d o)
-      from None = λ i. record s { pages = blanked-twice hides s.pages i }
-      from (Some t) =
-          ap (λ ram. blank hides (retrieved_right b d.handle t s.runner (right_for ram t s.runner d))) ownership-b
-          ∙ (let right = right_for (ownership_of s) t s.runner d in
-          λ i. record (retrieved_right s d.handle t s.runner right) { pages = given t.kind t.ranges s.runner right (response_bytes (version_of s s.runner) (response_to d.handle t s.runner right)) i })
-
-  retrieve-b : (x : Transfer) → take x.total (tx_bytes b s.runner) ≡ take x.total (tx_bytes s s.runner) → Alike (memory_retrieve b x) (memory_retrieve s x)
-  retrieve-b x part =
-      record {
-        guards = λ i. first_failure (retrieve_guards (scene-b i) s.runner x (retrieve_of s.runner (in_version (version_of s s.runner) (part i))));
-        reply = λ i. Retrieved (response_length s (retrieve_of s.runner (in_version (version_of s s.runner) (part i))));
-        state = ap (λ said. blank hides (retrieved b (retrieve_of s.runner (in_version (version_of s s.runner) said)))) part ∙ retrieved-b (retrieve_read s x.total);
-      }
-
-  relinquished-b : (o : Option RelinquishDesc) → blank hides (relinquished b o) ≡ blank hides (relinquished s o)
-  relinquished-b None = λ i. record s { pages = blanked-twice hides s.pages i }
-  relinquished-b (Some d) = from (transaction_of s d.handle)
-    where
-      from : (o : Option Transaction) → blank hides (relinquished_from b d o) ≡ blank hides (relinquished_from s d o)
-      from None = λ i. record s { pages = blanked-twice hides s.pages i }
-      from (Some t) = λ i. record (relinquished_from s d (Some t)) { pages = zeroed-blind hides d.zero s t.ranges i }
-
-  relinquish-b : relinquish_of (tx_bytes b s.runner) ≡ relinquish_of (tx_bytes s s.runner) → Alike (memory_relinquish b) (memory_relinquish s)
-  relinquish-b part =
-      record {
-        guards = λ i. first_failure (relinquish_guards (buffers_of s s.runner) (open_of s) s.runner (part i));
-        reply = refl;
-        state = ap (λ said. blank hides (relinquished b said)) part ∙ relinquished-b (relinquish_of (tx_bytes s s.runner));
-      }
-
-  reclaim-b : (handle flags : ℕ) → Alike (memory_reclaim b handle flags) (memory_reclaim s handle flags)
-  reclaim-b handle flags =
-      record {
-        guards = λ i. first_failure (reclaim_guards (ownership-b i) s.runner flags (transaction_of s handle));
-        reply = refl;
-        state = λ i. record (memory_reclaim s handle flags).state { pages = zeroed-blind hides (is_set 0 flags) s (named_ranges (transaction_of s handle)) i };
-      }
-
-  send2-b : tx_bytes b s.runner ≡ tx_bytes s s.runner → Alike (msg_send2 b) (msg_send2 s)
-  send2-b tx-b =
-      record {
-        guards = λ i. first_failure (send2_guards s.parties s.buffers s.runner (header_in (tx-b i)));
-        reply = refl;
-        state =
-            ap (λ tx. blank hides (delivered b (header_in tx).receiver (message_in tx))) tx-b
-            ∙ (λ i. record (msg_send2 s).state { pages = filled-blind hides (message_in (tx_bytes s s.runner)) (buffers_of s (header_in (tx_bytes s s.runner)).receiver) s.pages i });
-      }
-
-  pub service-part : (call : calls.Call) → AreReadAlike call (tx_bytes b s.runner) (tx_bytes s s.runner) → Alike (service b call) (service s call)
-  service-part (RxtxMap tx rx pages) part =
-      record {
-        guards = λ i. first_failure (map_guards s.runner (buffers_of s s.runner) (ownership-b i) tx rx pages);
-        reply = refl;
-        state = λ i. record (service s (RxtxMap tx rx pages)).state { pages = blanked-twice hides s.pages i };
-      }
-  service-part (PartitionInfoGet uuid flags) part =
-      record {
-        guards = refl;
-        reply = refl;
-        state = elim (is_count_alone flags) as (λ c. blank hides (cond c b (filled b s.runner (info_bytes (version_of s s.runner) s.parties (uuid_bytes uuid)))) ≡ blank hides (cond c s (filled s s.runner (info_bytes (version_of s s.runner) s.parties (uuid_bytes uuid))))) [
-          | true ↦ λ i. record s { pages = blanked-twice hides s.pages i }
-          | false ↦ λ i. record (filled s s.runner (info_bytes (version_of s s.runner) s.parties (uuid_bytes uuid))) { pages = filled-blind hides (info_bytes (version_of s s.runner) s.parties (uuid_bytes uuid)) (buffers_of s s.runner) s.pages i }
-        ];
-      }
-  service-part (MemDonate x) part = send-b Donate x part
-  service-part (MemLend x) part = send-b Lend x part
-  service-part (MemShare x) part = send-b Share x part
-  service-part (MemRetrieve x) part = retrieve-b x part
-  service-part MemRelinquish part = relinquish-b part
-  service-part (MemReclaim handle flags) part = reclaim-b handle.0 flags
-  service-part MsgSend2 part = send2-b part
-  service-part call part = record { guards = refl; reply = refl; state = λ i. record (service s call).state { pages = blanked-twice hides s.pages i } }
-
-  served-b : (c d : Service) → Alike c d → Steps (served b c) (served s d)
-  served-b c d alike = subst (λ g. Steps (answered g b c.state c.reply) (served s d)) (sym alike.guards) (of (first_failure d.guards))
-    where
-      of : (g : Option ErrorCode) → Steps (answered g b c.state c.reply) (answered g s d.state d.reply)
-      of None = record { outcome = λ i. Regs (record { 0 = (alike.state i).runner }) (encode (alike.reply i)); state = alike.state }
-      of (Some code) = record { outcome = refl; state = twice }
-
-  call-part : (call : calls.Call) → AreReadAlike call (tx_bytes b s.runner) (tx_bytes s s.runner) → Steps (serve b call) (serve s call)
-  call-part call part = served-b (service b call) (service s call) (service-part call part)
-
-  accessed-state : (f g : Option FaultKind) (new next : State) (told said : Outcome) → f ≡ g → blank hides new ≡ blank hides next
-      → blank hides (accessed f b new told).state ≡ blank hides (accessed g s next said).state
-  accessed-state f g new next told said same states = ap (λ h. blank hides (accessed h b new told).state) same ∙ of g
-    where
-      of : (h : Option FaultKind) → blank hides (accessed h b new told).state ≡ blank hides (accessed h s next said).state
-      of None = states
-      of (Some fault) = twice
-
-  -- the state after it, also where it reads bytes that are blank
-  pub state-part : (op : Op) → IsReadAlike op (tx_bytes b s.runner) (tx_bytes s s.runner) → blank hides (step b op).state ≡ blank hides (step s op).state
-  state-part (Call x) part = (call-part (decode x) part).state
-  state-part (Load address size) part =
-      accessed-state (read_fault b address (size_of size)) (read_fault s address (size_of size)) b s (Data (number_at b address (size_of size))) (Data (number_at s address (size_of size)))
-      (ap (λ right. fault_of (address % size_of size == 0) right (λ r. true)) (access_at-b address)) twice
-  state-part (Store address size value) part =
-      accessed-state (store_fault b address (size_of size)) (store_fault s address (size_of size)) (stored b address (little_bytes (size_of size) value)) (stored s address (little_bytes (size_of size) value)) Done Done
-      (ap (λ right. fault_of (address % size_of size == 0) right may_store) (access_at-b address))
-      (λ i. record s { pages = written-blind hides ((address - s.ram_base) / 4096) (address % 4096) (little_bytes (size_of size) value) s.pages i })
-  state-part (Fetch address) part =
-      accessed-state (fetch_fault b address) (fetch_fault s address) b s (Data (number_at b address 4)) (Data (number_at s address 4))
-      (ap (λ right. fault_of (address % 4 == 0) right may_fetch) (access_at-b address)) twice
-
-  -- ---- the page of an address that it may read has its bytes
-  abbrev pub IsShownAt : ℕ → Type 0
-  IsShownAt address = is_some (access_at s s.runner address) ≡ true → hides ((address - s.ram_base) / 4096) ≡ false
-
-  abbrev pub IsShownTo : Op → Type 0
-  IsShownTo (Call x) = Unit {0}
-  IsShownTo (Load address size) = IsShownAt address
-  IsShownTo (Store address size value) = Unit {0}
-  IsShownTo (Fetch address) = IsShownAt address
-
-  number-b : (address n : ℕ) → IsShownAt address → is_some (access_at s s.runner address) ≡ true → number_at b address n ≡ number_at s address n
-  number-b address n shown some = ap (λ bytes. number_in bytes (address % 4096) n) (bytes-b ((address - s.ram_base) / 4096) (shown some))
-
-  accessed-b : (f g : Option FaultKind) (new next : State) (told said : Outcome) → f ≡ g → (g ≡ None → told ≡ said) → blank hides new ≡ blank hides next
-      → Steps (accessed f b new told) (accessed g s next said)
-  accessed-b f g new next told said same outcome states = subst (λ h. Steps (accessed h b new told) (accessed g s next said)) (sym same) (of g outcome)
-    where
-      of : (h : Option FaultKind) → (h ≡ None → told ≡ said) → Steps (accessed h b new told) (accessed h s next said)
-      of None outcome = record { outcome = outcome refl; state = states }
-      of (Some fault) outcome = record { outcome = refl; state = twice }
-
-  -- and its outcome
-  pub outcome-part : (op : Op) → IsReadAlike op (tx_bytes b s.runner) (tx_bytes s s.runner) → IsShownTo op → Steps (step b op) (step s op)
-  outcome-part (Call x) part shown = call-part (decode x) part
-  outcome-part (Load address size) part shown =
-      accessed-b (read_fault b address (size_of size)) (read_fault s address (size_of size)) b s (Data (number_at b address (size_of size))) (Data (number_at s address (size_of size)))
-      (ap (λ right. fault_of (address % size_of size == 0) right (λ r. true)) (access_at-b address))
-      (λ none. ap Data (number-b address (size_of size) shown (fault-none (address % size_of size == 0) (access_at s s.runner address) (λ r. true) none)))
-      twice
-  outcome-part (Store address size value) part shown =
-      accessed-b (store_fault b address (size_of size)) (store_fault s address (size_of size)) (stored b address (little_bytes (size_of size) value)) (stored s address (little_bytes (size_of size) value)) Done Done
-      (ap (λ right. fault_of (address % size_of size == 0) right may_store) (access_at-b address))
-      (λ none. refl)
-      (λ i. record s { pages = written-blind hides ((address - s.ram_base) / 4096) (address % 4096) (little_bytes (size_of size) value) s.pages i })
-  outcome-part (Fetch address) part shown =
-      accessed-b (fetch_fault b address) (fetch_fault s address) b s (Data (number_at b address 4)) (Data (number_at s address 4))
-      (ap (λ right. fault_of (address % 4 == 0) right may_fetch) (access_at-b address))
-      (λ none. ap Data (number-b address 4 shown (fault-none (address % 4 == 0) (access_at s s.runner address) may_fetch none)))
-      twice
-
   -- ---- whose TX has all its bytes
   module _ (tx-b : tx_bytes b s.runner ≡ tx_bytes s s.runner) where
-    pub service-b : (call : calls.Call) → Alike (service b call) (service s call)
-    service-b call = service-part call (read-same call _ _ tx-b)
+    pub service-b : (call : calls.Call) → Alike s hides (service b call) (service s call)
+    service-b call = service-o s hides b.pages (blanked-twice hides s.pages) call (read-same call _ _ tx-b)
 
-    pub call-b : (call : calls.Call) → Steps (serve b call) (serve s call)
-    call-b call = call-part call (read-same call _ _ tx-b)
+    pub call-b : (call : calls.Call) → Steps s hides (serve b call) (serve s call)
+    call-b call = call-o s hides b.pages (blanked-twice hides s.pages) call (read-same call _ _ tx-b)
 
     pub state-b : (op : Op) → blank hides (step b op).state ≡ blank hides (step s op).state
-    state-b op = state-part op (op-read-same op _ _ tx-b)
+    state-b op = state-o s hides b.pages (blanked-twice hides s.pages) op (op-read-same op _ _ tx-b)
 
     -- ---- all pages that it has access to have their bytes
     module _ (shows : (p : ℕ) → is_some (access s s.runner p) ≡ true → hides p ≡ false) where
-      shown-at : (address : ℕ) → IsShownAt address
-      shown-at address some = shows ((address - s.ram_base) / 4096) (reached some)
+      shown-at : (address n : ℕ) → IsSameAt s hides b.pages (blanked-twice hides s.pages) address n
+      shown-at address n some = ap (λ bytes. number_in bytes (address % 4096) n) (bytes-b ((address - s.ram_base) / 4096) (shows ((address - s.ram_base) / 4096) (reached some)))
         where
           reached : is_some (access_at s s.runner address) ≡ true → is_some (access s s.runner ((address - s.ram_base) / 4096)) ≡ true
           reached =
@@ -451,15 +490,15 @@ module _ (s : State) (hides : ℕ → Bool) where
                 | false ↦ λ is. absurd (false≢true is)
               ]
 
-      shown-to : (op : Op) → IsShownTo op
+      shown-to : (op : Op) → IsSameTo s hides b.pages (blanked-twice hides s.pages) op
       shown-to (Call x) = tt
-      shown-to (Load address size) = shown-at address
+      shown-to (Load address size) = shown-at address (size_of size)
       shown-to (Store address size value) = tt
-      shown-to (Fetch address) = shown-at address
+      shown-to (Fetch address) = shown-at address 4
 
-      pub outcome-b : (op : Op) → Steps (step b op) (step s op)
-      outcome-b op = outcome-part op (op-read-same op _ _ tx-b) (shown-to op)
+      pub outcome-b : (op : Op) → Steps s hides (step b op) (step s op)
+      outcome-b op = outcome-o s hides b.pages (blanked-twice hides s.pages) op (op-read-same op _ _ tx-b) (shown-to op)
 
   -- ---- an operation of a runner that can read all other pages to which it has access
-  pub step-b : IsSteady s → ((p : ℕ) → is_some (access s s.runner p) ≡ true → hides p ≡ false) → (op : Op) → Steps (step b op) (step s op)
+  pub step-b : IsSteady s → ((p : ℕ) → is_some (access s s.runner p) ≡ true → hides p ≡ false) → (op : Op) → Steps s hides (step b op) (step s op)
   step-b steady shows = outcome-b (tx-shown steady shows) shows

@@ -92,9 +92,9 @@ pub fn confidential()
     ensures run { (s : State) (ops : List Op) → IsSteady s → RunConfidential s ops }
 {}
 
-/// An operation reads no page but those that it is said to read: a call the first pages of TX that hold what it reads, a load
-/// and a fetch the page of the address. From another sound state with other bytes in any other pages it has the same outcome,
-/// and what it leaves differs in bytes of these pages alone.
+/// An operation reads no bytes but those that it is said to read: a call the first ones of TX, a load and a fetch those at the
+/// address. From another sound state in which these are the same it has the same outcome, and what it leaves differs in bytes
+/// of the pages that differed before alone.
 pub fn reads_no_more()
     ensures { (s : State) (op : Op) → IsSoundState s → ReadsNoMore s op }
 {}

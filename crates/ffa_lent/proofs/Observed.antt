@@ -20,6 +20,11 @@ alike (x ∷ xs) [] f g each same = absurd (omega arith)
 alike (x ∷ xs) (y ∷ ys) f g each same =
     λ k. same 0 (omega arith) k ∷ alike xs ys (λ p. f (suc p)) (λ p. g (suc p)) (omega arith) (λ p lt. same (suc p) (omega arith)) k
 
+pub get_or-map_at : (f : ℕ → List ℕ → List ℕ) (xs : List (List ℕ)) (i : ℕ) → i < length xs → get_or (map_at f xs) i [] ≡ f i (get_or xs i [])
+get_or-map_at f [] i lt = absurd (omega arith)
+get_or-map_at f (x ∷ xs) zero lt = refl
+get_or-map_at f (x ∷ xs) (suc i) lt = get_or-map_at (λ j. f (suc j)) xs i (omega arith)
+
 page-alike : (xs : List (List ℕ)) (f g : ℕ → List ℕ → List ℕ) (p : ℕ) → (p < length xs → g p (get_or xs p []) ≡ f p (get_or xs p []))
     → get_or (map_at g xs) p [] ≡ get_or (map_at f xs) p []
 page-alike [] f g p same = refl
@@ -47,23 +52,36 @@ none-in first count p none = false_from_ne_true (is_in_run first count p) (λ at
 
 module _ (frames : List (List ℕ)) (copies : List (List ℕ)) (first count : ℕ) (within : first + count ≤ length frames) where
   -- the bytes of frame p, by its place among the copies
-  frame-of : (p : ℕ) → is_in_run first count p ≡ true → get_or frames (first + (p - first)) [] ≡ get_or frames p []
+  pub frame-of : (p : ℕ) → is_in_run first count p ≡ true → get_or frames (first + (p - first)) [] ≡ get_or frames p []
   frame-of p at =
       let (low, _) = in-run first count p at in
       let back : first + (p - first) ≡ p = omega (arith, low) in
       ap (λ n. get_or frames n []) back
 
-  -- copies of what the frames hold change nothing that is seen
-  pub observed-same : (old : List (List ℕ)) (was none : ℕ) → none ≡ 0 → ((k : ℕ) → k < count → get_or copies k [] ≡ get_or frames (first + k) [])
-      → map_at (seen_by copies first count) frames ≡ map_at (seen_by old was none) frames
-  observed-same old was none is copied = alike frames frames (seen_by old was none) (seen_by copies first count) refl (λ p lt.
-      let off = seen-off old was none p (get_or frames p []) (none-in was none p is) in
-      elim (cases_Bool (is_in_run first count p)) [
-        | inl at ↦
-            (let (low, high) = in-run first count p at in
-            seen-in copies first count p (get_or frames p []) at ∙ copied (p - first) (omega (arith, low, high)) ∙ frame-of p at ∙ sym off)
-        | inr no_copy ↦ seen-off copies first count p (get_or frames p []) no_copy ∙ sym off
-      ])
+  -- a page with a copy is seen as that
+  pub observed-in : (p : ℕ) → is_in_run first count p ≡ true → get_or (map_at (seen_by copies first count) frames) p [] ≡ get_or copies (p - first) []
+  observed-in p at =
+      let (_, high) = in-run first count p at in
+      get_or-map_at (seen_by copies first count) frames p (omega (arith, high, within)) ∙ seen-in copies first count p (get_or frames p []) at
+
+  module _ (old : List (List ℕ)) (was none : ℕ) (is : none ≡ 0) where
+    -- any other one as it was where nothing had a copy
+    pub observed-off : (p : ℕ) → is_in_run first count p ≡ false
+        → get_or (map_at (seen_by copies first count) frames) p [] ≡ get_or (map_at (seen_by old was none) frames) p []
+    observed-off p off = page-alike frames (seen_by old was none) (seen_by copies first count) p (λ lt.
+        seen-off copies first count p (get_or frames p []) off ∙ sym (seen-off old was none p (get_or frames p []) (none-in was none p is)))
+
+    -- where each copy has as many bytes as its frame, each page has as many as before
+    pub observed-whole : ((k : ℕ) → k < count → length (get_or copies k []) ≡ length (get_or frames (first + k) [])) → (p : ℕ)
+        → length (get_or (map_at (seen_by copies first count) frames) p []) ≡ length (get_or (map_at (seen_by old was none) frames) p [])
+    observed-whole whole p = length-alike frames (seen_by old was none) (seen_by copies first count) p (λ lt.
+        let off = ap length (seen-off old was none p (get_or frames p []) (none-in was none p is)) in
+        elim (cases_Bool (is_in_run first count p)) [
+          | inl at ↦
+              (let (low, high) = in-run first count p at in
+              ap length (seen-in copies first count p (get_or frames p []) at) ∙ whole (p - first) (omega (arith, low, high)) ∙ ap length (frame-of p at) ∙ sym off)
+          | inr no_copy ↦ ap length (seen-off copies first count p (get_or frames p []) no_copy) ∙ sym off
+        ])
 
 -- ---- to write the last copy back
 

@@ -1,6 +1,6 @@
 -- SPDX-License-Identifier: MIT OR Apache-2.0
 -- One page, as it is read or lent, and what is observed.
-use Rattle.std.proofs.Common.{◌≡◌, ◌∙◌, ℕ, zero, suc, ◌+◌, ◌-◌, ◌<◌, ◌≤◌, Bool, true, false, cond, List, [], ◌∷◌, None, Some, length, get_or, vec_len, refl, ap, sym, arith}
+use Rattle.std.proofs.Common.{◌≡◌, ◌∙◌, ℕ, suc, ◌+◌, ◌-◌, ◌*◌, ◌<◌, ◌≤◌, Bool, true, false, cond, List, [], ◌∷◌, None, Some, length, get_or, take, vec_len, refl, ap, sym, arith}
 use Rattle.std.proofs.lemmas.Bool.{false_from_ne_true}
 use Rattle.std.proofs.Math.Nat.{ℕ_set}
 use Rattle.std.proofs.Math.Bridge.{le_prop}
@@ -12,14 +12,10 @@ use Rattle.ffa_model.specs.Ram.{page_of}
 use Rattle.ffa_model.proofs.Accesses.{length-map_at}
 use Rattle.ffa_model.proofs.Runs.{in-run}
 use Rattle.ffa_physmem.specs.FrameRam.{ram_of as frame_ram, with_frame}
+use Rattle.ffa_physmem.specs.Moments.{AgreeInFirst}
 use Rattle.ffa_lent.specs.CopiedRam.{bytes_seen, is_observed, ram_of, with_bytes}
-use Rattle.ffa_lent.proofs.Observed.{observed-same, seen_by}
+use Rattle.ffa_lent.proofs.Observed.{frame-of, get_or-map_at, observed-in, observed-off, observed-whole, seen_by}
 use Rattle.ffa_lent.specs.declared.copied.CopiedRam.{CopiedRam}
-
-get_or-map_at : (f : ℕ → List ℕ → List ℕ) (xs : List (List ℕ)) (i : ℕ) → i < length xs → get_or (map_at f xs) i [] ≡ f i (get_or xs i [])
-get_or-map_at f [] i lt = absurd (omega arith)
-get_or-map_at f (x ∷ xs) zero lt = refl
-get_or-map_at f (x ∷ xs) (suc i) lt = get_or-map_at (λ j. f (suc j)) xs i (omega arith)
 
 -- there are as many pages as frames
 pub pages-seen : (m : CopiedRam) → length (ram_of m).pages ≡ length (frame_ram m.frames).pages
@@ -81,12 +77,38 @@ unseen pages copies first count none = of pages (seen_by copies first count) (λ
     of [] f same = refl
     of (x ∷ xs) f same = λ k. same 0 x k ∷ of xs (λ p. f (suc p)) (λ p. same (suc p)) k
 
--- where nothing was observed, frames that are copied change no page
-pub unchanged : (m : CopiedRam) (first count : ℕ) (copies : List (List ℕ)) → length copies ≡ vec_len m.copies → first + count ≤ length (ram_of m).pages
-    → m.count ≡ 0 → ((k : ℕ) → k < count → get_or copies k [] ≡ page_of (frame_ram m.frames) (first + k))
-    → map_at (seen_by (with_items m.copies copies).items first count) (frame_ram m.frames).pages ≡ (ram_of m).pages
-unchanged m first count copies room within none copied =
-    let same = pages-seen m in
-    let are : (with_items m.copies copies).items ≡ copies = with_items_is m.copies copies room in
-    observed-same (frame_ram m.frames).pages (with_items m.copies copies).items first count (omega (arith, within, same)) m.copies.items m.first.0 m.count none
-    (λ k lt. ap (λ (xs : List (List ℕ)). get_or xs k []) are ∙ copied k lt)
+-- where nothing was observed, and these are the copies of frames from one on
+module _ (m : CopiedRam) (first count : ℕ) (copies : List (List ℕ)) (room : length copies ≡ vec_len m.copies) (within : first + count ≤ length (ram_of m).pages) where
+  abbrev seen : List (List ℕ)
+  seen = map_at (seen_by (with_items m.copies copies).items first count) (frame_ram m.frames).pages
+
+  are : (with_items m.copies copies).items ≡ copies
+  are = with_items_is m.copies copies room
+
+  inside : first + count ≤ length (frame_ram m.frames).pages
+  inside = let same = pages-seen m in omega (arith, within, same)
+
+  pub copied-size : length seen ≡ length (ram_of m).pages
+  copied-size = length-map_at (seen_by (with_items m.copies copies).items first count) (frame_ram m.frames).pages ∙ sym (pages-seen m)
+
+  -- a page of these has the first bytes that its copy has of its frame
+  pub copied-in : (bytes p : ℕ) → is_in_run first count p ≡ true
+      → ((k : ℕ) → k < count → take (bytes - 4096 * k) (get_or copies k []) ≡ take (bytes - 4096 * k) (page_of (frame_ram m.frames) (first + k)))
+      → AgreeInFirst bytes first p (get_or seen p []) (page_of (frame_ram m.frames) p)
+  copied-in bytes p at copied =
+      let (low, high) = in-run first count p at in
+      ap (take (bytes - 4096 * (p - first)))
+      (observed-in (frame_ram m.frames).pages (with_items m.copies copies).items first count inside p at ∙ ap (λ (xs : List (List ℕ)). get_or xs (p - first) []) are)
+      ∙ copied (p - first) (omega (arith, low, high))
+      ∙ ap (take (bytes - 4096 * (p - first))) (frame-of (frame_ram m.frames).pages copies first count inside p at)
+
+  module _ (none : m.count ≡ 0) where
+    -- any other one is what it was
+    pub copied-off : (p : ℕ) → is_in_run first count p ≡ false → get_or seen p [] ≡ page_of (ram_of m) p
+    copied-off p off = observed-off (frame_ram m.frames).pages (with_items m.copies copies).items first count inside m.copies.items m.first.0 m.count none p off
+
+    pub copied-whole : ((k : ℕ) → k < count → length (get_or copies k []) ≡ length (page_of (frame_ram m.frames) (first + k))) → (p : ℕ)
+        → length (get_or seen p []) ≡ length (page_of (ram_of m) p)
+    copied-whole whole p =
+        observed-whole (frame_ram m.frames).pages (with_items m.copies copies).items first count inside m.copies.items m.first.0 m.count none
+        (λ k lt. ap (λ (xs : List (List ℕ)). length (get_or xs k [])) are ∙ whole k lt) p

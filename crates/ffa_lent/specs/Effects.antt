@@ -6,7 +6,7 @@ use Rattle.ffa_model.specs.Identifiers.{identifier}
 use Rattle.ffa_model.specs.Lists.{is_in_run}
 use Rattle.ffa_model.specs.Ram.{Ram, page_of}
 use Rattle.ffa_physmem.specs.FrameRam.{ram_of as frame_ram}
-use Rattle.ffa_physmem.specs.Moments.{IsBeside, Step}
+use Rattle.ffa_physmem.specs.Moments.{AgreeInFirst, IsBeside, Step}
 use Rattle.ffa_lent.specs.CopiedRam.{is_observed, ram_of}
 use Rattle.ffa_lent.specs.declared.copied.CopiedRam.{CopiedRam}
 
@@ -24,10 +24,11 @@ pub record IsBarrier (ram : Ram) (s : Step) : Type 0 where
   pub none : s.settled ≡ None
   pub unread : s.reading ≡ None
 
--- pages are from here on what one reading of memory gave, and nothing is written to memory there
-pub record IsObserved (old new : CopiedRam) (first count : ℕ) : Type 0 where
+-- so many bytes of pages are from here on what one reading of memory gave, and nothing is written to memory there
+pub record IsObserved (old new : CopiedRam) (first count bytes : ℕ) : Type 0 where
   pub seen :
-      (p : ℕ) → is_in_run first count p ≡ true → page_of (ram_of new) p ≡ page_of (frame_ram old.frames) p
+      (p : ℕ) → is_in_run first count p ≡ true
+      → AgreeInFirst bytes first p (page_of (ram_of new) p) (page_of (frame_ram old.frames) p)
   pub held : (p : ℕ) → is_in_run first count p ≡ true → is_observed new p ≡ true
   pub unwritten :
       (p : ℕ) → is_in_run first count p ≡ true

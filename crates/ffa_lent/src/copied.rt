@@ -1,6 +1,6 @@
 // SPDX-License-Identifier: MIT OR Apache-2.0
 //! Pages that are lent, with copies of those that are observed.
-ghost use Rattle.std.specs.Prelude.{◌≡◌, ◌≢◌, true, false, ℕ, ◌+◌, ◌*◌, ◌%◌, ◌^◌, ◌<◌, ◌≤◌, [], None, IfOk, IfErr, IfSome, Some, ◌-◌, slice_index_or, if◌then◌else◌, length, vec_len};
+ghost use Rattle.std.specs.Prelude.{◌≡◌, ◌≢◌, true, false, ℕ, ◌+◌, ◌*◌, ◌%◌, ◌^◌, ◌<◌, ◌≤◌, [], None, IfOk, IfErr, IfSome, Some, ◌-◌, slice_index_or, if◌then◌else◌, length, take, vec_len};
 ghost use Rattle.ffa_model.specs.declared.limits.TheConstants.{MOST_BUFFER_PAGES};
 ghost use Rattle.ffa_model.specs.Lists.{is_in_run};
 ghost use Rattle.ffa_model.specs.Ram.{page_of};
@@ -10,11 +10,11 @@ ghost use Rattle.ffa_physmem.specs.Moments.{IsBeside};
 use crate::frames::{Frames, copies_in};
 use crate::lent::Lent;
 use ffa_model::{Address, PageNo};
-use ffa_physmem::{FrameRam, Observed, PhysMem, put_word};
+use ffa_physmem::{FrameRam, Observed, PAGE_SIZE, PhysMem, put_word};
 use std::alloc::Global;
 
 /// Frames of one page each, which are lent and may lie anywhere. Others may write to them. Pages that are observed have a copy,
-/// which is read in their place, so they are what one reading gave. By itself it tells nobody what is to be settled: only
+/// which is read in their place, so what was observed of them is what one reading gave. By itself it tells nobody what is to be settled: only
 /// `LentRam` holds it.
 #[derive(Drop)]
 pub struct CopiedRam {
@@ -216,9 +216,9 @@ impl Observed for CopiedRam {
         self.write_back();
     }
 
-    fn observe(&mut self, first: PageNo, count: u32) {
+    fn observe(&mut self, first: PageNo, count: u32, bytes: usize) {
         self.forget(first, count);
-        copy_frames(&mut self.copies, &self.frames, first, count);
+        copy_frames(&mut self.copies, &self.frames, first, count, bytes);
         self.first = first;
         self.count = count as usize;
     }
@@ -228,22 +228,41 @@ impl Observed for CopiedRam {
     }
 }
 
-// Copies so many frames, from one on. Each byte of a frame is read once.
+// Copies so many bytes of so many frames, from the first of one on. Each byte is read once, and none behind them.
 fn copy_frames(
     copies: &mut [[u8; 4096]],
     frames: &FrameRam<Lent, Global>,
     first: PageNo,
     count: u32,
+    bytes: usize,
 )
     requires within { first.0 + count ≤ length (frame_ram frames.now).pages }
     requires room { count ≤ length copies.old }
     ensures room { length copies.new ≡ length copies.old }
-    ensures copied { (k : ℕ) → k < count
-        → slice_index_or copies.new k [] ≡ page_of (frame_ram frames.now) (first.0 + k) }
+    ensures copied { (k : ℕ) → k < count → take (bytes - 4096 * k) (slice_index_or copies.new k [])
+        ≡ take (bytes - 4096 * k) (page_of (frame_ram frames.now) (first.0 + k)) }
+    ensures whole { (k : ℕ) → k < count
+        → length (slice_index_or copies.new k []) ≡ length (page_of (frame_ram frames.now) (first.0 + k)) }
 {
     for index in 0..count {
-        copies[index as usize].copy_from_slice(frames.page(PageNo(first.0 + index)));
+        let behind = bytes.saturating_sub(PAGE_SIZE * index as usize);
+        copy_front(
+            &mut copies[index as usize],
+            frames.page(PageNo(first.0 + index)),
+            behind,
+        );
     }
+}
+
+// Copies the first bytes of a page, so many as it has.
+fn copy_front(copy: &mut [u8; 4096], frame: &[u8; 4096], bytes: usize)
+    ensures copied { take bytes copy.new ≡ take bytes frame.now }
+    ensures whole { length copy.new ≡ length frame.now }
+{
+    let count = bytes.min(PAGE_SIZE);
+    copy[..count].copy_from_slice(&frame[..count]);
+    // Proof step: a copy has as many bytes as its frame.
+    are_alike(copy, frame);
 }
 
 // Two pages have as many bytes.

@@ -54,11 +54,11 @@ pub trait Effects {
         requires request { request.now ≡ request_of 0 (ram_of ram.now).base page.0 0 }
         ensures { One (past self.old (ram_of ram.now)) (past self.new (ram_of ram.now)) (λ s. IsBarrier (ram_of ram.now) s) };
 
-    /// Reads pages at once, from one on.
-    fn observe(&mut self, ram: &mut CopiedRam, first: PageNo, count: u32)
+    /// Reads so many bytes of pages at once, from the first of one on.
+    fn observe(&mut self, ram: &mut CopiedRam, first: PageNo, count: u32, bytes: usize)
         requires within { first.0 + count ≤ length (ram_of ram.old).pages }
         requires few { count ≤ MOST_BUFFER_PAGES }
-        ensures observed { IsObserved ram.old ram.new first.0 count }
+        ensures observed { IsObserved ram.old ram.new first.0 count bytes }
         ensures steps { One (past self.old (ram_of ram.old)) (past self.new (ram_of ram.new))
             (λ s. IsReading (ram_of ram.old) (ram_of ram.new) first.0 count true s) };
 
@@ -116,8 +116,8 @@ impl Effects for Unrecorded {
         ask(request);
     }
 
-    fn observe(&mut self, ram: &mut CopiedRam, first: PageNo, count: u32) {
-        ram.observe(first, count);
+    fn observe(&mut self, ram: &mut CopiedRam, first: PageNo, count: u32, bytes: usize) {
+        ram.observe(first, count, bytes);
     }
 
     fn release(&mut self, ram: &mut CopiedRam, first: PageNo, count: u32) {

@@ -7,7 +7,6 @@ ghost use Rattle.ffa_model.specs.Buffers.{buffers_in, buffers_with_rx};
 ghost use Rattle.ffa_model.specs.Calls.{first_failure};
 ghost use Rattle.ffa_model.specs.Identifiers.{identifier, manager, place};
 ghost use Rattle.ffa_model.specs.MemoryRetrieve.{response_to, retrieve_guards, taken_in};
-ghost use Rattle.ffa_model.specs.ResponseBytes.{response_record};
 ghost use Rattle.ffa_model.specs.RetrieveDescriptor.{retrieve_of};
 ghost use Rattle.ffa_model.specs.State.{Transaction};
 ghost use Rattle.ffa_pages.specs.Entry.{owner_at};
@@ -163,14 +162,7 @@ impl OpenTransaction {
         let index = caller.place();
         let to_caller = NewRight::Same(Some(found.right));
         change_pages(ram, layout, pages, &self.ranges, index, to_caller, false);
-        let response = self.response(caller, found.right);
-        deliver(ram, buffers, caller, found.own, version, &response)
-    }
-
-    // What an endpoint is told that has this right to the pages.
-    fn response(&self, endpoint: EndpointId, right: Rights) -> Response
-        ensures { response_record result ≡ response_to self.now.handle (view_of self.now) endpoint.0 right }
-    {
+        // It stands here, since it is large to move.
         let mut response = Response {
             sender: self.sender,
             kind: self.kind,
@@ -178,11 +170,11 @@ impl OpenTransaction {
             normal: self.normal,
             handle: self.handle,
             tag: self.tag,
-            endpoint,
-            rights: right,
+            endpoint: caller,
+            rights: found.right,
             ranges: ArrayVec::new(),
         };
         self.ranges.list_in(&mut response.ranges);
-        response
+        deliver(ram, buffers, caller, found.own, version, &response)
     }
 }

@@ -1,6 +1,6 @@
 -- SPDX-License-Identifier: MIT OR Apache-2.0
 -- What was written to RAM, step by step.
-use Rattle.std.specs.Prelude.{◌≡◌, ⊤, ◌⊎◌, ◌<◌, ◌≤◌, ℕ, Bool, true, false, List, [], ◌∷◌, length, Option, Some, None}
+use Rattle.std.specs.Prelude.{◌≡◌, ⊤, ◌⊎◌, ◌-◌, ◌*◌, ◌<◌, ◌≤◌, ℕ, Bool, true, false, List, [], ◌∷◌, length, take, Option, Some, None}
 use Rattle.ffa_model.specs.Lists.{is_in_run}
 use Rattle.ffa_model.specs.Ram.{Ram, page_of, with_page, with_word}
 
@@ -10,7 +10,7 @@ pub record Settled : Type 0 where
   pub first : ℕ
   pub count : ℕ
 
--- what is read at once: pages from one on, of this number; and whether from here on they are as that reading gave them, or
+-- what is read at once: first bytes of pages from one on, of this number; and whether from here on they are as that reading gave them, or
 -- are so no longer
 pub record Reading : Type 0 where
   pub first : ℕ
@@ -71,8 +71,12 @@ abbrev pub IsSettledBy : ℕ → ℕ → ℕ → ℕ → List Step → Type 0
 IsSettledBy first end e p [] = ⊥
 IsSettledBy first end e p (s ∷ earlier) = Settles e p s ⊎ (KeepsPages first end s × IsSettledBy first end e p earlier)
 
--- pages are read at once, and are from here on what this one reading gave; or from here on they are again whatever others
--- write to them. Others may have written to them before.
+-- of so many bytes, of which the first stands in a page's first place, two pages p have the same
+abbrev pub AgreeInFirst : (bytes first p : ℕ) → List ℕ → List ℕ → Type 0
+AgreeInFirst bytes first p page other = take (bytes - 4096 * (p - first)) page ≡ take (bytes - 4096 * (p - first)) other
+
+-- first bytes of pages are read at once, and are from here on what this one reading gave; or from here on the pages are again
+-- whatever others write to them. Others may have written to them before.
 pub record IsReading (old new : Ram) (first count : ℕ) (begins : Bool) (s : Step) : Type 0 where
   pub before : s.before ≡ old
   pub after : s.after ≡ new

@@ -142,7 +142,7 @@ impl<A: Allocator> Observed for FlatRam<A> {
 
     fn rest(&mut self) {}
 
-    fn observe(&mut self, _first: PageNo, _count: u32) {}
+    fn observe(&mut self, _first: PageNo, _count: u32, _bytes: usize) {}
 
     fn release(&mut self, _first: PageNo, _count: u32) {}
 }

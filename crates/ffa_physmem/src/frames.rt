@@ -146,7 +146,7 @@ impl<A: Allocator, L: Allocator> Observed for FrameRam<A, L> {
 
     fn rest(&mut self) {}
 
-    fn observe(&mut self, _first: PageNo, _count: u32) {}
+    fn observe(&mut self, _first: PageNo, _count: u32, _bytes: usize) {}
 
     fn release(&mut self, _first: PageNo, _count: u32) {}
 }

@@ -4,18 +4,18 @@ ghost use Rattle.std.specs.Prelude.{◌≡◌, ℕ, ◌+◌, ◌<◌, ◌≤◌,
 ghost use Rattle.ffa_model.specs.declared.limits.TheConstants.{MOST_BUFFER_PAGES};
 ghost use Rattle.ffa_model.specs.Lists.{is_in_run};
 ghost use Rattle.ffa_model.specs.Ram.{page_of};
-ghost use Rattle.ffa_physmem.specs.Moments.{IsBeside, IsReading, One};
+ghost use Rattle.ffa_physmem.specs.Moments.{AgreeInFirst, IsBeside, IsReading, One};
 
 use crate::memory::PhysMem;
 use ffa_model::PageNo;
 
-/// RAM to which others may write beside us. Pages of it can be read at once: until they are released, each is what that one
-/// reading gave.
+/// RAM to which others may write beside us. The first bytes of pages can be read at once: until these are released, they are
+/// what that one reading gave.
 pub trait Observed: PhysMem {
     /// The bytes of a page in memory itself: what others see there, and what they write.
     ghost beneath: { Self → ℕ → List ℕ };
 
-    /// Whether a page is what one reading gave, whatever others write to it meanwhile.
+    /// Whether a page stays as it is seen, whatever others write to it meanwhile.
     ghost is_held: { Self → ℕ → Bool };
 
     /// Whether, as far as contracts see, nobody else writes there.
@@ -31,12 +31,14 @@ pub trait Observed: PhysMem {
         ensures beneath { is_alone ≡ true → (p : ℕ) → p < length (Self.ram self.new).pages
             → beneath self.new p ≡ page_of (Self.ram self.new) p };
 
-    /// Reads pages, from one on, to which others may write at the same time. Until `release` each of them is what this one
-    /// reading gave, and that is what stood in memory. Where it is read in a copy nothing is written to memory.
-    fn observe(&mut self, first: PageNo, count: u32)
+    /// Reads so many bytes of pages, from the first of one on, to which others may write at the same time. Until `release` they
+    /// are what this one reading gave, and that is what stood in memory; what stands behind them in these pages is not read,
+    /// and may be anything. Where they are read in a copy nothing is written to memory.
+    fn observe(&mut self, first: PageNo, count: u32, bytes: usize)
         requires within { first.0 + count ≤ length (Self.ram self.old).pages }
         requires few { count ≤ MOST_BUFFER_PAGES }
-        ensures seen { (p : ℕ) → is_in_run first.0 count p ≡ true → page_of (Self.ram self.new) p ≡ beneath self.old p }
+        ensures seen { (p : ℕ) → is_in_run first.0 count p ≡ true
+            → AgreeInFirst bytes first.0 p (page_of (Self.ram self.new) p) (beneath self.old p) }
         ensures held { (p : ℕ) → is_in_run first.0 count p ≡ true → is_held self.new p ≡ true }
         ensures unwritten { is_copied ≡ true → (p : ℕ) → is_in_run first.0 count p ≡ true
             → beneath self.new p ≡ beneath self.old p }

@@ -204,7 +204,7 @@ impl Observed for Recorded {
 
     fn rest(&mut self) {}
 
-    fn observe(&mut self, first: PageNo, count: u32) {
+    fn observe(&mut self, first: PageNo, count: u32, _bytes: usize) {
         self.note(Noted::Read(Reading {
             first,
             count,

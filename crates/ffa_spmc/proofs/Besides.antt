@@ -42,3 +42,7 @@ module _ (s t : State) (named : ℕ → Bool) (beside : AreBeside s t named) whe
   beside-page p off =
       sym (page-b t named p ∙ ap (λ (b : Bool). blank_where b (page_at t p)) off) ∙ ap (λ (u : State). page_at u p) (sym beside.same)
       ∙ page-b s named p ∙ ap (λ (b : Bool). blank_where b (page_at s p)) off
+
+-- one after another
+pub beside-both : (s t u : State) (named : ℕ → Bool) → AreBeside s t named → AreBeside t u named → AreBeside s u named
+beside-both s t u named one other = record { same = one.same ∙ other.same; whole = λ p. other.whole p ∙ one.whole p }

@@ -9,7 +9,7 @@ use Rattle.ffa_model.specs.declared.operation.Outcome.TheVariants.{Data, Done}
 use Rattle.ffa_model.specs.declared.operation.Size.{Size}
 use Rattle.ffa_model.specs.Access.{access}
 use Rattle.ffa_model.specs.Elsewhere.{as_run_by, step_elsewhere}
-use Rattle.ffa_model.specs.Memory.{fetch, fetch_fault, number_at, size_of, store, store_fault, stored}
+use Rattle.ffa_model.specs.Memory.{fetch, fetch_fault, load, number_at, read_fault, size_of, store, store_fault, stored}
 use Rattle.ffa_model.specs.State.{State, is_known}
 use Rattle.ffa_model.proofs.CallAccesses.{access-written}
 use Rattle.ffa_laws.proofs.Form.{accessed-kept}
@@ -23,6 +23,11 @@ use Rattle.ffa_spmc.proofs.Besides.{placement}
 -- the page of an address in a RAM that begins here
 abbrev page_from : ℕ → ℕ → Option ℕ
 page_from address base = cond (nat_le base address && nat_lt address (2 ^ 32)) (Some ((address - base) / 4096)) None
+
+-- A load leaves the state.
+pub load-state : (s : State) (address : ℕ) (size : Size) → (load s address size).state ≡ s
+load-state s address size =
+    accessed-kept (λ t. t ≡ s) s s (Data (number_at s address (size_of size))) (read_fault s address (size_of size)) refl (λ none. refl)
 
 -- A FETCH leaves the state.
 pub fetch-state : (s : State) (address : ℕ) → (fetch s address).state ≡ s

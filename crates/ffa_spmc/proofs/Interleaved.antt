@@ -40,7 +40,9 @@ use Rattle.ffa_model.proofs.Runs.{in-run, run-wider, to-run}
 use Rattle.ffa_laws.specs.ElsewhereRuns.{are_known}
 use Rattle.ffa_laws.specs.Isolation.{NeverGrow}
 use Rattle.ffa_laws.specs.Readable.{blank}
-use Rattle.ffa_laws.specs.Reads.{bytes_read, pages_holding}
+use Rattle.ffa_laws.specs.Reads.{AreBeside, AreReadSame, bytes_read, pages_holding, tx_pages_read}
+use Rattle.ffa_laws.proofs.NoMore.{same-in-front}
+use Rattle.ffa_physmem.specs.Moments.{AgreeInFirst}
 use Rattle.ffa_laws.specs.Stores.{AreStores, AreWritten, MayAllStore, all_stores, is_among, stores}
 use Rattle.ffa_laws.proofs.ElsewhereLaws.{fixed-step_as, step_as-runner}
 use Rattle.ffa_laws.proofs.ElsewhereRunLaws.{isolated_as, known-as, never_grow_as, sound_after_as}
@@ -52,7 +54,7 @@ use Rattle.ffa_laws.proofs.Stores.{after-both, written-stored}
 use Rattle.ffa_laws.proofs.Writers.{usable-writes}
 use Rattle.ffa_laws.proofs.Written.{at-changed, is_at, with_rx_full}
 use Rattle.ffa_spmc.specs.declared.run.Run.{Run}
-use Rattle.ffa_spmc.specs.Among.{AreDoneReading, IsDoneReading, are_in, front_of, is_in, pages_read}
+use Rattle.ffa_spmc.specs.Among.{AreDoneReading, HaveInFront, IsDoneReading, are_in, bytes_read_by, front_of, is_in, pages_read}
 use Rattle.ffa_spmc.specs.Interleaved.{AreAmongAll, AreAmongStores, AreDoneBetween, AreStoresInto, IsInterleaved, IsRunOfAll}
 use Rattle.ffa_spmc.specs.Snapshot.{Snapshot}
 use Rattle.ffa_spmc.proofs.Readings.{holding-few}
@@ -163,6 +165,26 @@ of-tx s (Call x) run is = of (buffers_of s s.runner) refl is
               served-kept (λ t. tx_in t.buffers s.runner ≡ tx_in s.buffers s.runner) s (service s (decode x)) refl
               (λ none. tx-service s s.runner (decode x) (reads-some (decode x) b run some));
         }
+
+-- what an operation reads is the same where its pages of TX have the same first bytes
+pub read-in-front : (s t : State) (op : Op) (run : Run) (bytes : ℕ) → IsSoundState s → AreBeside s t (is_in run) → pages_read s op ≡ Some run → bytes ≡ bytes_read_by s op
+    → HaveInFront run bytes s t → AreReadSame s t op
+read-in-front s t (Load address size) run bytes sound beside is many same = absurd (none-some run is)
+read-in-front s t (Store address size value) run bytes sound beside is many same = absurd (none-some run is)
+read-in-front s t (Fetch address) run bytes sound beside is many same = absurd (none-some run is)
+read-in-front s t (Call x) run bytes sound beside is many same = of (buffers_of s s.runner) refl is
+  where
+    of : (o : Option Buffers) → buffers_of s s.runner ≡ o
+        → option_and_then (λ (b : Buffers). front_of b (tx_pages_read b (decode x))) o ≡ Some run → AreReadSame s t (Call x)
+    of None at none = absurd (none-some run none)
+    of (Some b) at some =
+        let (first, count) = front-parts b (tx_pages_read b (decode x)) run some in
+        let all : bytes ≡ bytes_read (decode x) (4096 * b.pages) =
+        many ∙ ap (λ (o : Option Buffers). option_map_or (λ (c : Buffers). bytes_read (decode x) (4096 * c.pages)) o 0) at in
+        same-in-front s t (is_in run) beside sound (decode x) b at (λ p its.
+        subst (λ (n : ℕ). AgreeInFirst n b.tx p (page_bytes t p) (page_bytes s p)) all
+        (subst (λ (n : ℕ). AgreeInFirst bytes n p (page_bytes t p) (page_bytes s p)) first
+        (same p (subst (λ (n : ℕ). is_in_run run.first.0 n p ≡ true) (sym count) (subst (λ (n : ℕ). is_in_run n (tx_pages_read b (decode x)) p ≡ true) (sym first) its)))))
 
 tx-some : (o : Option Buffers) (b : Buffers) → option_map tx_place o ≡ Some (b.tx, b.pages) → (c : Buffers) × (o ≡ Some c) × (c.tx ≡ b.tx) × (c.pages ≡ b.pages)
 tx-some None b is = absurd (none-some _ is)

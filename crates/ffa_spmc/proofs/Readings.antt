@@ -1,6 +1,6 @@
 -- SPDX-License-Identifier: MIT OR Apache-2.0
 -- Pages that are none of the tables' with other bytes: a machine is one still, and its state is the same but for these bytes.
-use Rattle.std.proofs.Common.{◌≡◌, ◌∙◌, ℕ, suc, ◌+◌, ◌*◌, ◌/◌, ◌<◌, ◌≤◌, Bool, true, false, List, [], ◌∷◌, length, get_or, Option, Some, None, refl, sym, ap, subst, arith, inl, inr}
+use Rattle.std.proofs.Common.{◌≡◌, ◌∙◌, ℕ, suc, ◌+◌, ◌-◌, ◌*◌, ◌/◌, ◌<◌, ◌≤◌, Bool, true, false, List, [], ◌∷◌, length, get_or, take, Option, Some, None, refl, sym, ap, subst, arith, inl, inr}
 use Rattle.std.specs.Option.{option_map, option_map_or}
 use Rattle.std.specs.Prelude.{IsSome, nat_le, nat_lt}
 use Rattle.std.proofs.lemmas.Bool.{and_from, and_parts, cases_Bool, cases_lt, false_from_ne_true, leb-true, lt-ltb}
@@ -24,7 +24,7 @@ use Rattle.ffa_laws.proofs.Maps.{map_at-alike}
 use Rattle.ffa_laws.proofs.SoundKept.{pages-sound}
 use Rattle.ffa_model.proofs.Runs.{in-run, to-run}
 use Rattle.ffa_pages.specs.Entry.{Entry, entry_at}
-use Rattle.ffa_physmem.specs.Moments.{IsBeside}
+use Rattle.ffa_physmem.specs.Moments.{AgreeInFirst, IsBeside}
 use Rattle.ffa_stage2.specs.Tables.{IsAside, IsBuilt}
 use Rattle.ffa_stage2.proofs.Kept.{built-kept}
 use Rattle.ffa_stage2.proofs.Places.{not-both}
@@ -39,16 +39,6 @@ use Rattle.ffa_spmc.proofs.Held.{by-state, owned-aside, page-held, page-past, si
 pub all-bytes : (xs : List ℕ) → ((k : ℕ) → k < length xs → get_or xs k 0 < 256) → are_bytes xs
 all-bytes [] each = refl
 all-bytes (x ∷ xs) each = and_from (nat_lt x 256) _ (lt-ltb x 256 (each 0 (omega arith))) (all-bytes xs (λ k lt. each (suc k) (omega arith)))
-
--- RAM whose named pages, which alone may differ, are what they were
-pub ram-kept : (old new : Ram) (named : ℕ → Bool) → IsBeside old new named
-    → ((p : ℕ) → named p ≡ true → p < length old.pages → page_of new p ≡ page_of old p) → new ≡ old
-ram-kept old new named beside same =
-    let pages : new.pages ≡ old.pages = ext_get_or [] new.pages old.pages beside.size (λ p lt. elim (cases_Bool (named p)) [
-      | inl at ↦ same p at (subst (λ (n : ℕ). p < n) beside.size lt)
-      | inr off ↦ beside.pages p off
-    ]) in
-    λ i. record { base = beside.base i; pages = pages i }
 
 -- what is of an endpoint's page, with these bytes
 abbrev page_by : Option Entry → List ℕ → Option Page
@@ -84,6 +74,21 @@ module _ (x : Parts) (new : Ram) (named : ℕ → Bool) (beside : IsBeside x.ram
         ∙ sym (ap (blank_where (named p)) (page-held read p (inside p lt)))
     | inr past ↦ ap (blank_where (named p)) (page-past x p past ∙ sym (page-past read p (outside p past)))
   ]
+
+  -- the state has the first bytes of a page as RAM has them
+  pub first-same : (bytes first p : ℕ) → AgreeInFirst bytes first p (page_of new p) (page_of x.ram p)
+      → AgreeInFirst bytes first p (page_bytes (state_of read) p) (page_bytes (state_of x) p)
+  first-same bytes first p same = elim (cases_lt p (length x.ram.pages)) [
+    | inl lt ↦ ap cut (page-held read p (inside p lt)) ∙ of (entry_at x.kept.pages p) ∙ sym (ap cut (page-held x p lt))
+    | inr past ↦ ap cut (page-past read p (outside p past) ∙ sym (page-past x p past))
+  ]
+    where
+      cut : Option Page → List ℕ
+      cut o = take (bytes - 4096 * (p - first)) (option_map_or (λ (q : Page). q.bytes) o [])
+
+      of : (o : Option Entry) → cut (page_by o (page_of new p)) ≡ cut (page_by o (page_of x.ram p))
+      of None = refl
+      of (Some e) = same
 
   -- the state is the same but for these bytes
   pub blank-same : blank named (state_of x) ≡ blank named (state_of read)

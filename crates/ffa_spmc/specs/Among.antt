@@ -1,6 +1,6 @@
 -- SPDX-License-Identifier: MIT OR Apache-2.0
--- An operation while other processors of its runner write to the runner's TX: which pages of TX it reads, and that it does
--- what an operation does that finds there what one reading of these pages gave.
+-- An operation while other processors of its runner write to the runner's TX: which of its first bytes it reads, and that it
+-- does what an operation does that finds there what one reading of these gave.
 use Rattle.std.specs.Prelude.{◌≡◌, ℕ, ◌==◌, ◌||◌, Bool, true, false, List, [], ◌∷◌, Option, Some, None, if◌then◌else◌}
 use Rattle.std.specs.List.{list_any}
 use Rattle.std.specs.Option.{option_and_then}
@@ -10,6 +10,7 @@ use Rattle.ffa_model.specs.declared.operation.Op.TheVariants.{Call}
 use Rattle.ffa_model.specs.declared.operation.Outcome.{Outcome}
 use Rattle.ffa_model.specs.Agreement.{Agrees}
 use Rattle.ffa_model.specs.Lists.{is_in_run}
+use Rattle.ffa_model.specs.Memory.{page_bytes}
 use Rattle.ffa_model.specs.Registers.{decode, wide_of}
 use Rattle.ffa_model.specs.SoundState.{IsSoundState}
 use Rattle.ffa_model.specs.State.{State, Buffers, buffers_of}
@@ -18,10 +19,10 @@ use Rattle.ffa_laws.specs.Isolation.{Integrity, NeverGrow, OneStep}
 use Rattle.ffa_laws.specs.Loans.{OfferSaysNothing}
 use Rattle.ffa_laws.specs.OwnAccess.{OwnAccess}
 use Rattle.ffa_laws.specs.Readable.{Confidential}
-use Rattle.ffa_laws.specs.Reads.{AreBeside, ReadsNoMore, tx_pages_read}
+use Rattle.ffa_laws.specs.Reads.{AreBeside, ReadsNoMore, tx_bytes_read, tx_pages_read}
 use Rattle.ffa_laws.specs.Silence.{Silence}
 use Rattle.ffa_laws.specs.Writers.{OnlyWriters}
-use Rattle.ffa_physmem.specs.Moments.{IsBeside, IsReading, One}
+use Rattle.ffa_physmem.specs.Moments.{AgreeInFirst, IsBeside, IsReading, One}
 use Rattle.ffa_spmc.specs.declared.run.Run.{Run}
 use Rattle.ffa_spmc.specs.Cached.{AreWalks}
 use Rattle.ffa_spmc.specs.Mixtures.{StayMixed}
@@ -38,6 +39,11 @@ pages_read s (Call x) =
     option_and_then (λ (b : Buffers). front_of b (tx_pages_read b (decode x))) (buffers_of s s.runner)
 pages_read s op = None
 
+-- how many bytes of it, its first ones
+abbrev pub bytes_read_by : State → Op → ℕ
+bytes_read_by s (Call x) = tx_bytes_read s (decode x)
+bytes_read_by s op = 0
+
 -- whether a number is that of a call that reads TX, in either form
 abbrev pub reads_tx : ℕ → Bool
 reads_tx w0 =
@@ -47,6 +53,11 @@ reads_tx w0 =
 
 abbrev pub is_in : Run → ℕ → Bool
 is_in run p = is_in_run run.first.0 run.count p
+
+-- of so many bytes that pages of a run begin with, two states have the same
+abbrev pub HaveInFront : Run → ℕ → State → State → Type 0
+HaveInFront run bytes s t =
+    (p : ℕ) → is_in run p ≡ true → AgreeInFirst bytes run.first.0 p (page_bytes t p) (page_bytes s p)
 
 -- Pages are read at once, or are no longer as they were read. They alone may have other bytes then, in RAM and in the state
 -- alike, and the cache holds what it held, which no walk contradicts. Walks in mixtures stay what they are.

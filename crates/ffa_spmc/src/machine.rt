@@ -22,6 +22,7 @@ ghost use Rattle.ffa_model.specs.Registers.{decode};
 ghost use Rattle.ffa_model.specs.State.{owner_of};
 ghost use Rattle.ffa_model.specs.Step.{serve, step, outcomes, state_after};
 ghost use Rattle.ffa_spmc.specs.AccessChange.{IsTelling};
+ghost use Rattle.ffa_spmc.specs.Among.{IsDone};
 ghost use Rattle.ffa_spmc.specs.Cached.{AreSameOrGone, AreForgotten, AreKept, AreWalks, is_accessed, is_miss};
 ghost use Rattle.ffa_spmc.specs.Operated.{AreOperated};
 ghost use Rattle.ffa_spmc.specs.Booted.{IsBooted, IsBootedHeld};
@@ -395,24 +396,34 @@ impl<M: PhysMem + Drop, T: Translations + Drop, S: Store> Machine<M, T, S> {
         // them, whatever is done later.
         ensures silent_offers { OfferSaysNothing self.old.state op.now }
 
-        // From another sound state, with other bytes in pages that it doesn't read, it has the same outcome, and leaves a
-        // state with other bytes in these pages at most.
+        // From another sound state, with other bytes that it doesn't read, it has the same outcome, and leaves a state with
+        // other bytes in the same pages at most.
         ensures reads_no_more { ReadsNoMore self.old.state op.now }
+    {
+        let mut outcome = Outcome::Done;
+        self.do_op(op, &mut outcome);
+        outcome
+    }
+
+    // The same, whose outcome is filled in where it stands: handed back by value it would be copied at each step of its way.
+    #[inline(always)]
+    fn do_op(&mut self, op: &Op, outcome: &mut Outcome)
+        ensures done { IsDone self.old op.now outcome.new self.new }
+        ensures sound { IsSoundState self.new.state }
     {
         // Proof step: the state is sound, and the tables give its access.
         self.manager.holds();
-        let outcome = self.operate(op);
+        self.operate(op, outcome);
         // Proof step: so it is afterwards.
         self.manager.holds();
-        outcome
     }
 
     // The operation itself, by its kind.
     #[inline(always)]
-    fn operate(&mut self, op: &Op) -> Outcome
-        ensures outcome { result ≡ (step self.old.state op.now).outcome }
+    fn operate(&mut self, op: &Op, outcome: &mut Outcome)
+        ensures outcome { outcome.new ≡ (step self.old.state op.now).outcome }
         ensures state { self.new.state ≡ (step self.old.state op.now).state }
-        ensures refused { is_refusal result ≡ true → self.new ≡ self.old }
+        ensures refused { is_refusal outcome.new ≡ true → self.new ≡ self.old }
         ensures unowned { KeepsUnowned self.old.state self.old.ram self.new.ram }
         ensures moments { AreMoments self.old.state self.old.ram self.new.ram self.old.past self.new.past }
         ensures forgotten { AreForgotten self.old self.new }
@@ -423,33 +434,35 @@ impl<M: PhysMem + Drop, T: Translations + Drop, S: Store> Machine<M, T, S> {
         // Proof step: the state is sound, so that the runner is an endpoint of the machine.
         self.manager.holds();
         let runner = self.manager.runner();
-        match *op {
-            Op::Call(x) => self.call(x),
-            Op::Load { addr, size } => self.load(runner, addr, size),
-            Op::Store { addr, size, value } => self.store(runner, addr, size, value),
-            Op::Fetch { addr } => self.fetch(runner, addr),
+        match op {
+            Op::Call(x) => self.call(x, outcome),
+            Op::Load { addr, size } => *outcome = self.load(runner, *addr, *size),
+            Op::Store { addr, size, value } => {
+                *outcome = self.store(runner, *addr, *size, *value)
+            }
+            Op::Fetch { addr } => *outcome = self.fetch(runner, *addr),
         }
     }
 
     // A call of the runner, in its registers. The cache forgets whatever the call has made untrue.
     #[inline(always)]
-    fn call(&mut self, x: [u64; 8]) -> Outcome
-        ensures outcome { result ≡ (serve self.old.state (decode x)).outcome }
-        ensures state { self.new.state ≡ (serve self.old.state (decode x)).state }
-        ensures refused { is_refusal result ≡ true → self.new ≡ self.old }
+    fn call(&mut self, x: &[u64; 8], outcome: &mut Outcome)
+        ensures outcome { outcome.new ≡ (serve self.old.state (decode x.now)).outcome }
+        ensures state { self.new.state ≡ (serve self.old.state (decode x.now)).state }
+        ensures refused { is_refusal outcome.new ≡ true → self.new ≡ self.old }
         ensures unowned { KeepsUnowned self.old.state self.old.ram self.new.ram }
         ensures moments { AreMoments self.old.state self.old.ram self.new.ram self.old.past self.new.past }
         ensures forgotten { AreForgotten self.old self.new }
         ensures kept { AreKept self.old self.new }
         ensures others { AreSameOrGone self.old self.new (λ e p. false) }
-        ensures telling { IsTelling (Op.Call x) self.old.state self.new.state self.old.told self.new.told }
+        ensures telling { IsTelling (Op.Call x.now) self.old.state self.new.state self.old.told self.new.told }
     {
         // Proof step: the state is sound, and the tables give its access.
         self.manager.holds();
-        let outcome = self.manager.call(x, &mut self.cache, &mut self.news);
+        self.manager
+            .call(x, &mut self.cache, &mut self.news, outcome);
         // Proof step: so it is afterwards.
         self.manager.holds();
-        outcome
     }
 
     /// Does operations one after another, each of the endpoint that runs then, and fills in their outcomes.

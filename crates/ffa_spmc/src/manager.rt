@@ -217,67 +217,72 @@ impl<M: PhysMem + Drop, S: Store> Manager<M, S> {
     #[inline(always)]
     pub(crate) fn call<T: Translations>(
         &mut self,
-        x: [u64; 8],
+        x: &[u64; 8],
         cache: &mut T,
         news: &mut News,
-    ) -> Outcome
-        ensures outcome { result ≡ (serve self.old.state (decode x)).outcome }
-        ensures state { self.new.state ≡ (serve self.old.state (decode x)).state }
-        ensures refused { is_refusal result ≡ true → self.new ≡ self.old }
+        outcome: &mut Outcome,
+    )
+        ensures outcome { outcome.new ≡ (serve self.old.state (decode x.now)).outcome }
+        ensures state { self.new.state ≡ (serve self.old.state (decode x.now)).state }
+        ensures refused { is_refusal outcome.new ≡ true → self.new ≡ self.old }
         ensures unowned { KeepsUnowned self.old.state self.old.ram self.new.ram }
         ensures moments { AreMoments self.old.state self.old.ram self.new.ram self.old.past self.new.past }
         ensures changed { (changed : Option Changed)
             × IsForgotten self.old.state self.new.state (T.entries cache.old) (T.entries cache.new) changed
             × (news.new ≡ option_or changed news.old)
-            × (is_memory_call (decode x) ≡ false → changed ≡ None) }
-        ensures unchanged { is_refusal result ≡ true → T.entries cache.new ≡ T.entries cache.old }
-        ensures untold { is_refusal result ≡ true → news.new ≡ news.old }
+            × (is_memory_call (decode x.now) ≡ false → changed ≡ None) }
+        ensures unchanged { is_refusal outcome.new ≡ true → T.entries cache.new ≡ T.entries cache.old }
+        ensures untold { is_refusal outcome.new ≡ true → news.new ≡ news.old }
     {
-        let reply = self.reply(ffa_abi::decode(x), cache, news);
-        Outcome::Regs {
+        let mut call = Call::Unknown;
+        ffa_abi::decode_into(x, &mut call);
+        let reply = self.reply(&call, cache, news);
+        let mut answer = [0; 8];
+        ffa_abi::encode_into(&reply, &mut answer);
+        *outcome = Outcome::Regs {
             runner: self.kept.chain.runner(),
-            x: ffa_abi::encode(&reply),
-        }
+            x: answer,
+        };
     }
 
     // The reply to a call of the runner. Each arm answers for itself.
     #[inline(always)]
-    fn reply<T: Translations>(&mut self, call: Call, cache: &mut T, news: &mut News) -> Reply
-        requires { passes_no_error call ≡ true }
+    fn reply<T: Translations>(&mut self, call: &Call, cache: &mut T, news: &mut News) -> Reply
+        requires { passes_no_error call.now ≡ true }
         ensures { IsAnswered self.old self.new (T.entries cache.old) (T.entries cache.new) news.old news.new
-            (is_memory_call call) (service self.old.state call) result }
+            (is_memory_call call.now) (service self.old.state call.now) result }
     {
         match call {
-            Call::Version { version } => ffa_setup::version(version),
-            Call::Features { function } => self.features(function),
+            Call::Version { version } => ffa_setup::version(*version),
+            Call::Features { function } => self.features(*function),
             Call::RxRelease => self.rx_release(),
-            Call::RxtxMap { tx, rx, pages } => self.rxtx_map(tx, rx, pages),
-            Call::RxtxUnmap { endpoint } => self.rxtx_unmap(endpoint),
-            Call::PartitionInfoGet { uuid, flags } => self.partition_info_get(uuid, flags),
+            Call::RxtxMap { tx, rx, pages } => self.rxtx_map(*tx, *rx, *pages),
+            Call::RxtxUnmap { endpoint } => self.rxtx_unmap(*endpoint),
+            Call::PartitionInfoGet { uuid, flags } => self.partition_info_get(*uuid, *flags),
             Call::IdGet => ffa_setup::id(self.kept.chain.runner()),
             Call::SpmIdGet => ffa_setup::spm_id(),
             Call::MsgWait => self.msg_wait(),
             Call::Yield => self.yield_now(),
-            Call::Run { target, context } => self.run_partition(target, context),
-            Call::DirectRequest(message) => self.direct_request(&message),
-            Call::DirectResponse(message) => self.direct_response(&message),
+            Call::Run { target, context } => self.run_partition(*target, *context),
+            Call::DirectRequest(message) => self.direct_request(message),
+            Call::DirectResponse(message) => self.direct_response(message),
             Call::MsgSend2 => self.msg_send2(),
-            Call::MemDonate(transfer) => self.mem_send(Kind::Donate, transfer, cache, news),
-            Call::MemLend(transfer) => self.mem_send(Kind::Lend, transfer, cache, news),
-            Call::MemShare(transfer) => self.mem_send(Kind::Share, transfer, cache, news),
-            Call::MemRetrieve(transfer) => self.mem_retrieve(transfer, cache, news),
+            Call::MemDonate(transfer) => self.mem_send(Kind::Donate, *transfer, cache, news),
+            Call::MemLend(transfer) => self.mem_send(Kind::Lend, *transfer, cache, news),
+            Call::MemShare(transfer) => self.mem_send(Kind::Share, *transfer, cache, news),
+            Call::MemRetrieve(transfer) => self.mem_retrieve(*transfer, cache, news),
             Call::MemRelinquish => self.mem_relinquish(cache, news),
-            Call::MemReclaim { handle, flags } => self.mem_reclaim(handle, flags, cache, news),
-            Call::BitmapCreate { endpoint, contexts } => { self.bitmap_create(endpoint, contexts) }
-            Call::BitmapDestroy { endpoint } => self.bitmap_destroy(endpoint),
-            Call::NotificationBind(bits) => self.notification_bind(&bits),
-            Call::NotificationUnbind(bits) => self.notification_unbind(&bits),
-            Call::NotificationSet(bits) => self.notification_set(&bits),
+            Call::MemReclaim { handle, flags } => self.mem_reclaim(*handle, *flags, cache, news),
+            Call::BitmapCreate { endpoint, contexts } => self.bitmap_create(*endpoint, *contexts),
+            Call::BitmapDestroy { endpoint } => self.bitmap_destroy(*endpoint),
+            Call::NotificationBind(bits) => self.notification_bind(bits),
+            Call::NotificationUnbind(bits) => self.notification_unbind(bits),
+            Call::NotificationSet(bits) => self.notification_set(bits),
             Call::NotificationGet {
                 receiver,
                 context,
                 flags,
-            } => self.notification_get(receiver, context, flags),
+            } => self.notification_get(*receiver, *context, *flags),
             Call::Unknown => Reply::Error(ErrorCode::NotSupported),
         }
     }

@@ -11,3 +11,12 @@ pub struct Run {
     /// How many pages they are.
     pub count: u32,
 }
+
+/// The first bytes of pages in a row.
+#[derive(Clone, Copy)]
+pub(crate) struct Front {
+    /// The pages that hold them.
+    pub(crate) pages: Run,
+    /// How many bytes they are, if the pages have as many.
+    pub(crate) bytes: usize,
+}

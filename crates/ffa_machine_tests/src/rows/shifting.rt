@@ -149,7 +149,7 @@ impl Observed for Shifting {
 
     fn rest(&mut self) {}
 
-    fn observe(&mut self, first: PageNo, count: u32) {
+    fn observe(&mut self, first: PageNo, count: u32, _bytes: usize) {
         self.shift(first, count);
     }
 

@@ -40,10 +40,11 @@ impl<M: Observed + Drop, T: Translations + Drop, S: Store> Cluster<M, T, S> {
     }
 
     /// An operation of whoever runs on the processor of the last one, as `op_here`, while others may write to its TX.
-    pub fn op_here_among_others(&mut self, op: &Op) -> Outcome
+    #[inline]
+    pub fn op_here_among_others(&mut self, op: &Op, outcome: &mut Outcome)
         ensures done { IsDoneReading (pages_read self.old.machine.state op.now)
-            self.old.machine op.now result self.new.machine }
-        ensures alone { M.is_alone ≡ true → IsDoneAlone self.old.machine.state op.now result self.new.machine.state }
+            self.old.machine op.now outcome.new self.new.machine }
+        ensures alone { M.is_alone ≡ true → IsDoneAlone self.old.machine.state op.now outcome.new self.new.machine.state }
         ensures agrees { Agrees self.new.machine.ram self.new.machine.state }
         ensures sound { IsSoundState self.new.machine.state }
         ensures walks { AreWalks self.new.machine }
@@ -52,7 +53,7 @@ impl<M: Observed + Drop, T: Translations + Drop, S: Store> Cluster<M, T, S> {
     {
         // Proof step: processors and state fit together.
         self.holds();
-        self.machine.op_among_others(op)
+        self.machine.do_among_others(op, outcome)
     }
 
     /// Does an act of a processor, as `act`, while others may write to the TX of whoever it runs.

@@ -25,15 +25,16 @@ use ffa_tlb::Translations;
 
 impl<M: PhysMem + Drop, T: Translations + Drop, S: Store> Cluster<M, T, S> {
     /// Does one operation of whoever runs on the processor of the last one, as `Machine::op` does it: a partition that was
-    /// preempted is BUSY.
-    pub fn op_here(&mut self, op: &Op) -> Outcome
-        ensures done { IsDone self.old.machine op.now result self.new.machine }
+    /// preempted is BUSY. The outcome is filled in where it stands.
+    #[inline]
+    pub fn op_here(&mut self, op: &Op, outcome: &mut Outcome)
+        ensures done { IsDone self.old.machine op.now outcome.new self.new.machine }
         ensures sound { IsSoundState self.new.machine.state }
         ensures processors { self.new.processors ≡ self.old.processors }
     {
         // Proof step: processors and state fit together.
         self.holds();
-        self.machine.op_apart(op)
+        self.machine.op_apart(op, outcome)
     }
 
     /// Does one operation of any endpoint of the machine, whoever runs, as `Machine::op_as` does it, with all that this promises.

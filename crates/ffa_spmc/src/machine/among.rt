@@ -1,16 +1,17 @@
 // SPDX-License-Identifier: MIT OR Apache-2.0
 //! An operation while other processors of its runner write to the runner's TX.
-ghost use Rattle.std.specs.Prelude.{ℕ, true, false, ◌≡◌, ◌+◌, ◌≤◌, length};
+ghost use Rattle.std.specs.Prelude.{ℕ, true, false, ◌≡◌, ◌+◌, ◌≤◌, IsSome, Some, length};
 ghost use Rattle.ffa_model.specs.declared.limits.TheConstants.{MOST_BUFFER_PAGES};
 ghost use Rattle.ffa_model.specs.Agreement.{Agrees};
 ghost use Rattle.ffa_model.specs.SoundState.{IsSoundState};
-ghost use Rattle.ffa_spmc.specs.Among.{is_in, AreDoneReading, IsDone, IsDoneAlone, IsDoneReading, IsRead, pages_read};
+ghost use Rattle.ffa_model.specs.State.{page_at};
+ghost use Rattle.ffa_spmc.specs.Among.{bytes_read_by, is_in, AreDoneReading, HaveInFront, IsDone, IsDoneAlone, IsDoneAmong, IsDoneReading, IsRead, pages_read};
 ghost use Rattle.ffa_spmc.specs.Cached.{AreWalks};
 ghost use Rattle.ffa_spmc.specs.Interleaved.{IsInterleaved};
 ghost use Rattle.ffa_spmc.specs.Unowned.{KeepsUnowned, IsNoTable};
 
 use super::Machine;
-use crate::run::Run;
+use crate::run::{Front, Run};
 use crate::storage::Store;
 use ffa_model::{Op, Outcome};
 use ffa_physmem::{Observed, PhysMem};
@@ -18,7 +19,7 @@ use ffa_tlb::Translations;
 
 impl<M: Observed + Drop, T: Translations + Drop, S: Store> Machine<M, T, S> {
     /// Does one operation of the runner, as `op` does, while other processors of the same endpoint may write to its TX: of
-    /// TX it reads at once the pages that the operation reads, and then does it by what that one reading gave.
+    /// TX it reads at once the bytes that the operation reads, and then does it by what that one reading gave.
     pub fn op_among_others(&mut self, op: &Op) -> Outcome
         // Where it reads pages of TX, these are observed in one step; then the operation is done as in a machine that has in
         // them what was seen; then they are released in one step. Other pages are what `op` leaves in them.
@@ -34,13 +35,46 @@ impl<M: Observed + Drop, T: Translations + Drop, S: Store> Machine<M, T, S> {
         ensures walks { AreWalks self.new }
         ensures unowned { KeepsUnowned self.old.state self.old.ram self.new.ram }
     {
-        let Some(run) = self.manager.pages_read(op) else {
-            return self.op_apart(op);
-        };
-        self.begin_reading(run);
-        let outcome = self.op_apart(op);
-        self.end_reading(run);
+        let mut outcome = Outcome::Done;
+        self.do_among_others(op, &mut outcome);
         outcome
+    }
+
+    // The same, whose outcome is filled in where it stands.
+    #[inline]
+    pub(crate) fn do_among_others(&mut self, op: &Op, outcome: &mut Outcome)
+        ensures done { IsDoneReading (pages_read self.old.state op.now) self.old op.now outcome.new self.new }
+        ensures alone { M.is_alone ≡ true → IsDoneAlone self.old.state op.now outcome.new self.new.state }
+        ensures agrees { Agrees self.new.ram self.new.state }
+        ensures sound { IsSoundState self.new.state }
+        ensures walks { AreWalks self.new }
+        ensures unowned { KeepsUnowned self.old.state self.old.ram self.new.ram }
+    {
+        match self.manager.front_read(op) {
+            None => self.op_apart(op, outcome),
+            Some(front) => self.do_reading(front, op, outcome),
+        }
+    }
+
+    // The same of one that reads these bytes of TX.
+    #[inline(never)]
+    fn do_reading(&mut self, front: Front, op: &Op, outcome: &mut Outcome)
+        requires pages { pages_read self.old.state op.now ≡ Some front.pages }
+        requires bytes { front.bytes ≡ bytes_read_by self.old.state op.now }
+        requires within { front.pages.first.0 + front.pages.count ≤ length self.old.ram.pages }
+        requires few { front.pages.count ≤ MOST_BUFFER_PAGES }
+        requires aside { (p : ℕ) → is_in front.pages p ≡ true → IsNoTable self.old.state p }
+        requires owned { (p : ℕ) → is_in front.pages p ≡ true → IsSome (page_at self.old.state p) }
+        ensures done { IsDoneAmong front.pages self.old op.now outcome.new self.new }
+        ensures agrees { Agrees self.new.ram self.new.state }
+        ensures sound { IsSoundState self.new.state }
+        ensures walks { AreWalks self.new }
+        ensures alone { M.is_alone ≡ true → IsDoneAlone self.old.state op.now outcome.new self.new.state }
+        ensures unowned { KeepsUnowned self.old.state self.old.ram self.new.ram }
+    {
+        self.begin_reading(front);
+        self.op_apart(op, outcome);
+        self.end_reading(front.pages);
     }
 
     /// Does operations one after another, each of the endpoint that runs then, while others may write to its TX, and fills in
@@ -73,17 +107,18 @@ impl<M: Observed + Drop, T: Translations + Drop, S: Store> Machine<M, T, S> {
         }
     }
 
-    // Reads pages that are none of the tables' at once.
-    fn begin_reading(&mut self, run: Run)
-        requires within { run.first.0 + run.count ≤ length self.old.ram.pages }
-        requires few { run.count ≤ MOST_BUFFER_PAGES }
-        requires aside { (p : ℕ) → is_in run p ≡ true → IsNoTable self.old.state p }
-        ensures read { IsRead run true self.old self.new }
-        ensures kept { M.is_alone ≡ true → self.new.state ≡ self.old.state }
+    // Reads the first bytes of pages that are none of the tables' at once.
+    fn begin_reading(&mut self, front: Front)
+        requires within { front.pages.first.0 + front.pages.count ≤ length self.old.ram.pages }
+        requires few { front.pages.count ≤ MOST_BUFFER_PAGES }
+        requires aside { (p : ℕ) → is_in front.pages p ≡ true → IsNoTable self.old.state p }
+        ensures sound { IsSoundState self.old.state }
+        ensures read { IsRead front.pages true self.old self.new }
+        ensures same { M.is_alone ≡ true → HaveInFront front.pages front.bytes self.old.state self.new.state }
     {
         // Proof step: the state is sound, and the tables give its access.
         self.manager.holds();
-        self.manager.begin_reading(run);
+        self.manager.begin_reading(front);
         // Proof step: so it is afterwards.
         self.manager.holds();
     }
@@ -105,10 +140,10 @@ impl<M: Observed + Drop, T: Translations + Drop, S: Store> Machine<M, T, S> {
 impl<M: PhysMem + Drop, T: Translations + Drop, S: Store> Machine<M, T, S> {
     // The operation itself, which stands here once for all its calls.
     #[inline(never)]
-    pub(crate) fn op_apart(&mut self, op: &Op) -> Outcome
-        ensures done { IsDone self.old op.now result self.new }
+    pub(crate) fn op_apart(&mut self, op: &Op, outcome: &mut Outcome)
+        ensures done { IsDone self.old op.now outcome.new self.new }
         ensures sound { IsSoundState self.new.state }
     {
-        self.op(op)
+        self.do_op(op, outcome)
     }
 }

@@ -141,7 +141,9 @@ impl<M: PhysMem + Drop, T: Translations + Drop, S: Store> Machine<M, T, S> {
         ensures telling { IsTelling op.now self.old.state self.new.state self.old.told self.new.told }
     {
         if endpoint == self.runner() {
-            self.operate(op)
+            let mut outcome = Outcome::Done;
+            self.operate(op, &mut outcome);
+            outcome
         } else {
             self.operate_elsewhere(endpoint, op)
         }

@@ -71,7 +71,11 @@ impl<M: PhysMem + Drop, T: Translations + Drop, S: Store> Machine<M, T, S> {
         self.manager.holds();
         match self.manager.resumed_by(op) {
             Some(target) => self.resume(target),
-            None => Effect::Outcome(self.op_apart(op)),
+            None => {
+                let mut outcome = Outcome::Done;
+                self.op_apart(op, &mut outcome);
+                Effect::Outcome(outcome)
+            }
         }
     }
 

@@ -1,18 +1,19 @@
 // SPDX-License-Identifier: MIT OR Apache-2.0
 //! Pages of the runner's TX, to which other processors of the runner may write while a call reads them.
+ghost use Rattle.std.specs.Option.{option_map};
 ghost use Rattle.std.specs.Prelude.{true, false, ◌≡◌, ℕ, ◌+◌, ◌≤◌, length, IfSome, IsSome};
 ghost use Rattle.ffa_model.specs.declared.limits.TheConstants.{MOST_BUFFER_PAGES};
 ghost use Rattle.ffa_model.specs.Ram.{page_of};
 ghost use Rattle.ffa_model.specs.SoundState.{are_bytes};
 ghost use Rattle.ffa_model.specs.State.{page_at};
-ghost use Rattle.ffa_physmem.specs.Moments.{IsBeside, IsReading, One};
+ghost use Rattle.ffa_physmem.specs.Moments.{AgreeInFirst, IsBeside, IsReading, One};
 ghost use Rattle.ffa_laws.specs.Reads.{AreBeside, bytes_read, pages_holding};
-ghost use Rattle.ffa_spmc.specs.Among.{is_in, pages_read, reads_tx};
+ghost use Rattle.ffa_spmc.specs.Among.{HaveInFront, bytes_read_by, is_in, pages_read, reads_tx};
 ghost use Rattle.ffa_spmc.specs.Moments.{AreMoments};
 ghost use Rattle.ffa_spmc.specs.Unowned.{IsNoTable};
 
 use super::Manager;
-use crate::run::Run;
+use crate::run::{Front, Run};
 use crate::storage::Store;
 use ffa_model::function::{
     FFA_MEM_DONATE, FFA_MEM_DONATE_64, FFA_MEM_LEND, FFA_MEM_LEND_64, FFA_MEM_RELINQUISH,
@@ -92,22 +93,23 @@ fn hold_bytes<M: PhysMem>(ram: &M, run: Run)
     }
 }
 
-// Reads pages at once, and holds them.
-fn observe_in<M: Observed>(ram: &mut M, run: Run)
-    requires within { run.first.0 + run.count ≤ length (M.ram ram.old).pages }
-    requires few { run.count ≤ MOST_BUFFER_PAGES }
-    ensures beside { IsBeside (M.ram ram.old) (M.ram ram.new) (is_in run) }
+// Reads the first bytes of pages at once, and holds them.
+fn observe_in<M: Observed>(ram: &mut M, front: Front)
+    requires within { front.pages.first.0 + front.pages.count ≤ length (M.ram ram.old).pages }
+    requires few { front.pages.count ≤ MOST_BUFFER_PAGES }
+    ensures beside { IsBeside (M.ram ram.old) (M.ram ram.new) (is_in front.pages) }
     ensures whole { (p : ℕ) → length (page_of (M.ram ram.new) p) ≡ length (page_of (M.ram ram.old) p) }
     ensures steps { One (M.past ram.old) (M.past ram.new) (λ s.
-        IsReading (M.ram ram.old) (M.ram ram.new) run.first.0 run.count true s) }
-    ensures bytes { (p : ℕ) → is_in run p ≡ true → are_bytes (page_of (M.ram ram.new) p) }
-    ensures held { (p : ℕ) → is_in run p ≡ true → M.is_held ram.new p ≡ true }
-    // Where nobody else writes they are what they were.
-    ensures kept { M.is_alone ≡ true → M.ram ram.new ≡ M.ram ram.old }
+        IsReading (M.ram ram.old) (M.ram ram.new) front.pages.first.0 front.pages.count true s) }
+    ensures bytes { (p : ℕ) → is_in front.pages p ≡ true → are_bytes (page_of (M.ram ram.new) p) }
+    ensures held { (p : ℕ) → is_in front.pages p ≡ true → M.is_held ram.new p ≡ true }
+    // Where nobody else writes these bytes are what they were.
+    ensures same { M.is_alone ≡ true → (p : ℕ) → is_in front.pages p ≡ true
+        → AgreeInFirst front.bytes front.pages.first.0 p (page_of (M.ram ram.new) p) (page_of (M.ram ram.old) p) }
 {
     ram.rest();
-    ram.observe(run.first, run.count);
-    hold_bytes(ram, run);
+    ram.observe(front.pages.first, front.pages.count, front.bytes);
+    hold_bytes(ram, front.pages);
 }
 
 // Ends that.
@@ -124,45 +126,64 @@ fn release_in<M: Observed>(ram: &mut M, run: Run)
 }
 
 impl<M: PhysMem + Drop, S: Store> Manager<M, S> {
-    // The pages of its TX that an operation of the runner reads, if it reads any: they are the runner's own.
-    pub(crate) fn pages_read(&self, op: &Op) -> Option<Run>
-        ensures pages { result ≡ pages_read self.now.state op.now }
-        ensures within { IfSome result (λ run. run.first.0 + run.count ≤ length self.now.ram.pages) }
-        ensures few { IfSome result (λ run. run.count ≤ MOST_BUFFER_PAGES) }
-        ensures aside { IfSome result (λ run. (p : ℕ) → is_in run p ≡ true → IsNoTable self.now.state p) }
-        ensures owned { IfSome result (λ run. (p : ℕ) → is_in run p ≡ true → IsSome (page_at self.now.state p)) }
+    // What of its TX an operation of the runner reads, if it reads any: its pages are the runner's own.
+    pub(crate) fn front_read(&self, op: &Op) -> Option<Front>
+        ensures pages { option_map (λ front. front.pages) result ≡ pages_read self.now.state op.now }
+        ensures bytes { IfSome result (λ front. front.bytes ≡ bytes_read_by self.now.state op.now) }
+        ensures within { IfSome result (λ front.
+            front.pages.first.0 + front.pages.count ≤ length self.now.ram.pages) }
+        ensures few { IfSome result (λ front. front.pages.count ≤ MOST_BUFFER_PAGES) }
+        ensures aside { IfSome result (λ front. (p : ℕ) → is_in front.pages p ≡ true → IsNoTable self.now.state p) }
+        ensures owned { IfSome result (λ front.
+            (p : ℕ) → is_in front.pages p ≡ true → IsSome (page_at self.now.state p)) }
     {
         let Op::Call(x) = op else { return None };
         if !reads_tx(ffa_abi::low(x[0])) {
             return None;
         }
+        self.front_of_tx(x)
+    }
+
+    // The same of a call that may read TX.
+    #[inline(never)]
+    fn front_of_tx(&self, x: &[u64; 8]) -> Option<Front>
+        ensures pages { option_map (λ front. front.pages) result ≡ pages_read self.now.state (Op.Call x.now) }
+        ensures bytes { IfSome result (λ front. front.bytes ≡ bytes_read_by self.now.state (Op.Call x.now)) }
+        ensures within { IfSome result (λ front.
+            front.pages.first.0 + front.pages.count ≤ length self.now.ram.pages) }
+        ensures few { IfSome result (λ front. front.pages.count ≤ MOST_BUFFER_PAGES) }
+        ensures aside { IfSome result (λ front. (p : ℕ) → is_in front.pages p ≡ true → IsNoTable self.now.state p) }
+        ensures owned { IfSome result (λ front.
+            (p : ℕ) → is_in front.pages p ≡ true → IsSome (page_at self.now.state p)) }
+    {
         let mapped = self.kept.buffers.of(self.kept.chain.runner())?;
         let bytes = bytes_read(&ffa_abi::decode(*x), mapped.room());
         let count = pages_holding(mapped.pages, bytes);
         if count == 0 {
             return None;
         }
-        Some(Run {
+        let pages = Run {
             first: mapped.tx,
             count,
-        })
+        };
+        Some(Front { pages, bytes })
     }
 }
 
 impl<M: Observed + Drop, S: Store> Manager<M, S> {
-    // Reads pages that are none of the tables' at once.
-    pub(crate) fn begin_reading(&mut self, run: Run)
-        requires within { run.first.0 + run.count ≤ length self.old.ram.pages }
-        requires few { run.count ≤ MOST_BUFFER_PAGES }
-        requires aside { (p : ℕ) → is_in run p ≡ true → IsNoTable self.old.state p }
-        ensures state { AreBeside self.old.state self.new.state (is_in run) }
-        ensures ram { IsBeside self.old.ram self.new.ram (is_in run) }
+    // Reads the first bytes of pages that are none of the tables' at once.
+    pub(crate) fn begin_reading(&mut self, front: Front)
+        requires within { front.pages.first.0 + front.pages.count ≤ length self.old.ram.pages }
+        requires few { front.pages.count ≤ MOST_BUFFER_PAGES }
+        requires aside { (p : ℕ) → is_in front.pages p ≡ true → IsNoTable self.old.state p }
+        ensures state { AreBeside self.old.state self.new.state (is_in front.pages) }
+        ensures ram { IsBeside self.old.ram self.new.ram (is_in front.pages) }
         ensures step { One self.old.past self.new.past (λ s.
-            IsReading self.old.ram self.new.ram run.first.0 run.count true s) }
+            IsReading self.old.ram self.new.ram front.pages.first.0 front.pages.count true s) }
         ensures moments { AreMoments self.old.state self.old.ram self.new.ram self.old.past self.new.past }
-        ensures kept { M.is_alone ≡ true → self.new.state ≡ self.old.state }
+        ensures same { M.is_alone ≡ true → HaveInFront front.pages front.bytes self.old.state self.new.state }
     {
-        observe_in(&mut self.ram, run);
+        observe_in(&mut self.ram, front);
     }
 
     // Ends that.

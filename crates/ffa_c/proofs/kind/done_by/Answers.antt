@@ -6,9 +6,9 @@ use Rattle.ffa_c.proofs.kind.done_by.Goals as goal
 
 pub returns-clause-done : goal.returns-clause-done
 returns-clause-done g c =
-    let done = c.op_here-outcome.ensures.done in
+    let done = c.op_here.ensures.done in
     record {
-      outcome = c.of.ensures ∙ ap packed done.outcome;
+      outcome = c.tell.ensures ∙ ap packed done.outcome;
       state = done.operated.state;
       agrees = done.operated.agrees;
       refused = done.operated.refused;
@@ -16,7 +16,7 @@ returns-clause-done g c =
       moments = done.operated.moments;
       mixtures = done.operated.mixtures;
       telling = done.operated.telling;
-      sound = c.op_here-outcome.ensures.sound;
+      sound = c.op_here.ensures.sound;
       alone = done.laws.alone;
       whole = done.laws.whole;
       silence = done.laws.silence;

@@ -1,16 +1,18 @@
 -- SPDX-License-Identifier: MIT OR Apache-2.0
-use Rattle.std.proofs.Common.{◌∙◌, ◌≤◌, ◌<◌, ◌^◌, ℕ, List, length, false, Some, refl, sym, ap, subst, arith}
+use Rattle.std.proofs.Common.{◌≡◌, ◌∙◌, ◌≤◌, ◌<◌, ◌^◌, ℕ, List, length, false, Some, refl, sym, ap, subst, arith}
 use Rattle.std.proofs.lemmas.Bool.{false≢true}
 use Rattle.arrayvec.specs.ArrayVec.{array_vec_len}
 use Rattle.ffa_model.specs.declared.limits.TheConstants.{MOST_RANGES}
 use Rattle.ffa_model.specs.declared.transaction.Range.{Range}
 use Rattle.ffa_model.specs.Buffers.{buffers_in}
+use Rattle.ffa_model.specs.MemoryRetrieve.{response_to}
 use Rattle.ffa_model.specs.ResponseBytes.{ResponseRecord, response_bytes, response_size}
 use Rattle.ffa_model.specs.SendDescriptor.{page_total}
 use Rattle.ffa_rxtx.specs.Parts.{with_rx_bytes}
 use Rattle.ffa_memshare.specs.Changes.{IsMoved}
 use Rattle.ffa_memshare.specs.Memory.{memory_of}
 use Rattle.ffa_memshare.specs.Ranges.{in_ranges}
+use Rattle.ffa_memshare.specs.Stored.{view_of}
 use Rattle.ffa_memshare.proofs.Moments.{responded-ends, then-responded}
 use Rattle.ffa_memshare.proofs.Retrieves.{few-pages}
 use Rattle.ffa_memshare.proofs.transaction.OpenTransaction.hand_over.Goals as goal
@@ -21,7 +23,7 @@ deliver-requires-clause-total g c =
     let ranges = c.args.self.now.ranges in
     let (access, built) = c.requires.held.room.built in
     let most : length ranges ≤ MOST_RANGES = omega (arith, c.len.ensures.count, c.len.ensures.few) in
-    subst (λ (xs : List Range). page_total xs < 2 ^ 32) (sym (ap (λ (r : ResponseRecord). r.ranges) c.response-response.ensures))
+    subst (λ (xs : List Range). page_total xs < 2 ^ 32) (sym c.list_in.ensures)
     (few-pages l.base.0 l.blocks ranges built.fits.few most c.requires.held.placed)
 
 pub returns-clause-answered : goal.returns-clause-answered
@@ -30,6 +32,8 @@ returns-clause-answered g c =
     let ranges = c.args.self.now.ranges in
     let old = g.M.PhysMem.ram c.args.ram.now in
     let granted = g.M.PhysMem.ram c.change_pages.new.ram in
+    let told = response_to c.args.self.now.handle (view_of c.args.self.now) c.args.caller.0 c.args.found.now.right in
+    let same : record told { ranges = c.list_in.new.ranges.items } ≡ told = ap (λ (rs : List Range). record told { ranges = rs }) c.list_in.ensures in
     record {
       granted = granted;
       moved =
@@ -37,8 +41,8 @@ returns-clause-answered g c =
           c.change_pages.ensures.moved;
       answered =
           c.deliver.ensures.ram
-          ∙ ap (λ (r : ResponseRecord). with_rx_bytes granted (buffers_in c.args.buffers.now c.args.caller.0) (response_bytes c.args.version r)) c.response-response.ensures;
-      bytes = c.deliver.ensures.size ∙ ap (λ (r : ResponseRecord). response_size c.args.version r.ranges) c.response-response.ensures;
+          ∙ ap (λ (r : ResponseRecord). with_rx_bytes granted (buffers_in c.args.buffers.now c.args.caller.0) (response_bytes c.args.version r)) same;
+      bytes = c.deliver.ensures.size ∙ ap (λ (r : ResponseRecord). response_size c.args.version r.ranges) same;
     }
 
 pub returns-clause-steps : goal.returns-clause-steps

@@ -9,4 +9,4 @@ pub invariant_of-self : goal.invariant_of-self
 invariant_of-self g c =
     placed-reading (kept_as c.self.inside.current c.self.inside.runners.items) c.self.inside.machine
     (subst (λ (seen : Clustered). IsSoundState seen.machine.state) (sym c.self.view_is) c.holds.ensures.sound) c.self.invariant
-    _ c.args.op.now c.op_among_others.result c.op_among_others.new.self c.op_among_others.ensures.done
+    _ c.args.op.now c.do_among_others.new.outcome c.do_among_others.new.self c.do_among_others.ensures.done

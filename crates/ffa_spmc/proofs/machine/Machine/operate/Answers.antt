@@ -9,8 +9,14 @@ use Rattle.ffa_model.specs.Step.{step}
 use Rattle.ffa_spmc.specs.AccessChange.{IsTelling}
 use Rattle.ffa_spmc.specs.Snapshot.{Snapshot}
 use Rattle.ffa_spmc.proofs.AccessChanges.{nothing-told}
-use Rattle.ffa_spmc.proofs.CachedAccesses.{fetch-state, store-access, store-runner}
+use Rattle.ffa_spmc.proofs.CachedAccesses.{fetch-state, load-state, store-access, store-runner}
 use Rattle.ffa_spmc.proofs.machine.Machine.operate.Goals as goal
+
+pub returns-in-Load-clause-state : goal.returns-in-Load-clause-state
+returns-in-Load-clause-state g c =
+    c.load.ensures.state
+    ∙ sym (load-state c.args.self.now.state c.in-Load.addr c.in-Load.size)
+    ∙ ap (λ (op : Op). (step c.args.self.now.state op).state) (sym c.in-Load.is)
 
 pub returns-in-Load-clause-forgotten : goal.returns-in-Load-clause-forgotten
 returns-in-Load-clause-forgotten g c = λ e p changed. absurd (changed (ap (λ (s : State). access s e p) c.load.ensures.state))

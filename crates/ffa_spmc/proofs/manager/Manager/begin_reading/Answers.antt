@@ -3,7 +3,7 @@ use Rattle.std.proofs.Common.{◌≡◌, ◌+◌, ◌≤◌, true, length, sym, 
 use Rattle.ffa_model.specs.Ram.{Ram}
 use Rattle.ffa_laws.specs.Reads.{AreBeside}
 use Rattle.ffa_physmem.specs.Moments.{IsBeside, IsReading, One}
-use Rattle.ffa_spmc.specs.Among.{is_in}
+use Rattle.ffa_spmc.specs.Among.{HaveInFront, is_in}
 use Rattle.ffa_spmc.specs.Managed.{Managed}
 use Rattle.ffa_spmc.specs.Meaning.{state_of}
 use Rattle.ffa_spmc.specs.Moments.{AreMoments}
@@ -11,17 +11,17 @@ use Rattle.ffa_spmc.specs.Unowned.{IsNoTable}
 use Rattle.ffa_spmc.proofs.Held.{by-manifest}
 use Rattle.ffa_spmc.proofs.Inside.{parts_of}
 use Rattle.ffa_spmc.proofs.Moments.{reading-moments}
-use Rattle.ffa_spmc.proofs.Readings.{machine-read, read, states-beside}
+use Rattle.ffa_spmc.proofs.Readings.{first-same, machine-read, read, states-beside}
 use Rattle.ffa_spmc.proofs.manager.Manager.begin_reading.Goals as goal
 
 pub observe_in-requires-clause-within : goal.observe_in-requires-clause-within
 observe_in-requires-clause-within g c =
-    subst (λ (seen : Managed). c.args.run.first.0 + c.args.run.count ≤ length seen.ram.pages) (sym c.self.view_is) c.requires.within
+    subst (λ (seen : Managed). c.args.front.pages.first.0 + c.args.front.pages.count ≤ length seen.ram.pages) (sym c.self.view_is) c.requires.within
 
 pub invariant_of-self : goal.invariant_of-self
 invariant_of-self g c =
     let x = parts_of g.M.PhysMem.ram g.S.Records.Home.value c.self.inside in
-    machine-read x (g.M.PhysMem.ram c.observe_in.new.ram) (is_in c.args.run) c.observe_in.ensures.beside c.observe_in.ensures.whole
+    machine-read x (g.M.PhysMem.ram c.observe_in.new.ram) (is_in c.args.front.pages) c.observe_in.ensures.beside c.observe_in.ensures.whole
     c.self.invariant c.observe_in.ensures.bytes
     (λ p its. by-manifest x c.self.invariant p (subst (λ (seen : Managed). IsNoTable seen.state p) (sym c.self.view_is) (c.requires.aside p its)))
 
@@ -29,27 +29,29 @@ pub returns-clause-state : goal.returns-clause-state
 returns-clause-state g c =
     let x = parts_of g.M.PhysMem.ram g.S.Records.Home.value c.self.inside in
     let new = g.M.PhysMem.ram c.observe_in.new.ram in
-    subst (λ (seen : Managed). AreBeside seen.state (state_of (read x new (is_in c.args.run) c.observe_in.ensures.beside)) (is_in c.args.run)) c.self.view_is
-    (states-beside x new (is_in c.args.run) c.observe_in.ensures.beside c.observe_in.ensures.whole)
+    subst (λ (seen : Managed). AreBeside seen.state (state_of (read x new (is_in c.args.front.pages) c.observe_in.ensures.beside)) (is_in c.args.front.pages)) c.self.view_is
+    (states-beside x new (is_in c.args.front.pages) c.observe_in.ensures.beside c.observe_in.ensures.whole)
 
 pub returns-clause-ram : goal.returns-clause-ram
 returns-clause-ram g c =
-    subst (λ (seen : Managed). IsBeside seen.ram (g.M.PhysMem.ram c.observe_in.new.ram) (is_in c.args.run)) c.self.view_is
+    subst (λ (seen : Managed). IsBeside seen.ram (g.M.PhysMem.ram c.observe_in.new.ram) (is_in c.args.front.pages)) c.self.view_is
     c.observe_in.ensures.beside
 
 pub returns-clause-step : goal.returns-clause-step
 returns-clause-step g c =
     let new = c.observe_in.new.ram in
     subst
-    (λ (seen : Managed). One seen.past (g.M.PhysMem.past new) (λ s. IsReading seen.ram (g.M.PhysMem.ram new) c.args.run.first.0 c.args.run.count true s))
+    (λ (seen : Managed). One seen.past (g.M.PhysMem.past new) (λ s. IsReading seen.ram (g.M.PhysMem.ram new) c.args.front.pages.first.0 c.args.front.pages.count true s))
     c.self.view_is c.observe_in.ensures.steps
 
-pub returns-clause-kept : goal.returns-clause-kept
-returns-clause-kept g c = λ alone.
+pub returns-clause-same : goal.returns-clause-same
+returns-clause-same g c = λ alone.
     let x = parts_of g.M.PhysMem.ram g.S.Records.Home.value c.self.inside in
     let new = g.M.PhysMem.ram c.observe_in.new.ram in
-    subst (λ (seen : Managed). state_of (read x new (is_in c.args.run) c.observe_in.ensures.beside) ≡ seen.state) c.self.view_is
-    (ap (λ (r : Ram). state_of (record x { ram = r })) (c.observe_in.ensures.kept alone))
+    subst (λ (seen : Managed). HaveInFront c.args.front.pages c.args.front.bytes seen.state (state_of (read x new (is_in c.args.front.pages) c.observe_in.ensures.beside))) c.self.view_is
+    (λ p at.
+    first-same x new (is_in c.args.front.pages) c.observe_in.ensures.beside c.args.front.bytes c.args.front.pages.first.0 p
+    (c.observe_in.ensures.same alone p at))
 
 pub returns-clause-moments : goal.returns-clause-moments
 returns-clause-moments g c =
@@ -57,6 +59,6 @@ returns-clause-moments g c =
     let new = g.M.PhysMem.ram c.observe_in.new.ram in
     let later = g.M.PhysMem.past c.observe_in.new.ram in
     subst (λ (seen : Managed). AreMoments seen.state seen.ram new seen.past later) c.self.view_is
-    (reading-moments x c.self.invariant new (is_in c.args.run) c.observe_in.ensures.beside
+    (reading-moments x c.self.invariant new (is_in c.args.front.pages) c.observe_in.ensures.beside
     (λ p its. by-manifest x c.self.invariant p (subst (λ (seen : Managed). IsNoTable seen.state p) (sym c.self.view_is) (c.requires.aside p its)))
-    _ later c.args.run.first.0 c.args.run.count true (g.met.M.PhysMem.in_turn c.observe_in.new.ram) c.observe_in.ensures.steps)
+    _ later c.args.front.pages.first.0 c.args.front.pages.count true (g.met.M.PhysMem.in_turn c.observe_in.new.ram) c.observe_in.ensures.steps)

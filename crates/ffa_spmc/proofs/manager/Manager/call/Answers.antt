@@ -7,7 +7,7 @@ use Rattle.ffa_spmc.specs.Served.{IsSilent}
 use Rattle.ffa_spmc.proofs.manager.Manager.call.Goals as goal
 
 pub reply-reply-requires : goal.reply-reply-requires
-reply-reply-requires g c = ap passes_no_error c.decode.ensures ∙ decode-named c.args.x
+reply-reply-requires g c = ap passes_no_error c.decode_into.ensures ∙ decode-named c.args.x.now
 
 pub returns-clause-changed : goal.returns-clause-changed
-returns-clause-changed g c = let a = c.reply-reply.ensures in (a.changed, a.forgotten, a.told, λ other. subst (λ (b : Bool). IsSilent b a.changed) (ap is_memory_call c.decode.ensures ∙ other) a.silent)
+returns-clause-changed g c = let a = c.reply-reply.ensures in (a.changed, a.forgotten, a.told, λ other. subst (λ (b : Bool). IsSilent b a.changed) (ap is_memory_call c.decode_into.ensures ∙ other) a.silent)

@@ -1,16 +1,13 @@
 -- SPDX-License-Identifier: MIT OR Apache-2.0
-use Rattle.std.proofs.Common.{◌≡◌, None, false, ℕ, ◌∙◌, ◌+◌, ◌≤◌, length, refl, sym, subst}
+use Rattle.std.proofs.Common.{ℕ, ◌+◌, ◌≤◌, length, refl, sym, subst}
 use Rattle.std.specs.Prelude.{IsSome}
 use Rattle.ffa_model.specs.declared.limits.TheConstants.{MOST_BUFFER_PAGES}
-use Rattle.ffa_model.specs.declared.operation.Op.{Op}
-use Rattle.ffa_model.specs.State.{buffers_of, page_at}
-use Rattle.ffa_spmc.specs.Among.{pages_read, reads_tx}
+use Rattle.ffa_model.specs.State.{page_at}
 use Rattle.ffa_spmc.specs.Managed.{Managed}
 use Rattle.ffa_spmc.specs.Unowned.{IsNoTable}
 use Rattle.ffa_spmc.proofs.Inside.{parts_of}
-use Rattle.ffa_spmc.proofs.Readers.{front-none, reads-none}
 use Rattle.ffa_spmc.proofs.Readings.{front-aside, front-few, front-owned, front-within}
-use Rattle.ffa_spmc.proofs.manager.Manager.pages_read.Goals as goal
+use Rattle.ffa_spmc.proofs.manager.Manager.front_of_tx.Goals as goal
 
 pub returns-clause-within : goal.returns-clause-within
 returns-clause-within g c =
@@ -39,10 +36,3 @@ returns-clause-owned g c = λ p its.
     subst (λ (seen : Managed). IsSome (page_at seen.state p)) c.self.view_is
     (front-owned x c.self.invariant c.runner.result.0 c.bytes_read-bytes.result c.runner.ensures.runner _ (sym c.in_ok-mapped.ensures)
     (record { first = c.in_ok-mapped.mapped.tx; count = c.pages_holding-count.result }) refl c.pages_holding-count.ensures p its)
-
-pub returns-then-not-reads_tx-clause-pages : goal.returns-then-not-reads_tx-clause-pages
-returns-then-not-reads_tx-clause-pages g c =
-    let s = c.args.self.now.state in
-    subst (λ (o : Op). None ≡ pages_read s o) (sym c.in-Call.is)
-    (front-none (buffers_of s s.runner) _ (reads-none _ (subst (λ (n : ℕ). reads_tx n ≡ false) c.low.ensures
-    (sym c.reads_tx.ensures ∙ c.if-not-reads_tx.true))))
