@@ -41,7 +41,7 @@ extern "C" {
 
 /* The number of these declarations, raised by each change that a caller has to know of. Who loads the library while a
  * program runs compares it with gorseplumb_declarations, which answers the number that the library was built by. */
-#define GORSEPLUMB_DECLARATIONS 5
+#define GORSEPLUMB_DECLARATIONS 6
 
 uint32_t gorseplumb_declarations(void);
 
@@ -617,6 +617,17 @@ enum gorseplumb_about {
     GORSEPLUMB_ABOUT_FIELD = 6     /* the field of a descriptor that breaks `flaw`: `size` bytes from `first` on, which have `value` */
 };
 
+/* The run state of an endpoint that is to wait. */
+enum gorseplumb_state {
+    GORSEPLUMB_STATE_NONE = 0,          /* nothing is told */
+    GORSEPLUMB_STATE_RUNNING = 1,       /* it runs */
+    GORSEPLUMB_STATE_WAITING = 2,       /* it waits */
+    GORSEPLUMB_STATE_YIELDED = 3,       /* it has yielded */
+    GORSEPLUMB_STATE_BLOCKED = 4,       /* it is blocked, by its own direct request to `awaits` where that isn't 0 */
+    GORSEPLUMB_STATE_PREEMPTED = 5,     /* an interrupt preempted it */
+    GORSEPLUMB_STATE_RUNS_ELSEWHERE = 6 /* it runs on another processor */
+};
+
 /* What stands in the way at an address that the runner's tables don't map, or at a page. */
 enum gorseplumb_obstacle {
     GORSEPLUMB_OBSTACLE_NONE = 0,          /* nothing is told: also of an address from 100000000 on, and of the runner's own page in no open transaction */
@@ -641,6 +652,8 @@ struct gorseplumb_reason {
     uint32_t flaw;        /* GORSEPLUMB_ABOUT_FIELD: an enum gorseplumb_flaw */
     uint32_t index;       /* GORSEPLUMB_ABOUT_FIELD, of an access descriptor or a range: which, counted from 0 */
     uint32_t has_value;   /* 1 with GORSEPLUMB_ABOUT_REGISTER, and where the field has 1, 2, 4 or 8 bytes that are all there */
+    uint32_t state;       /* GORSEPLUMB_ABOUT_ENDPOINT, where it is to wait: an enum gorseplumb_state */
+    uint32_t awaits;      /* GORSEPLUMB_STATE_BLOCKED: whose answer it awaits, by the identifier, or 0 */
     uint64_t handle;      /* GORSEPLUMB_ABOUT_HANDLE */
     uint64_t transaction; /* GORSEPLUMB_OBSTACLE_IN_TRANSACTION */
     uint64_t value;       /* where has_value is 1 */

@@ -105,6 +105,35 @@ static inline void gorseplumb_put_field(struct gorseplumb_text *text, const stru
     gorseplumb_put_hex(text, 2 * reason->size, reason->value);
 }
 
+/* The run state of an endpoint that is to wait, behind the endpoint. */
+static inline void gorseplumb_put_state(struct gorseplumb_text *text, const struct gorseplumb_reason *reason) {
+    switch (reason->state) {
+    case GORSEPLUMB_STATE_RUNNING:
+        gorseplumb_put(text, ", which is running");
+        break;
+    case GORSEPLUMB_STATE_WAITING:
+        gorseplumb_put(text, ", which is waiting");
+        break;
+    case GORSEPLUMB_STATE_YIELDED:
+        gorseplumb_put(text, ", which has yielded");
+        break;
+    case GORSEPLUMB_STATE_BLOCKED:
+        gorseplumb_put(text, ", which is blocked");
+        break;
+    case GORSEPLUMB_STATE_PREEMPTED:
+        gorseplumb_put(text, ", which is preempted");
+        break;
+    case GORSEPLUMB_STATE_RUNS_ELSEWHERE:
+        gorseplumb_put(text, ", which is running on another processor");
+        break;
+    default:
+        break;
+    }
+    if (reason->awaits == 0) return;
+    gorseplumb_put(text, " by its direct request to ");
+    gorseplumb_put_hex(text, 4, reason->awaits);
+}
+
 /* What a check is about, behind its words. */
 static inline void gorseplumb_put_about(struct gorseplumb_text *text, const struct gorseplumb_machine *machine,
                                         uint32_t function, const struct gorseplumb_reason *reason) {
@@ -117,6 +146,7 @@ static inline void gorseplumb_put_about(struct gorseplumb_text *text, const stru
     case GORSEPLUMB_ABOUT_ENDPOINT:
         gorseplumb_put(text, "endpoint ");
         gorseplumb_put_hex(text, 4, reason->endpoint);
+        gorseplumb_put_state(text, reason);
         break;
     case GORSEPLUMB_ABOUT_HANDLE:
         gorseplumb_put(text, "handle ");

@@ -221,6 +221,24 @@ static void descriptors(void) {
     done(FFA_SUCCESS, CALL(FFA_MEM_RECLAIM, 1));
 }
 
+/* 8001 yields to the normal world, which asks it, and then it asks 8002, which asks it. */
+static void run_states(void) {
+    done(FFA_RUN, CALL(FFA_RUN, 0x80010000));
+    done(FFA_YIELD, CALL(FFA_YIELD));
+    refuses(CALL(FFA_MSG_SEND_DIRECT_REQ, 0x8001), REASON(RECEIVER_NOT_WAITING, -4, .about = GORSEPLUMB_ABOUT_ENDPOINT,
+                                                          .endpoint = 0x8001, .state = GORSEPLUMB_STATE_YIELDED));
+    done(FFA_SUCCESS, CALL(FFA_RUN, 0x80010000));
+    done(FFA_MSG_SEND_DIRECT_REQ, CALL(FFA_MSG_SEND_DIRECT_REQ, 0x80018002));
+    refuses(CALL(FFA_MSG_SEND_DIRECT_REQ, 0x80028001),
+            REASON(RECEIVER_NOT_WAITING, -4, .about = GORSEPLUMB_ABOUT_ENDPOINT, .endpoint = 0x8001,
+                   .state = GORSEPLUMB_STATE_BLOCKED, .awaits = 0x8002));
+    LINE("FFA_MSG_SEND_DIRECT_REQ check 8: the receiver does not wait: endpoint 8001, "
+         "which is blocked by its direct request to 8002",
+         call, &CALL(FFA_MSG_SEND_DIRECT_REQ, 0x80028001));
+    done(FFA_MSG_SEND_DIRECT_RESP, CALL(FFA_MSG_SEND_DIRECT_RESP, 0x80028001));
+    done(FFA_MSG_WAIT, CALL(FFA_MSG_WAIT));
+}
+
 static void without_a_machine(void) {
     struct gorseplumb_machine none = {0};
     struct gorseplumb_reason reason = marked();
@@ -312,7 +330,7 @@ static void check_numbers(void) {
 
 int main(void) {
     struct gorseplumb_lent untouched = {0};
-    CHECK(sizeof(struct gorseplumb_reason) == 12 * sizeof(uint32_t) + 5 * sizeof(uint64_t));
+    CHECK(sizeof(struct gorseplumb_reason) == 14 * sizeof(uint32_t) + 5 * sizeof(uint64_t));
     without_a_machine();
     reads_alone();
     boots = true;
@@ -322,6 +340,7 @@ int main(void) {
     lines();
     calls();
     descriptors();
+    run_states();
     CHECK(gorseplumb_free(&machine, &untouched) == GORSEPLUMB_OK);
     names();
     check_numbers();

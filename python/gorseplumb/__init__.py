@@ -10,6 +10,7 @@ from .batch import Batch, Outcomes
 from .checks import Check, Flaw
 from .codes import MANAGER, NORMAL_WORLD, PAGE_SIZE
 from .codes import About, Cause, ErrorCode, Fault, Form, Function, GrantKind, Kind, Obstacle, Properties, Right
+from .codes import RunState
 from .descriptors import DataAccess, InstructionAccess, Offer, PageRange, Receiver
 from .descriptors import Relinquish, Retrieve, RetrieveResponse
 from .errors import (
@@ -143,6 +144,7 @@ __all__ = [
     "Retry",
     "Right",
     "Run",
+    "RunState",
     "Store",
     "Subject",
     "TraceRecording",

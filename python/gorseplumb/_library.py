@@ -13,7 +13,7 @@ from typing import Any, Callable
 
 from .errors import LibraryError
 
-DECLARATIONS = 5
+DECLARATIONS = 6
 """The number of the declarations that this file has."""
 
 MOST_REGIONS = 16
@@ -122,6 +122,8 @@ class Reason(Structure):
         ("flaw", c_uint32),
         ("index", c_uint32),
         ("has_value", c_uint32),
+        ("state", c_uint32),
+        ("awaits", c_uint32),
         ("handle", c_uint64),
         ("transaction", c_uint64),
         ("value", c_uint64),

@@ -231,6 +231,18 @@ class About(IntEnum):
     FIELD = 6
 
 
+class RunState(IntEnum):
+    """What an endpoint does that is to wait (DEN0077A, 8.2)."""
+
+    NONE = 0
+    RUNNING = 1
+    WAITING = 2
+    YIELDED = 3
+    BLOCKED = 4
+    PREEMPTED = 5
+    RUNS_ELSEWHERE = 6
+
+
 class Obstacle(IntEnum):
     """What stands in the way at a page."""
 

@@ -11,7 +11,7 @@ from ._library import library
 from .access import AccessMap, Run, raw_runs, run_of_raw
 from .checks import Check, Flaw
 from .codes import BLOCK_SIZE, MANAGER, PAGE_SIZE, PAGES_OF_BLOCK
-from .codes import About, Answer, ErrorCode, Fault, GrantKind, Obstacle, Right
+from .codes import About, Answer, ErrorCode, Fault, GrantKind, Obstacle, Right, RunState
 from .errors import MachineEnded, NoSuchEndpoint, NoSuchPage, NoSuchProcessor, OutOfMemory
 from .hexadecimal import by_fields
 from .misuse import check_number, refuse
@@ -239,7 +239,10 @@ class Questions:
         flaw = Flaw(raw.flaw) if raw.flaw else None
         value = raw.value if raw.has_value else None
         number = raw.index if about is About.FIELD else raw.number
-        return Subject(about, address, raw.endpoint, raw.handle, number, flaw, value, raw.first, raw.size)
+        state = RunState(raw.state)
+        return Subject(
+            about, address, raw.endpoint, state, raw.awaits, raw.handle, number, flaw, value, raw.first, raw.size
+        )
 
     def _some(self, number: int) -> int:
         if number == c.NOTHING:

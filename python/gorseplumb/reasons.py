@@ -5,7 +5,7 @@ from __future__ import annotations
 from dataclasses import dataclass, field
 
 from .checks import Check, Flaw
-from .codes import MANAGER, About, ErrorCode, Fault, Function, Obstacle
+from .codes import MANAGER, About, ErrorCode, Fault, Function, Obstacle, RunState
 from .errors import call_name, flaw_text
 from .hexadecimal import DECIMAL, address_text, by_fields, short_text
 from .outcomes import Call, Fetch, Load, Operation, Store
@@ -40,6 +40,10 @@ class Subject:
     address: int = 0
     """PAGE: of its first byte"""
     endpoint: int = 0
+    state: RunState = RunState.NONE
+    """ENDPOINT: what it does, where it is to wait"""
+    awaits: int = 0
+    """BLOCKED: whose answer it awaits, where it sent a direct request; else 0"""
     handle: int = 0
     number: int = 0
     """REGISTER: which; BIT: which; FIELD: the index of the access descriptor or of the range"""
@@ -94,7 +98,7 @@ def _subject_text(call: Call, reason: Reason) -> str:
     if it.about is About.PAGE:
         return f"{address_text(it.address)} {reason.hindrance}".rstrip()
     if it.about is About.ENDPOINT:
-        return f"endpoint {it.endpoint:04X}"
+        return f"endpoint {it.endpoint:04X}{_state_text(it)}"
     if it.about is About.HANDLE:
         return f"handle {it.handle:016X}"
     if it.about is About.REGISTER:
@@ -103,6 +107,19 @@ def _subject_text(call: Call, reason: Reason) -> str:
     if it.about is About.BIT:
         return f"bit {short_text(it.number)}"
     return _field_text(it) if it.about is About.FIELD else ""
+
+
+def _state_text(it: Subject) -> str:
+    words = {
+        RunState.NONE: "",
+        RunState.RUNNING: ", which is running",
+        RunState.WAITING: ", which is waiting",
+        RunState.YIELDED: ", which has yielded",
+        RunState.BLOCKED: ", which is blocked",
+        RunState.PREEMPTED: ", which is preempted",
+        RunState.RUNS_ELSEWHERE: ", which is running on another processor",
+    }[it.state]
+    return words + (f" by its direct request to {it.awaits:04X}" if it.awaits else "")
 
 
 def _field_text(it: Subject) -> str:

@@ -11,7 +11,7 @@ from enum import IntEnum
 from conftest import TOP
 
 import gorseplumb
-from gorseplumb import About, Cause, Check, ErrorCode, Fault, Flaw, Form, Function, GrantKind, Obstacle, Right
+from gorseplumb import About, Cause, Check, ErrorCode, Fault, Flaw, Form, Function, GrantKind, Obstacle, Right, RunState
 from gorseplumb import _library as c
 from gorseplumb._library import library
 from gorseplumb.codes import Answer
@@ -61,6 +61,7 @@ def test_numbers_are_those_of_the_header() -> None:
         "MANIFEST_": Cause,
         "FAULT_": Fault,
         "ABOUT_": About,
+        "STATE_": RunState,
         "OBSTACLE_": Obstacle,
         "GRANT_": GrantKind,
     }

@@ -10,7 +10,7 @@ from conftest import EXAMPLES, Program
 from gorseplumb import About, AccessFault, Call, Check, DataAccess, Denied, ErrorCode, Fault, Fetch, Flaw, Form
 from gorseplumb import Function, Hindrance, InstructionAccess, InvalidParameters, Kind, Load, Machine
 from gorseplumb import MalformedDescriptor, Obstacle, Offer, Operation, PageRange, Reason, Receiver, Relinquish
-from gorseplumb import Retrieve, Store, Subject, play
+from gorseplumb import Retrieve, RunState, Store, Subject, play
 from gorseplumb.errors import call_refused
 
 NOBODY = Hindrance(Obstacle.NONE)
@@ -51,6 +51,9 @@ def test_has_the_programs_words() -> None:
     assert refused(lend, Check.BITS_TAKEN, 7, bit).endswith(": bit 12")
     endpoint = Subject(About.ENDPOINT, endpoint=0x8003)
     assert refused(lend, Check.RECEIVER_UNKNOWN, 8, endpoint).endswith(": endpoint 8003")
+    asked = Subject(About.ENDPOINT, endpoint=0x8001, state=RunState.BLOCKED, awaits=0x8002)
+    told = ": the receiver does not wait: endpoint 8001, which is blocked by its direct request to 8002"
+    assert refused(lend, Check.RECEIVER_NOT_WAITING, 8, asked).endswith(told)
     nothing = refused(lend, Check.BUFFERS_MISSING, 1, Subject(About.NOTHING))
     assert nothing == "FFA_MEM_LEND check 1: the caller has no RX and TX"
 

@@ -167,7 +167,7 @@ pub use names::{call_name, declarations};
 pub use operation::{registers, Answer, Registers, Size};
 pub use processors::{Effect, Processor};
 pub use ram::{Heap, Lent, Page, Ram, PAGE_SIZE};
-pub use reasons::{About, AccessReason, CallReason, Obstacle};
+pub use reasons::{About, AccessReason, CallReason, Obstacle, RunState};
 pub use refusal::Refusal;
 pub use sending::{Descriptor, SendError};
 #[doc(hidden)]

@@ -8,7 +8,7 @@
 use core::ffi::c_void;
 
 /// The number of the declarations that stand here.
-pub const DECLARATIONS: u32 = 5;
+pub const DECLARATIONS: u32 = 6;
 
 /// What a question answers where there is nothing to tell.
 pub const NOTHING: u32 = u32::MAX;
@@ -200,6 +200,14 @@ pub const ABOUT_REGISTER: u32 = 4;
 pub const ABOUT_BIT: u32 = 5;
 pub const ABOUT_FIELD: u32 = 6;
 
+pub const STATE_NONE: u32 = 0;
+pub const STATE_RUNNING: u32 = 1;
+pub const STATE_WAITING: u32 = 2;
+pub const STATE_YIELDED: u32 = 3;
+pub const STATE_BLOCKED: u32 = 4;
+pub const STATE_PREEMPTED: u32 = 5;
+pub const STATE_RUNS_ELSEWHERE: u32 = 6;
+
 pub const OBSTACLE_NONE: u32 = 0;
 pub const OBSTACLE_OUTSIDE_RAM: u32 = 1;
 pub const OBSTACLE_MANAGERS_PAGE: u32 = 2;
@@ -221,6 +229,8 @@ pub struct Reason {
     pub flaw: u32,
     pub index: u32,
     pub has_value: u32,
+    pub state: u32,
+    pub awaits: u32,
     pub handle: u64,
     pub transaction: u64,
     pub value: u64,

@@ -18,6 +18,28 @@ pub struct CallReason {
     pub error: ErrorCode,
     /// What the check is about, where more is to be told than its words.
     pub about: Option<About>,
+    /// The run state of the endpoint that the check is about, where that is to wait.
+    pub state: Option<RunState>,
+}
+
+/// What an endpoint does (DEN0077A, 8.2).
+#[derive(Clone, Copy, Debug, PartialEq, Eq, Hash)]
+pub enum RunState {
+    /// It runs.
+    Running,
+    /// It waits.
+    Waiting,
+    /// It has yielded.
+    Yielded,
+    /// It is blocked.
+    Blocked {
+        /// Whose answer it awaits, where it sent a direct request.
+        awaits: Option<Id>,
+    },
+    /// An interrupt preempted it.
+    Preempted,
+    /// It runs on another processor.
+    RunsElsewhere,
 }
 
 /// Why an access is refused.
@@ -130,6 +152,22 @@ impl fmt::Display for Obstacle {
     }
 }
 
+impl fmt::Display for RunState {
+    fn fmt(&self, to: &mut fmt::Formatter<'_>) -> fmt::Result {
+        match self {
+            RunState::Running => to.write_str("is running"),
+            RunState::Waiting => to.write_str("is waiting"),
+            RunState::Yielded => to.write_str("has yielded"),
+            RunState::Blocked { awaits: None } => to.write_str("is blocked"),
+            RunState::Blocked { awaits: Some(receiver) } => {
+                write!(to, "is blocked by its direct request to {receiver}")
+            }
+            RunState::Preempted => to.write_str("is preempted"),
+            RunState::RunsElsewhere => to.write_str("is running on another processor"),
+        }
+    }
+}
+
 impl fmt::Display for About {
     fn fmt(&self, to: &mut fmt::Formatter<'_>) -> fmt::Result {
         match self {
@@ -144,11 +182,12 @@ impl fmt::Display for About {
     }
 }
 
-/// The check's words, and what it is about.
+/// The check's words, what it is about, and the run state of that.
 impl fmt::Display for CallReason {
     fn fmt(&self, to: &mut fmt::Formatter<'_>) -> fmt::Result {
         self.check.fmt(to)?;
-        self.about.map_or(Ok(()), |about| write!(to, ": {about}"))
+        self.about.map_or(Ok(()), |about| write!(to, ": {about}"))?;
+        self.state.map_or(Ok(()), |state| write!(to, ", which {state}"))
     }
 }
 
@@ -185,6 +224,7 @@ impl CallReason {
             check: known(Check::of(told.check)),
             error: known(ErrorCode::of(told.error)),
             about: About::of(told),
+            state: RunState::of(told),
         }
     }
 }
@@ -210,6 +250,21 @@ impl About {
             }
             _ => return None,
         })
+    }
+}
+
+impl RunState {
+    fn of(told: &raw::Reason) -> Option<RunState> {
+        let awaits = (told.awaits != 0).then_some(Id(told.awaits as u16));
+        match told.state {
+            raw::STATE_RUNNING => Some(RunState::Running),
+            raw::STATE_WAITING => Some(RunState::Waiting),
+            raw::STATE_YIELDED => Some(RunState::Yielded),
+            raw::STATE_BLOCKED => Some(RunState::Blocked { awaits }),
+            raw::STATE_PREEMPTED => Some(RunState::Preempted),
+            raw::STATE_RUNS_ELSEWHERE => Some(RunState::RunsElsewhere),
+            _ => None,
+        }
     }
 }
 

@@ -65,12 +65,13 @@ fn questions() -> Vec<(String, i64)> {
     let mut rows = fields!(Grant, "grant", kind handle);
     rows.extend(fields!(CertRun, "cert_run", first last owner has_handle handle access));
     rows.extend(fields!(Reason, "reason", fault check error about obstacle page endpoint owner number flaw));
-    rows.extend(fields!(Reason, "reason", index has_value handle transaction value first size));
+    rows.extend(fields!(Reason, "reason", index has_value state awaits handle transaction value first size));
     rows.extend(fields!(Operation, "operation", kind size address value x));
     rows.extend(numbers!(NOT_CERTIFIED LENT BAD_BASE BAD_ROOTS DECLARATIONS));
     rows.extend(numbers!(GRANT_NONE GRANT_OWN GRANT_SHARED GRANT_HELD));
     rows.extend(numbers!(ABOUT_NOTHING ABOUT_PAGE ABOUT_ENDPOINT ABOUT_HANDLE ABOUT_REGISTER ABOUT_BIT ABOUT_FIELD));
-    rows.extend(numbers!(OBSTACLE_NONE OBSTACLE_OUTSIDE_RAM OBSTACLE_MANAGERS_PAGE));
+    rows.extend(numbers!(STATE_NONE STATE_RUNNING STATE_WAITING STATE_YIELDED STATE_BLOCKED STATE_PREEMPTED));
+    rows.extend(numbers!(STATE_RUNS_ELSEWHERE OBSTACLE_NONE OBSTACLE_OUTSIDE_RAM OBSTACLE_MANAGERS_PAGE));
     rows.extend(numbers!(OBSTACLE_OWNED_BY OBSTACLE_IN_TRANSACTION));
     rows.extend(numbers!(OPERATION_CALL OPERATION_LOAD OPERATION_STORE OPERATION_FETCH));
     let name = |prefix: &str, variant: &str| {

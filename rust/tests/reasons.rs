@@ -7,7 +7,8 @@ use common::machines::{MACHINE, PARTITIONS};
 use common::refusals::{rows, Row};
 use common::{example, generated, play, play_line, ram, refusals, top};
 use gorseplumb::{
-    call_name, raw, registers, About, CallError, Check, ErrorCode, Fault, Flaw, Function, Id, Machine, Obstacle, Size,
+    call_name, raw, registers, About, CallError, Check, ErrorCode, Fault, Flaw, Function, Id, Machine, Obstacle,
+    RunState, Size,
 };
 use std::ffi::CStr;
 
@@ -95,6 +96,23 @@ fn what_checks_are_about() {
         Some(About::Field { flaw: Flaw::AccessPermissions, index: 0, first: 50, size: 1, value: Some(0xF) })
     );
     assert_eq!(about("", "call 8400006B"), None);
+}
+
+/// What an endpoint does that is to wait.
+#[test]
+fn run_states() {
+    let mut machine = Machine::boot(&MACHINE).unwrap();
+    let mut told = |before: &str, line: &str| {
+        play(&mut machine, before);
+        machine.why_call(&given(line)).map(|reason| (reason.about, reason.state)).unwrap()
+    };
+    let partition = Some(About::Endpoint(Id(0x8001)));
+    assert_eq!(told("", "call 8400006F 8003"), (Some(About::Endpoint(Id(0x8003))), None));
+    let yielded = "call 8400006D 80010000\ncall 8400006C\n";
+    assert_eq!(told(yielded, "call 8400006F 8001"), (partition, Some(RunState::Yielded)));
+    let asks = "call 8400006D 80010000\ncall 8400006F 80018002\n";
+    let blocked = RunState::Blocked { awaits: Some(Id(0x8002)) };
+    assert_eq!(told(asks, "call 8400006F 80028001"), (partition, Some(blocked)));
 }
 
 #[test]

@@ -6,7 +6,7 @@ use common::machines::MACHINE;
 use common::play;
 use gorseplumb::{registers, About, Check, ErrorCode, Flaw, Grant, Id, Machine, Obstacle, Operation, Outcome, Range};
 use gorseplumb::{
-    AccessReason, CallReason, Endpoint, Fault, Manifest, Properties, Region, Rights, Settling, Size, Version,
+    AccessReason, CallReason, Endpoint, Fault, Manifest, Properties, Region, Rights, RunState, Settling, Size, Version,
 };
 use gorseplumb::{Kind, Offer, PageRange, Receiver, Relinquish, Retrieve, RetrieveResponse};
 
@@ -80,10 +80,16 @@ fn manifests() {
 fn reasons() {
     let about = About::Register { number: 2, value: 0x4001_0000 };
     shows(
-        CallReason { check: Check::BuffersOverlap, error: ErrorCode::InvalidParameters, about: Some(about) },
+        CallReason {
+            check: Check::BuffersOverlap,
+            error: ErrorCode::InvalidParameters,
+            about: Some(about),
+            state: None,
+        },
         "CallReason { check: BuffersOverlap, error: InvalidParameters, \
-         about: Some(Register { number: 2, value: 0x40010000 }) }",
+         about: Some(Register { number: 2, value: 0x40010000 }), state: None }",
     );
+    shows(RunState::Blocked { awaits: Some(Id(0x8002)) }, "Blocked { awaits: Some(Id(0x8002)) }");
     let obstacle = Some(Obstacle::InTransaction(0x1_0000));
     let reason = AccessReason { address: 0x4001_0000, fault: Fault::Translation, obstacle };
     let held = "InTransaction(0x10000)";

@@ -2,7 +2,7 @@
 -- What C is told of why an operation is refused.
 use Rattle.std.specs.Prelude.{ℕ, ◌+◌, pos, Bool, false, Option, None, Some}
 use Rattle.std.specs.Int.{cast_signed, w32}
-use Rattle.std.specs.Option.{option_map}
+use Rattle.std.specs.Option.{option_and_then, option_map}
 use denote.Enum.Declared.{tag_of}
 use Rattle.ffa_model.specs.Calls.{code_number}
 use Rattle.ffa_model.specs.RefusalCodes.{code_of}
@@ -17,18 +17,24 @@ use Rattle.ffa_model.specs.contracts.flaw.RelinquishFlaw as relinquish_flaw
 use Rattle.ffa_model.specs.contracts.flaw.RetrieveFlaw as retrieve_flaw
 use Rattle.ffa_model.specs.contracts.flaw.SendFlaw as send_flaw
 use Rattle.ffa_model.specs.contracts.refusal.Refusal as refusals
+use Rattle.ffa_model.specs.declared.endpoint.EndpointId.{EndpointId}
 use Rattle.ffa_model.specs.declared.flaw.FieldPlace.{FieldPlace}
 use Rattle.ffa_model.specs.declared.flaw.Flaw.{Flaw}
 use Rattle.ffa_model.specs.declared.flaw.Flaw.TheVariants.{Header, Send, Access, Composite, Range, Retrieve, Relinquish}
 use Rattle.ffa_model.specs.declared.operation.Op.{Op}
 use Rattle.ffa_model.specs.declared.operation.Size.{Size}
 use Rattle.ffa_model.specs.declared.refusal.Refusal.{Refusal}
+use Rattle.ffa_model.specs.declared.schedule.Status.{Status}
+use Rattle.ffa_model.specs.declared.schedule.Status.TheVariants.{Running, Waiting, Yielded, Blocked, Preempted, RunsElsewhere}
 use Rattle.ffa_model.specs.declared.why.About.{About}
 use Rattle.ffa_model.specs.declared.why.About.TheVariants.{Page, Endpoint, Handle, Register, Bit, Field}
 use Rattle.ffa_model.specs.declared.why.Obstacle.{Obstacle}
 use Rattle.ffa_model.specs.declared.why.Obstacle.TheVariants.{OutsideRam, ManagersPage, OwnedBy, InTransaction}
 use Rattle.ffa_model.specs.declared.why.Why.{Why}
 use Rattle.ffa_model.specs.declared.why.Why.TheVariants.{Refused, Fault}
+use Rattle.ffa_playable.specs.declared.detail.Standing.{Standing}
+use Rattle.ffa_playable.specs.declared.detail.Standing.TheVariants.{RunState}
+use Rattle.ffa_playable.specs.Standing.{standing}
 use Rattle.ffa_c.specs.Boarded.{Boarded}
 use Rattle.ffa_c.specs.Border.{fault_number, size_at}
 use Rattle.ffa_c.specs.declared.reason.CReason.{CReason}
@@ -64,6 +70,8 @@ no_reason =
       flaw = 0;
       index = 0;
       has_value = 0;
+      state = 0;
+      awaits = 0;
       handle = 0;
       transaction = 0;
       value = 0;
@@ -126,6 +134,35 @@ check_told refusal =
     record no_reason { check = check_number refusal; error = cast_signed w32 (code_number (code_of refusal)) }
 
 -- why an operation is refused: what is not told is 0
-abbrev pub reason_told : Why → CReason
-reason_told (Refused refusal about) = about_told about (check_told refusal)
-reason_told (Fault kind obstacle) = obstacle_told obstacle (record no_reason { fault = fault_number kind })
+abbrev pub refused_told : Why → CReason
+refused_told (Refused refusal about) = about_told about (check_told refusal)
+refused_told (Fault kind obstacle) = obstacle_told obstacle (record no_reason { fault = fault_number kind })
+
+-- the number of a run state
+abbrev pub state_number : Status → ℕ
+state_number Running = 1
+state_number Waiting = 2
+state_number Yielded = 3
+state_number Blocked = 4
+state_number Preempted = 5
+state_number RunsElsewhere = 6
+
+-- whose answer an endpoint awaits: the normal world's never, since it gets no requests
+abbrev pub awaited_told : Option EndpointId → CReason → CReason
+awaited_told None r = r
+awaited_told (Some e) r = record r { awaits = e.0 }
+
+-- how that stands which a check is about
+abbrev pub standing_told : Option Standing → CReason → CReason
+standing_told None r = r
+standing_told (Some (RunState status awaits)) r = awaited_told awaits (record r { state = state_number status })
+
+abbrev pub reason_told : Why → Option Standing → CReason
+reason_told why its = standing_told its (refused_told why)
+
+-- in the state of the machine, if there is one
+abbrev pub standing_held : Option Boarded → Why → Option Standing
+standing_held held why = option_and_then (λ (b : Boarded). standing b.machine.state why) held
+
+abbrev pub reason_held : Option Boarded → Why → CReason
+reason_held held why = reason_told why (standing_held held why)

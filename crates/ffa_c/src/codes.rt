@@ -3,7 +3,7 @@
 //! which a call answers in its registers.
 
 /// The number of the header's declarations, raised by each change that a caller has to know of.
-pub const DECLARATIONS: u32 = 5;
+pub const DECLARATIONS: u32 = 6;
 
 /// It was done.
 pub const OK: u32 = 0;
@@ -160,6 +160,27 @@ pub const ABOUT_BIT: u32 = 5;
 
 /// Of a reason: a field of a descriptor.
 pub const ABOUT_FIELD: u32 = 6;
+
+/// Of a reason: no run state is told.
+pub const STATE_NONE: u32 = 0;
+
+/// Of a reason: the endpoint runs.
+pub const STATE_RUNNING: u32 = 1;
+
+/// Of a reason: the endpoint waits.
+pub const STATE_WAITING: u32 = 2;
+
+/// Of a reason: the endpoint has yielded.
+pub const STATE_YIELDED: u32 = 3;
+
+/// Of a reason: the endpoint is blocked.
+pub const STATE_BLOCKED: u32 = 4;
+
+/// Of a reason: an interrupt preempted the endpoint.
+pub const STATE_PREEMPTED: u32 = 5;
+
+/// Of a reason: the endpoint runs on another processor.
+pub const STATE_RUNS_ELSEWHERE: u32 = 6;
 
 /// Of a reason: nothing is told to stand in the way.
 pub const OBSTACLE_NONE: u32 = 0;

@@ -4,15 +4,17 @@ ghost use Rattle.std.specs.Prelude.{◌≡◌, IfSome, false, is_some};
 ghost use Rattle.std.specs.Int.{cast_signed, w32};
 ghost use Rattle.ffa_model.specs.Calls.{code_number};
 ghost use Rattle.ffa_c.specs.Border.{fault_number};
-ghost use Rattle.ffa_c.specs.Why.{about_told, check_number, field_told, flaw_number, index_in, no_reason, obstacle_told, reason_told, value_told};
+ghost use Rattle.ffa_c.specs.Why.{about_told, awaited_told, check_number, field_told, flaw_number, index_in, no_reason, obstacle_told, reason_told, standing_told, state_number, value_told};
 
 use crate::codes::{
     ABOUT_BIT, ABOUT_ENDPOINT, ABOUT_FIELD, ABOUT_HANDLE, ABOUT_NOTHING, ABOUT_PAGE,
     ABOUT_REGISTER, OBSTACLE_IN_TRANSACTION, OBSTACLE_MANAGERS_PAGE, OBSTACLE_NONE,
-    OBSTACLE_OUTSIDE_RAM, OBSTACLE_OWNED_BY,
+    OBSTACLE_OUTSIDE_RAM, OBSTACLE_OWNED_BY, STATE_BLOCKED, STATE_NONE, STATE_PREEMPTED,
+    STATE_RUNNING, STATE_RUNS_ELSEWHERE, STATE_WAITING, STATE_YIELDED,
 };
 use crate::outcome::fault_code;
-use ffa_model::{About, ErrorCode, FieldPlace, Flaw, Obstacle, Refusal, Why};
+use ffa_model::{About, EndpointId, ErrorCode, FieldPlace, Flaw, Obstacle, Refusal, Status, Why};
+use ffa_playable::Standing;
 
 /// Why an operation is refused. What its tags don't name is zero.
 #[repr(C)]
@@ -42,6 +44,10 @@ pub struct CReason {
     pub index: u32,
     /// Whether `value` is told: 1 with `ABOUT_REGISTER`, and with `ABOUT_FIELD` where the field's number is.
     pub has_value: u32,
+    /// The run state of `endpoint`, which is to wait, as one of `STATE_NONE` to `STATE_RUNS_ELSEWHERE`.
+    pub state: u32,
+    /// With `STATE_BLOCKED`: the endpoint whose answer to a direct request that one awaits; 0 where it awaits none.
+    pub awaits: u32,
     /// With `ABOUT_HANDLE`: the handle.
     pub handle: u64,
     /// With `OBSTACLE_IN_TRANSACTION`: the open transaction's handle.
@@ -71,6 +77,8 @@ impl CReason {
             flaw: 0,
             index: 0,
             has_value: 0,
+            state: STATE_NONE,
+            awaits: 0,
             handle: 0,
             transaction: 0,
             value: 0,
@@ -79,9 +87,9 @@ impl CReason {
         }
     }
 
-    /// A reason for C.
-    pub fn of(why: &Why) -> CReason
-        ensures { result ≡ reason_told why.now }
+    /// A reason for C, with how that stands which the check is about.
+    pub fn of(why: &Why, standing: Option<Standing>) -> CReason
+        ensures { result ≡ reason_told why.now standing }
     {
         let mut reason = CReason::none();
         match *why {
@@ -95,18 +103,19 @@ impl CReason {
                 reason.tell_obstacle(obstacle);
             }
         }
+        reason.tell_standing(standing);
         reason
     }
 
     /// Takes a reason on, if there is one, and says whether there is.
-    pub fn fill(&mut self, why: Option<Why>) -> bool
+    pub fn fill(&mut self, why: Option<Why>, standing: Option<Standing>) -> bool
         ensures there { result ≡ is_some why }
-        ensures told { IfSome why (λ why. self.new ≡ reason_told why) }
+        ensures told { IfSome why (λ why. self.new ≡ reason_told why standing) }
         ensures kept { result ≡ false → self.new ≡ self.old }
     {
         match why {
             Some(why) => {
-                *self = CReason::of(&why);
+                *self = CReason::of(&why, standing);
                 true
             }
             None => false,
@@ -168,6 +177,28 @@ impl CReason {
         }
     }
 
+    // How that stands which the check is about.
+    fn tell_standing(&mut self, standing: Option<Standing>)
+        ensures { self.new ≡ standing_told standing self.old }
+    {
+        match standing {
+            None => {}
+            Some(Standing::RunState { status, awaits }) => {
+                self.state = state_number(status);
+                self.tell_awaited(awaits);
+            }
+        }
+    }
+
+    // Whose answer the endpoint awaits.
+    fn tell_awaited(&mut self, awaits: Option<EndpointId>)
+        ensures { self.new ≡ awaited_told awaits self.old }
+    {
+        if let Some(receiver) = awaits {
+            self.awaits = u32::from(receiver.0);
+        }
+    }
+
     // The condition that is broken, and where the field stands.
     fn tell_field(&mut self, flaw: Flaw, place: FieldPlace)
         ensures { self.new ≡ field_told flaw place self.old }
@@ -206,6 +237,20 @@ fn error_code(code: ErrorCode) -> i32
         ErrorCode::NoMemory => -3,
         ErrorCode::Busy => -4,
         ErrorCode::Denied => -6,
+    }
+}
+
+// The number of a run state.
+fn state_number(status: Status) -> u32
+    ensures { result ≡ state_number status }
+{
+    match status {
+        Status::Running => STATE_RUNNING,
+        Status::Waiting => STATE_WAITING,
+        Status::Yielded => STATE_YIELDED,
+        Status::Blocked => STATE_BLOCKED,
+        Status::Preempted => STATE_PREEMPTED,
+        Status::RunsElsewhere => STATE_RUNS_ELSEWHERE,
     }
 }
 

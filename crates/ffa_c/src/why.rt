@@ -2,7 +2,7 @@
 //! Why an operation of the runner would be refused now, or was refused just before, for C: a refused operation has
 //! changed nothing.
 ghost use Rattle.std.specs.Prelude.{◌≡◌, IfSome, Some, false, is_some};
-ghost use Rattle.ffa_c.specs.Why.{is_refused, reason_told, sized, why_held};
+ghost use Rattle.ffa_c.specs.Why.{is_refused, reason_held, sized, why_held};
 
 use crate::exports::{CRegisters, size_of};
 use crate::machine::CMachine;
@@ -21,7 +21,7 @@ pub extern "C" fn gorseplumb_why_call(
     ensures refused { result ≡ is_refused machine.old.held.value (Some (Op.Call registers.now.x)) }
     ensures there { result ≡ is_some (why_held machine.old.held.value (Some (Op.Call registers.now.x))) }
     ensures told { let why = why_held machine.old.held.value (Some (Op.Call registers.now.x)) in
-        IfSome why (λ why. reason.new ≡ reason_told why) }
+        IfSome why (λ why. reason.new ≡ reason_held machine.old.held.value why) }
     ensures kept { result ≡ false → reason.new ≡ reason.old }
 {
     tell(machine, Some(Op::Call(registers.x)), reason)
@@ -39,7 +39,7 @@ pub extern "C" fn gorseplumb_why_load(
     ensures refused { result ≡ is_refused machine.old.held.value (sized size (λ s. Op.Load addr s)) }
     ensures there { result ≡ is_some (why_held machine.old.held.value (sized size (λ s. Op.Load addr s))) }
     ensures told { let why = why_held machine.old.held.value (sized size (λ s. Op.Load addr s)) in
-        IfSome why (λ why. reason.new ≡ reason_told why) }
+        IfSome why (λ why. reason.new ≡ reason_held machine.old.held.value why) }
     ensures kept { result ≡ false → reason.new ≡ reason.old }
 {
     tell(machine, load_of(addr, size), reason)
@@ -57,7 +57,7 @@ pub extern "C" fn gorseplumb_why_store(
     ensures refused { result ≡ is_refused machine.old.held.value (sized size (λ s. Op.Store addr s 0)) }
     ensures there { result ≡ is_some (why_held machine.old.held.value (sized size (λ s. Op.Store addr s 0))) }
     ensures told { let why = why_held machine.old.held.value (sized size (λ s. Op.Store addr s 0)) in
-        IfSome why (λ why. reason.new ≡ reason_told why) }
+        IfSome why (λ why. reason.new ≡ reason_held machine.old.held.value why) }
     ensures kept { result ≡ false → reason.new ≡ reason.old }
 {
     tell(machine, store_of(addr, size), reason)
@@ -74,7 +74,7 @@ pub extern "C" fn gorseplumb_why_fetch(
     ensures refused { result ≡ is_refused machine.old.held.value (Some (Op.Fetch addr)) }
     ensures there { result ≡ is_some (why_held machine.old.held.value (Some (Op.Fetch addr))) }
     ensures told { let why = why_held machine.old.held.value (Some (Op.Fetch addr)) in
-        IfSome why (λ why. reason.new ≡ reason_told why) }
+        IfSome why (λ why. reason.new ≡ reason_held machine.old.held.value why) }
     ensures kept { result ≡ false → reason.new ≡ reason.old }
 {
     tell(machine, Some(Op::Fetch { addr }), reason)
@@ -109,11 +109,16 @@ fn tell(machine: &mut CMachine, op: Option<Op>, reason: &mut CReason) -> bool
     ensures same { machine.new.held.value ≡ machine.old.held.value }
     ensures refused { result ≡ is_refused machine.old.held.value op }
     ensures there { result ≡ is_some (why_held machine.old.held.value op) }
-    ensures told { IfSome (why_held machine.old.held.value op) (λ why. reason.new ≡ reason_told why) }
+    ensures told { IfSome (why_held machine.old.held.value op) (λ why.
+        reason.new ≡ reason_held machine.old.held.value why) }
     ensures kept { result ≡ false → reason.new ≡ reason.old }
 {
     match op {
-        Some(op) if machine.live => reason.fill(machine.held.board().why(&op)),
+        Some(op) if machine.live => {
+            let board = machine.held.board();
+            let why = board.why(&op);
+            reason.fill(why, board.standing(why))
+        }
         _ => false,
     }
 }

@@ -11,11 +11,13 @@ ghost use Rattle.ffa_model.specs.Certificate.{IsRun, certificate, run_from};
 ghost use Rattle.ffa_model.specs.Ram.{word_of};
 ghost use Rattle.ffa_model.specs.State.{Page, owner_of, page_at};
 ghost use Rattle.ffa_model.specs.Why.{outcome_of};
-ghost use Rattle.ffa_mend.specs.Mend.{mend_why};
 ghost use Rattle.ffa_mend.specs.Offered.{offered};
 ghost use Rattle.ffa_playable.specs.Bench.{Bench, after_interrupt, after_op, as_done, effect_of, outcome_of_interrupt, processors_of, refuses, turned_to, why_of};
+ghost use Rattle.ffa_playable.specs.Standing.{detail};
 
-use ffa_mend::Mend;
+mod detail;
+
+pub use detail::{Detail, Standing};
 use ffa_model::{Address, CertRun, Effect, EndpointId, Op, Outcome, PageNo, Rights, Why};
 
 /// A machine that traces can be played on: what it answers and how it changes is what the small machine does from the
@@ -52,10 +54,10 @@ pub trait Playable: Drop {
         ensures outcome { IfSome result (λ reason.
             effect_of (bench self.now) op.now ≡ Effect.Outcome (outcome_of (bench self.now).state reason)) };
 
-    /// What is to be mended where an operation of the runner is refused for this reason, as far as the machine knows it.
-    /// It changes nothing.
-    fn mend(&self, op: &Op, why: Why) -> Option<Mend>
-        ensures { result ≡ mend_why (bench self.now).state (as_done (bench self.now) op.now) why };
+    /// What is to be mended where an operation of the runner is refused for this reason, or how that stands which the check
+    /// is about, as far as the machine knows it. It changes nothing.
+    fn detail(&self, op: &Op, why: Why) -> Option<Detail>
+        ensures { result ≡ detail (bench self.now).state (as_done (bench self.now) op.now) why };
 
     /// The endpoint that runs.
     fn runner(&self) -> EndpointId

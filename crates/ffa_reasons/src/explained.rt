@@ -2,10 +2,9 @@
 //! The machine that one processor runs, as a player sees it.
 ghost use Rattle.ffa_playable.specs.Bench.{alone};
 
-use ffa_mend::Mend;
 use ffa_model::{Address, CertRun, Effect, EndpointId, Op, Outcome, PageNo, Rights, Why};
 use ffa_physmem::PhysMem;
-use ffa_playable::{Playable, Readable};
+use ffa_playable::{Detail, Playable, Readable};
 use ffa_spmc::{Inline, Machine, Store};
 use ffa_tlb::{NoTlb, Translations};
 
@@ -38,8 +37,8 @@ impl<M: PhysMem + Drop, T: Translations + Drop, S: Store> Playable for Explained
         crate::why(&self.0, op)
     }
 
-    fn mend(&self, op: &Op, why: Why) -> Option<Mend> {
-        crate::mend(&self.0, op, why)
+    fn detail(&self, op: &Op, why: Why) -> Option<Detail> {
+        crate::detail(&self.0, op, why)
     }
 
     fn runner(&self) -> EndpointId {

@@ -1,6 +1,6 @@
 // SPDX-License-Identifier: MIT OR Apache-2.0
-//! Why an operation is refused, what is to be mended, by what an endpoint has its access to a page, and what it may still
-//! retrieve. No operation asks this and nothing is changed, so who audits what operations do can skip this crate.
+//! Why an operation is refused, what is to be mended or how things stand, by what an endpoint has its access to a page, and
+//! what it may still retrieve. No operation asks this and nothing is changed, so who audits what operations do can skip this crate.
 #![tactic(auto)]
 
 mod abouts;
@@ -12,8 +12,9 @@ mod reasons;
 mod refusals;
 mod registers;
 mod several;
+mod standings;
 mod telling;
 
 pub use explained::Explained;
 pub use several::ExplainedCluster;
-pub use telling::{grant_of, mend, offered, why, why_resuming};
+pub use telling::{detail, grant_of, offered, standing, why, why_resuming};

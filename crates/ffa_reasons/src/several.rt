@@ -5,13 +5,12 @@ ghost use Rattle.std.specs.FinSet as finite_set;
 ghost use Rattle.ffa_model.specs.declared.limits.TheConstants.{MOST_PROCESSORS};
 ghost use Rattle.ffa_playable.specs.Bench.{Bench};
 
-use ffa_mend::Mend;
 use ffa_model::{
     Address, CertRun, Effect, EndpointId, MOST_PROCESSORS, Op, Outcome, PageNo, Rights, Why,
 };
 use ffa_notify::{Told, in_one_context, notice_asked};
 use ffa_physmem::PhysMem;
-use ffa_playable::{Playable, Readable};
+use ffa_playable::{Detail, Playable, Readable};
 use ffa_spmc::{Cluster, Inline, Store};
 use ffa_tlb::{NoTlb, Translations};
 use std::marker::Model;
@@ -94,8 +93,8 @@ impl<M: PhysMem + Drop, T: Translations + Drop, S: Store> Playable for Explained
         }
     }
 
-    fn mend(&self, op: &Op, why: Why) -> Option<Mend> {
-        crate::mend(self.cluster.machine(), &in_one_context(op), why)
+    fn detail(&self, op: &Op, why: Why) -> Option<Detail> {
+        crate::detail(self.cluster.machine(), &in_one_context(op), why)
     }
 
     fn runner(&self) -> EndpointId {

@@ -10,11 +10,13 @@ ghost use Rattle.ffa_model.specs.Why.{granted, outcome_of, why, why_fault};
 ghost use Rattle.ffa_mend.specs.Mend.{address_of, call_of, mend_why};
 ghost use Rattle.ffa_mend.specs.Offered.{offered};
 ghost use Rattle.ffa_playable.specs.Bench.{is_refused};
+ghost use Rattle.ffa_playable.specs.Standing.{detail, standing};
 
 use crate::reasons::Reasons;
 use ffa_mend::Mend;
 use ffa_model::{Call, Effect, EndpointId, FaultKind, Grant, Op, PageNo, Rights, Why};
 use ffa_physmem::PhysMem;
+use ffa_playable::{Detail, Standing};
 use ffa_spmc::{Machine, Store};
 use ffa_tlb::Translations;
 
@@ -55,20 +57,34 @@ pub fn why_resuming<M: PhysMem + Drop, T: Translations + Drop, S: Store>(
 }
 
 /// What is to be mended where an operation of the runner is refused for this reason, beside what the reason names: a buffer, a
-/// right, a value that is wanted, or which of two causes it has. Nothing where nothing more is known. It changes nothing and
-/// takes no memory.
-pub fn mend<M: PhysMem + Drop, T: Translations + Drop, S: Store>(
+/// right, a value that is wanted, or which of two causes it has; or how that stands which the check is about. Nothing where
+/// nothing more is known. It changes nothing and takes no memory.
+pub fn detail<M: PhysMem + Drop, T: Translations + Drop, S: Store>(
     machine: &Machine<M, T, S>,
     op: &Op,
     why: Why,
-) -> Option<Mend>
-    ensures mend { result ≡ mend_why machine.now.state op.now why }
+) -> Option<Detail>
+    ensures detail { result ≡ detail machine.now.state op.now why }
 {
     let reasons = Reasons::of(machine);
-    match why {
-        Why::Refused { refusal, about } => reasons.mend_check(call_of(op), refusal, about),
-        Why::Fault { kind, obstacle: _ } => reasons.mend_fault(address_of(op), kind),
+    if let Some(standing) = reasons.standing(why) {
+        return Some(Detail::Standing(standing));
     }
+    match reasons.mend(op, why) {
+        Some(mend) => Some(Detail::Mend(mend)),
+        None => None,
+    }
+}
+
+/// How that stands which the check is about that refuses an operation of the runner: the run state of an endpoint that is to
+/// wait. Nothing of other checks. It changes nothing and takes no memory.
+pub fn standing<M: PhysMem + Drop, T: Translations + Drop, S: Store>(
+    machine: &Machine<M, T, S>,
+    why: Why,
+) -> Option<Standing>
+    ensures standing { result ≡ standing machine.now.state why }
+{
+    Reasons::of(machine).standing(why)
 }
 
 /// By what an endpoint has its access to a page: its own page, or the open transaction by which it has it. Nothing outside
@@ -131,6 +147,16 @@ impl<M: PhysMem + Drop, T: Translations + Drop, S: Store> Reasons<'_, M, T, S> {
         match call {
             Call::Run { target, context } => self.parts.chain.may_resume(target, context),
             _ => false,
+        }
+    }
+
+    // What is to be mended where an operation is refused for this reason.
+    fn mend(&self, op: &Op, why: Why) -> Option<Mend>
+        ensures { result ≡ mend_why self.now op.now why }
+    {
+        match why {
+            Why::Refused { refusal, about } => self.mend_check(call_of(op), refusal, about),
+            Why::Fault { kind, obstacle: _ } => self.mend_fault(address_of(op), kind),
         }
     }
 

@@ -3,6 +3,7 @@
 use Rattle.std.proofs.Common.{ℕ, ◌+◌, ◌%◌, ◌^◌, Bool, true, false, List, ◌++◌, Option, None, Some, inl, inr, refl}
 use Rattle.std.specs.Prelude.{◌==◌, codes, nat_lt}
 use Rattle.std.proofs.lemmas.Bool.{cases_Bool}
+use Rattle.ffa_model.specs.declared.endpoint.EndpointId.{EndpointId}
 use Rattle.ffa_model.specs.declared.endpoint.Version.{Version}
 use Rattle.ffa_model.specs.declared.endpoint.Version.TheVariants.{Compact, V1_1}
 use Rattle.ffa_model.specs.declared.operation.Op.{Op}
@@ -12,6 +13,8 @@ use Rattle.ffa_model.specs.declared.rights.Data.TheVariants.{Ro, Rw}
 use Rattle.ffa_model.specs.declared.rights.Kind.{Kind}
 use Rattle.ffa_model.specs.declared.rights.Kind.TheVariants.{Share, Lend, Donate}
 use Rattle.ffa_model.specs.declared.rights.Rights.{Rights}
+use Rattle.ffa_model.specs.declared.schedule.Status.{Status}
+use Rattle.ffa_model.specs.declared.schedule.Status.TheVariants.{Running, Waiting, Yielded, Blocked, Preempted, RunsElsewhere}
 use Rattle.ffa_mend.specs.declared.Cause.{Cause}
 use Rattle.ffa_mend.specs.declared.Cause.TheVariants.{BuffersMissing, RxNotFull, BitPending, BitTaken, BitUnbound, HandleUnknown, NotReceiver, NotLent}
 use Rattle.ffa_mend.specs.declared.Mend.{Mend}
@@ -20,10 +23,15 @@ use Rattle.ffa_mend.specs.declared.Side.{Side}
 use Rattle.ffa_mend.specs.declared.Side.TheVariants.{Tx, Rx}
 use Rattle.ffa_mend.specs.Mend.{call_of}
 use Rattle.ffa_model.specs.DescriptorPlaces.{told_access_size}
+use Rattle.ffa_playable.specs.declared.detail.Detail.{Detail}
+use Rattle.ffa_playable.specs.declared.detail.Detail.TheVariants as details
+use Rattle.ffa_playable.specs.declared.detail.Standing.{Standing}
+use Rattle.ffa_playable.specs.declared.detail.Standing.TheVariants.{RunState}
 use Rattle.play_syntax.specs.TraceText.{hex, rights_text}
 use Rattle.play_reasons.specs.declared.allowed.Allowed.{Allowed}
 use Rattle.play_reasons.specs.declared.allowed.Allowed.TheVariants.{One, Span, Either, Place}
-use Rattle.play_reasons.specs.Mends.{access_text, address_digits, address_text, allowed_by, allowed_register, allowed_text, asked_text, beyond_text, buffer_text, bytes_text, cause_text, ends_text, form_text, kind_text, kinds_text, mend_text, mended_text, message_text, misplaced_text, one_text, outside_text, room_text, short_digits, short_text, span_text, tag_text, version_text, wanted_text, word_text}
+use Rattle.play_reasons.specs.Details.{awaited_text, detail_text, detailed_text, run_state_text, standing_text, status_text}
+use Rattle.play_reasons.specs.Mends.{access_text, address_digits, address_text, allowed_by, allowed_register, allowed_text, asked_text, beyond_text, buffer_text, bytes_text, cause_text, ends_text, form_text, kind_text, kinds_text, mend_text, message_text, misplaced_text, one_text, outside_text, room_text, short_digits, short_text, span_text, tag_text, version_text, wanted_text, word_text}
 use Rattle.play_forms.proofs.Singles.{IsSingle, single_append, single_hex}
 
 pub single_address : (address : ℕ) → IsSingle (address_text address)
@@ -183,6 +191,31 @@ single_mend (mends.Message offset size room) = single_message offset size room
 single_mend (mends.Outside address) = single_outside address
 single_mend (mends.Cause cause) = single_cause cause
 
-pub single_mended : (mend : Option Mend) → IsSingle (mended_text mend)
-single_mended None = refl
-single_mended (Some mend) = single_mend mend
+-- HOW THINGS STAND
+
+single_status : (status : Status) → IsSingle (status_text status)
+single_status Running = refl
+single_status Waiting = refl
+single_status Yielded = refl
+single_status Blocked = refl
+single_status Preempted = refl
+single_status RunsElsewhere = refl
+
+single_awaited : (awaits : Option EndpointId) → IsSingle (awaited_text awaits)
+single_awaited None = refl
+single_awaited (Some e) = single_hex 4 e.0
+
+single_run_state : (status : Status) (awaits : Option EndpointId) → IsSingle (run_state_text status awaits)
+unfolding run_state_text
+single_run_state status awaits = single_append (status_text status) (awaited_text awaits) (single_status status) (single_awaited awaits)
+
+single_standing : (standing : Standing) → IsSingle (standing_text standing)
+single_standing (RunState status awaits) = single_run_state status awaits
+
+single_detail : (detail : Detail) → IsSingle (detail_text detail)
+single_detail (details.Mend mend) = single_mend mend
+single_detail (details.Standing standing) = single_standing standing
+
+pub single_detailed : (detail : Option Detail) → IsSingle (detailed_text detail)
+single_detailed None = refl
+single_detailed (Some detail) = single_detail detail

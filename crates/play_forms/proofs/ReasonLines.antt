@@ -30,12 +30,14 @@ use Rattle.ffa_model.specs.Words.{words_of}
 use Rattle.play_reasons.proofs.SingleWords.{single_flaw, single_words}
 use Rattle.play_forms.specs.Cut.{CutsTo}
 use Rattle.play_reasons.specs.Reasons.{about_text, call_text, check_text, fault_text, field_digits, field_text, handle_text, index_text, last_of, letter_text, name_text, named_text, number_in_field, number_text, obstacle_text, page_address, page_text, place_text, reason_if, reason_line, reason_mark, reason_text, register_text, right_text, subject_text, transaction_text, value_text, verb_text, why_text}
-use Rattle.play_forms.proofs.MendLines.{single_address, single_allowed, single_mended, single_short, single_wanted}
+use Rattle.play_forms.proofs.MendLines.{single_address, single_allowed, single_detailed, single_short, single_wanted}
 use Rattle.play_forms.proofs.Singles.{IsSingle, single_append, single_hex}
-use Rattle.ffa_mend.specs.declared.Mend.{Mend}
-use Rattle.ffa_mend.specs.Mend.{address_of, call_of, mend_why}
+use Rattle.ffa_mend.specs.Mend.{address_of, call_of}
+use Rattle.ffa_playable.specs.declared.detail.Detail.{Detail}
+use Rattle.ffa_playable.specs.Standing.{detail}
 use Rattle.play_reasons.specs.declared.allowed.Allowed.{Allowed}
-use Rattle.play_reasons.specs.Mends.{address_text, allowed_field, allowed_text, kind_of, mended_text, short_text, wanted_text}
+use Rattle.play_reasons.specs.Details.{detailed_text}
+use Rattle.play_reasons.specs.Mends.{address_text, allowed_field, allowed_text, kind_of, short_text, wanted_text}
 use Rattle.play_forms.proofs.Cuts.{cuts_none, cuts_reason, decimal_digits, digits_single}
 use Rattle.play_forms.proofs.PrintedWords.{single_call}
 
@@ -190,19 +192,19 @@ single_why base op (Refused refusal about) =
 single_why base op (Fault kind obstacle) =
     single_append (address_text (address_of op)) (fault_text op kind obstacle) (single_address (address_of op)) (single_fault op kind obstacle)
 
-line_cuts : (base : ℕ) (op : Op) (reason : Why) (mend : Option Mend) → CutsTo (reason_line base op reason mend) []
+line_cuts : (base : ℕ) (op : Op) (reason : Why) (its : Option Detail) → CutsTo (reason_line base op reason its) []
 unfolding reason_line
-line_cuts base op reason mend =
-    cuts_reason (reason_mark ++ why_text base op reason ++ mended_text mend)
-    (single_append (why_text base op reason) (mended_text mend) (single_why base op reason) (single_mended mend)) refl
+line_cuts base op reason its =
+    cuts_reason (reason_mark ++ why_text base op reason ++ detailed_text its)
+    (single_append (why_text base op reason) (detailed_text its) (single_why base op reason) (single_detailed its)) refl
 
-some_cuts : (base : ℕ) (op : Op) (mend : Why → Option Mend) (reason : Option Why)
-    → CutsTo (option_map_or (λ why. reason_line base op why (mend why)) reason []) []
-some_cuts base op mend None = cuts_none
-some_cuts base op mend (Some reason) = line_cuts base op reason (mend reason)
+some_cuts : (base : ℕ) (op : Op) (its : Why → Option Detail) (reason : Option Why)
+    → CutsTo (option_map_or (λ why. reason_line base op why (its why)) reason []) []
+some_cuts base op its None = cuts_none
+some_cuts base op its (Some reason) = line_cuts base op reason (its reason)
 
 told_cuts : (s : Bench) (line : Line) → CutsTo (reason_text s line) []
-told_cuts s (operate op) = some_cuts s.state.ram_base op (mend_why s.state (as_done s op)) (why_of s op)
+told_cuts s (operate op) = some_cuts s.state.ram_base op (detail s.state (as_done s op)) (why_of s op)
 told_cuts s show = cuts_none
 told_cuts s audit = cuts_none
 told_cuts s skip = cuts_none

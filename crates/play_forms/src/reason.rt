@@ -29,12 +29,12 @@ pub(crate) fn reason_of<P: Playable>(
         Line::Operation(op) => {
             let why = player.machine().why(&op)?;
             let base = player.machine().ram_base();
-            let mend = player.machine().mend(&op, why);
+            let detail = player.machine().detail(&op, why);
             Some(Reason {
                 base,
                 op,
                 why,
-                mend,
+                detail,
             })
         }
         Line::Show | Line::Audit | Line::Nothing | Line::Turn(_) | Line::Interrupt => None,

@@ -265,6 +265,3 @@ mend_text (mends.Word place value) = codes ": " ++ word_text place value
 mend_text (mends.Message offset size room) = message_text offset size room
 mend_text (mends.Outside address) = outside_text address
 mend_text (mends.Cause cause) = cause_text cause
-
-abbrev pub mended_text : Option Mend → List ℕ
-mended_text mend = option_map_or mend_text mend []

@@ -17,17 +17,19 @@ use Rattle.ffa_model.specs.declared.why.Obstacle.TheVariants as obstacles
 use Rattle.ffa_model.specs.declared.why.Why.{Why}
 use Rattle.ffa_model.specs.declared.why.Why.TheVariants.{Refused, Fault}
 use Rattle.ffa_model.specs.Registers.{low}
+use Rattle.ffa_playable.specs.declared.detail.Detail.{Detail}
 use Rattle.ffa_playable.specs.Bench.{Bench, as_done, processors_of, why_of}
+use Rattle.ffa_playable.specs.Standing.{detail}
 use Rattle.play_syntax.specs.TraceLines.{Line, operate, show, audit, skip, turn, interrupt, line_in}
 use Rattle.play_syntax.specs.TraceText.{bytes_moved, ended, hex}
 use Rattle.ffa_model.specs.Words.{words_of}
-use Rattle.ffa_mend.specs.declared.Mend.{Mend}
-use Rattle.ffa_mend.specs.Mend.{address_of, call_of, mend_why}
+use Rattle.ffa_mend.specs.Mend.{address_of, call_of}
 use Rattle.ffa_abi.specs.Names.{call_name_of}
 use Rattle.ffa_abi.specs.Widths.{is_read_whole}
 use Rattle.play_reasons.specs.Checks.{number_of}
+use Rattle.play_reasons.specs.Details.{detailed_text}
 use Rattle.play_reasons.specs.FlawWords.{flaw_words_of}
-use Rattle.play_reasons.specs.Mends.{address_text, allowed_field, allowed_text, kind_of, mended_text, short_text, wanted_text}
+use Rattle.play_reasons.specs.Mends.{address_text, allowed_field, allowed_text, kind_of, short_text, wanted_text}
 use Rattle.play_reasons.specs.declared.allowed.Allowed.{Allowed}
 use Rattle.play_reasons.specs.declared.reason.Reason.{Reason}
 
@@ -159,13 +161,14 @@ abbrev pub why_text : ℕ → Op → Why → List ℕ
 why_text base op (Refused refusal about) = call_text op refusal ++ words_of refusal ++ about_text base op refusal about
 why_text base op (Fault kind obstacle) = address_text (address_of op) ++ fault_text op kind obstacle
 
-unfoldable pub reason_line : ℕ → Op → Why → Option Mend → List ℕ
-reason_line base op reason mend = ended (reason_mark ++ why_text base op reason ++ mended_text mend)
+unfoldable pub reason_line : ℕ → Op → Why → Option Detail → List ℕ
+reason_line base op reason detail = ended (reason_mark ++ why_text base op reason ++ detailed_text detail)
 
--- what stands under the text of a line, where it is an operation that is refused there, with what is to be mended
+-- what stands under the text of a line, where it is an operation that is refused there, with what is to be mended or how
+-- that stands which the check is about
 abbrev pub reason_text : Bench → Line → List ℕ
 reason_text b (operate op) =
-    option_map_or (λ reason. reason_line b.state.ram_base op reason (mend_why b.state (as_done b op) reason)) (why_of b op) []
+    option_map_or (λ reason. reason_line b.state.ram_base op reason (detail b.state (as_done b op) reason)) (why_of b op) []
 reason_text b show = []
 reason_text b audit = []
 reason_text b skip = []
@@ -181,4 +184,4 @@ reason_of_bytes explain b bytes = option_map_or (reason_if explain b) (line_in (
 
 -- the line of a reason that is told, if one is
 abbrev pub told_line : Option Reason → List ℕ
-told_line reason = option_map_or (λ (r : Reason). reason_line r.base.0 r.op r.why r.mend) reason []
+told_line reason = option_map_or (λ (r : Reason). reason_line r.base.0 r.op r.why r.detail) reason []

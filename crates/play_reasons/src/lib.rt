@@ -5,6 +5,7 @@
 #![tactic(auto)]
 
 mod allowed;
+mod detail;
 mod digits;
 mod draft;
 mod fault;

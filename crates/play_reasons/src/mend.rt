@@ -4,7 +4,7 @@ ghost use Rattle.std.specs.Prelude.{◌≡◌, ◌++◌, ◌^◌, ◌<◌, ◌�
 ghost use Rattle.play_syntax.specs.TraceText.{hex, rights_text};
 ghost use Rattle.ffa_model.specs.DescriptorPlaces.{told_access_size};
 ghost use Rattle.play_reasons.specs.Drafts.{Puts};
-ghost use Rattle.play_reasons.specs.Mends.{access_text, allowed_by, allowed_text, asked_text, beyond_text, buffer_text, bytes_text, cause_text, ends_text, form_text, kind_text, kinds_text, mend_text, mended_text, message_text, misplaced_text, one_text, outside_text, room_text, side_text, span_text, tag_text, version_text, wanted_text, word_text};
+ghost use Rattle.play_reasons.specs.Mends.{access_text, allowed_by, allowed_text, asked_text, beyond_text, buffer_text, bytes_text, cause_text, ends_text, form_text, kind_text, kinds_text, mend_text, message_text, misplaced_text, one_text, outside_text, room_text, side_text, span_text, tag_text, version_text, wanted_text, word_text};
 
 use crate::allowed::{Allowed, allowed_register, call_of};
 use crate::draft::Draft;
@@ -71,16 +71,8 @@ fn put_span<A: Allocator>(text: &mut Draft<A>, digits: u32, joint: &str, a: u64,
     text.put_behind(joint, digits, b);
 }
 
-/// Puts what is to be mended, where that is known.
-pub(crate) fn put_mended<A: Allocator>(text: &mut Draft<A>, mend: Option<Mend>)
-    ensures { Puts text.old text.new (mended_text mend) }
-{
-    if let Some(mend) = mend {
-        put_mend(text, mend);
-    }
-}
-
-fn put_mend<A: Allocator>(text: &mut Draft<A>, mend: Mend)
+/// Puts what is to be mended.
+pub(crate) fn put_mend<A: Allocator>(text: &mut Draft<A>, mend: Mend)
     ensures { Puts text.old text.new (mend_text mend) }
 {
     match mend {
@@ -113,8 +105,8 @@ fn put_buffer<A: Allocator>(text: &mut Draft<A>, endpoint: EndpointId, side: Sid
     put_endpoint(text, side_words(side), endpoint);
 }
 
-// Puts an endpoint by its identifier behind a word.
-fn put_endpoint<A: Allocator>(text: &mut Draft<A>, word: &str, endpoint: EndpointId)
+/// Puts an endpoint by its identifier behind a word.
+pub(crate) fn put_endpoint<A: Allocator>(text: &mut Draft<A>, word: &str, endpoint: EndpointId)
     ensures { Puts text.old text.new (word.now ++ hex 4 endpoint.0) }
 {
     text.put_behind(word, 4, u64::from(endpoint.0));

@@ -6,19 +6,20 @@ ghost use Rattle.play_syntax.specs.TraceText.{bytes_moved};
 ghost use Rattle.ffa_model.specs.Words.{words_of};
 ghost use Rattle.ffa_mend.specs.Mend.{address_of};
 ghost use Rattle.play_reasons.specs.Drafts.{Puts};
-ghost use Rattle.play_reasons.specs.Mends.{address_text, mended_text, short_text, wanted_text};
+ghost use Rattle.play_reasons.specs.Mends.{address_text, short_text, wanted_text};
 ghost use Rattle.play_reasons.specs.Reasons.{about_text, bit_text, call_text, check_text, fault_text, field_digits, field_text, handle_text, index_text, letter_text, number_in_field, name_text, named_text, number_text, obstacle_text, page_address, page_text, place_text, reason_line, register_text, right_text, subject_text, told_line, transaction_text, value_text, verb_text, why_text};
 
 use crate::allowed::{Allowed, allowed_field, call_of, kind_of};
+use crate::detail::put_detailed;
 use crate::draft::Draft;
-use crate::mend::{put_allowed, put_mended, put_wanted};
+use crate::mend::{put_allowed, put_wanted};
 use crate::{check_number, flaw_words, words};
 use ffa_abi::{call_name, is_read_whole, low};
-use ffa_mend::Mend;
 use ffa_model::{
     About, Address, EndpointId, FaultKind, FieldPlace, Flaw, Obstacle, Op, PageNo, Refusal, Size,
     Why,
 };
+use ffa_playable::Detail;
 use std::alloc::Allocator;
 
 /// An operation that is refused, and why.
@@ -28,8 +29,8 @@ pub struct Reason {
     pub base: Address,
     pub op: Op,
     pub why: Why,
-    /// What is to be mended, where that is known.
-    pub mend: Option<Mend>,
+    /// What is to be mended, or how things stand, where that is known.
+    pub detail: Option<Detail>,
 }
 
 /// Puts the line that says so behind a text, where there is a reason.
@@ -37,16 +38,22 @@ pub fn put_reason<A: Allocator>(text: &mut Draft<A>, reason: Option<Reason>)
     ensures { Puts text.old text.new (told_line reason) }
 {
     if let Some(reason) = reason {
-        put_line(text, reason.base, reason.op, reason.why, reason.mend);
+        put_line(text, reason.base, reason.op, reason.why, reason.detail);
     }
 }
 
-fn put_line<A: Allocator>(text: &mut Draft<A>, base: Address, op: Op, why: Why, mend: Option<Mend>)
-    ensures { Puts text.old text.new (reason_line base.0 op why mend) }
+fn put_line<A: Allocator>(
+    text: &mut Draft<A>,
+    base: Address,
+    op: Op,
+    why: Why,
+    detail: Option<Detail>,
+)
+    ensures { Puts text.old text.new (reason_line base.0 op why detail) }
 {
     text.put("# refused: ");
     put_why(text, base, op, why);
-    put_mended(text, mend);
+    put_detailed(text, detail);
     text.put("\n");
 }
 

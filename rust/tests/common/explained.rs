@@ -67,7 +67,8 @@ fn call_reason<R: Ram>(machine: &Machine<R>, given: &Registers) -> Option<String
     let name = call_name(function).map_or_else(String::new, |name| name.to_owned() + " ");
     let check = reason.check.number_in(function).unwrap();
     let about = reason.about.map_or_else(String::new, |about| format!(": {}", subject(about, function)));
-    Some(format!("{name}check {check}: {}{about}", reason.check))
+    let state = reason.state.map_or_else(String::new, |state| format!(", which {state}"));
+    Some(format!("{name}check {check}: {}{about}{state}", reason.check))
 }
 
 /// An address in eight digits, or in sixteen where it has more.

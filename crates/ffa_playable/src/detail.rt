@@ -1,0 +1,24 @@
+// SPDX-License-Identifier: MIT OR Apache-2.0
+//! What a machine tells of an operation that is refused, beside why it is. It serves diagnostics alone.
+
+use ffa_mend::Mend;
+use ffa_model::{EndpointId, Status};
+
+/// What a machine tells of an operation that is refused, beside why it is.
+#[derive(Clone, Copy)]
+pub enum Detail {
+    /// What is to be mended.
+    Mend(Mend),
+    /// How that stands which the check is about.
+    Standing(Standing),
+}
+
+/// How that stands which a check is about.
+#[derive(Clone, Copy)]
+pub enum Standing {
+    /// The run state of the endpoint, and the one to which it sent a direct request that isn't answered yet.
+    RunState {
+        status: Status,
+        awaits: Option<EndpointId>,
+    },
+}

@@ -1,0 +1,67 @@
+// SPDX-License-Identifier: MIT OR Apache-2.0
+//! What stands in the line of a reason behind what the check is about: what is to be mended, or how that stands.
+ghost use Rattle.std.specs.Prelude.{◌≡◌};
+ghost use Rattle.play_reasons.specs.Details.{awaited_text, detail_text, detailed_text, run_state_text, standing_text, status_text};
+ghost use Rattle.play_reasons.specs.Drafts.{Puts};
+
+use crate::draft::Draft;
+use crate::mend::{put_endpoint, put_mend};
+use ffa_model::{EndpointId, Status};
+use ffa_playable::{Detail, Standing};
+use std::alloc::Allocator;
+
+/// Puts what is to be mended, or how things stand, where that is known.
+pub(crate) fn put_detailed<A: Allocator>(text: &mut Draft<A>, detail: Option<Detail>)
+    ensures { Puts text.old text.new (detailed_text detail) }
+{
+    if let Some(detail) = detail {
+        put_detail(text, detail);
+    }
+}
+
+fn put_detail<A: Allocator>(text: &mut Draft<A>, detail: Detail)
+    ensures { Puts text.old text.new (detail_text detail) }
+{
+    match detail {
+        Detail::Mend(mend) => put_mend(text, mend),
+        Detail::Standing(standing) => put_standing(text, standing),
+    }
+}
+
+fn put_standing<A: Allocator>(text: &mut Draft<A>, standing: Standing)
+    ensures { Puts text.old text.new (standing_text standing) }
+{
+    match standing {
+        Standing::RunState { status, awaits } => put_run_state(text, status, awaits),
+    }
+}
+
+#[tactic(auto, unfolding(crate::specs::Details::run_state_text))]
+fn put_run_state<A: Allocator>(text: &mut Draft<A>, status: Status, awaits: Option<EndpointId>)
+    ensures { Puts text.old text.new (run_state_text status awaits) }
+{
+    text.put(status_words(status));
+    put_awaited(text, awaits);
+}
+
+// Puts whose answer an endpoint awaits.
+fn put_awaited<A: Allocator>(text: &mut Draft<A>, awaits: Option<EndpointId>)
+    ensures { Puts text.old text.new (awaited_text awaits) }
+{
+    if let Some(receiver) = awaits {
+        put_endpoint(text, " by its direct request to ", receiver);
+    }
+}
+
+fn status_words(status: Status) -> &'static str
+    ensures { result.now ≡ status_text status }
+{
+    match status {
+        Status::Running => ", which is running",
+        Status::Waiting => ", which is waiting",
+        Status::Yielded => ", which has yielded",
+        Status::Blocked => ", which is blocked",
+        Status::Preempted => ", which is preempted",
+        Status::RunsElsewhere => ", which is running on another processor",
+    }
+}
