@@ -80,6 +80,15 @@ fn push_request(words: &mut String, request: &Request<'_>) -> Result<(), AllocEr
     push_options(words, request)
 }
 
+// The command that tests folders, with these.
+fn push_folders(words: &mut String, folders: &[&str]) -> Result<(), AllocError> {
+    words.push_str("test")?;
+    for folder in folders {
+        write!(words, " {folder}")?;
+    }
+    Ok(())
+}
+
 // The command, with its paths and numbers.
 fn push_command(words: &mut String, request: &Request<'_>) -> Result<(), AllocError> {
     match *request {
@@ -97,7 +106,7 @@ fn push_command(words: &mut String, request: &Request<'_>) -> Result<(), AllocEr
             let (manifest, seed, lines) = (options.manifest, options.seed, options.lines);
             write!(words, "generate {manifest} {seed} {lines}")
         }
-        Request::Test(options) => write!(words, "test {}", options.folder),
+        Request::Test(ref options) => push_folders(words, &options.folders),
         Request::Lower { trace, .. } => write!(words, "lower {trace}"),
     }
 }
@@ -140,7 +149,7 @@ fn push_options(words: &mut String, request: &Request<'_>) -> Result<(), AllocEr
                 &[("count", options.count), ("worlds", options.worlds)],
             )
         }
-        Request::Test(options) => {
+        Request::Test(ref options) => {
             push_flags(words, &[("tap", options.tap), ("count", options.count)])?;
             push_setting(words, options.processors, options.worlds)?;
             push_flags(words, &[("words", options.words)])
@@ -259,6 +268,16 @@ ffaplay record --tlb row.toml first.trace => record row.toml first.trace --tlb
 ffaplay record row.toml - --verbose --frames => record row.toml - --frames --verbose
 ffaplay run row.toml first.trace --interactive => run row.toml first.trace --interactive --at-once
 ffaplay demo --interactive first.trace --number => demo first.trace --number --interactive --at-once
+ffaplay check --verbose row.toml => check row.toml --verbose
+ffaplay layout row.toml --verbose => layout row.toml --verbose
+ffaplay layout --regions row.toml => layout row.toml --regions
+";
+    check(&rt, rt.alloc(), rows)
+}
+
+#[test]
+fn commands_with_a_setting_of_the_machine(rt: HostRuntime) -> Result<(), Fail> {
+    let rows = "\
 ffaplay run --processors 2 row.toml first.trace => run row.toml first.trace processors 2
 ffaplay demo first.trace --processors=8 --tlb => demo first.trace --tlb processors 8
 ffaplay record row.toml --processors 1 first.trace => record row.toml first.trace processors 1
@@ -292,9 +311,6 @@ ffaplay run --processors 9 row.toml first.trace => ValueValidation
 ffaplay test --processors two rows => ValueValidation
 ffaplay check --processors 2 row.toml => UnknownArgument
 ffaplay generate --processors 2 row.toml => UnknownArgument
-ffaplay check --verbose row.toml => check row.toml --verbose
-ffaplay layout row.toml --verbose => layout row.toml --verbose
-ffaplay layout --regions row.toml => layout row.toml --regions
 ";
     check(&rt, rt.alloc(), rows)
 }
@@ -328,6 +344,9 @@ ffaplay generate row.toml --seed 0x10000000000000000 => ValueValidation
 ffaplay generate row.toml --seed 18446744073709551616 => ValueValidation
 ffaplay generate row.toml --strict => UnknownArgument
 ffaplay test rows => test rows
+ffaplay test rows traces => test rows traces
+ffaplay test --tap b --count a --processors 2 c => test b a c --tap --count processors 2
+ffaplay test rows rows -- --tap => test rows rows --tap
 ffaplay test - --tap => test - --tap
 ffaplay test rows --count --tap => test rows --tap --count
 ffaplay test --count=1 rows => TooManyValues

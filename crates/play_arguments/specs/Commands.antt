@@ -1,14 +1,14 @@
 -- SPDX-License-Identifier: MIT OR Apache-2.0
 -- The command line of the program, and what its words ask for.
-use Rattle.std.specs.Prelude.{◌≡◌, ◌⊎◌, ◌∷◌, ℕ, ◌^◌, List, [], drop, length, nat_eq, nat_lt, Bool, true, false, ◌||◌, ◌&&◌, not, Option, Some, None, codes, if◌then◌else◌, nat_le, option_and_then, option_map}
+use Rattle.std.specs.Prelude.{◌≡◌, ◌⊎◌, ◌∷◌, ℕ, ◌^◌, List, [], drop, length, map, nat_eq, nat_lt, Bool, true, false, ◌||◌, ◌&&◌, not, Option, Some, None, codes, if◌then◌else◌, nat_le, option_and_then, option_map}
 use Rattle.std.specs.Char.{digit_value}
 use Rattle.std.specs.List.{count_by, list_all, starts_with}
 use Rattle.std.specs.Str.{bytes_eq}
 use Rattle.std.specs.Str.Parse.{digits_value, without_leading_plus}
 use Rattle.std.specs.Option.{option_map_or}
 use Rattle.ffa_model.specs.declared.limits.TheConstants.{MOST_PROCESSORS}
-use Rattle.clap.specs.Words.{App, HasKind, Row, Rule, Text, fault_of, first_of, new_app, new_rule, subcommand_of, with_rule, with_subcommand}
-use Rattle.clap.specs.declared.builder.action.ArgAction.TheVariants.{Set, SetTrue}
+use Rattle.clap.specs.Words.{App, HasKind, Row, Rule, Text, all_of, fault_of, first_of, new_app, new_rule, subcommand_of, with_rule, with_subcommand}
+use Rattle.clap.specs.declared.builder.action.ArgAction.TheVariants.{Append, Set, SetTrue}
 use Rattle.clap.specs.declared.error.Error.{Error}
 use Rattle.play_arguments.specs.declared.command_line.DescriptorWords.{DescriptorWords}
 use Rattle.play_arguments.specs.declared.command_line.MachineOptions.{MachineOptions}
@@ -24,6 +24,10 @@ use Rattle.play_arguments.specs.declared.command_line.Request.TheVariants.{Play,
 -- a path that has to be given
 abbrev pub path_rule : Text → Rule
 path_rule id = record (new_rule id) { required = true }
+
+-- paths, of which one has to be given at least
+abbrev pub paths_rule : Text → Rule
+paths_rule id = record (path_rule id) { action = Some Append }
 
 -- a flag, which may be given by its name
 abbrev pub flag_rule : Text → Rule
@@ -141,12 +145,12 @@ picture_app =
     with_verbose
     (with_setting (with_flag (codes "page") (with_rows (with_trace (with_manifest (new_app (codes "picture")))))))
 
--- a folder of traces, how it is told what came of them, whether that is counted, and each machine's setting
-abbrev pub with_folder : App → App
-with_folder app = with_rule app (path_rule (codes "folder"))
+-- folders of traces, how it is told what came of them, whether that is counted, and each machine's setting
+abbrev pub with_folders : App → App
+with_folders app = with_rule app (paths_rule (codes "folder"))
 
 unfoldable pub test_app : App
-test_app = with_setting (with_flag (codes "count") (with_flag (codes "tap") (with_folder (new_app (codes "test")))))
+test_app = with_setting (with_flag (codes "count") (with_flag (codes "tap") (with_folders (new_app (codes "test")))))
 
 unfoldable pub lower_app : App
 lower_app = with_verbose (with_trace (new_app (codes "lower")))
@@ -227,7 +231,7 @@ pub data Ask : Type 0 where
   layout : Text → (regions verbose : Bool) → Ask
   descriptor : (manifest : Option Text) → Described → Ask
   generate : Text → (seed lines : ℕ) → (count worlds verbose : Bool) → Ask
-  test : (folder : Text) → (tap count : Bool) → (processors : Option ℕ) → (worlds words : Bool) → Ask
+  test : (folders : List Text) → (tap count : Bool) → (processors : Option ℕ) → (worlds words : Bool) → Ask
   lower : (trace : Text) → (verbose : Bool) → Ask
 
 abbrev pub ask_of : Request → Ask
@@ -236,7 +240,7 @@ ask_of (Check manifest verbose) = check manifest.now verbose
 ask_of (Layout manifest regions verbose) = layout manifest.now regions verbose
 ask_of (Descriptor manifest words) = descriptor (option_map (λ s. s.now) manifest) (words_of words)
 ask_of (Generate o) = generate o.manifest.now o.seed o.lines o.count o.worlds o.verbose
-ask_of (Test o) = test o.folder.now o.tap o.count o.processors o.worlds o.words
+ask_of (Test o) = test (map (λ f. f.now) o.folders.items) o.tap o.count o.processors o.worlds o.words
 ask_of (Lower trace verbose) = lower trace.now verbose
 
 -- the path of the manifest that is asked for, that of the trace that is played, and that of the expected text
@@ -246,7 +250,7 @@ manifest_of (check manifest verbose) = Some manifest
 manifest_of (layout manifest regions verbose) = Some manifest
 manifest_of (descriptor manifest words) = manifest
 manifest_of (generate manifest seed lines count worlds verbose) = Some manifest
-manifest_of (test folder tap count processors worlds words) = None
+manifest_of (test folders tap count processors worlds words) = None
 manifest_of (lower trace verbose) = None
 
 abbrev pub trace_of : Ask → Option Text
@@ -264,7 +268,7 @@ verbose_of (check manifest verbose) = verbose
 verbose_of (layout manifest regions verbose) = verbose
 verbose_of (descriptor manifest words) = false
 verbose_of (generate manifest seed lines count worlds verbose) = verbose
-verbose_of (test folder tap count processors worlds words) = false
+verbose_of (test folders tap count processors worlds words) = false
 verbose_of (lower trace verbose) = verbose
 
 -- the same, of which more is to be said, where it can be
@@ -274,7 +278,7 @@ said_more (check manifest verbose) = check manifest true
 said_more (layout manifest regions verbose) = layout manifest regions true
 said_more (descriptor manifest words) = descriptor manifest words
 said_more (generate manifest seed lines count worlds verbose) = generate manifest seed lines count worlds true
-said_more (test folder tap count processors worlds words) = test folder tap count processors worlds words
+said_more (test folders tap count processors worlds words) = test folders tap count processors worlds words
 said_more (lower trace verbose) = lower trace true
 
 -- whether a path is given and is `-`, which stands for standard input
@@ -426,17 +430,18 @@ generate_in rows = do
 
 unfoldable pub test_in : List Row → Option Ask
 test_in rows = do
-  folder ← first_of (codes "folder") rows
+  folders ← all_of (codes "folder") rows
   processors ← processors_in rows
-  Some (test folder (is_given (codes "tap") rows) (is_given (codes "count") rows) processors (is_given (codes "worlds") rows) (is_given (codes "words") rows))
+  Some (test folders (is_given (codes "tap") rows) (is_given (codes "count") rows) processors (is_given (codes "worlds") rows) (is_given (codes "words") rows))
 
 unfoldable pub lower_in : List Row → Option Ask
 lower_in rows = do
   trace ← first_of (codes "trace") rows
   Some (lower trace (is_given (codes "verbose") rows))
 
-unfoldable pub ask_in : Text → List Row → Option Ask
-ask_in name rows =
+-- what a command asks for that tests no folders
+unfoldable pub ask_beside : Text → List Row → Option Ask
+ask_beside name rows =
     if bytes_eq name (codes "run") then play_file_in rows (print_in rows)
     else if bytes_eq name (codes "demo") then play_in rows None (print_in rows)
     else if bytes_eq name (codes "record") then play_file_in rows record_trace
@@ -446,9 +451,11 @@ ask_in name rows =
     else if bytes_eq name (codes "layout") then layout_in rows
     else if bytes_eq name (codes "descriptor") then descriptor_in rows
     else if bytes_eq name (codes "generate") then generate_in rows
-    else if bytes_eq name (codes "test") then test_in rows
     else if bytes_eq name (codes "lower") then lower_in rows
     else None
+
+unfoldable pub ask_in : Text → List Row → Option Ask
+ask_in name rows = if bytes_eq name (codes "test") then test_in rows else ask_beside name rows
 
 -- what the command that was met asks for, by its name and its matches
 abbrev pub ask_met : Option (Text × List Row) → Option Ask

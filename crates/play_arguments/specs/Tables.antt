@@ -4,13 +4,14 @@
 -- for stands in Commands.
 use Rattle.std.specs.Prelude.{List, [], ◌∷◌}
 use Rattle.clap.specs.Words.{App, Rule, new_app, with_rule, with_subcommand}
-use Rattle.play_arguments.specs.Commands.{path_rule, flag_rule, value_rule, number_rule}
+use Rattle.play_arguments.specs.Commands.{path_rule, paths_rule, flag_rule, value_rule, number_rule}
 use Rattle.play_arguments.specs.declared.program.Entry.{Entry}
 use Rattle.play_arguments.specs.declared.program.Word.{Word}
-use Rattle.play_arguments.specs.declared.program.Word.TheVariants.{Path, Flag, Value, Number}
+use Rattle.play_arguments.specs.declared.program.Word.TheVariants.{Path, Paths, Flag, Value, Number}
 
 abbrev pub rule_for : Word → Rule
 rule_for (Path id help) = path_rule id.now
+rule_for (Paths id help) = paths_rule id.now
 rule_for (Flag id help) = flag_rule id.now
 rule_for (Value id help) = value_rule id.now
 rule_for (Number id help usual) = number_rule id.now usual.now

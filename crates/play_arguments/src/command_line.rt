@@ -1,12 +1,13 @@
 // SPDX-License-Identifier: MIT OR Apache-2.0
 //! What the command line asks for.
-ghost use Rattle.std.specs.Prelude.{◌≡◌, option_map, codes, drop, nat_eq, true};
+ghost use Rattle.std.specs.Prelude.{◌≡◌, IfOk, map, option_map, codes, drop, nat_eq, true};
 ghost use Rattle.std.specs.List.{starts_with};
-ghost use Rattle.clap.specs.Words.{found_of, first_of, rows_of, subcommand_rows_of};
-ghost use Rattle.play_arguments.specs.Commands.{aim_of, ask_of, path_of, words_of, manifest_of, trace_of, expected_of, verbose_of, answers_at_once, is_input, reads_once, asked_in, is_given, number_of, numeral_of, machine_in, text_in, words_in, ask_in, ask_met, number_in, print_in, compare_in, draw_in, play_in, play_file_in, count_of, processors_in, check_in, layout_in, descriptor_in, generate_in, test_in, lower_in, said_more, excludes_none};
+ghost use Rattle.clap.specs.Words.{all_of, found_of, first_of, rows_of, subcommand_rows_of};
+ghost use Rattle.play_arguments.specs.Commands.{aim_of, ask_of, path_of, words_of, manifest_of, trace_of, expected_of, verbose_of, answers_at_once, is_input, reads_once, asked_in, is_given, number_of, numeral_of, machine_in, text_in, words_in, ask_beside, ask_in, ask_met, number_in, print_in, compare_in, draw_in, play_in, play_file_in, count_of, processors_in, check_in, layout_in, descriptor_in, generate_in, test_in, lower_in, said_more, excludes_none};
 
 use clap::ArgMatches;
 use ffa_model::MOST_PROCESSORS;
+use std::alloc::{AllocError, Global};
 
 // The words that are numbers, with what they take.
 const NUMBERS: [(&str, &str); 4] = [
@@ -166,11 +167,11 @@ pub struct GenerateOptions<'a> {
     pub verbose: bool,
 }
 
-/// Traces to test: all of a folder.
-#[derive(Clone, Copy)]
+/// Traces to test: all of some folders.
+#[derive(Drop)]
 pub struct TestOptions<'a> {
-    /// The folder's path.
-    pub folder: &'a str,
+    /// The paths of the folders, in the order in which they are tested.
+    pub folders: Vec<&'a str>,
     /// What came of each is told as the Test Anything Protocol has it.
     pub tap: bool,
     /// The calls and accesses of all are counted, which is told behind that.
@@ -186,7 +187,7 @@ pub struct TestOptions<'a> {
 /// A command with its paths, which are words of the command line, and what its flags say.
 ///
 /// At most one of its paths is `STANDARD_INPUT`. Where `verbose` is set, more is said on standard error of what is refused.
-#[derive(Clone, Copy)]
+#[derive(Drop)]
 pub enum Request<'a> {
     /// To play a trace.
     Play(PlayOptions<'a>),
@@ -209,7 +210,7 @@ pub enum Request<'a> {
     },
     /// To print a trace of so many lines for the machine of a manifest, or how often its calls and accesses ended in which way.
     Generate(GenerateOptions<'a>),
-    /// To play the traces of a folder, each with its guards.
+    /// To play the traces of folders, each with its guards.
     Test(TestOptions<'a>),
     /// To print a trace in words as one of the plain format.
     Lower {
@@ -605,18 +606,41 @@ fn generate_in<'a>(matches: &ArgMatches<'a>) -> Option<Request<'a>>
     }))
 }
 
-#[tactic(auto, unfolding(crate::specs::Commands::test_in))]
-fn test_in<'a>(matches: &ArgMatches<'a>) -> Option<Request<'a>>
-    ensures { option_map ask_of result ≡ test_in (rows_of (found_of matches.now)) }
+// All texts that were given for a word, where there are any.
+fn texts_of<'m, 'a>(matches: &'m ArgMatches<'a>, id: &str) -> Option<&'m [&'a str]>
+    ensures { option_map (λ s. map (λ t. t.now) s.now) result ≡ all_of id.now (rows_of (found_of matches.now)) }
 {
-    Some(Request::Test(TestOptions {
-        folder: text_of(matches, "folder")?,
-        tap: is_given(matches, "tap"),
-        count: is_given(matches, "count"),
-        processors: processors_in(matches)?,
-        worlds: is_given(matches, "worlds"),
-        words: is_given(matches, "words"),
-    }))
+    matches.get_strs(id)
+}
+
+fn folders_in<'a>(
+    alloc: Global,
+    matches: &ArgMatches<'a>,
+) -> Result<Option<Vec<&'a str>>, AllocError>
+    ensures { IfOk result (λ folders. option_map (λ v. map (λ f. f.now) v.items) folders
+        ≡ all_of (codes "folder") (rows_of (found_of matches.now))) }
+{
+    match texts_of(matches, "folder") {
+        Some(folders) => Ok(Some(Vec::from_slice(alloc, folders)?)),
+        None => Ok(None),
+    }
+}
+
+#[tactic(auto, unfolding(crate::specs::Commands::test_in))]
+fn test_in<'a>(alloc: Global, matches: &ArgMatches<'a>) -> Result<Option<Request<'a>>, AllocError>
+    ensures { IfOk result (λ r. option_map ask_of r ≡ test_in (rows_of (found_of matches.now))) }
+{
+    match (folders_in(alloc, matches)?, processors_in(matches)) {
+        (Some(folders), Some(processors)) => Ok(Some(Request::Test(TestOptions {
+            folders,
+            tap: is_given(matches, "tap"),
+            count: is_given(matches, "count"),
+            processors,
+            worlds: is_given(matches, "worlds"),
+            words: is_given(matches, "words"),
+        }))),
+        _ => Ok(None),
+    }
 }
 
 #[tactic(auto, unfolding(crate::specs::Commands::lower_in))]
@@ -628,9 +652,10 @@ fn lower_in<'a>(matches: &ArgMatches<'a>) -> Option<Request<'a>>
     Some(Request::Lower { trace, verbose })
 }
 
-#[tactic(auto, unfolding(crate::specs::Commands::ask_in))]
-fn request_in<'a>(name: &str, matches: &ArgMatches<'a>) -> Option<Request<'a>>
-    ensures { option_map ask_of result ≡ ask_in name.now (rows_of (found_of matches.now)) }
+// What a command asks for that tests no folders.
+#[tactic(auto, unfolding(crate::specs::Commands::ask_beside))]
+fn request_beside<'a>(name: &str, matches: &ArgMatches<'a>) -> Option<Request<'a>>
+    ensures { option_map ask_of result ≡ ask_beside name.now (rows_of (found_of matches.now)) }
 {
     if name == "run" {
         play_file_in(matches, print_in(matches))
@@ -650,8 +675,6 @@ fn request_in<'a>(name: &str, matches: &ArgMatches<'a>) -> Option<Request<'a>>
         descriptor_in(matches)
     } else if name == "generate" {
         generate_in(matches)
-    } else if name == "test" {
-        test_in(matches)
     } else if name == "lower" {
         lower_in(matches)
     } else {
@@ -659,19 +682,43 @@ fn request_in<'a>(name: &str, matches: &ArgMatches<'a>) -> Option<Request<'a>>
     }
 }
 
+#[tactic(auto, unfolding(crate::specs::Commands::ask_in))]
+fn request_in<'a>(
+    alloc: Global,
+    name: &str,
+    matches: &ArgMatches<'a>,
+) -> Result<Option<Request<'a>>, AllocError>
+    ensures { IfOk result (λ r. option_map ask_of r ≡ ask_in name.now (rows_of (found_of matches.now))) }
+{
+    if name == "test" {
+        test_in(alloc, matches)
+    } else {
+        Ok(request_beside(name, matches))
+    }
+}
+
 /// What the matches of the program's command line name, however often that reads standard input, and whether its flags go
 /// together or not.
-pub(crate) fn request_of<'a>(matches: &ArgMatches<'a>) -> Option<Request<'a>>
-    ensures { option_map ask_of result ≡ ask_met (subcommand_rows_of matches.now) }
+pub(crate) fn request_of<'a>(
+    alloc: Global,
+    matches: &ArgMatches<'a>,
+) -> Result<Option<Request<'a>>, AllocError>
+    ensures { IfOk result (λ r. option_map ask_of r ≡ ask_met (subcommand_rows_of matches.now)) }
 {
-    let (name, inner) = matches.subcommand()?;
-    request_in(name, inner)
+    match matches.subcommand() {
+        Some((name, inner)) => request_in(alloc, name, inner),
+        None => Ok(None),
+    }
 }
 
 /// What the matches of the program's command line ask for, where that reads standard input once at most and its flags go
 /// together.
-pub(crate) fn fit_request_of<'a>(matches: &ArgMatches<'a>) -> Option<Request<'a>>
-    ensures { option_map ask_of result ≡ asked_in (subcommand_rows_of matches.now) }
+pub(crate) fn fit_request_of<'a>(
+    alloc: Global,
+    matches: &ArgMatches<'a>,
+) -> Result<Option<Request<'a>>, AllocError>
+    ensures { IfOk result (λ r. option_map ask_of r ≡ asked_in (subcommand_rows_of matches.now)) }
 {
-    request_of(matches).filter(|request| request.reads_once() && request.excludes_none())
+    let request = request_of(alloc, matches)?;
+    Ok(request.filter(|request| request.reads_once() && request.excludes_none()))
 }

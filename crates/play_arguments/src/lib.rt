@@ -2,8 +2,9 @@
 //! The program's command line: which command its words ask for, with which paths and flags.
 #![tactic(auto)]
 
-ghost use Rattle.std.specs.Prelude.{◌≡◌, IfOk, IfErr, OnErr, Some, None, map};
-ghost use Rattle.clap.specs.Words.{app_of, subcommand_rows_of};
+ghost use Rattle.std.specs.Prelude.{◌≡◌, ◌⊎◌, IfOk, IfErr, Some, None, map};
+ghost use Rattle.clap.specs.Words.{app_of, kind_of, subcommand_rows_of};
+ghost use Rattle.clap.specs.declared.error.kind.ErrorKind.TheVariants.{OutOfMemory};
 ghost use Rattle.play_arguments.specs.Commands.{ask_of, asked_by, asked_in, program, IsRefusedFor};
 
 mod command_line;
@@ -30,41 +31,50 @@ pub fn request<'a>(alloc: Global, words: &'a [&'a str]) -> Result<Request<'a>, E
     ensures refused { IfErr result (IsRefusedFor (map (λ w. w.now) words.entry.now)) }
 {
     let mut command = program::program(alloc)?;
-    match_words(&mut command, words)
+    match_words(alloc, &mut command, words)
 }
 
 // What the words of the program's command ask for.
-fn match_words<'a>(command: &mut Command<'a>, words: &'a [&'a str]) -> Result<Request<'a>, Error>
+fn match_words<'a>(
+    alloc: Global,
+    command: &mut Command<'a>,
+    words: &'a [&'a str],
+) -> Result<Request<'a>, Error>
     ensures asked { app_of command.old ≡ program
         → IfOk result (λ r. asked_by (map (λ w. w.now) words.entry.now) ≡ Some (ask_of r)) }
     ensures refused { app_of command.old ≡ program → IfErr result (IsRefusedFor (map (λ w. w.now) words.entry.now)) }
 {
     match command.try_get_matches_from_mut(words) {
         Err(error) => Err(error),
-        Ok(matches) => read_matches(command, &matches),
+        Ok(matches) => read_matches(alloc, command, &matches),
     }
 }
 
 // What the matches ask for. Where they ask for nothing, an error says so, or want of memory.
 fn read_matches<'a>(
+    alloc: Global,
     command: &mut Command<'_>,
     matches: &ArgMatches<'a>,
 ) -> Result<Request<'a>, Error>
     ensures asked { IfOk result (λ r. asked_in (subcommand_rows_of matches.now) ≡ Some (ask_of r)) }
-    ensures nothing { OnErr result (asked_in (subcommand_rows_of matches.now) ≡ None) }
+    ensures refused { IfErr result (λ e. (kind_of e ≡ OutOfMemory) ⊎ (asked_in (subcommand_rows_of matches.now) ≡ None)) }
 {
-    match command_line::fit_request_of(matches) {
+    match command_line::fit_request_of(alloc, matches)? {
         Some(request) => Ok(request),
-        None => Err(refusal(command, matches)?),
+        None => Err(refusal(alloc, command, matches)?),
     }
 }
 
 // What is wrong with words in which `clap` finds no fault, and which ask for nothing.
-fn refusal(command: &mut Command<'_>, matches: &ArgMatches<'_>) -> Result<Error, AllocError> {
+fn refusal(
+    alloc: Global,
+    command: &mut Command<'_>,
+    matches: &ArgMatches<'_>,
+) -> Result<Error, AllocError> {
     let twice = "'-' stands for standard input, which can be given once only";
     let flags =
         "'--strict' and '--keep-going' check guards, and '--interactive' none: leave that out, or them";
-    match command_line::request_of(matches) {
+    match command_line::request_of(alloc, matches)? {
         Some(request) if request.reads_once() => {
             command.error(ErrorKind::ArgumentConflict, flags)
         }

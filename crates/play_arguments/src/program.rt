@@ -37,6 +37,11 @@ enum Word<'a> {
         id: &'a str,
         help: &'a str,
     },
+    // Paths, of which one has to be given at least.
+    Paths {
+        id: &'a str,
+        help: &'a str,
+    },
     // A flag, which may be given by its name.
     Flag {
         id: &'a str,
@@ -313,9 +318,9 @@ const GENERATE: Entry = Entry {
     words: &[MANIFEST, SEED, LINES, COUNT, WORLDS, VERBOSE],
 };
 
-const FOLDER: Word = Word::Path {
+const FOLDERS: Word = Word::Paths {
     id: "folder",
-    help: "The folder: of each of its files NAME.trace the manifest is NAME.toml, or else machine.toml",
+    help: "A folder: of each of its files NAME.trace the manifest is NAME.toml, or else machine.toml",
 };
 
 const TAP: Word = Word::Flag {
@@ -330,8 +335,8 @@ const REACHED: Word = Word::Flag {
 
 const TEST: Entry = Entry {
     name: "test",
-    about: "Plays the traces of a folder, and checks their guards",
-    words: &[FOLDER, TAP, REACHED, PROCESSORS, WORLDS, WORDS],
+    about: "Plays the traces of folders, and checks their guards",
+    words: &[FOLDERS, TAP, REACHED, PROCESSORS, WORLDS, WORDS],
 };
 
 const EVERY: Word = Word::Number {
@@ -376,6 +381,10 @@ fn arg<'a>(alloc: Global, word: &Word<'a>) -> Arg<'a>
 {
     match *word {
         Word::Path { id, help } => Arg::new(alloc, id).required(true).help(help),
+        Word::Paths { id, help } => Arg::new(alloc, id)
+            .required(true)
+            .action(ArgAction::Append)
+            .help(help),
         Word::Flag { id, help } => Arg::new(alloc, id)
             .long(id)
             .action(ArgAction::SetTrue)

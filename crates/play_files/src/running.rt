@@ -59,7 +59,7 @@ fn status<
     match request(alloc, words.as_slice()) {
         Ok(Request::Test(options)) => {
             let mut out = out;
-            test(rt, input, &mut out, err, commands, options)
+            test(rt, input, &mut out, err, commands, &options)
         }
         // Who reads what is told at a terminal is told more.
         Ok(request) if err.is_terminal() => {

@@ -1,12 +1,12 @@
 // SPDX-License-Identifier: MIT OR Apache-2.0
-//! Traces that are tested: all of a folder, each played with its guards.
+//! Traces that are tested: all of some folders, each played with its guards.
 use crate::commands::Commands;
 use crate::running::{carry_out, open, read_whole, text_of, unless_no_memory};
 use play_arguments::{
     MachineOptions, PlayOptions, Purpose, Request, Source, TestOptions, TextOptions,
 };
 use play_transcript::{Counts, Everyone};
-use std::alloc::AllocError;
+use std::alloc::{AllocError, Global};
 use std::io::{ErrorKind, Read, Write};
 use std::{fs, io};
 
@@ -19,9 +19,29 @@ const TEXT: TextOptions = TextOptions {
     short: false,
 };
 
-/// Plays each trace of a folder on the machine of its manifest, past guards that aren't met, and prints what came of it: a line
-/// for each in the order of their names, under one that failed what was told of it, and how many passed. Where that is asked
-/// for, it prints behind that what all of them reach.
+// A trace of a folder, by its name without the ending.
+#[derive(Drop)]
+struct Trace<'a> {
+    folder: &'a str,
+    name: String,
+}
+
+impl Trace<'_> {
+    // The name by which it is told, behind its folder's where there are several.
+    fn title(&self, alloc: Global, has_folder: bool) -> Result<String, AllocError> {
+        let Trace { folder, name } = self;
+        if has_folder {
+            format!(in alloc; "{folder}/{name}")
+        } else {
+            format!(in alloc; "{name}")
+        }
+    }
+}
+
+/// Plays each trace of the folders on the machine of its manifest, past guards that aren't met, and prints what came of it: a
+/// line for each in the order of the folders and of their names, under one that failed what was told of it, and how many
+/// passed. Where that is asked for, it prints behind that what all of them reach. All folders are read first: where one
+/// can't be, or has no trace, the first such one is told, and nothing is played.
 pub(crate) fn test<
     H: AllocGlobal + fs::Files + Clone + Drop,
     S: Read + Copy + Drop,
@@ -34,22 +54,14 @@ pub(crate) fn test<
     out: &mut W,
     err: &mut E,
     commands: &C,
-    options: TestOptions<'_>,
+    options: &TestOptions<'_>,
 ) -> Result<u8, AllocError> {
-    let names = match traces_in(rt, options.folder) {
-        Ok(names) => names,
-        Err(error) if error.kind() == ErrorKind::OutOfMemory => return Err(AllocError),
-        Err(_) => {
-            let _ = writeln!(err, "ffaplay: cannot read {}", options.folder);
-            return Ok(3);
-        }
+    let traces = match traces_of(rt, options.folders.as_slice(), err)? {
+        Some(traces) => traces,
+        None => return Ok(3),
     };
-    if names.is_empty() {
-        let _ = writeln!(err, "ffaplay: no trace in {}", options.folder);
-        return Ok(3);
-    }
     let mut report = Report::new(options.tap);
-    match play_all(rt, input, out, commands, options, &names, &mut report) {
+    match play_all(rt, input, out, commands, options, &traces, &mut report) {
         Ok(()) => Ok(report.status()),
         Err(error) if error.kind() == ErrorKind::OutOfMemory => Err(AllocError),
         Err(_) => {
@@ -57,6 +69,42 @@ pub(crate) fn test<
             Ok(3)
         }
     }
+}
+
+// The traces of all folders, each folder's in the order of their names. The first folder that can't be read, or has none, is
+// told, and then nothing comes back.
+fn traces_of<'a, H: AllocGlobal + fs::Files + Clone + Drop, E: Write>(
+    rt: &H,
+    folders: &[&'a str],
+    err: &mut E,
+) -> Result<Option<Vec<Trace<'a>>>, AllocError> {
+    let mut traces = Vec::new(rt.alloc());
+    for folder in folders {
+        match names_in(rt, folder) {
+            Ok(names) if names.is_empty() => {
+                let _ = writeln!(err, "ffaplay: no trace in {folder}");
+                return Ok(None);
+            }
+            Ok(names) => push_traces(folder, names, &mut traces)?,
+            Err(error) if error.kind() == ErrorKind::OutOfMemory => return Err(AllocError),
+            Err(_) => {
+                let _ = writeln!(err, "ffaplay: cannot read {folder}");
+                return Ok(None);
+            }
+        }
+    }
+    Ok(Some(traces))
+}
+
+fn push_traces<'a>(
+    folder: &'a str,
+    names: Vec<String>,
+    traces: &mut Vec<Trace<'a>>,
+) -> Result<(), AllocError> {
+    for name in names {
+        traces.push(Trace { folder, name })?;
+    }
+    Ok(())
 }
 
 // Plays them one by one, and prints what came of each, and of all.
@@ -70,26 +118,19 @@ fn play_all<
     input: S,
     out: &mut W,
     commands: &C,
-    options: TestOptions<'_>,
-    names: &[String],
+    options: &TestOptions<'_>,
+    traces: &[Trace<'_>],
     report: &mut Report,
 ) -> io::Result<()> {
     let alloc = rt.alloc();
     let mut counts = Counts::new();
     counts.everyone = Everyone::NOWHERE;
-    report.begin(names.len(), out)?;
-    for name in names {
+    report.begin(traces.len(), out)?;
+    for trace in traces {
         let mut told = Vec::new(alloc);
-        let status = play_one(
-            rt,
-            input,
-            commands,
-            options,
-            name.as_str(),
-            &mut told,
-            &mut counts,
-        )?;
-        report.put(name.as_str(), status, &told, out)?;
+        let status = play_one(rt, input, commands, options, trace, &mut told, &mut counts)?;
+        let title = trace.title(alloc, options.folders.len() > 1)?;
+        report.put(title.as_str(), status, &told, out)?;
     }
     report.end(out)?;
     if options.count {
@@ -99,18 +140,18 @@ fn play_all<
     out.flush()
 }
 
-// Plays a trace of a folder, and answers the status with which that ends. Where that is asked for, it is counted too.
+// Plays a trace, and answers the status with which that ends. Where that is asked for, it is counted too.
 fn play_one<H: AllocGlobal + fs::Files + Clone + Drop, S: Read + Copy + Drop, C: Commands>(
     rt: &H,
     input: S,
     commands: &C,
-    options: TestOptions<'_>,
-    name: &str,
+    options: &TestOptions<'_>,
+    trace: &Trace<'_>,
     told: &mut Vec<u8>,
     counts: &mut Counts,
 ) -> io::Result<u8> {
-    let (alloc, folder) = (rt.alloc(), options.folder);
-    let trace = format!(in alloc; "{folder}/{name}{ENDING}")?;
+    let (alloc, Trace { folder, name }) = (rt.alloc(), trace);
+    let path = format!(in alloc; "{folder}/{name}{ENDING}")?;
     let own = format!(in alloc; "{folder}/{name}.toml")?;
     let manifest = if fs::metadata(rt, own.as_str()).is_ok() {
         own
@@ -123,7 +164,7 @@ fn play_one<H: AllocGlobal + fs::Files + Clone + Drop, S: Read + Copy + Drop, C:
         processors: options.processors,
         worlds: options.worlds,
     };
-    let play = play_of(manifest.as_str(), trace.as_str(), machine, options.words);
+    let play = play_of(manifest.as_str(), path.as_str(), machine, options.words);
     let request = Request::Play(play);
     if options.count {
         count_one(rt, input, commands, &play, &request, counts)?;
@@ -178,7 +219,7 @@ fn play_of<'a>(
 const ENDING: &str = ".trace";
 
 // The names of the traces in a folder, without their endings, in order.
-fn traces_in<H: AllocGlobal + fs::Files + Clone + Drop>(
+fn names_in<H: AllocGlobal + fs::Files + Clone + Drop>(
     rt: &H,
     folder: &str,
 ) -> io::Result<Vec<String>> {

@@ -49,14 +49,13 @@ const ROW: PlayOptions<'static> = PlayOptions {
 
 const RUN: Request<'static> = Request::Play(ROW);
 
-const DEMO: Request<'static> = Request::Play(PlayOptions {
+const BUILT_IN: PlayOptions<'static> = PlayOptions {
     source: Source::BuiltIn,
     trace: "no.trace",
-    machine: MACHINE,
-    purpose: PRINT,
-    words: false,
-    verbose: false,
-});
+    ..ROW
+};
+
+const DEMO: Request<'static> = Request::Play(BUILT_IN);
 
 const CHECK: Request<'static> = Request::Check {
     manifest: "row.toml",
@@ -117,17 +116,14 @@ fn performed_once(
 // The kinds of machine that play: with RAM in frames or in one piece, and with a cache of translations or none.
 const KINDS: [(bool, bool); 4] = [(false, false), (true, false), (false, true), (true, true)];
 
-// The same command on a machine of one kind.
-fn on_kind<'a>(request: &Request<'a>, (frames, tlb): (bool, bool)) -> Request<'a> {
+// A play on a machine of one kind.
+fn on_kind<'a>(play: PlayOptions<'a>, (frames, tlb): (bool, bool)) -> Request<'a> {
     let machine = MachineOptions {
         frames,
         tlb,
         ..MACHINE
     };
-    match *request {
-        Request::Play(options) => Request::Play(PlayOptions { machine, ..options }),
-        other => other,
-    }
+    Request::Play(PlayOptions { machine, ..play })
 }
 
 // Takes up to `room` bytes. Behind these it takes nothing, or fails, and it flushes where it says so.
@@ -194,27 +190,25 @@ fn tells(
 
 #[test]
 fn tells_what_cannot_be_written(rt: HostRuntime) {
-    for request in [RUN, CHECK, LAYOUT] {
-        for room in [0, 3, 1000] {
-            let out = Stuck::new(room);
-            let trace = Some("show\n");
-            tells(
-                &rt,
-                rt.alloc(),
-                &request,
-                ROW_TEXT.as_bytes(),
-                trace,
-                out,
-                (3, CANNOT_WRITE),
-            );
-        }
+    for room in [0, 3, 1000] {
+        tells_that_it_is_stuck(&rt, rt.alloc(), &RUN, room);
+        tells_that_it_is_stuck(&rt, rt.alloc(), &CHECK, room);
+        tells_that_it_is_stuck(&rt, rt.alloc(), &LAYOUT, room);
     }
+}
+
+// A command tells that nobody takes its text behind so many bytes.
+fn tells_that_it_is_stuck(rt: &impl Abort, alloc: Global, request: &Request<'_>, room: usize) {
+    let trace = Some("show\n");
+    let wanted = (3, CANNOT_WRITE);
+    let out = Stuck::new(room);
+    tells(rt, alloc, request, ROW_TEXT.as_bytes(), trace, out, wanted);
 }
 
 // A writer fails behind each byte of the text, but the last.
 #[test]
 fn tells_that_a_write_failed(rt: HostRuntime) {
-    for (request, bytes) in [(DEMO, 151_usize), (CHECK, 9), (LAYOUT, 96)] {
+    for (request, bytes) in [(&DEMO, 151_usize), (&CHECK, 9), (&LAYOUT, 96)] {
         for room in 0..=bytes {
             let trace = Some("call 84000069\nstore 40010000 2A\n");
             let out = Stuck {
@@ -230,7 +224,7 @@ fn tells_that_a_write_failed(rt: HostRuntime) {
             tells(
                 &rt,
                 rt.alloc(),
-                &request,
+                request,
                 ROW_TEXT.as_bytes(),
                 trace,
                 out,
@@ -316,7 +310,7 @@ fn shows_help(rt: HostRuntime) {
 fn whole_or_no_memory(rt: HostRuntime) {
     let trace = Some("load 40010000 1\n");
     for kind in KINDS {
-        let request = on_kind(&RUN, kind);
+        let request = on_kind(ROW, kind);
         let got = performed_once(rt.alloc(), &request, Some(ROW_TEXT.as_bytes()), trace);
         if got.status == 3 {
             assert!(rt; got.out.is_empty() || got.out.as_slice() == b"data 00\n".as_slice());

@@ -23,4 +23,4 @@ returns-in-Ok-clause-refused c = λ is.
     c.read_matches.result
     (met_command _ (map (λ w. w.now) c.args.words.now) c.in-Ok.matches is c.in-Ok.ensures.ok.2)
     (program_fails _ (map (λ w. w.now) c.args.words.now) (Ok c.in-Ok.matches) is c.in-Ok.ensures.kinds)
-    c.read_matches.ensures.nothing
+    c.read_matches.ensures.refused

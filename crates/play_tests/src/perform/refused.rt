@@ -4,10 +4,10 @@
 
 ghost use Rattle.std.specs.Prelude.{◌≤◌};
 
-use super::{DEMO, FIRST, FIRST_TEXT, KINDS, RUN, on_kind, performed_once, program};
+use super::{BUILT_IN, FIRST, FIRST_TEXT, KINDS, ROW, RUN, on_kind, performed_once, program};
 use fixtures::{InPieces, ROW_TEXT};
 use linked_list_allocator::LocalHeap;
-use play_arguments::Request;
+use play_arguments::{PlayOptions, Request};
 use play_commands::{Commands, Files};
 use std::alloc::Global;
 use std::process::Abort;
@@ -95,7 +95,7 @@ fn is_done(
 fn done_or_no_memory(
     rt: &impl Abort,
     alloc: Global,
-    request: &Request<'_>,
+    play: PlayOptions<'_>,
     trace: &str,
     text: &[u8],
     endpoints: usize,
@@ -103,7 +103,7 @@ fn done_or_no_memory(
     requires { endpoints ≤ 8 }
 {
     for (frames, tlb) in KINDS {
-        let request = on_kind(request, (frames, tlb));
+        let request = on_kind(play, (frames, tlb));
         let ram = if frames { PAGES + LIST } else { PAGES };
         let records = ram + OWNERS + endpoints * SLOTS;
         let booted = records + RECORDS;
@@ -120,20 +120,20 @@ fn done_or_no_memory(
 
 #[test]
 fn demonstrates_or_has_no_memory(rt: HostRuntime) -> Result<(), Fail> {
-    done_or_no_memory(&rt, rt.alloc(), &DEMO, FIRST, FIRST_TEXT.as_bytes(), 2)
+    done_or_no_memory(&rt, rt.alloc(), BUILT_IN, FIRST, FIRST_TEXT.as_bytes(), 2)
 }
 
 #[test]
 fn runs_or_has_no_memory(rt: HostRuntime) -> Result<(), Fail> {
     let whole = performed_once(rt.alloc(), &RUN, Some(ROW_TEXT.as_bytes()), Some(LEND));
     assert_eq!(rt; whole.status, 0);
-    done_or_no_memory(&rt, rt.alloc(), &RUN, LEND, &whole.out, 3)
+    done_or_no_memory(&rt, rt.alloc(), ROW, LEND, &whole.out, 3)
 }
 
 // Each frame is refused in turn.
 #[test]
 fn frames_or_no_memory(rt: HostRuntime) -> Result<(), Fail> {
-    let request = on_kind(&DEMO, (true, false));
+    let request = on_kind(BUILT_IN, (true, false));
     for frame in 0..512 {
         let room = LIST + 4096 * frame;
         assert!(rt;
