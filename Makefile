@@ -29,7 +29,7 @@ gate:
 prove:
 	./ffaplay prove $(if $(JOBS),--jobs $(JOBS))
 
-# Tries all wrong bodies of the second rank, of which a landing tries a tenth, over what is kept. The last line counts them. CRATES takes
+# Tries all wrong bodies of the second rank, of which a landing tries a thirtieth, over what is kept. The last line counts them. CRATES takes
 # those of these crates alone, in this order.
 wrong:
 	bench/wrong-bodies --all --rank wrong --jobs $(or $(JOBS),4) $(CRATES)

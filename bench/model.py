@@ -1,7 +1,7 @@
 # SPDX-License-Identifier: MIT OR Apache-2.0
 """How long `rt ci` takes in the gate, reckoned from seconds of each crate and proving nothing: `bench/gate --model`.
 
-Seconds of proofs are those of `prove`, those of a wrong body bench/tenth's, of the second rank those that a landing tries; tasks stand
+Seconds of proofs are those of `prove`, those of a wrong body bench/turn's, of the second rank those that a landing tries; tasks stand
 side by side as in `rt ci`, on processors that are never idle where a task is ready. For the run of docs/GATE.md, of 250 wrong bodies, it
 reckoned a tenth more processor time than was measured, and three quarters of its time by the clock. What follows `rt ci` isn't in it.
 """
@@ -28,15 +28,15 @@ def crates():
     return below
 
 
-def tasks_of(tenth, below, wrong):
+def tasks_of(turn, below, wrong):
     """The tasks of `rt ci`: what each waits for, its work in lines, by which it is taken, and its seconds."""
     tasks = {}
     for crate, lows in below.items():
-        lines, proof, count = tenth.lines(crate), tenth.base(crate), wrong.get(crate, 0)
+        lines, proof, count = turn.lines(crate), turn.base(crate), wrong.get(crate, 0)
         proofs = [(it, "proof") for it in lows]
         tasks[crate, "proof"] = proofs, lines, 0 if crate in OF_TESTS else proof
         tasks[crate, "tests"] = proofs, lines * (crate in OF_TESTS), OF_TESTS.get(crate, 0)
-        each = tenth.SECONDS.get(crate, tenth.OF_ANOTHER)
+        each = turn.SECONDS.get(crate, turn.OF_ANOTHER)
         # The first is from nothing, and behind two or more the crate itself is tried.
         tried = (proof + each * count if count > 1 else proof) if count else 0
         tasks[crate, "wrong bodies"] = [(crate, "proof"), (crate, "tests")], lines * bool(count), tried
@@ -67,13 +67,13 @@ def told(seconds):
 
 
 def main():
-    tenth = toolchain.loaded("tenth", f"{TOP}/bench/tenth")
-    below, rank = crates(), tenth.Rank()
-    first = collections.Counter(tenth.crate_of(it) for it in tenth.edits("must-fail"))
-    second = [collections.Counter(tenth.crate_of(it) for it in rank.edits[begin:end]) for begin, end in tenth.tenths(rank, rank.costs())]
-    runs = [tasks_of(tenth, below, first + it) for it in second]
+    turn = toolchain.loaded("turn", f"{TOP}/bench/turn")
+    below, rank = crates(), turn.Rank()
+    first = collections.Counter(turn.crate_of(it) for it in turn.edits("must-fail"))
+    second = [collections.Counter(turn.crate_of(it) for it in rank.edits[begin:end]) for begin, end in turn.turns(rank, rank.costs())]
+    runs = [tasks_of(turn, below, first + it) for it in second]
     sums = [sum(it for *_, it in tasks.values()) for tasks in runs]
-    print(f"{first.total()} wrong bodies of the first rank, and a tenth of {len(rank.edits)} of the second: {told(sums)} of processor time")
+    print(f"{first.total()} wrong bodies of the first rank, and a turn of {len(rank.edits)} of the second: {told(sums)} of processor time")
     for lanes in (2, 4):
         print(f"{lanes} processors: {told([by_the_clock(it, lanes) for it in runs])} by the clock")
 
