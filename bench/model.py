@@ -2,8 +2,8 @@
 """How long `rt ci` takes in the gate, reckoned from seconds of each crate and proving nothing: `bench/gate --model`.
 
 Seconds of proofs are those of `prove`, those of a wrong body bench/turn's, of the second rank those that a landing tries; tasks stand
-side by side as in `rt ci`, on processors that are never idle where a task is ready. For the run of docs/GATE.md, of 250 wrong bodies, it
-reckoned a tenth more processor time than was measured, and three quarters of its time by the clock. What follows `rt ci` isn't in it.
+side by side as in `rt ci`, on processors that are never idle where a task is ready. For the run of docs/GATE.md, of the first rank alone, it
+reckons a twentieth less processor time than was measured, and three quarters of its time by the clock. What follows `rt ci` isn't in it.
 """
 import collections
 import os
@@ -15,9 +15,8 @@ sys.path.insert(0, f"{TOP}/bench")
 import listed  # noqa: E402
 import toolchain  # noqa: E402
 
-# Seconds of processor time of the proofs of tests, with those of their crates: those of a run of 2026-11-26, by how many of their
-# functions are left since command lines and traces are tables and rows.
-OF_TESTS = {"ffa_machine_tests": 1000, "play_tests": 440, "ffa_tests": 600}
+# Seconds of processor time of the proofs of tests, with those of their crates, as measured on 2026-11-29.
+OF_TESTS = {"ffa_machine_tests": 1036, "play_tests": 473, "ffa_tests": 360}
 
 
 def crates():
