@@ -4,8 +4,8 @@
 # sanitizers and valgrind and over a shared library, those of copies of bytes and of floating point, the example, the
 # traces of examples/ through the border beside the program, reasons too, texts on a stack of 256 KiB, and links with no
 # C library, of which one runs on a stack of 64 KiB; the archive for general registers alone; for AArch64 too, where
-# there are a compiler and an emulator for it. With --install it first installs Debian's packages for that; with
-# --install-only it does nothing else.
+# there are a compiler and an emulator for it, or with x86-64 or AArch64 for that alone. With --install it first installs
+# Debian's packages for that; with --install-only it does nothing else.
 set -euo pipefail
 here=$(cd "$(dirname "${BASH_SOURCE[0]}")" && pwd)
 top=$(dirname "$here")
@@ -15,6 +15,14 @@ if [[ ${1:-} == --install* ]]; then
     { apt-get update && apt-get install -y $packages; } >/dev/null || echo "not all packages were installed"
 fi
 if [[ ${1:-} == --install-only ]]; then exit 0; fi
+only= # the processor that is given, or both
+for word in "$@"; do
+    case $word in
+    x86-64 | AArch64) only=$word ;;
+    --install) ;;
+    *) echo "usage: c/test.sh [--install | --install-only] [x86-64 | AArch64]" >&2; exit 2 ;;
+    esac
+done
 to=$(mktemp -d)
 trap 'rm -rf "$to"' EXIT
 strict="-std=c11 -Wall -Wextra -Wpedantic -Wshadow -Werror -I$here"
@@ -201,14 +209,10 @@ explains() {
         "and of those of a table $(tail -n 1 "$to/tables")"
 }
 
-make_archive x86_64-unknown-linux-gnu || exit 1
-native=$made
-[ -n "${FFAPLAY:-}" ] || "$top/ffaplay" prove
-"$player" check "$top/examples/machine.toml" >/dev/null
-# (rust/test.sh and python/test.sh play the same)
-"$player" generate --seed 7 --lines 101000 "$top/examples/partitions.toml" >"$to/generated"
-for compiler in gcc clang; do
-    has $compiler || continue
+# What is built by a compiler for this machine: by_compiler COMPILER
+by_compiler() {
+    local compiler=$1
+    has $compiler || return 0
     for test in $tests; do
         $compiler $strict -pthread $sanitized "$here/$test.c" "$here"/{settle,names}.c "$native" -o "$to/$test"
         says "$compiler, $test, sanitized" "$to/$test"
@@ -245,9 +249,13 @@ for compiler in gcc clang; do
     says "$compiler, deep_text" "$to/deep"
     $compiler $bare "$here"/{freestanding,array,bytes,settle}.c -Wl,--whole-archive "$native" -Wl,--no-whole-archive \
         -o "$to/every"
-done
-if has g++; then
-    cat >"$to/header.cpp" <<'CPP'
+}
+
+# What is built for this machine beside that.
+beside_compilers() {
+    local symbols others
+    if has g++; then
+        cat >"$to/header.cpp" <<'CPP'
 #include "gorseplumb.h"
 #include "gorseplumb_explain.h"
 #include "gorseplumb_ffa.h"
@@ -258,30 +266,33 @@ bool is_denied(gorseplumb_machine &machine, uint16_t partition) {
     return gorseplumb_error_of(told) == GORSEPLUMB_ERROR_DENIED;
 }
 CPP
-    g++ -std=c++17 -Wall -Wextra -Wpedantic -Werror "-I$here" -c "$to/header.cpp" -o "$to/header.o"
-    echo "g++: the headers are C++ too"
-fi
-# The archive isn't instrumented by the sanitizers: valgrind looks at what it reads and writes, too. (Its threads take turns, so walks beside
-# calls are left out.)
-if has gcc && has valgrind; then
-    for test in ${tests/test_walks/}; do
-        gcc $strict -pthread -O1 -g "$here/$test.c" "$here/settle.c" "$native" -o "$to/$test"
-        says "valgrind, $test" valgrind -q --error-exitcode=9 --leak-check=full "$to/$test"
-    done
-fi
-if has gcc; then
-    stores native objdump "$to/test"
-    asks native objdump "$to/every"
-fi
-if has gcc && make_archive x86_64-unknown-linux-gnu --general-registers; then
-    general native objdump "$made" "$native" "" gcc $strict -O2
-fi
-symbols=$(nm -u "$native" | sed -n 's/^ *U //p' | grep -v '^_R\|\$' | sort -u | tr '\n' ' ')
-echo "asked of the program: $symbols"
-others=$(nm -g --defined-only "$native" | awk 'NF == 3 && $3 !~ /^gorseplumb_/ { print $3 }')
-if [[ $others ]]; then echo "names of the archive that don't begin with gorseplumb_:" $others >&2; exit 1; fi
+        g++ -std=c++17 -Wall -Wextra -Wpedantic -Werror "-I$here" -c "$to/header.cpp" -o "$to/header.o"
+        echo "g++: the headers are C++ too"
+    fi
+    # The archive isn't instrumented by the sanitizers: valgrind looks at what it reads and writes, too. (Its threads take turns, so walks beside
+    # calls are left out.)
+    if has gcc && has valgrind; then
+        for test in ${tests/test_walks/}; do
+            gcc $strict -pthread -O1 -g "$here/$test.c" "$here/settle.c" "$native" -o "$to/$test"
+            says "valgrind, $test" valgrind -q --error-exitcode=9 --leak-check=full "$to/$test"
+        done
+    fi
+    if has gcc; then
+        stores native objdump "$to/test"
+        asks native objdump "$to/every"
+    fi
+    if has gcc && make_archive x86_64-unknown-linux-gnu --general-registers; then
+        general native objdump "$made" "$native" "" gcc $strict -O2
+    fi
+    symbols=$(nm -u "$native" | sed -n 's/^ *U //p' | grep -v '^_R\|\$' | sort -u | tr '\n' ' ')
+    echo "asked of the program: $symbols"
+    others=$(nm -g --defined-only "$native" | awk 'NF == 3 && $3 !~ /^gorseplumb_/ { print $3 }')
+    if [[ $others ]]; then echo "names of the archive that don't begin with gorseplumb_:" $others >&2; exit 1; fi
+}
 
-if has aarch64-linux-gnu-gcc && has qemu-aarch64-static && make_archive aarch64-unknown-linux-gnu; then
+# What is built for AArch64, and run by an emulator.
+on_aarch64() {
+    local arm bare other
     arm="aarch64-linux-gnu-gcc $strict -O2 -static"
     for test in $tests; do
         $arm -pthread "$here/$test.c" "$here/settle.c" "$made" -o "$to/$test"
@@ -311,5 +322,18 @@ if has aarch64-linux-gnu-gcc && has qemu-aarch64-static && make_archive aarch64-
     if make_archive aarch64-unknown-linux-gnu --general-registers; then
         general AArch64 aarch64-linux-gnu-objdump "$made" "$other" qemu-aarch64-static $arm
     fi
+}
+
+[ -n "${FFAPLAY:-}" ] || "$top/ffaplay" prove
+"$player" check "$top/examples/machine.toml" >/dev/null
+# (rust/test.sh and python/test.sh play the same)
+"$player" generate --seed 7 --lines 101000 "$top/examples/partitions.toml" >"$to/generated"
+if [[ $only != AArch64 ]]; then
+    make_archive x86_64-unknown-linux-gnu || exit 1
+    native=$made
+    by_compiler gcc
+    by_compiler clang
+    beside_compilers
 fi
+if [[ $only != x86-64 ]] && has aarch64-linux-gnu-gcc && has qemu-aarch64-static && make_archive aarch64-unknown-linux-gnu; then on_aarch64; fi
 if ((missing)); then echo "passed, but for what was not run"; else echo "passed"; fi
