@@ -29,10 +29,10 @@ gate:
 prove:
 	./ffaplay prove $(if $(JOBS),--jobs $(JOBS))
 
-# Tries all wrong bodies of the second rank, of which a landing tries a thirtieth, over what is kept. The last line counts them. CRATES takes
-# those of these crates alone, in this order.
+# Tries all wrong bodies, of which a landing tries some, over what is kept. The last line counts them. CRATES takes those of these crates
+# alone, in this order.
 wrong:
-	bench/wrong-bodies --all --rank wrong --jobs $(or $(JOBS),4) $(CRATES)
+	bench/wrong-bodies --all --jobs $(or $(JOBS),4) $(CRATES)
 
 # Builds and runs the core as a C library.
 c:

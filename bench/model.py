@@ -1,22 +1,22 @@
 # SPDX-License-Identifier: MIT OR Apache-2.0
-"""How long `rt ci` takes in the gate, reckoned from seconds of each crate and proving nothing: `bench/gate --model`.
+"""How long the gate takes, reckoned from the seconds in the file bench/seconds and proving nothing: `bench/gate --model`.
 
-Seconds of proofs are those of `prove`, those of a wrong body bench/turn's, of the second rank those that a landing tries; tasks stand
-side by side as in `rt ci`, on processors that are never idle where a task is ready. For the run of docs/GATE.md, of the first rank alone, it
-reckons a twentieth less processor time than was measured, and three quarters of its time by the clock. What follows `rt ci` isn't in it.
+The parts of the gate: `rt ci`, with all tests unproved beside it; the libraries for C; the tests over the proved program and libraries. Tasks
+of `rt ci` stand side by side as there, on processors that are never idle where a task is ready. The landings are this one and the nine
+behind it, where no crate changes.
 """
-import collections
+import copy
 import os
 import sys
 
 sys.dont_write_bytecode = True
 TOP = os.path.dirname(os.path.dirname(os.path.realpath(__file__)))
 sys.path.insert(0, f"{TOP}/bench")
+import costs  # noqa: E402
 import listed  # noqa: E402
 import toolchain  # noqa: E402
 
-# Seconds of processor time of the proofs of tests, with those of their crates, as measured on 2026-11-29.
-OF_TESTS = {"ffa_machine_tests": 1036, "play_tests": 473, "ffa_tests": 360}
+TESTS = ("ffa_machine_tests", "play_tests", "ffa_tests")
 
 
 def crates():
@@ -27,19 +27,36 @@ def crates():
     return below
 
 
-def tasks_of(turn, below, wrong):
-    """The tasks of `rt ci`: what each waits for, its work in lines, by which it is taken, and its seconds."""
+def rows_of(kind):
+    """The rows of a kind, by whose they are."""
+    return {whose: seconds for (what, whose), seconds in costs.rows().items() if what == kind}
+
+
+def proofs():
+    """The proofs of `rt ci`: what each waits for, its work in lines, by which it is taken, and its seconds."""
     tasks = {}
-    for crate, lows in below.items():
-        lines, proof, count = turn.lines(crate), turn.base(crate), wrong.get(crate, 0)
-        proofs = [(it, "proof") for it in lows]
-        tasks[crate, "proof"] = proofs, lines, 0 if crate in OF_TESTS else proof
-        tasks[crate, "tests"] = proofs, lines * (crate in OF_TESTS), OF_TESTS.get(crate, 0)
-        each = turn.SECONDS.get(crate, turn.OF_ANOTHER)
-        # The first is from nothing, and behind two or more the crate itself is tried.
-        tried = (proof + each * count if count > 1 else proof) if count else 0
-        tasks[crate, "wrong bodies"] = [(crate, "proof"), (crate, "tests")], lines * bool(count), tried
+    for crate, lows in crates().items():
+        lines, waits = costs.lines(crate), [(it, "proof") for it in lows]
+        tasks[crate, "proof"] = waits, lines, costs.rows().get(("proof", crate), 0) if crate in TESTS else costs.proof(crate)
+        tasks[crate, "tests"] = waits, lines * (crate in TESTS), costs.tests(crate) if crate in TESTS else 0
+    tasks["rt ci", "rest"] = [], 0, rows_of("rest").get("rt-ci", 0)
     return tasks
+
+
+def wrong_bodies(bodies):
+    """The wrong bodies of a landing as tasks of `rt ci`, which fill what its proofs leave free."""
+    names = {}
+    for body in bodies:
+        crate, name = body.split("/")
+        names.setdefault(crate, []).append(name)
+    return {(it, "wrong bodies"): ([(it, "proof"), (it, "tests")], 0, costs.bodies(it, of)) for it, of in names.items()}
+
+
+def jobs(kind):
+    """The jobs of tests/all: what compiles comes first."""
+    rows = rows_of(kind)
+    compiling = [(it, kind) for it in rows if it.startswith("compile-")]
+    return {(it, kind): ([] if (it, kind) in compiling else compiling, 10**9, seconds) for it, seconds in rows.items()}
 
 
 def by_the_clock(tasks, lanes):
@@ -61,20 +78,61 @@ def by_the_clock(tasks, lanes):
     return now
 
 
-def told(seconds):
-    return f"{min(seconds) / 60:.0f} to {max(seconds) / 60:.0f} minutes"
+def sum_of(tasks):
+    return sum(seconds for *_, seconds in tasks.values())
+
+
+def next_landings(turn, count):
+    """This landing and those behind it, where no crate changes."""
+    landing = turn.Landing()
+    for _ in range(count):
+        yield landing
+        landed = copy.copy(landing.landed)
+        landed.number, landed.behind, landed.left = landed.number + 1, landing.behind(), landing.left
+        landed.crates = {name: (it.sources, [*it.bodies.values()]) for name, it in landing.crates.items()}
+        landing = turn.Landing(landed)
+
+
+class Gate:
+    """The parts of the gate at one landing."""
+
+    def __init__(self, landing):
+        self.proofs, self.bodies = proofs(), wrong_bodies(landing.tried())
+        self.before, self.behind, self.archives = jobs("unproved"), jobs("on-proved"), rows_of("archive")
+
+    def of_rt_ci(self):
+        return sum_of(self.proofs) + sum_of(self.bodies)
+
+    def of_rest(self):
+        return sum_of(self.before) + sum_of(self.behind) + sum(self.archives.values())
+
+    def clock(self, lanes):
+        first = by_the_clock({**self.proofs, **self.bodies, **self.before}, lanes)
+        return first + sum(self.archives.values()) / lanes + by_the_clock(self.behind, lanes)
+
+
+def minutes(values):
+    low, high = (f"{it / 60:.0f}" for it in (min(values), max(values)))
+    return low if low == high else f"{low} to {high}"
 
 
 def main():
     turn = toolchain.loaded("turn", f"{TOP}/bench/turn")
-    below, rank = crates(), turn.Rank()
-    first = collections.Counter(turn.crate_of(it) for it in turn.edits("must-fail"))
-    second = [collections.Counter(turn.crate_of(it) for it in rank.edits[begin:end]) for begin, end in turn.turns(rank, rank.costs())]
-    runs = [tasks_of(turn, below, first + it) for it in second]
-    sums = [sum(it for *_, it in tasks.values()) for tasks in runs]
-    print(f"{first.total()} wrong bodies of the first rank, and a turn of {len(rank.edits)} of the second: {told(sums)} of processor time")
-    for lanes in (2, 4):
-        print(f"{lanes} processors: {told([by_the_clock(it, lanes) for it in runs])} by the clock")
+    gates = [Gate(it) for it in next_landings(turn, 10)]
+    number, first = turn.Landing().landed.number, gates[0]
+    print(f"minutes of processor time at landing {number}, and at it and the nine behind it where no crate changes:")
+    for name, part in (
+        ("proofs of crates", lambda it: sum(seconds for (_, what), (*_, seconds) in it.proofs.items() if what == "proof")),
+        ("proofs of tests", lambda it: sum(seconds for (_, what), (*_, seconds) in it.proofs.items() if what == "tests")),
+        ("wrong bodies", lambda it: sum_of(it.bodies)),
+        ("rt ci", Gate.of_rt_ci),
+        ("tests unproved, libraries, tests over what is proved", Gate.of_rest),
+    ):
+        print(f"  {name}: {minutes([part(first)])}; {minutes([part(it) for it in gates])}")
+    print("minutes by the clock of the whole gate:")
+    for lanes in (4, 2):
+        found = [it.clock(lanes) for it in gates]
+        print(f"  {lanes} processors: {minutes(found[:1])}; {minutes(found)}; at half this speed {minutes([2 * found[0]])}; {minutes([2 * it for it in found])}")
 
 
 if __name__ == "__main__":
