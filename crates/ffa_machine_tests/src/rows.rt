@@ -34,7 +34,7 @@ mod memory;
 // Notifications.
 mod notifications;
 
-// Interrupts, and several processors.
+// A list of operations and interrupts of several processors.
 mod processors;
 
 // Which pages operations read.
