@@ -4,8 +4,8 @@ use ffa_model::Manifest;
 use ffa_physmem::{FlatRam, FrameRam};
 use ffa_playable::Playable;
 use ffa_reasons::Explained;
-use ffa_spmc::{Given, Machine, Storage};
-use ffa_tlb::{InTurn, NoTlb, Tlb, Translations};
+use ffa_spmc::Machine;
+use ffa_tlb::{InTurn, Tlb, Translations};
 use play_player::Player;
 use play_syntax::PlayError;
 use std::alloc::Global;
@@ -37,16 +37,6 @@ pub(crate) fn booted_in_frames<T: Translations + Drop>(
 ) -> Result<Machine<FrameRam, T>, Fail> {
     let ram = FrameRam::new(alloc, manifest.ram_base, 512 * manifest.ram_blocks)?;
     Ok(Machine::boot_with(manifest, ram, cache))
-}
-
-// The same with no cache, in room of the heap's.
-pub(crate) fn booted_in_room(
-    alloc: Global,
-    manifest: &Manifest,
-) -> Result<Machine<FlatRam, NoTlb, Given<Global>>, Fail> {
-    let ram = FlatRam::new(alloc, manifest.ram_base, 512 * manifest.ram_blocks)?;
-    let storage = Storage::allocate_for(alloc, manifest)?;
-    Ok(Machine::boot_in(storage, manifest, ram, NoTlb))
 }
 
 // The cache of `--tlb`.

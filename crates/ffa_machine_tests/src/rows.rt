@@ -1,24 +1,20 @@
 // SPDX-License-Identifier: MIT OR Apache-2.0
-//! Calls worked out by hand, played on the machine with two partitions, where the traces of tests/rows can't say it: rows that
-//! a loop writes, and what is asked of a machine beside a play.
+//! Calls worked out by hand, played on the machine with two partitions, where the traces of tests/rows can't say it: what is
+//! asked of a machine beside a play.
 //!
 //! A row is a text of steps: a line of the trace, an arrow, and what it prints. Registers are written as
 //! `8001: 84000061 0 1`: the runner, then the registers without their leading zeros and without the last ones that are
 //! zero. What is printed below a first line stands below it.
 use crate::checks::same;
-use crate::machines::{booted_in_frames, booted_in_room, booted_with, four_in_turn, play};
+use crate::machines::{booted_in_frames, booted_with, four_in_turn, play};
 use ffa_model::Manifest;
 use ffa_playable::Playable;
-use ffa_reasons::Explained;
 use ffa_tlb::{NoTlb, Translations};
 use fixtures::row_machine;
 use play_player::Player;
 use std::alloc::Global;
 use std::process::Abort;
 use std::test::Fail;
-
-// Buffers of several pages.
-mod buffers;
 
 // Rows on machines with a cache, and what it holds.
 mod cached;
@@ -32,16 +28,13 @@ mod elsewhere;
 // Machines that keep the bytes with which their RAM came.
 mod held;
 
-// Transactions with many ranges, and many of them.
-mod limits;
-
-// Memory transactions.
+// Steps of memory transactions.
 mod memory;
 
 // Notifications.
 mod notifications;
 
-// Interrupts, and several processors.
+// A list of operations and interrupts of several processors.
 mod processors;
 
 // Which pages operations read.
@@ -100,19 +93,6 @@ impl Row {
         Ok(())
     }
 
-    // Plays the trace on fresh machines of the rows.
-    fn check(&self, rt: &impl Abort, alloc: Global) -> Result<(), Fail> {
-        self.check_on(rt, alloc, &row_machine())
-    }
-
-    // Plays the trace on fresh machines of a manifest: in flat RAM and in room of the heap's, and in frames with a cache.
-    fn check_on(&self, rt: &impl Abort, alloc: Global, manifest: &Manifest) -> Result<(), Fail> {
-        let mut player = Player::new(Explained(booted_in_room(alloc, manifest)?));
-        self.prints(rt, alloc, &mut player)?;
-        let mut player = Player::new(Explained(booted_in_frames(alloc, manifest, four_in_turn())?));
-        self.prints(rt, alloc, &mut player)
-    }
-
     // The trace prints the text where the player is now.
     fn prints<P: Playable>(
         &self,
@@ -168,51 +148,4 @@ fn push_padded(text: &mut String, digits: &str, width: usize) -> Result<(), Fail
     }
     text.push_str(digits)?;
     Ok(())
-}
-
-// No line prints nothing, and neither does a comment or an empty line.
-#[test]
-fn lines_that_print_nothing(rt: HostRuntime) -> Result<(), Fail> {
-    let mut row = Row::new(rt.alloc());
-    row.check(&rt, rt.alloc())?;
-    row.trace.push_str("# a comment\n\n#\n")?;
-    row.add("load 40010000 1 -> data 00")?;
-    row.check(&rt, rt.alloc())
-}
-
-// The numbers of the calls, in the 32-bit form and in the other.
-fn is_narrow_call(number: u32) -> bool {
-    matches!(number, 0x63..=0x69 | 0x6B..=0x6D | 0x6F..=0x74 | 0x76 | 0x77 | 0x7D..=0x82 | 0x85 | 0x86)
-}
-
-fn is_wide_call(number: u32) -> bool {
-    matches!(number, 0x66 | 0x6F..=0x74)
-}
-
-// FFA_FEATURES of an identifier.
-fn add_feature(
-    row: &mut Row,
-    alloc: Global,
-    form: &str,
-    number: u32,
-    is_call: bool,
-) -> Result<(), Fail> {
-    let answer = if is_call {
-        "84000061"
-    } else {
-        "84000060 0 FFFFFFFF"
-    };
-    row.add(&format!(in alloc; "call 84000064 {form}0000{number:X} -> 0: {answer}")?)
-}
-
-// FFA_FEATURES of the identifiers from 84000060 to 8400008F, and of their 64-bit forms: the calls, in the forms that they
-// have, and nothing else.
-#[test]
-fn features_of_every_identifier(rt: HostRuntime) -> Result<(), Fail> {
-    let mut row = Row::new(rt.alloc());
-    for number in 0x60..0x90 {
-        add_feature(&mut row, rt.alloc(), "84", number, is_narrow_call(number))?;
-        add_feature(&mut row, rt.alloc(), "C4", number, is_wide_call(number))?;
-    }
-    row.check(&rt, rt.alloc())
 }

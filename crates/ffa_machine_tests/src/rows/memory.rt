@@ -1,6 +1,5 @@
 // SPDX-License-Identifier: MIT OR Apache-2.0
 //! Steps of memory transactions, which rows share: descriptors stored word by word, and the calls.
-use super::*;
 
 // All endpoints map their buffers, and the first partition runs.
 pub(super) const MAPPED: &str = "\
@@ -85,34 +84,3 @@ call 84000074 40 40 -> 8001: 84000075 60 60
 load 4002F000 8 -> data 00000018002F8002
 load 4002F030 8 -> data 0000004000068001
 ";
-
-// The lend at a length. What is opened is reclaimed.
-fn add_length(row: &mut Row, alloc: Global, length: u32) -> Result<(), Fail> {
-    if length >= 96 && length <= 4096 {
-        let number = length - 94;
-        add_good_length(row, alloc, length, number)
-    } else {
-        row.add(&format!(in alloc;
-            "call 84000072 {length:X} {length:X} -> 8001: 84000060 0 FFFFFFFE"
-        )?)
-    }
-}
-
-fn add_good_length(row: &mut Row, alloc: Global, length: u32, number: u32) -> Result<(), Fail> {
-    row.add(&format!(in alloc;
-        "call 84000072 {length:X} {length:X} -> 8001: 84000061 0 {number:X} 8001"
-    )?)?;
-    row.add(&format!(in alloc; "call 84000077 {number:X} 8001 -> 8001: 84000061")?)
-}
-
-// The lend at each length that it may be said to have: its 96 bytes, and no more than the page.
-#[test]
-fn a_lend_of_each_length(rt: HostRuntime) -> Result<(), Fail> {
-    let reclaim = "call 84000077 1 8001 -> 8001: 84000061";
-    let mut row = Row::of(rt.alloc(), &[MAPPED, LEND, reclaim])?;
-    for length in 0..4098 {
-        add_length(&mut row, rt.alloc(), length)?;
-    }
-    row.add("call 84000072 60 5F -> 8001: 84000060 0 FFFFFFFE")?;
-    row.check(&rt, rt.alloc())
-}
