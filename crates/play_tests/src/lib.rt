@@ -1,5 +1,5 @@
 // SPDX-License-Identifier: MIT OR Apache-2.0
-//! Tests of what stands on the player: plays line by line, reasons, generated traces, and the program's commands.
+//! Tests of what stands on the player: plays line by line, generated traces, and the program's commands.
 #![tactic(auto)]
 
 #[cfg(test)]
@@ -12,9 +12,5 @@ mod lines;
 mod machines;
 #[cfg(test)]
 mod perform;
-#[cfg(test)]
-mod printed;
-#[cfg(test)]
-mod reasons;
 #[cfg(test)]
 mod recorded;
