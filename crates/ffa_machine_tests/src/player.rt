@@ -1,12 +1,12 @@
 // SPDX-License-Identifier: MIT OR Apache-2.0
-//! The player's machine as it boots, and lines that it takes and refuses.
+//! Lines that the player takes and refuses.
 use crate::checks::{holds, same, same_at};
 use crate::machines::{FlatPlayer, booted, play};
 use ffa_model::{Op, Outcome, Size};
 use ffa_physmem::FlatRam;
 use ffa_reasons::Explained;
 use ffa_spmc::Machine;
-use fixtures::{row_machine, word_at};
+use fixtures::row_machine;
 use play_demo::built_in;
 use play_player::{Begun, Player};
 use play_syntax::PlayError;
@@ -20,25 +20,6 @@ fn demonstration(alloc: Global) -> Result<FlatPlayer, Fail> {
 
 fn rows(alloc: Global) -> Result<FlatPlayer, Fail> {
     Ok(Player::new(Explained(booted(alloc, &row_machine())?)))
-}
-
-#[test]
-fn boots_with_tables(rt: HostRuntime) -> Result<(), Fail> {
-    let player = rows(rt.alloc())?;
-    for (address, want) in [
-        (0x4000_0008, 0x0000_0000_4000_1003),
-        (0x4000_1000, 0x0000_0000_4000_2003),
-        (0x4000_2080, 0x0040_0000_4001_07FF),
-    ] {
-        same(&rt, word_at(player.machine().0.ram(), address), Some(want));
-    }
-    let player = demonstration(rt.alloc())?;
-    same(
-        &rt,
-        word_at(player.machine().0.ram(), 0x4000_5100),
-        Some(0x0000_0000_4002_07FF),
-    );
-    Ok(())
 }
 
 // What comes of two operations.

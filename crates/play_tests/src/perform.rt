@@ -9,8 +9,6 @@ use std::alloc::Global;
 use std::io::{self, Write};
 use std::process::Abort;
 
-// A block of 2 MiB of which a page is lent.
-mod blocks;
 // Memory that is refused.
 mod refused;
 // Comparisons and sessions with what can't be read or held.
