@@ -1,5 +1,5 @@
 // SPDX-License-Identifier: MIT OR Apache-2.0
-//! Why operations are refused: the manual's reasons, and the check of each call that fails.
+//! Why operations are refused: the manual's reasons, and the check of each call that fails. By what pages are reached.
 mod common;
 
 use common::explained::{briefly, explain};
@@ -7,7 +7,7 @@ use common::machines::{MACHINE, PARTITIONS};
 use common::refusals::{rows, Row};
 use common::{example, generated, play, play_line, ram, refusals, top};
 use gorseplumb::{
-    call_name, raw, registers, About, CallError, Check, ErrorCode, Fault, Flaw, Function, Id, Machine, Obstacle,
+    call_name, raw, registers, About, CallError, Check, ErrorCode, Fault, Flaw, Function, Grant, Id, Machine, Obstacle,
     RunState, Size,
 };
 use std::ffi::CStr;
@@ -133,6 +133,118 @@ fn why_accesses_fault() {
     let reason = machine.why_load(0x4020_0000, Size::B1).unwrap();
     assert_eq!(reason.address, 0x4020_0000);
     assert_eq!(reason.to_string(), "translation fault at 40200000: the page belongs to 8002");
+}
+
+/// 8001 runs, and has shared its page 28 with 8002.
+const SHARED: &str = "\
+call 8400006D 80010000
+call 84000066 4002E000 4002F000 1
+store 4002E000 00000000002F8001
+store 4002E018 0000000100000010
+store 4002E020 0000000000000030
+store 4002E030 0000004000018002
+store 4002E040 0000000100000001
+store 4002E050 0000000040028000
+store 4002E058 0000000000000001
+call 84000073 60 60
+";
+
+/// 8001 waits, and 8002 runs.
+const TO_8002: &str = "call 8400006B\ncall 8400006D 80020000\n";
+
+/// 8002 retrieves what is shared.
+const RETRIEVED: &str = "\
+call 84000066 40036000 40037000 1
+store 40036000 0000000000008001
+store 40036008 0000800100000001
+store 40036018 0000000100000010
+store 40036020 0000000000000030
+store 40036030 0000000000008002
+call 84000074 40 40
+";
+
+const SHARE: u64 = 0x8001_0000_0001;
+
+/// The machine after lines of a trace.
+fn machine_after(lines: &[&str]) -> Machine {
+    let mut machine = Machine::boot(&MACHINE).unwrap();
+    lines.iter().for_each(|lines| drop(play(&mut machine, lines)));
+    machine
+}
+
+/// Why 8001 is refused calls without arguments, once it has shared a page.
+#[test]
+fn calls_without_arguments() {
+    let machine = machine_after(&[SHARED]);
+    let short = About::Field { flaw: Flaw::HeaderShort, index: 0, first: 0, size: 48, value: None };
+    for (function, reason) in [
+        (0x8400_0063, None),
+        (0x8400_0065, Some((Check::RxEmpty, None))),
+        (0x8400_0066, Some((Check::BuffersMapped, None))),
+        (0x8400_0067, None),
+        (0x8400_0064, Some((Check::FunctionUnknown, Some(About::Register { number: 1, value: 0 })))),
+        (0x8400_0083, Some((Check::FunctionUnknown, Some(About::Register { number: 0, value: 0x8400_0083 })))),
+        (0x8400_006D, Some((Check::NotNormalWorld, None))),
+        (0x8400_006F, Some((Check::SenderIsAnother, Some(About::Endpoint(Id(0)))))),
+        (0x8400_0072, Some((Check::DescriptorMalformed, Some(short)))),
+        (0x8400_0077, Some((Check::NotTheSenders, Some(About::Handle(0))))),
+    ] {
+        let told = machine.why_call(&registers([function])).map(|reason| (reason.check, reason.about));
+        assert_eq!(told, reason, "{function:X}");
+    }
+}
+
+/// Why 8002 is refused loads of two bytes, before it has retrieved what is shared with it.
+#[test]
+fn obstacles_of_loads() {
+    let machine = machine_after(&[SHARED, TO_8002]);
+    let translation = |obstacle| Some((Fault::Translation, obstacle));
+    for (address, reason) in [
+        (0x4003_0000, None),
+        (0x4003_0001, Some((Fault::Alignment, None))),
+        (0x3FFF_F000, translation(Some(Obstacle::OutsideRam))),
+        (0x4020_0000, translation(Some(Obstacle::OutsideRam))),
+        (0x4000_0000, translation(Some(Obstacle::ManagersPage))),
+        (0x4002_0000, translation(Some(Obstacle::OwnedBy(Id(0x8001))))),
+        (0x4002_8000, translation(Some(Obstacle::InTransaction(SHARE)))),
+        (0x1_0000_0000, translation(None)),
+    ] {
+        let told = machine.why_load(address, Size::B2).map(|reason| (reason.fault, reason.obstacle));
+        assert_eq!(told, reason, "{address:X}");
+    }
+}
+
+/// By what each endpoint has its access to a page that 8002 has retrieved.
+#[test]
+fn by_what_a_share_is_reached() {
+    let machine = machine_after(&[SHARED, TO_8002, RETRIEVED]);
+    assert_eq!(machine.granted(Id(0), 0x28), None);
+    assert_eq!(machine.granted(Id(0x8001), 0x28), Some(Grant::Shared(SHARE)));
+    assert_eq!(machine.granted(Id(0x8002), 0x28), Some(Grant::Held(SHARE)));
+}
+
+/// The normal world describes in TX a lend of its page 40012000 to 8002, to read and write.
+const DESCRIBED: &str = "\
+call 84000066 40010000 40011000 1
+store 40010018 0000000100000010
+store 40010020 0000000000000030
+store 40010030 0000004000028002
+store 40010040 0000000100000001
+store 40010050 0000000040012000
+store 40010058 0000000000000001
+";
+
+/// The last check of a send, after 65,535 lends, each of which is reclaimed.
+#[test]
+fn handles_that_are_used_up() {
+    let mut machine = machine_after(&[DESCRIBED]);
+    let lend = Function::MemLend.with([0x60, 0x60]);
+    for number in 1..=65_535 {
+        machine.call(&lend).done().unwrap();
+        machine.call(&Function::MemReclaim.with([number])).done().unwrap();
+    }
+    let told = machine.why_call(&lend).map(|reason| (reason.check, reason.about));
+    assert_eq!(told, Some((Check::HandlesUsedUp, None)));
 }
 
 #[test]

@@ -1,5 +1,6 @@
 // SPDX-License-Identifier: MIT OR Apache-2.0
-//! Tests of what stands on the player: plays line by line, reasons, generated traces, and the program's commands.
+//! Tests of what stands on the player: machines that go on behind a play, comments of generated traces, and commands whose
+//! reads, writes or growths of memory fail.
 #![tactic(auto)]
 
 #[cfg(test)]
@@ -12,9 +13,3 @@ mod lines;
 mod machines;
 #[cfg(test)]
 mod perform;
-#[cfg(test)]
-mod printed;
-#[cfg(test)]
-mod reasons;
-#[cfg(test)]
-mod recorded;

@@ -2,11 +2,9 @@
 //! Machines in fresh RAM, and players on them. No contract says what they are, so no test that has one has to read it.
 use ffa_model::Manifest;
 use ffa_physmem::FlatRam;
-use ffa_playable::Playable;
 use ffa_reasons::Explained;
 use ffa_spmc::Machine;
 use play_player::Player;
-use play_syntax::PlayError;
 use std::alloc::Global;
 use std::test::Fail;
 
@@ -17,15 +15,4 @@ pub(crate) type FlatPlayer = Player<Explained<FlatRam>>;
 pub(crate) fn booted(alloc: Global, manifest: &Manifest) -> Result<Machine<FlatRam>, Fail> {
     let ram = FlatRam::new(alloc, manifest.ram_base, 512 * manifest.ram_blocks)?;
     Ok(Machine::boot(manifest, ram))
-}
-
-// Plays a trace. What it prints is added to what was printed before.
-pub(crate) fn play<P: Playable>(
-    alloc: Global,
-    player: &mut Player<P>,
-    trace: &[u8],
-    printed: &mut Vec<u8>,
-) -> Result<(), PlayError> {
-    let mut left = trace;
-    player.play(alloc, &mut left, printed)
 }

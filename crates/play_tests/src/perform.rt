@@ -1,5 +1,5 @@
 // SPDX-License-Identifier: MIT OR Apache-2.0
-//! The commands on worked manifests and traces.
+//! Commands whose output can't be written, whose input can't be read, or that are refused memory.
 
 use fixtures::ROW_TEXT;
 use play_arguments::{MachineOptions, PlayOptions, Purpose, Request, Source, TextOptions};
@@ -9,8 +9,6 @@ use std::alloc::Global;
 use std::io::{self, Write};
 use std::process::Abort;
 
-// A block of 2 MiB of which a page is lent.
-mod blocks;
 // Memory that is refused.
 mod refused;
 // Comparisons and sessions with what can't be read or held.
@@ -83,34 +81,17 @@ fn program<A>(manifests: Global, alloc: A) -> Program<Booted, A> {
     }
 }
 
-// How a command ended, with what it wrote.
-#[derive(Drop)]
-struct Ended {
-    status: u8,
-    out: Vec<u8>,
-    err: Vec<u8>,
-}
-
-fn performed(alloc: Global, request: &Request<'_>, files: Files<'_, &[u8]>) -> Ended {
-    let mut out = Vec::new(alloc);
-    let mut err = Vec::new(alloc);
-    let status = program(alloc, alloc).perform(request, files, &mut out, &mut err);
-    Ended { status, out, err }
-}
-
-fn performed_once(
-    alloc: Global,
-    request: &Request<'_>,
-    manifest: Option<&[u8]>,
-    trace: Option<&str>,
-) -> Ended {
+// What the play of a trace prints on the machine of the rows.
+fn printed(alloc: Global, trace: &str) -> Vec<u8> {
+    let (mut out, mut err) = (Vec::new(alloc), Vec::new(alloc));
     let files = Files {
-        manifest,
-        trace: trace.map(|text| text.as_bytes()),
+        manifest: Some(ROW_TEXT.as_bytes()),
+        trace: Some(trace.as_bytes()),
         expected: None,
         reason: None,
     };
-    performed(alloc, request, files)
+    program(alloc, alloc).perform(&RUN, files, &mut out, &mut err);
+    out
 }
 
 // The kinds of machine that play: with RAM in frames or in one piece, and with a cache of translations or none.
@@ -287,36 +268,16 @@ fn tells_an_earlier_fault_than_the_flush(rt: HostRuntime) {
     );
 }
 
-// Shows a help, and sees with which status that ends and what it tells.
-fn shows<W: Write>(rt: &impl Abort, alloc: Global, out: &mut W, (status, told): (u8, &str)) {
-    let mut err = Vec::new(alloc);
-    assert_eq!(rt; show(&"Usage: ffaplay", out, &mut err), status);
-    assert_eq!(rt; err.as_slice(), told.as_bytes());
+// Shows a help that nobody takes behind so many bytes.
+fn tells_that_help_is_stuck(rt: &impl Abort, alloc: Global, room: usize) {
+    let (mut out, mut err) = (Stuck::new(room), Vec::new(alloc));
+    assert_eq!(rt; show(&"Usage: ffaplay", &mut out, &mut err), 3);
+    assert_eq!(rt; err.as_slice(), CANNOT_WRITE.as_bytes());
 }
 
 #[test]
 fn shows_help(rt: HostRuntime) {
-    let mut out = Vec::new(rt.alloc());
-    shows(&rt, rt.alloc(), &mut out, (0, ""));
-    assert_eq!(rt; out.as_slice(), b"Usage: ffaplay".as_slice());
     for room in [0, 3, 1000] {
-        shows(&rt, rt.alloc(), &mut Stuck::new(room), (3, CANNOT_WRITE));
-    }
-}
-
-// For the tool's option that makes the Nth allocation fail (`rt try --test --fail-alloc N`). The script
-// tests/refused-memory refuses the built program each of them.
-#[test]
-fn whole_or_no_memory(rt: HostRuntime) {
-    let trace = Some("load 40010000 1\n");
-    for kind in KINDS {
-        let request = on_kind(ROW, kind);
-        let got = performed_once(rt.alloc(), &request, Some(ROW_TEXT.as_bytes()), trace);
-        if got.status == 3 {
-            assert!(rt; got.out.is_empty() || got.out.as_slice() == b"data 00\n".as_slice());
-        } else {
-            assert_eq!(rt; got.out.as_slice(), b"data 00\n".as_slice());
-            assert_eq!(rt; got.status, 0);
-        }
+        tells_that_help_is_stuck(&rt, rt.alloc(), room);
     }
 }

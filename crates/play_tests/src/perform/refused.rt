@@ -4,7 +4,7 @@
 
 ghost use Rattle.std.specs.Prelude.{◌≤◌};
 
-use super::{BUILT_IN, FIRST, FIRST_TEXT, KINDS, ROW, RUN, on_kind, performed_once, program};
+use super::{BUILT_IN, FIRST, FIRST_TEXT, KINDS, ROW, RUN, on_kind, printed, program};
 use fixtures::{InPieces, ROW_TEXT};
 use linked_list_allocator::LocalHeap;
 use play_arguments::{PlayOptions, Request};
@@ -125,9 +125,8 @@ fn demonstrates_or_has_no_memory(rt: HostRuntime) -> Result<(), Fail> {
 
 #[test]
 fn runs_or_has_no_memory(rt: HostRuntime) -> Result<(), Fail> {
-    let whole = performed_once(rt.alloc(), &RUN, Some(ROW_TEXT.as_bytes()), Some(LEND));
-    assert_eq!(rt; whole.status, 0);
-    done_or_no_memory(&rt, rt.alloc(), ROW, LEND, &whole.out, 3)
+    let whole = printed(rt.alloc(), LEND);
+    done_or_no_memory(&rt, rt.alloc(), ROW, LEND, &whole, 3)
 }
 
 // Each frame is refused in turn.

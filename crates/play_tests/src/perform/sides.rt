@@ -1,7 +1,7 @@
 // SPDX-License-Identifier: MIT OR Apache-2.0
 //! Comparisons whose expected text can't be read, or for which there is no memory, and a session that can't be read on.
 
-use super::{Ended, FIRST, MACHINE, RUN, TEXT, performed_once, program};
+use super::{FIRST, MACHINE, TEXT, printed, program};
 use fixtures::{InPieces, ROW_TEXT};
 use linked_list_allocator::LocalHeap;
 use play_arguments::{PlayOptions, Purpose, Request, Source};
@@ -36,8 +36,16 @@ const SESSION: Request<'static> = Request::Play(PlayOptions {
     verbose: false,
 });
 
+// How a command ended, with what it wrote.
+#[derive(Drop)]
+struct Ended {
+    status: u8,
+    out: Vec<u8>,
+    err: Vec<u8>,
+}
+
 // Compares what FIRST prints with a text that can be read so many times.
-fn compared(alloc: Global, request: &Request<'_>, expected: &[u8], reads: usize) -> Ended {
+fn compared(alloc: Global, expected: &[u8], reads: usize) -> Ended {
     let (mut out, mut err) = (Vec::new(alloc), Vec::new(alloc));
     let files = Files {
         manifest: Some(ROW_TEXT.as_bytes()),
@@ -45,7 +53,7 @@ fn compared(alloc: Global, request: &Request<'_>, expected: &[u8], reads: usize)
         expected: Some(InPieces::of(expected, 7, reads)),
         reason: None,
     };
-    let status = program(alloc, alloc).perform(request, files, &mut out, &mut err);
+    let status = program(alloc, alloc).perform(&COMPARE, files, &mut out, &mut err);
     Ended { status, out, err }
 }
 
@@ -60,13 +68,13 @@ fn ended(rt: &impl Abort, got: &Ended, (status, out, err): (u8, &[u8], &str)) {
 #[test]
 fn tells_that_the_expected_text_cannot_be_read(rt: HostRuntime) {
     let alloc = rt.alloc();
-    let whole = performed_once(alloc, &RUN, Some(ROW_TEXT.as_bytes()), Some(FIRST));
-    let needed = usize::saturating_add(whole.out.chunks(7).count(), 1);
+    let whole = printed(alloc, FIRST);
+    let needed = usize::saturating_add(whole.chunks(7).count(), 1);
     for reads in 0..needed {
-        let got = compared(alloc, &COMPARE, &whole.out, reads);
+        let got = compared(alloc, &whole, reads);
         ended(&rt, &got, (3, b"", "ffaplay: cannot read row.text\n"));
     }
-    let got = compared(alloc, &COMPARE, &whole.out, needed);
+    let got = compared(alloc, &whole, needed);
     ended(&rt, &got, (0, b"", ""));
 }
 
@@ -98,18 +106,15 @@ fn is_compared(rt: &impl Abort, alloc: Global, text: &[u8], room: usize) -> Resu
 #[test]
 fn compares_or_has_no_memory(rt: HostRuntime) -> Result<(), Fail> {
     let alloc = rt.alloc();
-    let whole = performed_once(alloc, &RUN, Some(ROW_TEXT.as_bytes()), Some(FIRST));
+    let whole = printed(alloc, FIRST);
     let booted = 512 * 4096 + 512 * 4 + 3 * 16 * 624 + 4160;
     for more in (0..16_384).step_by(1024) {
-        assert!(rt;
-            !is_compared(&rt, alloc, &whole.out, booted + more)?,
-            "{more}"
-        );
+        assert!(rt; !is_compared(&rt, alloc, &whole, booted + more)?, "{more}");
     }
     for more in (16_384..17_408).step_by(64) {
-        is_compared(&rt, alloc, &whole.out, booted + more)?;
+        is_compared(&rt, alloc, &whole, booted + more)?;
     }
-    assert!(rt; is_compared(&rt, alloc, &whole.out, booted + 20_480)?);
+    assert!(rt; is_compared(&rt, alloc, &whole, booted + 20_480)?);
     Ok(())
 }
 
