@@ -1,9 +1,9 @@
 // SPDX-License-Identifier: MIT OR Apache-2.0
-//! Cases whose answers are worked out by hand.
+//! Cases whose answers are worked out by hand. They also check the oracle.
 use crate::answers::{refusal, success, DENIED, FIRST, INVALID, LEND, NO_MEMORY, RELINQUISH, SECOND, SEND2, SHARE};
 use crate::common::ram;
 use crate::offers;
-use crate::stage::{call, Stage, RECLAIM};
+use crate::stage::{call, Stage, OFFERED, RECLAIM};
 use gorseplumb::Size;
 
 /// Each length of the lend is tried on a machine of its own, which has made no send.
@@ -15,7 +15,7 @@ fn a_first_lend_of_each_length() {
         stage.put_words(&offers::LEND);
         let is_good = (96..=4096).contains(&length);
         let want = if is_good { success(1, FIRST) } else { refusal(INVALID) };
-        stage.expect(call(LEND, length, length), want, format_args!("length {length}"));
+        stage.check(call(LEND, length, length), want, format_args!("length {length}"));
     }
 }
 
@@ -25,7 +25,7 @@ fn offsets_and_counts_that_are_none() {
     let mut pages = ram(1);
     let mut stage = Stage::new(&mut pages);
     stage.put_words(&offers::LEND);
-    stage.expect(call(LEND, 0x60, 0x5F), refusal(INVALID), "two lengths");
+    stage.check(call(LEND, 0x60, 0x5F), refusal(INVALID), "two lengths");
     let cases = [
         ("offset of the array", 32, 0xFFFF_FFF0),
         ("offset of the composite", 52, 0xFFFF_FFF0),
@@ -39,10 +39,10 @@ fn offsets_and_counts_that_are_none() {
     for (name, at, value) in cases {
         stage.put_words(&offers::LEND);
         stage.put(at, Size::B4, value);
-        stage.expect(call(LEND, 96, 96), refusal(INVALID), format_args!("the {name} is {value:#X}"));
+        stage.check(call(LEND, 96, 96), refusal(INVALID), format_args!("the {name} is {value:#X}"));
     }
     stage.put_words(&offers::LEND);
-    stage.expect(call(LEND, 96, 96), success(1, FIRST), "the good lend");
+    stage.check(call(LEND, 96, 96), success(1, FIRST), "the good lend");
 }
 
 /// A range may end at 2^48, where no RAM is, but not above.
@@ -52,9 +52,9 @@ fn ranges_at_the_last_address() {
     let mut stage = Stage::new(&mut pages);
     stage.put_words(&offers::LEND);
     stage.put_words_at(80, &[0x0000_FFFF_FFFF_F000]);
-    stage.expect(call(LEND, 96, 96), refusal(DENIED), "the last page below 2^48");
+    stage.check(call(LEND, 96, 96), refusal(DENIED), "the last page below 2^48");
     stage.put_words_at(64, &[0x1_0000_0002, 0, 0x0000_FFFF_FFFF_F000, 2]);
-    stage.expect(call(LEND, 96, 96), refusal(INVALID), "two pages around 2^48");
+    stage.check(call(LEND, 96, 96), refusal(INVALID), "two pages around 2^48");
 }
 
 #[test]
@@ -64,10 +64,10 @@ fn messages_at_their_edges() {
     let refused = [(19, 1), (20, 0xFFFF_FFEC), (4096, 0), (4096, 1), (20, 0)];
     for (offset, size) in refused {
         stage.put_words(&[0, 0x8001_8002_0000_0000 | offset, size]);
-        stage.expect(call(SEND2, 0, 0), refusal(INVALID), format_args!("offset {offset}, size {size:#X}"));
+        stage.check(call(SEND2, 0, 0), refusal(INVALID), format_args!("offset {offset}, size {size:#X}"));
     }
     stage.put_words(&[0, 0x8001_8002_0000_0FFF, 1]);
-    stage.expect(call(SEND2, 0, 0), success(0, 0), "the last byte of the page");
+    stage.check(call(SEND2, 0, 0), success(0, 0), "the last byte of the page");
 }
 
 /// A relinquish has one wrong field. Then it is good, and it is refused when nothing is held any more.
@@ -88,11 +88,12 @@ fn relinquishes_that_are_none() {
     ];
     for (case, words) in refused {
         stage.put_words(&words);
-        stage.expect(call(RELINQUISH, 0, 0), refusal(INVALID), case);
+        stage.check(call(RELINQUISH, 0, 0), refusal(INVALID), case);
     }
     stage.put_words(&[handle, 1 << 32, 0x8002]);
-    stage.expect(call(RELINQUISH, 0, 0), success(0, 0), "the good relinquish");
-    stage.expect(call(RELINQUISH, 0, 0), refusal(DENIED), "nothing is held any more");
+    stage.check(call(RELINQUISH, 0, 0), success(0, 0), "the good relinquish");
+    stage.scene.open = Some(OFFERED);
+    stage.check(call(RELINQUISH, 0, 0), refusal(DENIED), "nothing is held any more");
 }
 
 /// A sender makes as many sends as it may, and reclaims each. The next one is refused, though nothing is open. But its
@@ -103,14 +104,15 @@ fn as_many_sends_as_there_may_be() {
     let mut stage = Stage::new(&mut pages);
     stage.put_words(&offers::SHARE);
     for number in 1..=65_535 {
-        stage.expect(call(SHARE, 112, 112), success(number, FIRST), format_args!("share {number}"));
+        stage.check(call(SHARE, 112, 112), success(number, FIRST), format_args!("share {number}"));
         stage.expect(call(RECLAIM, number, FIRST), success(0, 0), format_args!("reclaim {number}"));
+        stage.scene.sent = number;
     }
-    stage.expect(call(SHARE, 112, 112), refusal(NO_MEMORY), "one share too many");
+    stage.check(call(SHARE, 112, 112), refusal(NO_MEMORY), "one share too many");
     stage.put(32, Size::B4, 47);
-    stage.expect(call(SHARE, 112, 112), refusal(INVALID), "one share too many, which is no descriptor");
+    stage.check(call(SHARE, 112, 112), refusal(INVALID), "one share too many, which is no descriptor");
     stage.turn_to(SECOND);
     stage.put_words(&offers::DONATE);
     stage.put_words_at(48, &[0x40_0002_8001]);
-    stage.expect(call(LEND, 96, 96), success(1, SECOND), "the first lend of the other partition");
+    stage.check(call(LEND, 96, 96), success(1, SECOND), "the first lend of the other partition");
 }

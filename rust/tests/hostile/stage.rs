@@ -152,6 +152,14 @@ impl<'ram> Stage<'ram> {
         assert_eq!(found, (caller, want), "{case}: {x:X?} gives {:X?}, not {want:X?}", found.1);
     }
 
+    /// Does a call whose answer is worked out by hand. The oracle must find the same answer.
+    #[track_caller]
+    pub fn check(&mut self, x: Registers, want: Registers, case: impl Display) {
+        let read = answer(&self.scene, x, &self.tx);
+        assert_eq!(read, want, "{case}: {x:X?}, of which the oracle reads {read:X?}, not {want:X?}");
+        self.expect(x, want, case);
+    }
+
     /// Does a call whose answer the oracle reads off the bytes, and undoes it.
     #[track_caller]
     pub fn compare(&mut self, x: Registers, case: impl Display) {
