@@ -1,5 +1,5 @@
 // SPDX-License-Identifier: MIT OR Apache-2.0
-//! Tests of the machine and of its player: the worked rows, hostile use, certificates, streams that fail.
+//! Tests of the machine and of its player: the worked rows, certificates, streams that fail.
 #![tactic(auto)]
 
 #[cfg(test)]
@@ -7,11 +7,7 @@ mod certificate;
 #[cfg(test)]
 mod checks;
 #[cfg(test)]
-mod hostile;
-#[cfg(test)]
 mod machines;
-#[cfg(test)]
-mod offers;
 #[cfg(test)]
 mod player;
 #[cfg(test)]
