@@ -23,9 +23,6 @@ mod buffers;
 // Rows on machines with a cache, and what it holds.
 mod cached;
 
-// What a machine tells of access that changed.
-mod changed;
-
 // Operations of endpoints that don't run.
 mod elsewhere;
 
