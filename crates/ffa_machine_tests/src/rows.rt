@@ -35,9 +35,6 @@ mod limits;
 // Memory transactions.
 mod memory;
 
-// Notifications.
-mod notifications;
-
 // Interrupts, and several processors.
 mod processors;
 
