@@ -19,9 +19,6 @@ use std::test::Fail;
 // Rows on machines with a cache, and what it holds.
 mod cached;
 
-// What a machine tells of access that changed.
-mod changed;
-
 // Operations of endpoints that don't run.
 mod elsewhere;
 
@@ -30,9 +27,6 @@ mod held;
 
 // Steps of memory transactions.
 mod memory;
-
-// Notifications.
-mod notifications;
 
 // A list of operations and interrupts of several processors.
 mod processors;

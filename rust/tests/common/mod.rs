@@ -5,6 +5,7 @@
 pub mod explained;
 pub mod machines;
 pub mod refusals;
+pub mod steps;
 
 use gorseplumb::{registers, Fault, Id, Machine, Page, Ram, Rights, Size};
 use std::fmt::Write;

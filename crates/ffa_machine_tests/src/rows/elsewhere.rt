@@ -1,10 +1,13 @@
 // SPDX-License-Identifier: MIT OR Apache-2.0
-//! Operations of endpoints that don't run. A step begins with the endpoint whose it is, or else is the runner's.
+//! Operations of endpoints that don't run, in RAM of frames and with a cache, which C cannot have. For machines of the library
+//! rust/tests/elsewhere.rs does the same steps.
+//!
+//! A step begins with the endpoint that does it. Otherwise the runner does it.
 use super::memory::{LEND, MAPPED, RELINQUISH, RETRIEVE, RETRIEVED, TO_FIRST, TO_SECOND};
 use super::*;
 use crate::checks::{holds, holds_at};
 use ffa_model::{EndpointId, Outcome, PageNo};
-use ffa_physmem::{FlatRam, PhysMem};
+use ffa_physmem::{FrameRam, PhysMem};
 use ffa_spmc::Machine;
 use fixtures::SECOND;
 use play_syntax::{Line, text};
@@ -67,7 +70,7 @@ pub(super) fn is_wanted(alloc: Global, outcome: Outcome, wanted: &str) -> Result
 }
 
 // Does steps, each of which gives what is wanted.
-pub(super) fn act<M: PhysMem + Drop, T: Translations + Drop>(
+fn act<M: PhysMem + Drop, T: Translations + Drop>(
     rt: &impl Abort,
     alloc: Global,
     machine: &mut Machine<M, T>,
@@ -86,14 +89,8 @@ pub(super) fn act<M: PhysMem + Drop, T: Translations + Drop>(
     Ok(())
 }
 
-// Does steps on fresh machines of the rows, without a cache and with one.
+// Does steps on a fresh machine of the rows.
 fn acts(rt: &impl Abort, alloc: Global, parts: &[&str]) -> Result<(), Fail> {
-    act(
-        rt,
-        alloc,
-        &mut booted_with(alloc, &row_machine(), NoTlb)?,
-        parts,
-    )?;
     act(
         rt,
         alloc,
@@ -102,10 +99,8 @@ fn acts(rt: &impl Abort, alloc: Global, parts: &[&str]) -> Result<(), Fail> {
     )
 }
 
-// Who doesn't run is answered BUSY, itself, and nothing changes; the runner is served.
-#[test]
-fn calls_of_who_does_not_run(rt: HostRuntime) -> Result<(), Fail> {
-    let steps = "\
+// A call of an endpoint that doesn't run is refused with BUSY, and nothing changes. The runner is served.
+const CALLS: &str = "\
 8001 call 84000069 -> 8001: 84000060 0 FFFFFFFC
 8002 call 8400006B -> 8002: 84000060 0 FFFFFFFC
 8001 call 84000066 4002E000 4002F000 1 -> 8001: 84000060 0 FFFFFFFC
@@ -115,13 +110,9 @@ call 8400006D 80010000 -> 8001: 8400006D 80010000
 0 call 84000069 -> 0: 84000060 0 FFFFFFFC
 call 84000066 4002E000 4002F000 1 -> 8001: 84000061
 ";
-    acts(&rt, rt.alloc(), &[steps])
-}
 
-// An access goes by the table of its endpoint, whoever runs, and who runs later finds what was stored.
-#[test]
-fn accesses_of_who_does_not_run(rt: HostRuntime) -> Result<(), Fail> {
-    let steps = "\
+// An access uses the tables of its endpoint, whoever runs. A later runner finds the bytes that it stored.
+const ACCESSES: &str = "\
 8001 load 40020000 1 -> data 0
 8001 store 40020000 5A -> done
 8001 load 40020000 1 -> data 5A
@@ -137,10 +128,8 @@ load 40020000 1 -> data 5A
 0 load 40010000 1 -> data 5B
 8002 load 40020000 1 -> fault translation
 ";
-    acts(&rt, rt.alloc(), &[steps])
-}
 
-// The borrower of a page has it while the lender runs, and the lender hasn't while the borrower runs.
+// The borrower of a page has access while the lender runs, and the lender has none while the borrower runs.
 const BEFORE: &str = "\
 8002 load 40021000 1 -> fault translation
 0 load 40021000 1 -> fault translation
@@ -158,9 +147,18 @@ load 40021000 1 -> fault translation
 
 const AFTER: &str = "8002 load 40021000 1 -> fault translation\n";
 
+fn is_held<T: Translations + Drop>(machine: &Machine<FrameRam, T>) -> bool {
+    machine.cache().lookup(SECOND, LENT).is_some()
+}
+
+// The steps give what is wanted. A translation for an endpoint that doesn't run is gone when its access ends.
 #[test]
-fn a_lend_between_two_processors(rt: HostRuntime) -> Result<(), Fail> {
-    let parts = [
+fn in_frames_with_a_cache(rt: HostRuntime) -> Result<(), Fail> {
+    let alloc = rt.alloc();
+    acts(&rt, alloc, &[CALLS])?;
+    acts(&rt, alloc, &[ACCESSES])?;
+    let mut machine = booted_in_frames(alloc, &row_machine(), four_in_turn())?;
+    let taken = [
         MAPPED,
         LEND,
         BEFORE,
@@ -169,30 +167,12 @@ fn a_lend_between_two_processors(rt: HostRuntime) -> Result<(), Fail> {
         RETRIEVED,
         LENDER_RESTS,
         TO_FIRST,
-        BORROWER_RESTS,
-        TO_SECOND,
-        RELINQUISH,
-        TO_FIRST,
-        AFTER,
     ];
-    acts(&rt, rt.alloc(), &parts)
-}
-
-fn is_held<T: Translations + Drop>(machine: &Machine<FlatRam, T>) -> bool {
-    machine.cache().lookup(SECOND, LENT).is_some()
-}
-
-// What is held for who doesn't run is gone once its access has ended.
-#[test]
-fn a_translation_of_who_does_not_run(rt: HostRuntime) -> Result<(), Fail> {
-    let alloc = rt.alloc();
-    let mut machine = booted_with(alloc, &row_machine(), four_in_turn())?;
-    let taken = [MAPPED, LEND, TO_SECOND, RETRIEVE, RETRIEVED, TO_FIRST];
     act(&rt, alloc, &mut machine, &taken)?;
     holds(&rt, !is_held(&machine));
     act(&rt, alloc, &mut machine, &[BORROWER_RESTS])?;
     holds(&rt, is_held(&machine));
     act(&rt, alloc, &mut machine, &[TO_SECOND, RELINQUISH])?;
     holds(&rt, !is_held(&machine));
-    Ok(())
+    act(&rt, alloc, &mut machine, &[TO_FIRST, AFTER])
 }

@@ -1,13 +1,11 @@
 // SPDX-License-Identifier: MIT OR Apache-2.0
-//! Rows on machines that keep the bytes with which their RAM came.
+//! A row on machines that keep the bytes with which their RAM came: in RAM of frames with a cache, and in room of the heap's. C can
+//! have neither. For machines of the library rust/tests/held.rs plays the same row.
 ghost use Rattle.std.specs.Prelude.{◌≡◌, ◌*◌, IfOk, length};
 
 use super::*;
-use crate::certificate::certificate;
-use crate::checks::{holds, holds_at};
-use crate::machines::booted_with;
 use ffa_manifest::read;
-use ffa_model::{EndpointId, Manifest, PageNo};
+use ffa_model::Manifest;
 use ffa_physmem::{FlatRam, FrameRam, PhysMem};
 use ffa_reasons::Explained;
 use ffa_spmc::{Given, Machine, Storage};
@@ -90,51 +88,10 @@ fn marked_flat(alloc: Global, manifest: &Manifest) -> Result<FlatRam, Fail>
     marked(ram, manifest)
 }
 
-// Whether a page of RAM is as a boot has to leave it: an endpoint's has its mark, any other is zeros.
-fn is_as_booted<M: PhysMem + Drop>(machine: &Machine<M>, page: u32) -> bool {
-    let ram = machine.ram();
-    if page >= ram.pages() {
-        return false;
-    }
-    if machine.owner_of(PageNo(page)) == EndpointId::MANAGER {
-        *ram.page(PageNo(page)) == [0; 4096]
-    } else {
-        ram.read_word(PageNo(page), 0) == mark(page)
-            && ram.read_word(PageNo(page), 511) == mark(page)
-    }
-}
-
-// Whether two machines have the same bytes in a page.
-fn are_alike<M: PhysMem + Drop>(one: &Machine<M>, other: &Machine<M>, page: u32) -> bool {
-    let (one, other) = (one.ram(), other.ram());
-    page < one.pages() && page < other.pages() && one.page(PageNo(page)) == other.page(PageNo(page))
-}
-
-// The pages of tables are those of a boot that clears RAM, and all others are as they have to be.
-#[test]
-fn keeps_the_pages_of_regions(rt: HostRuntime) -> Result<(), Fail> {
-    let manifest = read(rt.alloc(), MANIFEST)?;
-    let cleared = booted_with(rt.alloc(), &manifest, NoTlb)?;
-    let machine = Machine::boot_held(&manifest, marked_flat(rt.alloc(), &manifest)?, NoTlb);
-    for page in 0..machine.ram().pages() {
-        let is_right = if page < 9 {
-            are_alike(&machine, &cleared, page)
-        } else {
-            is_as_booted(&machine, page)
-        };
-        holds_at(&rt, is_right, &page);
-    }
-    let runs = certificate(rt.alloc(), &machine)?;
-    holds(&rt, machine.audit(runs.as_slice()));
-    Ok(())
-}
-
-// What stands in regions is loaded and fetched, by whoever may, in RAM of each kind and in either room.
+// Endpoints load and fetch the bytes of their regions, and reach no others.
 #[test]
 fn loads_what_came_with_ram(rt: HostRuntime) -> Result<(), Fail> {
     let manifest = read(rt.alloc(), MANIFEST)?;
-    let held = Machine::boot_held(&manifest, marked_flat(rt.alloc(), &manifest)?, NoTlb);
-    goes_on(&rt, rt.alloc(), &mut Player::new(Explained(held)), ROW)?;
     let frames = FrameRam::new(rt.alloc(), manifest.ram_base, 512 * manifest.ram_blocks)?;
     let framed = Machine::boot_held(&manifest, marked(frames, &manifest)?, four_in_turn());
     goes_on(&rt, rt.alloc(), &mut Player::new(Explained(framed)), ROW)?;
