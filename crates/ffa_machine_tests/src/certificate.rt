@@ -1,14 +1,15 @@
 // SPDX-License-Identifier: MIT OR Apache-2.0
-//! The certificate of a machine in RAM of frames with a cache, which C cannot have. Those of the library's machines, and tables
-//! with a bit flipped, are tested in rust/tests/audits.rs.
+//! The certificates of machines with a cache or in RAM of frames, which C cannot have. Those of the library's machines, of each
+//! size, and tables with a bit flipped are tested in rust/tests/audits.rs.
 use crate::checks::{holds, same};
-use crate::machines::{booted_in_frames, four_in_turn};
+use crate::machines::{booted_in_frames, booted_with, four_in_turn};
 use ffa_model::{CertRun, PageNo, Rights};
 use ffa_physmem::PhysMem;
 use ffa_spmc::Machine;
-use ffa_tlb::Translations;
+use ffa_tlb::{NoTlb, Translations};
 use fixtures::row_machine;
 use std::alloc::Global;
+use std::process::Abort;
 use std::test::Fail;
 
 // The run of pages that begins here.
@@ -52,17 +53,45 @@ fn passes_with<M: PhysMem + Drop, T: Translations + Drop>(
     machine.audit(runs.as_slice())
 }
 
+// Whether a machine gives its own certificate where the last run begins a page later.
+fn passes_with_a_gap<M: PhysMem + Drop, T: Translations + Drop>(
+    machine: &Machine<M, T>,
+    runs: &mut Vec<CertRun>,
+) -> bool {
+    if let Some(last) = runs.last_mut() {
+        last.first = PageNo(last.first.0.saturating_add(1));
+    }
+    machine.audit(runs.as_slice())
+}
+
 // A machine gives its own certificate, which has a run for each endpoint, one before and one after; but not with a right
-// to the first run.
-#[test]
-fn a_machine_in_frames_with_a_cache(rt: HostRuntime) -> Result<(), Fail> {
-    let machine = booted_in_frames(rt.alloc(), &row_machine(), four_in_turn())?;
-    let mut runs = certificate(rt.alloc(), &machine)?;
-    same(&rt, runs.len(), 5);
+// to the first run, not with a gap before the last, and not without the last.
+fn check<M: PhysMem + Drop, T: Translations + Drop>(
+    rt: &impl Abort,
+    alloc: Global,
+    machine: &Machine<M, T>,
+) -> Result<(), Fail> {
+    let mut runs = certificate(alloc, machine)?;
+    same(rt, runs.len(), 5);
     holds(
-        &rt,
-        !passes_with(&machine, &mut runs, Some(Rights::default())),
+        rt,
+        !passes_with(machine, &mut runs, Some(Rights::default())),
     );
-    holds(&rt, passes_with(&machine, &mut runs, None));
+    holds(rt, passes_with(machine, &mut runs, None));
+    holds(rt, !passes_with_a_gap(machine, &mut runs));
+    let _last = runs.pop();
+    holds(rt, !machine.audit(runs.as_slice()));
     Ok(())
+}
+
+#[test]
+fn machines_with_a_cache_or_in_frames(rt: HostRuntime) -> Result<(), Fail> {
+    let (alloc, manifest) = (rt.alloc(), row_machine());
+    check(&rt, alloc, &booted_with(alloc, &manifest, four_in_turn())?)?;
+    check(&rt, alloc, &booted_in_frames(alloc, &manifest, NoTlb)?)?;
+    check(
+        &rt,
+        alloc,
+        &booted_in_frames(alloc, &manifest, four_in_turn())?,
+    )
 }
