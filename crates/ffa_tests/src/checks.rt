@@ -8,11 +8,6 @@ pub(crate) fn same<T: PartialEq + Debug + Drop>(rt: &impl Abort, found: T, wante
     assert_eq!(rt; found, wanted);
 }
 
-// Two values of a type that isn't printed are the same.
-pub(crate) fn alike<T: PartialEq + Drop>(rt: &impl Abort, found: T, wanted: T) {
-    assert!(rt; found == wanted);
-}
-
 // Two values are the same in this case.
 pub(crate) fn same_at<T: PartialEq + Debug + Drop>(
     rt: &impl Abort,
