@@ -192,26 +192,15 @@ fn said_of_notifications(call: Call) -> (&'static str, [u64; 8]) {
     }
 }
 
-fn check_call(
-    rt: &impl Abort,
-    alloc: Global,
-    call: Call,
-    row: &str,
-    wanted: &str,
-) -> Result<(), Fail> {
-    let (name, numbers) = said(call);
-    let printed = format!(in alloc; "{name} {numbers:?}")?;
-    same_at(rt, printed.as_str(), wanted, &row);
-    Ok(())
-}
-
 // Rows of identifiers, with this in x1.
 fn check_calls(rt: &impl Abort, alloc: Global, rows: &str, x1: u64) -> Result<(), Fail> {
     for row in rows.lines() {
         let (function, wanted) = row.split_once(' ').ok_or("no call")?;
         let mut x = registers(u32::from_str_radix(function, 16)?);
         x[1] = x1;
-        check_call(rt, alloc, decode(x), row, wanted)?;
+        let (name, numbers) = said(decode(x));
+        let printed = format!(in alloc; "{name} {numbers:?}")?;
+        same_at(rt, printed.as_str(), wanted, &row);
     }
     Ok(())
 }

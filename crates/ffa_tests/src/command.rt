@@ -2,7 +2,7 @@
 //! Which kind of machine a command line asks for: no text of a play shows it.
 use crate::checks::same_at;
 use play_arguments::{MachineOptions, Request, request};
-use std::alloc::{AllocError, Global};
+use std::alloc::Global;
 use std::process::Abort;
 use std::test::Fail;
 
@@ -23,17 +23,12 @@ fn asked<'a>(alloc: Global, words: &'a [&'a str]) -> &'static str {
     }
 }
 
-fn words_of(alloc: Global, line: &str) -> Result<Vec<&str>, AllocError> {
+fn check_line(rt: &impl Abort, alloc: Global, row: &str) -> Result<(), Fail> {
+    let (line, wanted) = row.split_once(" => ").ok_or("no arrow")?;
     let mut words = Vec::new(alloc);
     for word in line.split(' ') {
         words.push(word)?;
     }
-    Ok(words)
-}
-
-fn check_line(rt: &impl Abort, alloc: Global, row: &str) -> Result<(), Fail> {
-    let (line, wanted) = row.split_once(" => ").ok_or("no arrow")?;
-    let words = words_of(alloc, line)?;
     same_at(rt, asked(alloc, words.as_slice()), wanted, &row);
     Ok(())
 }
