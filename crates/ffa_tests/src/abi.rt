@@ -1,7 +1,7 @@
 // SPDX-License-Identifier: MIT OR Apache-2.0
 //! The identifiers and values of the standard.
-use crate::checks::{holds_at, same, same_at};
-use ffa_abi::{call_name, decode, encode, error_name, is_read_whole};
+use crate::checks::{same, same_at};
+use ffa_abi::{call_name, decode, encode, error_name};
 use ffa_model::{Call, DirectMessage, EndpointId, NotificationBits, Reply, Transfer};
 use std::alloc::Global;
 use std::process::Abort;
@@ -255,40 +255,4 @@ fn names_of_calls_and_errors(rt: HostRuntime) -> Result<(), Fail> {
         same_at(&rt, found.as_str(), wanted, &row);
     }
     Ok(())
-}
-
-// Identifiers, and the registers that are read whole.
-const WHOLE: &str = "\
-84000066
-C4000066 1 2
-8400006F
-C400006F 3 4 5 6 7
-C4000070 3 4 5 6 7
-84000073
-C4000071 3
-C4000072 3
-C4000073 3
-C4000074 3
-C4000063";
-
-fn check_whole(rt: &impl Abort, line: &str) {
-    let (function, whole) = line.split_once(' ').unwrap_or((line, ""));
-    let Ok(function) = u32::from_str_radix(function, 16) else {
-        return holds_at(rt, false, &line);
-    };
-    let x = registers(function);
-    for (register, digit) in ["0", "1", "2", "3", "4", "5", "6", "7"]
-        .into_iter()
-        .enumerate()
-    {
-        let is_whole = is_read_whole(&x, register as u32);
-        holds_at(rt, is_whole == whole.contains(digit), &line);
-    }
-}
-
-#[test]
-fn registers_that_are_read_whole(rt: HostRuntime) {
-    for line in WHOLE.lines() {
-        check_whole(&rt, line);
-    }
 }

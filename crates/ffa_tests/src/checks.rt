@@ -21,8 +21,3 @@ pub(crate) fn same_at<T: PartialEq + Debug + Drop>(
 pub(crate) fn holds(rt: &impl Abort, found: bool) {
     assert!(rt; found);
 }
-
-// It holds in this case.
-pub(crate) fn holds_at(rt: &impl Abort, found: bool, case: &impl Display) {
-    assert!(rt; found, "at {case}");
-}
