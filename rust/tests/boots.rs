@@ -3,10 +3,10 @@
 mod common;
 
 use common::machines::{MACHINE, WORLD};
-use common::{example, ram, RAM};
+use common::{example, play, ram, RAM};
 use gorseplumb::{
-    BootError, Cause, CountError, Endpoint, Id, Lent, Machine, Manifest, Properties, Refusal, Region, Rights, Version,
-    MOST_BLOCKS,
+    BootError, Cause, CountError, Endpoint, Id, Lent, Machine, Manifest, Properties, Refusal, Region, Rights, Size,
+    Version, MOST_BLOCKS,
 };
 
 /// Stands for all of the text from the first endpoint on.
@@ -92,6 +92,58 @@ fn each_cause_of_numbers() {
     refuses(&MACHINE.with_tables(504), Cause::TablesOutside);
     refuses(&MACHINE.with_tables(u32::MAX), Cause::TablesOutside);
     refuses(&MACHINE.with_tables(63), Cause::RegionOutside);
+}
+
+/// RAM that can't be so, and two endpoints that make no machine by one number.
+#[test]
+fn numbers_that_make_no_machine() {
+    let base = RAM as u32;
+    let partition = |uuid, at| Endpoint::partition([uuid; 16], Version::V1_1, Properties::ALL, &[owned(at)]);
+    let endpoints = [WORLD, partition(1, 0x20000), partition(2, 0x30000)];
+    refuses(&Manifest::new(base + 0x10_0000, 1, &endpoints), Cause::RamBase);
+    refuses(&Manifest::new(base - 0x20_0000, 2, &endpoints), Cause::RamBlocks);
+    let two = |first: (u8, Properties, u32), second: (u8, Properties, u32)| {
+        let endpoint =
+            |(uuid, properties, at)| Endpoint::partition([uuid; 16], Version::V1_1, properties, &[owned(at)]);
+        Manifest::new(base, 1, &[endpoint(first), endpoint(second)])
+    };
+    let (none, receives) = (Properties::NONE, Properties::RECEIVES_REQUESTS);
+    assert!(Machine::boot(&two((0, none, 0x10000), (1, receives, 0x20000))).is_ok());
+    refuses(&two((0, none, 0x10000), (0, none, 0x20000)), Cause::Uuid);
+    refuses(&two((0, receives, 0x10000), (1, none, 0x20000)), Cause::Property);
+    refuses(&two((0, none, 0x5000), (1, none, 0x20000)), Cause::RegionOutside);
+    refuses(&two((0, none, 0x10000), (1, none, 0x1F000)), Cause::RegionOverlap);
+}
+
+/// Sixteen pages that may be read, from this offset in RAM on.
+fn owned(at: u32) -> Region {
+    Region::new(RAM as u32 + at, 16, Rights::Ro)
+}
+
+/// A machine of numbers has what they say: RAM and pages, properties and UUIDs.
+#[test]
+fn numbers_are_what_the_machine_has() {
+    let mut machine = Machine::boot(&MACHINE).unwrap();
+    let pages = "runner 0000\n\
+                 pages 40000000 4000FFFF 8000 --- --- ---\n\
+                 pages 40010000 4001FFFF 0000 rw- --- ---\n\
+                 pages 40020000 4002FFFF 8001 --- rwx ---\n\
+                 pages 40030000 4003FFFF 8002 --- --- rw-\n\
+                 pages 40040000 401FFFFF 8000 --- --- ---\n";
+    assert_eq!(play(&mut machine, "show"), pages);
+    let information = "call 84000066 4001E000 4001F000 1\ncall 84000068\n";
+    play(&mut machine, information);
+    let told = [
+        0x0000_010F_0001_8001,
+        0x7766_5544_3322_1100,
+        0xFFEE_DDCC_BBAA_9988,
+        0x0000_010F_0001_8002,
+        0x7766_5544_3322_1110,
+        0xFFEE_DDCC_BBAA_9988,
+    ];
+    for (place, word) in told.into_iter().enumerate() {
+        assert_eq!(machine.load(0x4001_F000 + 8 * place as u64, Size::B8), Ok(word));
+    }
 }
 
 /// Where and why nothing boots from this.

@@ -5,8 +5,8 @@ mod common;
 use common::example;
 use common::machines::{MACHINE, PARTITIONS};
 use gorseplumb::{
-    declarations, raw, registers, BootError, Cause, Fault, Id, Machine, Manifest, Operation, Outcome, Refusal, Size,
-    Told,
+    declarations, raw, registers, BootError, Cause, Endpoint, Fault, Id, Machine, Manifest, Operation, Outcome,
+    Properties, Refusal, Region, Rights, Size, Told, Version,
 };
 
 const PLACE: u64 = 0x4001_0008;
@@ -55,6 +55,21 @@ fn texts_are_read_as_numbers() {
     assert_eq!(Manifest::read(example("partitions.toml")), Ok(PARTITIONS));
     assert_eq!(Manifest::read("").err(), Some(BootError::Refused(Refusal::new(Cause::MissingKey))));
     assert_eq!(Manifest::read(b"\xFF").err().and_then(BootError::cause), Some(Cause::Toml));
+}
+
+/// The version is the endpoint's own, and changes nothing else.
+#[test]
+fn a_compact_endpoint() {
+    let text = example("machine.toml").replacen("\"1.1\"", "\"compact\"", 1);
+    let messages = Properties::SENDS_REQUESTS | Properties::INDIRECT_MESSAGES;
+    let partition =
+        |uuid: u128, region| Endpoint::partition(uuid.to_be_bytes(), Version::V1_1, Properties::ALL, &[region]);
+    let endpoints = [
+        Endpoint::normal_world(Version::Compact, messages, &[Region::new(0x4001_0000, 16, Rights::Rw)]),
+        partition(0x00112233_4455_6677_8899_aabbccddeeff, Region::new(0x4002_0000, 16, Rights::Rwx)),
+        partition(0x10112233_4455_6677_8899_aabbccddeeff, Region::new(0x4003_0000, 16, Rights::Rw)),
+    ];
+    assert_eq!(Manifest::read(text), Ok(Manifest::new(0x4000_0000, 1, &endpoints)));
 }
 
 #[test]

@@ -1,39 +1,204 @@
 // SPDX-License-Identifier: MIT OR Apache-2.0
-//! Words of the table pages: after boot, and of a block of 2 MiB of which one page is lent. docs/FORMATS.md, "Check and
-//! layout", says what they hold.
+//! The words of tables in RAM, by DDI 0487, D8.3: pages, blocks of 2 MiB, and which of the two stands where rights change.
 mod common;
 
 use common::machines::MACHINE;
-use common::{example, play, ram, top};
-use gorseplumb::{Machine, Page, Ram};
-use std::fs;
+use common::{example, play, ram, top, RAM};
+use gorseplumb::*;
 
-/// The word at an address.
-fn word_at<R: Ram>(machine: &Machine<R>, address: u32) -> u64 {
-    let place = (address - machine.ram_base()) as usize;
-    let mut page = Page::ZERO;
-    assert!(machine.read_page((place / 4096) as u32, &mut page));
-    let first = place % 4096;
-    u64::from_le_bytes(page.0[first..first + 8].try_into().unwrap())
+const BASE: u32 = RAM as u32;
+const FORM: Version = Version::V1_1;
+const WORLD: Id = Id::NORMAL_WORLD;
+const FIRST: Id = Id(0x8001);
+
+const fn at(page: u32) -> u32 {
+    BASE + 4096 * page
 }
 
-/// Words of the normal world's tables of all three levels, on RAM of 2 MiB.
-fn boots_the_normal_world<R: Ram>(machine: &Machine<R>) {
-    assert_eq!(word_at(machine, 0x4000_0008), 0x0000_0000_4000_1003);
-    assert_eq!(word_at(machine, 0x4000_1000), 0x0000_0000_4000_2003);
-    assert_eq!(word_at(machine, 0x4000_2080), 0x0040_0000_4001_07FF);
+/// The word at a place of a page of RAM.
+fn word<R: Ram>(machine: &Machine<R>, page: u32, place: usize) -> u64 {
+    let mut bytes = Page::ZERO;
+    assert!(machine.read_page(page, &mut bytes));
+    u64::from_le_bytes(bytes.0[8 * place..][..8].try_into().unwrap())
+}
+
+fn enter(machine: &mut Machine, endpoint: Id) {
+    if machine.runner() != WORLD {
+        machine.call(&Function::MsgWait.with([])).done().unwrap();
+    }
+    if endpoint != WORLD {
+        machine.call(&Function::Run.with([u64::from(endpoint.0) << 16])).done().unwrap();
+    }
+}
+
+/// An endpoint maps two pages that follow one another, TX first.
+fn map(machine: &mut Machine, endpoint: Id, tx: u32) {
+    enter(machine, endpoint);
+    machine.call(&Function::RxtxMap.with([at(tx).into(), at(tx + 1).into(), 1])).done().unwrap();
+}
+
+/// An endpoint lends pages of its own to another, by its TX: the handle.
+fn lend(machine: &mut Machine, tx: u32, from: Id, to: Receiver, pages: &[u32]) -> u64 {
+    enter(machine, from);
+    let ranges: Vec<PageRange> = pages.iter().map(|page| PageRange::new(at(*page).into(), 1)).collect();
+    machine.send(&Offer::new(Kind::Lend, from, &[to], &ranges), at(tx).into(), FORM).unwrap().handle().unwrap()
+}
+
+fn reclaim(machine: &mut Machine, owner: Id, handle: u64) {
+    enter(machine, owner);
+    machine.call(&encode(Function::MemReclaim, &[("handle", handle.into())]).unwrap()).done().unwrap();
+}
+
+/// A right, what of it an offer grants, what a retrieve asks for, and the word of the block at 0x40200000 that has it.
+const BLOCKS: [(Rights, DataAccess, InstructionAccess, u64); 3] = [
+    (Rights::Rw, DataAccess::Rw, InstructionAccess::Nx, 0x0040_0000_4020_07fd),
+    (Rights::Rwx, DataAccess::Rw, InstructionAccess::X, 0x0000_0000_4020_07fd),
+    (Rights::Ro, DataAccess::Ro, InstructionAccess::Nx, 0x0040_0000_4020_077d),
+];
+
+/// Where the normal world's buffers are, and those of 8001.
+const TX: u32 = 18;
+const TX_1: u32 = 20;
+
+/// Two blocks of RAM, of which the normal world has a page of the first and all of the second with this right; beside
+/// that, buffers in the first.
+fn two_blocks(rights: Rights) -> Machine {
+    let own = [Region::new(at(16), 1, rights), Region::new(at(512), 512, rights), Region::new(at(TX), 2, Rights::Rw)];
+    let manifest = Manifest::new(
+        BASE,
+        2,
+        &[
+            Endpoint::normal_world(FORM, Properties::NONE, &own),
+            Endpoint::partition([1; 16], FORM, Properties::NONE, &[Region::new(at(TX_1), 2, Rights::Rw)]),
+        ],
+    );
+    let mut machine = Machine::boot(&manifest).unwrap();
+    map(&mut machine, FIRST, TX_1);
+    map(&mut machine, WORLD, TX);
+    machine
 }
 
 #[test]
-fn boots_with_tables() {
+fn a_whole_block_is_one_word() {
+    for (rights, _, _, block) in BLOCKS {
+        let machine = two_blocks(rights);
+        assert_eq!(word(&machine, 1, 0), 0x0000_0000_4000_2003);
+        assert_eq!(word(&machine, 1, 1), block);
+        assert_eq!(word(&machine, 5, 1), 0x0000_0000_4000_7003);
+    }
+}
+
+/// The second page of the block goes to 8001 and comes back; meanwhile the last one is lent, too.
+#[test]
+fn blocks_are_split_and_joined() {
+    for (rights, data, instructions, block) in BLOCKS {
+        let mut machine = two_blocks(rights);
+        let to = Receiver { data, ..Receiver::new(FIRST) };
+        let second = lend(&mut machine, TX, WORLD, to, &[513]);
+        enter(&mut machine, FIRST);
+        let asked = Retrieve::new(WORLD, second, Receiver { data, instructions, ..to });
+        machine.send(&asked, at(TX_1).into(), FORM).unwrap();
+        assert_eq!((machine.access(WORLD, 513), machine.access(FIRST, 513)), (None, Some(rights)));
+        assert_eq!(word(&machine, 1, 1), 0x0000_0000_4000_3003);
+        assert_eq!(word(&machine, 3, 0), block ^ 2);
+        assert_eq!(word(&machine, 3, 1), 0);
+        assert_eq!(word(&machine, 5, 1), 0x0000_0000_4000_7003);
+        assert_eq!(word(&machine, 7, 1), block ^ 0x1002);
+        let last = lend(&mut machine, TX, WORLD, to, &[1023]);
+        enter(&mut machine, FIRST);
+        machine.send(&Relinquish::new(second, FIRST), at(TX_1).into(), FORM).unwrap();
+        reclaim(&mut machine, WORLD, second);
+        assert_eq!(word(&machine, 1, 1), 0x0000_0000_4000_3003);
+        reclaim(&mut machine, WORLD, last);
+        assert_eq!(word(&machine, 1, 1), block);
+        assert_eq!(word(&machine, 7, 1), 0);
+    }
+}
+
+/// The first page of the blocks that the endpoint at a place has in the largest machine: from 4 e + 1 to 4 e + 3.
+const fn first_page(place: u32) -> u32 {
+    512 * (4 * place + 1)
+}
+
+/// Whether the level 2 words of the largest machine are right: blocks where the endpoint has them and they are whole, and
+/// tables elsewhere.
+fn has_blocks(machine: &Machine, whole: bool) -> bool {
+    (0..8).all(|place: u32| {
+        (0..32).all(|block: u32| {
+            let wanted = if whole && block / 4 == place && block % 4 > 0 {
+                0x0040_0000_4000_07fd + 0x20_0000 * u64::from(block)
+            } else {
+                0x4000_0003 + 4096 * u64::from(34 * place + 2 + block)
+            };
+            word(machine, 34 * place + 1, block as usize) == wanted
+        })
+    })
+}
+
+/// Of each block that an endpoint has one page is lent, another in each, and comes back.
+#[test]
+fn blocks_of_the_largest_machine() {
+    let endpoint = |place: u32| {
+        let uuid = [place as u8; 16];
+        Endpoint::partition(uuid, FORM, Properties::NONE, &[Region::new(at(first_page(place)), 3 * 512, Rights::Rw)])
+    };
+    let endpoints: Vec<Endpoint> = (0..8).map(endpoint).collect();
+    let mut machine = Machine::boot(&Manifest::new(BASE, 32, &endpoints)).unwrap();
+    assert!(has_blocks(&machine, true));
+    let mut handles = Vec::new();
+    for place in 0..8 {
+        let (owner, other) = (Id::at(place as u16), Id::at((place as u16 + 1) % 8));
+        map(&mut machine, owner, first_page(place));
+        let pages = [1, 2, 3].map(|block| 519 * (4 * place + block));
+        handles.push((owner, lend(&mut machine, first_page(place), owner, Receiver::rw(other), &pages)));
+    }
+    assert!(has_blocks(&machine, false));
+    for (owner, handle) in handles {
+        reclaim(&mut machine, owner, handle);
+    }
+    assert!(has_blocks(&machine, true));
+}
+
+/// The word of a page by its right. Tables begin at page 64 of RAM, so that its second page may be a region's.
+#[test]
+fn pages_by_their_rights() {
+    let rows = [
+        (Rights::Rwx, 0x0000_0000_4000_17ff),
+        (Rights::Rw, 0x0040_0000_4000_17ff),
+        (Rights::Ro, 0x0040_0000_4000_177f),
+    ];
+    for (rights, leaf) in rows {
+        let endpoints = [
+            Endpoint::normal_world(FORM, Properties::NONE, &[Region::new(at(1), 1, rights)]),
+            Endpoint::partition([1; 16], FORM, Properties::NONE, &[Region::new(at(2), 1, Rights::Rw)]),
+        ];
+        let machine = Machine::boot(&Manifest::new(BASE, 1, &endpoints).with_tables(64)).unwrap();
+        assert_eq!((word(&machine, 64 + 2, 1), word(&machine, 64 + 5, 1)), (leaf, 0), "{rights}");
+    }
+}
+
+/// The first words of the tables of the normal world and 8001.
+fn has_tables_of_two<R: Ram>(machine: &Machine<R>) {
+    assert_eq!(word(machine, 0, 1), 0x0000_0000_4000_1003);
+    assert_eq!(word(machine, 1, 0), 0x0000_0000_4000_2003);
+    assert_eq!(word(machine, 1, 1), 0);
+    assert_eq!(word(machine, 2, 16), 0x0040_0000_4001_07ff);
+    assert_eq!(word(machine, 5, 32), 0x0000_0000_4002_07ff);
+}
+
+/// A boot writes them in RAM of the heap, and in lent RAM where something else stood.
+fn boots_with_tables_of_two<D: Description + ?Sized>(description: &D) {
     let mut pages = ram(1);
-    boots_the_normal_world(&Machine::boot(&MACHINE).unwrap());
-    boots_the_normal_world(&Machine::boot_lent(&MACHINE, &mut pages).unwrap());
-    // The built-in machine, whose partition may execute its pages.
-    let text = fs::read_to_string(top().join("tests/tables.d/built-in.toml")).unwrap();
-    assert_eq!(word_at(&Machine::boot(&*text).unwrap(), 0x4000_5100), 0x0000_0000_4002_07FF);
-    let lent = Machine::boot_lent(&*text, &mut pages).unwrap();
-    assert_eq!(word_at(&lent, 0x4000_5100), 0x0000_0000_4002_07FF);
+    pages[1].0[8] = 3;
+    has_tables_of_two(&Machine::boot(description).unwrap());
+    has_tables_of_two(&Machine::boot_lent(description, &mut pages).unwrap());
+}
+
+#[test]
+fn tables_at_first() {
+    boots_with_tables_of_two(&MACHINE);
+    let built_in = std::fs::read_to_string(top().join("tests/tables.d/built-in.toml")).unwrap();
+    boots_with_tables_of_two(&*built_in);
 }
 
 /// The normal world lends the page at 40201000 to 8001.
@@ -70,20 +235,19 @@ call 84000077 1
 ";
 
 /// The level 2 word of the normal world's block. It is whole with one right to all pages, which may be read and written.
-const BLOCK: u32 = 0x4000_1008;
-const WHOLE: u64 = 0x0040_0000_4020_07FD;
+const WHOLE: u64 = 0x0040_0000_4020_07fd;
 
 fn splits_a_block<R: Ram>(mut machine: Machine<R>) {
-    assert_eq!(word_at(&machine, BLOCK), WHOLE);
+    assert_eq!(word(&machine, 1, 1), WHOLE);
     play(&mut machine, LEND);
-    assert_eq!(word_at(&machine, BLOCK), 0x0000_0000_4000_3003);
-    assert_eq!(word_at(&machine, 0x4000_3000), 0x0040_0000_4020_07FF);
-    assert_eq!(word_at(&machine, 0x4000_3008), 0, "the page that is lent");
+    assert_eq!(word(&machine, 1, 1), 0x0000_0000_4000_3003);
+    assert_eq!(word(&machine, 3, 0), 0x0040_0000_4020_07ff);
+    assert_eq!(word(&machine, 3, 1), 0, "the page that is lent");
     play(&mut machine, RETRIEVE);
-    assert_eq!(word_at(&machine, 0x4000_5008), 0x0000_0000_4000_7003);
-    assert_eq!(word_at(&machine, 0x4000_7008), 0x0040_0000_4020_17FF);
+    assert_eq!(word(&machine, 5, 1), 0x0000_0000_4000_7003);
+    assert_eq!(word(&machine, 7, 1), 0x0040_0000_4020_17ff);
     play(&mut machine, GIVE_BACK);
-    assert_eq!(word_at(&machine, BLOCK), WHOLE);
+    assert_eq!(word(&machine, 1, 1), WHOLE);
 }
 
 /// RAM of 4 MiB, whose second half is a block of the normal world's. Level 2 names a level 3 page while a page of the

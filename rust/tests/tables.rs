@@ -58,6 +58,30 @@ fn keep_bytes_on_both_sides() {
     }
 }
 
+/// Tables of three endpoints have nine pages, and regions have pages 10 to 3F.
+#[test]
+fn where_tables_may_stand() {
+    let machine = Machine::boot(&MACHINE.with_tables(0x40)).unwrap();
+    assert_eq!((machine.root(Id::NORMAL_WORLD), machine.root(Id(0x8002))), (Some(0x4004_0000), Some(0x4004_6000)));
+    let pages = |manifest: &Manifest| {
+        let machine = Machine::boot(manifest).unwrap();
+        (0..512).map(|page| (machine.owner(page), machine.access(FIRST, page))).collect::<Vec<_>>()
+    };
+    assert_eq!(pages(&MACHINE.with_tables(0x40)), pages(&MACHINE));
+    let cause = |tables| Machine::boot(&MACHINE.with_tables(tables)).err().map(|error| error.cause().unwrap());
+    let rows = [
+        (7, None),
+        (8, Some(Cause::RegionOutside)),
+        (0x3F, Some(Cause::RegionOutside)),
+        (503, None),
+        (504, Some(Cause::TablesOutside)),
+        (u32::MAX, Some(Cause::TablesOutside)),
+    ];
+    for (tables, wanted) in rows {
+        assert_eq!(cause(tables), wanted, "{tables}");
+    }
+}
+
 #[test]
 fn no_text_says_it() {
     let read = Manifest::read(&*example("machine.toml")).unwrap();

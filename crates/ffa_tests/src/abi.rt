@@ -1,8 +1,8 @@
 // SPDX-License-Identifier: MIT OR Apache-2.0
 //! The identifiers and values of the standard.
-use crate::checks::{holds, holds_at, same, same_at};
-use ffa_abi::{call_name, decode, encode, error_name, is_function, is_read_whole};
-use ffa_model::{Call, DirectMessage, EndpointId, ErrorCode, NotificationBits, Reply, Transfer};
+use crate::checks::{same, same_at};
+use ffa_abi::{call_name, decode, encode, error_name};
+use ffa_model::{Call, DirectMessage, EndpointId, NotificationBits, Reply, Transfer};
 use std::alloc::Global;
 use std::process::Abort;
 use std::test::Fail;
@@ -68,6 +68,16 @@ const NOTIFICATIONS: &str = "\
 84000080 NotificationUnbind [1, 2, 17179869187, 0, 0, 0, 0, 0]
 84000081 NotificationSet [1, 2, 17179869187, 0, 0, 0, 0, 0]
 84000082 NotificationGet [1, 2, 0, 0, 0, 0, 0, 0]";
+
+// Whom a call names in w1 = 8001 0002: a sender and a receiver, or an endpoint and its execution context.
+const ENDS: &str = "\
+8400006F DirectRequest [2214592623, 2147549186, 2, 3, 4, 5, 6, 7]
+C4000070 DirectResponse [3288334448, 2147549186, 2, 700079669251, 704374636548, 708669603845, 712964571142, 717259538439]
+8400007F NotificationBind [2147549186, 2, 17179869187, 0, 0, 0, 0, 0]
+84000080 NotificationUnbind [2147549186, 2, 17179869187, 0, 0, 0, 0, 0]
+84000081 NotificationSet [2147549186, 2, 17179869187, 0, 0, 0, 0, 0]
+8400006D Run [2147549186, 0, 0, 0, 0, 0, 0, 0]
+84000082 NotificationGet [2147549186, 2, 0, 0, 0, 0, 0, 0]";
 
 fn numbers(a: u64, b: u64, c: u64, d: u64) -> [u64; 8] {
     [a, b, c, d, 0, 0, 0, 0]
@@ -182,181 +192,32 @@ fn said_of_notifications(call: Call) -> (&'static str, [u64; 8]) {
     }
 }
 
-fn check_call(
-    rt: &impl Abort,
-    alloc: Global,
-    call: Call,
-    row: &str,
-    wanted: &str,
-) -> Result<(), Fail> {
-    let (name, numbers) = said(call);
-    let printed = format!(in alloc; "{name} {numbers:?}")?;
-    same_at(rt, printed.as_str(), wanted, &row);
+// Rows of identifiers, with this in x1.
+fn check_calls(rt: &impl Abort, alloc: Global, rows: &str, x1: u64) -> Result<(), Fail> {
+    for row in rows.lines() {
+        let (function, wanted) = row.split_once(' ').ok_or("no call")?;
+        let mut x = registers(u32::from_str_radix(function, 16)?);
+        x[1] = x1;
+        let (name, numbers) = said(decode(x));
+        let printed = format!(in alloc; "{name} {numbers:?}")?;
+        same_at(rt, printed.as_str(), wanted, &row);
+    }
     Ok(())
 }
 
 #[test]
 fn calls_by_their_identifiers(rt: HostRuntime) -> Result<(), Fail> {
     for rows in [SETUP, DIRECT, MEMORY, NOTIFICATIONS] {
-        for row in rows.lines() {
-            let (function, wanted) = row.split_once(' ').ok_or("no call")?;
-            let call = decode(registers(u32::from_str_radix(function, 16)?));
-            check_call(&rt, rt.alloc(), call, row, wanted)?;
-        }
+        check_calls(&rt, rt.alloc(), rows, 0xA1_0000_0001)?;
     }
-    Ok(())
+    check_calls(&rt, rt.alloc(), ENDS, 0x8001_0002)
 }
 
-// Whom a call names in w1 = 8001 0002.
+// No result of the machine's has something in w7. tests/rows has all other answers.
 #[test]
-fn ends_of_a_call(rt: HostRuntime) {
-    for function in [
-        0x8400_006F,
-        0xC400_0070,
-        0x8400_007F,
-        0x8400_0080,
-        0x8400_0081,
-    ] {
-        let mut x = registers(function);
-        x[1] = 0x8001_0002;
-        let (sender, receiver) = match decode(x) {
-            Call::DirectRequest(message) | Call::DirectResponse(message) => {
-                (message.sender, message.receiver)
-            }
-            Call::NotificationBind(bits)
-            | Call::NotificationUnbind(bits)
-            | Call::NotificationSet(bits) => (bits.sender, bits.receiver),
-            _ => (EndpointId(0), EndpointId(0)),
-        };
-        same_at(&rt, sender.0, 0x8001, &function);
-        same_at(&rt, receiver.0, 2, &function);
-    }
-}
-
-// Which endpoint, in which of its execution contexts, w1 = 8001 0002 names.
-#[test]
-fn contexts_of_a_call(rt: HostRuntime) {
-    let mut run = registers(0x8400_006D);
-    run[1] = 0x8001_0002;
-    holds(
-        &rt,
-        matches!(
-            decode(run),
-            Call::Run {
-                target: EndpointId(0x8001),
-                context: 2
-            }
-        ),
-    );
-    let mut get = registers(0x8400_0082);
-    get[1] = 0x8001_0002;
-    holds(
-        &rt,
-        matches!(
-            decode(get),
-            Call::NotificationGet {
-                receiver: EndpointId(2),
-                context: 0x8001,
-                ..
-            }
-        ),
-    );
-}
-
-// Numbers beside the calls, results, and 64-bit forms that their calls do not have.
-#[test]
-fn no_calls(rt: HostRuntime) {
-    for function in [
-        0,
-        0x8400_0060,
-        0x8400_0061,
-        0x8400_0075,
-        0x8400_0083,
-        0x8400_0087,
-        0xC400_0063,
-        0xC400_0076,
-        0x0400_0063,
-    ] {
-        holds_at(
-            &rt,
-            matches!(decode(registers(function)), Call::Unknown),
-            &function,
-        );
-        holds_at(&rt, !is_function(function), &function);
-    }
-    holds(&rt, is_function(0x8400_0069));
-    holds(&rt, !is_function(0xC400_0069));
-    holds(&rt, is_function(0x8400_0066));
-    holds(&rt, is_function(0xC400_0066));
-    holds(&rt, !is_function(0x8400_0075));
-}
-
-// FFA_ERROR with a number in w2.
-fn refusal(number: i32) -> [u64; 8] {
-    let mut registers = [0; 8];
-    registers[0] = 0x8400_0060;
-    registers[2] = u64::from(i32::cast_unsigned(number));
-    registers
-}
-
-#[test]
-fn error_codes(rt: HostRuntime) {
-    for (code, number) in [
-        (ErrorCode::NotSupported, -1),
-        (ErrorCode::InvalidParameters, -2),
-        (ErrorCode::NoMemory, -3),
-        (ErrorCode::Busy, -4),
-        (ErrorCode::Denied, -6),
-    ] {
-        same(&rt, encode(&Reply::Error(code)), refusal(number));
-    }
-}
-
-#[test]
-fn replies(rt: HostRuntime) {
-    same(
-        &rt,
-        encode(&Reply::Version(0x10001)),
-        [0x10001, 0, 0, 0, 0, 0, 0, 0],
-    );
+fn results_in_the_last_registers(rt: HostRuntime) {
     let results = Reply::Success([0, 0, 0, 0, 1, 2]);
     same(&rt, encode(&results), [0x8400_0061, 0, 0, 0, 0, 0, 1, 2]);
-    let payload = [0x1122_3344_5566_7788, 0, 0, 0, 1 << 63];
-    let passed = Reply::Passed(DirectMessage {
-        function: 0xC400_006F,
-        sender: EndpointId(0x8002),
-        receiver: EndpointId(0x8001),
-        flags: 0,
-        payload,
-    });
-    same(
-        &rt,
-        encode(&passed),
-        [
-            0xC400_006F,
-            0x8002_8001,
-            0,
-            0x1122_3344_5566_7788,
-            0,
-            0,
-            0,
-            1 << 63,
-        ],
-    );
-    let scheduled = Reply::Scheduled {
-        function: 0x8400_006D,
-        partition: EndpointId(0x8002),
-    };
-    same(
-        &rt,
-        encode(&scheduled),
-        [0x8400_006D, 0x8002_0000, 0, 0, 0, 0, 0, 0],
-    );
-    same(
-        &rt,
-        encode(&Reply::Retrieved(0x60)),
-        [0x8400_0075, 0x60, 0x60, 0, 0, 0, 0, 0],
-    );
 }
 
 // w0 and w2, and the names of the call and of the error: a dash where there is none.
@@ -394,40 +255,4 @@ fn names_of_calls_and_errors(rt: HostRuntime) -> Result<(), Fail> {
         same_at(&rt, found.as_str(), wanted, &row);
     }
     Ok(())
-}
-
-// Identifiers, and the registers that are read whole.
-const WHOLE: &str = "\
-84000066
-C4000066 1 2
-8400006F
-C400006F 3 4 5 6 7
-C4000070 3 4 5 6 7
-84000073
-C4000071 3
-C4000072 3
-C4000073 3
-C4000074 3
-C4000063";
-
-fn check_whole(rt: &impl Abort, line: &str) {
-    let (function, whole) = line.split_once(' ').unwrap_or((line, ""));
-    let Ok(function) = u32::from_str_radix(function, 16) else {
-        return holds_at(rt, false, &line);
-    };
-    let x = registers(function);
-    for (register, digit) in ["0", "1", "2", "3", "4", "5", "6", "7"]
-        .into_iter()
-        .enumerate()
-    {
-        let is_whole = is_read_whole(&x, register as u32);
-        holds_at(rt, is_whole == whole.contains(digit), &line);
-    }
-}
-
-#[test]
-fn registers_that_are_read_whole(rt: HostRuntime) {
-    for line in WHOLE.lines() {
-        check_whole(&rt, line);
-    }
 }

@@ -8,11 +8,6 @@ pub(crate) fn same<T: PartialEq + Debug + Drop>(rt: &impl Abort, found: T, wante
     assert_eq!(rt; found, wanted);
 }
 
-// Two values of a type that isn't printed are the same.
-pub(crate) fn alike<T: PartialEq + Drop>(rt: &impl Abort, found: T, wanted: T) {
-    assert!(rt; found == wanted);
-}
-
 // Two values are the same in this case.
 pub(crate) fn same_at<T: PartialEq + Debug + Drop>(
     rt: &impl Abort,
@@ -25,9 +20,4 @@ pub(crate) fn same_at<T: PartialEq + Debug + Drop>(
 
 pub(crate) fn holds(rt: &impl Abort, found: bool) {
     assert!(rt; found);
-}
-
-// It holds in this case.
-pub(crate) fn holds_at(rt: &impl Abort, found: bool, case: &impl Display) {
-    assert!(rt; found, "at {case}");
 }

@@ -1,6 +1,7 @@
 // SPDX-License-Identifier: MIT OR Apache-2.0
-//! Tests of the crates below the machine, and of the command line, each through what its crate makes public. They stand here
-//! and not in their crates, since a crate with tests is proved twice at each landing.
+//! Tests of the crates below the machine, each through what its crate makes public: of what no trace, no table of command lines
+//! and no program over the library shows. They stand here and not in their crates, since a crate with tests is proved twice
+//! at each landing.
 #![tactic(auto)]
 
 #[cfg(test)]
@@ -10,8 +11,6 @@ mod checks;
 #[cfg(test)]
 mod command;
 #[cfg(test)]
-mod direct_messages;
-#[cfg(test)]
 mod manifest;
 #[cfg(test)]
 mod memdesc;
@@ -19,10 +18,6 @@ mod memdesc;
 mod pages;
 #[cfg(test)]
 mod physmem;
-#[cfg(test)]
-mod printed;
-#[cfg(test)]
-mod rxtx;
 #[cfg(test)]
 mod schedule;
 #[cfg(test)]
@@ -34,8 +29,4 @@ mod stage2;
 #[cfg(test)]
 mod tlb;
 #[cfg(test)]
-mod told;
-#[cfg(test)]
 mod walker;
-#[cfg(test)]
-mod words;

@@ -1,6 +1,6 @@
 // SPDX-License-Identifier: MIT OR Apache-2.0
-//! The pages of the built-in machine.
-use crate::checks::{same, same_at};
+//! A page of the built-in machine in a slot that no transaction has.
+use crate::checks::same;
 use ffa_model::{Data, EndpointId, PageNo, Rights};
 use ffa_pages::PageTable;
 use fixtures::FIRST;
@@ -43,21 +43,10 @@ fn mark(table: &mut PageTable, page: u32, slot: Option<u8>) {
 }
 
 #[test]
-fn built_in_machine(rt: HostRuntime) -> Result<(), Fail> {
+fn page_in_a_slot(rt: HostRuntime) -> Result<(), Fail> {
     let mut table = PageTable::of(&built_in());
     same(&rt, table.pages(), 512);
-    for (page, owner, right) in [
-        (0, EndpointId::MANAGER, None),
-        (15, EndpointId::MANAGER, None),
-        (16, EndpointId::NORMAL_WORLD, Some(WRITABLE)),
-        (31, EndpointId::NORMAL_WORLD, Some(WRITABLE)),
-        (32, FIRST, Some(ALL)),
-        (47, FIRST, Some(ALL)),
-        (48, EndpointId::MANAGER, None),
-        (511, EndpointId::MANAGER, None),
-    ] {
-        same_at(&rt, entry(&table, page), Some((owner, right, None)), &page);
-    }
+    same(&rt, entry(&table, 33), Some((FIRST, Some(ALL), None)));
     give(&mut table, 33, EndpointId(0), WRITABLE);
     mark(&mut table, 33, Some(127));
     give(&mut table, 33, FIRST, ALL);

@@ -2,7 +2,6 @@
 //! RAM through its trait's bound, and frames over a small heap.
 use crate::checks::{holds, same};
 use ffa_model::{Address, PageNo};
-use ffa_physmem::frames::zero_frames;
 use ffa_physmem::{FlatRam, FrameRam, NoMemory, PhysMem};
 use fixtures::{clear, copy, set_word, word};
 use linked_list_allocator::LocalHeap;
@@ -55,26 +54,6 @@ fn frame_ram(rt: HostRuntime) -> Result<(), Fail> {
     Ok(())
 }
 
-// Three frames in a heap of so much room: whole, or given back.
-fn frames_in(rt: &impl Abort, alloc: Global, room: usize) -> Result<(), Fail> {
-    let heap = LocalHeap::new(alloc, room)?;
-    let made = zero_frames(&heap, 3);
-    same(rt, made.is_ok(), 3 * 4096 < room);
-    same(rt, heap.used() == 0, made.is_err());
-    drop(made);
-    same(rt, heap.used(), 0);
-    Ok(())
-}
-
-// Each allocation is refused in turn: the list of three frames has room first, and then ever more of the frames.
-#[test]
-fn whole_or_given_back(rt: HostRuntime) -> Result<(), Fail> {
-    for room in [16, 64, 4096 + 64, 8192 + 64, 12288 + 64] {
-        frames_in(&rt, rt.alloc(), room)?;
-    }
-    Ok(())
-}
-
 fn is_zero<M: PhysMem>(ram: &M, page: u32) -> bool {
     page < ram.pages() && ram.page(PageNo(page)).iter().all(|byte| *byte == 0)
 }
@@ -120,7 +99,7 @@ fn frame_ram_in(rt: &impl Abort, heap: &LocalHeap, room: usize) {
 // Each allocation of RAM is refused in turn: its one piece, and its list of frames and each frame.
 #[test]
 fn ram_is_zeros_or_refused(rt: HostRuntime) -> Result<(), Fail> {
-    for room in [16, 64, 4096 + 64, 8192 + 64, 12288, 12288 + 48] {
+    for room in [16, 64, 4096 + 64, 8192 + 64, 12288, 12288 + 48, 12288 + 64] {
         let heap = LocalHeap::new(rt.alloc(), room)?;
         flat_ram_in(&rt, &heap, room);
         frame_ram_in(&rt, &heap, room);

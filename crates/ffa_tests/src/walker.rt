@@ -68,31 +68,15 @@ fn walks_any_word(rt: HostRuntime) -> Result<(), Fail> {
     Ok(())
 }
 
-// What a fetch at the address answers.
-fn fetched(alloc: Global, memory: &FlatRam) -> Result<String, AllocError> {
+// What a fetch at the address answers, a store of two bytes there, and then a load of the eight bytes round it.
+fn accessed(alloc: Global, memory: &mut FlatRam, value: u64) -> Result<String, AllocError> {
     if !is_in_ram(memory, u64::from(BASE)) {
         return format!(in alloc; "no table");
     }
-    let answer = fetch(memory, BASE, ADDRESS);
-    format!(in alloc; "{answer:?}")
-}
-
-// What a store of two bytes there answers.
-fn stored(alloc: Global, memory: &mut FlatRam, value: u64) -> Result<String, AllocError> {
-    if !is_in_ram(memory, u64::from(BASE)) {
-        return format!(in alloc; "no table");
-    }
-    let answer = store(memory, BASE, ADDRESS, Size::B2, value);
-    format!(in alloc; "{answer:?}")
-}
-
-// What a load of the eight bytes round it answers.
-fn loaded(alloc: Global, memory: &FlatRam) -> Result<String, AllocError> {
-    if !is_in_ram(memory, u64::from(BASE)) {
-        return format!(in alloc; "no table");
-    }
-    let answer = load(memory, BASE, ADDRESS - 4, Size::B8);
-    format!(in alloc; "{answer:?}")
+    let fetched = fetch(memory, BASE, ADDRESS);
+    let stored = store(memory, BASE, ADDRESS, Size::B2, value);
+    let loaded = load(memory, BASE, ADDRESS - 4, Size::B8);
+    format!(in alloc; "{fetched:?} {stored:?} {loaded:?}")
 }
 
 #[test]
@@ -100,11 +84,11 @@ fn stores_and_fetches(rt: HostRuntime) -> Result<(), Fail> {
     let alloc = rt.alloc();
     let mut memory = FlatRam::new(alloc, Address(BASE), 512)?;
     put(&mut memory, 0x0000_0000_4000_07FD);
-    let word = format!(in alloc; "Ok({})", 0x0807_065a_u32)?;
-    same(&rt, fetched(alloc, &memory)?.as_str(), word.as_str());
-    let answer = stored(alloc, &mut memory, 0xFFFF_1234)?;
-    same(&rt, answer.as_str(), "Ok(())");
-    let bytes = format!(in alloc; "Ok({})", 0x0807_1234_0403_0201_u64)?;
-    same(&rt, loaded(alloc, &memory)?.as_str(), bytes.as_str());
+    let wanted = format!(in alloc;
+        "Ok({}) Ok(()) Ok({})",
+        0x0807_065a_u32, 0x0807_1234_0403_0201_u64
+    )?;
+    let found = accessed(alloc, &mut memory, 0xFFFF_1234)?;
+    same(&rt, found.as_str(), wanted.as_str());
     Ok(())
 }
