@@ -41,27 +41,18 @@ fn certificate<M: PhysMem + Drop, T: Translations + Drop>(
     Ok(runs)
 }
 
-// Whether a machine gives its own certificate where the last of its three endpoints has this right to the first run.
-fn passes_with<M: PhysMem + Drop, T: Translations + Drop>(
-    machine: &Machine<M, T>,
-    runs: &mut Vec<CertRun>,
-    right: Option<Rights>,
-) -> bool {
-    if let Some(access) = runs.first_mut().and_then(|first| first.access.get_mut(2)) {
-        *access = right;
+// The last of three endpoints has this right to the first run.
+fn set_last_access(runs: &mut Vec<CertRun>, right: Option<Rights>) {
+    if let Some(first) = runs.first_mut() {
+        first.access[2] = right;
     }
-    machine.audit(runs.as_slice())
 }
 
-// Whether a machine gives its own certificate where the last run begins a page later.
-fn passes_with_a_gap<M: PhysMem + Drop, T: Translations + Drop>(
-    machine: &Machine<M, T>,
-    runs: &mut Vec<CertRun>,
-) -> bool {
+// The last run begins a page later.
+fn leave_a_gap(runs: &mut Vec<CertRun>) {
     if let Some(last) = runs.last_mut() {
         last.first = PageNo(last.first.0.saturating_add(1));
     }
-    machine.audit(runs.as_slice())
 }
 
 // A machine gives its own certificate, which has a run for each endpoint, one before and one after; but not with a right
@@ -73,12 +64,12 @@ fn check<M: PhysMem + Drop, T: Translations + Drop>(
 ) -> Result<(), Fail> {
     let mut runs = certificate(alloc, machine)?;
     same(rt, runs.len(), 5);
-    holds(
-        rt,
-        !passes_with(machine, &mut runs, Some(Rights::default())),
-    );
-    holds(rt, passes_with(machine, &mut runs, None));
-    holds(rt, !passes_with_a_gap(machine, &mut runs));
+    set_last_access(&mut runs, Some(Rights::default()));
+    holds(rt, !machine.audit(runs.as_slice()));
+    set_last_access(&mut runs, None);
+    holds(rt, machine.audit(runs.as_slice()));
+    leave_a_gap(&mut runs);
+    holds(rt, !machine.audit(runs.as_slice()));
     let _last = runs.pop();
     holds(rt, !machine.audit(runs.as_slice()));
     Ok(())
