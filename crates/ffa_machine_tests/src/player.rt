@@ -36,24 +36,35 @@ fn runs_operations_one_after_another(rt: HostRuntime) -> Result<(), Fail> {
     Ok(())
 }
 
-// Behind a line that no LF ends, and behind one that is none: lines count from 1 again, and the machine goes on.
+// Traces that one player plays one after another, each with the number of its bad line, or 0. The first has a line that no LF
+// ends.
+const TRACES: [(&str, u64); 3] = [
+    ("load 40010000 1", 1),
+    ("store 40010000 2A\nload 40010000 2\nload 4001\n", 3),
+    ("load 40010000 1\n", 0),
+];
+
+// How a trace ends whose bad line has this number.
+fn end_of(bad: u64) -> Result<(), PlayError> {
+    if bad == 0 {
+        Ok(())
+    } else {
+        Err(PlayError::BadLine(bad))
+    }
+}
+
+// After a bad line, lines count from 1 again, and the machine goes on.
 #[test]
 fn goes_on_behind_refused_lines(rt: HostRuntime) -> Result<(), Fail> {
     let alloc = rt.alloc();
     let mut player = player(alloc, &row_machine())?;
     let mut out = Vec::new(alloc);
-    let ended = play(alloc, &mut player, b"load 40010000 1", &mut out);
-    same(&rt, ended, Err(PlayError::BadLine(1)));
-    let trace = "store 40010000 2A\nload 40010000 2\nload 4001\n";
-    let ended = play(alloc, &mut player, trace.as_bytes(), &mut out);
-    same(&rt, ended, Err(PlayError::BadLine(3)));
-    let ended = play(alloc, &mut player, b"load 40010000 1\n", &mut out);
-    same(&rt, ended, Ok(()));
-    same(
-        &rt,
-        out.as_slice(),
-        b"done\ndata 002A\ndata 2A\n".as_slice(),
-    );
+    for (trace, bad) in TRACES {
+        let ended = play(alloc, &mut player, trace.as_bytes(), &mut out);
+        same_at(&rt, ended, end_of(bad), &trace);
+    }
+    let wanted = b"done\ndata 002A\ndata 2A\n".as_slice();
+    same(&rt, out.as_slice(), wanted);
     same(&rt, player.machine().0.endpoints(), 3);
     Ok(())
 }
