@@ -58,7 +58,7 @@ fn compared(alloc: Global, expected: &[u8], reads: usize) -> Ended {
 }
 
 // How a command ended, with its status, what it printed and what it told.
-fn ended(rt: &impl Abort, got: &Ended, (status, out, err): (u8, &[u8], &str)) {
+fn check_end(rt: &impl Abort, got: &Ended, (status, out, err): (u8, &[u8], &str)) {
     assert_eq!(rt; got.status, status);
     assert_eq!(rt; got.out.as_slice(), out);
     assert_eq!(rt; got.err.as_slice(), err.as_bytes());
@@ -72,10 +72,10 @@ fn tells_that_the_expected_text_cannot_be_read(rt: HostRuntime) {
     let needed = usize::saturating_add(whole.chunks(7).count(), 1);
     for reads in 0..needed {
         let got = compared(alloc, &whole, reads);
-        ended(&rt, &got, (3, b"", "ffaplay: cannot read row.text\n"));
+        check_end(&rt, &got, (3, b"", "ffaplay: cannot read row.text\n"));
     }
     let got = compared(alloc, &whole, needed);
-    ended(&rt, &got, (0, b"", ""));
+    check_end(&rt, &got, (0, b"", ""));
 }
 
 // How a comparison of what FIRST prints with that text ends in a heap of this room: it is done, or has no memory.
@@ -131,5 +131,5 @@ fn ends_a_session_where_it_cannot_read(rt: HostRuntime) {
     let program = program(rt.alloc(), rt.alloc());
     let status = program.perform(&SESSION, files, &mut out, &mut err);
     let told = "ffaplay: line 1, column 6: a word is missing\nffaplay: cannot read row.trace\n";
-    ended(&rt, &Ended { status, out, err }, (3, b"data 00\n", told));
+    check_end(&rt, &Ended { status, out, err }, (3, b"data 00\n", told));
 }
