@@ -19,6 +19,8 @@ mod pages;
 #[cfg(test)]
 mod physmem;
 #[cfg(test)]
+mod rxtx;
+#[cfg(test)]
 mod schedule;
 #[cfg(test)]
 mod script;
