@@ -16,7 +16,7 @@ fn fill_and_release(rt: HostRuntime) -> Result<(), Fail> {
     let mut ram = FlatRam::new(rt.alloc(), BASE, 512)?;
     let mut buffers = Buffers::none(3);
     let mapped = buffers.map(&table, BASE, SECOND, 0x4003_E000, 0x4003_F000, 1);
-    same(&rt, mapped, Ok(()));
+    assert_eq!(rt; mapped, Ok(()));
     buffers.fill(&mut ram, SECOND, &[1, 2, 3]);
     same(&rt, buffers.is_full(SECOND), true);
     buffers.fill(&mut ram, SECOND, &[4, 5]);
