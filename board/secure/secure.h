@@ -20,8 +20,9 @@ void serve_call_of_normal_world(struct board *board);
 void begin_interrupts(void);
 bool is_secure_due(void);
 
-/* The normal world calls: whether something is due that it hasn't taken is noted. Where it hasn't so often in a row it masks its interrupts there, which
- * nobody here can see, and would be interrupted again and again: nothing is let through then while a partition works for it. */
+/* The normal world calls: whether something is due that it hasn't taken is noted. Where it hasn't so often in a row, and set no timer anew meanwhile, it
+ * masks its interrupts there, which nobody here can see, and would be interrupted again and again: nothing is let through then while a partition works
+ * for it. */
 void note_due(void);
 bool is_masked(void);
 
