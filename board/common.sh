@@ -29,7 +29,70 @@ refuse() {
     exit 64
 }
 
+# Ctrl-C ends a run at once. (bash awaits what runs, which Ctrl-C reaches too, and then does this.)
+trap 'exit 130' INT
+
 is_count() { [[ $1 =~ ^(0|[1-9][0-9]{0,8})$ ]]; }
+
+# A number of processors, of --jobs: check_jobs NUMBER
+check_jobs() { [[ $1 =~ ^[1-9][0-9]{0,3}$ ]] || refuse "--jobs is a number of processors from 1 on, and not $1"; }
+
+# Makes the folder $to, which is gone when the script ends.
+make_room() {
+    to=$(mktemp -d) || fail "there is no room for what is built: TMPDIR says where"
+    trap end EXIT
+    needs_room "$to" "$1"
+}
+
+# A step that said itself why it failed, as a tool on a full disk, ends the script with 1.
+end() {
+    local status=$?
+    rm -rf "$to"
+    case $status in
+        0 | 1 | 64 | 130 | 143) exit "$status" ;;
+        *) fail "a step ended with $status" ;;
+    esac
+}
+
+# Whether a folder has so many megabytes free: needs_room FOLDER MEGABYTES
+needs_room() {
+    local free
+    free=$(df --output=avail -B 1M "$1" | tail -n 1)
+    ((free >= $2)) || fail "$1 has $((free)) MB free, and $2 MB are needed"
+}
+
+# Refuses a folder in which make can't work: check_folder FOLDER
+check_folder() {
+    [[ $1 =~ ^[A-Za-z0-9/._+@~-]+$ ]] || fail "make can't work in '$1': a folder's name may have letters, digits and /._+@~- and no space, comma or other mark"
+}
+
+# Waits until no other process has a lock, and says for whom it waits: take_lock FILE. By `held` it is given back.
+take_lock() {
+    exec {held}>>"$1"
+    if ! flock -n "$held"; then
+        echo "$me: waiting for $(cat "$1"), which has the lock $1" >&2
+        flock "$held"
+    fi
+    echo "process $$ of $top" >"$1"
+}
+
+# Runs a command that says nothing where it ends well: quietly WHAT LOG COMMAND.. What it says last is kept outside the log too, which may be on a
+# disk that is full.
+quietly() {
+    local what=$1 log=$2 said
+    said=$("${@:3}" 2>&1 </dev/null | { tee "$log" 2>/dev/null || true; } | tail -n 20) || fail "$what ended with $?: $said"
+}
+
+# Names what is made of files, by their names and texts and not by their times: name_of PATH.., of which each is below the top of this checkout. Two
+# checkouts whose files differ have two names.
+name_of() { (cd "$top" && find "$@" -type f -print0 | LC_ALL=C sort -z | xargs -0 sha256sum) | sha256sum | cut -c -16; }
+
+# Where board/linux/kernel and board/secure/tf-a leave what they make, in the folder of a kind.
+linux_in() { echo "$1/$(name_of board/linux/{driver,kernel,kernel.config,partition/work.h})"; }
+tf_a_in() { echo "$1/$(name_of board/secure/{tf-a,tsp})"; }
+
+# Where both have their sources, which board/linux/run.sh and board/secure/run.sh share.
+default_work=${TMPDIR:-/tmp}/gorseplumb-boards
 
 # Installs Debian's packages: install_packages PACKAGE..
 install_packages() {
@@ -47,29 +110,50 @@ needs() {
     command -v rt >/dev/null || fail "there is no rt, the toolchain's command: README.md says what is needed"
 }
 
+target=aarch64-unknown-linux-gnu
+
+# Where the core's archive is in a folder like out/: archive_in FOLDER [--general-registers]
+archive_in() { echo "$1/$target${2:+-${2#--}}/libgorseplumb.a"; }
+
+# Looks, before anything is built, at what is given beside the words: the archive in the folder ARCHIVES, and the program FFAPLAY where it is to
+# judge: check_given [--general-registers]
+check_given() {
+    local file
+    file=$(archive_in "${ARCHIVES:-}" "$@")
+    [[ -z ${ARCHIVES:-} || -f $file ]] || fail "ARCHIVES is $ARCHIVES, and there is no $file"
+    [[ -z ${FFAPLAY:-} || $only ]] || { command -v "$FFAPLAY" && "$FFAPLAY" --version; } >/dev/null || fail "FFAPLAY is $FFAPLAY, which can't be run"
+}
+
 # Sets `archive` to the core's archive for AArch64: the one that stands ready in the folder ARCHIVES, or the repository's own, which is
 # made: make_archive REPOSITORY [--general-registers]
 make_archive() {
-    local target=aarch64-unknown-linux-gnu file
-    file=$target${2:+-${2#--}}/libgorseplumb.a
-    archive=${ARCHIVES:-}/$file
-    if [[ -e $archive ]]; then return; fi
-    archive=$1/out/$file
-    "$1/c/archive" --target $target "${@:2}" >&2 || fail "the archive isn't made, c/archive ended with $?"
+    archive=$(archive_in "${ARCHIVES:-$1/out}" "${@:2}")
+    [[ ${ARCHIVES:-} ]] || "$1/c/archive" --target $target "${@:2}" >&2 || fail "the archive isn't made, c/archive ended with $?"
 }
 
 # A file that QEMU puts somewhere, as two of its words: loader FILE ADDRESS
-loader() { printf -- '-device\nloader,file=%s,addr=0x%s,force-raw=on\n' "$1" "$2"; }
+loader() { printf -- '-device\nloader,file=%s,addr=0x%s,force-raw=on\n' "${1//,/,,}" "$2"; }
 
 # Runs the emulator in the folder $to, and parts what is printed: emulate WORD.., of which the words are its own. All is in $to/uart, the
-# trace in $to/trace, and what came of it in $to/found. It has $limit seconds, or 300. A firmware that hangs, or an emulator that doesn't
-# run it, prints no end.
+# trace in $to/trace, and what came of it in $to/found. It has $limit seconds, or 300: `late` says that they were too few. A firmware that
+# hangs, or an emulator that doesn't run it, prints no end. (In the foreground, `timeout` leaves the emulator among what Ctrl-C reaches.)
 emulate() {
+    local status=0
+    late=''
     : >"$to/uart"
-    (cd "$to" && timeout "${limit:-300}" "$emulator" -nodefaults -display none -serial file:uart "$@" </dev/null >&2) ||
-        echo "! $emulator ended with $?" >>"$to/uart"
+    (cd "$to" && timeout --foreground "${limit:-300}" "$emulator" -nodefaults -display none -serial file:uart "$@" </dev/null >&2) || status=$?
+    if ((status == 124)); then
+        late="it hasn't ended after ${limit:-300} seconds"
+        cut_last_line "$to/uart"
+        echo "! $late" >>"$to/uart"
+    elif ((status)); then
+        echo "! $emulator ended with $status" >>"$to/uart"
+    fi
     part "$to/uart"
 }
+
+# Leaves out a last line that isn't whole.
+cut_last_line() { [[ -z $(tail -c 1 "$1") ]] || sed -i '$d' "$1"; }
 
 part() {
     sed -n 's/^> //p' "$1" >"$to/trace"

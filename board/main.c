@@ -18,7 +18,7 @@ static bool everywhere, generated;
 static void take_words(const char **at, uint64_t *words, unsigned count) {
     unsigned digits;
     for (unsigned i = 0; i < count; i++) {
-        if (!take_hex(at, &words[i], &digits)) stop("a word is missing");
+        if (!take_hex(at, &words[i], &digits)) stop_at(*at, "a number is missing");
     }
 }
 
@@ -39,7 +39,7 @@ static void begin_scene(uint64_t *seed, uint64_t *count) {
     if (everywhere && *scene == '\n') scene++;
     generated = take_word(&scene, "random");
     if (!generated) return;
-    if (!take_hex(&scene, seed, &digits) || !take_hex(&scene, count, &digits)) stop("no seed and count");
+    if (!take_hex(&scene, seed, &digits) || !take_hex(&scene, count, &digits)) stop_at(scene, "a number is missing");
 }
 
 /* The next line of the scene that an endpoint has to do. `show` is the firmware's. */

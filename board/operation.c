@@ -1,11 +1,23 @@
 /* SPDX-License-Identifier: MIT OR Apache-2.0 */
 #include "operation.h"
+#include "layout.h"
 #include "text.h"
+
+_Noreturn void stop_at(const char *at, const char *why) {
+    uint64_t line = 1;
+    for (const char *it = (const char *)SCENE_TEXT; it < at; it++) line += *it == '\n';
+    put_text("! line ");
+    put_decimal(line);
+    put_text(": ");
+    put_text(why);
+    put_text("\n");
+    stop("the scene is wrong");
+}
 
 static bool read_call(const char **at, struct operation *operation) {
     unsigned digits;
     operation->kind = CALL;
-    for (unsigned i = 0; i < 8 && **at != '\n'; i++) {
+    for (unsigned i = 0; i < 8 && **at != '\n' && **at != '\0'; i++) {
         if (!take_hex(at, &operation->x[i], &digits)) return false;
     }
     return true;
@@ -46,13 +58,14 @@ static bool read_line(const char **at, struct operation *operation) {
 
 struct operation read_operation(const char **at) {
     struct operation operation = {0};
+    const char *from = *at;
     if (**at == '#') {
         while (**at != '\n' && **at != '\0') ++*at;
     } else if (**at != '\n' && **at != '\0') {
-        if (!read_line(at, &operation)) stop("a line that is none of a trace");
+        if (!read_line(at, &operation)) stop_at(from, "a line that is none of a trace");
     }
     if (**at == '\n') ++*at;
-    else if (**at != '\0') stop("a line with too many words");
+    else if (**at != '\0') stop_at(from, "a line with too many words");
     return operation;
 }
 

@@ -19,8 +19,11 @@ struct operation {
 };
 
 /* Reads the next line of a trace and moves *at behind it. A comment and an empty line are NOTHING, which the end of the text is too. A line that isn't
- * of a trace stops the board. */
+ * of a trace stops the board, which says its number. */
 struct operation read_operation(const char **at);
+
+/* Stops the board at a place of the scene, and says the number of that line and why. */
+_Noreturn void stop_at(const char *at, const char *why);
 
 /* An operation as a line of the trace, behind `> `. */
 void put_operation(const struct operation *operation);

@@ -12,9 +12,11 @@ packages=(qemu-system-arm gcc-aarch64-linux-gnu)
 usage() {
     cat <<'HELP'
 board/run.sh [--install] [--build-only | --keep FOLDER] [--seed N] [--operations N] [--rounds N]
-    [--break-root | --break-vectors | --break-settling | --break-zeros-first | --break-zeros-last | --break-resumed | --break-untold]
+    [--break-root | --break-vectors | --break-settling | --break-zeros-first | --break-zeros-last | --break-resumed | --break-untold] [SCENE..]
 
-Runs all scenes on QEMU's machine `virt`, and compares. It takes some minutes, and longer where the core is proved first.
+Runs scenes on QEMU's machine `virt`, and compares: all of them, or those that are named, as `lend`. A name that is none of them has them listed, each
+with its machine. All take some minutes, and one some seconds, where the library and the program are there. Else both are proved first, which takes some
+50 minutes on four processors. A scene has 300 seconds.
 
   --install             installs Debian's packages for it first: qemu-system-arm and gcc-aarch64-linux-gnu
   --build-only          builds the firmwares, but for those over a core that its proofs refuse, and runs none
@@ -31,13 +33,18 @@ Runs all scenes on QEMU's machine `virt`, and compares. It takes some minutes, a
   --break-resumed       builds a firmware that writes registers of a partition that goes on behind an interrupt, and wants it to be found
   --break-untold        builds one that doesn't tell the core of an interrupt, and wants it to be found
 
-Without a --break all of them are tried at the end, too.
+Without a --break and a SCENE all of them are tried at the end, too.
+
+Two words of the environment have it take what is there, and prove nothing:
+
+  ARCHIVES=FOLDER       the library is FOLDER/aarch64-unknown-linux-gnu/libgorseplumb.a
+  FFAPLAY=FILE          the program that judges is FILE
 
 It ends with 0 and `passed`, with 1 and what differs or is missing, or with 64 where the words are none of these.
 HELP
 }
 
-keep='' seed=1 operations=10000 rounds=60 install='' only='' breaks=() manifests=() traces=()
+keep='' seed=1 operations=10000 rounds=60 install='' only='' breaks=() names=() manifests=() traces=()
 while (($#)); do
     case $1 in
         --install) install=yes ;;
@@ -49,7 +56,8 @@ while (($#)); do
             ;;
         --break-root | --break-vectors | --break-settling | --break-zeros-first | --break-zeros-last | --break-resumed | --break-untold) breaks+=("${1#--break-}") ;;
         --help) usage && exit 0 ;;
-        *) refuse "there is no $1" ;;
+        -*) refuse "there is no $1" ;;
+        *) names+=("$1") ;;
     esac
     shift
 done
@@ -57,11 +65,12 @@ is_count "$seed" || refuse "the seed is a number below a thousand million, and n
 is_count "$operations" || refuse "the number of operations is one below a thousand million, and not $operations"
 is_count "$rounds" || refuse "the number of rounds is one below a thousand million, and not $rounds"
 ((${#breaks[@]} < 2)) || refuse "one --break at a time"
+((${#breaks[@]} == 0 || ${#names[@]} == 0)) || refuse "a --break names its scenes itself"
 if [[ $install ]]; then install_packages "${packages[@]}"; fi
 needs "${packages[*]}" $compiler $copier $([[ $only ]] || echo $emulator)
+check_given
 if [[ $keep ]]; then mkdir -p "$keep"; fi
-to=$(mktemp -d)
-trap 'rm -rf "$to"' EXIT
+make_room 64
 
 # The code of the endpoints' generators.
 build_generator() {
@@ -75,7 +84,7 @@ build() { build_over "$archive" "$@"; }
 build_over() {
     local core=$1 name=$2
     shift 2
-    $compiler "${flags[@]}" -O2 "$@" -Wl,--no-warn-rwx-segments -Wa,-I"$to" -T "$board/board.ld" "$board"/*.c "$board"/*.S "$top"/c/{array,bytes,settle}.c "$core" -o "$to/$name.elf"
+    $compiler "${flags[@]}" -O2 "$@" -Wl,--no-warn-rwx-segments -Xassembler -I"$to" -T "$board/board.ld" "$board"/*.c "$board"/*.S "$top"/c/{array,bytes,settle}.c "$core" -o "$to/$name.elf"
 }
 
 # A firmware in which several processors run endpoints, and interrupts are told: of the board's files it has those for scenes.
@@ -83,7 +92,7 @@ build_several() {
     local name=$1 of_scenes=(run doing fetch generators place rounds show)
     shift
     of_scenes=("${of_scenes[@]/#/$board/}")
-    $compiler "${flags[@]}" -O2 -DSEVERAL=1 "$@" -Wl,--no-warn-rwx-segments -Wa,-I"$to" "-I$several" -T "$board/board.ld" "$several"/*.c \
+    $compiler "${flags[@]}" -O2 -DSEVERAL=1 "$@" -Wl,--no-warn-rwx-segments -Xassembler -I"$to" "-I$several" -T "$board/board.ld" "$several"/*.c \
         "${of_scenes[@]/%/.c}" "${shared[@]}" "$board"/{program,generator,own_table}.S "$archive" -o "$to/$name.elf"
 }
 
@@ -114,7 +123,7 @@ keep_scene() {
 
 # The operations of a text, each written in one way: in upper case, and with no zeros that say nothing. A program that goes round does what it does last.
 operations_of() {
-    sed -E -e '/^(#|$|random|everywhere|watch|processors|at-once|on )/d' "$1" | tr '[:lower:]' '[:upper:]' |
+    sed '$a\' "$1" | sed -E -e '/^(#|$|random|everywhere|watch|processors|at-once|on )/d' | tr '[:lower:]' '[:upper:]' |
         sed -E -e 's/^AWAIT ([0-9A-F]+) .*/LOAD \1 8/' -e 's/^SPIN ([0-9A-F]+) /STORE \1 000000000000000/' -e '/^STORE/s/ 0*([0-9A-F]{16})$/ \1/' |
         sed -E -e '/^CALL/s/( 0+)+$//' -e '/^(CALL|LOAD|FETCH)/s/ 0+([0-9A-F])/ \1/g' -e 's/^STORE 0+([0-9A-F])/STORE \1/'
 }
@@ -140,17 +149,23 @@ difference() {
     grep '^!' "$to/uart" || has_end || echo "! the board didn't come to the scene's end"
 }
 
+# The line of the scene at which the board stopped since it is none of a trace, as NUMBER: WHY.
+wrong_line() { sed -n 's/^! line \([0-9]*: .*\)/\1/p' "$to/uart"; }
+
 # One scene on one firmware and one processor, which has to agree: agree FIRMWARE PROCESSOR MANIFEST SCENE
 agree() {
-    local name
+    local name line
     name=$(basename "$4")
     if ! play "$@"; then
+        line=$(wrong_line)
+        [[ -z $line ]] || fail "$4:$line: $(sed -n "${line%%:*}p" "$4")"
+        [[ -z $late ]] || fail "$name: $1 on $2: $late; fewer --operations or --rounds take less"
         echo "$name: $1 on $2 differs from the program (< the program, > the processor):" >&2
         difference >&2
         fail "$name differs"
     fi
     whole "$4" || fail "$name: $1 on $2 left lines out"
-    echo "$name: $1 on $2: $(wc -l <"$to/trace") operations, $(count fault "$to/found") faults," \
+    echo "$name: $1 on $2, $(basename "$3"): $(wc -l <"$to/trace") operations, $(count fault "$to/found") faults," \
         "$(count fetch "$to/trace") fetches: as the program prints them"
     sed -n 's/^= the/the/p' "$to/uart"
 }
@@ -188,30 +203,66 @@ add() {
     for scene in "${@:2}"; do manifests+=("$1") traces+=("$scene"); done
 }
 
+# The machine of a trace of board/scenes: what its first line says, as `# machine: partitions.toml`, or else four.toml.
+machine_of() {
+    local named
+    named=$(sed -n '1s/^# machine: *//p' "$1")
+    [[ -e $scenes/${named:=four.toml} ]] || fail "$1:1: there is no machine $named in $scenes"
+    echo "$scenes/$named"
+}
+
 # The scenes, each a manifest and a file: those of examples/, those of board/scenes/, one in which a partition tries every page,
-# and operations that are made up by the endpoints and by the program.
-make_scenes() {
-    local manifest
+# and operations that are made up by the endpoints and by the program. Those in $to are made by make_scene.
+list_scenes() {
+    local scene machine
     add "$scenes/machine.toml" "$top"/examples/{first,calls}.trace
     add "$scenes/partitions.toml" "$top"/examples/{accesses,messages,sharing}.trace
-    add "$scenes/four.toml" "$scenes"/*.trace
-    every_page >"$to/every-page"
-    printf 'random %X %X\nshow\n' "$seed" "$operations" >"$to/random"
-    for manifest in machine four; do generated "$scenes/$manifest.toml" >"$to/generated-$manifest"; done
-    sed 's/0x40/0xC0/' "$scenes/four.toml" >"$to/high.toml"
-    generated "$to/high.toml" >"$to/generated-high"
+    for scene in "$scenes"/*.trace; do
+        machine=$(machine_of "$scene")
+        add "$machine" "$scene"
+    done
     add "$scenes/four.toml" "$to/every-page"
     add "$scenes/generators.toml" "$to/random"
     add "$scenes/machine.toml" "$to/generated-machine"
     add "$scenes/four.toml" "$to/generated-four"
-    "$board/watches" 3 "$rounds" >"$to/watch-owner"
-    "$board/watches" 2 "$rounds" >"$to/watch-borrower"
     add "$scenes/four.toml" "$to"/watch-{owner,borrower}
-    "$several/scenes" preempted >"$to/several-preempted"
-    "$several/scenes" moved >"$to/several-moved"
-    "$several/scenes" two "$rounds" >"$to/several-two"
-    "$several/scenes" random "$seed" "$operations" >"$to/several-random"
     add "$several/several.toml" "$to"/several-{preempted,moved,two,random}
+}
+
+name_of_scene() { basename "$1" .trace; }
+
+# Leaves those scenes that are named.
+choose_scenes() {
+    local all_manifests=("${manifests[@]}") all_traces=("${traces[@]}") name i
+    manifests=() traces=()
+    for name in "${names[@]}"; do
+        for i in "${!all_traces[@]}"; do
+            if [[ $(name_of_scene "${all_traces[i]}") == "$name" ]]; then add "${all_manifests[i]}" "${all_traces[i]}" && continue 2; fi
+        done
+        fail "there is no scene $name, but$(for i in "${!all_traces[@]}"; do printf ' %s (%s)' "$(name_of_scene "${all_traces[i]}")" "$(basename "${all_manifests[i]}")"; done)"
+    done
+}
+
+# The text of a scene that no file of the repository has: make_scene NAME
+make_scene() {
+    case $1 in
+        every-page) every_page ;;
+        random) printf 'random %X %X\nshow\n' "$seed" "$operations" ;;
+        generated-high) generated "$to/high.toml" ;;
+        generated-*) generated "$scenes/${1#*-}.toml" ;;
+        watch-owner) "$board/watches" 3 "$rounds" ;;
+        watch-borrower) "$board/watches" 2 "$rounds" ;;
+        several-random) "$several/scenes" random "$seed" "$operations" ;;
+        several-*) "$several/scenes" "${1#*-}" "$rounds" ;;
+    esac >"$to/$1"
+}
+
+make_scenes() {
+    local scene
+    sed 's/0x40/0xC0/' "$scenes/four.toml" >"$to/high.toml"
+    for scene in "${traces[@]}" ${1:+"$to/$1"}; do
+        if [[ $scene == "$to"/* ]]; then make_scene "$(basename "$scene")"; fi
+    done
 }
 
 # All scenes on one firmware and one processor, and those of several processors on that for them.
@@ -270,21 +321,28 @@ find_break() {
     esac
 }
 
+list_scenes
+if ((${#names[@]})); then choose_scenes; fi
 make_archive "$top"
 build_generator
 build documented
 build_several several
-build high -DRAM_BASE=0xC0000000
+if ((${#names[@]} == 0)); then build high -DRAM_BASE=0xC0000000; fi
 if [[ $only ]]; then
     for name in root vectors settling resumed untold; do build_break $name; done
     echo "$me: each firmware is linked"
     exit
 fi
 [[ -n ${FFAPLAY:-} ]] || "$top/ffaplay" prove
-make_scenes
 if ((${#breaks[@]})); then
+    make_scenes
     agree documented cortex-a57 "${manifests[0]}" "${traces[0]}"
+elif ((${#names[@]})); then
+    make_scenes
+    all_agree documented cortex-a57
+    all_agree documented max
 else
+    make_scenes generated-high
     all_agree documented cortex-a57
     all_agree documented max
     agree high cortex-a57 "$to/high.toml" "$to/generated-high"

@@ -32,6 +32,12 @@ missing() {
         while IFS= read -r line; do grep -qF -- "$line" "$to/linux" || echo "$line"; done
 }
 
+# What Linux said last, and what of all that it said came out otherwise.
+last_words() {
+    tail -n 30 "$to/linux"
+    grep FAILED "$to/linux" || true
+}
+
 # What was done, each with what came of it.
 with_outcomes() { paste -d '|' <(grep -v '^on ' "$to/trace") "$to/found"; }
 

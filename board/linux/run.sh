@@ -27,15 +27,21 @@ Runs Linux as the normal world on QEMU's machine `virt`, some times, and compare
                  compiled unproved. Linux shares a page 100,000 times there
   --several      runs Linux on two and on four processors alone, each of which may run a partition
   --rounds N     how much is made up by threads of Linux; 10000 where nothing is given
-  --work FOLDER  has the kernel's source and what is built; what stands there is built once. /tmp/gorseplumb-linux where nothing is given
+  --work FOLDER  has the kernel's source and what is built; what stands there is built once. /tmp/gorseplumb-boards where nothing is given, which
+                 board/secure/run.sh has too: a kernel is built once for both
   --keep FOLDER  leaves what each run printed in this folder: NAME.uart, and its .linux, .trace, .found, .expected and .explained
   --jobs N       how many processors the kernel's build has
+
+Two words of the environment have it take what is there, and prove nothing:
+
+  ARCHIVES=FOLDER  the library is FOLDER/aarch64-unknown-linux-gnu/libgorseplumb.a
+  FFAPLAY=FILE     the program that judges is FILE
 
 It ends with 0 and `passed`, with 1 and what is missing or differs, or with 64 where the words are none of these.
 HELP
 }
 
-install='' only='' kernel=4k limits='' several='' rounds=10000 work=${TMPDIR:-/tmp}/gorseplumb-linux keep='' jobs=$(nproc)
+install='' only='' kernel=4k limits='' several='' rounds=10000 work=$default_work keep='' jobs=$(nproc)
 while (($#)); do
     case $1 in
         --install) install=yes ;;
@@ -55,13 +61,16 @@ done
 [[ $kernel == 4k || -z $limits ]] || refuse "other limits are tried with the kernel of the kind 4k alone"
 [[ -z $limits || -e $top/limits/$limits.edit ]] || refuse "there are no limits $limits"
 is_count "$rounds" || refuse "the number of rounds is one below a thousand million, and not $rounds"
+check_jobs "$jobs"
+check_folder "$work"
 if [[ $install ]]; then install_packages "${packages[@]}"; fi
 needs "${packages[*]}" $compiler $copier $([[ $only ]] || echo $emulator dtc)
+check_given
 mkdir -p "$work" ${keep:+"$keep"}
 work=$(cd "$work" && pwd)
-to=$(mktemp -d)
-trap 'rm -rf "$to"' EXIT
-linux=$work/$kernel
+check_folder "$work"
+make_room 128
+linux=$(linux_in "$work/linux/$kernel")
 
 # The repository of which core and program are taken: this one, or a copy with other limits. A copy's program is the one that knows these.
 repository=$top
@@ -105,6 +114,7 @@ run() {
     emulate -kernel "$to/$firmware.elf" -machine virt,virtualization=on,gic-version=3 -m 256M "$@" "${devices[@]}"
     emulated=$SECONDS
     lines_of_linux >"$to/linux"
+    [[ -z $late ]] || fail "$name: $late"
     "${judge[@]}" "$to/manifest" "$to/trace" >"$to/expected" || fail "$name: the program doesn't play what Linux did"
     if [[ $keep ]]; then keep_run "$name"; fi
 }
@@ -125,7 +135,7 @@ judge() {
         fail "$name: the core answered Linux otherwise than the program (< the program, > the core)"
     fi
     lacks=$(missing "$@")
-    [[ -z $lacks ]] || { tail -n 30 "$to/linux" >&2; fail "$name: Linux doesn't say: $lacks"; }
+    [[ -z $lacks ]] || { last_words >&2; fail "$name: Linux doesn't say: $lacks"; }
     if grep 'FAILED' "$to/linux" >&2; then fail "$name: something that Linux tried came out otherwise"; fi
     has_end || fail "$name: the board didn't come to its end"
     echo "$name: $(grep -c '^call' "$to/trace") calls as the program prints them, $(grep -c 'ffa_try: ok' "$to/linux") things that the driver tried," \
@@ -216,7 +226,7 @@ run_other() {
     try_random plain "$1" linux driver held "$2"
 }
 
-if [[ ! $only ]]; then "$here/kernel" ${install:+--install} --jobs "$jobs" "$kernel" "$work"; fi
+if [[ ! $only ]]; then "$here/kernel" ${install:+--install} --jobs "$jobs" "$kernel" "$work/linux"; fi
 cp "$here/linux.toml" "$to/manifest"
 make_archive "$repository"
 build_partition

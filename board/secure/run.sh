@@ -20,7 +20,8 @@ board/secure/run.sh [--install] [--build-only] [--work FOLDER] [--keep FOLDER] [
 
   --install      installs Debian's packages for it first
   --build-only   builds the firmwares and the normal world's programs, and runs none
-  --work FOLDER  has sources and what is built of them; what stands there is built once. /tmp/gorseplumb-secure where nothing is given
+  --work FOLDER  has sources and what is built of them; what stands there is built once. /tmp/gorseplumb-boards where nothing is given, which
+                 board/linux/run.sh has too: a kernel is built once for both
   --keep FOLDER  leaves what each run printed in this folder: NAME.uart, which is what TF-A, the normal world and TSP print, NAME.core, which is what the
                  firmware prints, and NAME.trace, .found and .expected
   --jobs N       how many processors a build has
@@ -35,11 +36,16 @@ Runs, of which all but the last are done where none is named:
   linux    Linux as the normal world, on one processor; and on two and on four, with a partition that works long, and clients at random
   measure  instructions of calls to three partitions, and to TSP
 
+Two words of the environment have it take what is there, and prove nothing:
+
+  ARCHIVES=FOLDER  the library is FOLDER/aarch64-unknown-linux-gnu-general-registers/libgorseplumb.a
+  FFAPLAY=FILE     the program that judges is FILE
+
 It ends with 0 and `passed`, with 1 and what is missing or differs, or with 64 where the words are none of these.
 HELP
 }
 
-install='' only='' work=${TMPDIR:-/tmp}/gorseplumb-secure keep='' jobs=$(nproc) runs=()
+install='' only='' work=$default_work keep='' jobs=$(nproc) runs=()
 while (($#)); do
     case $1 in
         --install) install=yes ;;
@@ -56,13 +62,16 @@ while (($#)); do
     shift
 done
 ((${#runs[@]})) || runs=("${all[@]}")
+check_jobs "$jobs"
+check_folder "$work"
 if [[ $install ]]; then install_packages "${packages[@]}"; fi
 needs "${packages[*]}" $compiler $copier $([[ $only ]] || echo $emulator dtc)
+check_given --general-registers
 mkdir -p "$work" ${keep:+"$keep"}
 work=$(cd "$work" && pwd)
-to=$(mktemp -d)
-trap 'rm -rf "$to"' EXIT
-linux=$work/linux/4k
+check_folder "$work"
+make_room 128
+linux=$(linux_in "$work/linux/4k")
 
 # (the firmware prints to the line that the secure world has for itself, and has less memory than another board's)
 flags+=("-I$board/linux" "-I$board/linux/partition" "-I$here")
@@ -73,7 +82,7 @@ secure_flags=(-DSECURE=1 -DSEVERAL=1 -DRAM_BASE=0x48000000 -DSECURE_BYTES=0x8000
 build_firmware() {
     local of_linux=(access again el2 notify place record tell)
     of_linux=("${of_linux[@]/#/$board/linux/}")
-    $compiler "${flags[@]}" "${secure_flags[@]}" -O2 -mgeneral-regs-only "$@" -Wl,--no-warn-rwx-segments -Wa,-I"$to" -T "$board/board.ld" "$here"/*.c "$here"/*.S \
+    $compiler "${flags[@]}" "${secure_flags[@]}" -O2 -mgeneral-regs-only "$@" -Wl,--no-warn-rwx-segments -Xassembler -I"$to" -T "$board/board.ld" "$here"/*.c "$here"/*.S \
         "${of_linux[@]/%/.c}" "${shared[@]}" "$top/c/floats.c" "$archive" -o "$to/bl32.elf"
     $copier -O binary "$to/bl32.elf" "$to/bl32.bin"
 }
@@ -109,7 +118,7 @@ with_tsp() {
     "$here/tf-a" ${install:+--install} --jobs "$jobs" tsp "$work/tf-a"
     place_tsp
     images=()
-    add_image "$work/tf-a/tsp/bl32.bin" $first_at
+    add_image "$(tf_a_in "$work/tf-a/tsp")/bl32.bin" $first_at
 }
 
 # In secure memory, whose last pages are the tables, and where QEMU puts nothing: the firmware has the partitions' program in its image. The program
@@ -137,7 +146,7 @@ boot() {
     local kind=$1 name=$2
     shift 2
     "$here/tf-a" ${install:+--install} --jobs "$jobs" "$kind" "$work/tf-a"
-    cp "$work/tf-a/$kind"/bl*.bin "$to"
+    cp "$(tf_a_in "$work/tf-a/$kind")"/bl*.bin "$to"
     : >"$to/core"
     SECONDS=0
     ((processors == 1)) || set -- -accel tcg,thread=multi "$@"
@@ -145,6 +154,7 @@ boot() {
         -semihosting-config enable=on,target=native -bios bl1.bin "$@" "${images[@]}" -serial file:core
     emulated=$SECONDS
     tr -d '\r' <"$to/uart" >"$to/linux"
+    [[ -z $late ]] || fail "$name: $late"
     part "$to/core"
     "$player" run --worlds --processors "$processors" "$to/manifest" "$to/trace" >"$to/expected" || fail "$name: the program doesn't play what was done"
     if [[ $keep ]]; then for kind in uart core trace found expected; do cp "$to/$kind" "$keep/$name.$kind"; done; fi
@@ -185,7 +195,7 @@ try_linux() {
     grep -q '^resumed' "$to/found" || fail "$1: no partition was stopped and went on"
     found=$(busy) || fail "$1: a call is busy that names no partition"
     lacks=$(missing linux driver 6.12 beside "$3")
-    [[ -z $lacks ]] || { tail -n 30 "$to/linux" >&2; fail "$1: Linux doesn't say: $lacks"; }
+    [[ -z $lacks ]] || { last_words >&2; fail "$1: Linux doesn't say: $lacks"; }
     (($(grep -c FAILED "$to/linux") == $(grep -c FAILED "$board/linux/expected.txt"))) || fail "$1: $(grep FAILED "$to/linux")"
     grep -oE '(works|random): [0-9].*' "$to/linux" || true
     echo "$1: $found calls were busy; $(named)"

@@ -20,18 +20,19 @@ static uint32_t next[GORSEPLUMB_MOST_PROCESSORS];
 static uint64_t take_number(const char **at) {
     uint64_t number;
     unsigned digits;
-    if (!take_hex(at, &number, &digits)) stop("a number is missing in the scene");
+    if (!take_hex(at, &number, &digits)) stop_at(*at, "a number is missing");
     return number;
 }
 
 static void end_line(const char **at) {
     if (**at == '\n') ++*at;
-    else if (**at != '\0') stop("a line of the scene has too many words");
+    else if (**at != '\0') stop_at(*at, "a line with too many words");
 }
 
 static uint32_t take_processor(const char **at) {
+    const char *from = *at;
     uint64_t number = take_number(at);
-    if (number >= processors) stop("the scene has no such processor");
+    if (number >= processors) stop_at(from, "the scene has no such processor");
     return (uint32_t)number;
 }
 
