@@ -27,6 +27,9 @@ static volatile uint32_t begun, ended;
 static volatile bool works;
 static uint64_t stopped[8];
 
+/* How often the second was turned on. */
+static unsigned times;
+
 /* Where a partition works for the other processor it is busy, and is asked again: how often it was. */
 static uint64_t add(uint32_t receiver, uint64_t number, bool *right) {
     for (uint64_t busy = 0;; busy++) {
@@ -104,20 +107,23 @@ void second_world(void) {
     call((uint64_t[8]){PSCI_CPU_OFF});
 }
 
-static void note(const char *what, uint64_t count) {
-    put_text("note: ");
+/* Says of what a number is, and since when the second processor is there for it. */
+static void note(const char *what, const char *of, uint64_t count) {
+    put_text("note: the second processor was turned on ");
+    put_text(times == 1 ? "once" : "twice");
+    put_text("; ");
     put_text(what);
-    put_text(" ");
+    put_text(of);
     put_decimal(count);
     put_text("\n");
 }
 
-static void try_each(void (*of)(unsigned processor), uint32_t number) {
+static void try_each(const char *what, void (*of)(unsigned processor), uint32_t number) {
     begin(number);
     of(0);
     await(number);
-    note("interrupts of partitions:", counts[0].interrupts + counts[SECOND].interrupts);
-    note("busy:", counts[0].busy + counts[SECOND].busy);
+    note(what, ", interrupts of partitions: ", counts[0].interrupts + counts[SECOND].interrupts);
+    note(what, ", calls that found a partition busy: ", counts[0].busy + counts[SECOND].busy);
 }
 
 static void try_meanwhile(void) {
@@ -128,7 +134,7 @@ static void try_meanwhile(void) {
     works = false;
     counts[0].wrong += !is_worked(x);
     await(3);
-    note("requests of a processor while a partition works for the other:", counts[SECOND].interrupts);
+    note("a partition works for the first", ", requests of the second meanwhile: ", counts[SECOND].interrupts);
     want("a partition that works for one holds up no other", counts[SECOND].interrupts >= 2 && counts[SECOND].busy == 0);
 }
 
@@ -141,11 +147,12 @@ static void try_moved(void) {
 static void request_from_two(void) {
     begun = 0;
     ended = UINT32_MAX;
+    times++;
     want("a second processor is turned on", ask(PSCI_CPU_ON, SECOND, (uint64_t)(uintptr_t)second_begin, 0)[0] == 0);
     while (ended != 0) continue;
-    try_each(request_own, 1);
+    try_each("each processor has a partition for itself", request_own, 1);
     want("who has a partition for itself doesn't find it busy", counts[0].busy + counts[SECOND].busy == 0);
-    try_each(request_both, 2);
+    try_each("both take turns with two partitions", request_both, 2);
     try_meanwhile();
     try_moved();
     while (ask(PSCI_AFFINITY_INFO, SECOND, 0, 0)[0] != OFF) continue;
