@@ -63,7 +63,8 @@ needs_room() {
 
 # Refuses a folder in which make can't work: check_folder FOLDER
 check_folder() {
-    [[ $1 =~ ^[A-Za-z0-9/._+@~-]+$ ]] || fail "make can't work in '$1': a folder's name may have letters, digits and /._+@~- and no space, comma or other mark"
+    local marks=${1//[\/._+@~=-]/}
+    [[ ! $marks =~ [[:space:][:punct:]] ]] || fail "make can't work in '$1': a folder's name may have no space, no comma and no mark but /._+@~=-"
 }
 
 # Waits until no other process has a lock, and says for whom it waits: take_lock FILE. By `held` it is given back.
