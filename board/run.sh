@@ -35,7 +35,7 @@ with its machine. All take some minutes, and one some seconds, where the library
 
 Without a --break and a SCENE all of them are tried at the end, too.
 
-Two words of the environment have it take what is there, and prove nothing:
+Two variables of the environment have it take what is there, and prove nothing:
 
   ARCHIVES=FOLDER       the library is FOLDER/aarch64-unknown-linux-gnu/libgorseplumb.a
   FFAPLAY=FILE          the program that judges is FILE
@@ -231,15 +231,22 @@ list_scenes() {
 
 name_of_scene() { basename "$1" .trace; }
 
+# Each scene that there is, with its machine.
+tell_scenes() {
+    local i
+    for i in "${!traces[@]}"; do printf ' %s (%s)' "$(name_of_scene "${traces[i]}")" "$(basename "${manifests[i]}")"; done
+}
+
 # Leaves those scenes that are named.
 choose_scenes() {
-    local all_manifests=("${manifests[@]}") all_traces=("${traces[@]}") name i
+    local all_manifests=("${manifests[@]}") all_traces=("${traces[@]}") all name i
+    all=$(tell_scenes)
     manifests=() traces=()
     for name in "${names[@]}"; do
         for i in "${!all_traces[@]}"; do
             if [[ $(name_of_scene "${all_traces[i]}") == "$name" ]]; then add "${all_manifests[i]}" "${all_traces[i]}" && continue 2; fi
         done
-        fail "there is no scene $name, but$(for i in "${!all_traces[@]}"; do printf ' %s (%s)' "$(name_of_scene "${all_traces[i]}")" "$(basename "${all_manifests[i]}")"; done)"
+        fail "there is no scene $name, but$all"
     done
 }
 

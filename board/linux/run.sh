@@ -32,7 +32,7 @@ Runs Linux as the normal world on QEMU's machine `virt`, some times, and compare
   --keep FOLDER  leaves what each run printed in this folder: NAME.uart, and its .linux, .trace, .found, .expected and .explained
   --jobs N       how many processors the kernel's build has
 
-Two words of the environment have it take what is there, and prove nothing:
+Two variables of the environment have it take what is there, and prove nothing:
 
   ARCHIVES=FOLDER  the library is FOLDER/aarch64-unknown-linux-gnu/libgorseplumb.a
   FFAPLAY=FILE     the program that judges is FILE

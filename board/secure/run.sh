@@ -36,7 +36,7 @@ Runs, of which all but the last are done where none is named:
   linux    Linux as the normal world, on one processor; and on two and on four, with a partition that works long, and clients at random
   measure  instructions of calls to three partitions, and to TSP
 
-Two words of the environment have it take what is there, and prove nothing:
+Two variables of the environment have it take what is there, and prove nothing:
 
   ARCHIVES=FOLDER  the library is FOLDER/aarch64-unknown-linux-gnu-general-registers/libgorseplumb.a
   FFAPLAY=FILE     the program that judges is FILE
