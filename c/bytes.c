@@ -1,6 +1,16 @@
 /* SPDX-License-Identifier: MIT OR Apache-2.0 */
+/* What compiled code asks for by these names. A compiler that isn't told otherwise may make of a loop below a call of the very function
+ * that the loop is in, which never ends. This file tells it otherwise by itself, with -ffreestanding or without. */
 #include "bytes.h"
 #include <stdint.h>
+
+#if defined(__clang__)
+#pragma clang attribute push(__attribute__((no_builtin)), apply_to = function)
+#elif defined(__GNUC__)
+#pragma GCC optimize("no-tree-loop-distribute-patterns")
+#else
+#error "tell this compiler to make no calls of memcpy, memmove and memset of the loops below"
+#endif
 
 /* A word that may stand for bytes of anything. It is loaded and stored only where it is aligned, as a program may run where nothing else
  * is allowed. */
@@ -63,3 +73,7 @@ void *memset(void *to, int byte, size_t size) {
     for (; size > 0; size--) *at++ = (unsigned char)byte;
     return to;
 }
+
+#if defined(__clang__)
+#pragma clang attribute pop
+#endif
