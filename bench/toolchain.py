@@ -1,5 +1,6 @@
 # SPDX-License-Identifier: MIT OR Apache-2.0
 """The commands of `rt` as a module, for scripts that ask more of them than `rt` does."""
+import argparse
 import importlib.machinery
 import importlib.util
 import os
@@ -26,3 +27,11 @@ def share_work(rt, is_alone):
     """Has what other clones on this machine proved taken up, in the releases of the toolchain that keep it: rattle-kit-13b doesn't."""
     if hasattr(rt, "share_work"):
         rt.share_work(is_alone=is_alone)
+
+
+def at_least_one(word):
+    """A number of processes that a command line gives."""
+    number = int(word) if word.isdecimal() else 0
+    if number < 1:
+        raise argparse.ArgumentTypeError(f"{word} is no number from 1 on")
+    return number
