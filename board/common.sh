@@ -13,7 +13,7 @@ flags=(-std=c11 -Wall -Wextra -Wpedantic -Wshadow -Werror -ffreestanding -fno-st
 # What of the board's files each firmware has.
 shared=(boot call endpoint exception memory operation psci tables text)
 shared=("${shared[@]/#/$board/}")
-shared=("${shared[@]/%/.c}" "$board/start.S" "$top"/c/{array,bytes,settle}.c)
+shared=("${shared[@]/%/.c}" "$board/start.S" "$top"/c/{array,bytes}.c)
 
 # A program for EL1 that stands in pages of its own: no translation, no vector registers, no variables, and no access that isn't aligned.
 program_flags=(-Os -fpie -mgeneral-regs-only -mstrict-align -ffunction-sections)

@@ -84,7 +84,7 @@ build() { build_over "$archive" "$@"; }
 build_over() {
     local core=$1 name=$2
     shift 2
-    $compiler "${flags[@]}" -O2 "$@" -Wl,--no-warn-rwx-segments -Xassembler -I"$to" -T "$board/board.ld" "$board"/*.c "$board"/*.S "$top"/c/{array,bytes,settle}.c "$core" -o "$to/$name.elf"
+    $compiler "${flags[@]}" -O2 "$@" -Wl,--no-warn-rwx-segments -Xassembler -I"$to" -T "$board/board.ld" "$board"/*.c "$board"/*.S "$top"/c/{array,bytes}.c "$core" -o "$to/$name.elf"
 }
 
 # A firmware in which several processors run endpoints, and interrupts are told: of the board's files it has those for scenes.

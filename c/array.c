@@ -1,6 +1,7 @@
 /* SPDX-License-Identifier: MIT OR Apache-2.0 */
 /* The memory of libgorseplumb.a with no C library: the three functions that gorseplumb.h declares, over an array of
- * GORSEPLUMB_ARRAY_BYTES, of which a block is given and never taken back. A block is aligned to 16. */
+ * GORSEPLUMB_ARRAY_BYTES, of which a block is given and never taken back. A block is aligned to 16. It has no lock: of all
+ * machines together one call at a time, since two that overlap may get the same block. It is C11. */
 #include "gorseplumb.h"
 
 void *memcpy(void *to, const void *from, size_t size);

@@ -6,11 +6,13 @@
 #include <stdlib.h>
 #include "gorseplumb.h"
 
-/* How many the library has, how many times it asked since a test began to count, and which time is refused, none at 0. */
-static size_t pieces, asked, refused;
+/* How many the library has, how many times it asked since a test began to count, for how many bytes by rattle_alloc, and which time is
+ * refused, none at 0. */
+static size_t pieces, asked, asked_bytes, refused;
 
-/* Of a list: its own, its pages' addresses, copies of TX, and of the machine its place, its records, owners of pages and transactions. */
-enum { LIST_PIECES = 7 };
+/* Of a list: its own, its pages' addresses, copies of TX, and of the machine its place, its records, owners of pages and transactions. Of
+ * no page they have so many bytes, as README.md and docs/PERFORMANCE.md say. */
+enum { LIST_PIECES = 7, LIST_BYTES = 103520 };
 
 static struct gorseplumb_block block_at(void *at) {
     static char nothing;
@@ -19,6 +21,7 @@ static struct gorseplumb_block block_at(void *at) {
 
 struct gorseplumb_block rattle_alloc(size_t size, size_t align) {
     if (++asked == refused) return block_at(NULL);
+    asked_bytes += size;
     struct gorseplumb_block got = block_at(malloc(size != 0 ? size : align));
     pieces += got.ok;
     return got;

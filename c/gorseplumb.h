@@ -2,10 +2,13 @@
 /* Gorseplumb from C: a partition manager core of FF-A 1.1, as a machine that does one operation at a time.
  *
  * Link libgorseplumb.a with it, the three functions of memory that are declared below (heap.c has them, or write your
- * own), memcpy, memmove, memset and write. Where a processor walks the tables, `write` is that of settle.c, over a
- * gorseplumb_settle of your own (below). Each function here keeps the contract that stands beside its namesake in
+ * own), memcpy, memmove, memset and a gorseplumb_settle (below), which unsettled.c has for a program in which no processor
+ * walks the tables. Each function here keeps the contract that stands beside its namesake in
  * crates/ffa_c/src, and the proof reaches to there: that the declarations below are those of the crate is tested, and
- * not proved, and so is what is said of pieces of memory and of what a question doesn't write.
+ * not proved, and so is what is said of pieces of memory and of what a question doesn't write. An archive that
+ * `c/archive --unproved` made keeps no contract by proof, and gorseplumb_version says so.
+ *
+ * The headers are C99 and C++11, and later. array.c, and what has pages of its own as freestanding.c, need C11 (_Alignas).
  *
  * Every name begins with gorseplumb_ or GORSEPLUMB_, but for the three functions of memory, whose names are the
  * toolchain's: those of the standard, as of calls and error codes, aren't used, since firmware has headers with them.
@@ -16,11 +19,12 @@
  *
  * - A pointer is not null, points to memory of its type that C may write, and no other parameter of the call points
  *   there. Behind a pointer to const, memory need only be readable; of a text `size` bytes may be read.
- * - A struct that holds a machine, a list or pages is { 0 } at first. C writes neither of its fields afterwards (but
+ * - A struct that holds a machine, a list or pages is { 0 } at first, in C++ {}. C writes neither of its fields afterwards (but
  *   for those of a slot and of a span, below), and doesn't follow `at`. It may be moved by copying it, if only the copy
  *   is used from then on.
  * - One call at a time on a machine, a list, a slot or a span: no other call may be on its way with it, on no processor
- *   and in no signal or interrupt handler, and no two questions either.
+ *   and in no signal or interrupt handler, and no two questions either. Else the tables may give what nobody granted,
+ *   and nothing notices.
  * - Memory that is lent is nobody else's until it is taken back: C neither reads nor writes it, through any mapping.
  *   Endpoints that a processor runs do, each within the access that the machine gives it. While a call is on its way the
  *   pages of the caller's TX may be written: what the call reads of them it copies first. What else may be is in
@@ -44,6 +48,11 @@ extern "C" {
 #define GORSEPLUMB_DECLARATIONS 6
 
 uint32_t gorseplumb_declarations(void);
+
+/* The version of the library as text: "0.1.0". Of one that was compiled without proofs (`c/archive --unproved`)
+ * " (not proved)" stands behind it. That one is other code: it keeps each check that a proof makes needless, is slower and
+ * takes more stack for it, and stops the program where such a check fails. */
+const char *gorseplumb_version(void);
 
 #define GORSEPLUMB_PAGE_SIZE 4096
 
@@ -76,8 +85,8 @@ struct gorseplumb_span {
 };
 
 /* The library's memory: it asks these three functions for all of it, and the program defines them. heap.c has them over
- * malloc, array.c over an array. They are called while a call of the library is on its way, and may not call it; where
- * calls on two machines overlap, so may theirs. */
+ * malloc, array.c over an array. They are called while a call of the library is on its way, and may not call it. Where
+ * calls on two machines overlap, so may theirs, and heap.c is as safe there as malloc is. array.c isn't safe there. */
 struct gorseplumb_block {
     bool ok;  /* whether there is memory */
     void *at; /* where it is; where there is none an address that isn't followed. It is never null */
@@ -95,19 +104,10 @@ struct gorseplumb_block rattle_realloc(void *block, size_t kept, size_t size, si
 /* Takes a block back that one of these two gave. */
 void rattle_dealloc(void *block);
 
-/* What has to be settled while an operation or a boot is on its way. The library writes it to a descriptor that no file has, by
- * POSIX's `write`, in one call with the size of this struct; settle.c has that function, and calls gorseplumb_settle. A
- * C library's own `write` answers an error and does nothing, which is enough where no processor walks the tables. Only
- * a machine in lent RAM writes it. */
-#define GORSEPLUMB_SETTLES (-0xFFA)
-
-struct gorseplumb_settling {
-    uint64_t endpoint; /* its identifier */
-    uint64_t address;  /* of the first page */
-    uint64_t size;     /* of all pages, in bytes; 0 where the page at this address was filled with zeros */
-};
-
-/* Firmware defines this one. When it returns, all that the library has stored so far is seen by every processor and
+/* The program defines this one too; without it no program links. It tells what has to be settled: the tables of an
+ * endpoint, by its identifier; the address of the first page; and the size of all pages in bytes, or 0 where the page at
+ * this address was filled with zeros. Only a machine in lent RAM calls it. Where no processor walks the tables it may do
+ * nothing, as that of unsettled.c. Where one does, it is firmware's own. When it returns, all that the library has stored so far is seen by every processor and
  * every walk of tables, and no processor holds a translation, for an address of these pages, that came of this
  * endpoint's tables as they were before. On AArch64 that is DSB ISHST; then with the endpoint's VMID in VTTBR_EL2 TLBI
  * IPAS2E1IS of each page, DSB ISH, TLBI VMALLE1IS; and last DSB ISH and ISB. With a size of 0 the first DSB is all of
@@ -163,6 +163,9 @@ struct gorseplumb_region {
     uint32_t rights; /* to all of them: GORSEPLUMB_READ, GORSEPLUMB_WRITE with it, and GORSEPLUMB_EXECUTE with either */
 };
 
+/* Rights. GORSEPLUMB_WRITE is two bits, since who may write may read. So of what gorseplumb_access answers, `access &
+ * GORSEPLUMB_WRITE` is true too where a page may be read only, and where the answer is GORSEPLUMB_NOTHING. Compare that
+ * one first, and then `(access & GORSEPLUMB_WRITE) == GORSEPLUMB_WRITE`. */
 #define GORSEPLUMB_READ 1
 #define GORSEPLUMB_WRITE 3
 #define GORSEPLUMB_EXECUTE 4
@@ -430,7 +433,7 @@ uint32_t gorseplumb_root(const struct gorseplumb_machine *machine, uint16_t endp
 uint32_t gorseplumb_owner(const struct gorseplumb_machine *machine, uint32_t page);
 
 /* What an endpoint may do with a page: 0 is nothing, 1 to read, 3 to write too, and 4 more to execute. It is 0 where a
- * machine has no such endpoint or page. */
+ * machine has no such endpoint or page. GORSEPLUMB_NOTHING has all bits, so compare it before you look at one. */
 uint32_t gorseplumb_access(const struct gorseplumb_machine *machine, uint16_t endpoint, uint32_t page);
 
 /* By what an endpoint has its access to a page. */
@@ -728,8 +731,8 @@ enum gorseplumb_answer gorseplumb_end(struct gorseplumb_machine *machine);
 /* Makes an empty list with room for so many pages, in seven pieces of memory: the list, its pages' addresses, and of
  * the machine that is booted in it its place, its records, four bytes for each page, 78 KiB of slots for open
  * transactions and 16 KiB for copies of a TX. GORSEPLUMB_OCCUPIED where there is a list; else GORSEPLUMB_OK or
- * GORSEPLUMB_NO_MEMORY. Where it isn't GORSEPLUMB_OK nothing has changed. It takes some 13 KiB of stack, as LLVM
- * compiles it for x86-64, a boot 20 and an operation 6. */
+ * GORSEPLUMB_NO_MEMORY. Where it isn't GORSEPLUMB_OK nothing has changed. docs/EMBEDDING.md says which function takes how
+ * much stack. */
 enum gorseplumb_answer gorseplumb_begin_lending(struct gorseplumb_lent *lent, uint32_t pages);
 
 /* Moves a page from its slot to the end of the list, and leaves the slot empty. GORSEPLUMB_NO_LIST where there is no

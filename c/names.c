@@ -1,5 +1,5 @@
 /* SPDX-License-Identifier: MIT OR Apache-2.0 */
-/* Names as text: the standard's, and what the program prints. tests/copies writes functions, checks and flaws of the
+/* Names as text: the standard's, what the program prints, and the version. tests/copies writes functions, checks and flaws of the
  * crates' tables, and tests/names compares the others. What stands here asks for no function and has no pointer in its
  * data, so it is right at whichever address it is loaded. c/archive puts it into the archive, with a section for each
  * function and each table, so that a linker drops those that nobody asks. */
@@ -269,6 +269,17 @@ static const struct function *function_of(uint32_t number) {
     }
     return NULL;
 }
+
+/* Whoever compiles this file himself has no proof: c/archive alone defines GORSEPLUMB_PROVED, for what it proved. */
+#ifdef GORSEPLUMB_PROVED
+#define OF_PROOFS ""
+#else
+#define OF_PROOFS " (not proved)"
+#endif
+
+static const char version[] = "0.1.0" OF_PROOFS;
+
+const char *gorseplumb_version(void) { return version; }
 
 const char *gorseplumb_call_name(uint32_t function) {
     const struct function *found = function_of(function);

@@ -17,7 +17,9 @@ static struct gorseplumb_machine machine;
 
 /* What the library had settled of pages, the first of it. */
 #define MOST_SETTLED 8
-static struct gorseplumb_settling settled[MOST_SETTLED];
+static struct settling {
+    uint64_t endpoint, address, size;
+} settled[MOST_SETTLED];
 static size_t settlings;
 
 /* How often no pages were to be settled, as behind zeros, and of the last time where, and what page 33 began with then. */
@@ -34,7 +36,7 @@ void gorseplumb_settle(uint16_t endpoint, uint64_t address, uint64_t size) {
         waited_over = pages[33].bytes[0];
         return;
     }
-    if (settlings < MOST_SETTLED) settled[settlings] = (struct gorseplumb_settling){endpoint, address, size};
+    if (settlings < MOST_SETTLED) settled[settlings] = (struct settling){endpoint, address, size};
     settlings++;
 }
 
@@ -257,6 +259,16 @@ static void out_of_order(void) {
 }
 
 static struct gorseplumb_lent list;
+
+/* All memory that a machine in lent pages takes beside them is asked for here: so much, whichever endpoints it has, and 12 bytes for each
+ * page. */
+static void memory_of_lists(void) {
+    for (uint32_t count = 0; count <= 16384; count += 512) {
+        asked_bytes = 0;
+        CHECK(gorseplumb_begin_lending(&list, count) == GORSEPLUMB_OK && asked_bytes == LIST_BYTES + 12 * (size_t)count);
+        CHECK(gorseplumb_end_lending(&list) == GORSEPLUMB_OK);
+    }
+}
 
 static void lists(void) {
     struct gorseplumb_slot slot = {0}, full = {true, &pages[0]};
@@ -701,6 +713,7 @@ int main(void) {
     lend();
     out_of_order();
     CHECK(pieces == 0);
+    memory_of_lists();
     lists();
     spans();
     numbers();

@@ -112,14 +112,14 @@ general() {
     echo "$name, general registers alone: of $all instructions none names a vector register; of the other archive $others do"
     local archive=$3 run=$5
     shift 5
-    "$@" -pthread "$here"/{test,settle,floats}.c "$archive" -o "$to/test"
+    "$@" -pthread "$here"/{test,floats}.c "$archive" -o "$to/test"
     says "$name, general registers alone, test" $run "$to/test"
-    "$@" "$here"/{play,heap,floats}.c "$archive" -o "$to/play"
+    "$@" "$here"/{play,heap,unsettled,floats}.c "$archive" -o "$to/play"
     plays "$name, general registers alone" $run "$to/play"
     set -- "$@" -mgeneral-regs-only -ffreestanding -fno-stack-protector -nostdlib -static -Wl,--gc-sections
-    "$@" "$here"/{freestanding,array,bytes,settle}.c "$archive" -o "$to/free"
+    "$@" "$here"/{freestanding,array,bytes}.c "$archive" -o "$to/free"
     $run "$to/free"
-    "$@" -DGORSEPLUMB_ARRAY_BYTES=0x800000 "$here"/{small_stack,array,bytes,settle,floats}.c "$archive" -o "$to/small"
+    "$@" -DGORSEPLUMB_ARRAY_BYTES=0x800000 "$here"/{small_stack,array,bytes,floats}.c "$archive" -o "$to/small"
     says "$name, general registers alone, linked with no C library, $(bytes "$to/free") bytes" $run "$to/small"
     named=$(nm -u "$archive" | sed -n 's/^ *U \(__.*\)/\1/p' | sort -u | tr '\n' ' ')
     echo "$name, general registers alone: asked of floats.c: $named"
@@ -131,7 +131,7 @@ shares() {
     local archive=$1
     shift
     "$@" -shared -Wl,-z,text -Wl,--whole-archive "$archive" -Wl,--no-whole-archive -o "$to/libgorseplumb.so"
-    "$@" "$here/test.c" "$here/settle.c" "-L$to" -lgorseplumb "-Wl,-rpath,$to" -o "$to/shared"
+    "$@" "$here/test.c" "-L$to" -lgorseplumb "-Wl,-rpath,$to" -o "$to/shared"
 }
 
 # A program with no C library that boots from numbers and stands at any address, as $to/moved, has nothing to relocate:
@@ -139,8 +139,50 @@ shares() {
 moves() {
     local name=$1 archive=$2
     shift 2
-    "$@" -static-pie -fpie -Wl,--gc-sections "$here"/{freestanding,array,bytes,settle}.c "$archive" -o "$to/moved"
+    "$@" -static-pie -fpie -Wl,--gc-sections "$here"/{freestanding,array,bytes}.c "$archive" -o "$to/moved"
     if readelf -rW "$to/moved" | grep ' R_'; then echo "$name: a program has to relocate itself" >&2; exit 1; fi
+}
+
+# A program without a gorseplumb_settle isn't linked, and is told that name; also one that has a `write` of its own, which the
+# archive never asks for: unsettled NAME ARCHIVE COMMAND..
+unsettled() {
+    local name=$1 archive=$2 said
+    shift 2
+    echo 'long write(int, const void *, unsigned long); long write(int to, const void *at, unsigned long size) { return to + (at != 0) + (long)size; }' >"$to/write.c"
+    if said=$("$@" -Dgorseplumb_settle=forgotten -Wl,--gc-sections "$here"/{freestanding,array,bytes}.c "$to/write.c" "$archive" -o "$to/unsettled" 2>&1); then
+        echo "$name: a program is linked that settles nothing" >&2
+        exit 1
+    fi
+    grep -q 'undefined .*gorseplumb_settle' <<<"$said" || { echo "$name: without gorseplumb_settle the linker says $said" >&2; exit 1; }
+    said=$(nm "$archive" 2>/dev/null | awk '$1 == "U" { asked[$2] } NF == 3 { had[$3] } END { for (name in asked) if (!(name in had)) print name }' |
+        LC_ALL=C sort | tr '\n' ' ')
+    [[ $said == "gorseplumb_settle memcpy memmove memset rattle_alloc rattle_dealloc rattle_realloc " ]] || { echo "$name: asked of the program: $said" >&2; exit 1; }
+    echo "$name: a program without gorseplumb_settle isn't linked; asked of the program: $said"
+}
+
+# What the archive says of its proofs is what is known of it: version NAME ARCHIVE "RUN.." COMMAND..
+version() {
+    local name=$1 archive=$2 run=$3 wanted="0.1.0${UNPROVED:+ (not proved)}" said
+    shift 3
+    printf '#include <stdio.h>\n#include "gorseplumb.h"\nint main(void) { return puts(gorseplumb_version()) < 0; }\n' >"$to/version.c"
+    "$@" "$to/version.c" "$archive" -Wl,--gc-sections -o "$to/version"
+    said=$($run "$to/version")
+    [[ $said == "$wanted" ]] || { echo "$name: the library is of version $said, and not $wanted (UNPROVED=1 says that ARCHIVES isn't proved)" >&2; exit 1; }
+    echo "$name: version $said"
+}
+
+# At each level bytes.c has no call of its own functions, which would never end, though it isn't told so by a flag: ends NAME COMMAND..
+ends() {
+    local name=$1 level
+    shift
+    for level in 0 1 2 3 s; do
+        "$@" -O$level -c "$here/bytes.c" -o "$to/bytes.o"
+        if readelf -rW "$to/bytes.o" | grep -E ' mem(cpy|move|set)( |$)' >&2; then
+            echo "$name: bytes.c by -O$level calls itself" >&2
+            exit 1
+        fi
+    done
+    echo "$name: bytes.c calls none of its own functions, at no level"
 }
 
 # The bytes of code and data of a program, as `size` adds them up.
@@ -216,64 +258,79 @@ by_compiler() {
     for test in $tests; do
         $compiler $strict -pthread $sanitized "$here/$test.c" "$here"/{settle,names}.c "$native" -o "$to/$test"
         says "$compiler, $test, sanitized" "$to/$test"
-        $compiler $strict -pthread -O2 "$here/$test.c" "$here/settle.c" "$native" -o "$to/$test"
+        $compiler $strict -pthread -O2 "$here/$test.c" "$native" -o "$to/$test"
         says "$compiler, $test" "$to/$test"
     done
+    ends $compiler $compiler $strict
+    version $compiler "$native" "" $compiler $strict
     $compiler $strict $sanitized $renamed "$here"/{test_bytes,bytes}.c -o "$to/bytes"
     says "$compiler, sanitized" "$to/bytes"
     $compiler $strict $sanitized "$here"/{test_floats,floats}.c -o "$to/floats"
     says "$compiler, sanitized" "$to/floats"
     shares "$native" $compiler $strict -O2
     says "$compiler, over a shared library" "$to/shared"
-    $compiler $strict $sanitized "$here/example.c" "$here/heap.c" "$native" -o "$to/example"
+    $compiler $strict $sanitized "$here"/{example,heap,unsettled}.c "$native" -o "$to/example"
     "$to/example"
-    $compiler $strict $sanitized "$here/play.c" "$here/heap.c" "$native" -o "$to/play"
+    $compiler $strict $sanitized "$here"/{play,heap,unsettled}.c "$native" -o "$to/play"
     plays "$compiler, sanitized" "$to/play"
     turns "$compiler, sanitized" "$to/play"
     told "$compiler, sanitized" "$to/play"
     explains "$compiler, sanitized" "$to/play"
     bare="$strict -O2 -ffreestanding -fno-stack-protector -nostdlib -static"
-    $compiler $bare "$here"/{freestanding,array,bytes,settle}.c "$native" -o "$to/whole"
-    $compiler $bare -Wl,--gc-sections "$here"/{freestanding,array,bytes,settle}.c "$native" -o "$to/free"
+    $compiler $bare "$here"/{freestanding,array,bytes}.c "$native" -o "$to/whole"
+    $compiler $bare -Wl,--gc-sections "$here"/{freestanding,array,bytes}.c "$native" -o "$to/free"
     "$to/free"
     moves $compiler "$native" $compiler $bare
     "$to/moved"
+    unsettled $compiler "$native" $compiler $bare
     if nm "$to/whole" "$to/free" | grep _names; then echo "$compiler: names that nobody asks are linked" >&2; exit 1; fi
-    $compiler $bare -Wl,--gc-sections,--undefined=gorseplumb_check_name "$here"/{freestanding,array,bytes,settle}.c \
+    $compiler $bare -Wl,--gc-sections,--undefined=gorseplumb_check_name "$here"/{freestanding,array,bytes}.c \
         "$native" -o "$to/named"
     echo "$compiler: linked with no C library, and run: $(bytes "$to/free") bytes," \
         "$(bytes "$to/named") with the checks' names, and $(bytes "$to/whole") with what nobody calls"
-    $compiler $bare -Wl,--gc-sections -DGORSEPLUMB_ARRAY_BYTES=0x800000 "$here"/{small_stack,array,bytes,settle}.c "$native" -o "$to/small"
+    $compiler $bare -Wl,--gc-sections -DGORSEPLUMB_ARRAY_BYTES=0x800000 "$here"/{small_stack,array,bytes}.c "$native" -o "$to/small"
     says "$compiler" "$to/small"
-    $compiler $strict -O2 $deep "$here"/{deep_text,heap}.c "$native" -o "$to/deep"
+    $compiler $strict -O2 $deep "$here"/{deep_text,heap,unsettled}.c "$native" -o "$to/deep"
     says "$compiler, deep_text" "$to/deep"
-    $compiler $bare "$here"/{freestanding,array,bytes,settle}.c -Wl,--whole-archive "$native" -Wl,--no-whole-archive \
+    $compiler $bare "$here"/{freestanding,array,bytes}.c -Wl,--whole-archive "$native" -Wl,--no-whole-archive \
         -o "$to/every"
 }
 
 # What is built for this machine beside that.
 beside_compilers() {
-    local symbols others
-    if has g++; then
-        cat >"$to/header.cpp" <<'CPP'
+    local others compiler
+    cat >"$to/headers.cpp" <<'CPP'
 #include "gorseplumb.h"
 #include "gorseplumb_explain.h"
 #include "gorseplumb_ffa.h"
 #include "lending.h"
-bool is_denied(gorseplumb_machine &machine, uint16_t partition);
-bool is_denied(gorseplumb_machine &machine, uint16_t partition) {
+bool is_denied(uint16_t partition);
+bool is_denied(uint16_t partition) {
+    gorseplumb_machine machine = {};
     gorseplumb_outcome told = GORSEPLUMB_CALL(&machine, GORSEPLUMB_FFA_RUN, gorseplumb_pair(partition, 0));
     return gorseplumb_error_of(told) == GORSEPLUMB_ERROR_DENIED;
 }
 CPP
-        g++ -std=c++17 -Wall -Wextra -Wpedantic -Werror "-I$here" -c "$to/header.cpp" -o "$to/header.o"
-        echo "g++: the headers are C++ too"
-    fi
+    grep '^#include' "$to/headers.cpp" >"$to/headers.c"
+    for compiler in g++ clang++; do
+        has $compiler || continue
+        for standard in c++11 c++17 c++20; do
+            $compiler -std=$standard -Wall -Wextra -Wpedantic -Werror "-I$here" -c "$to/headers.cpp" -o "$to/headers.o"
+        done
+        echo "$compiler: the headers are C++ from C++11 on"
+    done
+    for compiler in gcc clang; do
+        has $compiler || continue
+        for standard in c99 c11 c17; do
+            $compiler -std=$standard -Wall -Wextra -Wpedantic -Werror "-I$here" -c "$to/headers.c" -o "$to/headers.o"
+        done
+        echo "$compiler: the headers are C from C99 on"
+    done
     # The archive isn't instrumented by the sanitizers: valgrind looks at what it reads and writes, too. (Its threads take turns, so walks beside
     # calls are left out.)
     if has gcc && has valgrind; then
         for test in ${tests/test_walks/}; do
-            gcc $strict -pthread -O1 -g "$here/$test.c" "$here/settle.c" "$native" -o "$to/$test"
+            gcc $strict -pthread -O1 -g "$here/$test.c" "$native" -o "$to/$test"
             says "valgrind, $test" valgrind -q --error-exitcode=9 --leak-check=full "$to/$test"
         done
     fi
@@ -284,8 +341,6 @@ CPP
     if has gcc && make_archive x86_64-unknown-linux-gnu --general-registers; then
         general native objdump "$made" "$native" "" gcc $strict -O2
     fi
-    symbols=$(nm -u "$native" | sed -n 's/^ *U //p' | grep -v '^_R\|\$' | sort -u | tr '\n' ' ')
-    echo "asked of the program: $symbols"
     others=$(nm -g --defined-only "$native" | awk 'NF == 3 && $3 !~ /^gorseplumb_/ { print $3 }')
     if [[ $others ]]; then echo "names of the archive that don't begin with gorseplumb_:" $others >&2; exit 1; fi
 }
@@ -295,27 +350,33 @@ on_aarch64() {
     local arm bare other
     arm="aarch64-linux-gnu-gcc $strict -O2 -static"
     for test in $tests; do
-        $arm -pthread "$here/$test.c" "$here/settle.c" "$made" -o "$to/$test"
+        $arm -pthread "$here/$test.c" "$made" -o "$to/$test"
         says "AArch64, $test" qemu-aarch64-static "$to/$test"
     done
     shares "$made" aarch64-linux-gnu-gcc $strict -O2
     says "AArch64, over a shared library" qemu-aarch64-static -L /usr/aarch64-linux-gnu "$to/shared"
     stores AArch64 aarch64-linux-gnu-objdump "$to/test"
-    $arm "$here/play.c" "$here/heap.c" "$made" -o "$to/play"
+    $arm "$here"/{play,heap,unsettled}.c "$made" -o "$to/play"
     plays AArch64 qemu-aarch64-static "$to/play"
     turns AArch64 qemu-aarch64-static "$to/play"
     told AArch64 qemu-aarch64-static "$to/play"
     bare="-ffreestanding -fno-stack-protector -nostdlib -Wl,--gc-sections"
-    $arm $bare "$here"/{freestanding,array,bytes,settle}.c "$made" -o "$to/free"
+    ends AArch64 aarch64-linux-gnu-gcc $strict
+    version AArch64 "$made" qemu-aarch64-static $arm
+    unsettled AArch64 "$made" $arm $bare
+    # (without -ffreestanding too, of which a compiler thinks that it may call what bytes.c has)
+    $arm ${bare/-ffreestanding /} "$here"/{freestanding,array,bytes}.c "$made" -o "$to/free"
+    qemu-aarch64-static "$to/free"
+    $arm $bare "$here"/{freestanding,array,bytes}.c "$made" -o "$to/free"
     qemu-aarch64-static "$to/free"
     echo "AArch64: linked with no C library, and run"
     moves AArch64 "$made" $arm $bare
     qemu-aarch64-static "$to/moved"
-    $arm $bare -DGORSEPLUMB_ARRAY_BYTES=0x800000 "$here"/{small_stack,array,bytes,settle}.c "$made" -o "$to/small"
+    $arm $bare -DGORSEPLUMB_ARRAY_BYTES=0x800000 "$here"/{small_stack,array,bytes}.c "$made" -o "$to/small"
     says AArch64 qemu-aarch64-static "$to/small"
-    $arm $deep "$here"/{deep_text,heap}.c "$made" -o "$to/deep"
+    $arm $deep "$here"/{deep_text,heap,unsettled}.c "$made" -o "$to/deep"
     says "AArch64, deep_text" qemu-aarch64-static "$to/deep"
-    $arm $bare "$here"/{freestanding,array,bytes,settle}.c -Wl,--no-gc-sections,--whole-archive "$made" \
+    $arm $bare "$here"/{freestanding,array,bytes}.c -Wl,--no-gc-sections,--whole-archive "$made" \
         -Wl,--no-whole-archive -o "$to/every"
     asks AArch64 aarch64-linux-gnu-objdump "$to/every"
     other=$made
@@ -324,6 +385,10 @@ on_aarch64() {
     fi
 }
 
+for word in 0 -1; do
+    said=$(timeout 10 "$here/archive" --jobs $word 2>&1) && status=0 || status=$?
+    if ((status != 2)) || ! grep -q 'from 1 on' <<<"$said"; then echo "c/archive --jobs $word: status $status, $said" >&2; exit 1; fi
+done
 [ -n "${FFAPLAY:-}" ] || "$top/ffaplay" prove
 "$player" check "$top/examples/machine.toml" >/dev/null
 # (rust/test.sh and python/test.sh play the same)

@@ -40,7 +40,8 @@ def archive(settings: Settings = None) -> Path:
     made = TOP / "out" / f"{platform.machine()}-unknown-linux-gnu" / "libgorseplumb.a"
     found = Path(named) if named else made
     if not found.is_file():
-        raise SystemExit(f"there is no archive {found}: run c/archive, or name another by GORSEPLUMB_ARCHIVE")
+        ways = "c/archive --unproved (about four minutes; not proved, and slower), or c/archive (proved; 20 minutes)"
+        raise SystemExit(f"there is no archive {found}: run {ways}, or name another by GORSEPLUMB_ARCHIVE")
     return found.resolve()
 
 
@@ -53,7 +54,8 @@ def link(to: Path, settings: Settings = None) -> Path:
         names.write_text("{ global: gorseplumb_*; local: *; };\n")
         whole = ["-Wl,--whole-archive", str(source), "-Wl,--no-whole-archive"]
         flags = ["-shared", "-fPIC", "-O2", f"-Wl,--version-script={names}", "-Wl,-z,defs", "-Wl,-z,text"]
-        command = [os.environ.get("CC", "cc"), *flags, "-o", str(to), *whole, str(TOP / "c" / "heap.c")]
+        own = [str(TOP / "c" / name) for name in ("heap.c", "unsettled.c")]  # no processor walks a program's tables
+        command = [os.environ.get("CC", "cc"), *flags, "-o", str(to), *whole, *own]
         try:
             subprocess.run(command, check=True)
         except FileNotFoundError:

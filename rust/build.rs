@@ -13,7 +13,7 @@ const NAME: &str = "libgorseplumb.a";
 
 /// The library's name where there is none to link: of a crate that isn't the user's own cargo hides the warning, so
 /// that what the compiler says of this name is all there is to read.
-const NOTHING: &str = "gorseplumb (set GORSEPLUMB_LIB_DIR, or run c/archive)";
+const NOTHING: &str = "gorseplumb (run c/archive --unproved or c/archive, or set GORSEPLUMB_LIB_DIR)";
 
 fn main() {
     println!("cargo:rerun-if-env-changed=GORSEPLUMB_LIB_DIR");
@@ -66,8 +66,9 @@ fn make(top: &Path, archive: &Path) -> Result<(), String> {
     let command = format!("c/archive --target {}", variable("TARGET"));
     if env::var_os("GORSEPLUMB_MAKE").is_none() {
         return Err(format!(
-            "{missing}: make it at the top of the repository by `{command}`, which proves what isn't proved (half an \
-             hour where nothing is), or set GORSEPLUMB_LIB_DIR to the folder of a {NAME}"
+            "{missing}: make it at the top of the repository by `{}` (about four minutes; not proved, and slower), or \
+             by `{command}` (proved; 20 minutes where nothing is), or set GORSEPLUMB_LIB_DIR to the folder of a {NAME}",
+            command.replace("--target", "--unproved --target")
         ));
     }
     let made = Command::new(top.join("c/archive")).args(["--target", &variable("TARGET")]).arg(archive).status();

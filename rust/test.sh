@@ -60,7 +60,7 @@ refused() {
     grep -q "gorseplumb: .*$3" <<<"$said" || { echo "$1: a check says $said" >&2; exit 1; }
     if said=$(GORSEPLUMB_LIB_DIR=$2 cargo build --example first 2>&1); then echo "$1: built" >&2; exit 1; fi
     grep -q "gorseplumb: .*$3" <<<"$said" || { echo "$1: $said" >&2; exit 1; }
-    grep -q "error: could not find native static library .gorseplumb (set GORSEPLUMB_LIB_DIR" <<<"$said" ||
+    grep -q "error: could not find native static library .gorseplumb (run c/archive --unproved" <<<"$said" ||
         { echo "$1: the compiler says $said" >&2; exit 1; }
     echo "$1: refused: $(sed -n "s|$to|..|g; s/.*gorseplumb: //p" <<<"$said" | head -1)"
 }
@@ -147,6 +147,16 @@ printf '\xb7\x00' | dd of="$to/nothing.o" bs=1 seek=18 conv=notrunc status=none 
 ar rcS "$to/other/libgorseplumb.a" "$to/nothing.o"
 refused "an archive for AArch64" "$to/other" "is for aarch64, and x86_64 is built for"
 refused "no archive" "$to/none" "there is no .*libgorseplumb.a"
+# In a fresh clone the first line says how an archive is made, the way of minutes first.
+mkdir -p "$to/fresh/c" && touch "$to/fresh/c/archive" && cp -r "$here" "$to/fresh/rust"
+said=$(cd "$to/fresh/rust" && env -u GORSEPLUMB_LIB_DIR cargo check --target-dir "$to/fresh/target" 2>&1) || { echo "a fresh clone: no check: $said" >&2; exit 1; }
+grep -q 'by `c/archive --unproved --target [^`]*` (about four minutes;.* by `c/archive --target' <<<"$(grep -m 1 'gorseplumb: ' <<<"$said")" ||
+    { echo "a fresh clone is told $said" >&2; exit 1; }
+# Firmware that forgets to settle isn't linked.
+sed -i '/^settle_by!/d; s/    settle_by, /    /' "$to/fresh/rust/bare/src/main.rs"
+if said=$(cargo build --manifest-path "$to/fresh/rust/bare/Cargo.toml" --target-dir "$to/fresh/target" 2>&1); then echo "a program is built that settles nothing" >&2; exit 1; fi
+grep -q 'undefined .*gorseplumb_settle' <<<"$said" || { echo "without settle_by a build says $said" >&2; exit 1; }
+echo "a program without settle_by isn't linked"
 echo nothing >"$to/none/libgorseplumb.a"
 refused "a file that is no archive" "$to/none" "is no archive of ELF files"
 rm "$to/none/libgorseplumb.a"
@@ -165,7 +175,7 @@ if [[ $bench ]]; then
     echo "from Rust:"
     cargo bench -q --bench operations
     echo "from C:"
-    gcc -std=gnu11 -Wall -Wextra -Werror -O2 "-I$top/c" benches/operations.c "$top/c/heap.c" \
+    gcc -std=gnu11 -Wall -Wextra -Werror -O2 "-I$top/c" benches/operations.c "$top/c/heap.c" "$top/c/unsettled.c" \
         "$to/lib/libgorseplumb.a" -o "$to/operations"
     "$to/operations"
 fi

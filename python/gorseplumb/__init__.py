@@ -5,6 +5,7 @@
         machine.do(Function.FFA_RUN, partition=0x8001)
         machine.write(0x40028000, b"hello")
 """
+from ._library import library_version
 from .access import AccessMap, Cell, Run
 from .batch import Batch, Outcomes
 from .checks import Check, Flaw
@@ -154,6 +155,7 @@ __all__ = [
     "compare",
     "decode",
     "encode",
+    "library_version",
     "play",
     "read_partitions",
 ]

@@ -138,6 +138,7 @@ _REGISTERS = c_char_p  # eight numbers as bytes, which are packed faster than a 
 _DECLARED: dict[str, tuple[Any, ...]] = {
     # its answer, and its parameters
     "declarations": (c_uint32,),
+    "version": (c_char_p,),
     "boot": (c_uint32, _MACHINE, c_char_p, c_size_t),
     "boot_manifest": (c_uint32, _MACHINE, POINTER(Manifest)),
     "boot_lent": (c_uint32, _MACHINE, _LENT, c_char_p, c_size_t),
@@ -211,7 +212,9 @@ class Library:
         try:
             self._library = ctypes.PyDLL(str(path))
         except OSError as wrong:
-            raise LibraryError(f"{path} can't be loaded: {wrong}; python/backend.py makes it") from None
+            ways = "c/archive --unproved (about four minutes) or c/archive (proved; 20 minutes)"
+            how = f"make the library for C by {ways}, and this of it by python/backend.py"
+            raise LibraryError(f"{path} can't be loaded: {wrong}; {how}") from None
         self._compare(path)
 
     def _compare(self, path: Path) -> None:
@@ -245,3 +248,10 @@ def _path() -> Path:
 
 
 library = Library(_path())
+
+
+def library_version() -> str:
+    """The version of the library for C, as "0.1.0". Of one that was compiled without proofs, by `c/archive --unproved`,
+    " (not proved)" stands behind it: it is slower and takes more stack, since it keeps its checks."""
+    told: bytes = library.version()
+    return told.decode()

@@ -12,7 +12,7 @@ from pathlib import Path
 import pytest
 from conftest import EXAMPLES
 
-from gorseplumb import Data, Done, Function, LibraryError, Machine
+from gorseplumb import Data, Done, Function, LibraryError, Machine, __version__, library_version
 from gorseplumb._library import DECLARATIONS, Library
 
 
@@ -33,7 +33,21 @@ def test_says_that_there_is_none(tmp_path: Path) -> None:
     assert done.returncode == 1
     told = done.stderr.splitlines()[-1]
     assert told.startswith(f"gorseplumb.errors.LibraryError: {tmp_path}/none.so can't be loaded: ")
-    assert told.endswith("; python/backend.py makes it")
+    ways = "c/archive --unproved (about four minutes) or c/archive (proved; 20 minutes)"
+    assert told.endswith(f"; make the library for C by {ways}, and this of it by python/backend.py")
+
+
+def test_says_how_an_archive_is_made(tmp_path: Path) -> None:
+    environment = {**os.environ, "GORSEPLUMB_ARCHIVE": str(tmp_path / "none.a")}
+    words = [sys.executable, str(EXAMPLES.parent / "python" / "backend.py"), str(tmp_path / "made.so")]
+    done = subprocess.run(words, env=environment, capture_output=True, text=True, check=False)
+    assert done.returncode == 1
+    told = done.stderr.splitlines()[0]
+    assert told.startswith(f"there is no archive {tmp_path}/none.a: run c/archive --unproved (about four minutes; ")
+
+
+def test_tells_its_version() -> None:
+    assert library_version() in (__version__, f"{__version__} (not proved)")
 
 
 def test_refuses_one_with_other_declarations(tmp_path: Path) -> None:

@@ -37,14 +37,14 @@
 //!
 //! # What the program has to have
 //!
-//! The archive calls seven functions, by these names. With a C library, and the feature `heap`, which is on, a program
-//! has them all.
+//! The archive calls seven functions, by these names. With a C library, and the features `heap` and `unsettled`, which
+//! are on, a program has them all.
 //!
 //! - `rattle_alloc`, `rattle_realloc`, `rattle_dealloc`: the feature `heap` has them over the program's global
 //!   allocator; without it the program has to, as `rust/bare/src/memory.rs` does.
 //! - `memcpy`, `memmove`, `memset`: a C library has them, and for targets without one (`*-none`) Rust itself.
-//! - `write`: a C library has it. Without one it is to be defined by [`settle_by!`], over a function that does nothing
-//!   where no processor walks the tables.
+//! - `gorseplumb_settle`: the feature `unsettled` has one that does nothing, for a program in which no processor walks
+//!   the tables. Where one does, firmware leaves that feature off and defines it by [`settle_by!`]; else it isn't linked.
 //!
 //! To check a crate or to read its pages takes no archive; to build a program or a test does.
 //!
@@ -163,15 +163,13 @@ pub use manifest::{
     MOST_REGIONS,
 };
 pub use named::{decode, encode, ArgumentError, Named};
-pub use names::{call_name, declarations};
+pub use names::{call_name, declarations, version};
 pub use operation::{registers, Answer, Registers, Size};
 pub use processors::{Effect, Processor};
 pub use ram::{Heap, Lent, Page, Ram, PAGE_SIZE};
 pub use reasons::{About, AccessReason, CallReason, Obstacle, RunState};
 pub use refusal::Refusal;
 pub use sending::{Descriptor, SendError};
-#[doc(hidden)]
-pub use settling::settling;
 pub use settling::Settling;
 
 use core::fmt;

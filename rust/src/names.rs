@@ -11,6 +11,18 @@ pub fn declarations() -> u32 {
     unsafe { raw::gorseplumb_declarations() }
 }
 
+/// The version of the archive, as `0.1.0`. Of one that was compiled without proofs, by `c/archive --unproved`,
+/// ` (not proved)` stands behind it: it is slower and takes more stack, since it keeps its checks.
+///
+/// ```
+/// assert!(gorseplumb::version().starts_with(env!("CARGO_PKG_VERSION")));
+/// ```
+#[must_use]
+pub fn version() -> &'static str {
+    // SAFETY: it takes nothing.
+    text(unsafe { raw::gorseplumb_version() })
+}
+
 /// The name of a call in the standard, by its identifier in w0. None: it is none that is served.
 ///
 /// ```

@@ -157,18 +157,6 @@ pub struct Change {
     pub ranges: [Range; MOST_RANGES],
 }
 
-/// What the library writes to the descriptor [`SETTLES`].
-#[derive(Clone, Copy, Debug, PartialEq, Eq)]
-#[repr(C)]
-pub struct Settling {
-    pub endpoint: u64,
-    pub address: u64,
-    pub size: u64,
-}
-
-/// The descriptor to which the library writes what is to be settled.
-pub const SETTLES: i32 = -0xFFA;
-
 #[derive(Clone, Copy, Debug, PartialEq, Eq)]
 #[repr(C)]
 pub struct Grant {
@@ -294,6 +282,7 @@ extern "C" {
     pub fn gorseplumb_end_lending(lent: *mut Lent) -> u32;
 
     pub fn gorseplumb_declarations() -> u32;
+    pub fn gorseplumb_version() -> *const u8;
     pub fn gorseplumb_ram_base(machine: *const Machine) -> u32;
     pub fn gorseplumb_ram_blocks(machine: *const Machine) -> u32;
     pub fn gorseplumb_root(machine: *const Machine, endpoint: u16) -> u32;

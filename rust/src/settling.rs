@@ -1,7 +1,7 @@
 // SPDX-License-Identifier: MIT OR Apache-2.0
 //! What firmware settles while an operation is on its way.
 use crate::hexadecimal::shown;
-use crate::{raw, Id};
+use crate::Id;
 
 /// What is to be settled: when the function that [`settle_by!`](crate::settle_by) names returns, all that the library
 /// has stored so far is seen by every processor and every walk of tables, and no processor holds a translation for an
@@ -19,23 +19,14 @@ pub struct Settling {
 
 shown! { Settling { endpoint, address: hexadecimal, size: hexadecimal } }
 
-/// Reads what the library writes.
-///
-/// # Safety
-/// Where the descriptor and the size are the library's, `bytes` points to what it writes.
-#[doc(hidden)]
-pub unsafe fn settling(descriptor: i32, bytes: *const u8, size: usize) -> Option<Settling> {
-    if descriptor != raw::SETTLES || size != core::mem::size_of::<raw::Settling>() {
-        return None;
-    }
-    // SAFETY: it is what the library writes, wherever it stands.
-    let asked = unsafe { bytes.cast::<raw::Settling>().read_unaligned() };
-    Some(Settling { endpoint: Id(asked.endpoint as u16), address: asked.address, size: asked.size })
-}
+/// That of a program in which no processor walks the tables.
+#[cfg(feature = "unsettled")]
+#[no_mangle]
+extern "C" fn gorseplumb_settle(_endpoint: u16, _address: u64, _size: u64) {}
 
-/// Has the library settle what it writes by a function of type `fn(Settling)`, which may not call the library. For a
-/// program without a C library: it defines the `write` that the library calls. Where no processor walks the tables the
-/// function may do nothing.
+/// Has the library settle what it writes by a function of type `fn(Settling)`, which may not call the library. It
+/// defines the `gorseplumb_settle` that the library calls, so the feature `unsettled`, which has one that does nothing,
+/// is to be off.
 ///
 /// ```no_run
 /// # fn main() {}
@@ -49,15 +40,8 @@ pub unsafe fn settling(descriptor: i32, bytes: *const u8, size: usize) -> Option
 macro_rules! settle_by {
     ($settle:path) => {
         #[no_mangle]
-        unsafe extern "C" fn write(descriptor: i32, bytes: *const u8, size: usize) -> isize {
-            // SAFETY: nobody but the library writes to its descriptor.
-            match unsafe { $crate::settling(descriptor, bytes, size) } {
-                Some(settling) => {
-                    $settle(settling);
-                    size as isize
-                }
-                None => -1,
-            }
+        extern "C" fn gorseplumb_settle(endpoint: u16, address: u64, size: u64) {
+            $settle($crate::Settling { endpoint: $crate::Id(endpoint), address, size });
         }
     };
 }

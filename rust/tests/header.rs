@@ -37,8 +37,7 @@ macro_rules! numbers {
 
 /// What boots, operations and lists of pages have.
 fn operations() -> Vec<(String, i64)> {
-    let mut rows = vec![("(long)GORSEPLUMB_SETTLES".to_owned(), i64::from(raw::SETTLES))];
-    rows.extend(fields!(Machine, "machine", live at));
+    let mut rows = fields!(Machine, "machine", live at);
     rows.extend(fields!(Lent, "lent", live at));
     rows.extend(fields!(Slot, "slot", live at));
     rows.extend(fields!(Span, "span", at pages));
@@ -51,7 +50,6 @@ fn operations() -> Vec<(String, i64)> {
     rows.extend(fields!(Refusal, "refusal", cause endpoint region line column words));
     rows.extend(fields!(Range, "range", address size));
     rows.extend(fields!(Change, "change", endpoint range_count ranges));
-    rows.extend(fields!(Settling, "settling", endpoint address size));
     rows.push(("sizeof(struct gorseplumb_page)".into(), size_of::<gorseplumb::Page>() as i64));
     rows.extend(numbers!(KIND_REGISTERS KIND_DATA KIND_DONE KIND_FAULT KIND_NO_MACHINE KIND_BAD_SIZE KIND_NO_ENDPOINT));
     rows.extend(numbers!(OK NO_MEMORY OCCUPIED NO_LIST NO_PAGE HAS_PAGES NO_MACHINE WRONG_COUNT NOTHING));
