@@ -385,10 +385,11 @@ on_aarch64() {
     fi
 }
 
-for word in 0 -1; do
-    said=$(timeout 10 "$here/archive" --jobs $word 2>&1) && status=0 || status=$?
-    if ((status != 2)) || ! grep -q 'from 1 on' <<<"$said"; then echo "c/archive --jobs $word: status $status, $said" >&2; exit 1; fi
+for words in "--jobs 0:from 1 on" "--jobs -1:from 1 on" "--unproved --jobs 2:proves nothing" "--unproved --as-built:proves nothing"; do
+    said=$(timeout 60 "$here/archive" ${words%:*} 2>&1) && status=0 || status=$?
+    if ((status != 2)) || ! grep -q "${words#*:}" <<<"$said"; then echo "c/archive ${words%:*}: status $status, $said" >&2; exit 1; fi
 done
+echo "c/archive refuses fewer than one process, and what has no meaning with --unproved"
 [ -n "${FFAPLAY:-}" ] || "$top/ffaplay" prove
 "$player" check "$top/examples/machine.toml" >/dev/null
 # (rust/test.sh and python/test.sh play the same)
