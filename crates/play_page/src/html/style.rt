@@ -86,5 +86,5 @@ tr.changed { background: #fff3c4; }
 kbd { padding: 0 4px; border: 1px solid #bbb; border-radius: 3px; background: #fff; font: inherit; }
 .keys { color: #555; }
 :focus-visible { outline: 2px solid #0072b2; outline-offset: -2px; }
-@media (max-width: 900px) { main { flex-direction: column; } #left { border-right: 0; border-bottom: 1px solid #bbb; } }
+@media (max-width: 900px) { main { flex-direction: column; } #left { min-height: 0; border-right: 0; border-bottom: 1px solid #bbb; } }
 "##;
