@@ -271,7 +271,7 @@ const columnOf = new Map(columns.map((address, index) => [address, index]));
 
 // THE STATE, which is moved from line to line by the changes between them
 
-const state = { runs: new Set(), done: 0, number: 0, shown: [], tops: [0] };
+const state = { runs: new Set(), done: 0, number: 0, shown: [], tops: [0], asked: "" };
 
 function moveState(number) {
   while (state.done < changes.length && changes[state.done].number <= number) {
@@ -435,18 +435,29 @@ function saidOf(line) {
   return [line.actor, line.text, line.answer, line.reason, ...line.guards.map((guard) => guard.text)].join(" ").toUpperCase();
 }
 
+// A call as a trace has it, for the search: all its registers, without zeros in front.
+function plainOf({ call }) {
+  return call ? ["CALL", ...call.x.map((value) => digits(value))].join(" ") : "";
+}
+
+// Whether a line says a text, or its call has it among its registers.
+function hasText(line, text) {
+  line.said ??= saidOf(line);
+  line.plain ??= plainOf(line);
+  return line.said.includes(text) || line.plain.includes(text.replace(/\b0+(?=[0-9A-F])/g, ""));
+}
+
 function filterLines() {
   const [actor, handle, find] = [at("actor").value, handles.get(at("handle").value), at("find").value.trim().toUpperCase()];
   const [refused, changed, unmet] = ["refused", "changing", "unmet"].map((id) => at(id).checked);
   const passes = (line) => (!actor || (line.actor === actor && line.answer)) && (!handle || handle.has(line.number))
     && (!refused || line.reason) && (!changed || changing.has(line.number))
-    && (!unmet || line.guards.some((guard) => guard.met === false)) && (!find || saidOf(line).includes(find));
+    && (!unmet || line.guards.some((guard) => guard.met === false)) && (!find || hasText(line, find));
   const passed = lines.filter((line) => !hosts.has(line.number) && passes(line));
   state.shown = passed.map((line) => line.number);
   state.tops = [0];
   for (const line of passed) state.tops.push(state.tops.at(-1) + heightOf(line));
-  const count = passed.reduce((sum, line) => sum + 1 + line.guards.filter((guard) => hosts.has(guard.number)).length, 0);
-  at("count").textContent = `${count} of ${lines.length} lines`;
+  at("count").textContent = `${passed.length} of ${lines.length - hosts.size} lines`;
   scrollToChosen();
   showList();
   keepAddress();
@@ -510,12 +521,22 @@ function step(count) {
   choose(next < 0 ? 0 : state.shown[Math.min(next, state.shown.length - 1)] ?? state.number);
 }
 
+// Chooses the first line that was found, or the next one where this text was asked for before, and behind the last the first.
+function chooseFound() {
+  const find = at("find").value;
+  const place = placeOf(state.number);
+  const next = state.asked === find && state.shown[place] === state.number ? (place + 1) % state.shown.length : 0;
+  state.asked = find;
+  if (state.shown.length) choose(state.shown[next]);
+}
+
 function stepChange(forward) {
   const next = changes[forward ? state.done : state.done - (changes[state.done - 1].number === state.number ? 2 : 1)];
   if (next) choose(next.number);
 }
 
 function onKey(event) {
+  if (event.key === "Enter" && event.target === at("find") && !event.isComposing) chooseFound();
   if (event.ctrlKey || event.altKey || event.metaKey || event.target.tagName === "SELECT" || event.target === at("find")) return;
   const page = Math.max(1, Math.floor(at("list").clientHeight / (AROUND + 2 * ROW)) - 1);
   const actions = {
