@@ -10,3 +10,4 @@ pub mod Meeting
 pub mod Places
 pub mod PartsPlaces
 pub mod TextPlaces
+pub mod Controls

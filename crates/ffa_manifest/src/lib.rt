@@ -7,6 +7,7 @@ ghost use Rattle.ffa_manifest.specs.Document.{machine_of, parts_of};
 ghost use Rattle.ffa_manifest.specs.Meeting.{SharesPage};
 ghost use Rattle.ffa_manifest.specs.Places.{IsByteIn, IsPlaceIn, IsRefused};
 
+mod control;
 mod document;
 mod endpoints;
 pub mod error;
@@ -86,10 +87,11 @@ fn explain_text(alloc: Global, text: &str) -> Result<Result<Manifest, ManifestRe
         Ok(table) => table,
         Err(e) if e.is_memory() => return Err(AllocError),
         Err(e) => {
+            let at = locate::byte_of(&e);
             return Ok(Err(ManifestRefusal {
                 cause: ManifestError::Toml,
-                place: locate::in_text(alloc, &e)?,
-                byte: locate::byte_of(&e),
+                place: locate::in_text(alloc, text.as_bytes(), at, &e)?,
+                byte: Some(at),
             }));
         }
     };

@@ -16,6 +16,7 @@ ghost use Rattle.ffa_manifest.specs.Places.{IsAtEndpoint, IsAtRegion, IsAtTop, I
 ghost use Rattle.ffa_manifest.specs.RegionSpace.{is_in};
 ghost use Rattle.ffa_manifest.specs.Regions.{regions_at, regions_from as regions_in};
 
+use crate::control::forbidden_control;
 use crate::document::{TOP_KEYS, endpoint_items, ram_base_at, ram_blocks_at, top_keys};
 use crate::endpoints::{
     NORMAL_WORLD_KEYS, PARTITION_KEYS, next_endpoint, normal_world_keys, normal_world_properties,
@@ -29,6 +30,7 @@ use crate::region_space::RegionSpace;
 use crate::regions::{
     REGION_KEYS, base_at, next_region, pages_at, region, region_items, region_keys, rights_at,
 };
+use crate::text_place::TextPlace;
 use arrayvec::ArrayVec;
 use ffa_model::{Endpoint, EndpointId, MOST_ENDPOINTS, MOST_REGIONS, Region};
 use std::alloc::{AllocError, Global};
@@ -38,11 +40,22 @@ use toml::{Table, Value};
 // How many bytes of a key or a value are told.
 const SHOWN: usize = 60;
 
-/// Where a text is no TOML: all that its parser says, on one line.
-pub(crate) fn in_text(alloc: Global, error: &toml::de::Error) -> Result<Location, AllocError>
+/// Where a text is no TOML, from the byte at this place on: all that its parser says, on one line, or that a control
+/// character stands there, which the parser calls a bad key, value or string.
+pub(crate) fn in_text(
+    alloc: Global,
+    text: &[u8],
+    at: usize,
+    error: &toml::de::Error,
+) -> Result<Location, AllocError>
+    requires { at ≤ length text.now }
     ensures place { IfOk result IsAtTop }
     ensures met { IfOk result (λ location. SharesPage location.found) }
 {
+    if let Some(byte) = forbidden_control(text, at) {
+        let place = TextPlace::of(text, at);
+        return Ok(in_no_endpoint(Found::Control { byte, place }));
+    }
     let said = error.to_string(alloc)?;
     let said = said.as_str().trim_end().replace(alloc, "\n", ": ")?;
     Ok(in_no_endpoint(Found::NoToml(said)))
@@ -60,13 +73,13 @@ pub(crate) fn in_no_endpoint(found: Found) -> Location
 }
 
 /// At which byte a text is no TOML.
-pub(crate) fn byte_of(error: &toml::de::Error) -> Option<usize>
+pub(crate) fn byte_of(error: &toml::de::Error) -> usize
     requires { IsMemory error.now → ⊥ }
-    ensures { result ≡ Some (span_start error.now) }
+    ensures { result ≡ span_start error.now }
 {
     match error.span() {
-        Some(span) => Some(span.start),
-        None => None,
+        Some(span) => span.start,
+        None => unreachable!(),
     }
 }
 

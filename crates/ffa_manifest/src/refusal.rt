@@ -5,6 +5,7 @@
 //! digits or more, and endpoints by their identifiers.
 
 use crate::error::ManifestError;
+use crate::text_place::TextPlace;
 use ffa_model::{EndpointId, MOST_BLOCKS, MOST_RAM, Region};
 use std::fmt;
 use std::str::Utf8Error;
@@ -39,6 +40,11 @@ pub enum Found {
     NoText(Utf8Error),
     /// The text is no TOML: what the parser says of it, with a line and a column that count from 1.
     NoToml(String),
+    /// The text is no TOML, since a control character stands there.
+    Control {
+        byte: u8,
+        place: TextPlace,
+    },
     /// A key that isn't one of the table's, and the one of these that it is nearest to, where it is near to one.
     UnknownKey {
         key: String,
@@ -264,6 +270,14 @@ impl fmt::Display for Found {
         match self {
             Found::NoText(error) => write!(f, "{error}"),
             Found::NoToml(said) => write!(f, "{said}"),
+            Found::Control { byte, place } => {
+                let TextPlace { line, column } = *place;
+                write!(f, "TOML parse error at line {line}, column {column}: ")?;
+                write!(
+                    f,
+                    "control character \\x{byte:02X}, which TOML does not allow"
+                )
+            }
             Found::UnknownKey { key, near: None } => write!(f, "key '{key}' is unknown"),
             Found::UnknownKey {
                 key,
