@@ -393,6 +393,7 @@ class Machine(Questions):
             FFA_NOTIFICATION_UNBIND          sender, receiver, [flags], bits
             FFA_NOTIFICATION_SET             sender, receiver, [flags], bits
             FFA_NOTIFICATION_GET             receiver, [context], flags
+            FFA_NOTIFICATION_INFO_GET*       -
             FFA_SPM_ID_GET                   -
             FFA_MSG_SEND2                    -
 

@@ -66,6 +66,7 @@ ARGUMENTS: Mapping[Function, Mapping[str, Place]] = {
     Function.FFA_NOTIFICATION_UNBIND: _BITS,
     Function.FFA_NOTIFICATION_SET: _BITS,
     Function.FFA_NOTIFICATION_GET: {"receiver": _bits(1, 15, 0), "context": _bits(1, 31, 16), "flags": _word(2)},
+    Function.FFA_NOTIFICATION_INFO_GET: {},
     Function.FFA_SPM_ID_GET: {},
     Function.FFA_MSG_SEND2: {},
 }
@@ -102,8 +103,18 @@ RESULTS: Mapping[Function, Mapping[str, Place]] = {
     Function.FFA_MEM_LEND: {"handle": _pair(2)},
     Function.FFA_MEM_SHARE: {"handle": _pair(2)},
     Function.FFA_NOTIFICATION_GET: {"partitions": _pair(2), "normal_world": _pair(4), "manager": _word(6)},
+    Function.FFA_NOTIFICATION_INFO_GET: {
+        "more": _bits(2, 0, 0),
+        "lists": _bits(2, 11, 7),
+        "counts": _bits(2, 31, 12),
+        **{f"ids{i}": _word(3 + i) for i in range(5)},
+    },
 }
-"""What an FFA_SUCCESS holds that answers a call."""
+"""What an FFA_SUCCESS holds that answers a call. Of FFA_NOTIFICATION_INFO_GET: whether there is more to tell; how many
+lists; two bits for each list, of how many identifiers it has behind its first; and the identifiers, in 16 bits each."""
+
+TOLD_WHOLE: Mapping[Function, frozenset[int]] = {Function.FFA_NOTIFICATION_INFO_GET: frozenset({3, 4, 5, 6, 7})}
+"""The registers of an FFA_SUCCESS that are whole where it answers the 64-bit form of a call."""
 
 _READ_WHOLE: Mapping[Function, frozenset[int]] = {
     Function.FFA_RXTX_MAP_64: frozenset({1, 2}),
@@ -138,12 +149,7 @@ def is_read_whole(x0: int, register: int) -> bool:
 
 def places(function: Function) -> Mapping[str, Place]:
     """Where the arguments of a call stand, in the form that it is."""
-    narrow = ARGUMENTS[Function[function.call_name]]
-    whole = _READ_WHOLE.get(function, frozenset())
-    return {
-        name: tuple((register, low, 64 if register in whole else bits) for register, low, bits in place)
-        for name, place in narrow.items()
-    }
+    return _widened(ARGUMENTS[Function[function.call_name]], _READ_WHOLE.get(function, frozenset()))
 
 
 def signature(function: Function, value: str = "", between: str = ", ") -> str:
@@ -187,9 +193,22 @@ def decode(x: tuple[int, ...], answers: int | None = None) -> NamedRegisters | N
         return None
     found = places(function)
     asked = Function.of(answers) if answers is not None else None
-    if function is Function.FFA_SUCCESS and asked is not None:
-        found = RESULTS.get(Function[asked.call_name], {})
+    if function.call_name == "FFA_SUCCESS" and asked is not None:
+        found = _results(asked)
     return NamedRegisters(function, {name: _read(x, place) for name, place in found.items()})
+
+
+def _results(asked: Function) -> Mapping[str, Place]:
+    """Where what stands that answers a call, in the form that it is."""
+    narrow = Function[asked.call_name]
+    return _widened(RESULTS.get(narrow, {}), TOLD_WHOLE.get(narrow, frozenset()) if asked.is_wide else frozenset())
+
+
+def _widened(places: Mapping[str, Place], whole: frozenset[int]) -> dict[str, Place]:
+    return {
+        name: tuple((register, low, 64 if register in whole else bits) for register, low, bits in place)
+        for name, place in places.items()
+    }
 
 
 def _optional(function: Function) -> frozenset[str]:

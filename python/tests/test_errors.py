@@ -19,7 +19,7 @@ from gorseplumb.errors import access_fault, call_refused
     [
         (call_refused(ErrorCode.BUSY), "BUSY"),
         (call_refused(ErrorCode.DENIED, 0x8400006D, 0x8001), "8001: FFA_RUN: DENIED"),
-        (call_refused(100, 0x84000083), "84000083: error 100"),
+        (call_refused(100, 0x8400008F), "8400008F: error 100"),
         (access_fault(Fault.TRANSLATION, 1 << 32, 0), "translation fault of 0000 at 0000000100000000"),
         (ManifestRefused(Cause.RAM_BASE), "M6 RamBase"),
         (ManifestRefused(Cause.TOML, "a hint"), "M2 Toml: a hint"),
@@ -56,7 +56,7 @@ def test_is_copied_with_its_reason() -> None:
 
 
 def test_shows_its_numbers_in_hexadecimal() -> None:
-    assert repr(call_refused(100, 0x84000083)) == "CallRefused(0x64, 0x84000083, None, None)"
+    assert repr(call_refused(100, 0x8400008F)) == "CallRefused(0x64, 0x8400008F, None, None)"
     assert repr(NoSuchEndpoint(0x8005)) == "NoSuchEndpoint(0x8005)"
     assert repr(ManifestRefused(Cause.TOML)) == "ManifestRefused(Cause.TOML, '')"
     fault = access_fault(Fault.TRANSLATION, 0x40020000, 0x8001)

@@ -76,7 +76,7 @@ def test_what_is_shown_makes_the_same_value() -> None:
         BUILT_IN,
     ]
     with Machine(BUILT_IN) as machine:
-        values += [machine.access_map(), machine.why(Load(0x40020000, 1)), machine.why(Call((0x84000083,)))]
+        values += [machine.access_map(), machine.why(Load(0x40020000, 1)), machine.why(Call((0x8400008F,)))]
     names = vars(gorseplumb) | {"UUID": uuid.UUID}
     for value in values:
         told = repr(value)

@@ -74,8 +74,8 @@ def test_raises_what_is_refused_where_that_is_asked(partitions: Machine) -> None
         partitions.do(Function.FFA_RUN, partition=0x8009)
     assert (refused.value.code, refused.value.caller) == (ErrorCode.INVALID_PARAMETERS, 0)
     assert refused.value.x0 == Function.FFA_RUN
-    with pytest.raises(NotSupported, match="84000083"):
-        partitions.require(Call((0x84000083,)))
+    with pytest.raises(NotSupported, match="8400008F"):
+        partitions.require(Call((0x8400008F,)))
     assert partitions.do(Function.FFA_ID_GET).x[2] == 0
     assert issubclass(NotSupported, CallRefused)
 

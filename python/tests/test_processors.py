@@ -51,7 +51,9 @@ def test_each_processor_runs_a_partition(partitions: Machine) -> None:
 
 
 def test_the_normal_world_is_told_once_whose_notifications_are_pending(partitions: Machine) -> None:
-    info_get, info_get_64, success_64 = 0x84000083, 0xC4000083, 0xC4000061
+    info_get, info_get_64 = Function.FFA_NOTIFICATION_INFO_GET, Function.FFA_NOTIFICATION_INFO_GET_64
+    success_64 = Function.FFA_SUCCESS_64
+    assert (info_get, info_get_64, success_64) == (0x84000083, 0xC4000083, 0xC4000061)
     no_data = told(0, Function.FFA_ERROR, 0, 0xFFFFFFF7)
     done = told(0, Function.FFA_SUCCESS)
     assert partitions.call_on(2, Function.FFA_FEATURES, info_get_64) == done

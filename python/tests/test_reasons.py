@@ -43,9 +43,9 @@ def test_has_the_programs_words() -> None:
     field = Subject(About.FIELD, number=10, flaw=Flaw.RANGE_RESERVED, value=1, first=252, size=8)
     told = "range 0A: its reserved bytes are not 0: bytes FC to 0103 are 0000000000000001"
     assert refused(lend, Check.DESCRIPTOR_MALFORMED, 6, field).endswith(told)
-    unknown = Call((0x84000083,))
-    w0 = Subject(About.REGISTER, number=0, value=0x84000083)
-    assert refused(unknown, Check.FUNCTION_UNKNOWN, 1, w0) == "check 1: no such function is served: w0 is 84000083"
+    unknown = Call((0x8400008F,))
+    w0 = Subject(About.REGISTER, number=0, value=0x8400008F)
+    assert refused(unknown, Check.FUNCTION_UNKNOWN, 1, w0) == "check 1: no such function is served: w0 is 8400008F"
     handle, bit = Subject(About.HANDLE, handle=0x0000800100000001), Subject(About.BIT, number=18)
     assert refused(lend, Check.HANDLE_UNKNOWN, 7, handle).endswith(": handle 0000800100000001")
     assert refused(lend, Check.BITS_TAKEN, 7, bit).endswith(": bit 12")

@@ -54,6 +54,19 @@ def test_writes_and_reads_what_a_call_takes(line: str, function: Function, argum
     assert told == {name: value for name, value in arguments.items() if value}
 
 
+def test_who_is_to_run_by_name() -> None:
+    # DEN0077A, 16: bit 0 of w2 tells of more, bits 11 to 7 the number of lists, and two bits for each from bit 12 on
+    called, asked = encode(Function.FFA_NOTIFICATION_INFO_GET), Function.FFA_NOTIFICATION_INFO_GET
+    assert called == (0x84000083, *(0,) * 7) and str(decode(called)) == "FFA_NOTIFICATION_INFO_GET"
+    assert encode(Function.FFA_NOTIFICATION_INFO_GET_64)[0] == 0xC4000083
+    answer = (0x84000061, 0, 0x4181, 0x80020000, 0x8003, 0, 0, 0)
+    told = "FFA_SUCCESS more=1 lists=3 counts=4 ids0=80020000 ids1=8003 ids2=0 ids3=0 ids4=0"
+    assert str(decode(answer, asked)) == told
+    wide = (0xC4000061, 0, 0x180, 0x800380020000, 0, 0, 0, 0)
+    told = "FFA_SUCCESS more=0 lists=3 counts=0 ids0=800380020000 ids1=0 ids2=0 ids3=0 ids4=0"
+    assert str(decode(wide, Function.FFA_NOTIFICATION_INFO_GET_64)) == told
+
+
 def test_reads_what_an_answer_holds_by_the_call_that_it_answers() -> None:
     success = (Function.FFA_SUCCESS, 0, 1, 0x8001, 0, 0, 0, 0)
     for_share = decode(success, Function.FFA_MEM_SHARE)
@@ -111,7 +124,8 @@ def test_refuses_what_is_no_function() -> None:
         ("FFA_RNU", "the str 'FFA_RNU': give Function.FFA_RUN"),
         ("FFA_NOTHING_ALIKE", "the str 'FFA_NOTHING_ALIKE'"),
         (0x8400006D, "the int 0x8400006D: give Function.FFA_RUN"),
-        (0x84000083, "the int 0x84000083"),
+        (0x84000083, "the int 0x84000083: give Function.FFA_NOTIFICATION_INFO_GET"),
+        (0x8400008F, "the int 0x8400008F"),
         (ErrorCode.DENIED, "ErrorCode.DENIED"),
         (None, "None"),
     ]

@@ -72,7 +72,7 @@ def test_judges_a_line_when_it_is_reached() -> None:
         with pytest.raises(BadLine, match="line 2: no line end"):
             list(play(machine, b"# \xff\nload 40010000 1"))
         assert list(play(machine, ["load 40010000 1"], numbers=True)) == ["1: data 2A"]
-        named = list(play(machine, ["call 84000069", "call 84000083", "call 84000063 10001"], names=True))
+        named = list(play(machine, ["call 84000069", "call 8400008F", "call 84000063 10001"], names=True))
         assert [line.partition(" #")[2] for line in named] == [" FFA_SUCCESS", " FFA_ERROR NOT_SUPPORTED", ""]
 
 

@@ -73,6 +73,8 @@ functions! {
     0x8400_0080 NotificationUnbind "FFA_NOTIFICATION_UNBIND",
     0x8400_0081 NotificationSet "FFA_NOTIFICATION_SET",
     0x8400_0082 NotificationGet "FFA_NOTIFICATION_GET",
+    0x8400_0083 NotificationInfoGet "FFA_NOTIFICATION_INFO_GET",
+    0xC400_0083 NotificationInfoGet64 "FFA_NOTIFICATION_INFO_GET",
     0x8400_0085 SpmIdGet "FFA_SPM_ID_GET",
     0x8400_0086 MsgSend2 "FFA_MSG_SEND2",
 }

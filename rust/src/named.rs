@@ -119,6 +119,26 @@ const fn results(function: Function) -> &'static [Place] {
             ("normal_world", &[(4, 0, 32), (5, 0, 32)]),
             ("manager", &[(6, 0, 32)]),
         ],
+        Function::NotificationInfoGet => &[
+            ("more", &[(2, 0, 1)]),
+            ("lists", &[(2, 7, 5)]),
+            ("counts", &[(2, 12, 20)]),
+            ("ids0", &[(3, 0, 32)]),
+            ("ids1", &[(4, 0, 32)]),
+            ("ids2", &[(5, 0, 32)]),
+            ("ids3", &[(6, 0, 32)]),
+            ("ids4", &[(7, 0, 32)]),
+        ],
+        Function::NotificationInfoGet64 => &[
+            ("more", &[(2, 0, 1)]),
+            ("lists", &[(2, 7, 5)]),
+            ("counts", &[(2, 12, 20)]),
+            ("ids0", &[(3, 0, 64)]),
+            ("ids1", &[(4, 0, 64)]),
+            ("ids2", &[(5, 0, 64)]),
+            ("ids3", &[(6, 0, 64)]),
+            ("ids4", &[(7, 0, 64)]),
+        ],
         _ => &[],
     }
 }
@@ -215,7 +235,7 @@ impl fmt::Debug for Named {
 pub fn decode(registers: &Registers, answers: Option<Function>) -> Option<Named> {
     let function = Function::of(registers[0] as u32)?;
     let places = match (function, answers) {
-        (Function::Success, Some(asked)) => results(asked),
+        (Function::Success | Function::Success64, Some(asked)) => results(asked),
         _ => arguments(function),
     };
     Some(Named { function, places, registers: *registers })

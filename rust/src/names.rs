@@ -23,11 +23,13 @@ pub fn version() -> &'static str {
     text(unsafe { raw::gorseplumb_version() })
 }
 
-/// The name of a call in the standard, by its identifier in w0. None: it is none that is served.
+/// The name of a call in the standard, by its identifier in w0. None: it is none that is served, on one processor or on
+/// several.
 ///
 /// ```
 /// assert_eq!(gorseplumb::call_name(0x8400_006D), Some("FFA_RUN"));
-/// assert_eq!(gorseplumb::call_name(0x8400_0083), None);
+/// assert_eq!(gorseplumb::call_name(0x8400_0083), Some("FFA_NOTIFICATION_INFO_GET"));
+/// assert_eq!(gorseplumb::call_name(0x8400_008F), None);
 /// ```
 #[must_use]
 pub fn call_name(function: u32) -> Option<&'static str> {

@@ -73,6 +73,23 @@ fn what_is_written_is_read() {
     }
 }
 
+/// Which endpoints are to run (DEN0077A, 16): bit 0 of w2 tells of more, bits 11 to 7 the number of lists, and two bits for each
+/// from bit 12 on.
+#[test]
+fn who_is_to_run() {
+    let asked = registers([0x8400_0083]);
+    let empty: &[(&str, u128)] = &[];
+    assert_eq!(told(asked, None), "FFA_NOTIFICATION_INFO_GET");
+    assert_eq!(encode(Function::NotificationInfoGet, empty), Ok(asked));
+    assert_eq!(encode(Function::NotificationInfoGet64, empty), Ok(registers([0xC400_0083])));
+    let answer = registers([0x8400_0061, 0, 0x4181, 0x8002_0000, 0x8003]);
+    let names = "FFA_SUCCESS more=1 lists=3 counts=4 ids0=80020000 ids1=8003 ids2=0 ids3=0 ids4=0";
+    assert_eq!(told(answer, Some(Function::NotificationInfoGet)), names);
+    let wide = registers([0xC400_0061, 0, 0x180, 0x8003_8002_0000]);
+    let names = "FFA_SUCCESS more=0 lists=3 counts=0 ids0=800380020000 ids1=0 ids2=0 ids3=0 ids4=0";
+    assert_eq!(told(wide, Some(Function::NotificationInfoGet64)), names);
+}
+
 #[test]
 fn what_makes_no_call() {
     let error = encode(Function::Run, &[("context", 0), ("endpoint", 1)]).unwrap_err();

@@ -266,9 +266,9 @@ fn operations_that_say_why() {
     assert_eq!(words(&refused), "translation fault at 40200000: the page belongs to 8002");
     assert_eq!(machine.store_or_why(0x4001_0000, Size::B4, 42), Ok(()));
     assert_eq!(machine.load_or_why(0x4001_0000, Size::B4), Ok(42));
-    let refused = machine.call_or_why(&registers([0x8400_0083])).unwrap_err();
-    let check = "no such function is served: register 0 is 84000083";
-    assert_eq!(words(&refused), format!("call 84000083 is refused: NOT_SUPPORTED: {check}"));
+    let refused = machine.call_or_why(&registers([0x8400_008F])).unwrap_err();
+    let check = "no such function is served: register 0 is 8400008F";
+    assert_eq!(words(&refused), format!("call 8400008F is refused: NOT_SUPPORTED: {check}"));
     let refused = machine.call_or_why(&Function::MemReclaim.with([1, 0x8001])).unwrap_err();
     let check = "no open transaction of the caller has the handle: handle 0000800100000001";
     assert_eq!(words(&refused), format!("FFA_MEM_RECLAIM is refused: INVALID_PARAMETERS: {check}"));

@@ -9,6 +9,7 @@ use Rattle.ffa_model.specs.declared.operation.Effect.TheVariants as effects
 use Rattle.ffa_model.specs.declared.operation.Op.{Op}
 use Rattle.ffa_model.specs.declared.operation.Op.TheVariants.{Call, Load, Store, Fetch}
 use Rattle.ffa_model.specs.declared.operation.Outcome.TheVariants.{Regs}
+use Rattle.ffa_abi.specs.declared.names.TheConstants.{FFA_NOTIFICATION_INFO_GET}
 use Rattle.ffa_model.specs.Bits.{high_half, low_half}
 use Rattle.ffa_model.specs.Calls.{encode, success}
 use Rattle.ffa_model.specs.Notifications.{Notifications}
@@ -17,7 +18,6 @@ use Rattle.ffa_model.specs.Registers.{low, wide_of}
 use Rattle.ffa_notify.specs.Notices.{Told, info, still_told, untold}
 use Rattle.ffa_notify.specs.declared.notices.Notice.{Notice}
 use Rattle.ffa_notify.specs.declared.notices.Notice.TheVariants.{Info, Features}
-use Rattle.ffa_notify.specs.declared.notices.TheConstants.{FFA_NOTIFICATION_INFO_GET}
 
 -- CONTEXTS
 

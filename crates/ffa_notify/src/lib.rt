@@ -16,7 +16,5 @@ mod told;
 mod words;
 
 pub use bitmaps::Bitmaps;
-pub use notices::{
-    FFA_NOTIFICATION_INFO_GET, FFA_NOTIFICATION_INFO_GET_64, Notice, in_one_context, notice_asked,
-};
+pub use notices::{Notice, in_one_context, notice_asked};
 pub use told::{NO_DATA, Told, info_registers};

@@ -5,17 +5,9 @@ ghost use Rattle.ffa_model.specs.declared.limits.TheConstants.{MOST_PROCESSORS};
 ghost use Rattle.ffa_model.specs.Bits.{high_half, low_half};
 ghost use Rattle.ffa_notify.specs.Noticed.{in_one_context, is_info_get, notice_asked, notice_in, with_one_context};
 
-use ffa_abi::low;
-use ffa_model::function::{
-    FFA_FEATURES, FFA_NOTIFICATION_BITMAP_CREATE, FFA_NOTIFICATION_GET, WIDE,
-};
+use ffa_abi::{FFA_NOTIFICATION_INFO_GET, FFA_NOTIFICATION_INFO_GET_64, low};
+use ffa_model::function::{FFA_FEATURES, FFA_NOTIFICATION_BITMAP_CREATE, FFA_NOTIFICATION_GET};
 use ffa_model::{EndpointId, MOST_PROCESSORS, Op};
-
-/// Which endpoints are to run since notifications of theirs are pending.
-pub const FFA_NOTIFICATION_INFO_GET: u32 = 0x8400_0083;
-
-/// The same in its form of 64 bits.
-pub const FFA_NOTIFICATION_INFO_GET_64: u32 = FFA_NOTIFICATION_INFO_GET + WIDE;
 
 /// What the normal world asks about notices.
 #[derive(Clone, Copy)]

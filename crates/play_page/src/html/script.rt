@@ -45,6 +45,7 @@ const RESULTS = {
   FFA_MEM_LEND: { handle: [[2, 0, 32], [3, 0, 32]] },
   FFA_MEM_SHARE: { handle: [[2, 0, 32], [3, 0, 32]] },
   FFA_NOTIFICATION_GET: { partitions: [[2, 0, 32], [3, 0, 32]], normal_world: [[4, 0, 32], [5, 0, 32]], manager: [[6, 0, 32]] },
+  FFA_NOTIFICATION_INFO_GET: { more: [[2, 0, 1]], lists: [[2, 7, 5]], counts: [[2, 12, 20]], ids0: [[3, 0, 32]], ids1: [[4, 0, 32]], ids2: [[5, 0, 32]], ids3: [[6, 0, 32]], ids4: [[7, 0, 32]] },
 };
 const OPTIONAL = {
   FFA_INTERRUPT: ["context"],
