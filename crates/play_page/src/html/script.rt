@@ -122,6 +122,8 @@ function takeApart({ x, wide }, table) {
 function digits(value, name) {
   const text = value.toString(16).toUpperCase();
   if (ENDPOINTS.includes(name)) return text.padStart(4, "0");
+  // Of a UUID the first byte is the lowest here.
+  if (name === "uuid") return text.padStart(32, "0").match(/../g).reverse().join("").toLowerCase();
   return name === "handle" ? text.padStart(16, "0") : text;
 }
 
