@@ -4,10 +4,10 @@
 Numbers count from 1, in the order of the core's own lists (ffa_model's `Refusal` and `Flaw`)."""
 from __future__ import annotations
 
-from enum import IntEnum
+from .hexadecimal import Named
 
 
-class _Worded(IntEnum):
+class _Worded(Named):
     """Numbers, each with its words, which are its `str`. A format of a number, as `{check:d}`, gives the number."""
 
     words: str

@@ -2,7 +2,9 @@
 """The numbers of the standard and of the library, by their names."""
 from __future__ import annotations
 
-from enum import IntEnum, IntFlag
+from enum import IntFlag
+
+from .hexadecimal import Named, by_name
 
 MANAGER = 0x8000
 """The manager's identifier: it owns what no endpoint owns, and never runs."""
@@ -13,7 +15,7 @@ PAGES_OF_BLOCK = 512
 BLOCK_SIZE = PAGE_SIZE * PAGES_OF_BLOCK
 
 
-class Function(IntEnum):
+class Function(Named):
     """What w0 of a call or of an answer holds. A name that ends in `_64` is that of a call's 64-bit form."""
 
     FFA_ERROR = 0x84000060
@@ -57,9 +59,6 @@ class Function(IntEnum):
     FFA_SPM_ID_GET = 0x84000085
     FFA_MSG_SEND2 = 0x84000086
 
-    def __repr__(self) -> str:
-        return f"<{type(self).__name__}.{self.name}: 0x{int(self):08X}>"
-
     @classmethod
     def of(cls, x0: int) -> Function | None:
         """The function that x0 names by its low half, or none."""
@@ -79,7 +78,7 @@ class Function(IntEnum):
 _FUNCTIONS = {int(function): function for function in Function}
 
 
-class ErrorCode(IntEnum):
+class ErrorCode(Named):
     """What FFA_ERROR tells in w2 (DEN0077A, 11.2)."""
 
     NOT_SUPPORTED = -1
@@ -102,7 +101,7 @@ class ErrorCode(IntEnum):
 _ERRORS = {int(code): code for code in ErrorCode}
 
 
-class Fault(IntEnum):
+class Fault(Named):
     """Why a load, a store or a fetch isn't done."""
 
     TRANSLATION = 1
@@ -117,7 +116,7 @@ class Fault(IntEnum):
         return self.name.lower().replace("_", "-")
 
 
-class Cause(IntEnum):
+class Cause(Named):
     """Why a manifest makes no machine, by its number in the manual."""
 
     TOML = 2
@@ -141,7 +140,7 @@ class Cause(IntEnum):
         return f"M{int(self)} {self.name.title().replace('_', '')}"
 
 
-class Right(IntEnum):
+class Right(Named):
     """What an endpoint may do with a page."""
 
     NONE = 0
@@ -182,8 +181,10 @@ class Properties(IntFlag):
     INDIRECT_MESSAGES = 4
     NOTIFICATIONS = 8
 
+    __repr__ = by_name
 
-class Form(IntEnum):
+
+class Form(Named):
     """The form of an endpoint's descriptors: that of FF-A 1.1, or this project's compact one."""
 
     FFA_1_1 = 0
@@ -195,7 +196,7 @@ class Form(IntEnum):
         return "1.1" if self is Form.FFA_1_1 else "compact"
 
 
-class Kind(IntEnum):
+class Kind(Named):
     """The kind of a memory transaction, as flags of a descriptor tell it."""
 
     SHARE = 1
@@ -212,7 +213,7 @@ class Kind(IntEnum):
         }[self]
 
 
-class GrantKind(IntEnum):
+class GrantKind(Named):
     """By what an endpoint has its access to a page."""
 
     NONE = 0
@@ -221,7 +222,7 @@ class GrantKind(IntEnum):
     HELD = 3
 
 
-class About(IntEnum):
+class About(Named):
     """What a refused call's reason speaks of."""
 
     NOTHING = 0
@@ -233,7 +234,7 @@ class About(IntEnum):
     FIELD = 6
 
 
-class RunState(IntEnum):
+class RunState(Named):
     """What an endpoint does that is to wait (DEN0077A, 8.2)."""
 
     NONE = 0
@@ -245,7 +246,7 @@ class RunState(IntEnum):
     RUNS_ELSEWHERE = 6
 
 
-class Obstacle(IntEnum):
+class Obstacle(Named):
     """What stands in the way at a page."""
 
     NONE = 0
@@ -255,7 +256,7 @@ class Obstacle(IntEnum):
     IN_TRANSACTION = 4
 
 
-class Answer(IntEnum):
+class Answer(Named):
     """What the library's boots and lists answer, but for the causes of a manifest."""
 
     OK = 0

@@ -4,13 +4,12 @@ from __future__ import annotations
 
 import struct
 from dataclasses import dataclass
-from enum import IntEnum
 from typing import Iterator, NamedTuple, Sequence
 
 from .checks import Flaw
 from .codes import PAGE_SIZE, Form, Function, Kind
 from .errors import MalformedDescriptor
-from .hexadecimal import by_fields, shown
+from .hexadecimal import Named, by_fields, shown
 from .misuse import check_each, check_member, check_member_or_number, check_numbers, refuse
 from .outcomes import Call, Operation, Store
 
@@ -29,7 +28,7 @@ _RANGE = struct.Struct("<QII")
 _RELINQUISH = struct.Struct("<QIIH")
 
 
-class DataAccess(IntEnum):
+class DataAccess(Named):
     """What a permission says of loads and stores."""
 
     UNSPECIFIED = 0
@@ -37,7 +36,7 @@ class DataAccess(IntEnum):
     RW = 2
 
 
-class InstructionAccess(IntEnum):
+class InstructionAccess(Named):
     """What a permission says of fetches."""
 
     UNSPECIFIED = 0

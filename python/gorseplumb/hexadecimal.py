@@ -3,7 +3,7 @@
 from __future__ import annotations
 
 from dataclasses import fields
-from enum import Enum, Flag
+from enum import Enum, IntEnum, IntFlag
 from typing import Any, Mapping
 
 
@@ -21,6 +21,25 @@ def by_fields(value: Any) -> str:
     return f"{type(value).__qualname__}({', '.join(told)})"
 
 
+class Named(IntEnum):
+    """Numbers by their names. `repr` of each is as a program names it."""
+
+    def __repr__(self) -> str:
+        return by_name(self)
+
+
+def by_name(member: Enum) -> str:
+    """A member of an enumeration as a program names it. Flags are named one by one, and are a number where none is set, or
+    one that has no name."""
+    kind = type(member)
+    if not isinstance(member, IntFlag):
+        return f"{kind.__qualname__}.{member.name}"
+    named = [it for it in type(member) if it in member]
+    if not named or sum(named) != member:
+        return f"{kind.__qualname__}({int(member)})"
+    return " | ".join(f"{kind.__qualname__}.{it.name}" for it in named)
+
+
 def address_text(address: int) -> str:
     """An address or a register, as the program prints it: in 16 digits where 8 are too few."""
     return f"{address:08X}" if address >> 32 == 0 else f"{address:016X}"
@@ -36,7 +55,7 @@ def short_text(number: int) -> str:
 def shown(value: object) -> str:
     """A field's value, and what is in it where it is a tuple, a list or a mapping of the language's own."""
     if isinstance(value, Enum):
-        return repr(value) if isinstance(value, Flag) else f"{type(value).__qualname__}.{value.name}"
+        return by_name(value)
     if type(value) is int:
         return str(value) if abs(value) < 10 else f"{'-' if value < 0 else ''}0x{abs(value):X}"
     if type(value) is tuple:

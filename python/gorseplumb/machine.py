@@ -23,7 +23,7 @@ from .outcomes import Act, Call, Data, Done, Effect, Faulted, Fetch, Interrupt, 
 from .outcomes import Resumed, Store
 from .questions import Questions
 from .ram import Ram
-from .registers import encode
+from .registers import Argument, encode
 
 if TYPE_CHECKING:
     from .recording import JsonRecording, TraceRecording
@@ -366,7 +366,7 @@ class Machine(Questions):
                 self._tell(None, operation, outcome)
         return outcomes
 
-    def do(self, function: Function, /, **arguments: int) -> Registers:
+    def do(self, function: Function, /, **arguments: Argument) -> Registers:
         """A call by the names of its arguments. Where it is refused, that is raised. These are the calls:
 
             FFA_VERSION                      major, minor
@@ -398,15 +398,16 @@ class Machine(Questions):
             FFA_MSG_SEND2                    -
 
         What stands in brackets may be left out, and is 0 then, but for `fragment`, which is `length`. A call with a
-        star has a 64-bit form too, whose name ends in `_64`. The first byte of a `uuid` is its lowest, as in
-        `int.from_bytes(it.bytes, "little")`. Descriptors and messages go by `send`, and registers as they are by
-        `call`."""
+        star has a 64-bit form too, whose name ends in `_64`. A `uuid` is a `uuid.UUID`, or a str of 32 hexadecimal
+        digits, with hyphens or without; a number is the one that these digits write, as in `UUID.int`. A `feature` may
+        be the name of a call. FFA_NOTIFICATION_INFO_GET is served by `call_on` alone. Descriptors and messages go by
+        `send`, and registers as they are by `call`."""
         return self.require(Call(encode(function, **arguments)))
 
     def require(self, call: Call) -> Registers:
         """A call which, where it is refused, is raised with its reason."""
         if not isinstance(call, Call):
-            refuse("a call", "a Call", call, f"Call(({shown(call)},))" if isinstance(call, int) else None)
+            refuse("a call", "a Call", call, f"Call({shown(call)})" if isinstance(call, int) else None)
         caller = self.runner
         answer = self.call(*call.x)
         code = answer.code

@@ -20,9 +20,14 @@ _brief = reprlib.Repr()
 _brief.maxstring = _brief.maxother = _MOST_OF_VALUE
 
 
+def is_number(given: object) -> bool:
+    """Whether it is a whole number."""
+    return hasattr(type(given), "__index__")
+
+
 def check_number(what: str, given: object) -> None:
     """Refuses what is no number. A text of hexadecimal digits is told as the number that it may mean."""
-    if _is_number(given):
+    if is_number(given):
         return
     meant = _number_of(given)
     refuse(what, "a number", given, f"0x{meant:X}" if meant is not None else None)
@@ -37,7 +42,7 @@ def check_numbers(of: object, *names: str) -> None:
 def check_registers(given: object) -> None:
     """Refuses what are no registers, and names the first that is no number."""
     if isinstance(given, str) or not isinstance(given, Sequence):
-        number = f"({shown(given)},)" if _is_number(given) else None
+        number = f"({shown(given)},)" if is_number(given) else None
         refuse("x", "a tuple of registers", given, "its x" if hasattr(given, "x") else number)
     for place, register in enumerate(given):
         check_number(f"x{place}", register)
@@ -56,7 +61,7 @@ def check_member(what: str, given: object, members: type[Enum]) -> None:
 
 def check_member_or_number(what: str, given: object, members: type[Enum]) -> None:
     """The same, where a plain number is taken as it is."""
-    if not _is_number(given) or isinstance(given, Enum):
+    if not is_number(given) or isinstance(given, Enum):
         check_member(what, given, members)
 
 
@@ -102,10 +107,6 @@ def _is_file(name: str) -> bool:
         return Path(name).is_file()
     except (OSError, ValueError):  # a name that is too long, or has a NUL
         return False
-
-
-def _is_number(given: object) -> bool:
-    return hasattr(type(given), "__index__")
 
 
 def _described(given: object) -> str:

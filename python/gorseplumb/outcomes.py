@@ -5,12 +5,12 @@ An operation whose numbers have no room is a ValueError when it is made, and one
 from __future__ import annotations
 
 from dataclasses import dataclass
-from typing import Union
+from typing import Any, Sequence, Union, overload
 
 from .codes import ErrorCode, Fault, Function
 from .errors import call_refused
 from .hexadecimal import by_fields
-from .misuse import check_number, check_registers
+from .misuse import check_number, check_registers, is_number
 
 SIZES = (1, 2, 4, 8)
 
@@ -27,27 +27,36 @@ def _check_access(address: int, size: int) -> None:
         raise ValueError(f"an access has 1, 2, 4 or 8 bytes, and not {size!r}")
 
 
-@dataclass(frozen=True, slots=True)
+@dataclass(frozen=True, slots=True, init=False)
 class Call:
-    """A call with these registers, x0 first. Those that aren't given are 0."""
+    """A call with these registers, x0 first: one to eight numbers, or a tuple of them. Those that aren't given are 0."""
 
     x: tuple[int, ...]
 
     __repr__ = by_fields
 
-    def __post_init__(self) -> None:
-        try:
-            self._check()
-        except TypeError:
-            check_registers(self.x)
-            raise
-        if len(self.x) < 8:
-            object.__setattr__(self, "x", (*self.x, *(0,) * (8 - len(self.x))))
+    @overload
+    def __init__(self, x: Sequence[int]) -> None: ...
 
-    def _check(self) -> None:
-        if not 1 <= len(self.x) <= 8:
-            raise ValueError(f"a call has one to eight registers, and not {len(self.x)}")
-        for place, register in enumerate(self.x):
+    @overload
+    def __init__(self, *x: int) -> None: ...
+
+    def __init__(self, *given: Any, x: Any = None) -> None:
+        registers: Any = given if x is None else (*given, x)
+        if len(registers) == 1 and not is_number(registers[0]) and not isinstance(registers[0], str):
+            registers = registers[0]
+        try:
+            self._check(registers)
+        except TypeError:
+            check_registers(registers)
+            raise
+        object.__setattr__(self, "x", (*registers, *(0,) * (8 - len(registers))))
+
+    @staticmethod
+    def _check(registers: Sequence[int]) -> None:
+        if not 1 <= len(registers) <= 8:
+            raise ValueError(f"a call has one to eight registers, and not {len(registers)}")
+        for place, register in enumerate(registers):
             if register >> 64:
                 raise ValueError(f"x{place} has 64 bits, and is {register:#x}")
 

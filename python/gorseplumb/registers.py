@@ -2,14 +2,18 @@
 """Registers by name: what each call takes and answers, read from eight registers or written to them."""
 from __future__ import annotations
 
+import re
 from dataclasses import dataclass
-from typing import Mapping
+from typing import Mapping, Union
+from uuid import UUID
 
 from .codes import ErrorCode, Function
-from .errors import call_name
 from .hexadecimal import by_fields
-from .misuse import check_member, check_number, check_registers
+from .misuse import check_member, check_member_or_number, check_number, check_registers, is_number, refuse
 
+Argument = Union[int, str, UUID]
+"""What stands for an argument: a number; of `uuid` a UUID, or its 32 digits, or the number that these write; and of
+`feature` and `code` also the name that `str` has."""
 Place = tuple[tuple[int, int, int], ...]
 """Where a number stands: pieces of a register each, as (register, lowest bit, bits), the lowest piece first."""
 
@@ -127,9 +131,14 @@ _READ_WHOLE: Mapping[Function, frozenset[int]] = {
 }
 
 
+_UUID = re.compile(r"[0-9a-f]{8}(-?)[0-9a-f]{4}(?:\1[0-9a-f]{4}){2}\1[0-9a-f]{12}", re.IGNORECASE | re.ASCII)
+_HYPHENATED = "00112233-4455-6677-8899-aabbccddeeff"
+
+
 @dataclass(frozen=True)
 class NamedRegisters:
-    """The function of eight registers, and what they hold, by name."""
+    """The function of eight registers, and what they hold, by name. A UUID is the number that its 32 digits write, which
+    `uuid.UUID(int=..)` takes. What `str` says `encode` reads, each argument as it stands behind the `=` in hexadecimal."""
 
     function: Function
     arguments: Mapping[str, int]
@@ -138,7 +147,7 @@ class NamedRegisters:
 
     def __str__(self) -> str:
         told = [f"{name}={_text(self.function, name, value)}" for name, value in self.arguments.items()]
-        return " ".join([self.function.call_name, *told])
+        return " ".join([self.function.name, *told])
 
 
 def is_read_whole(x0: int, register: int) -> bool:
@@ -160,10 +169,13 @@ def signature(function: Function, value: str = "", between: str = ", ") -> str:
     return between.join(f"[{text}]" if may_be_left_out else text for text, may_be_left_out in told)
 
 
-def encode(function: Function, /, **arguments: int) -> tuple[int, ...]:
+def encode(function: Function, /, **arguments: Argument) -> tuple[int, ...]:
     """Eight registers that make a call, of which `help(Machine.do)` has the arguments. An argument that the call
     doesn't have, or that is missing, is a TypeError, as is a name or a number in a Function's place; one that may be
-    left out is 0 then, but for `fragment`, which is `length`. To write registers as they are make a `Call`."""
+    left out is 0 then, but for `fragment`, which is `length`. To write registers as they are make a `Call`.
+
+    A `uuid` is a `uuid.UUID`, or a str of 32 hexadecimal digits, with hyphens as a manifest has them or without. A number
+    is the one that these digits write, as in `UUID.int`."""
     check_member("a call", function, Function)
     known, optional = places(function), _optional(function)
     unknown = [name for name in arguments if name not in known]
@@ -174,11 +186,11 @@ def encode(function: Function, /, **arguments: int) -> tuple[int, ...]:
     if missing:
         named = f"argument{'s' if len(missing) > 1 else ''} {', '.join(missing)}"
         raise TypeError(f"{function.call_name} lacks the {named}: it has {signature(function)}")
-    if "fragment" in known and "fragment" not in arguments:
-        arguments["fragment"] = arguments.get("length", 0)
     x = [int(function), *(0,) * 7]
     for name, value in arguments.items():
-        _write(x, known[name], value, name)
+        _write(x, known[name], _number(name, value), name)
+    if "fragment" in known and "fragment" not in arguments:
+        x[2] = x[1]
     return tuple(x)
 
 
@@ -195,7 +207,7 @@ def decode(x: tuple[int, ...], answers: int | None = None) -> NamedRegisters | N
     asked = Function.of(answers) if answers is not None else None
     if function.call_name == "FFA_SUCCESS" and asked is not None:
         found = _results(asked)
-    return NamedRegisters(function, {name: _read(x, place) for name, place in found.items()})
+    return NamedRegisters(function, {name: _told(name, _read(x, place)) for name, place in found.items()})
 
 
 def _results(asked: Function) -> Mapping[str, Place]:
@@ -209,6 +221,41 @@ def _widened(places: Mapping[str, Place], whole: frozenset[int]) -> dict[str, Pl
         name: tuple((register, low, 64 if register in whole else bits) for register, low, bits in place)
         for name, place in places.items()
     }
+
+
+def _told(name: str, number: int) -> int:
+    """A number as it is told. Of a UUID the first byte is the highest, and the lowest in the registers."""
+    return int.from_bytes(number.to_bytes(16, "little"), "big") if name == "uuid" else number
+
+
+def _number(name: str, given: Argument) -> int:
+    """The number that the registers hold of what is given."""
+    if name == "uuid":
+        return _told(name, _uuid_number(given))
+    if name == "feature" and isinstance(given, str):
+        given = Function.__members__.get(given, given)
+        check_member_or_number(name, given, Function)
+    if name == "code" and isinstance(given, str):
+        given = ErrorCode.__members__.get(given, given)
+        check_member_or_number(name, given, ErrorCode)
+    check_number(name, given)
+    assert not isinstance(given, (str, UUID))
+    return given & 0xFFFFFFFF if isinstance(given, ErrorCode) else given
+
+
+def _uuid_number(given: Argument) -> int:
+    """The number that the digits of a UUID write."""
+    if isinstance(given, UUID):
+        return given.int
+    if isinstance(given, str):
+        if _UUID.fullmatch(given) is None:
+            raise ValueError(f"uuid is 32 hexadecimal digits, as {_HYPHENATED} with its hyphens or without, and not {given!r}")
+        return int(given.replace("-", ""), 16)
+    if not is_number(given):
+        refuse("uuid", "a uuid.UUID, or a str of its 32 digits", given)
+    if given >> 128:
+        raise ValueError(f"uuid has 128 bits, and is {given:#x}")
+    return given
 
 
 def _optional(function: Function) -> frozenset[str]:
@@ -225,7 +272,6 @@ def _read(x: tuple[int, ...], place: Place) -> int:
 
 def _write(x: list[int], place: Place, value: int, name: str) -> None:
     room = sum(bits for _, _, bits in place)
-    check_number(name, value)
     if value >> room:
         raise ValueError(f"{name} has {room} bits, and is {value:#x}")
     for register, low, bits in place:
@@ -238,9 +284,10 @@ def _text(function: Function, name: str, value: int) -> str:
         code = ErrorCode.of(value)
         return code.name if code is not None else f"{value:08X}"
     if name == "feature":
-        return call_name(value)
+        feature = Function.of(value)
+        return feature.name if feature is not None else f"{value:08X}"
     if name == "uuid":
-        return value.to_bytes(16, "little").hex()
+        return f"{value:032x}"
     if name in ("sender", "receiver", "partition", "endpoint"):
         return f"{value:04X}"
     return f"{value:016X}" if name == "handle" else f"{value:X}"

@@ -7,16 +7,16 @@ import shlex
 from pathlib import Path
 from typing import Callable, Iterable
 
-from .codes import Function, Kind
+from .codes import ErrorCode, Function, Kind
 from .descriptors import DataAccess, InstructionAccess, Offer, PageRange, Receiver, Relinquish, Retrieve
 from .errors import GorseplumbError
 from .machine import Machine, Watcher
 from .outcomes import Call, Faulted, Operation, Outcome, Registers
 from .recording import TraceRecording
-from .registers import decode, encode, places, signature
+from .registers import Argument, decode, encode, places, signature
 from .trace import Player, parse
 
-_CALLS = {function.call_name: function for function in reversed(Function)}
+_CALLS = {function.name: function for function in Function}
 _GRANTS = {
     "": (DataAccess.UNSPECIFIED, InstructionAccess.UNSPECIFIED),
     "ro": (DataAccess.RO, InstructionAccess.UNSPECIFIED),
@@ -25,6 +25,7 @@ _GRANTS = {
     "rwx": (DataAccess.RW, InstructionAccess.X),
     "x": (DataAccess.UNSPECIFIED, InstructionAccess.X),
 }
+_HELP = 26  # where lines of `help` say what a command does
 _TRACE_WORDS = ("call", "load", "store", "fetch", "show", "audit")
 
 
@@ -101,11 +102,7 @@ class Session:
     # COMMANDS
 
     def _help(self, words: list[str]) -> list[str]:
-        """help [CALL]               these lines, or the arguments of a call"""
-        if words:
-            if words[0] not in _CALLS:
-                raise ValueError(f"no such call: {words[0]}")
-            return [f"{words[0]} {signature(_CALLS[words[0]], '=..', ' ')}".rstrip()]
+        """help [WORD]               these lines, or that of a command, or the arguments of a call"""
         told = [
             "call X0 .. X7             a call, by its registers",
             "load A N, store A V       a load of N bytes, a store",
@@ -113,7 +110,8 @@ class Session:
             "FFA_NAME NAME=N ..        a call, by the names of its arguments: `help FFA_RUN` says which",
         ]
         told += [command.__doc__ for command in self._commands.values() if command.__doc__]
-        return [*told, "quit                      ends the session; numbers are hexadecimal, as in a trace"]
+        told.append("quit                      ends the session; numbers are hexadecimal, as in a trace")
+        return [_help_of(words[0], told)] if words else told
 
     def _who(self, words: list[str]) -> list[str]:
         """who                       who runs, and which endpoints there are"""
@@ -159,10 +157,11 @@ class Session:
         return [str(named) if named is not None else "no call"]
 
     def _share(self, words: list[str]) -> list[str]:
-        """share TX E:R,.. A+N,..    a share of pages to receivers, each with `ro` or `rw`; lend is alike"""
+        """share TX E:R,.. A+N,..    a share of pages to receivers, each with `ro` or `rw`"""
         return self._offer(Kind.SHARE, words)
 
     def _lend(self, words: list[str]) -> list[str]:
+        """lend TX E:R,.. A+N,..     a lend, of which all is as of a share"""
         return self._offer(Kind.LEND, words)
 
     def _donate(self, words: list[str]) -> list[str]:
@@ -256,7 +255,8 @@ class Session:
         if before[0] in ("play", "save"):
             return [str(it) for it in sorted(Path(word).parent.glob(f"{Path(word).name}*"))] if word else []
         if before[0] in ("help", "why") and len(before) == 1:
-            return [it for it in sorted(_CALLS) if it.startswith(word)]
+            commands = [*self._commands, *_TRACE_WORDS, "quit"] if before[0] == "help" else []
+            return [it for it in [*commands, *sorted(_CALLS)] if it.startswith(word)]
         named = next((it for it in before if it in _CALLS), None)
         return self._complete_argument(_CALLS[named], before, word) if named else []
 
@@ -293,6 +293,16 @@ def _receiver(word: str) -> Receiver:
     return Receiver(named, *_GRANTS[right])
 
 
+def _help_of(word: str, told: list[str]) -> str:
+    """What `help` says of one command, of whose lines each begins with the commands that it is about; or of a call."""
+    if word in _CALLS:
+        return f"{word} {signature(_CALLS[word], '=..', ' ')}".rstrip()
+    for line in told:
+        if word in [command.split(" ")[0] for command in line[:_HELP].rstrip().split(", ")]:
+            return line
+    raise ValueError(f"no such command or call: {word}; `help` lists them")
+
+
 def _words_of(wrong: Exception) -> str:
     return str(wrong) or type(wrong).__name__
 
@@ -308,12 +318,13 @@ def _numbers(words: list[str], count: int) -> list[int]:
 
 
 def _encoded(function: Function, words: list[str]) -> tuple[int, ...]:
-    arguments: dict[str, int] = {}
+    arguments: dict[str, Argument] = {}
     for word in words:
         name, is_given, value = word.partition("=")
         if not is_given:
-            raise ValueError(f"an argument is NAME=NUMBER, and not {word!r}: `help {function.call_name}` lists them")
-        (arguments[name],) = _numbers([value], 1)
+            raise ValueError(f"an argument is NAME=NUMBER, and not {word!r}: `help {function.name}` lists them")
+        is_text = name == "uuid" or value.startswith("FFA_") or value in ErrorCode.__members__
+        arguments[name] = value if is_text else _numbers([value], 1)[0]
     return encode(function, **arguments)
 
 

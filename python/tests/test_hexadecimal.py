@@ -2,7 +2,12 @@
 """Values show their numbers in hexadecimal, and what is shown makes the same value again."""
 from __future__ import annotations
 
+import copy
+import pickle
 import uuid
+from dataclasses import replace
+from enum import Enum
+from typing import Callable
 
 import pytest
 from conftest import BUILT_IN
@@ -76,14 +81,44 @@ def test_what_is_shown_makes_the_same_value() -> None:
         BUILT_IN,
     ]
     with Machine(BUILT_IN) as machine:
-        values += [machine.access_map(), machine.why(Load(0x40020000, 1)), machine.why(Call((0x8400008F,)))]
+        values += [machine.access_map(), machine.why(Load(0x40020000, 1)), machine.why(Call(0x8400008F))]
     names = vars(gorseplumb) | {"UUID": uuid.UUID}
     for value in values:
-        told = repr(value)
-        for flags in Properties(15), Properties(6), Properties(1):
-            told = told.replace(repr(flags), f"Properties({int(flags)})")
-        assert eval(told, names) == value, told
+        assert eval(repr(value), names) == value, repr(value)
     assert "0x40010000" in repr(BUILT_IN) and isinstance(BUILT_IN, Manifest)
+
+
+def test_members_of_enumerations_show_their_names() -> None:
+    kinds = [it for it in vars(gorseplumb).values() if isinstance(it, type) and issubclass(it, Enum)]
+    assert {Function, Kind, Check, DataAccess, Properties, Right} <= {*kinds}
+    for kind in kinds:
+        for member in kind:
+            assert eval(repr(member), vars(gorseplumb)) is member, repr(member)
+    told = "Properties.RECEIVES_REQUESTS | Properties.NOTIFICATIONS"
+    assert repr(Properties(9)) == told and eval(told, vars(gorseplumb)) == Properties(9)
+    assert repr(Properties(0)) == "Properties(0)" and repr(Properties(17)) == "Properties(17)"
+    assert f"{Function.FFA_RUN:08X}" == "8400006D" and str(Kind.LEND) == "2"
+
+
+def test_a_call_takes_numbers_or_a_tuple_of_them() -> None:
+    run = Call((0x8400006D, 0x80010000))
+    assert Call(0x8400006D, 0x80010000) == run == Call([0x8400006D, 0x80010000]) == Call(x=(0x8400006D, 0x80010000))
+    assert Call(Function.FFA_ID_GET) == Call((0x84000069,)) == Call(0x84000069)
+    assert run.x == (0x8400006D, 0x80010000, 0, 0, 0, 0, 0, 0) and type(Call([1]).x) is tuple
+    assert copy.copy(run) == pickle.loads(pickle.dumps(run)) == replace(run, x=run.x) == run
+    with Machine(BUILT_IN) as machine:
+        assert machine.perform(Call(0x84000069)) == machine.call(0x84000069)
+    cases: list[tuple[Callable[[], object], type[Exception], str]] = [
+        (lambda: Call(), ValueError, "a call has one to eight registers, and not 0"),
+        (lambda: Call(*range(9)), ValueError, "a call has one to eight registers, and not 9"),
+        (lambda: Call(1, 1 << 64), ValueError, "x1 has 64 bits, and is 0x10000000000000000"),
+        (lambda: Call(1, (2,)), TypeError, "x1 is a number, and not the tuple (2,)"),  # type: ignore[call-overload]
+        (lambda: Call("84000069"), TypeError, "x0 is a number, and not the str '84000069': give 0x84000069"),  # type: ignore[arg-type]
+    ]
+    for made, kind, told in cases:
+        with pytest.raises(kind) as wrong:
+            made()
+        assert str(wrong.value) == told
 
 
 def test_shows_the_number_of_a_check_as_the_manual_has_it() -> None:
@@ -95,6 +130,6 @@ def test_shows_the_number_of_a_check_as_the_manual_has_it() -> None:
 
 
 def test_shows_calls_and_lists_by_their_elements() -> None:
-    assert repr(Function.FFA_RUN) == "<Function.FFA_RUN: 0x8400006D>"
+    assert repr(Function.FFA_RUN) == "Function.FFA_RUN"
     assert shown([10, -16, True, None, "a"]) == "[0xA, -0x10, True, None, 'a']"
     assert shown((1,)) == "(1,)" and shown(()) == "()" and shown({}) == "{}"

@@ -181,6 +181,7 @@ def test_says_what_is_no_number_and_no_operation() -> None:
     # a type checker refuses these
     text: Any = "40010000"
     run: Any = Function.FFA_RUN
+    nothing: Any = None
     half: Any = 1.5
     load: Any = Load(RAM, 1)
     number = "a number, and not the str '40010000': give 0x40010000"
@@ -206,14 +207,14 @@ def test_says_what_is_no_number_and_no_operation() -> None:
             (lambda: Machine(Manifest(text, 1, [])), f"ram_base is {number}"),
             (lambda: Machine(Manifest(RAM, 1, [Endpoint([Region(text, 1)])])), f"base is {number}"),
             (lambda: machine.send(Relinquish(1, 0), text), f"tx is {number}"),
-            (lambda: Call(text), "x is a tuple of registers, and not the str '40010000'"),
-            (lambda: Call(run), "x is a tuple of registers, and not Function.FFA_RUN: give (Function.FFA_RUN,)"),
+            (lambda: Call(text), "x0 is a number, and not the str '40010000': give 0x40010000"),
+            (lambda: Call(nothing), "x is a tuple of registers, and not None"),
             (lambda: machine.perform(text), f"{kinds} the str '40010000'"),
             (lambda: machine.run(text), f"{kinds} the str '4'"),
             (lambda: machine.why(run), f"{kinds} Function.FFA_RUN"),
             (
                 lambda: machine.require(run),
-                "a call is a Call, and not Function.FFA_RUN: give Call((Function.FFA_RUN,))",
+                "a call is a Call, and not Function.FFA_RUN: give Call(Function.FFA_RUN)",
             ),
             (
                 lambda: machine.send(run, RAM),

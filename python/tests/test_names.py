@@ -35,7 +35,7 @@ def test_checks_and_flaws_are_printed_by_their_words() -> None:
     assert str(Check.BUFFERS_MISSING) == f"{Check.BUFFERS_MISSING}" == words
     assert f"{Check.BUFFERS_MISSING:>30}" == f"{Check.BUFFERS_MISSING:>30s}" == f"   {words}"
     assert f"{Check.BUFFERS_MISSING:d}" == f"{Check.BUFFERS_MISSING:X}" == "2" == str(int(Check.BUFFERS_MISSING))
-    assert repr(Check.BUFFERS_MISSING) == "<Check.BUFFERS_MISSING: 2>"
+    assert repr(Check.BUFFERS_MISSING) == "Check.BUFFERS_MISSING"
     assert all(str(it) == it.words for members in (Check, Flaw) for it in members)
 
 

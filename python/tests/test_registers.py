@@ -10,7 +10,7 @@ from conftest import BUILT_IN
 
 from gorseplumb import Call, ErrorCode, Form, Function, IndirectMessage, Machine, PartitionInfo, Properties
 from gorseplumb import Registers, decode, encode, read_partitions
-from gorseplumb.registers import ARGUMENTS, OPTIONAL, is_read_whole, signature
+from gorseplumb.registers import ARGUMENTS, OPTIONAL, Argument, is_read_whole, signature
 
 
 @pytest.mark.parametrize(
@@ -33,10 +33,7 @@ from gorseplumb.registers import ARGUMENTS, OPTIONAL, is_read_whole, signature
         (
             "call 84000068 33221100 77665544 BBAA9988 FFEEDDCC 1",
             Function.FFA_PARTITION_INFO_GET,
-            {
-                "uuid": int.from_bytes(uuid.UUID("00112233-4455-6677-8899-aabbccddeeff").bytes, "little"),
-                "count_only": 1,
-            },
+            {"uuid": 0x00112233445566778899AABBCCDDEEFF, "count_only": 1},
         ),
         (
             "call 8400007F 80028001 0 3 40000000",
@@ -54,6 +51,62 @@ def test_writes_and_reads_what_a_call_takes(line: str, function: Function, argum
     assert told == {name: value for name, value in arguments.items() if value}
 
 
+def test_a_uuid_is_read_and_told_as_it_is_written() -> None:
+    # docs/CALLS.md: w1 has the first four bytes, the lowest first
+    x = (0x84000068, 0x33221100, 0x77665544, 0xBBAA9988, 0xFFEEDDCC, 0, 0, 0)
+    digits = "00112233445566778899aabbccddeeff"
+    written = "00112233-4455-6677-8899-aabbccddeeff"
+    given: list[Argument] = [digits, written, digits.upper(), written.upper(), uuid.UUID(written), uuid.UUID(written).int]
+    for it in given:
+        assert encode(Function.FFA_PARTITION_INFO_GET, uuid=it) == x, it
+    named = decode(x)
+    assert named is not None and str(named) == f"FFA_PARTITION_INFO_GET uuid={digits} count_only=0"
+    assert uuid.UUID(int=named.arguments["uuid"]) == uuid.UUID(written)
+    assert encode(named.function, **named.arguments) == x
+    for wrong in (digits[1:], digits + "0", "0011-" + digits[4:], f"{{{written}}}", f"urn:uuid:{written}", "g" * 32, ""):
+        with pytest.raises(ValueError, match=f"^uuid is 32 hexadecimal digits, as {written} with its hyphens or"):
+            encode(Function.FFA_PARTITION_INFO_GET, uuid=wrong)
+    nothing: Any = uuid.UUID(written).bytes
+    with pytest.raises(TypeError, match="^uuid is a uuid.UUID, or a str of its 32 digits, and not the bytes"):
+        encode(Function.FFA_PARTITION_INFO_GET, uuid=nothing)
+    with pytest.raises(ValueError, match="^uuid has 128 bits, and is 0x1"):
+        encode(Function.FFA_PARTITION_INFO_GET, uuid=1 << 128)
+
+
+def test_finds_a_partition_by_its_uuid_as_the_manifest_has_it() -> None:
+    assert BUILT_IN.endpoints[1].uuid == uuid.UUID("00112233-4455-6677-8899-aabbccddeeff")
+    with Machine(BUILT_IN) as machine:
+        written = "00112233-4455-6677-8899-aabbccddeeff"
+        given: list[Argument] = [written, uuid.UUID(written)]
+        for named in given:
+            answer = machine.do(Function.FFA_PARTITION_INFO_GET, uuid=named, count_only=1)
+            assert answer.x[2] == 1
+
+
+def test_what_is_told_is_read_again() -> None:
+    for x in (
+        (0x84000064, 0xC4000066, 0, 0, 0, 0, 0, 0),
+        (0x84000064, 0x84000066, 0, 0, 0, 0, 0, 0),
+        (0x84000064, 0x00000002, 0, 0, 0, 0, 0, 0),
+        (0x84000060, 0, 0xFFFFFFFA, 0, 0, 0, 0, 0),
+        (0xC400006F, 0x8001, 0, (1 << 64) - 1, 2, 0, 0, 0),
+        (0x84000068, 0x33221100, 0x77665544, 0xBBAA9988, 0xFFEEDDCC, 1, 0, 0),
+        (0x84000083, 0, 0, 0, 0, 0, 0, 0),
+    ):
+        name, *words = str(decode(x)).split(" ")
+        texts = dict(word.split("=") for word in words)
+        known = {*Function.__members__, *ErrorCode.__members__}
+        arguments: dict[str, Argument] = {
+            name: text if name == "uuid" or text in known else int(text, 16) for name, text in texts.items()
+        }
+        assert encode(Function[name], **arguments) == x
+    feature = encode(Function.FFA_FEATURES, feature="FFA_RXTX_MAP_64")
+    assert feature[1] == 0xC4000066 == encode(Function.FFA_FEATURES, feature=Function.FFA_RXTX_MAP_64)[1]
+    told = "^feature is a Function, and not the str 'FFA_RXTX_MAPP': give Function.FFA_RXTX_MAP$"
+    with pytest.raises(TypeError, match=told):
+        encode(Function.FFA_FEATURES, feature="FFA_RXTX_MAPP")
+
+
 def test_who_is_to_run_by_name() -> None:
     # DEN0077A, 16: bit 0 of w2 tells of more, bits 11 to 7 the number of lists, and two bits for each from bit 12 on
     called, asked = encode(Function.FFA_NOTIFICATION_INFO_GET), Function.FFA_NOTIFICATION_INFO_GET
@@ -63,7 +116,7 @@ def test_who_is_to_run_by_name() -> None:
     told = "FFA_SUCCESS more=1 lists=3 counts=4 ids0=80020000 ids1=8003 ids2=0 ids3=0 ids4=0"
     assert str(decode(answer, asked)) == told
     wide = (0xC4000061, 0, 0x180, 0x800380020000, 0, 0, 0, 0)
-    told = "FFA_SUCCESS more=0 lists=3 counts=0 ids0=800380020000 ids1=0 ids2=0 ids3=0 ids4=0"
+    told = "FFA_SUCCESS_64 more=0 lists=3 counts=0 ids0=800380020000 ids1=0 ids2=0 ids3=0 ids4=0"
     assert str(decode(wide, Function.FFA_NOTIFICATION_INFO_GET_64)) == told
 
 
@@ -140,7 +193,7 @@ def test_refuses_what_is_no_function() -> None:
                     asked()
                 assert str(wrong.value) == f"a call is a Function, and not {told}"
         with pytest.raises(TypeError, match="^partition is a number, and not the str '8001': give 0x8001$"):
-            machine.do(Function.FFA_RUN, partition="8001")  # type: ignore[arg-type]
+            machine.do(Function.FFA_RUN, partition="8001")
         assert machine.is_fresh and machine.runner == 0
 
 

@@ -38,7 +38,20 @@ def test_does_operations_and_calls_by_name(session: Session) -> None:
     assert session.line("decode 84000077 1 8001") == ["FFA_MEM_RECLAIM handle=0000800100000001 flags=0"]
     assert session.line("help FFA_RUN") == ["FFA_RUN partition=.. [context=..]"]
     assert session.line("help FFA_ID_GET") == ["FFA_ID_GET"]
-    assert len(session.line("help")) > 10
+    told = session.line("help")
+    assert len(told) > 10
+    for word in ("share", "lend", "call", "load", "store", "audit", "quit", "undo", "help"):
+        (line,) = session.line(f"help {word}")
+        assert line in told and word in line[:26].replace(",", " ").split(), line
+    known = 'FFA_PARTITION_INFO_GET uuid=00112233445566778899aabbccddeeff count_only=1'
+    (seen,) = session.line("decode 84000068 33221100 77665544 BBAA9988 FFEEDDCC 1")
+    assert seen == known
+    hyphenated = known.replace("00112233445566778899aabbccddeeff", "00112233-4455-6677-8899-AABBCCDDEEFF")
+    for line in (seen, hyphenated):
+        assert session.line(f"why {line}") == ["it would be done"]
+    assert session.line(seen.replace("uuid=00", "uuid=ff"))[2] == "# refused: FFA_PARTITION_INFO_GET check 1: no partition has the UUID"
+    assert session.line("FFA_FEATURES feature=FFA_RXTX_MAP") == session.line("call 84000064 84000066")
+    assert session.line("help FFA_RXTX_MAP_64") == ["FFA_RXTX_MAP_64 tx=.. rx=.. pages=.."]
     assert session.line("") == session.line("# a comment") == []
 
 
@@ -58,7 +71,9 @@ def test_does_operations_and_calls_by_name(session: Session) -> None:
         ("write 'unfinished", "No closing quotation"),
         ("play /nowhere", "No such file"),
         ("undo", "0 lines did something"),
-        ("help FFA_NOTHING", "no such call"),
+        ("help FFA_NOTHING", "no such command or call: FFA_NOTHING; `help` lists them"),
+        ("FFA_PARTITION_INFO_GET uuid=1", "uuid is 32 hexadecimal digits, as 00112233-4455-"),
+        ("FFA_FEATURES feature=FFA_RXTX_MAPP", "feature is a Function, and not the str 'FFA_RXTX_MAPP': give Function.FFA_RXTX_MAP"),
         ("save", "wanted is a file"),
         ("play a b", "wanted is a file"),
         ("access", "1 number is wanted, and not 0"),
