@@ -5,7 +5,7 @@ use crate::machine::Machine;
 use crate::manifest::Rights;
 use crate::operation::known;
 use crate::ram::{Lent, Ram};
-use crate::{raw, Id};
+use crate::{raw, Handle, Id};
 use core::fmt;
 use core::iter;
 
@@ -15,17 +15,17 @@ pub enum Grant {
     /// It owns the page.
     Own,
     /// It owns the page, and shares it by the open transaction of this handle.
-    Shared(u64),
+    Shared(Handle),
     /// It holds the open transaction of this handle.
-    Held(u64),
+    Held(Handle),
 }
 
 impl fmt::Debug for Grant {
     fn fmt(&self, to: &mut fmt::Formatter<'_>) -> fmt::Result {
         match self {
             Grant::Own => to.write_str("Own"),
-            Grant::Shared(handle) => to.debug_tuple("Shared").field(&Hexadecimal(*handle)).finish(),
-            Grant::Held(handle) => to.debug_tuple("Held").field(&Hexadecimal(*handle)).finish(),
+            Grant::Shared(handle) => to.debug_tuple("Shared").field(handle).finish(),
+            Grant::Held(handle) => to.debug_tuple("Held").field(handle).finish(),
         }
     }
 }
@@ -52,7 +52,7 @@ impl PageRun {
         first: u32,
         last: u32,
         owner: Id,
-        transaction: Option<u64>,
+        transaction: Option<Handle>,
         access: &[Option<Rights>],
     ) -> Option<PageRun> {
         let mut run = PageRun::NONE;
@@ -63,7 +63,7 @@ impl PageRun {
         run.0.last = last;
         run.0.owner = owner.0.into();
         run.0.has_handle = transaction.is_some().into();
-        run.0.handle = transaction.unwrap_or(0);
+        run.0.handle = transaction.map_or(0, |handle| handle.0);
         Some(run)
     }
 
@@ -87,8 +87,8 @@ impl PageRun {
 
     /// The handle of the open transaction in which they stand.
     #[must_use]
-    pub fn transaction(&self) -> Option<u64> {
-        (self.0.has_handle != 0).then_some(self.0.handle)
+    pub fn transaction(&self) -> Option<Handle> {
+        (self.0.has_handle != 0).then_some(Handle(self.0.handle))
     }
 
     /// What the endpoint at a place in the manifest, from 0, may do with them.
@@ -104,7 +104,7 @@ impl fmt::Debug for PageRun {
             .field("first", &Hexadecimal(self.first()))
             .field("last", &Hexadecimal(self.last()))
             .field("owner", &self.owner())
-            .field("transaction", &self.transaction().map(Hexadecimal))
+            .field("transaction", &self.transaction())
             .field("access", &self.0.access.map(Rights::of))
             .finish()
     }
@@ -174,8 +174,8 @@ impl<R: Ram> Machine<R> {
         let grant = unsafe { raw::gorseplumb_granted(self.asked(), endpoint.0, page) };
         match grant.kind {
             raw::GRANT_OWN => Some(Grant::Own),
-            raw::GRANT_SHARED => Some(Grant::Shared(grant.handle)),
-            raw::GRANT_HELD => Some(Grant::Held(grant.handle)),
+            raw::GRANT_SHARED => Some(Grant::Shared(Handle(grant.handle))),
+            raw::GRANT_HELD => Some(Grant::Held(Handle(grant.handle))),
             _ => None,
         }
     }

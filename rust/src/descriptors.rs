@@ -10,7 +10,7 @@ use crate::layout::{
 };
 use crate::manifest::Version;
 use crate::ram::PAGE_SIZE;
-use crate::Id;
+use crate::{Handle, Id};
 use core::fmt;
 
 pub use crate::raw::MOST_RANGES;
@@ -363,7 +363,7 @@ pub struct Retrieve {
     /// Who offered.
     pub sender: Id,
     /// The transaction's handle.
-    pub handle: u64,
+    pub handle: Handle,
     /// The endpoint that asks, with the right that it asks for.
     pub receiver: Receiver,
     /// The offer's tag.
@@ -375,7 +375,7 @@ pub struct Retrieve {
 impl Retrieve {
     /// One with tag 0, of any kind.
     #[must_use]
-    pub const fn new(sender: Id, handle: u64, receiver: Receiver) -> Retrieve {
+    pub const fn new(sender: Id, handle: Handle, receiver: Receiver) -> Retrieve {
         Retrieve { sender, handle, receiver, tag: 0, kind: None }
     }
 
@@ -384,7 +384,7 @@ impl Retrieve {
     pub fn to_bytes(&self, form: Version) -> DescriptorBytes {
         let mut bytes = DescriptorBytes::NONE;
         let flags = self.kind.map_or(0, |kind| (kind as u32) << 3);
-        let (sender, handle, tag) = (self.sender.0, self.handle, self.tag);
+        let (sender, handle, tag) = (self.sender.0, self.handle.0, self.tag);
         bytes.put_header(form, &Header { sender, attributes: 0, flags, handle, tag, count: 1 });
         bytes.put_access(&self.receiver.access(0));
         bytes
@@ -403,7 +403,7 @@ impl Retrieve {
         check_asked(endpoint.0, &access)?;
         Ok(Retrieve {
             sender: Id(header.sender),
-            handle: header.handle,
+            handle: Handle(header.handle),
             receiver: Receiver::of(&access),
             tag: header.tag,
             kind: Kind::of(header.flags >> 3),
@@ -411,7 +411,7 @@ impl Retrieve {
     }
 }
 
-shown! { Retrieve { sender, handle: hexadecimal, receiver, tag: hexadecimal, kind } }
+shown! { Retrieve { sender, handle, receiver, tag: hexadecimal, kind } }
 
 /// What FFA_MEM_RETRIEVE_RESP leaves in RX.
 ///
@@ -446,7 +446,7 @@ pub struct RetrieveResponse {
     /// Who offered.
     pub sender: Id,
     /// The transaction's handle.
-    pub handle: u64,
+    pub handle: Handle,
     /// Who has retrieved, with the right that it holds from now on.
     pub receiver: Receiver,
     /// Whether the pages were zeroed.
@@ -484,7 +484,7 @@ impl RetrieveResponse {
         Ok(RetrieveResponse {
             kind,
             sender: Id(header.sender),
-            handle: header.handle,
+            handle: Handle(header.handle),
             receiver: Receiver::of(&access),
             zeroed: header.flags & 1 != 0,
             tag: header.tag,
@@ -500,7 +500,7 @@ impl fmt::Debug for RetrieveResponse {
         to.debug_struct("RetrieveResponse")
             .field("kind", &self.kind)
             .field("sender", &self.sender)
-            .field("handle", &Hexadecimal(self.handle))
+            .field("handle", &self.handle)
             .field("receiver", &self.receiver)
             .field("ranges", &self.ranges())
             .field("zeroed", &self.zeroed)
@@ -514,7 +514,7 @@ impl fmt::Debug for RetrieveResponse {
 #[derive(Clone, Copy, PartialEq, Eq, Hash)]
 pub struct Relinquish {
     /// The transaction's handle.
-    pub handle: u64,
+    pub handle: Handle,
     /// The endpoint that gives up.
     pub endpoint: Id,
     /// Whether the pages are zeroed.
@@ -524,7 +524,7 @@ pub struct Relinquish {
 impl Relinquish {
     /// One that zeroes nothing.
     #[must_use]
-    pub const fn new(handle: u64, endpoint: Id) -> Relinquish {
+    pub const fn new(handle: Handle, endpoint: Id) -> Relinquish {
         Relinquish { handle, endpoint, zero: false }
     }
 
@@ -532,7 +532,7 @@ impl Relinquish {
     #[must_use]
     pub fn to_bytes(&self) -> DescriptorBytes {
         let mut bytes = DescriptorBytes::NONE;
-        bytes.put(self.handle.to_le_bytes());
+        bytes.put(self.handle.0.to_le_bytes());
         bytes.put(u32::from(self.zero).to_le_bytes());
         bytes.put(1_u32.to_le_bytes()); // the count of endpoints
         bytes.put(self.endpoint.0.to_le_bytes());
@@ -548,8 +548,8 @@ impl Relinquish {
         let flags = u32_at(bytes, 8);
         require(flags <= 1, Flaw::RelinquishFlags)?;
         require(u32_at(bytes, 12) == 1, Flaw::RelinquishEndpointCount)?;
-        Ok(Relinquish { handle: u64_at(bytes, 0), endpoint: Id(u16_at(bytes, 16)), zero: flags == 1 })
+        Ok(Relinquish { handle: Handle(u64_at(bytes, 0)), endpoint: Id(u16_at(bytes, 16)), zero: flags == 1 })
     }
 }
 
-shown! { Relinquish { handle: hexadecimal, endpoint, zero } }
+shown! { Relinquish { handle, endpoint, zero } }

@@ -22,7 +22,7 @@ pub struct CallError {
 
 shown! { CallError { function: hexadecimal, error, reason } }
 
-/// The call's name, or its number where it has none; the code; the check's words, and what it is about.
+/// The call's name, or its number where it has none; the code; the check's number and words, and what it is about.
 impl fmt::Display for CallError {
     fn fmt(&self, to: &mut fmt::Formatter<'_>) -> fmt::Result {
         match Function::of(self.function) {
@@ -53,7 +53,7 @@ impl<R: Ram> Machine<R> {
     /// let error = machine.call_or_why(&Function::MemReclaim.with([1])).unwrap_err();
     /// assert_eq!(
     ///     error.to_string(),
-    ///     "FFA_MEM_RECLAIM is refused: INVALID_PARAMETERS: no open transaction of the caller has the handle: \
+    ///     "FFA_MEM_RECLAIM is refused: INVALID_PARAMETERS: check 2: no open transaction of the caller has the handle: \
     ///      handle 0000000000000001",
     /// );
     /// # Ok::<(), BootError>(())

@@ -21,6 +21,29 @@ impl<T: fmt::UpperHex> fmt::Debug for All<'_, T> {
     }
 }
 
+/// An address or a register as the program prints it: in 16 digits where 8 are too few.
+pub(crate) struct Long(pub u64);
+
+impl fmt::Display for Long {
+    fn fmt(&self, to: &mut fmt::Formatter<'_>) -> fmt::Result {
+        let digits = if self.0 > u32::MAX.into() { 16 } else { 8 };
+        write!(to, "{:0digits$X}", self.0)
+    }
+}
+
+/// A bit, an index or a place in a descriptor as the program prints it: in two digits where they are enough.
+pub(crate) struct Short(pub u64);
+
+impl fmt::Display for Short {
+    fn fmt(&self, to: &mut fmt::Formatter<'_>) -> fmt::Result {
+        match self.0 {
+            0..=0xFF => write!(to, "{:02X}", self.0),
+            0x100..=0xFFFF => write!(to, "{:04X}", self.0),
+            _ => Long(self.0).fmt(to),
+        }
+    }
+}
+
 /// `Debug` of a struct, as it is derived, but for the fields with `hexadecimal` behind them, which are shown so.
 macro_rules! shown {
     ($name:ident $(<$lifetime:lifetime>)? { $($field:ident $(: $how:ident)?),* }) => {

@@ -162,7 +162,7 @@ pub use manifest::{
     CountError, Endpoint, Manifest, Properties, Region, Rights, Version, Worlds, MOST_BLOCKS, MOST_ENDPOINTS,
     MOST_REGIONS,
 };
-pub use named::{decode, encode, ArgumentError, Named};
+pub use named::{decode, encode, encode_words, ArgumentError, Named};
 pub use names::{call_name, declarations, version};
 pub use operation::{registers, Answer, Registers, Size};
 pub use processors::{Effect, Processor};
@@ -199,6 +199,31 @@ impl Id {
             0 => Id::NORMAL_WORLD,
             _ => Id(0x8000 + place),
         }
+    }
+}
+
+/// The handle of a memory transaction.
+#[derive(Clone, Copy, PartialEq, Eq, PartialOrd, Ord, Hash)]
+pub struct Handle(pub u64);
+
+/// In hexadecimal, as `Handle(0x800100000001)`.
+impl fmt::Debug for Handle {
+    fn fmt(&self, to: &mut fmt::Formatter<'_>) -> fmt::Result {
+        to.debug_tuple("Handle").field(&hexadecimal::Hexadecimal(self.0)).finish()
+    }
+}
+
+/// The handle in sixteen digits, as the program prints it.
+impl fmt::Display for Handle {
+    fn fmt(&self, to: &mut fmt::Formatter<'_>) -> fmt::Result {
+        write!(to, "{:016X}", self.0)
+    }
+}
+
+/// As an argument by name has it.
+impl From<Handle> for u128 {
+    fn from(handle: Handle) -> u128 {
+        handle.0.into()
     }
 }
 

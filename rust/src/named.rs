@@ -2,6 +2,7 @@
 //! Registers by name: what each call takes and answers, read from eight registers or written to them.
 use crate::codes::ErrorCode;
 use crate::functions::Function;
+use crate::hexadecimal::Hexadecimal;
 use crate::operation::{registers, Registers};
 use core::fmt;
 
@@ -143,6 +144,12 @@ const fn results(function: Function) -> &'static [Place] {
     }
 }
 
+/// Whether a call reads all 64 bits of a register.
+pub(crate) fn is_read_whole(function: u32, register: u32) -> bool {
+    let is_it = |&(its, _, bits): &Piece| its == register as usize && bits == 64;
+    Function::of(function).map_or(false, |called| arguments(called).iter().any(|(_, pieces)| pieces.iter().any(is_it)))
+}
+
 /// The bits that a piece has.
 fn mask(bits: u32) -> u64 {
     u64::MAX >> (64 - bits)
@@ -153,6 +160,14 @@ fn read(registers: &Registers, pieces: &[Piece]) -> u128 {
         (value << bits) | u128::from((registers[register] >> low) & mask(bits))
     };
     pieces.iter().rev().fold(0, above)
+}
+
+/// A number as it is told. Of a UUID the first byte is the highest, and the lowest in the registers.
+fn told(name: &str, number: u128) -> u128 {
+    match name {
+        "uuid" => number.swap_bytes(),
+        _ => number,
+    }
 }
 
 fn write(registers: &mut Registers, pieces: &[Piece], mut value: u128) {
@@ -177,7 +192,8 @@ impl Named {
         self.function
     }
 
-    /// What has this name. None: the registers hold nothing of it.
+    /// What has this name. None: the registers hold nothing of it. A UUID is the number that its 32 digits write, which
+    /// is `u128::from_be_bytes` of a manifest's.
     #[must_use]
     pub fn get(&self, name: &str) -> Option<u128> {
         self.iter().find(|(has, _)| *has == name).map(|(_, value)| value)
@@ -185,14 +201,15 @@ impl Named {
 
     /// What they hold, with names, in the order of the registers. A UUID has 128 bits, all else 64 at most.
     pub fn iter(&self) -> impl Iterator<Item = (&'static str, u128)> + '_ {
-        self.places.iter().map(move |(name, pieces)| (*name, read(&self.registers, pieces)))
+        self.places.iter().map(move |(name, pieces)| (*name, told(name, read(&self.registers, pieces))))
     }
 }
 
-/// In words, as `FFA_RUN partition=8001 context=0`: numbers in hexadecimal, a UUID by its bytes.
+/// In words, as `FFA_RUN partition=8001 context=0`: numbers in hexadecimal, a UUID by its 32 digits. `_64` stands behind the
+/// name of a 64-bit form. [`encode_words`] reads them again.
 impl fmt::Display for Named {
     fn fmt(&self, to: &mut fmt::Formatter<'_>) -> fmt::Result {
-        to.write_str(self.function.name())?;
+        put_form(self.function, to)?;
         for (name, value) in self.iter() {
             write!(to, " {name}=")?;
             match name {
@@ -201,10 +218,10 @@ impl fmt::Display for Named {
                     None => write!(to, "{value:08X}")?,
                 },
                 "feature" => match Function::of(value as u32) {
-                    Some(function) => to.write_str(function.name())?,
+                    Some(function) => put_form(function, to)?,
                     None => write!(to, "{value:08X}")?,
                 },
-                "uuid" => write!(to, "{:032x}", value.swap_bytes())?,
+                "uuid" => write!(to, "{value:032x}")?,
                 "handle" => write!(to, "{value:016X}")?,
                 "sender" | "receiver" | "partition" | "endpoint" => write!(to, "{value:04X}")?,
                 _ => write!(to, "{value:X}")?,
@@ -212,6 +229,19 @@ impl fmt::Display for Named {
         }
         Ok(())
     }
+}
+
+/// The name of a call in one of its forms.
+fn put_form(function: Function, to: &mut fmt::Formatter<'_>) -> fmt::Result {
+    to.write_str(function.name())?;
+    to.write_str(if function.is_wide() { "_64" } else { "" })
+}
+
+/// The call of such a name.
+fn form_named(name: &str) -> Option<Function> {
+    let of =
+        |front: &str, is_wide| Function::ALL.iter().copied().find(|it| it.name() == front && it.is_wide() == is_wide);
+    of(name, false).or_else(|| of(name.strip_suffix("_64")?, true))
 }
 
 impl fmt::Debug for Named {
@@ -242,14 +272,14 @@ pub fn decode(registers: &Registers, answers: Option<Function>) -> Option<Named>
 }
 
 /// Why arguments make no call.
-#[derive(Clone, Copy, Debug, PartialEq, Eq, Hash)]
-pub enum ArgumentError {
+#[derive(Clone, Copy, PartialEq, Eq, Hash)]
+pub enum ArgumentError<'given> {
     /// The function has no argument of this name.
     Unknown {
         /// Which function.
         function: Function,
-        /// Which of the arguments that are given, from 0.
-        place: usize,
+        /// The name, as it is given.
+        name: &'given str,
     },
     /// An argument is missing, and may not be left out.
     Missing {
@@ -272,13 +302,42 @@ pub enum ArgumentError {
         /// The number.
         value: u128,
     },
+    /// A text writes no number.
+    NoNumber {
+        /// The argument's name.
+        name: &'static str,
+        /// The text, as it is given.
+        text: &'given str,
+    },
 }
 
-impl fmt::Display for ArgumentError {
+/// As it is derived, but that the number is hexadecimal.
+impl fmt::Debug for ArgumentError<'_> {
+    fn fmt(&self, to: &mut fmt::Formatter<'_>) -> fmt::Result {
+        match self {
+            ArgumentError::Unknown { function, name } => {
+                to.debug_struct("Unknown").field("function", function).field("name", name).finish()
+            }
+            ArgumentError::Missing { function, name } => {
+                to.debug_struct("Missing").field("function", function).field("name", name).finish()
+            }
+            ArgumentError::Twice { name } => to.debug_struct("Twice").field("name", name).finish(),
+            ArgumentError::TooLarge { name, bits, value } => {
+                let value = &Hexadecimal(*value);
+                to.debug_struct("TooLarge").field("name", name).field("bits", bits).field("value", value).finish()
+            }
+            ArgumentError::NoNumber { name, text } => {
+                to.debug_struct("NoNumber").field("name", name).field("text", text).finish()
+            }
+        }
+    }
+}
+
+impl fmt::Display for ArgumentError<'_> {
     fn fmt(&self, to: &mut fmt::Formatter<'_>) -> fmt::Result {
         match *self {
-            ArgumentError::Unknown { function, place } => {
-                write!(to, "{function} has no argument of the name at place {place}: it has ")?;
+            ArgumentError::Unknown { function, name } => {
+                write!(to, "{function} has no argument {name}: it has ")?;
                 list(function, to)
             }
             ArgumentError::Missing { function, name } => {
@@ -287,6 +346,14 @@ impl fmt::Display for ArgumentError {
             }
             ArgumentError::Twice { name } => write!(to, "{name} is given twice"),
             ArgumentError::TooLarge { name, bits, value } => write!(to, "{name} has {bits} bits, and is {value:#X}"),
+            ArgumentError::NoNumber { name, text } => {
+                let wanted = match name {
+                    "uuid" => "32 hexadecimal digits, with a UUID's hyphens or without",
+                    "feature" => "a hexadecimal number, or the name of a call",
+                    _ => "a hexadecimal number",
+                };
+                write!(to, "{name} is {wanted}, and not {text:?}")
+            }
         }
     }
 }
@@ -301,10 +368,10 @@ fn list(function: Function, to: &mut fmt::Formatter<'_>) -> fmt::Result {
 }
 
 #[cfg(feature = "std")]
-impl std::error::Error for ArgumentError {}
+impl std::error::Error for ArgumentError<'_> {}
 
 /// Registers that make a call of these arguments. One that may be left out is 0 then, but for `fragment`, which is
-/// `length`.
+/// `length`. A UUID is the number that its 32 digits write, which is `u128::from_be_bytes` of a manifest's.
 ///
 /// ```
 /// # use gorseplumb::*;
@@ -319,20 +386,89 @@ impl std::error::Error for ArgumentError {}
 ///
 /// # Errors
 /// [`ArgumentError`], of the first argument given that has one, or else that is missing.
-pub fn encode(function: Function, given: &[(&str, u128)]) -> Result<Registers, ArgumentError> {
+pub fn encode<'given>(function: Function, given: &[(&'given str, u128)]) -> Result<Registers, ArgumentError<'given>> {
+    encode_by(function, given, |_, value| Ok(value))
+}
+
+/// The same of texts, as [`Named`] prints them behind the `=`: hexadecimal numbers, with `0x` or without; a UUID by its 32
+/// digits, with hyphens or without; a feature also by the name of a call, and a code by its own.
+///
+/// ```
+/// # use gorseplumb::*;
+/// let given = [("uuid", "00112233-4455-6677-8899-aabbccddeeff"), ("count_only", "1")];
+/// let asked = encode_words(Function::PartitionInfoGet, &given)?;
+/// assert_eq!(asked, registers([0x8400_0068, 0x3322_1100, 0x7766_5544, 0xBBAA_9988, 0xFFEE_DDCC, 1]));
+/// let told = decode(&asked, None).unwrap().to_string();
+/// assert_eq!(told, "FFA_PARTITION_INFO_GET uuid=00112233445566778899aabbccddeeff count_only=1");
+/// let known = encode_words(Function::Features, &[("feature", "FFA_RXTX_MAP_64")])?;
+/// assert_eq!(known, registers([0x8400_0064, 0xC400_0066]));
+/// # Ok::<(), ArgumentError>(())
+/// ```
+///
+/// # Errors
+/// As [`encode`], and where a text writes no number.
+pub fn encode_words<'given>(
+    function: Function,
+    given: &[(&'given str, &'given str)],
+) -> Result<Registers, ArgumentError<'given>> {
+    encode_by(function, given, |name, text| number(name, text).ok_or(ArgumentError::NoNumber { name, text }))
+}
+
+/// The number that a text writes.
+fn number(name: &str, text: &str) -> Option<u128> {
+    match name {
+        "uuid" => uuid(text),
+        "feature" if text.starts_with("FFA_") => form_named(text).map(|function| function.number().into()),
+        "code" => match ErrorCode::ALL.iter().find(|code| code.words() == text) {
+            Some(code) => Some((code.number() as u32).into()),
+            None => hexadecimal(text),
+        },
+        _ => hexadecimal(text),
+    }
+}
+
+fn hexadecimal(text: &str) -> Option<u128> {
+    let digits = text.strip_prefix("0x").or_else(|| text.strip_prefix("0X")).unwrap_or(text);
+    let is_number = digits.bytes().all(|digit| digit.is_ascii_hexdigit());
+    is_number.then(|| u128::from_str_radix(digits, 16).ok()).flatten()
+}
+
+/// The number of 32 digits, between which a UUID's hyphens stand or none.
+fn uuid(text: &str) -> Option<u128> {
+    let hyphens = [8, 13, 18, 23];
+    let is_hyphenated = match text.len() {
+        32 => false,
+        36 => true,
+        _ => return None,
+    };
+    text.bytes().enumerate().try_fold(0, |number: u128, (place, byte)| {
+        if is_hyphenated && hyphens.contains(&place) {
+            return (byte == b'-').then_some(number);
+        }
+        char::from(byte).to_digit(16).map(|digit| (number << 4) | u128::from(digit))
+    })
+}
+
+/// Registers that make a call of these arguments, each of which is read as a number.
+fn encode_by<'given, V: Copy>(
+    function: Function,
+    given: &[(&'given str, V)],
+    read: impl Fn(&'static str, V) -> Result<u128, ArgumentError<'given>>,
+) -> Result<Registers, ArgumentError<'given>> {
     let mut call = registers([function.number().into()]);
     let places = arguments(function);
-    for (place, (name, value)) in given.iter().enumerate() {
-        let found = places.iter().find(|(has, _)| has == name);
-        let (name, pieces) = *found.ok_or(ArgumentError::Unknown { function, place })?;
+    for (place, &(name, value)) in given.iter().enumerate() {
+        let found = places.iter().find(|(has, _)| *has == name);
+        let (name, pieces) = *found.ok_or(ArgumentError::Unknown { function, name })?;
         if given[..place].iter().any(|(before, _)| *before == name) {
             return Err(ArgumentError::Twice { name });
         }
+        let value = read(name, value)?;
         let bits = pieces.iter().map(|(_, _, bits)| bits).sum();
         if bits < 128 && value >> bits != 0 {
-            return Err(ArgumentError::TooLarge { name, bits, value: *value });
+            return Err(ArgumentError::TooLarge { name, bits, value });
         }
-        write(&mut call, pieces, *value);
+        write(&mut call, pieces, told(name, value));
     }
     let is_given = |wanted: &str| given.iter().any(|(name, _)| *name == wanted);
     for (name, _) in places {

@@ -2,7 +2,7 @@
 //! What an operation is given, and what comes of it.
 use crate::codes::{AccessError, ErrorCode, Fault, NoEndpoint};
 use crate::hexadecimal::All;
-use crate::{raw, Id};
+use crate::{raw, Handle, Id};
 use core::fmt;
 
 /// x0 to x7.
@@ -94,9 +94,9 @@ impl Answer {
     /// The handle in w2 and w3, where an offer of memory is answered. None: this is no FFA_SUCCESS.
     #[inline]
     #[must_use]
-    pub fn handle(&self) -> Option<u64> {
+    pub fn handle(&self) -> Option<Handle> {
         let [w0, _, w2, w3, ..] = self.0.x;
-        (w0 as u32 == FFA_SUCCESS).then_some(u64::from(w2 as u32) | w3 << 32)
+        (w0 as u32 == FFA_SUCCESS).then_some(Handle(u64::from(w2 as u32) | w3 << 32))
     }
 
     /// The answer to a call that was done, or the code of one that is refused.

@@ -2,11 +2,12 @@
 //! Why an operation would be refused, or was refused just before.
 use crate::checks::{Check, Flaw};
 use crate::codes::{ErrorCode, Fault};
-use crate::hexadecimal::{shown, Hexadecimal};
+use crate::hexadecimal::{shown, Hexadecimal, Long, Short};
 use crate::machine::{of, Machine};
+use crate::named::is_read_whole;
 use crate::operation::{known, Registers, Size};
-use crate::ram::Ram;
-use crate::{raw, Id};
+use crate::ram::{Ram, PAGE_SIZE};
+use crate::{raw, Handle, Id};
 use core::fmt;
 
 /// Why a call is refused: the first of its checks that fails, and what that is about.
@@ -14,6 +15,8 @@ use core::fmt;
 pub struct CallReason {
     /// The check.
     pub check: Check,
+    /// The number of the check in the manual's list of the call's checks.
+    pub number: Option<u32>,
     /// What FFA_ERROR tells.
     pub error: ErrorCode,
     /// What the check is about, where more is to be told than its words.
@@ -60,19 +63,23 @@ pub enum About {
     Page {
         /// Which.
         page: u32,
+        /// Of its first byte.
+        address: u64,
         /// What stands in the way there.
         obstacle: Option<Obstacle>,
     },
     /// An endpoint that is named.
     Endpoint(Id),
     /// A handle that is named.
-    Handle(u64),
+    Handle(Handle),
     /// A register.
     Register {
         /// x0 is 0.
         number: u32,
-        /// What it holds, of which the call reads 32 bits or 64.
+        /// What it holds, as far as the call reads it.
         value: u64,
+        /// The call reads all 64 bits of it, and not the low 32 alone.
+        is_whole: bool,
     },
     /// The least bit of a notification's bitmap that fails the check.
     Bit(u32),
@@ -101,7 +108,7 @@ pub enum Obstacle {
     /// Another endpoint owns it.
     OwnedBy(Id),
     /// It stands in the open transaction of this handle.
-    InTransaction(u64),
+    InTransaction(Handle),
 }
 
 shown! { AccessReason { address: hexadecimal, fault, obstacle } }
@@ -112,7 +119,7 @@ impl fmt::Debug for Obstacle {
             Obstacle::OutsideRam => to.write_str("OutsideRam"),
             Obstacle::ManagersPage => to.write_str("ManagersPage"),
             Obstacle::OwnedBy(owner) => to.debug_tuple("OwnedBy").field(owner).finish(),
-            Obstacle::InTransaction(handle) => to.debug_tuple("InTransaction").field(&Hexadecimal(*handle)).finish(),
+            Obstacle::InTransaction(handle) => to.debug_tuple("InTransaction").field(handle).finish(),
         }
     }
 }
@@ -120,14 +127,22 @@ impl fmt::Debug for Obstacle {
 impl fmt::Debug for About {
     fn fmt(&self, to: &mut fmt::Formatter<'_>) -> fmt::Result {
         match self {
-            About::Page { page, obstacle } => {
-                to.debug_struct("Page").field("page", page).field("obstacle", obstacle).finish()
+            About::Page { page, address, obstacle } => {
+                let address = &Hexadecimal(*address);
+                to.debug_struct("Page")
+                    .field("page", page)
+                    .field("address", address)
+                    .field("obstacle", obstacle)
+                    .finish()
             }
             About::Endpoint(endpoint) => to.debug_tuple("Endpoint").field(endpoint).finish(),
-            About::Handle(handle) => to.debug_tuple("Handle").field(&Hexadecimal(*handle)).finish(),
-            About::Register { number, value } => {
-                to.debug_struct("Register").field("number", number).field("value", &Hexadecimal(*value)).finish()
-            }
+            About::Handle(handle) => handle.fmt(to),
+            About::Register { number, value, is_whole } => to
+                .debug_struct("Register")
+                .field("number", number)
+                .field("value", &Hexadecimal(*value))
+                .field("is_whole", is_whole)
+                .finish(),
             About::Bit(bit) => to.debug_tuple("Bit").field(bit).finish(),
             About::Field { flaw, index, first, size, value } => to
                 .debug_struct("Field")
@@ -147,7 +162,7 @@ impl fmt::Display for Obstacle {
             Obstacle::OutsideRam => to.write_str("is outside RAM"),
             Obstacle::ManagersPage => to.write_str("belongs to the manager"),
             Obstacle::OwnedBy(owner) => write!(to, "belongs to {owner}"),
-            Obstacle::InTransaction(handle) => write!(to, "is in the open transaction {handle:016X}"),
+            Obstacle::InTransaction(handle) => write!(to, "is in the open transaction {handle}"),
         }
     }
 }
@@ -168,23 +183,56 @@ impl fmt::Display for RunState {
     }
 }
 
+/// What the program says of it.
 impl fmt::Display for About {
     fn fmt(&self, to: &mut fmt::Formatter<'_>) -> fmt::Result {
-        match self {
-            About::Page { page, obstacle: None } => write!(to, "page {page}"),
-            About::Page { page, obstacle: Some(obstacle) } => write!(to, "page {page} {obstacle}"),
+        match *self {
+            About::Page { address, obstacle: None, .. } => Long(address).fmt(to),
+            About::Page { address, obstacle: Some(obstacle), .. } => write!(to, "{} {obstacle}", Long(address)),
             About::Endpoint(endpoint) => write!(to, "endpoint {endpoint}"),
-            About::Handle(handle) => write!(to, "handle {handle:016X}"),
-            About::Register { number, value } => write!(to, "register {number} is {value:X}"),
-            About::Bit(bit) => write!(to, "bit {bit}"),
-            About::Field { flaw, first, .. } => write!(to, "{flaw}: byte {first}"),
+            About::Handle(handle) => write!(to, "handle {handle}"),
+            About::Register { number, value, is_whole } => {
+                write!(to, "{}{number} is {}", if is_whole { 'x' } else { 'w' }, Long(value))
+            }
+            About::Bit(bit) => write!(to, "bit {}", Short(bit.into())),
+            About::Field { flaw, index, first, size, value } => {
+                if let Some(element) = element(flaw) {
+                    write!(to, "{element} {}: ", Short(index.into()))?;
+                }
+                write!(to, "{flaw}: ")?;
+                put_bytes(to, first, size, value)
+            }
         }
     }
 }
 
-/// The check's words, what it is about, and the run state of that.
+/// What a condition is about of which a descriptor has several.
+fn element(flaw: Flaw) -> Option<&'static str> {
+    let is_from = |first: Flaw, last: Flaw| (first.number()..=last.number()).contains(&flaw.number());
+    match flaw {
+        _ if is_from(Flaw::AccessPermissions, Flaw::AccessReceiverTwice) => Some("access descriptor"),
+        _ if is_from(Flaw::RangeEmpty, Flaw::RangeOverlap) => Some("range"),
+        _ => None,
+    }
+}
+
+/// Bytes of a descriptor, and the number in them.
+fn put_bytes(to: &mut fmt::Formatter<'_>, first: u64, size: u64, value: Option<u64>) -> fmt::Result {
+    let verb = if size <= 1 {
+        write!(to, "byte {}", Short(first))?;
+        "is"
+    } else {
+        write!(to, "bytes {} to {}", Short(first), Short(first.wrapping_add(size - 1)))?;
+        "are"
+    };
+    let digits = 2 * size as usize;
+    value.map_or(Ok(()), |value| write!(to, " {verb} {value:0digits$X}"))
+}
+
+/// The check's number and words, what it is about, and the run state of that.
 impl fmt::Display for CallReason {
     fn fmt(&self, to: &mut fmt::Formatter<'_>) -> fmt::Result {
+        self.number.map_or(Ok(()), |number| write!(to, "check {number}: "))?;
         self.check.fmt(to)?;
         self.about.map_or(Ok(()), |about| write!(to, ": {about}"))?;
         self.state.map_or(Ok(()), |state| write!(to, ", which {state}"))
@@ -194,8 +242,7 @@ impl fmt::Display for CallReason {
 /// The fault, the address, and what stands in the way.
 impl fmt::Display for AccessReason {
     fn fmt(&self, to: &mut fmt::Formatter<'_>) -> fmt::Result {
-        let digits = if self.address > u32::MAX.into() { 16 } else { 8 };
-        write!(to, "{} at {:0digits$X}", self.fault, self.address)?;
+        write!(to, "{} at {}", self.fault, Long(self.address))?;
         match (self.fault, self.obstacle) {
             (_, Some(obstacle)) => write!(to, ": the page {obstacle}"),
             (Fault::Translation, None) => to.write_str(": the address has more than 32 bits"),
@@ -219,11 +266,14 @@ impl std::error::Error for AccessReason {
 }
 
 impl CallReason {
-    fn of(told: &raw::Reason) -> CallReason {
+    /// Of a call of this function, on a machine whose RAM begins there.
+    fn of(told: &raw::Reason, function: u32, ram: u32) -> CallReason {
+        let check: Check = known(Check::of(told.check));
         CallReason {
-            check: known(Check::of(told.check)),
+            check,
+            number: check.number_in(function),
             error: known(ErrorCode::of(told.error)),
-            about: About::of(told),
+            about: About::of(told, function, ram),
             state: RunState::of(told),
         }
     }
@@ -236,13 +286,15 @@ impl AccessReason {
 }
 
 impl About {
-    fn of(told: &raw::Reason) -> Option<About> {
+    fn of(told: &raw::Reason, function: u32, ram: u32) -> Option<About> {
         let value = (told.has_value != 0).then_some(told.value);
+        let address = u64::from(ram) + PAGE_SIZE as u64 * u64::from(told.page);
+        let is_whole = is_read_whole(function, told.number);
         Some(match told.about {
-            raw::ABOUT_PAGE => About::Page { page: told.page, obstacle: Obstacle::of(told) },
+            raw::ABOUT_PAGE => About::Page { page: told.page, address, obstacle: Obstacle::of(told) },
             raw::ABOUT_ENDPOINT => About::Endpoint(Id(told.endpoint as u16)),
-            raw::ABOUT_HANDLE => About::Handle(told.handle),
-            raw::ABOUT_REGISTER => About::Register { number: told.number, value: told.value },
+            raw::ABOUT_HANDLE => About::Handle(Handle(told.handle)),
+            raw::ABOUT_REGISTER => About::Register { number: told.number, value: told.value, is_whole },
             raw::ABOUT_BIT => About::Bit(told.number),
             raw::ABOUT_FIELD => {
                 let flaw = known(Flaw::of(told.flaw));
@@ -274,7 +326,7 @@ impl Obstacle {
             raw::OBSTACLE_OUTSIDE_RAM => Some(Obstacle::OutsideRam),
             raw::OBSTACLE_MANAGERS_PAGE => Some(Obstacle::ManagersPage),
             raw::OBSTACLE_OWNED_BY => Some(Obstacle::OwnedBy(Id(told.owner as u16))),
-            raw::OBSTACLE_IN_TRANSACTION => Some(Obstacle::InTransaction(told.transaction)),
+            raw::OBSTACLE_IN_TRANSACTION => Some(Obstacle::InTransaction(Handle(told.transaction))),
             _ => None,
         }
     }
@@ -294,14 +346,15 @@ impl<R: Ram> Machine<R> {
     /// let map = registers([0x8400_0066, 0x4001_0000, 0x4001_0000, 1]); // FFA_RXTX_MAP
     /// assert_eq!(machine.call(&map).error(), Some(ErrorCode::InvalidParameters));
     /// let reason = machine.why_call(&map).unwrap();
-    /// assert_eq!((reason.check, reason.check.number_in(0x8400_0066)), (Check::BuffersOverlap, Some(5)));
-    /// assert_eq!(reason.to_string(), "RX and TX have a page in common: register 2 is 40010000");
+    /// assert_eq!((reason.check, reason.number), (Check::BuffersOverlap, Some(5)));
+    /// assert_eq!(reason.to_string(), "check 5: RX and TX have a page in common: w2 is 40010000");
     /// # Ok::<(), BootError>(())
     /// ```
     #[must_use]
     pub fn why_call(&self, registers: &Registers) -> Option<CallReason> {
         let mut told = raw::Reason::default();
-        unsafe { raw::gorseplumb_why_call(self.asked(), of(registers), &mut told) }.then(|| CallReason::of(&told))
+        unsafe { raw::gorseplumb_why_call(self.asked(), of(registers), &mut told) }
+            .then(|| CallReason::of(&told, registers[0] as u32, self.ram_base()))
     }
 
     /// The same of a load.

@@ -132,12 +132,12 @@ impl<R: Ram> Machine<R> {
     /// let (receivers, ranges) = ([Receiver::rw(Id(0x8001))], [PageRange::new(0x4001_0000, 2)]);
     /// let lend = Offer::new(Kind::Lend, Id::NORMAL_WORLD, &receivers, &ranges);
     /// let answer = machine.send(&lend, TX, Version::V1_1)?;
-    /// assert_eq!(answer.handle(), Some(1));
+    /// assert_eq!(answer.handle(), Some(Handle(1)));
     /// let refused = machine.send(&lend, TX, Version::V1_1).unwrap_err();
     /// assert_eq!(
     ///     refused.to_string(),
-    ///     "FFA_MEM_LEND is refused: DENIED: a page is not the caller's own, or is in an open transaction or a buffer: \
-    ///      page 16 is in the open transaction 0000000000000001",
+    ///     "FFA_MEM_LEND is refused: DENIED: check 10: a page is not the caller's own, or is in an open transaction or \
+    ///      a buffer: 40010000 is in the open transaction 0000000000000001",
     /// );
     /// # Ok::<(), Box<dyn std::error::Error>>(())
     /// ```

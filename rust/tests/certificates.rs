@@ -5,7 +5,7 @@ mod common;
 use common::explained::{briefly, explain};
 use common::machines::{MACHINE, PARTITIONS};
 use common::{example, play, ram, run, top, RAM};
-use gorseplumb::{AuditError, Grant, Id, Lent, Machine, PageRun, Rights};
+use gorseplumb::{AuditError, Grant, Handle, Id, Lent, Machine, PageRun, Rights};
 use std::fs;
 
 const FIRST: Id = Id(0x8001);
@@ -54,7 +54,7 @@ fn shared() -> String {
     trace[..trace.find("show\n").unwrap()].into()
 }
 
-const HANDLE: u64 = 0x8001_0000_0001;
+const HANDLE: Handle = Handle(0x8001_0000_0001);
 
 #[test]
 fn by_what_a_page_is_reached() {

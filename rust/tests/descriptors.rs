@@ -6,9 +6,9 @@ mod common;
 use common::top;
 use gorseplumb::Flaw::{self, *};
 use gorseplumb::{
-    registers, About, Check, DataAccess, DescriptorError, Endpoint, Function, Id, InstructionAccess, Kind, Machine,
-    Manifest, Offer, OfferRoom, PageRange, Properties, Receiver, Region, Relinquish, Retrieve, RetrieveResponse,
-    Rights, Version, MOST_DESCRIPTOR, MOST_RANGES,
+    registers, About, Check, DataAccess, DescriptorError, Endpoint, Function, Handle, Id, InstructionAccess, Kind,
+    Machine, Manifest, Offer, OfferRoom, PageRange, Properties, Receiver, Region, Relinquish, Retrieve,
+    RetrieveResponse, Rights, Version, MOST_DESCRIPTOR, MOST_RANGES,
 };
 use std::fs;
 
@@ -28,7 +28,7 @@ const DONATE: Offer = Offer {
 const ASKED: Retrieve = Retrieve {
     tag: 4,
     kind: Some(Kind::Donate),
-    ..Retrieve::new(Id(1), 2, Receiver { instructions: InstructionAccess::X, ..Receiver::rw(Id(3)) })
+    ..Retrieve::new(Id(1), Handle(2), Receiver { instructions: InstructionAccess::X, ..Receiver::rw(Id(3)) })
 };
 
 fn flaw_of<T: std::fmt::Debug>(found: Result<T, DescriptorError>) -> (Flaw, u32) {
@@ -77,11 +77,11 @@ fn descriptors_of_the_shared_page() {
     ];
     let bytes = share.to_bytes(Version::V1_1).unwrap();
     assert_eq!((words(&bytes), bytes.len()), (told.to_vec(), 0x60));
-    let retrieve = Retrieve::new(Id(0x8001), 0x0000_8001_0000_0001, Receiver::new(Id(0x8002)));
+    let retrieve = Retrieve::new(Id(0x8001), Handle(0x0000_8001_0000_0001), Receiver::new(Id(0x8002)));
     let told = [(0x00, 0x8001), (0x08, 0x0000_8001_0000_0001), (0x18, 0x1_0000_0010), (0x20, 0x30), (0x30, 0x8002)];
     let bytes = retrieve.to_bytes(Version::V1_1);
     assert_eq!((words(&bytes), bytes.len()), (told.to_vec(), 0x40));
-    let given_up = Relinquish::new(0x0000_8001_0000_0001, Id(0x8002)).to_bytes();
+    let given_up = Relinquish::new(Handle(0x0000_8001_0000_0001), Id(0x8002)).to_bytes();
     let told = [(0x00, 0x0000_8001_0000_0001), (0x08, 0x1_0000_0000), (0x10, 0x8002)];
     assert_eq!((words(&given_up), given_up.len()), (told.to_vec(), 18));
 }
@@ -121,7 +121,7 @@ fn what_is_written_is_read() {
         }
     }
     for zero in [false, true] {
-        let given_up = Relinquish { zero, ..Relinquish::new(0x0123_4567_89AB_CDEF, Id(6)) };
+        let given_up = Relinquish { zero, ..Relinquish::new(Handle(0x0123_4567_89AB_CDEF), Id(6)) };
         assert_eq!(Relinquish::read(&[&given_up.to_bytes()[..], b"rest"].concat()), Ok(given_up));
     }
 }
@@ -144,7 +144,10 @@ fn response(form: Version) -> Vec<u8> {
 fn responses() {
     for form in FORMS {
         let told = RetrieveResponse::read(&response(form), form).unwrap();
-        assert_eq!((told.kind, told.sender, told.handle, told.tag, told.zeroed), (Kind::Lend, Id(1), 2, 4, true));
+        assert_eq!(
+            (told.kind, told.sender, told.handle, told.tag, told.zeroed),
+            (Kind::Lend, Id(1), Handle(2), 4, true)
+        );
         let holds = Receiver { instructions: InstructionAccess::Nx, ..Receiver::rw(Id(3)) };
         assert_eq!(told.receiver, holds);
         assert_eq!(told.ranges(), [PageRange::new(4096, 1), PageRange::new(0x1_0000_4000, 2)]);
@@ -312,13 +315,13 @@ fn the_first_condition_that_others_break() {
         (52, 1, RetrieveCompositeTold),
         (56, 1, RetrieveAccessReserved),
     ];
-    let good = Retrieve::new(Id(0x8001), 1, Receiver::new(Id(0x8002))).to_bytes(Version::V1_1);
+    let good = Retrieve::new(Id(0x8001), Handle(1), Receiver::new(Id(0x8002))).to_bytes(Version::V1_1);
     for (at, value, flaw) in rows {
         let mut bytes = good.to_vec();
         bytes[at] = value;
         assert_eq!(flaw_of(Retrieve::read(&bytes, Id(0x8002), Version::V1_1)), (flaw, 0));
     }
-    let good = Relinquish::new(1, Id(0x8002)).to_bytes();
+    let good = Relinquish::new(Handle(1), Id(0x8002)).to_bytes();
     assert_eq!(flaw_of(Relinquish::read(&good[..17])).0, RelinquishShort);
     for (at, flaw) in [(8, RelinquishFlags), (12, RelinquishEndpointCount)] {
         let mut bytes = good.to_vec();
@@ -395,7 +398,7 @@ fn a_machine_tells_the_same_of_changed_bytes() {
             assert_eq!(found, told(&mut machine, Function::MemRetrieveReq, &bytes), "{form:?} {bytes:X?}");
             seen.extend(found.map(|(flaw, _)| flaw));
 
-            let mut bytes = changed(&Relinquish::new(5, Id(6)).to_bytes(), &mut state);
+            let mut bytes = changed(&Relinquish::new(Handle(5), Id(6)).to_bytes(), &mut state);
             bytes.resize(18, 0); // TX is never shorter
             let found = Relinquish::read(&bytes).err().map(|error| (error.flaw, error.index));
             assert_eq!(found, told(&mut machine, Function::MemRelinquish, &bytes), "{bytes:X?}");

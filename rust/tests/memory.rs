@@ -8,7 +8,7 @@ mod common;
 use common::machines::MACHINE;
 use common::{example, ram};
 use gorseplumb::{registers, BootError, Lent, Machine, Ram, Size};
-use gorseplumb::{Function, Id, Kind, Offer, OfferRoom, PageRange, Receiver, Version};
+use gorseplumb::{Function, Handle, Id, Kind, Offer, OfferRoom, PageRange, Receiver, Version};
 use std::alloc::{GlobalAlloc, Layout, System};
 use std::cell::Cell;
 
@@ -147,5 +147,5 @@ fn a_descriptor_asks_for_nothing() {
         assert_eq!(Offer::read(&bytes, Kind::Lend, Version::Compact, &mut OfferRoom::new()), Ok(lend));
         machine.send(&lend, tx, Version::V1_1).unwrap().handle()
     });
-    assert_eq!((handle, asked), (Some(1), 0));
+    assert_eq!((handle, asked), (Some(Handle(1)), 0));
 }

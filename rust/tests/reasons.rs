@@ -7,8 +7,8 @@ use common::machines::{MACHINE, PARTITIONS};
 use common::refusals::{rows, Row};
 use common::{example, generated, play, play_line, ram, refusals, top};
 use gorseplumb::{
-    call_name, raw, registers, About, CallError, Check, ErrorCode, Fault, Flaw, Function, Grant, Id, Machine, Obstacle,
-    RunState, Size,
+    call_name, raw, registers, About, CallError, Check, ErrorCode, Fault, Flaw, Function, Grant, Handle, Id, Machine,
+    Obstacle, RunState, Size,
 };
 use std::ffi::CStr;
 
@@ -79,14 +79,17 @@ fn what_checks_are_about() {
         machine.why_call(&given(line)).and_then(|reason| reason.about)
     };
     let buffers = "call 84000066 4001E000 4001F000 5";
-    assert_eq!(about("", buffers), Some(About::Register { number: 3, value: 5 }));
+    assert_eq!(about("", buffers), Some(About::Register { number: 3, value: 5, is_whole: false }));
     let wide = "call C4000066 14001E000 4001F000 1";
-    assert_eq!(about("", wide), Some(About::Register { number: 1, value: 0x1_4001_E000 }));
+    assert_eq!(about("", wide), Some(About::Register { number: 1, value: 0x1_4001_E000, is_whole: true }));
     assert_eq!(about("", "call 8400006F 8003"), Some(About::Endpoint(Id(0x8003))));
-    assert_eq!(about("", "call 84000077 1 8001"), Some(About::Handle(0x8001_0000_0001)));
+    assert_eq!(about("", "call 84000077 1 8001"), Some(About::Handle(Handle(0x8001_0000_0001))));
     assert_eq!(about("", "call 84000081 8001 0 4"), Some(About::Bit(2)));
     let taken = Some(Obstacle::OwnedBy(Id(0x8001)));
-    assert_eq!(about("", "call 84000066 40020000 4001F000 1"), Some(About::Page { page: 32, obstacle: taken }));
+    assert_eq!(
+        about("", "call 84000066 40020000 4001F000 1"),
+        Some(About::Page { page: 32, address: 0x4002_0000, obstacle: taken })
+    );
     let descriptor = "call 84000066 4001E000 4001F000 1\nstore 4001E000 0000000000000000\n\
                       store 4001E018 0000000100000010\nstore 4001E020 0000000000000030\n\
                       store 4001E030 00000040000F8001\nstore 4001E040 0000000100000001\n\
@@ -96,6 +99,31 @@ fn what_checks_are_about() {
         Some(About::Field { flaw: Flaw::AccessPermissions, index: 0, first: 50, size: 1, value: Some(0xF) })
     );
     assert_eq!(about("", "call 8400006B"), None);
+}
+
+/// Reasons in words, as docs/COMMANDS.md has them, up to what is to be mended.
+#[test]
+fn reasons_are_told_as_the_program_tells_them() {
+    let machine = machine_after(&[DESCRIBED]);
+    let told = |line: &str| machine.why_call(&given(line)).unwrap().to_string();
+    let unmapped = Machine::boot(&MACHINE).unwrap();
+    let said = |line: &str| unmapped.why_call(&given(line)).unwrap().to_string();
+    let count = "check 2: a buffer has no page, or more than it may have: w3 is 00000005";
+    assert!(said("call 84000066 4001E000 4001F000 5").starts_with(count));
+    let wide = "check 3: TX does not begin at a page and lie in RAM: x1 is 000000014001E000";
+    assert!(said("call C4000066 14001E000 4001F000 1").starts_with(wide));
+    let taken = "check 6: a page of TX is not the caller's own to read and write, or is in an open transaction: \
+                 40020000 belongs to 8001";
+    assert_eq!(said("call 84000066 40020000 4001F000 1"), taken);
+    assert_eq!(told("call 84000081 8001 0 1000"), "check 6: one of the bits is not the caller's: bit 0C");
+    let mut empty = machine_after(&[DESCRIBED, "store 40010058 0000000000000000"]);
+    let range = "check 6: the bytes in TX are no descriptor of this call: range 00: it has no page: \
+                 bytes 58 to 5B are 00000000";
+    assert!(empty.why_call(&given("call 84000072 60 60")).unwrap().to_string().starts_with(range));
+    play(&mut empty, "store 40010032 FF");
+    let access = "check 6: the bytes in TX are no descriptor of this call: access descriptor 00: \
+                  the permissions are none that this call may grant: byte 32 is FF";
+    assert!(empty.why_call(&given("call 84000072 60 60")).unwrap().to_string().starts_with(access));
 }
 
 /// What an endpoint does that is to wait.
@@ -163,7 +191,7 @@ store 40036030 0000000000008002
 call 84000074 40 40
 ";
 
-const SHARE: u64 = 0x8001_0000_0001;
+const SHARE: Handle = Handle(0x8001_0000_0001);
 
 /// The machine after lines of a trace.
 fn machine_after(lines: &[&str]) -> Machine {
@@ -176,18 +204,19 @@ fn machine_after(lines: &[&str]) -> Machine {
 #[test]
 fn calls_without_arguments() {
     let machine = machine_after(&[SHARED]);
+    let w0 = |value| About::Register { number: 0, value, is_whole: false };
     let short = About::Field { flaw: Flaw::HeaderShort, index: 0, first: 0, size: 48, value: None };
     for (function, reason) in [
         (0x8400_0063, None),
         (0x8400_0065, Some((Check::RxEmpty, None))),
         (0x8400_0066, Some((Check::BuffersMapped, None))),
         (0x8400_0067, None),
-        (0x8400_0064, Some((Check::FunctionUnknown, Some(About::Register { number: 1, value: 0 })))),
-        (0x8400_0083, Some((Check::FunctionUnknown, Some(About::Register { number: 0, value: 0x8400_0083 })))),
+        (0x8400_0064, Some((Check::FunctionUnknown, Some(About::Register { number: 1, value: 0, is_whole: false })))),
+        (0x8400_0083, Some((Check::FunctionUnknown, Some(w0(0x8400_0083))))),
         (0x8400_006D, Some((Check::NotNormalWorld, None))),
         (0x8400_006F, Some((Check::SenderIsAnother, Some(About::Endpoint(Id(0)))))),
         (0x8400_0072, Some((Check::DescriptorMalformed, Some(short)))),
-        (0x8400_0077, Some((Check::NotTheSenders, Some(About::Handle(0))))),
+        (0x8400_0077, Some((Check::NotTheSenders, Some(About::Handle(Handle(0)))))),
     ] {
         let told = machine.why_call(&registers([function])).map(|reason| (reason.check, reason.about));
         assert_eq!(told, reason, "{function:X}");
@@ -267,10 +296,10 @@ fn operations_that_say_why() {
     assert_eq!(machine.store_or_why(0x4001_0000, Size::B4, 42), Ok(()));
     assert_eq!(machine.load_or_why(0x4001_0000, Size::B4), Ok(42));
     let refused = machine.call_or_why(&registers([0x8400_008F])).unwrap_err();
-    let check = "no such function is served: register 0 is 8400008F";
+    let check = "check 1: no such function is served: w0 is 8400008F";
     assert_eq!(words(&refused), format!("call 8400008F is refused: NOT_SUPPORTED: {check}"));
     let refused = machine.call_or_why(&Function::MemReclaim.with([1, 0x8001])).unwrap_err();
-    let check = "no open transaction of the caller has the handle: handle 0000800100000001";
+    let check = "check 2: no open transaction of the caller has the handle: handle 0000800100000001";
     assert_eq!(words(&refused), format!("FFA_MEM_RECLAIM is refused: INVALID_PARAMETERS: {check}"));
     let answer = machine.call_or_why(&Function::Run.with([0x8001_0000])).unwrap();
     assert_eq!(answer.runner(), Id(0x8001));

@@ -49,7 +49,7 @@ fn wait(machine: &mut Machine) {
     assert_eq!(machine.runner(), WORLD);
 }
 
-fn reclaim(machine: &mut Machine, handle: u64) -> Answer {
+fn reclaim(machine: &mut Machine, handle: Handle) -> Answer {
     machine.call(&encode(Function::MemReclaim, &[("handle", handle.into())]).unwrap())
 }
 
@@ -84,7 +84,7 @@ fn a_share_up_to_its_reclaim() {
         let (to, ranges) = ([Receiver::ro(FIRST)], [PageRange::new(PAGE + 0x3000, 1), PageRange::new(PAGE, 2)]);
         let share = Offer { tag: 7, ..Offer::new(Kind::Share, WORLD, &to, &ranges) };
         let handle = machine.send(&share, TX, world).unwrap().handle().unwrap();
-        assert_eq!(handle, 1); // the sender above, and the count of its sends
+        assert_eq!(handle, Handle(1)); // the sender above, and the count of its sends
         run(&mut machine);
         assert_eq!(machine.load(PAGE, Size::B1), Err(Fault::Translation));
         let asked = Retrieve { tag: 7, kind: Some(Kind::Share), ..Retrieve::new(WORLD, handle, Receiver::new(FIRST)) };
@@ -147,7 +147,11 @@ fn the_manuals_sharing() {
     let (to, ranges) = ([Receiver::ro(second)], [PageRange::new(0x4002_8000, 1)]);
     let answer = sent.send(&Offer::new(Kind::Share, FIRST, &to, &ranges), 0x4002_E000, V1_1).unwrap();
     let handle = answer.handle().unwrap();
-    assert_eq!(handle, 0x0000_8001_0000_0001);
+    assert_eq!(handle, Handle(0x0000_8001_0000_0001));
+    assert_eq!(
+        (handle.to_string(), format!("{handle:?}")),
+        ("0000800100000001".into(), "Handle(0x800100000001)".into())
+    );
     play(&mut sent, "store 40028000 2B\ncall 8400006B\ncall 8400006D 80020000\ncall 84000066 40206000 40207000 1");
     sent.send(&Retrieve::new(FIRST, handle, Receiver::new(second)), 0x4020_6000, V1_1).unwrap();
     sent.send(&Relinquish::new(handle, second), 0x4020_6000, V1_1).unwrap();
@@ -194,7 +198,7 @@ fn what_is_not_sent_changes_nothing() {
     let why = DescriptorError { flaw: Flaw::AccessReceiverIsSender, index: 0 };
     assert_eq!(malformed, SendError::Malformed(why));
     assert_eq!(malformed.to_string(), "the descriptor is malformed: access descriptor 0: it names the sender");
-    let misplaced = machine.send(&Relinquish::new(1, WORLD), 0x4001_FFF8, V1_1).unwrap_err();
+    let misplaced = machine.send(&Relinquish::new(Handle(1), WORLD), 0x4001_FFF8, V1_1).unwrap_err();
     let said = "the descriptor can't be stored: translation fault at 40020000: the page belongs to 8001";
     assert_eq!(misplaced.to_string(), said);
     assert!(matches!(misplaced, SendError::Store(AccessReason { address: 0x4002_0000, .. })));
@@ -215,14 +219,14 @@ fn what_is_refused_says_why() {
         }
         other => panic!("{other:?}"),
     }
-    let said = "FFA_MEM_SHARE is refused: DENIED: a range does not lie in RAM";
+    let said = "FFA_MEM_SHARE is refused: DENIED: check 9: a range does not lie in RAM";
     assert!(refused.to_string().starts_with(said), "{refused}");
-    let unknown = machine.send(&Retrieve::new(FIRST, 9, Receiver::new(WORLD)), TX, V1_1).unwrap_err();
-    let said = "FFA_MEM_RETRIEVE_REQ is refused: INVALID_PARAMETERS: no open transaction has the handle: \
+    let unknown = machine.send(&Retrieve::new(FIRST, Handle(9), Receiver::new(WORLD)), TX, V1_1).unwrap_err();
+    let said = "FFA_MEM_RETRIEVE_REQ is refused: INVALID_PARAMETERS: check 7: no open transaction has the handle: \
                 handle 0000000000000009";
     assert_eq!(unknown.to_string(), said);
     // In the form of another version it is no descriptor.
-    let other = machine.send(&Retrieve::new(FIRST, 9, Receiver::new(WORLD)), TX, Version::Compact).unwrap_err();
+    let other = machine.send(&Retrieve::new(FIRST, Handle(9), Receiver::new(WORLD)), TX, Version::Compact).unwrap_err();
     let check = |error: SendError| match error {
         SendError::Refused(CallError { reason, .. }) => reason.map(|reason| reason.check),
         _ => None,
@@ -232,17 +236,17 @@ fn what_is_refused_says_why() {
     assert_eq!(bare.to_string(), "FFA_MEM_SHARE is refused: DENIED");
     // Where TX isn't what is told, the call finds what is there.
     let mut machine = Machine::boot(&MACHINE).unwrap();
-    let without = machine.send(&Relinquish::new(1, WORLD), TX, V1_1).unwrap_err();
+    let without = machine.send(&Relinquish::new(Handle(1), WORLD), TX, V1_1).unwrap_err();
     assert!(without.to_string().ends_with("the caller has no RX and TX"), "{without}");
 }
 
 #[test]
 fn handles_of_answers() {
     let mut machine = Machine::boot(&MACHINE).unwrap();
-    assert_eq!(machine.call(&Function::IdGet.with([])).handle(), Some(0));
+    assert_eq!(machine.call(&Function::IdGet.with([])).handle(), Some(Handle(0)));
     assert_eq!(machine.call(&Function::RxRelease.with([])).handle(), None);
     run(&mut machine);
-    assert_eq!(machine.call(&Function::IdGet.with([])).handle(), Some(0x8001));
+    assert_eq!(machine.call(&Function::IdGet.with([])).handle(), Some(Handle(0x8001)));
 }
 
 /// Sources of an error, as `std` wants them.

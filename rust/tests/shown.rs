@@ -4,7 +4,9 @@ mod common;
 
 use common::machines::MACHINE;
 use common::play;
-use gorseplumb::{registers, About, Check, ErrorCode, Flaw, Grant, Id, Machine, Obstacle, Operation, Outcome, Range};
+use gorseplumb::{
+    registers, About, Check, ErrorCode, Flaw, Grant, Handle, Id, Machine, Obstacle, Operation, Outcome, Range,
+};
 use gorseplumb::{
     AccessReason, CallReason, Endpoint, Fault, Manifest, Properties, Region, Rights, RunState, Settling, Size, Version,
 };
@@ -54,11 +56,14 @@ fn what_is_told_of_pages() {
                  access: [None, None, Some(Rw), None, None, None, None, None] }";
     shows(run, shown);
     let run = machine.run_from(16).unwrap();
-    assert!(format!("{run:?}").contains(&format!("transaction: Some(0x{:X})", run.transaction().unwrap())));
+    assert!(format!("{run:?}").contains(&format!("transaction: Some({:?})", run.transaction().unwrap())));
     shows(Range { address: 0x4001_0000, size: 0x2000 }, "Range { address: 0x40010000, size: 0x2000 }");
     let settling = Settling { endpoint: Id(0x8001), address: 0x4001_0000, size: 0x1000 };
     shows(settling, "Settling { endpoint: Id(0x8001), address: 0x40010000, size: 0x1000 }");
-    shows([Grant::Own, Grant::Shared(0xA), Grant::Held(0x1_0000)], "[Own, Shared(0xA), Held(0x10000)]");
+    shows(
+        [Grant::Own, Grant::Shared(Handle(0xA)), Grant::Held(Handle(0x1_0000))],
+        "[Own, Shared(Handle(0xA)), Held(Handle(0x10000))]",
+    );
 }
 
 #[test]
@@ -78,27 +83,31 @@ fn manifests() {
 
 #[test]
 fn reasons() {
-    let about = About::Register { number: 2, value: 0x4001_0000 };
+    let about = About::Register { number: 2, value: 0x4001_0000, is_whole: false };
     shows(
         CallReason {
             check: Check::BuffersOverlap,
+            number: Some(5),
             error: ErrorCode::InvalidParameters,
             about: Some(about),
             state: None,
         },
-        "CallReason { check: BuffersOverlap, error: InvalidParameters, \
-         about: Some(Register { number: 2, value: 0x40010000 }), state: None }",
+        "CallReason { check: BuffersOverlap, number: Some(5), error: InvalidParameters, \
+         about: Some(Register { number: 2, value: 0x40010000, is_whole: false }), state: None }",
     );
     shows(RunState::Blocked { awaits: Some(Id(0x8002)) }, "Blocked { awaits: Some(Id(0x8002)) }");
-    let obstacle = Some(Obstacle::InTransaction(0x1_0000));
+    let obstacle = Some(Obstacle::InTransaction(Handle(0x1_0000)));
     let reason = AccessReason { address: 0x4001_0000, fault: Fault::Translation, obstacle };
-    let held = "InTransaction(0x10000)";
+    let held = "InTransaction(Handle(0x10000))";
     shows(reason, &format!("AccessReason {{ address: 0x40010000, fault: Translation, obstacle: Some({held}) }}"));
-    shows(About::Page { page: 16, obstacle }, "Page { page: 16, obstacle: Some(InTransaction(0x10000)) }");
+    shows(
+        About::Page { page: 16, address: 0x4001_0000, obstacle },
+        "Page { page: 16, address: 0x40010000, obstacle: Some(InTransaction(Handle(0x10000))) }",
+    );
     shows([Obstacle::OutsideRam, Obstacle::ManagersPage], "[OutsideRam, ManagersPage]");
     shows(Obstacle::OwnedBy(Id(0x8002)), "OwnedBy(Id(0x8002))");
     shows(About::Endpoint(Id(0x8002)), "Endpoint(Id(0x8002))");
-    shows([About::Handle(0xAB), About::Bit(12)], "[Handle(0xAB), Bit(12)]");
+    shows([About::Handle(Handle(0xAB)), About::Bit(12)], "[Handle(0xAB), Bit(12)]");
     shows(
         About::Field { flaw: Flaw::AccessPermissions, index: 0, first: 50, size: 1, value: Some(0xF) },
         "Field { flaw: AccessPermissions, index: 0, first: 50, size: 1, value: Some(0xF) }",
@@ -116,11 +125,11 @@ fn descriptors() {
     let told =
         format!("kind: Lend, sender: Id(0x0), receivers: [{receiver}], ranges: [{range}], zero: false, tag: 0xAB");
     shows(offer, &format!("Offer {{ {told} }}"));
-    let asked = Retrieve::new(Id(0), 0x8001_0000_0001, to[0]);
-    let told = format!("sender: Id(0x0), handle: 0x800100000001, receiver: {receiver}, tag: 0x0, kind: None");
+    let asked = Retrieve::new(Id(0), Handle(0x8001_0000_0001), to[0]);
+    let told = format!("sender: Id(0x0), handle: Handle(0x800100000001), receiver: {receiver}, tag: 0x0, kind: None");
     shows(asked, &format!("Retrieve {{ {told} }}"));
-    let given_up = Relinquish::new(0xA, Id(0x8001));
-    shows(given_up, "Relinquish { handle: 0xA, endpoint: Id(0x8001), zero: false }");
+    let given_up = Relinquish::new(Handle(0xA), Id(0x8001));
+    shows(given_up, "Relinquish { handle: Handle(0xA), endpoint: Id(0x8001), zero: false }");
     let bytes = "0xA, 0x0, 0x0, 0x0, 0x0, 0x0, 0x0, 0x0, 0x0, 0x0, 0x0, 0x0, 0x1, 0x0, 0x0, 0x0, 0x1, 0x80";
     shows(given_up.to_bytes(), &format!("[{bytes}]"));
     // As docs/MEMORY.md lays a compact response out.
@@ -132,5 +141,5 @@ fn descriptors() {
     let receiver = "Receiver { endpoint: Id(0x8001), data: Rw, instructions: Nx }";
     let told = format!("receiver: {receiver}, ranges: [{range}], zeroed: true, tag: 0x0, non_secure: false");
     let response = RetrieveResponse::read(&response, Version::Compact).unwrap();
-    shows(response, &format!("RetrieveResponse {{ kind: Lend, sender: Id(0x0), handle: 0xA, {told} }}"));
+    shows(response, &format!("RetrieveResponse {{ kind: Lend, sender: Id(0x0), handle: Handle(0xA), {told} }}"));
 }

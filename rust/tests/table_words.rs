@@ -38,13 +38,13 @@ fn map(machine: &mut Machine, endpoint: Id, tx: u32) {
 }
 
 /// An endpoint lends pages of its own to another, by its TX: the handle.
-fn lend(machine: &mut Machine, tx: u32, from: Id, to: Receiver, pages: &[u32]) -> u64 {
+fn lend(machine: &mut Machine, tx: u32, from: Id, to: Receiver, pages: &[u32]) -> Handle {
     enter(machine, from);
     let ranges: Vec<PageRange> = pages.iter().map(|page| PageRange::new(at(*page).into(), 1)).collect();
     machine.send(&Offer::new(Kind::Lend, from, &[to], &ranges), at(tx).into(), FORM).unwrap().handle().unwrap()
 }
 
-fn reclaim(machine: &mut Machine, owner: Id, handle: u64) {
+fn reclaim(machine: &mut Machine, owner: Id, handle: Handle) {
     enter(machine, owner);
     machine.call(&encode(Function::MemReclaim, &[("handle", handle.into())]).unwrap()).done().unwrap();
 }

@@ -11,7 +11,7 @@ const WORLD: Id = Id::NORMAL_WORLD;
 const FIRST: Id = Id(0x8001);
 const SECOND: Id = Id(0x8002);
 const PAGE: u64 = 0x4002_1000;
-const HANDLE: u64 = 0x0000_8001_0000_0001;
+const HANDLE: Handle = Handle(0x0000_8001_0000_0001);
 /// The form of each endpoint but, where that is said, 8001.
 const FORM: Version = Version::V1_1;
 
@@ -95,7 +95,7 @@ const fn flaw(flaw: Flaw) -> DescriptorError {
 }
 
 /// A machine in which a sender has made an offer by these bytes, behind a store to its page; and the offer's handle.
-fn offered(form: Version, offer: &Offer, bytes: &[u8]) -> (Machine, u64) {
+fn offered(form: Version, offer: &Offer, bytes: &[u8]) -> (Machine, Handle) {
     let mut machine = machine(form);
     enter(&mut machine, offer.sender);
     machine.store(offer.ranges[0].address, Size::B1, 0x5A).unwrap();

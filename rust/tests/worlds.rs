@@ -15,7 +15,7 @@ const FIRST: Id = Id(0x8001);
 const FORM: Version = Version::V1_1;
 
 /// What a share of a page by one endpoint with another answers: its handle, or the check that refuses it.
-fn share(machine: &mut Machine, tx: u64, sender: Id, receiver: Id, page: u64) -> Result<u64, (Check, ErrorCode)> {
+fn share(machine: &mut Machine, tx: u64, sender: Id, receiver: Id, page: u64) -> Result<Handle, (Check, ErrorCode)> {
     let (receivers, ranges) = ([Receiver::rw(receiver)], [PageRange::new(page, 1)]);
     match machine.send(&Offer::new(Kind::Share, sender, &receivers, &ranges), tx, FORM) {
         Ok(answer) => Ok(answer.handle().unwrap()),
@@ -56,7 +56,7 @@ fn tells_worlds_apart() {
         share(&mut machine, TX_1, FIRST, Id::NORMAL_WORLD, SECURE),
         Err((Check::WorldsMixed, ErrorCode::Denied))
     );
-    assert_eq!(share(&mut machine, TX_1, FIRST, Id(0x8002), SECURE), Ok(0x0000_8001_0000_0001));
+    assert_eq!(share(&mut machine, TX_1, FIRST, Id(0x8002), SECURE), Ok(Handle(0x0000_8001_0000_0001)));
 }
 
 #[test]
@@ -64,7 +64,7 @@ fn tells_nothing_unasked() {
     let (mut machine, told) = boot(Worlds::One);
     assert!(!told);
     assert_eq!(properties(&mut machine), [0, 0]);
-    assert_eq!(share(&mut machine, TX_1, FIRST, Id::NORMAL_WORLD, SECURE), Ok(0x0000_8001_0000_0001));
+    assert_eq!(share(&mut machine, TX_1, FIRST, Id::NORMAL_WORLD, SECURE), Ok(Handle(0x0000_8001_0000_0001)));
 }
 
 #[test]

@@ -11,7 +11,7 @@ mod memory;
 use core::panic::PanicInfo;
 use core::sync::atomic::{AtomicUsize, Ordering::Relaxed};
 use gorseplumb::{
-    settle_by, Endpoint, Function, Id, Kind, Lent, Machine, Manifest, Offer, Page, PageRange, Properties, Ram,
+    settle_by, Endpoint, Function, Handle, Id, Kind, Lent, Machine, Manifest, Offer, Page, PageRange, Properties, Ram,
     Receiver, Region, Registers, Relinquish, Retrieve, RetrieveResponse, Rights, Settling, Size, Version,
 };
 
@@ -74,7 +74,7 @@ fn done<R: Ram>(machine: &mut Machine<R>, given: Registers) -> Option<()> {
 }
 
 /// The normal world shares a page, and the partition retrieves it. What is there is the handle.
-fn share<R: Ram>(machine: &mut Machine<R>) -> Option<u64> {
+fn share<R: Ram>(machine: &mut Machine<R>) -> Option<Handle> {
     done(machine, Function::RxtxMap.with([TX, TX + 0x1000, 1]))?;
     let (receivers, ranges) = ([Receiver::rw(PARTITION)], [PageRange::new(PAGE, 1)]);
     let offer = Offer::new(Kind::Share, Id::NORMAL_WORLD, &receivers, &ranges);

@@ -1,8 +1,8 @@
 // SPDX-License-Identifier: MIT OR Apache-2.0
 //! Lines of a trace that tell more: `audit`, and why an operation is refused, as `ffaplay run --explain` prints it
 //! (docs/COMMANDS.md, "Reasons").
-use super::{play_line, RAM};
-use gorseplumb::{call_name, registers, About, AccessReason, Fault, Flaw, Machine, Ram, Registers, Size};
+use super::play_line;
+use gorseplumb::{call_name, registers, AccessReason, Fault, Machine, Ram, Registers, Size};
 use std::fmt::Write;
 
 /// A text in which reasons end behind the words of the check, or behind the fault: what is to be mended the program alone tells.
@@ -65,10 +65,8 @@ fn call_reason<R: Ram>(machine: &Machine<R>, given: &Registers) -> Option<String
     let reason = machine.why_call(given)?;
     let function = given[0] as u32;
     let name = call_name(function).map_or_else(String::new, |name| name.to_owned() + " ");
-    let check = reason.check.number_in(function).unwrap();
-    let about = reason.about.map_or_else(String::new, |about| format!(": {}", subject(about, function)));
-    let state = reason.state.map_or_else(String::new, |state| format!(", which {state}"));
-    Some(format!("{name}check {check}: {}{about}{state}", reason.check))
+    assert_eq!(reason.number, reason.check.number_in(function));
+    Some(format!("{name}{reason}"))
 }
 
 /// An address in eight digits, or in sixteen where it has more.
@@ -91,42 +89,6 @@ fn access_reason(reason: AccessReason, address: u64, bytes: u64, done: &str) -> 
     digits(address) + " " + &what
 }
 
-/// Whether a call reads a register whole: addresses and payloads, in its 64-bit form.
-fn is_read_whole(function: u32, register: u32) -> bool {
-    match function {
-        0xC400_0066 => register == 1 || register == 2,
-        0xC400_0071..=0xC400_0074 => register == 3,
-        _ => false,
-    }
-}
-
-fn subject(about: About, function: u32) -> String {
-    let address = |page: u32| RAM + 4096 * u64::from(page);
-    match about {
-        About::Page { page, obstacle: None } => digits(address(page)),
-        About::Page { page, obstacle: Some(obstacle) } => format!("{} {obstacle}", digits(address(page))),
-        About::Register { number, value } => {
-            let letter = if is_read_whole(function, number) { "x" } else { "w" };
-            format!("{letter}{number} is {}", digits(value))
-        }
-        About::Field { flaw, index, first, size, value } => {
-            let index = match flaw.number() {
-                number if number < Flaw::AccessPermissions.number() => String::new(),
-                number if number < Flaw::CompositeOutside.number() => format!("access descriptor {index}: "),
-                number if number < Flaw::RangeEmpty.number() => String::new(),
-                number if number < Flaw::RetrieveAttributes.number() => format!("range {index}: "),
-                _ => String::new(),
-            };
-            let verb = if size <= 1 { "is" } else { "are" };
-            let value = value.map_or_else(String::new, |value| format!(" {verb} {value:0d$X}", d = 2 * size as usize));
-            let last = u128::from(first) + u128::from(size.saturating_sub(1));
-            let place = if size <= 1 { format!("byte {first}") } else { format!("bytes {first} to {last}") };
-            format!("{index}{flaw}: {place}{value}")
-        }
-        other => other.to_string(),
-    }
-}
-
 /// What the program prints of `audit`.
 pub fn audit<R: Ram>(machine: &Machine<R>) -> String {
     let base = u64::from(machine.ram_base());
@@ -138,7 +100,7 @@ pub fn audit<R: Ram>(machine: &Machine<R>) -> String {
     let runs: Vec<_> = machine.certificate().collect();
     for run in &runs {
         let (first, behind) = (base + 4096 * u64::from(run.first()), base + 4096 * (u64::from(run.last()) + 1));
-        let handle = run.transaction().map_or_else(|| "-".into(), |handle| format!("{handle:016X}"));
+        let handle = run.transaction().map_or_else(|| "-".into(), |handle| handle.to_string());
         write!(text, "pages {first:08X} {:08X} {} {handle}", behind - 1, run.owner()).unwrap();
         for place in 0..machine.endpoints().len() {
             text += &run.access(place).map_or_else(|| " ---".into(), |rights| format!(" {rights}"));
