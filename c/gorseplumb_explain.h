@@ -88,6 +88,8 @@ static inline void gorseplumb_put_field(struct gorseplumb_text *text, const stru
     bool is_access = flaw >= GORSEPLUMB_FLAW_ACCESS_PERMISSIONS && flaw <= GORSEPLUMB_FLAW_ACCESS_RECEIVER_TWICE;
     bool is_range = flaw >= GORSEPLUMB_FLAW_RANGE_EMPTY && flaw <= GORSEPLUMB_FLAW_RANGE_OVERLAP;
     bool is_byte = reason->size <= 1;
+    /* Of access descriptors that do not end inside the descriptor the count alone is told, the first half of eight bytes. */
+    uint64_t size = flaw == GORSEPLUMB_FLAW_HEADER_ARRAY_OUTSIDE && reason->size > 4 ? 4 : reason->size;
     if (is_access || is_range) {
         gorseplumb_put(text, is_access ? "access descriptor " : "range ");
         gorseplumb_put_short(text, reason->index);
@@ -98,11 +100,11 @@ static inline void gorseplumb_put_field(struct gorseplumb_text *text, const stru
     gorseplumb_put_short(text, reason->first);
     if (!is_byte) {
         gorseplumb_put(text, " to ");
-        gorseplumb_put_short(text, reason->first + reason->size - 1);
+        gorseplumb_put_short(text, reason->first + size - 1);
     }
     if (reason->has_value == 0) return;
     gorseplumb_put(text, is_byte ? " is " : " are ");
-    gorseplumb_put_hex(text, 2 * reason->size, reason->value);
+    gorseplumb_put_hex(text, 2 * size, reason->value);
 }
 
 /* The run state of an endpoint that is to wait, behind the endpoint. */

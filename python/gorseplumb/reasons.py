@@ -124,11 +124,15 @@ def _state_text(it: Subject) -> str:
 
 def _field_text(it: Subject) -> str:
     words = flaw_text(it.flaw, it.number) if it.flaw is not None else ""
-    if it.size <= 1:
+    size, number = it.size, it.value
+    if it.flaw is Flaw.HEADER_ARRAY_OUTSIDE:
+        # The count alone is told, which is the first half of eight bytes.
+        size, number = min(size, 4), None if number is None else number % 2**32
+    if size <= 1:
         place, verb = f"byte {short_text(it.first)}", "is"
     else:
-        place, verb = f"bytes {short_text(it.first)} to {short_text(it.first + it.size - 1)}", "are"
-    value = f" {verb} {it.value:0{2 * it.size}X}" if it.value is not None else ""
+        place, verb = f"bytes {short_text(it.first)} to {short_text(it.first + size - 1)}", "are"
+    value = f" {verb} {number:0{2 * size}X}" if number is not None else ""
     return f"{words}: {place}{value}"
 
 

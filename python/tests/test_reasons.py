@@ -43,6 +43,10 @@ def test_has_the_programs_words() -> None:
     field = Subject(About.FIELD, number=10, flaw=Flaw.RANGE_RESERVED, value=1, first=252, size=8)
     told = "range 0A: its reserved bytes are not 0: bytes FC to 0103 are 0000000000000001"
     assert refused(lend, Check.DESCRIPTOR_MALFORMED, 6, field).endswith(told)
+    # Where they begin stands in the high half of the same eight bytes.
+    field = Subject(About.FIELD, number=0, flaw=Flaw.HEADER_ARRAY_OUTSIDE, value=0x3000000005, first=28, size=8)
+    told = ": the access descriptors do not end inside the descriptor: bytes 1C to 1F are 00000005"
+    assert refused(lend, Check.DESCRIPTOR_MALFORMED, 6, field).endswith(told)
     unknown = Call((0x8400008F,))
     w0 = Subject(About.REGISTER, number=0, value=0x8400008F)
     assert refused(unknown, Check.FUNCTION_UNKNOWN, 1, w0) == "check 1: no such function is served: w0 is 8400008F"

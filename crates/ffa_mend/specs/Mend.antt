@@ -1,11 +1,13 @@
 -- SPDX-License-Identifier: MIT OR Apache-2.0
--- What is to be mended where an operation is refused: a buffer, a right, a value that is wanted, or which of two causes it has.
-use Rattle.std.specs.Prelude.{ℕ, ◌+◌, ◌*◌, ◌&&◌, not, is_none, is_some, find, length, nat_le, nat_lt, List, Option, Some, None, if◌then◌else◌}
+-- What is to be mended where an operation is refused: a buffer, a right, a value that is wanted, what the caller
+-- works on, or which of two causes it has.
+use Rattle.std.specs.Prelude.{ℕ, ◌+◌, ◌*◌, ◌%◌, ◌==◌, ◌&&◌, ◌||◌, Bool, not, is_none, is_some, find, length, nat_le, nat_lt, List, Option, Some, None, if◌then◌else◌}
 use Rattle.std.specs.Option.{option_and_then, option_map}
 use Rattle.ffa_model.specs.declared.call.Call.{Call}
 use Rattle.ffa_model.specs.declared.call.Call.TheVariants as calls
 use Rattle.ffa_model.specs.declared.call.Transfer.{Transfer}
 use Rattle.ffa_model.specs.declared.descriptor.RetrieveDesc.{RetrieveDesc}
+use Rattle.ffa_model.specs.declared.endpoint.Region.{Region}
 use Rattle.ffa_model.specs.declared.flaw.Flaw.{Flaw}
 use Rattle.ffa_model.specs.declared.flaw.Flaw.TheVariants.{Header}
 use Rattle.ffa_model.specs.declared.flaw.HeaderFlaw.{HeaderFlaw}
@@ -15,10 +17,12 @@ use Rattle.ffa_model.specs.declared.operation.FaultKind.TheVariants.{Permission}
 use Rattle.ffa_model.specs.declared.operation.Op.{Op}
 use Rattle.ffa_model.specs.declared.operation.Op.TheVariants.{Call as Calls, Load, Store, Fetch}
 use Rattle.ffa_model.specs.declared.refusal.Refusal.{Refusal}
-use Rattle.ffa_model.specs.declared.refusal.Refusal.TheVariants.{SenderIsAnother, ReceiverIsAnother, TxUnusable, RxUnusable, RxEmpty, FlagsReserved, HeaderReserved, MessageInHeader, MessageEmpty, MessageTooLong, AnswerMisdirected, ReceiverRxSmall, BitsTaken, BitsNotTheSenders, DescriptorTooLong, RangeOutside, PageUnsendable, GrantTooMuch, ZerosUnwritable, TransactionSenderDiffers, TagDiffers, KindDiffers, RightTooMuch, EndpointIsAnother, NotOffered, ZerosNotAllowed, NotTheSenders}
+use Rattle.ffa_model.specs.declared.refusal.Refusal.TheVariants.{SenderIsAnother, ReceiverIsAnother, BitmapsMissing, BitsPending, WorldsMixed, StillHeld, TxMisplaced, RxMisplaced, TxUnusable, RxUnusable, RxEmpty, FlagsReserved, HeaderReserved, MessageInHeader, MessageEmpty, MessageTooLong, AnswerMisdirected, NoRequest, NotRun, NobodyToYieldTo, ReceiverRxSmall, BitsTaken, BitsNotTheSenders, DescriptorTooLong, RangeOutside, PageUnsendable, GrantTooMuch, ZerosUnwritable, TransactionSenderDiffers, TagDiffers, KindDiffers, RightTooMuch, EndpointIsAnother, NotOffered, ZerosNotAllowed, NotTheSenders}
 use Rattle.ffa_model.specs.declared.rights.Kind.{Kind as SendKind}
 use Rattle.ffa_model.specs.declared.rights.Kind.TheVariants.{Share, Lend, Donate}
+use Rattle.ffa_model.specs.declared.schedule.Work.{Work}
 use Rattle.ffa_model.specs.declared.transaction.Range.{Range}
+use Rattle.ffa_model.specs.declared.transaction.Receiver.{Receiver}
 use Rattle.ffa_model.specs.declared.why.About.{About}
 use Rattle.ffa_model.specs.declared.why.About.TheVariants as abouts
 use Rattle.ffa_model.specs.declared.why.Obstacle.{Obstacle}
@@ -30,12 +34,12 @@ use Rattle.ffa_model.specs.Bits.{word_of_two}
 use Rattle.ffa_model.specs.Buffers.{room_of}
 use Rattle.ffa_model.specs.Calls.{first_refusal}
 use Rattle.ffa_model.specs.DescriptorPlaces.{Versioned}
-use Rattle.ffa_model.specs.Lists.{is_in_run}
+use Rattle.ffa_model.specs.Lists.{is_in_run, listed}
 use Rattle.ffa_model.specs.Memory.{access_at}
 use Rattle.ffa_model.specs.MemoryRetrieve.{right_for}
-use Rattle.ffa_model.specs.MemorySend.{descriptor_in, is_inside, send_read, transfer_guards}
+use Rattle.ffa_model.specs.MemorySend.{are_secure, descriptor_in, is_inside, send_read, transfer_guards}
 use Rattle.ffa_model.specs.Messages.{MessageHeader, header_in, tx_bytes}
-use Rattle.ffa_model.specs.Notifications.{Notifications, class_of, is_pending, notifications_of}
+use Rattle.ffa_model.specs.Notifications.{Notifications, class_of, is_pending, manager_class, normal_class, notifications_of, partition_class}
 use Rattle.ffa_model.specs.Registers.{decode}
 use Rattle.ffa_model.specs.RetrieveDescriptor.{retrieve_of}
 use Rattle.ffa_model.specs.Rights.{is_lend}
@@ -45,9 +49,9 @@ use Rattle.ffa_model.specs.State.{State, Buffers, Transaction, buffers_of, is_kn
 use Rattle.ffa_model.specs.Transactions.{ceiling}
 use Rattle.ffa_model.specs.Why.{why}
 use Rattle.ffa_mend.specs.declared.Cause.{Cause}
-use Rattle.ffa_mend.specs.declared.Cause.TheVariants.{BuffersMissing, RxNotFull, BitPending, BitTaken, BitUnbound, HandleUnknown, NotReceiver, NotLent}
+use Rattle.ffa_mend.specs.declared.Cause.TheVariants.{BuffersMissing, RxNotFull, BitPending, BitTaken, BitUnbound, HandleUnknown, NotReceiver, NotLent, BitmapsUncreated, NotificationsUnreceived, SecureToNormal, PagesOfBothWorlds}
 use Rattle.ffa_mend.specs.declared.Mend.{Mend}
-use Rattle.ffa_mend.specs.declared.Mend.TheVariants.{Buffer, OwnRight, Granted, Access, Caller, Sender, Tag, Kind, Asked, Held, Room, Wanted, Form, Word, Message, Outside, Cause as Because}
+use Rattle.ffa_mend.specs.declared.Mend.TheVariants.{Buffer, OwnRight, Granted, Access, Caller, Sender, Tag, Kind, Asked, Held, Room, Wanted, Form, Word, Message, Outside, Holder, Works, Pending, Cause as Because}
 use Rattle.ffa_mend.specs.declared.Side.{Side}
 use Rattle.ffa_mend.specs.declared.Side.TheVariants.{Tx, Rx}
 
@@ -58,21 +62,6 @@ side_of p b = if is_in_run b.tx b.pages p then Some Tx else if is_in_run b.rx b.
 
 abbrev pub in_buffer : Identifier → Option Buffers → PageIndex → Option Mend
 in_buffer e own p = option_map (Buffer (record { 0 = e })) (option_and_then (side_of p) own)
-
--- of a page of the runner's own that stands in no open transaction, its buffer or its own right; and of another page its own
--- right where that is too little for zeros. What is granted and is more than an own right is rw
-abbrev pub mend_own_page : State → Refusal → PageIndex → Option Mend
-mend_own_page s PageUnsendable p = in_buffer s.runner (buffers_of s s.runner) p
-mend_own_page s TxUnusable p = option_map OwnRight (own_right_of s p)
-mend_own_page s RxUnusable p = option_map OwnRight (own_right_of s p)
-mend_own_page s GrantTooMuch p = option_map Granted (own_right_of s p)
-mend_own_page s ZerosUnwritable p = option_map OwnRight (own_right_of s p)
-mend_own_page s refusal p = None
-
-abbrev pub mend_page : State → Refusal → PageIndex → Option Obstacle → Option Mend
-mend_page s refusal p None = mend_own_page s refusal p
-mend_page s ZerosUnwritable p (Some obstacle) = option_map OwnRight (own_right_of s p)
-mend_page s refusal p (Some obstacle) = None
 
 -- OPEN TRANSACTIONS
 -- what e may mend of a transaction with a handle, which is open or isn't
@@ -88,10 +77,17 @@ abbrev pub mend_zeros : Identifier → Option Transaction → Option Mend
 mend_zeros e None = None
 mend_zeros e (Some t) = if is_lend t.kind then option_map Held (held_by t e) else Some (Because NotLent)
 
+-- the first receiver that holds it
+abbrev pub mend_held : Option Transaction → Option Mend
+mend_held None = None
+mend_held (Some t) =
+    option_map (λ (r : Receiver). Holder r.endpoint) (find (λ (r : Receiver). is_some (held_by t r.endpoint.0)) t.receivers)
+
 abbrev pub mend_return : Identifier → Refusal → Option Transaction → Option Mend
 mend_return e NotOffered t = mend_offered t
 mend_return e NotTheSenders t = mend_sent t
 mend_return e ZerosNotAllowed t = mend_zeros e t
+mend_return e StillHeld t = mend_held t
 mend_return e refusal t = None
 
 -- what e names of a transaction in a retrieve, and what the transaction has
@@ -123,16 +119,39 @@ outside_of ram range =
 abbrev pub first_outside : Ownership → List Range → Option ℕ
 first_outside ram ranges = option_map (outside_of ram) (find (λ range. not (is_inside ram range)) ranges)
 
-abbrev pub mend_offer : Ownership → Refusal → SendRecord → Option Mend
-mend_offer ram RangeOutside send = option_map Outside (first_outside ram send.ranges)
-mend_offer ram refusal send = None
+-- why pages are not of one world: all are secure, and go to the normal world; or only some are secure
+abbrev pub mixed : Ownership → Option (List Region) → List Range → Cause
+mixed ram normal ranges = if are_secure ram normal ranges then SecureToNormal else PagesOfBothWorlds
+
+abbrev pub mend_offer : Ownership → Option (List Region) → Refusal → SendRecord → Option Mend
+mend_offer ram normal RangeOutside send = option_map Outside (first_outside ram send.ranges)
+mend_offer ram normal WorldsMixed send = Some (Because (mixed ram normal send.ranges))
+mend_offer ram normal refusal send = None
 
 -- of the descriptor that stands whole in TX of e
-abbrev pub mend_send : List (Option Buffers) → Ownership → Identifier → Transfer → Option SendRecord → Refusal → Option Mend
-mend_send buffers ram e transfer send refusal =
+abbrev pub mend_send : List (Option Buffers) → Ownership → Option (List Region) → Identifier → Transfer → Option SendRecord
+    → Refusal → Option Mend
+mend_send buffers ram normal e transfer send refusal =
     if is_none (first_refusal (transfer_guards buffers e transfer))
-    then option_and_then (mend_offer ram refusal) send
+    then option_and_then (mend_offer ram normal refusal) send
     else None
+
+-- BUFFERS
+-- of a buffer that begins at a page, and doesn't lie in RAM, the first page that doesn't
+abbrev pub mend_buffer : Ownership → Range → Option Mend
+mend_buffer ram buffer =
+    if buffer.address % 4096 == 0 && not (is_inside ram buffer) then Some (Outside (outside_of ram buffer)) else None
+
+abbrev pub mend_map : Ownership → ℕ → ℕ → ℕ → Refusal → Option Mend
+mend_map ram tx rx pages TxMisplaced = mend_buffer ram (record { address = tx; pages = pages })
+mend_map ram tx rx pages RxMisplaced = mend_buffer ram (record { address = rx; pages = pages })
+mend_map ram tx rx pages refusal = None
+
+-- RUN STATES
+-- what e works on; nobody gives the normal world work
+abbrev pub mend_work : Identifier → Option Work → Mend
+mend_work e None = Caller (record { 0 = e })
+mend_work e (Some work) = Works work
 
 -- MESSAGES
 -- a word of the header of a message, or where the message ends, in a buffer of so many bytes
@@ -174,6 +193,18 @@ mend_bits endpoints n e (calls.NotificationBind its) refusal bit = mend_bind end
 mend_bits endpoints n e (calls.NotificationUnbind its) refusal bit = mend_unbind endpoints n e its.sender.0 bit refusal
 mend_bits endpoints n e call refusal bit = None
 
+-- the least bit of e that is pending, in whichever class
+abbrev pub is_pending_in_any : Notifications → Identifier → Bit → Bool
+is_pending_in_any n e k =
+    (is_pending n e partition_class k || is_pending n e normal_class k) || is_pending n e manager_class k
+
+abbrev pub mend_pending : Notifications → Identifier → Option Mend
+mend_pending n e = option_map (λ (k : ℕ). Pending k) (find (is_pending_in_any n e) (listed 64 (λ k. k)))
+
+-- how e, which has no bitmaps, gets them
+abbrev pub mend_bitmaps : Identifier → Mend
+mend_bitmaps e = Because (if e == 0 then BitmapsUncreated else NotificationsUnreceived)
+
 -- ON A STATE
 abbrev pub mend_retrieved : State → Call → Refusal → Option Mend
 mend_retrieved s (calls.MemRetrieve transfer) refusal =
@@ -192,11 +223,15 @@ abbrev pub mend_handle : State → Call → Refusal → HandleNumber → Option 
 mend_handle s (calls.MemRetrieve transfer) refusal h = mend_retrieved s (calls.MemRetrieve transfer) refusal
 mend_handle s call refusal h = mend_return s.runner refusal (transaction_of s h)
 
--- a descriptor that is longer than TX, and a response to another than who asked
-abbrev pub mend_register : State → Refusal → Option Mend
-mend_register s DescriptorTooLong = Some (Room (room_of (buffers_of s s.runner)))
-mend_register s AnswerMisdirected = mend_response s.runner (requester (work_in (schedule_of s) s.runner))
-mend_register s refusal = None
+-- a descriptor that is longer than TX, and a response to another than who asked; and a buffer outside RAM
+abbrev pub mend_word : State → Refusal → Option Mend
+mend_word s DescriptorTooLong = Some (Room (room_of (buffers_of s s.runner)))
+mend_word s AnswerMisdirected = mend_response s.runner (requester (work_in (schedule_of s) s.runner))
+mend_word s refusal = None
+
+abbrev pub mend_register : State → Call → Refusal → Option Mend
+mend_register s (calls.RxtxMap tx rx pages) refusal = mend_map (ownership_of s) tx rx pages refusal
+mend_register s call refusal = mend_word s refusal
 
 -- a header in another form than the caller's
 abbrev pub mend_form : State → HeaderFlaw → Option Mend
@@ -207,33 +242,56 @@ abbrev pub mend_field : State → Flaw → Option Mend
 mend_field s (Header flaw) = mend_form s flaw
 mend_field s flaw = None
 
--- a check that is about nothing: an RX that can't be released, a message, and the ranges of an offer
-abbrev pub mend_release : State → Refusal → Option Mend
-mend_release s RxEmpty = Some (Because (if is_some (buffers_of s s.runner) then RxNotFull else BuffersMissing))
-mend_release s refusal = None
+-- a check that is about nothing: an RX that can't be released, what the runner works on, its bitmaps, a message, and the
+-- ranges of an offer
+abbrev pub mend_runner : State → Refusal → Option Mend
+mend_runner s RxEmpty = Some (Because (if is_some (buffers_of s s.runner) then RxNotFull else BuffersMissing))
+mend_runner s NoRequest = Some (mend_work s.runner (work_in (schedule_of s) s.runner))
+mend_runner s NotRun = Some (mend_work s.runner (work_in (schedule_of s) s.runner))
+mend_runner s NobodyToYieldTo = Some (mend_work s.runner (work_in (schedule_of s) s.runner))
+mend_runner s BitmapsMissing = Some (mend_bitmaps s.runner)
+mend_runner s BitsPending = mend_pending (notifications_of s) s.runner
+mend_runner s refusal = None
 
 abbrev pub mend_sent_message : State → Refusal → Option Mend
 mend_sent_message s refusal = mend_message (buffers_of s s.runner) (header_in (tx_bytes s s.runner)) refusal
 
 abbrev pub mend_offered_by : State → SendKind → Transfer → Refusal → Option Mend
 mend_offered_by s kind transfer refusal =
-    mend_send s.buffers (ownership_of s) s.runner transfer (send_read s kind transfer.total) refusal
+    mend_send s.buffers (ownership_of s) s.normal s.runner transfer (send_read s kind transfer.total) refusal
 
 abbrev pub mend_bare : State → Call → Refusal → Option Mend
 mend_bare s calls.MsgSend2 refusal = mend_sent_message s refusal
 mend_bare s (calls.MemDonate transfer) refusal = mend_offered_by s Donate transfer refusal
 mend_bare s (calls.MemLend transfer) refusal = mend_offered_by s Lend transfer refusal
 mend_bare s (calls.MemShare transfer) refusal = mend_offered_by s Share transfer refusal
-mend_bare s call refusal = mend_release s refusal
+mend_bare s call refusal = mend_runner s refusal
+
+-- of a page of the runner's own that stands in no open transaction, its buffer or its own right; and of another page its own
+-- right where that is too little for zeros. What is granted and is more than an own right is rw.
+-- Where worlds are mixed it is told of all pages of the offer
+abbrev pub mend_own_page : State → Call → Refusal → PageIndex → Option Mend
+mend_own_page s call PageUnsendable p = in_buffer s.runner (buffers_of s s.runner) p
+mend_own_page s call TxUnusable p = option_map OwnRight (own_right_of s p)
+mend_own_page s call RxUnusable p = option_map OwnRight (own_right_of s p)
+mend_own_page s call GrantTooMuch p = option_map Granted (own_right_of s p)
+mend_own_page s call ZerosUnwritable p = option_map OwnRight (own_right_of s p)
+mend_own_page s call WorldsMixed p = mend_bare s call WorldsMixed
+mend_own_page s call refusal p = None
+
+abbrev pub mend_page : State → Call → Refusal → PageIndex → Option Obstacle → Option Mend
+mend_page s call refusal p None = mend_own_page s call refusal p
+mend_page s call ZerosUnwritable p (Some obstacle) = option_map OwnRight (own_right_of s p)
+mend_page s call refusal p (Some obstacle) = None
 
 -- a check of a call that fails, by what it is about
 abbrev pub mend_check : State → Call → Refusal → Option About → Option Mend
-mend_check s call refusal (Some (abouts.Page page obstacle)) = mend_page s refusal page.0 obstacle
+mend_check s call refusal (Some (abouts.Page page obstacle)) = mend_page s call refusal page.0 obstacle
 mend_check s call refusal (Some (abouts.Endpoint e)) = mend_endpoint s call refusal e.0
 mend_check s call refusal (Some (abouts.Handle h)) = mend_handle s call refusal h
 mend_check s call refusal (Some (abouts.Bit k)) =
     mend_bits (length s.parties) (notifications_of s) s.runner call refusal k
-mend_check s call refusal (Some (abouts.Register number value)) = mend_register s refusal
+mend_check s call refusal (Some (abouts.Register number value)) = mend_register s call refusal
 mend_check s call refusal (Some (abouts.Field flaw place value)) = mend_field s flaw
 mend_check s call refusal None = mend_bare s call refusal
 

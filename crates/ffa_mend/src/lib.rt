@@ -3,7 +3,7 @@
 //! diagnostics alone, and no call is done by it.
 #![tactic(auto)]
 
-use ffa_model::{EndpointId, Kind, Rights, Version};
+use ffa_model::{EndpointId, Kind, Rights, Version, Work};
 
 /// What a machine tells of an operation that is refused, beside why it is.
 #[derive(Clone, Copy)]
@@ -63,8 +63,14 @@ pub enum Mend {
         size: u32,
         room: u64,
     },
-    /// The address of the first page of a range that isn't a page of RAM.
+    /// The address of the first page of a range or a buffer that isn't a page of RAM.
     Outside(u64),
+    /// The first receiver that holds the transaction.
+    Holder(EndpointId),
+    /// What the caller works on.
+    Works(Work),
+    /// The least bit that is pending.
+    Pending(u32),
     /// Which of two causes the check has.
     Cause(Cause),
 }
@@ -95,4 +101,12 @@ pub enum Cause {
     NotReceiver,
     /// The transaction is no lend.
     NotLent,
+    /// The normal world has made no bitmaps.
+    BitmapsUncreated,
+    /// The manifest gives the partition no notifications.
+    NotificationsUnreceived,
+    /// All pages are secure, and the normal world is a receiver.
+    SecureToNormal,
+    /// Some pages are secure, and some are not.
+    PagesOfBothWorlds,
 }

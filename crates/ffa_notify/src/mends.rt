@@ -1,9 +1,13 @@
 // SPDX-License-Identifier: MIT OR Apache-2.0
-//! Which of two causes keeps a bit from a sender. Only who asks what is to be mended where a call was refused asks this: no call does.
-ghost use Rattle.std.specs.Prelude.{◌≡◌, ◌<◌, true, length};
+//! Which of two causes keeps a bit from a sender, and which bit is pending. Only who asks what is to be mended where a call was
+//! refused asks this: no call does.
+ghost use Rattle.std.specs.Prelude.{◌≡◌, ◌<◌, ℕ, true, find, length};
+ghost use Rattle.std.specs.Option.{option_map};
+ghost use Rattle.ffa_model.specs.Bits.{is_set};
+ghost use Rattle.ffa_model.specs.Lists.{listed};
 ghost use Rattle.ffa_model.specs.Notifications.{class_of, is_pending};
 ghost use Rattle.ffa_model.specs.State.{is_known_among};
-ghost use Rattle.ffa_mend.specs.Mend.{mend_bind, mend_bit, mend_bits, mend_unbind};
+ghost use Rattle.ffa_mend.specs.Mend.{is_pending_in_any, mend_bind, mend_bit, mend_bits, mend_pending, mend_unbind};
 
 use crate::bitmaps::Bitmaps;
 use crate::class::Class;
@@ -93,4 +97,32 @@ impl Bitmaps {
     {
         self.pending(receiver, Class::of(sender)) >> bit & 1 == 1
     }
+    /// The least bit of a receiver that is pending, in whichever class.
+    pub fn mend_pending(&self, receiver: EndpointId) -> Option<Mend>
+        requires { is_known_among (length self.now.bitmaps) receiver.0 ≡ true }
+        ensures { result ≡ mend_pending self.now receiver.0 }
+    {
+        least_of(self.pending_in_any(receiver))
+    }
+
+    // The bits of a receiver that are pending, in whichever class.
+    fn pending_in_any(&self, receiver: EndpointId) -> u64
+        requires { is_known_among (length self.now.bitmaps) receiver.0 ≡ true }
+        ensures { (k : ℕ) → k < 64 → is_set k result ≡ is_pending_in_any self.now receiver.0 k }
+    {
+        let partitions = self.pending(receiver, Class::Partitions);
+        let normal_world = self.pending(receiver, Class::NormalWorld);
+        let manager = self.pending(receiver, Class::Manager);
+        partitions | normal_world | manager
+    }
+}
+
+// The least bit that is set.
+fn least_of(bits: u64) -> Option<Mend>
+    ensures { result ≡ option_map (λ (k : ℕ). Mend.Pending k) (find (λ k. is_set k bits) (listed 64 (λ k. k))) }
+{
+    if bits == 0 {
+        return None;
+    }
+    Some(Mend::Pending(bits.trailing_zeros()))
 }

@@ -5,22 +5,25 @@ ghost use Rattle.std.specs.Option.{option_map};
 ghost use Rattle.ffa_model.specs.Access.{access, ownership_of};
 ghost use Rattle.ffa_model.specs.Buffers.{room_of};
 ghost use Rattle.ffa_model.specs.Lists.{is_in_run};
-ghost use Rattle.ffa_model.specs.MemorySend.{descriptor_in};
+ghost use Rattle.ffa_model.specs.MemorySend.{descriptor_in, is_inside};
 ghost use Rattle.ffa_model.specs.Notifications.{notifications_of};
 ghost use Rattle.ffa_model.specs.RunStates.{requester, schedule_of, work_in};
 ghost use Rattle.ffa_model.specs.State.{buffers_of, own_right_of, transaction_of};
-ghost use Rattle.ffa_mend.specs.Mend.{in_buffer, mend_access, mend_asked, mend_bare, mend_bits, mend_check, mend_endpoint, mend_fault, mend_field, mend_form, mend_handle, mend_offered_by, mend_own_page, mend_page, mend_register, mend_release, mend_response, mend_retrieved, mend_return, mend_sent_message, side_of};
+ghost use Rattle.ffa_mend.specs.Mend.{in_buffer, mend_access, mend_asked, mend_bare, mend_bitmaps, mend_bits, mend_buffer, mend_check, mend_endpoint, mend_fault, mend_field, mend_form, mend_handle, mend_map, mend_offered_by, mend_own_page, mend_page, mend_pending, mend_register, mend_response, mend_retrieved, mend_return, mend_runner, mend_sent_message, mend_word, mend_work, outside_of, side_of};
+ghost use Rattle.ffa_rxtx.specs.Parts.{ownership_in};
 ghost use Rattle.ffa_rxtx.specs.Stored as kept;
 
 use crate::reasons::Reasons;
 use ffa_memshare::DescriptorCall;
 use ffa_mend::{Cause, Mend, Side};
 use ffa_model::{
-    About, Call, EndpointId, FaultKind, Flaw, HeaderFlaw, Kind, Obstacle, PageNo, Refusal, Rights,
-    Transfer,
+    About, Address, Call, EndpointId, FaultKind, Flaw, HeaderFlaw, Kind, Obstacle, PageNo, Range,
+    Refusal, Rights, Room, Transfer,
 };
+use ffa_pages::{KeptPage, PageTable};
 use ffa_physmem::PhysMem;
 use ffa_rxtx::Mapped;
+use ffa_schedule::Chain;
 use ffa_spmc::Store;
 use ffa_tlb::Translations;
 
@@ -35,11 +38,11 @@ impl<M: PhysMem + Drop, T: Translations + Drop, S: Store> Reasons<'_, M, T, S> {
         ensures { result ≡ mend_check self.now call refusal about }
     {
         match about {
-            Some(About::Page { page, obstacle }) => self.mend_page(refusal, page, obstacle),
+            Some(About::Page { page, obstacle }) => self.mend_page(call, refusal, page, obstacle),
             Some(About::Endpoint(endpoint)) => self.mend_endpoint(call, refusal, endpoint),
             Some(About::Handle(handle)) => self.mend_handle(call, refusal, handle),
             Some(About::Bit(bit)) => self.mend_bits(&call, refusal, bit),
-            Some(About::Register { .. }) => self.mend_register(refusal),
+            Some(About::Register { .. }) => self.mend_register(call, refusal),
             Some(About::Field { flaw, .. }) => self.mend_field(flaw),
             None => self.mend_bare(call, refusal),
         }
@@ -70,11 +73,17 @@ impl<M: PhysMem + Drop, T: Translations + Drop, S: Store> Reasons<'_, M, T, S> {
     }
 
     // Of a page.
-    fn mend_page(&self, refusal: Refusal, page: PageNo, obstacle: Option<Obstacle>) -> Option<Mend>
-        ensures { result ≡ mend_page self.now refusal page.0 obstacle }
+    fn mend_page(
+        &self,
+        call: Call,
+        refusal: Refusal,
+        page: PageNo,
+        obstacle: Option<Obstacle>,
+    ) -> Option<Mend>
+        ensures { result ≡ mend_page self.now call refusal page.0 obstacle }
     {
         if obstacle.is_none() {
-            return self.mend_own_page(refusal, page);
+            return self.mend_own_page(call, refusal, page);
         }
         match refusal {
             Refusal::ZerosUnwritable => self.mend_right(page),
@@ -83,8 +92,8 @@ impl<M: PhysMem + Drop, T: Translations + Drop, S: Store> Reasons<'_, M, T, S> {
     }
 
     // Of a page of the runner's own that stands in no open transaction.
-    fn mend_own_page(&self, refusal: Refusal, page: PageNo) -> Option<Mend>
-        ensures { result ≡ mend_own_page self.now refusal page.0 }
+    fn mend_own_page(&self, call: Call, refusal: Refusal, page: PageNo) -> Option<Mend>
+        ensures { result ≡ mend_own_page self.now call refusal page.0 }
     {
         match refusal {
             Refusal::PageUnsendable => {
@@ -95,6 +104,7 @@ impl<M: PhysMem + Drop, T: Translations + Drop, S: Store> Reasons<'_, M, T, S> {
             Refusal::TxUnusable | Refusal::RxUnusable | Refusal::ZerosUnwritable => {
                 self.mend_right(page)
             }
+            Refusal::WorldsMixed => self.mend_bare(call, refusal),
             _ => None,
         }
     }
@@ -143,8 +153,26 @@ impl<M: PhysMem + Drop, T: Translations + Drop, S: Store> Reasons<'_, M, T, S> {
     }
 
     // Of a register.
-    fn mend_register(&self, refusal: Refusal) -> Option<Mend>
-        ensures { result ≡ mend_register self.now refusal }
+    fn mend_register(&self, call: Call, refusal: Refusal) -> Option<Mend>
+        ensures { result ≡ mend_register self.now call refusal }
+    {
+        match call {
+            Call::RxtxMap { tx, rx, pages } => self.mend_map(tx, rx, pages, refusal),
+            _ => self.mend_word(refusal),
+        }
+    }
+
+    // Of the buffers of FFA_RXTX_MAP.
+    fn mend_map(&self, tx: u64, rx: u64, pages: u32, refusal: Refusal) -> Option<Mend>
+        ensures { result ≡ mend_map (ownership_of self.now) tx rx pages refusal }
+    {
+        let base = self.parts.records.manifest.ram_base;
+        mend_map(self.parts.pages, base, tx, rx, pages, refusal)
+    }
+
+    // Of other registers.
+    fn mend_word(&self, refusal: Refusal) -> Option<Mend>
+        ensures { result ≡ mend_word self.now refusal }
     {
         match refusal {
             Refusal::DescriptorTooLong => Some(Mend::Room(room_of(self.buffers_of(self.runner())))),
@@ -193,7 +221,7 @@ impl<M: PhysMem + Drop, T: Translations + Drop, S: Store> Reasons<'_, M, T, S> {
             Call::MemDonate(transfer) => self.mend_offer(Kind::Donate, transfer, refusal),
             Call::MemLend(transfer) => self.mend_offer(Kind::Lend, transfer, refusal),
             Call::MemShare(transfer) => self.mend_offer(Kind::Share, transfer, refusal),
-            _ => self.mend_release(refusal),
+            _ => self.mend_runner(refusal),
         }
     }
 
@@ -211,15 +239,15 @@ impl<M: PhysMem + Drop, T: Translations + Drop, S: Store> Reasons<'_, M, T, S> {
     {
         let version = self.version();
         let call = DescriptorCall { transfer, version };
-        let base = self.parts.records.manifest.ram_base;
+        let layout = &self.parts.records.layout;
         let runner = self.parts.chain.runner();
         let (ram, pages, buffers) = (self.parts.ram, self.parts.pages, self.parts.buffers);
-        ffa_memshare::mend_send(ram, base, pages, buffers, runner, kind, &call, refusal)
+        ffa_memshare::mend_send(ram, layout, pages, buffers, runner, kind, &call, refusal)
     }
 
-    // Of an RX that can't be released.
-    fn mend_release(&self, refusal: Refusal) -> Option<Mend>
-        ensures { result ≡ mend_release self.now refusal }
+    // Of the runner: its RX, what it works on, and its bitmaps.
+    fn mend_runner(&self, refusal: Refusal) -> Option<Mend>
+        ensures { result ≡ mend_runner self.now refusal }
     {
         match refusal {
             Refusal::RxEmpty => Some(Mend::Cause(if self.buffers_of(self.runner()).is_some() {
@@ -227,8 +255,28 @@ impl<M: PhysMem + Drop, T: Translations + Drop, S: Store> Reasons<'_, M, T, S> {
             } else {
                 Cause::BuffersMissing
             })),
+            Refusal::NoRequest | Refusal::NotRun | Refusal::NobodyToYieldTo => {
+                Some(self.mend_work())
+            }
+            Refusal::BitmapsMissing => Some(mend_bitmaps(self.runner())),
+            Refusal::BitsPending => self.mend_pending(),
             _ => None,
         }
+    }
+
+    // What the runner works on.
+    fn mend_work(&self) -> Mend
+        ensures { let s = self.now in result ≡ mend_work s.runner (work_in (schedule_of s) s.runner) }
+    {
+        mend_work(self.parts.chain)
+    }
+
+    // The least bit of the runner that is pending.
+    fn mend_pending(&self) -> Option<Mend>
+        ensures { result ≡ mend_pending (notifications_of self.now) self.now.runner }
+    {
+        let runner = self.parts.chain.runner();
+        self.parts.records.bitmaps.mend_pending(runner)
     }
 
     // Of what FFA_MEM_RETRIEVE_REQ names in its descriptor.
@@ -292,6 +340,84 @@ impl<M: PhysMem + Drop, T: Translations + Drop, S: Store> Reasons<'_, M, T, S> {
             None
         }
     }
+}
+
+// Of the buffers of so many pages that begin at these addresses, where the RAM begins at `base`.
+fn mend_map<P: Room<KeptPage> + Drop>(
+    owners: &PageTable<P>,
+    base: Address,
+    tx: u64,
+    rx: u64,
+    pages: u32,
+    refusal: Refusal,
+) -> Option<Mend>
+    ensures { result ≡ mend_map (ownership_in owners.now base.0) tx rx pages refusal }
+{
+    match refusal {
+        Refusal::TxMisplaced => mend_buffer(owners, base, Range { address: tx, pages }),
+        Refusal::RxMisplaced => mend_buffer(owners, base, Range { address: rx, pages }),
+        _ => None,
+    }
+}
+
+// Of a buffer that begins at a page, and doesn't lie in RAM, the first page that doesn't.
+fn mend_buffer<P: Room<KeptPage> + Drop>(
+    owners: &PageTable<P>,
+    base: Address,
+    buffer: Range,
+) -> Option<Mend>
+    ensures { result ≡ mend_buffer (ownership_in owners.now base.0) buffer }
+{
+    if buffer.address % 4096 != 0 || is_inside(owners, base, buffer) {
+        None
+    } else {
+        Some(Mend::Outside(outside_of(owners, base, buffer)))
+    }
+}
+
+// Whether a range lies in RAM.
+fn is_inside<P: Room<KeptPage> + Drop>(owners: &PageTable<P>, base: Address, range: Range) -> bool
+    ensures { result ≡ is_inside (ownership_in owners.now base.0) range }
+{
+    let start = u64::from(base.0);
+    let end = start + 4096 * u64::from(owners.pages());
+    let behind = u128::from(range.address) + 4096 * u128::from(range.pages);
+    start <= range.address && behind <= u128::from(end)
+}
+
+// The first page outside RAM of a range that doesn't lie in it.
+fn outside_of<P: Room<KeptPage> + Drop>(owners: &PageTable<P>, base: Address, range: Range) -> u64
+    ensures { result ≡ outside_of (ownership_in owners.now base.0) range }
+{
+    let start = u64::from(base.0);
+    let end = start + 4096 * u64::from(owners.pages());
+    if start <= range.address && range.address < end {
+        end
+    } else {
+        range.address
+    }
+}
+
+// What the runner works on.
+fn mend_work(chain: &Chain) -> Mend
+    ensures { result ≡ mend_work chain.now.runner (work_in chain.now chain.now.runner) }
+{
+    let runner = chain.runner();
+    match chain.work(runner) {
+        Some(work) => Mend::Works(work),
+        None => Mend::Caller(runner),
+    }
+}
+
+// How an endpoint gets bitmaps.
+fn mend_bitmaps(endpoint: EndpointId) -> Mend
+    ensures { result ≡ mend_bitmaps endpoint.0 }
+{
+    Mend::Cause(if endpoint == EndpointId::NORMAL_WORLD {
+        Cause::BitmapsUncreated
+    } else {
+        Cause::NotificationsUnreceived
+    })
 }
 
 // In which of its buffers an endpoint has a page, if it has it in one.

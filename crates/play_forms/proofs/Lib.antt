@@ -2,6 +2,7 @@
 pub mod BadLines
 pub mod Behind
 pub mod Cames
+pub mod CloserLines
 pub mod Compares
 pub mod Conversing
 pub mod CutOff

@@ -15,8 +15,10 @@ use Rattle.ffa_model.specs.declared.rights.Kind.TheVariants.{Share, Lend, Donate
 use Rattle.ffa_model.specs.declared.rights.Rights.{Rights}
 use Rattle.ffa_model.specs.declared.schedule.Status.{Status}
 use Rattle.ffa_model.specs.declared.schedule.Status.TheVariants.{Running, Waiting, Yielded, Blocked, Preempted, RunsElsewhere}
+use Rattle.ffa_model.specs.declared.schedule.Work.{Work}
+use Rattle.ffa_model.specs.declared.schedule.Work.TheVariants.{Run, Request}
 use Rattle.ffa_mend.specs.declared.Cause.{Cause}
-use Rattle.ffa_mend.specs.declared.Cause.TheVariants.{BuffersMissing, RxNotFull, BitPending, BitTaken, BitUnbound, HandleUnknown, NotReceiver, NotLent}
+use Rattle.ffa_mend.specs.declared.Cause.TheVariants.{BuffersMissing, RxNotFull, BitPending, BitTaken, BitUnbound, HandleUnknown, NotReceiver, NotLent, BitmapsUncreated, NotificationsUnreceived, SecureToNormal, PagesOfBothWorlds}
 use Rattle.ffa_mend.specs.declared.Mend.{Mend}
 use Rattle.ffa_mend.specs.declared.Mend.TheVariants as mends
 use Rattle.ffa_mend.specs.declared.Side.{Side}
@@ -31,7 +33,7 @@ use Rattle.play_syntax.specs.TraceText.{hex, rights_text}
 use Rattle.play_reasons.specs.declared.allowed.Allowed.{Allowed}
 use Rattle.play_reasons.specs.declared.allowed.Allowed.TheVariants.{One, Span, Either, Place}
 use Rattle.play_reasons.specs.Details.{awaited_text, detail_text, detailed_text, run_state_text, standing_text, status_text}
-use Rattle.play_reasons.specs.Mends.{access_text, address_digits, address_text, allowed_by, allowed_register, allowed_text, asked_text, beyond_text, buffer_text, bytes_text, cause_text, ends_text, form_text, kind_text, kinds_text, mend_text, message_text, misplaced_text, one_text, outside_text, room_text, short_digits, short_text, span_text, tag_text, version_text, wanted_text, word_text}
+use Rattle.play_reasons.specs.Mends.{access_text, address_digits, address_text, allowed_by, allowed_register, allowed_text, asked_text, beyond_text, buffer_text, bytes_text, cause_text, ends_text, form_text, holder_text, kind_text, kinds_text, mend_text, message_text, misplaced_text, one_text, outside_text, pending_text, room_text, short_digits, short_text, span_text, tag_text, version_text, wanted_text, word_text, work_text}
 use Rattle.play_forms.proofs.Singles.{IsSingle, single_append, single_hex}
 
 pub single_address : (address : ℕ) → IsSingle (address_text address)
@@ -102,6 +104,10 @@ single_cause BitUnbound = refl
 single_cause HandleUnknown = refl
 single_cause NotReceiver = refl
 single_cause NotLent = refl
+single_cause BitmapsUncreated = refl
+single_cause NotificationsUnreceived = refl
+single_cause SecureToNormal = refl
+single_cause PagesOfBothWorlds = refl
 
 single_has : (endpoint : ℕ) (right : List ℕ) → IsSingle right → IsSingle (access_text endpoint right)
 unfolding access_text
@@ -171,6 +177,18 @@ single_outside : (address : ℕ) → IsSingle (outside_text address)
 unfolding outside_text
 single_outside address = single_append (codes ": " ++ address_text address) (beyond_text address) (single_address address) (single_beyond address)
 
+single_holder : (endpoint : ℕ) → IsSingle (holder_text endpoint)
+unfolding holder_text
+single_holder endpoint = single_append (codes ", where " ++ hex 4 endpoint) (codes " holds it") (single_hex 4 endpoint) refl
+
+single_work : (work : Work) → IsSingle (work_text work)
+single_work Run = refl
+single_work (Request by) = single_hex 4 by.0
+
+single_pending : (bit : ℕ) → IsSingle (pending_text bit)
+unfolding pending_text
+single_pending bit = single_short bit
+
 single_mend : (mend : Mend) → IsSingle (mend_text mend)
 single_mend (mends.Buffer endpoint side) = single_buffer endpoint.0 side
 single_mend (mends.OwnRight right) = single_letters right
@@ -189,6 +207,9 @@ single_mend (mends.Form caller version) = single_form caller.0 version
 single_mend (mends.Word place value) = single_word place value
 single_mend (mends.Message offset size room) = single_message offset size room
 single_mend (mends.Outside address) = single_outside address
+single_mend (mends.Holder endpoint) = single_holder endpoint.0
+single_mend (mends.Works work) = single_work work
+single_mend (mends.Pending bit) = single_pending bit
 single_mend (mends.Cause cause) = single_cause cause
 
 -- HOW THINGS STAND

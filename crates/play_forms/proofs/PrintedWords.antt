@@ -47,6 +47,10 @@ single_row w0 (row ∷ all) h =
       | inr other ↦ rw other (single_row w0 all parts.1)
     ]
 
+pub single_called : (w0 : ℕ) → option_map_or has_no_feed (option_map (λ (row : Row). row.name) (row_of w0)) true ≡ true
+unfolding row_of
+single_called w0 = single_row w0 rows refl
+
 pub single_call : (x : List ℕ) → option_map_or has_no_feed (call_name_of x) true ≡ true
 unfolding call_name_of row_of
 single_call x =

@@ -2,7 +2,7 @@
 -- A line that says why an operation is refused has no LF, and nothing is left of it.
 use Rattle.std.proofs.Common.{◌≡◌, ℕ, Bool, true, false, List, [], ◌++◌, Option, None, Some, inl, inr, refl}
 use Rattle.std.specs.Prelude.{codes, decimal, nat_le, slice_index}
-use Rattle.std.specs.Option.{option_map_or}
+use Rattle.std.specs.Option.{option_map, option_map_or}
 use Rattle.std.proofs.lemmas.Bool.{cases_Bool}
 use Rattle.ffa_model.specs.declared.operation.FaultKind.{FaultKind}
 use Rattle.ffa_model.specs.declared.operation.FaultKind.TheVariants.{Translation, Permission, Alignment, AccessFlag, OutsideRam}
@@ -29,7 +29,9 @@ use Rattle.play_reasons.specs.FlawWords.{flaw_words_of}
 use Rattle.ffa_model.specs.Words.{words_of}
 use Rattle.play_reasons.proofs.SingleWords.{single_flaw, single_words}
 use Rattle.play_forms.specs.Cut.{CutsTo}
-use Rattle.play_reasons.specs.Reasons.{about_text, call_text, check_text, fault_text, field_digits, field_text, handle_text, index_text, last_of, letter_text, name_text, named_text, number_in_field, number_text, obstacle_text, page_address, page_text, place_text, reason_if, reason_line, reason_mark, reason_text, register_text, right_text, subject_text, transaction_text, value_text, verb_text, why_text}
+use Rattle.play_reasons.specs.Reasons.{about_text, call_text, check_text, fault_text, field_digits, field_text, handle_text, index_text, last_of, letter_text, name_text, named_text, number_in_field, number_text, obstacle_text, page_address, page_text, place_text, reason_if, reason_line, reason_mark, reason_text, register_text, right_text, subject_text, told_size, told_value, transaction_text, value_text, verb_text, why_text}
+use Rattle.play_reasons.specs.Closer.{closer_text}
+use Rattle.play_forms.proofs.CloserLines.{single_closer}
 use Rattle.play_forms.proofs.MendLines.{single_address, single_allowed, single_detailed, single_short, single_wanted}
 use Rattle.play_forms.proofs.Singles.{IsSingle, single_append, single_hex}
 use Rattle.ffa_mend.specs.Mend.{address_of, call_of}
@@ -129,13 +131,15 @@ single_value size (Some value) allowed = single_in_field size value allowed
 single_field : (op : Op) (flaw : Flaw) (place : FieldPlace) (value : Option ℕ) → IsSingle (field_text op flaw place value)
 unfolding field_text
 single_field op flaw place value =
-    let at = place_text place.first place.size in
+    let size = told_size flaw place.size in
+    let its = option_map (told_value flaw) value in
+    let at = place_text place.first size in
     let allowed = allowed_field (kind_of (call_of op)) flaw in
-    single_append (index_text flaw ++ flaw_words_of flaw ++ codes ": " ++ at) (value_text place.size value allowed)
+    single_append (index_text flaw ++ flaw_words_of flaw ++ codes ": " ++ at) (value_text size its allowed)
     (single_append (index_text flaw ++ flaw_words_of flaw ++ codes ": ") at
     (single_append (index_text flaw ++ flaw_words_of flaw) (codes ": ")
     (single_append (index_text flaw) (flaw_words_of flaw) (single_index flaw) (single_flaw flaw)) refl)
-    (single_place place.first place.size)) (single_value place.size value allowed)
+    (single_place place.first size)) (single_value size its allowed)
 
 -- WHAT A CHECK IS ABOUT
 
@@ -187,8 +191,10 @@ single_about base op refusal (Some about) = single_subject base op refusal about
 
 single_why : (base : ℕ) (op : Op) (reason : Why) → IsSingle (why_text base op reason)
 single_why base op (Refused refusal about) =
-    single_append (call_text op refusal ++ words_of refusal) (about_text base op refusal about)
-    (single_append (call_text op refusal) (words_of refusal) (single_check op refusal) (single_words refusal)) (single_about base op refusal about)
+    single_append (call_text op refusal ++ words_of refusal ++ about_text base op refusal about) (closer_text op refusal about)
+    (single_append (call_text op refusal ++ words_of refusal) (about_text base op refusal about)
+    (single_append (call_text op refusal) (words_of refusal) (single_check op refusal) (single_words refusal)) (single_about base op refusal about))
+    (single_closer op refusal about)
 single_why base op (Fault kind obstacle) =
     single_append (address_text (address_of op)) (fault_text op kind obstacle) (single_address (address_of op)) (single_fault op kind obstacle)
 

@@ -1,5 +1,6 @@
 -- SPDX-License-Identifier: MIT OR Apache-2.0
 pub mod Checks
+pub mod Closer
 pub mod Details
 pub mod Drafts
 pub mod FaultWords

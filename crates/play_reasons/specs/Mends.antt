@@ -26,10 +26,12 @@ use Rattle.ffa_model.specs.declared.refusal.Refusal.{Refusal}
 use Rattle.ffa_model.specs.declared.refusal.Refusal.TheVariants.{FlagsReserved, ContextUnknown, BufferPageCount, TxMisplaced, RxMisplaced, EndpointNotZero, EndpointNotNormalWorld, ContextCount, ClassesUnknown, Fragmented, BufferAddressGiven, BufferPagesGiven}
 use Rattle.ffa_model.specs.declared.rights.Kind.{Kind}
 use Rattle.ffa_model.specs.declared.rights.Kind.TheVariants.{Share, Lend, Donate}
+use Rattle.ffa_model.specs.declared.schedule.Work.{Work}
+use Rattle.ffa_model.specs.declared.schedule.Work.TheVariants.{Run, Request}
 use Rattle.ffa_model.specs.DescriptorPlaces.{normal_memory, told_access_size}
 use Rattle.ffa_model.specs.SendDescriptor.{most_flags, most_receivers}
 use Rattle.ffa_mend.specs.declared.Cause.{Cause}
-use Rattle.ffa_mend.specs.declared.Cause.TheVariants.{BuffersMissing, RxNotFull, BitPending, BitTaken, BitUnbound, HandleUnknown, NotReceiver, NotLent}
+use Rattle.ffa_mend.specs.declared.Cause.TheVariants.{BuffersMissing, RxNotFull, BitPending, BitTaken, BitUnbound, HandleUnknown, NotReceiver, NotLent, BitmapsUncreated, NotificationsUnreceived, SecureToNormal, PagesOfBothWorlds}
 use Rattle.ffa_mend.specs.declared.Mend.{Mend}
 use Rattle.ffa_mend.specs.declared.Mend.TheVariants as mends
 use Rattle.ffa_mend.specs.declared.Side.{Side}
@@ -199,6 +201,10 @@ cause_text BitUnbound = codes ", which is not bound to the sender"
 cause_text HandleUnknown = codes ", which no open transaction has"
 cause_text NotReceiver = codes ", which is open, and not offered to the caller"
 cause_text NotLent = codes ", which is not a lend"
+cause_text BitmapsUncreated = codes ": FFA_NOTIFICATION_BITMAP_CREATE makes them"
+cause_text NotificationsUnreceived = codes ": bit 3 of its properties is not set"
+cause_text SecureToNormal = codes ", which is secure and goes to the normal world"
+cause_text PagesOfBothWorlds = codes ", which is secure, and another page is not"
 
 unfoldable pub buffer_text : ℕ → Side → List ℕ
 buffer_text endpoint side = side_text side ++ hex 4 endpoint
@@ -247,6 +253,16 @@ beyond_text address = if nat_lt address (2 ^ 32) then codes " is outside RAM" el
 unfoldable pub outside_text : ℕ → List ℕ
 outside_text address = codes ": " ++ address_text address ++ beyond_text address
 
+unfoldable pub holder_text : ℕ → List ℕ
+holder_text endpoint = codes ", where " ++ hex 4 endpoint ++ codes " holds it"
+
+abbrev pub work_text : Work → List ℕ
+work_text Run = codes ": it runs by FFA_RUN"
+work_text (Request by) = codes ": it works on a direct request of " ++ hex 4 by.0
+
+unfoldable pub pending_text : ℕ → List ℕ
+pending_text bit = codes ": bit " ++ short_text bit
+
 abbrev pub mend_text : Mend → List ℕ
 mend_text (mends.Buffer endpoint side) = buffer_text endpoint.0 side
 mend_text (mends.OwnRight right) = codes ", to which the owner's own right is " ++ rights_text (Some right)
@@ -264,4 +280,7 @@ mend_text (mends.Form caller version) = form_text caller.0 version
 mend_text (mends.Word place value) = codes ": " ++ word_text place value
 mend_text (mends.Message offset size room) = message_text offset size room
 mend_text (mends.Outside address) = outside_text address
+mend_text (mends.Holder endpoint) = holder_text endpoint.0
+mend_text (mends.Works work) = work_text work
+mend_text (mends.Pending bit) = pending_text bit
 mend_text (mends.Cause cause) = cause_text cause

@@ -1,10 +1,11 @@
 -- SPDX-License-Identifier: MIT OR Apache-2.0
 -- The line that says why an operation is refused.
-use Rattle.std.specs.Prelude.{ℕ, ◌+◌, ◌-◌, ◌*◌, ◌^◌, min, nat_le, Bool, List, [], ◌++◌, codes, decimal, slice_index, Option, None, Some, if◌then◌else◌}
-use Rattle.std.specs.Option.{option_map_or}
+use Rattle.std.specs.Prelude.{ℕ, ◌+◌, ◌-◌, ◌*◌, ◌%◌, ◌^◌, min, nat_le, Bool, List, [], ◌++◌, codes, decimal, slice_index, Option, None, Some, if◌then◌else◌}
+use Rattle.std.specs.Option.{option_map, option_map_or}
 use Rattle.ffa_model.specs.declared.flaw.FieldPlace.{FieldPlace}
 use Rattle.ffa_model.specs.declared.flaw.Flaw.{Flaw}
-use Rattle.ffa_model.specs.declared.flaw.Flaw.TheVariants.{Access, Range}
+use Rattle.ffa_model.specs.declared.flaw.Flaw.TheVariants.{Access, Header, Range}
+use Rattle.ffa_model.specs.declared.flaw.HeaderFlaw.TheVariants.{ArrayOutside}
 use Rattle.ffa_model.specs.declared.operation.FaultKind.{FaultKind}
 use Rattle.ffa_model.specs.declared.operation.FaultKind.TheVariants.{Translation, Permission, Alignment, AccessFlag, OutsideRam}
 use Rattle.ffa_model.specs.declared.operation.Op.{Op}
@@ -27,6 +28,7 @@ use Rattle.ffa_mend.specs.Mend.{address_of, call_of}
 use Rattle.ffa_abi.specs.Names.{call_name_of}
 use Rattle.ffa_abi.specs.Widths.{is_read_whole}
 use Rattle.play_reasons.specs.Checks.{number_of}
+use Rattle.play_reasons.specs.Closer.{closer_text}
 use Rattle.play_reasons.specs.Details.{detailed_text}
 use Rattle.play_reasons.specs.FlawWords.{flaw_words_of}
 use Rattle.play_reasons.specs.Mends.{address_text, allowed_field, allowed_text, kind_of, short_text, wanted_text}
@@ -138,11 +140,20 @@ number_in_field size value allowed =
 abbrev pub value_text : ℕ → Option ℕ → Option Allowed → List ℕ
 value_text size value allowed = option_map_or (λ v. number_in_field size v allowed) value []
 
+-- Of access descriptors that don't end inside the descriptor the count alone is told, which is the first half of eight bytes
+abbrev pub told_size : Flaw → ℕ → ℕ
+told_size (Header ArrayOutside) size = min size 4
+told_size flaw size = size
+
+abbrev pub told_value : Flaw → ℕ → ℕ
+told_value (Header ArrayOutside) value = value % 2 ^ 32
+told_value flaw value = value
+
 -- the condition that the descriptor breaks, the field of which it speaks, and the number in that
 unfoldable pub field_text : Op → Flaw → FieldPlace → Option ℕ → List ℕ
 field_text op flaw place value =
-    index_text flaw ++ flaw_words_of flaw ++ codes ": " ++ place_text place.first place.size
-    ++ value_text place.size value (allowed_field (kind_of (call_of op)) flaw)
+    index_text flaw ++ flaw_words_of flaw ++ codes ": " ++ place_text place.first (told_size flaw place.size)
+    ++ value_text (told_size flaw place.size) (option_map (told_value flaw) value) (allowed_field (kind_of (call_of op)) flaw)
 
 abbrev pub subject_text : ℕ → Op → Refusal → About → List ℕ
 subject_text base op refusal (Page page obstacle) = page_text base page.0 obstacle
@@ -158,7 +169,8 @@ about_text base op refusal about = option_map_or (λ its. codes ": " ++ subject_
 -- OF ANY OPERATION
 
 abbrev pub why_text : ℕ → Op → Why → List ℕ
-why_text base op (Refused refusal about) = call_text op refusal ++ words_of refusal ++ about_text base op refusal about
+why_text base op (Refused refusal about) =
+    (call_text op refusal ++ words_of refusal ++ about_text base op refusal about) ++ closer_text op refusal about
 why_text base op (Fault kind obstacle) = address_text (address_of op) ++ fault_text op kind obstacle
 
 unfoldable pub reason_line : ℕ → Op → Why → Option Detail → List ℕ

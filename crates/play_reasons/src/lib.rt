@@ -5,6 +5,7 @@
 #![tactic(auto)]
 
 mod allowed;
+mod closer;
 mod detail;
 mod digits;
 mod draft;

@@ -4,12 +4,12 @@ ghost use Rattle.std.specs.Prelude.{◌≡◌, ◌++◌, ◌^◌, ◌<◌, ◌�
 ghost use Rattle.play_syntax.specs.TraceText.{hex, rights_text};
 ghost use Rattle.ffa_model.specs.DescriptorPlaces.{told_access_size};
 ghost use Rattle.play_reasons.specs.Drafts.{Puts};
-ghost use Rattle.play_reasons.specs.Mends.{access_text, allowed_by, allowed_text, asked_text, beyond_text, buffer_text, bytes_text, cause_text, ends_text, form_text, kind_text, kinds_text, mend_text, message_text, misplaced_text, one_text, outside_text, room_text, side_text, span_text, tag_text, version_text, wanted_text, word_text};
+ghost use Rattle.play_reasons.specs.Mends.{access_text, allowed_by, allowed_text, asked_text, beyond_text, buffer_text, bytes_text, cause_text, ends_text, form_text, holder_text, kind_text, kinds_text, mend_text, message_text, misplaced_text, one_text, outside_text, pending_text, room_text, side_text, span_text, tag_text, version_text, wanted_text, word_text, work_text};
 
 use crate::allowed::{Allowed, allowed_register, call_of};
 use crate::draft::Draft;
 use ffa_mend::{Cause, Mend, Side};
-use ffa_model::{Data, EndpointId, Kind, Op, Refusal, Rights, Version};
+use ffa_model::{Data, EndpointId, Kind, Op, Refusal, Rights, Version, Work};
 use std::alloc::Allocator;
 
 const GRANTED: &str = ", where rw- is granted, and the owner's own right is ";
@@ -94,6 +94,9 @@ pub(crate) fn put_mend<A: Allocator>(text: &mut Draft<A>, mend: Mend)
             put_message(text, u64::from(offset), u64::from(size), room)
         }
         Mend::Outside(address) => put_outside(text, address),
+        Mend::Holder(endpoint) => put_holder(text, endpoint),
+        Mend::Works(work) => put_work(text, work),
+        Mend::Pending(bit) => put_pending(text, bit),
         Mend::Cause(cause) => text.put(cause_words(cause)),
     }
 }
@@ -246,6 +249,34 @@ fn put_outside<A: Allocator>(text: &mut Draft<A>, address: u64)
     text.put(beyond(address));
 }
 
+// Puts who holds a transaction.
+#[tactic(auto, unfolding(crate::specs::Mends::holder_text))]
+fn put_holder<A: Allocator>(text: &mut Draft<A>, endpoint: EndpointId)
+    ensures { Puts text.old text.new (holder_text endpoint.0) }
+{
+    text.put_behind(", where ", 4, u64::from(endpoint.0));
+    text.put(" holds it");
+}
+
+// Puts what the caller works on.
+fn put_work<A: Allocator>(text: &mut Draft<A>, work: Work)
+    ensures { Puts text.old text.new (work_text work) }
+{
+    match work {
+        Work::Run => text.put(": it runs by FFA_RUN"),
+        Work::Request(by) => put_endpoint(text, ": it works on a direct request of ", by),
+    }
+}
+
+// Puts which bit is pending.
+#[tactic(auto, unfolding(crate::specs::Mends::pending_text))]
+fn put_pending<A: Allocator>(text: &mut Draft<A>, bit: u32)
+    ensures { Puts text.old text.new (pending_text bit) }
+{
+    text.put(": bit ");
+    text.put_short(u64::from(bit));
+}
+
 fn beyond(address: u64) -> &'static str
     ensures { result.now ≡ beyond_text address }
 {
@@ -318,5 +349,9 @@ fn cause_words(cause: Cause) -> &'static str
         Cause::HandleUnknown => ", which no open transaction has",
         Cause::NotReceiver => ", which is open, and not offered to the caller",
         Cause::NotLent => ", which is not a lend",
+        Cause::BitmapsUncreated => ": FFA_NOTIFICATION_BITMAP_CREATE makes them",
+        Cause::NotificationsUnreceived => ": bit 3 of its properties is not set",
+        Cause::SecureToNormal => ", which is secure and goes to the normal world",
+        Cause::PagesOfBothWorlds => ", which is secure, and another page is not",
     }
 }

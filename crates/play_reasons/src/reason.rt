@@ -5,19 +5,21 @@ ghost use Rattle.ffa_model.specs.Memory.{size_of};
 ghost use Rattle.play_syntax.specs.TraceText.{bytes_moved};
 ghost use Rattle.ffa_model.specs.Words.{words_of};
 ghost use Rattle.ffa_mend.specs.Mend.{address_of};
+ghost use Rattle.play_reasons.specs.Closer.{closer_text};
 ghost use Rattle.play_reasons.specs.Drafts.{Puts};
 ghost use Rattle.play_reasons.specs.Mends.{address_text, short_text, wanted_text};
-ghost use Rattle.play_reasons.specs.Reasons.{about_text, bit_text, call_text, check_text, fault_text, field_digits, field_text, handle_text, index_text, letter_text, number_in_field, name_text, named_text, number_text, obstacle_text, page_address, page_text, place_text, reason_line, register_text, right_text, subject_text, told_line, transaction_text, value_text, verb_text, why_text};
+ghost use Rattle.play_reasons.specs.Reasons.{about_text, bit_text, call_text, check_text, fault_text, field_digits, field_text, handle_text, index_text, letter_text, number_in_field, name_text, named_text, number_text, obstacle_text, page_address, page_text, place_text, reason_line, register_text, right_text, subject_text, told_line, told_size, told_value, transaction_text, value_text, verb_text, why_text};
 
 use crate::allowed::{Allowed, allowed_field, call_of, kind_of};
+use crate::closer::put_closer;
 use crate::detail::put_detailed;
 use crate::draft::Draft;
 use crate::mend::{put_allowed, put_wanted};
 use crate::{check_number, flaw_words, words};
 use ffa_abi::{call_name, is_read_whole, low};
 use ffa_model::{
-    About, Address, EndpointId, FaultKind, FieldPlace, Flaw, Obstacle, Op, PageNo, Refusal, Size,
-    Why,
+    About, Address, EndpointId, FaultKind, FieldPlace, Flaw, HeaderFlaw, Obstacle, Op, PageNo,
+    Refusal, Size, Why,
 };
 use ffa_playable::Detail;
 use std::alloc::Allocator;
@@ -67,6 +69,21 @@ fn put_why<A: Allocator>(text: &mut Draft<A>, base: Address, op: Op, why: Why)
 }
 
 fn put_refused<A: Allocator>(
+    text: &mut Draft<A>,
+    base: Address,
+    op: Op,
+    refusal: Refusal,
+    about: Option<About>,
+)
+    ensures { let reason = call_text op refusal ++ words_of refusal ++ about_text base.0 op refusal about
+        in Puts text.old text.new (reason ++ closer_text op refusal about) }
+{
+    put_found(text, base, op, refusal, about);
+    put_closer(text, op, refusal, about);
+}
+
+// Puts which check fails, what it finds, and what it is about.
+fn put_found<A: Allocator>(
     text: &mut Draft<A>,
     base: Address,
     op: Op,
@@ -234,9 +251,31 @@ fn put_field<A: Allocator>(
     put_index(text, flaw);
     text.put(flaw_words(flaw));
     text.put(": ");
-    put_place(text, place);
+    let size = told_size(flaw, place.size);
+    put_place(text, place.first, size);
     let allowed = allowed_field(kind_of(call_of(op)), flaw);
-    put_value(text, place.size, value, allowed);
+    put_value(text, size, told_value(flaw, value), allowed);
+}
+
+// How many bytes of a field are told.
+fn told_size(flaw: Flaw, size: u64) -> u64
+    ensures { result ≡ told_size flaw size }
+{
+    match flaw {
+        Flaw::Header(HeaderFlaw::ArrayOutside) => size.min(4),
+        _ => size,
+    }
+}
+
+// The number in them.
+fn told_value(flaw: Flaw, value: Option<u64>) -> Option<u64>
+    ensures { result ≡ option_map (told_value flaw) value }
+{
+    let value = value?;
+    match flaw {
+        Flaw::Header(HeaderFlaw::ArrayOutside) => Some(value % 0x1_0000_0000),
+        _ => Some(value),
+    }
 }
 
 // Which access descriptor it is, or which range.
@@ -262,10 +301,9 @@ fn put_indexed<A: Allocator>(text: &mut Draft<A>, word: &str, index: u32)
     text.put(": ");
 }
 
-fn put_place<A: Allocator>(text: &mut Draft<A>, place: FieldPlace)
-    ensures { Puts text.old text.new (place_text place.first place.size) }
+fn put_place<A: Allocator>(text: &mut Draft<A>, first: u64, size: u64)
+    ensures { Puts text.old text.new (place_text first size) }
 {
-    let FieldPlace { first, size } = place;
     if size <= 1 {
         text.put("byte ");
         text.put_short(first);

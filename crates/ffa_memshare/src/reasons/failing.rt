@@ -192,7 +192,7 @@ fn is_unwritable<P: Room<KeptPage> + Drop>(
 }
 
 // Whether one of these ranges has a page.
-fn is_in_any(ranges: &[Range], base: Address, page: PageNo) -> bool
+pub(crate) fn is_in_any(ranges: &[Range], base: Address, page: PageNo) -> bool
     ensures { result ≡ in_ranges base.0 ranges.now page.0 }
 {
     ranges.iter().any(|range| has_page(range, base, page))

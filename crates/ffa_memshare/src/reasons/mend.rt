@@ -1,19 +1,22 @@
 // SPDX-License-Identifier: MIT OR Apache-2.0
-//! What is to be mended where a call on memory was refused: what the transaction has, beside what the call names, and where the
-//! ranges of an offer leave RAM.
-ghost use Rattle.std.specs.Prelude.{◌≡◌, Some, None, find, length, not, if◌then◌else◌};
+//! What is to be mended where a call on memory was refused: what the transaction has, beside what the call names, who holds it,
+//! where the ranges of an offer leave RAM, and of which worlds its pages are.
+ghost use Rattle.std.specs.Prelude.{◌≡◌, ◌&&◌, Some, None, find, is_some, length, not, if◌then◌else◌};
 ghost use Rattle.std.specs.Option.{option_map};
 ghost use Rattle.std.specs.FinMap as finite;
-ghost use Rattle.ffa_model.specs.Access.{is_receiver};
+ghost use Rattle.ffa_model.specs.declared.transaction.Receiver.{Receiver as Named};
+ghost use Rattle.ffa_model.specs.Access.{held_by, is_receiver};
 ghost use Rattle.ffa_model.specs.Buffers.{buffers_in};
 ghost use Rattle.ffa_model.specs.MemoryRetrieve.{right_for};
-ghost use Rattle.ffa_model.specs.MemorySend.{is_inside};
+ghost use Rattle.ffa_model.specs.MemorySend.{are_secure, is_inside};
+ghost use Rattle.ffa_model.specs.Regions.{is_normal};
 ghost use Rattle.ffa_model.specs.SendDescriptor.{send_of, send_record};
 ghost use Rattle.ffa_model.specs.State.{Buffers as Own};
 ghost use Rattle.ffa_model.specs.Transactions.{ceiling};
-ghost use Rattle.ffa_mend.specs.Mend.{first_outside, mend_asked, mend_offer, mend_offered, mend_retrieve, mend_return, mend_send, mend_sent, mend_zeros, outside_of};
+ghost use Rattle.ffa_mend.specs.Mend.{first_outside, mend_asked, mend_held, mend_offer, mend_offered, mend_retrieve, mend_return, mend_send, mend_sent, mend_zeros, mixed, outside_of};
 ghost use Rattle.ffa_rxtx.specs.Parts.{IsInRam, ownership_in};
-ghost use Rattle.ffa_memshare.specs.Ranges.{ArePlaced};
+ghost use Rattle.ffa_stage2.specs.Layout.{normal_in};
+ghost use Rattle.ffa_memshare.specs.Ranges.{ArePlaced, in_ranges};
 ghost use Rattle.ffa_memshare.specs.Scenes.{descriptor_in};
 ghost use Rattle.ffa_memshare.specs.Shared.{AreRangesInRam};
 ghost use Rattle.ffa_memshare.specs.Stored.{map_in, view_of};
@@ -24,18 +27,23 @@ use crate::descriptor_call::DescriptorCall;
 use crate::open_slot::OpenSlot;
 use crate::page_run::{read_retrieve, read_send};
 use crate::pool::Pool;
+use crate::reasons::failing::is_in_any;
 use crate::transaction::OpenTransaction;
 use ffa_mend::{Cause, Mend};
-use ffa_model::{Address, EndpointId, Kind, Range, Refusal, RetrieveDesc, Room, SendDesc};
+use ffa_model::{
+    Address, EndpointId, Kind, PageNo, Range, Receiver, Refusal, RetrieveDesc, Room, SendDesc,
+};
 use ffa_pages::{KeptPage, PageTable};
 use ffa_physmem::PhysMem;
 use ffa_rxtx::Buffers;
+use ffa_stage2::Layout;
 
 /// What is to be mended where a check of FFA_MEM_DONATE, FFA_MEM_LEND or FFA_MEM_SHARE of an endpoint fails that asks for ranges in
-/// the RAM from `base` on: the first page outside of it. Of other checks nothing.
+/// the layout's RAM, or for pages of one world: the first page outside of it, or whether all pages are secure. Of other checks
+/// nothing.
 pub fn mend_send<M: PhysMem, P: Room<KeptPage> + Drop>(
     ram: &M,
-    base: Address,
+    layout: &Layout,
     pages: &PageTable<P>,
     buffers: &Buffers,
     caller: EndpointId,
@@ -44,9 +52,9 @@ pub fn mend_send<M: PhysMem, P: Room<KeptPage> + Drop>(
     refusal: Refusal,
 ) -> Option<Mend>
     requires tx { (b : Own) → buffers_in buffers.now caller.0 ≡ Some b → IsInRam (length (M.ram ram.now).pages) b }
-    ensures { let owners = ownership_in pages.now base.0 in
+    ensures { let owners = ownership_in pages.now layout.now.base.0 in
         let offer = send_of kind (descriptor_in (M.ram ram.now) buffers.now caller.0 call.now) in
-        result ≡ mend_send buffers.now owners caller.0 call.now.transfer offer refusal }
+        result ≡ mend_send buffers.now owners (normal_in layout.now) caller.0 call.now.transfer offer refusal }
 {
     let Ok(found) = call.descriptor(ram, buffers, caller) else {
         return None;
@@ -55,25 +63,65 @@ pub fn mend_send<M: PhysMem, P: Room<KeptPage> + Drop>(
     if read_send(&found.bytes, call.version, kind, &mut offer).is_err() {
         return None;
     }
-    mend_offer(&offer, pages, base, refusal)
+    mend_offer(&offer, pages, layout, refusal)
 }
 
-// Where the ranges of an offer leave RAM.
+// Where the ranges of an offer leave RAM, and of which worlds their pages are.
 fn mend_offer<P: Room<KeptPage> + Drop>(
     offer: &SendDesc,
     pages: &PageTable<P>,
-    base: Address,
+    layout: &Layout,
     refusal: Refusal,
 ) -> Option<Mend>
-    ensures { result ≡ mend_offer (ownership_in pages.now base.0) refusal (send_record offer.now) }
+    ensures { let owners = ownership_in pages.now layout.now.base.0 in
+        result ≡ mend_offer owners (normal_in layout.now) refusal (send_record offer.now) }
 {
+    let ranges = offer.ranges.as_slice();
     match refusal {
-        Refusal::RangeOutside => match first_outside(offer.ranges.as_slice(), pages, base) {
+        Refusal::RangeOutside => match first_outside(ranges, pages, layout.base) {
             Some(address) => Some(Mend::Outside(address)),
             None => None,
         },
+        Refusal::WorldsMixed => Some(Mend::Cause(mixed(ranges, pages, layout))),
         _ => None,
     }
+}
+
+// Why the pages of these ranges are not of one world.
+fn mixed<P: Room<KeptPage> + Drop>(ranges: &[Range], pages: &PageTable<P>, layout: &Layout) -> Cause
+    ensures { let owners = ownership_in pages.now layout.now.base.0 in
+        result ≡ mixed owners (normal_in layout.now) ranges.now }
+{
+    if are_secure(ranges, pages, layout) {
+        Cause::SecureToNormal
+    } else {
+        Cause::PagesOfBothWorlds
+    }
+}
+
+// Whether no page of these ranges is non-secure.
+fn are_secure<P: Room<KeptPage> + Drop>(
+    ranges: &[Range],
+    pages: &PageTable<P>,
+    layout: &Layout,
+) -> bool
+    ensures { let owners = ownership_in pages.now layout.now.base.0 in
+        result ≡ are_secure owners (normal_in layout.now) ranges.now }
+{
+    for number in 0..pages.pages() {
+        if is_normal_in(ranges, layout, PageNo(number)) {
+            return false;
+        }
+    }
+    true
+}
+
+// Whether a page stands in one of these ranges and is non-secure.
+fn is_normal_in(ranges: &[Range], layout: &Layout, page: PageNo) -> bool
+    ensures { let is_normal = is_normal layout.now.base.0 (normal_in layout.now) page.0 in
+        result ≡ (in_ranges layout.now.base.0 ranges.now page.0 && is_normal) }
+{
+    is_in_any(ranges, layout.base, page) && layout.is_normal(page)
 }
 
 // The first page outside RAM of the first range that doesn't lie in it.
@@ -147,6 +195,7 @@ impl<O: Room<OpenSlot> + Drop> Pool<O> {
             Refusal::NotOffered => Some(mend_offered(its)),
             Refusal::NotTheSenders => Some(mend_sent(its)),
             Refusal::ZerosNotAllowed => mend_zeros(its, caller),
+            Refusal::StillHeld => mend_held(its),
             _ => None,
         }
     }
@@ -212,6 +261,20 @@ impl OpenTransaction {
     }
 }
 
+impl OpenTransaction {
+    // The first receiver that holds it.
+    fn first_holder(&self) -> Option<Receiver>
+        ensures { let its = view_of self.now in
+            result ≡ find (λ (r : Named). is_some (held_by its r.endpoint.0)) its.receivers }
+    {
+        self.receivers
+            .as_slice()
+            .iter()
+            .copied()
+            .find(|receiver| self.held_right(receiver.endpoint).is_some())
+    }
+}
+
 // The kind that is named, where one is, and the transaction's.
 fn mend_kind(found: Option<Kind>, wanted: Kind) -> Option<Mend>
     ensures { result ≡ option_map (λ k. Mend.Kind k wanted) found }
@@ -252,6 +315,16 @@ fn mend_zeros(its: Option<&OpenTransaction>, caller: EndpointId) -> Option<Mend>
     }
     match its.held_right(caller) {
         Some(right) => Some(Mend::Held(right)),
+        None => None,
+    }
+}
+
+// The first receiver that holds a transaction.
+fn mend_held(its: Option<&OpenTransaction>) -> Option<Mend>
+    ensures { result ≡ mend_held (option_map (λ t. view_of t.now) its.entry) }
+{
+    match its?.first_holder() {
+        Some(receiver) => Some(Mend::Holder(receiver.endpoint)),
         None => None,
     }
 }
