@@ -368,10 +368,10 @@ fn mend_buffer<P: Room<KeptPage> + Drop>(
 ) -> Option<Mend>
     ensures { result ≡ mend_buffer (ownership_in owners.now base.0) buffer }
 {
-    if buffer.address % 4096 != 0 || is_inside(owners, base, buffer) {
-        None
-    } else {
+    if buffer.address % 4096 == 0 && !is_inside(owners, base, buffer) {
         Some(Mend::Outside(outside_of(owners, base, buffer)))
+    } else {
+        None
     }
 }
 
