@@ -1,7 +1,8 @@
 // SPDX-License-Identifier: MIT OR Apache-2.0
 //! What stands in the line of a reason of an operation's registers behind what the check is about: where that ends which does not
 //! lie in the descriptor, which UUID is named, and which call has no 64-bit form.
-ghost use Rattle.std.specs.Prelude.{◌≡◌, ◌-◌, ◌<◌, ◌^◌, [], min, option_map, option_map_or};
+ghost use Rattle.std.specs.Prelude.{◌≡◌, ◌-◌, ◌<◌, ◌^◌, [], min, option_map};
+ghost use Rattle.std.specs.Option.{option_map_or};
 ghost use Rattle.ffa_mend.specs.Mend.{call_of};
 ghost use Rattle.play_reasons.specs.Closer.{array_end_by, byte_digits, closer_text, end_by, end_of, end_text, ends_text, form_text, name_of_call, narrow_of, no_form_text, part_text, size_of, small_digit, unknown_form, unknown_uuid, uuid_of, uuid_text, word_digits};
 ghost use Rattle.play_reasons.specs.Drafts.{Puts};
