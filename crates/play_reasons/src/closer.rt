@@ -133,16 +133,22 @@ fn put_form<A: Allocator>(text: &mut Draft<A>, narrow: Option<u32>)
     }
 }
 
-#[tactic(auto, unfolding(crate::specs::Closer::no_form_text))]
 fn put_no_form<A: Allocator>(text: &mut Draft<A>, name: Option<&'static str>)
     ensures { let its = option_map (λ n. n.now) name.entry in
         Puts text.old text.new (option_map_or no_form_text its []) }
 {
     if let Some(name) = name {
-        text.put(", and ");
-        text.put(name);
-        text.put(" has no 64-bit form");
+        put_formless(text, name);
     }
+}
+
+#[tactic(auto, unfolding(crate::specs::Closer::no_form_text))]
+fn put_formless<A: Allocator>(text: &mut Draft<A>, name: &str)
+    ensures { Puts text.old text.new (no_form_text name.now) }
+{
+    text.put(", and ");
+    text.put(name);
+    text.put(" has no 64-bit form");
 }
 
 // The name of the call with this function.

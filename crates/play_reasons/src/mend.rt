@@ -250,11 +250,11 @@ fn put_outside<A: Allocator>(text: &mut Draft<A>, address: u64)
 }
 
 // Puts who holds a transaction.
-#[tactic(auto, unfolding(crate::specs::Mends::holder_text))]
+#[tactic(auto, using(crate::proofs::Together::together), unfolding(crate::specs::Mends::holder_text))]
 fn put_holder<A: Allocator>(text: &mut Draft<A>, endpoint: EndpointId)
     ensures { Puts text.old text.new (holder_text endpoint.0) }
 {
-    text.put_behind(", where ", 4, u64::from(endpoint.0));
+    put_endpoint(text, ", where ", endpoint);
     text.put(" holds it");
 }
 
