@@ -45,7 +45,7 @@ extern "C" {
 
 /* The number of these declarations, raised by each change that a caller has to know of. Who loads the library while a
  * program runs compares it with gorseplumb_declarations, which answers the number that the library was built by. */
-#define GORSEPLUMB_DECLARATIONS 6
+#define GORSEPLUMB_DECLARATIONS 7
 
 uint32_t gorseplumb_declarations(void);
 
@@ -662,6 +662,9 @@ struct gorseplumb_reason {
     uint64_t value;       /* where has_value is 1 */
     uint64_t first;       /* GORSEPLUMB_ABOUT_FIELD: the place of its first byte in the descriptor, counted from 0 */
     uint64_t size;        /* GORSEPLUMB_ABOUT_FIELD: how many bytes it has */
+    uint64_t least;       /* where step isn't 0: the least number that the register or the field may have instead */
+    uint64_t most;        /* the greatest, which may be the same */
+    uint64_t step;        /* how far each is from the next: 1 of all from least to most; 0 where none are told */
 };
 
 /* Why an operation of the endpoint that runs would be refused now: true, and `reason` says it. False: it would be done, or

@@ -1,7 +1,7 @@
 /* SPDX-License-Identifier: MIT OR Apache-2.0 */
 /* Why an operation of the endpoint that runs would be refused, as a line of text: what gorseplumb_why_call and its like
  * tell, with the words of the names. It is what the program prints with --explain (docs/COMMANDS.md) behind
- * `# refused: `, but for what is to be mended, of which a reason tells nothing. It is optional, C, and not proved;
+ * `# refused: `, but for what else is to be mended than a value, of which a reason tells nothing. It is optional, C, and not proved;
  * c/test.sh compares it with the program. It asks nothing of a C library. */
 #ifndef GORSEPLUMB_EXPLAIN_H
 #define GORSEPLUMB_EXPLAIN_H
@@ -82,6 +82,28 @@ static inline bool gorseplumb_reads_whole(uint32_t function, uint32_t number) {
     }
 }
 
+/* Which numbers may be in a register or in a field instead, each in so many digits. */
+static inline void gorseplumb_put_allowed(struct gorseplumb_text *text, uint64_t digits,
+                                          const struct gorseplumb_reason *reason) {
+    if (reason->step == 0) return;
+    gorseplumb_put(text, reason->least == reason->most ? ", and must be " : ", and may be ");
+    gorseplumb_put_hex(text, digits, reason->least);
+    if (reason->least == reason->most) return;
+    bool are_two = reason->step != 1 && reason->most - reason->least == reason->step;
+    gorseplumb_put(text, are_two ? " or " : " to ");
+    gorseplumb_put_hex(text, digits, reason->most);
+    if (reason->step == 1 || are_two) return;
+    gorseplumb_put(text, " in steps of ");
+    gorseplumb_put_hex(text, digits, reason->step);
+}
+
+/* Why a register can't be the address of a buffer, where the check says so. */
+static inline void gorseplumb_put_misplaced(struct gorseplumb_text *text, const struct gorseplumb_reason *reason) {
+    if (reason->check != GORSEPLUMB_CHECK_TX_MISPLACED && reason->check != GORSEPLUMB_CHECK_RX_MISPLACED) return;
+    gorseplumb_put(text, reason->value % GORSEPLUMB_PAGE_SIZE == 0 ? ", where the buffer does not lie in RAM"
+                                                                   : ", which is not the address of a page");
+}
+
 /* Which access descriptor or which range has the flaw, the flaw, and the bytes of its field. */
 static inline void gorseplumb_put_field(struct gorseplumb_text *text, const struct gorseplumb_reason *reason) {
     uint32_t flaw = reason->flaw;
@@ -105,6 +127,7 @@ static inline void gorseplumb_put_field(struct gorseplumb_text *text, const stru
     if (reason->has_value == 0) return;
     gorseplumb_put(text, is_byte ? " is " : " are ");
     gorseplumb_put_hex(text, 2 * size, reason->value);
+    gorseplumb_put_allowed(text, 2 * size, reason);
 }
 
 /* The run state of an endpoint that is to wait, behind the endpoint. */
@@ -159,6 +182,8 @@ static inline void gorseplumb_put_about(struct gorseplumb_text *text, const stru
         gorseplumb_put_decimal(text, reason->number);
         gorseplumb_put(text, " is ");
         gorseplumb_put_address(text, reason->value);
+        gorseplumb_put_misplaced(text, reason);
+        gorseplumb_put_allowed(text, 8, reason);
         break;
     case GORSEPLUMB_ABOUT_BIT:
         gorseplumb_put(text, "bit ");

@@ -153,7 +153,8 @@ static void calls(void) {
     refuses(CALL(FFA_RUN, 0x80030000),
             REASON(TARGET_UNKNOWN, -2, .about = GORSEPLUMB_ABOUT_ENDPOINT, .endpoint = 0x8003));
     refuses(CALL(FFA_RXTX_MAP, 0x4001E000, 0x4001F000, 5),
-            REASON(BUFFER_PAGE_COUNT, -2, .about = GORSEPLUMB_ABOUT_REGISTER, .number = 3, .value = 5, .has_value = 1));
+            REASON(BUFFER_PAGE_COUNT, -2, .about = GORSEPLUMB_ABOUT_REGISTER, .number = 3, .value = 5, .has_value = 1,
+                   .least = 1, .most = 4, .step = 1));
     refuses(CALL(FFA_RXTX_MAP, 0x40020000, 0x4001F000, 1),
             REASON(TX_UNUSABLE, -6, .about = GORSEPLUMB_ABOUT_PAGE, .page = 32,
                    .obstacle = GORSEPLUMB_OBSTACLE_OWNED_BY, .owner = 0x8001));
@@ -199,9 +200,9 @@ static void descriptors(void) {
     stores(0x4001E068, 1);
     refuses(CALL(FFA_MEM_LEND, 0x70, 0x70), REASON(DESCRIPTOR_MALFORMED, -2, .about = GORSEPLUMB_ABOUT_FIELD,
                                                    .flaw = GORSEPLUMB_FLAW_ACCESS_PERMISSIONS, .index = 1, .first = 66,
-                                                   .size = 1, .value = 0x0F, .has_value = 1));
+                                                   .size = 1, .value = 0x0F, .has_value = 1, .least = 1, .most = 2, .step = 1));
     LINE("FFA_MEM_LEND check 6: the bytes in TX are no descriptor of this call: access descriptor 01: "
-         "the permissions are none that this call may grant: byte 42 is 0F",
+         "the permissions are none that this call may grant: byte 42 is 0F, and may be 01 to 02",
          call, &CALL(FFA_MEM_LEND, 0x70, 0x70));
     /* The reserved part of a header has 12 bytes from 36 on, which are no number. */
     stores(0x4001E040, 0x0000005000018002);
@@ -259,7 +260,8 @@ static void lines(void) {
     LINE("check 1: no such function is served: w0 is 84000099", call, &CALL(0x1234567884000099));
     LINE("FFA_RX_RELEASE check 1: the caller has no RX and TX, or its RX is not full", call, &CALL(FFA_RX_RELEASE));
     LINE("FFA_RUN check 2: no partition has the target's identifier: endpoint 8003", call, &CALL(FFA_RUN, 0x80030000));
-    LINE("FFA_RXTX_MAP check 3: TX does not begin at a page and lie in RAM: x1 is 000000014001E000", call,
+    LINE("FFA_RXTX_MAP check 3: TX does not begin at a page and lie in RAM: x1 is 000000014001E000, where the buffer does not lie in RAM",
+         call,
          &CALL(FFA_RXTX_MAP | WITH_64_BITS, 0x14001E000, 0x4001F000, 1));
     LINE("FFA_RXTX_MAP check 6: a page of TX is not the caller's own to read and write, or is in an open transaction: "
          "40020000 belongs to 8001",
@@ -330,7 +332,7 @@ static void check_numbers(void) {
 
 int main(void) {
     struct gorseplumb_lent untouched = {0};
-    CHECK(sizeof(struct gorseplumb_reason) == 14 * sizeof(uint32_t) + 5 * sizeof(uint64_t));
+    CHECK(sizeof(struct gorseplumb_reason) == 14 * sizeof(uint32_t) + 8 * sizeof(uint64_t));
     without_a_machine();
     reads_alone();
     boots = true;

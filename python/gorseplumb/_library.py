@@ -13,7 +13,7 @@ from typing import Any, Callable
 
 from .errors import LibraryError
 
-DECLARATIONS = 6
+DECLARATIONS = 7
 """The number of the declarations that this file has."""
 
 MOST_REGIONS = 16
@@ -129,6 +129,9 @@ class Reason(Structure):
         ("value", c_uint64),
         ("first", c_uint64),
         ("size", c_uint64),
+        ("least", c_uint64),
+        ("most", c_uint64),
+        ("step", c_uint64),
     ]
 
 

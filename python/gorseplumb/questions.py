@@ -240,8 +240,9 @@ class Questions:
         value = raw.value if raw.has_value else None
         number = raw.index if about is About.FIELD else raw.number
         state = RunState(raw.state)
+        allowed = range(raw.least, raw.most + 1, raw.step) if raw.step else None
         return Subject(
-            about, address, raw.endpoint, state, raw.awaits, raw.handle, number, flaw, value, raw.first, raw.size
+            about, address, raw.endpoint, state, raw.awaits, raw.handle, number, flaw, value, raw.first, raw.size, allowed
         )
 
     def _some(self, number: int) -> int:

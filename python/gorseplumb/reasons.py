@@ -5,7 +5,7 @@ from __future__ import annotations
 from dataclasses import dataclass, field
 
 from .checks import Check, Flaw
-from .codes import MANAGER, About, ErrorCode, Fault, Function, Obstacle, RunState
+from .codes import MANAGER, PAGE_SIZE, About, ErrorCode, Fault, Function, Obstacle, RunState
 from .errors import call_name, flaw_text
 from .hexadecimal import DECIMAL, address_text, by_fields, short_text
 from .outcomes import Call, Fetch, Load, Operation, Store
@@ -52,14 +52,16 @@ class Subject:
     """REGISTER, FIELD: what is there, where that can be told"""
     first: int = 0
     size: int = 0
+    allowed: range | None = None
+    """REGISTER, FIELD: which numbers may be there, where that can be told"""
 
     __repr__ = by_fields
 
 
 @dataclass(frozen=True, slots=True)
 class Reason:
-    """Why an operation is refused. `str` is what the program says of it with `--explain`, up to what is wanted
-    instead."""
+    """Why an operation is refused. `str` is what the program says of it with `--explain`, up to what else is to be
+    mended than a number."""
 
     operation: Operation
     fault: Fault | None
@@ -103,7 +105,8 @@ def _subject_text(call: Call, reason: Reason) -> str:
         return f"handle {it.handle:016X}"
     if it.about is About.REGISTER:
         letter = "x" if is_read_whole(call.x[0], it.number) else "w"
-        return f"{letter}{it.number} is {address_text(it.value or 0)}"
+        told = f"{letter}{it.number} is {address_text(it.value or 0)}"
+        return told + _misplaced_text(reason.check, it.value or 0) + _allowed_text(it.allowed, 8)
     if it.about is About.BIT:
         return f"bit {short_text(it.number)}"
     return _field_text(it) if it.about is About.FIELD else ""
@@ -122,6 +125,24 @@ def _state_text(it: Subject) -> str:
     return words + (f" by its direct request to {it.awaits:04X}" if it.awaits else "")
 
 
+def _misplaced_text(check: Check | None, value: int) -> str:
+    if check not in (Check.TX_MISPLACED, Check.RX_MISPLACED):
+        return ""
+    return ", which is not the address of a page" if value % PAGE_SIZE else ", where the buffer does not lie in RAM"
+
+
+def _allowed_text(allowed: range | None, digits: int) -> str:
+    if allowed is None:
+        return ""
+    least, most = f"{allowed[0]:0{digits}X}", f"{allowed[-1]:0{digits}X}"
+    if len(allowed) == 1:
+        return f", and must be {least}"
+    if allowed.step == 1 or len(allowed) > 2:
+        steps = f" in steps of {allowed.step:0{digits}X}" if allowed.step != 1 else ""
+        return f", and may be {least} to {most}{steps}"
+    return f", and may be {least} or {most}"
+
+
 def _field_text(it: Subject) -> str:
     words = flaw_text(it.flaw, it.number) if it.flaw is not None else ""
     size, number = it.size, it.value
@@ -133,7 +154,7 @@ def _field_text(it: Subject) -> str:
     else:
         place, verb = f"bytes {short_text(it.first)} to {short_text(it.first + size - 1)}", "are"
     value = f" {verb} {number:0{2 * size}X}" if number is not None else ""
-    return f"{words}: {place}{value}"
+    return f"{words}: {place}{value}{_allowed_text(it.allowed, 2 * size)}"
 
 
 def _access_words(operation: Load | Store | Fetch, reason: Reason) -> str:

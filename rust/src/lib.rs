@@ -120,6 +120,7 @@ extern crate alloc;
 #[cfg(feature = "std")]
 extern crate std;
 
+mod allowed;
 mod bytes;
 mod certificate;
 mod checks;
@@ -146,6 +147,7 @@ mod refusal;
 mod sending;
 mod settling;
 
+pub use allowed::Allowed;
 pub use certificate::{AuditError, Grant, PageRun};
 pub use checks::{Check, Flaw};
 pub use codes::{AccessError, BootError, Cause, ErrorCode, Fault, NoEndpoint};

@@ -8,7 +8,7 @@
 use core::ffi::c_void;
 
 /// The number of the declarations that stand here.
-pub const DECLARATIONS: u32 = 6;
+pub const DECLARATIONS: u32 = 7;
 
 /// What a question answers where there is nothing to tell.
 pub const NOTHING: u32 = u32::MAX;
@@ -224,6 +224,9 @@ pub struct Reason {
     pub value: u64,
     pub first: u64,
     pub size: u64,
+    pub least: u64,
+    pub most: u64,
+    pub step: u64,
 }
 
 #[derive(Clone, Copy, Debug, PartialEq, Eq)]

@@ -1,5 +1,6 @@
 // SPDX-License-Identifier: MIT OR Apache-2.0
 //! Why an operation would be refused, or was refused just before.
+use crate::allowed::Allowed;
 use crate::checks::{Check, Flaw};
 use crate::codes::{ErrorCode, Fault};
 use crate::hexadecimal::{shown, Hexadecimal, Long, Short};
@@ -23,6 +24,8 @@ pub struct CallReason {
     pub about: Option<About>,
     /// The run state of the endpoint that the check is about, where that is to wait.
     pub state: Option<RunState>,
+    /// Which numbers may be in the register or the field that the check is about.
+    pub allowed: Option<Allowed>,
 }
 
 /// What an endpoint does (DEN0077A, 8.2).
@@ -229,13 +232,14 @@ fn put_bytes(to: &mut fmt::Formatter<'_>, first: u64, size: u64, value: Option<u
     value.map_or(Ok(()), |value| write!(to, " {verb} {value:0digits$X}"))
 }
 
-/// The check's number and words, what it is about, and the run state of that.
+/// The check's number and words, what it is about, and the run state of that, or which numbers may be there.
 impl fmt::Display for CallReason {
     fn fmt(&self, to: &mut fmt::Formatter<'_>) -> fmt::Result {
         self.number.map_or(Ok(()), |number| write!(to, "check {number}: "))?;
         self.check.fmt(to)?;
         self.about.map_or(Ok(()), |about| write!(to, ": {about}"))?;
-        self.state.map_or(Ok(()), |state| write!(to, ", which {state}"))
+        self.state.map_or(Ok(()), |state| write!(to, ", which {state}"))?;
+        self.allowed.map_or(Ok(()), |allowed| allowed.put(to, self.about))
     }
 }
 
@@ -275,6 +279,7 @@ impl CallReason {
             error: known(ErrorCode::of(told.error)),
             about: About::of(told, function, ram),
             state: RunState::of(told),
+            allowed: Allowed::of(told),
         }
     }
 }

@@ -7,7 +7,7 @@ use common::machines::{MACHINE, PARTITIONS};
 use common::refusals::{rows, Row};
 use common::{example, generated, play, play_line, ram, refusals, top};
 use gorseplumb::{
-    call_name, raw, registers, About, CallError, Check, ErrorCode, Fault, Flaw, Function, Grant, Handle, Id, Machine,
+    call_name, raw, registers, About, Allowed, CallError, Check, ErrorCode, Fault, Flaw, Function, Grant, Handle, Id, Machine,
     Obstacle, RunState, Size,
 };
 use std::ffi::CStr;
@@ -124,6 +124,39 @@ fn reasons_are_told_as_the_program_tells_them() {
     let access = "check 6: the bytes in TX are no descriptor of this call: access descriptor 00: \
                   the permissions are none that this call may grant: byte 32 is FF";
     assert!(empty.why_call(&given("call 84000072 60 60")).unwrap().to_string().starts_with(access));
+}
+
+/// Which numbers may be in the register or the field that a check is about (docs/CALLS.md and docs/MEMORY.md).
+#[test]
+fn numbers_that_may_be() {
+    let mut machine = Machine::boot(&MACHINE).unwrap();
+    let mut told = |before: &str, line: &str| {
+        play(&mut machine, before);
+        let reason = machine.why_call(&given(line)).unwrap();
+        (reason.allowed.map(|Allowed { least, most, step }| (least, most, step)), reason.to_string())
+    };
+    let ends = |told: &str, end: &str| assert!(told.ends_with(end), "{told}");
+    let (pages, words) = told("", "call 84000066 4001E000 4001F000 5");
+    assert_eq!(pages, Some((1, 4, 1)));
+    ends(&words, ", and may be 00000001 to 00000004");
+    let (context, words) = told("", "call 84000082 10000 1");
+    assert_eq!(context.map(|(least, most, _)| (least, most)), Some((0, 0)));
+    ends(&words, ", and must be 00000000");
+    let (flags, words) = told("", "call 84000081 8001 1 1");
+    assert_eq!(flags, Some((0, 2, 2)));
+    ends(&words, ", and may be 00000000 or 00000002");
+    assert_eq!(told("", "call 8400006F 8003").0, None);
+    // A lend to one receiver leaves the attributes to that, and a composite stands behind its access descriptor.
+    let lend = "call 84000066 4001E000 4001F000 1\nstore 4001E000 00000000002F0000\n\
+                store 4001E018 0000000100000010\nstore 4001E020 0000000000000030\n\
+                store 4001E030 00000FF000028001\nstore 4001E040 0000000100000001\n\
+                store 4001E050 0000000040010000\nstore 4001E058 0000000000000001\n";
+    let (attributes, words) = told(lend, "call 84000072 60 60");
+    assert_eq!(attributes, Some((0, 0, 1)));
+    ends(&words, ", and must be 0000");
+    let (offset, words) = told("store 4001E002 0000\n", "call 84000072 80 80");
+    assert_eq!(offset, Some((0x40, 0x60, 0x10)));
+    ends(&words, ", and may be 00000040 to 00000060 in steps of 00000010");
 }
 
 /// What an endpoint does that is to wait.

@@ -91,9 +91,10 @@ fn reasons() {
             error: ErrorCode::InvalidParameters,
             about: Some(about),
             state: None,
+            allowed: None,
         },
         "CallReason { check: BuffersOverlap, number: Some(5), error: InvalidParameters, \
-         about: Some(Register { number: 2, value: 0x40010000, is_whole: false }), state: None }",
+         about: Some(Register { number: 2, value: 0x40010000, is_whole: false }), state: None, allowed: None }",
     );
     shows(RunState::Blocked { awaits: Some(Id(0x8002)) }, "Blocked { awaits: Some(Id(0x8002)) }");
     let obstacle = Some(Obstacle::InTransaction(Handle(0x1_0000)));

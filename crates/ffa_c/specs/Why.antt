@@ -32,6 +32,8 @@ use Rattle.ffa_model.specs.declared.why.Obstacle.{Obstacle}
 use Rattle.ffa_model.specs.declared.why.Obstacle.TheVariants.{OutsideRam, ManagersPage, OwnedBy, InTransaction}
 use Rattle.ffa_model.specs.declared.why.Why.{Why}
 use Rattle.ffa_model.specs.declared.why.Why.TheVariants.{Refused, Fault}
+use Rattle.ffa_mend.specs.declared.allowed.Allowed.{Allowed}
+use Rattle.ffa_mend.specs.Allowed.{allowed}
 use Rattle.ffa_playable.specs.declared.detail.Standing.{Standing}
 use Rattle.ffa_playable.specs.declared.detail.Standing.TheVariants.{RunState}
 use Rattle.ffa_playable.specs.Standing.{standing}
@@ -77,6 +79,9 @@ no_reason =
       value = 0;
       first = 0;
       size = 0;
+      least = 0;
+      most = 0;
+      step = 0;
     }
 
 -- what stands in the way
@@ -157,12 +162,22 @@ abbrev pub standing_told : Option Standing → CReason → CReason
 standing_told None r = r
 standing_told (Some (RunState status awaits)) r = awaited_told awaits (record r { state = state_number status })
 
-abbrev pub reason_told : Why → Option Standing → CReason
-reason_told why its = standing_told its (refused_told why)
+-- which values may be there instead: a step is never 0
+abbrev pub allowed_told : Option Allowed → CReason → CReason
+allowed_told None r = r
+allowed_told (Some its) r = record r { least = its.least; most = its.most; step = its.step }
+
+abbrev pub reason_told : Why → Option Standing → Option Allowed → CReason
+reason_told why its values = allowed_told values (standing_told its (refused_told why))
 
 -- in the state of the machine, if there is one
 abbrev pub standing_held : Option Boarded → Why → Option Standing
 standing_held held why = option_and_then (λ (b : Boarded). standing b.machine.state why) held
 
-abbrev pub reason_held : Option Boarded → Why → CReason
-reason_held held why = reason_told why (standing_held held why)
+-- and of an operation that is no processor's, so that the normal world has one execution context
+abbrev pub allowed_held : Option Boarded → Option Op → Why → Option Allowed
+allowed_held held None why = None
+allowed_held held (Some op) why = option_and_then (λ (b : Boarded). allowed 1 b.machine.state op why) held
+
+abbrev pub reason_held : Option Boarded → Option Op → Why → CReason
+reason_held held op why = reason_told why (standing_held held why) (allowed_held held op why)

@@ -17,6 +17,7 @@ ghost use Rattle.ffa_model.specs.Why.{granted, why};
 ghost use Rattle.ffa_manifest.specs.Document.{parts_of};
 ghost use Rattle.ffa_spmc.specs.Storages.{IsRoomFor};
 ghost use Rattle.ffa_notify.specs.Notices.{is_due, still_told};
+ghost use Rattle.ffa_mend.specs.Allowed.{allowed};
 ghost use Rattle.ffa_playable.specs.Standing.{standing};
 ghost use Rattle.ffa_c.specs.Boarded.{cluster_of};
 ghost use Rattle.ffa_c.specs.Booting.{IsFirst, IsFirstBy};
@@ -34,6 +35,7 @@ use crate::kind::{
 use crate::outcome::COutcome;
 use ffa_lent::{Frames, LentRam};
 use ffa_memshare::Changed;
+use ffa_mend::Allowed;
 use ffa_model::{
     CertRun, EndpointId, Grant, MOST_ENDPOINTS, MOST_PROCESSORS, Manifest, Op, PageNo, Why,
 };
@@ -337,6 +339,15 @@ impl Board {
     {
         let why = why?;
         asked!(&self.kind, machine => ffa_reasons::standing(machine, why))
+    }
+
+    /// Which values may be in the register or the field that the check is about, where an operation of the runner is refused that no
+    /// processor is named for.
+    pub fn allowed(&self, op: &Op, why: Option<Why>) -> Option<Allowed>
+        ensures { result ≡ option_and_then (allowed 1 self.now.machine.state op.now) why }
+    {
+        let why = why?;
+        asked!(&self.kind, machine => ffa_reasons::allowed(machine, 1, op, why))
     }
 
     /// Whether an endpoint has a notification pending.

@@ -4,7 +4,7 @@ ghost use Rattle.std.specs.Prelude.{◌≡◌, IfSome, false, is_some};
 ghost use Rattle.std.specs.Int.{cast_signed, w32};
 ghost use Rattle.ffa_model.specs.Calls.{code_number};
 ghost use Rattle.ffa_c.specs.Border.{fault_number};
-ghost use Rattle.ffa_c.specs.Why.{about_told, awaited_told, check_number, field_told, flaw_number, index_in, no_reason, obstacle_told, reason_told, standing_told, state_number, value_told};
+ghost use Rattle.ffa_c.specs.Why.{about_told, allowed_told, awaited_told, check_number, field_told, flaw_number, index_in, no_reason, obstacle_told, reason_told, standing_told, state_number, value_told};
 
 use crate::codes::{
     ABOUT_BIT, ABOUT_ENDPOINT, ABOUT_FIELD, ABOUT_HANDLE, ABOUT_NOTHING, ABOUT_PAGE,
@@ -13,6 +13,7 @@ use crate::codes::{
     STATE_RUNNING, STATE_RUNS_ELSEWHERE, STATE_WAITING, STATE_YIELDED,
 };
 use crate::outcome::fault_code;
+use ffa_mend::Allowed;
 use ffa_model::{About, EndpointId, ErrorCode, FieldPlace, Flaw, Obstacle, Refusal, Status, Why};
 use ffa_playable::Standing;
 
@@ -58,6 +59,12 @@ pub struct CReason {
     pub first: u64,
     /// With `ABOUT_FIELD`: how many bytes it has.
     pub size: u64,
+    /// Where `step` isn't 0: the least value that may be in the register or in the field instead.
+    pub least: u64,
+    /// The greatest.
+    pub most: u64,
+    /// How far each such value is from the next; 0 where none are told.
+    pub step: u64,
 }
 
 impl CReason {
@@ -84,12 +91,15 @@ impl CReason {
             value: 0,
             first: 0,
             size: 0,
+            least: 0,
+            most: 0,
+            step: 0,
         }
     }
 
-    /// A reason for C, with how that stands which the check is about.
-    pub fn of(why: &Why, standing: Option<Standing>) -> CReason
-        ensures { result ≡ reason_told why.now standing }
+    /// A reason for C, with how that stands which the check is about, and which values may be there.
+    pub fn of(why: &Why, standing: Option<Standing>, allowed: Option<Allowed>) -> CReason
+        ensures { result ≡ reason_told why.now standing allowed }
     {
         let mut reason = CReason::none();
         match *why {
@@ -104,18 +114,24 @@ impl CReason {
             }
         }
         reason.tell_standing(standing);
+        reason.tell_allowed(allowed);
         reason
     }
 
     /// Takes a reason on, if there is one, and says whether there is.
-    pub fn fill(&mut self, why: Option<Why>, standing: Option<Standing>) -> bool
+    pub fn fill(
+        &mut self,
+        why: Option<Why>,
+        standing: Option<Standing>,
+        allowed: Option<Allowed>,
+    ) -> bool
         ensures there { result ≡ is_some why }
-        ensures told { IfSome why (λ why. self.new ≡ reason_told why standing) }
+        ensures told { IfSome why (λ why. self.new ≡ reason_told why standing allowed) }
         ensures kept { result ≡ false → self.new ≡ self.old }
     {
         match why {
             Some(why) => {
-                *self = CReason::of(&why, standing);
+                *self = CReason::of(&why, standing, allowed);
                 true
             }
             None => false,
@@ -187,6 +203,17 @@ impl CReason {
                 self.state = state_number(status);
                 self.tell_awaited(awaits);
             }
+        }
+    }
+
+    // Which values may be there.
+    fn tell_allowed(&mut self, allowed: Option<Allowed>)
+        ensures { self.new ≡ allowed_told allowed self.old }
+    {
+        if let Some(Allowed { least, most, step }) = allowed {
+            self.least = least;
+            self.most = most;
+            self.step = step;
         }
     }
 

@@ -20,8 +20,8 @@ pub extern "C" fn gorseplumb_why_call(
     ensures same { machine.new.held.value ≡ machine.old.held.value }
     ensures refused { result ≡ is_refused machine.old.held.value (Some (Op.Call registers.now.x)) }
     ensures there { result ≡ is_some (why_held machine.old.held.value (Some (Op.Call registers.now.x))) }
-    ensures told { let why = why_held machine.old.held.value (Some (Op.Call registers.now.x)) in
-        IfSome why (λ why. reason.new ≡ reason_held machine.old.held.value why) }
+    ensures told { let op = Some (Op.Call registers.now.x) in
+        IfSome (why_held machine.old.held.value op) (λ why. reason.new ≡ reason_held machine.old.held.value op why) }
     ensures kept { result ≡ false → reason.new ≡ reason.old }
 {
     tell(machine, Some(Op::Call(registers.x)), reason)
@@ -38,8 +38,8 @@ pub extern "C" fn gorseplumb_why_load(
     ensures same { machine.new.held.value ≡ machine.old.held.value }
     ensures refused { result ≡ is_refused machine.old.held.value (sized size (λ s. Op.Load addr s)) }
     ensures there { result ≡ is_some (why_held machine.old.held.value (sized size (λ s. Op.Load addr s))) }
-    ensures told { let why = why_held machine.old.held.value (sized size (λ s. Op.Load addr s)) in
-        IfSome why (λ why. reason.new ≡ reason_held machine.old.held.value why) }
+    ensures told { let op = sized size (λ s. Op.Load addr s) in
+        IfSome (why_held machine.old.held.value op) (λ why. reason.new ≡ reason_held machine.old.held.value op why) }
     ensures kept { result ≡ false → reason.new ≡ reason.old }
 {
     tell(machine, load_of(addr, size), reason)
@@ -56,8 +56,8 @@ pub extern "C" fn gorseplumb_why_store(
     ensures same { machine.new.held.value ≡ machine.old.held.value }
     ensures refused { result ≡ is_refused machine.old.held.value (sized size (λ s. Op.Store addr s 0)) }
     ensures there { result ≡ is_some (why_held machine.old.held.value (sized size (λ s. Op.Store addr s 0))) }
-    ensures told { let why = why_held machine.old.held.value (sized size (λ s. Op.Store addr s 0)) in
-        IfSome why (λ why. reason.new ≡ reason_held machine.old.held.value why) }
+    ensures told { let op = sized size (λ s. Op.Store addr s 0) in
+        IfSome (why_held machine.old.held.value op) (λ why. reason.new ≡ reason_held machine.old.held.value op why) }
     ensures kept { result ≡ false → reason.new ≡ reason.old }
 {
     tell(machine, store_of(addr, size), reason)
@@ -73,8 +73,8 @@ pub extern "C" fn gorseplumb_why_fetch(
     ensures same { machine.new.held.value ≡ machine.old.held.value }
     ensures refused { result ≡ is_refused machine.old.held.value (Some (Op.Fetch addr)) }
     ensures there { result ≡ is_some (why_held machine.old.held.value (Some (Op.Fetch addr))) }
-    ensures told { let why = why_held machine.old.held.value (Some (Op.Fetch addr)) in
-        IfSome why (λ why. reason.new ≡ reason_held machine.old.held.value why) }
+    ensures told { let op = Some (Op.Fetch addr) in
+        IfSome (why_held machine.old.held.value op) (λ why. reason.new ≡ reason_held machine.old.held.value op why) }
     ensures kept { result ≡ false → reason.new ≡ reason.old }
 {
     tell(machine, Some(Op::Fetch { addr }), reason)
@@ -110,14 +110,14 @@ fn tell(machine: &mut CMachine, op: Option<Op>, reason: &mut CReason) -> bool
     ensures refused { result ≡ is_refused machine.old.held.value op }
     ensures there { result ≡ is_some (why_held machine.old.held.value op) }
     ensures told { IfSome (why_held machine.old.held.value op) (λ why.
-        reason.new ≡ reason_held machine.old.held.value why) }
+        reason.new ≡ reason_held machine.old.held.value op why) }
     ensures kept { result ≡ false → reason.new ≡ reason.old }
 {
     match op {
         Some(op) if machine.live => {
             let board = machine.held.board();
             let why = board.why(&op);
-            reason.fill(why, board.standing(why))
+            reason.fill(why, board.standing(why), board.allowed(&op, why))
         }
         _ => false,
     }

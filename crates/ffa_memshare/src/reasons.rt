@@ -6,7 +6,9 @@ mod about;
 mod failing;
 mod mend;
 mod offered;
+mod told;
 
 pub use about::{about_relinquish, about_retrieve, about_send};
 pub use failing::{failing_reclaim, failing_send};
 pub use mend::mend_send;
+pub use told::told_receivers;

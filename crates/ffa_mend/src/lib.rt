@@ -3,6 +3,10 @@
 //! diagnostics alone, and no call is done by it.
 #![tactic(auto)]
 
+mod allowed;
+
+pub use allowed::Allowed;
+
 use ffa_model::{EndpointId, Kind, Rights, Version, Work};
 
 /// What a machine tells of an operation that is refused, beside why it is.

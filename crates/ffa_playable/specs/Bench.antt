@@ -4,6 +4,7 @@
 use Rattle.std.specs.Prelude.{ℕ, Bool, false, not, ◌&&◌, ◌||◌, nat_lt, List, Option, Some, None, is_some, refl, if◌then◌else◌}
 use Rattle.std.specs.Option.{option_map}
 use Rattle.std.specs.Coded.{Coded, code_by, coded×, coded_ℕ, coded_list, coded_option}
+use Rattle.ffa_model.specs.declared.limits.TheConstants.{MOST_PROCESSORS}
 use Rattle.ffa_model.specs.declared.operation.Effect.{Effect}
 use Rattle.ffa_model.specs.declared.operation.Effect.TheVariants as effects
 use Rattle.ffa_model.specs.declared.operation.Op.{Op}
@@ -61,6 +62,14 @@ run_by count s =
 -- how many processors a trace may name
 abbrev pub processors_of : Bench → Option ℕ
 processors_of b = option_map (λ (x : Several). x.count) b.several
+
+-- how many execution contexts the normal world may name there: `in_one_context` takes any of these for the one
+abbrev pub contexts_by : Option Several → ℕ
+contexts_by None = 1
+contexts_by (Some x) = MOST_PROCESSORS
+
+abbrev pub contexts_of : Bench → ℕ
+contexts_of b = contexts_by b.several
 
 -- AN OPERATION of whoever runs on the processor on turn
 

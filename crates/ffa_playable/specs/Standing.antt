@@ -1,8 +1,11 @@
 -- SPDX-License-Identifier: MIT OR Apache-2.0
--- How that stands which a check is about: the run state of an endpoint that is to wait (DEN0077A, 8.2).
+-- How that stands which a check is about: the run state of an endpoint that is to wait (DEN0077A, 8.2). And what else a machine tells
+-- of a refusal.
 use Rattle.std.specs.Prelude.{ℕ, Bool, length, find, Option, Some, None}
 use Rattle.std.specs.Option.{option_map}
+use Rattle.ffa_mend.specs.declared.allowed.Allowed.{Allowed}
 use Rattle.ffa_mend.specs.declared.Mend.{Mend}
+use Rattle.ffa_mend.specs.Allowed.{allowed}
 use Rattle.ffa_mend.specs.Mend.{mend_why}
 use Rattle.ffa_model.specs.declared.endpoint.EndpointId.{EndpointId}
 use Rattle.ffa_model.specs.declared.operation.Op.{Op}
@@ -17,6 +20,7 @@ use Rattle.ffa_model.specs.Lists.{listed}
 use Rattle.ffa_model.specs.Numbers.{Identifier}
 use Rattle.ffa_model.specs.RunStates.{Schedule, is_endpoint, requester, schedule_of, status_in, work_in}
 use Rattle.ffa_model.specs.State.{State}
+use Rattle.ffa_playable.specs.Bench.{Bench, as_done, contexts_of}
 use Rattle.ffa_playable.specs.declared.detail.Detail.{Detail}
 use Rattle.ffa_playable.specs.declared.detail.Detail.TheVariants as details
 use Rattle.ffa_playable.specs.declared.detail.Standing.{Standing}
@@ -51,10 +55,16 @@ abbrev pub standing : State → Why → Option Standing
 standing s (Refused refusal about) = standing_of_check s refusal about
 standing s (Fault kind obstacle) = None
 
--- that, or what is to be mended
-abbrev pub detail_by : Option Standing → Option Mend → Option Detail
-detail_by (Some its) mend = Some (details.Standing its)
-detail_by None mend = option_map details.Mend mend
+-- that, or what is to be mended, or which values may be there
+abbrev pub detail_by : Option Standing → Option Mend → Option Allowed → Option Detail
+detail_by (Some its) mend values = Some (details.Standing its)
+detail_by None (Some mend) values = Some (details.Mend mend)
+detail_by None None values = option_map details.Allowed values
 
-abbrev pub detail : State → Op → Why → Option Detail
-detail s op why = detail_by (standing s why) (mend_why s op why)
+-- where the normal world has so many execution contexts
+abbrev pub detail : ℕ → State → Op → Why → Option Detail
+detail contexts s op why = detail_by (standing s why) (mend_why s op why) (allowed contexts s op why)
+
+-- on a bench
+abbrev pub detail_of : Bench → Op → Why → Option Detail
+detail_of b op why = detail (contexts_of b) b.state (as_done b op) why

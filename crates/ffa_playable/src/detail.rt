@@ -1,7 +1,7 @@
 // SPDX-License-Identifier: MIT OR Apache-2.0
 //! What a machine tells of an operation that is refused, beside why it is. It serves diagnostics alone.
 
-use ffa_mend::Mend;
+use ffa_mend::{Allowed, Mend};
 use ffa_model::{EndpointId, Status};
 
 /// What a machine tells of an operation that is refused, beside why it is.
@@ -11,6 +11,8 @@ pub enum Detail {
     Mend(Mend),
     /// How that stands which the check is about.
     Standing(Standing),
+    /// Which values that register or field may have which the check is about.
+    Allowed(Allowed),
 }
 
 /// How that stands which a check is about.

@@ -12,8 +12,8 @@ ghost use Rattle.ffa_model.specs.Ram.{word_of};
 ghost use Rattle.ffa_model.specs.State.{Page, owner_of, page_at};
 ghost use Rattle.ffa_model.specs.Why.{outcome_of};
 ghost use Rattle.ffa_mend.specs.Offered.{offered};
-ghost use Rattle.ffa_playable.specs.Bench.{Bench, after_interrupt, after_op, as_done, effect_of, outcome_of_interrupt, processors_of, refuses, turned_to, why_of};
-ghost use Rattle.ffa_playable.specs.Standing.{detail};
+ghost use Rattle.ffa_playable.specs.Bench.{Bench, after_interrupt, after_op, effect_of, outcome_of_interrupt, processors_of, refuses, turned_to, why_of};
+ghost use Rattle.ffa_playable.specs.Standing.{detail_of};
 
 mod detail;
 
@@ -55,9 +55,9 @@ pub trait Playable: Drop {
             effect_of (bench self.now) op.now ≡ Effect.Outcome (outcome_of (bench self.now).state reason)) };
 
     /// What is to be mended where an operation of the runner is refused for this reason, or how that stands which the check
-    /// is about, as far as the machine knows it. It changes nothing.
+    /// is about, or which values may be there, as far as the machine knows it. It changes nothing.
     fn detail(&self, op: &Op, why: Why) -> Option<Detail>
-        ensures { result ≡ detail (bench self.now).state (as_done (bench self.now) op.now) why };
+        ensures { result ≡ detail_of (bench self.now) op.now why };
 
     /// The endpoint that runs.
     fn runner(&self) -> EndpointId

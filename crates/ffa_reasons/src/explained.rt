@@ -38,7 +38,7 @@ impl<M: PhysMem + Drop, T: Translations + Drop, S: Store> Playable for Explained
     }
 
     fn detail(&self, op: &Op, why: Why) -> Option<Detail> {
-        crate::detail(&self.0, op, why)
+        crate::detail(&self.0, 1, op, why)
     }
 
     fn runner(&self) -> EndpointId {

@@ -4,6 +4,7 @@
 #![tactic(auto)]
 
 mod abouts;
+mod allowed;
 mod contents;
 mod explained;
 mod faults;
@@ -17,4 +18,4 @@ mod telling;
 
 pub use explained::Explained;
 pub use several::ExplainedCluster;
-pub use telling::{detail, grant_of, offered, standing, why, why_resuming};
+pub use telling::{allowed, detail, grant_of, offered, standing, why, why_resuming};

@@ -7,13 +7,14 @@ ghost use Rattle.ffa_model.specs.Processors.{resumed_by, resumed_by_call, step_r
 ghost use Rattle.ffa_model.specs.Refusals.{is_refusal};
 ghost use Rattle.ffa_model.specs.Step.{step};
 ghost use Rattle.ffa_model.specs.Why.{granted, outcome_of, why, why_fault};
+ghost use Rattle.ffa_mend.specs.Allowed.{allowed};
 ghost use Rattle.ffa_mend.specs.Mend.{address_of, call_of, mend_why};
 ghost use Rattle.ffa_mend.specs.Offered.{offered};
 ghost use Rattle.ffa_playable.specs.Bench.{is_refused};
 ghost use Rattle.ffa_playable.specs.Standing.{detail, standing};
 
 use crate::reasons::Reasons;
-use ffa_mend::Mend;
+use ffa_mend::{Allowed, Mend};
 use ffa_model::{Call, Effect, EndpointId, FaultKind, Grant, Op, PageNo, Rights, Why};
 use ffa_physmem::PhysMem;
 use ffa_playable::{Detail, Standing};
@@ -57,23 +58,41 @@ pub fn why_resuming<M: PhysMem + Drop, T: Translations + Drop, S: Store>(
 }
 
 /// What is to be mended where an operation of the runner is refused for this reason, beside what the reason names: a buffer, a
-/// right, a value that is wanted, or which of two causes it has; or how that stands which the check is about. Nothing where
-/// nothing more is known. It changes nothing and takes no memory.
+/// right, a value that is wanted, or which of two causes it has; or how that stands which the check is about; or which values may
+/// be there, where the normal world has so many execution contexts. Nothing where nothing more is known. It changes nothing and
+/// takes no memory.
 pub fn detail<M: PhysMem + Drop, T: Translations + Drop, S: Store>(
     machine: &Machine<M, T, S>,
+    contexts: u32,
     op: &Op,
     why: Why,
 ) -> Option<Detail>
-    ensures detail { result ≡ detail machine.now.state op.now why }
+    ensures detail { result ≡ detail contexts machine.now.state op.now why }
 {
     let reasons = Reasons::of(machine);
     if let Some(standing) = reasons.standing(why) {
         return Some(Detail::Standing(standing));
     }
-    match reasons.mend(op, why) {
-        Some(mend) => Some(Detail::Mend(mend)),
+    if let Some(mend) = reasons.mend(op, why) {
+        return Some(Detail::Mend(mend));
+    }
+    match reasons.allowed(contexts, op, why) {
+        Some(allowed) => Some(Detail::Allowed(allowed)),
         None => None,
     }
+}
+
+/// Which values that register or field may have which the check is about that refuses an operation of the runner, where the normal
+/// world has so many execution contexts. Nothing of other checks. It changes nothing and takes no memory.
+pub fn allowed<M: PhysMem + Drop, T: Translations + Drop, S: Store>(
+    machine: &Machine<M, T, S>,
+    contexts: u32,
+    op: &Op,
+    why: Why,
+) -> Option<Allowed>
+    ensures allowed { result ≡ allowed contexts machine.now.state op.now why }
+{
+    Reasons::of(machine).allowed(contexts, op, why)
 }
 
 /// How that stands which the check is about that refuses an operation of the runner: the run state of an endpoint that is to
@@ -187,7 +206,7 @@ impl<M: PhysMem + Drop, T: Translations + Drop, S: Store> Reasons<'_, M, T, S> {
 }
 
 // The call that an operation is, if it is one.
-fn call_of(op: &Op) -> Call
+pub(crate) fn call_of(op: &Op) -> Call
     ensures { result ≡ call_of op.now }
 {
     match *op {

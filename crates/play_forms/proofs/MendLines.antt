@@ -1,13 +1,13 @@
 -- SPDX-License-Identifier: MIT OR Apache-2.0
 -- What stands in a reason behind what the check is about has no LF.
-use Rattle.std.proofs.Common.{ℕ, ◌+◌, ◌%◌, ◌^◌, Bool, true, false, List, ◌++◌, Option, None, Some, inl, inr, refl}
+use Rattle.std.proofs.Common.{ℕ, ◌+◌, ◌-◌, ◌%◌, ◌^◌, Bool, true, false, List, ◌++◌, Option, None, Some, inl, inr, refl}
 use Rattle.std.specs.Prelude.{◌==◌, codes, nat_lt}
 use Rattle.std.proofs.lemmas.Bool.{cases_Bool}
 use Rattle.ffa_model.specs.declared.endpoint.EndpointId.{EndpointId}
 use Rattle.ffa_model.specs.declared.endpoint.Version.{Version}
 use Rattle.ffa_model.specs.declared.endpoint.Version.TheVariants.{Compact, V1_1}
-use Rattle.ffa_model.specs.declared.operation.Op.{Op}
 use Rattle.ffa_model.specs.declared.refusal.Refusal.{Refusal}
+use Rattle.ffa_model.specs.declared.refusal.Refusal.TheVariants.{TxMisplaced, RxMisplaced}
 use Rattle.ffa_model.specs.declared.rights.Data.{Data}
 use Rattle.ffa_model.specs.declared.rights.Data.TheVariants.{Ro, Rw}
 use Rattle.ffa_model.specs.declared.rights.Kind.{Kind}
@@ -17,23 +17,21 @@ use Rattle.ffa_model.specs.declared.schedule.Status.{Status}
 use Rattle.ffa_model.specs.declared.schedule.Status.TheVariants.{Running, Waiting, Yielded, Blocked, Preempted, RunsElsewhere}
 use Rattle.ffa_model.specs.declared.schedule.Work.{Work}
 use Rattle.ffa_model.specs.declared.schedule.Work.TheVariants.{Run, Request}
+use Rattle.ffa_mend.specs.declared.allowed.Allowed.{Allowed}
 use Rattle.ffa_mend.specs.declared.Cause.{Cause}
 use Rattle.ffa_mend.specs.declared.Cause.TheVariants.{BuffersMissing, RxNotFull, BitPending, BitTaken, BitUnbound, HandleUnknown, NotReceiver, NotLent, BitmapsUncreated, NotificationsUnreceived, SecureToNormal, PagesOfBothWorlds}
 use Rattle.ffa_mend.specs.declared.Mend.{Mend}
 use Rattle.ffa_mend.specs.declared.Mend.TheVariants as mends
 use Rattle.ffa_mend.specs.declared.Side.{Side}
 use Rattle.ffa_mend.specs.declared.Side.TheVariants.{Tx, Rx}
-use Rattle.ffa_mend.specs.Mend.{call_of}
 use Rattle.ffa_model.specs.DescriptorPlaces.{told_access_size}
 use Rattle.ffa_playable.specs.declared.detail.Detail.{Detail}
 use Rattle.ffa_playable.specs.declared.detail.Detail.TheVariants as details
 use Rattle.ffa_playable.specs.declared.detail.Standing.{Standing}
 use Rattle.ffa_playable.specs.declared.detail.Standing.TheVariants.{RunState}
 use Rattle.play_syntax.specs.TraceText.{hex, rights_text}
-use Rattle.play_reasons.specs.declared.allowed.Allowed.{Allowed}
-use Rattle.play_reasons.specs.declared.allowed.Allowed.TheVariants.{One, Span, Either, Place}
 use Rattle.play_reasons.specs.Details.{awaited_text, detail_text, detailed_text, run_state_text, standing_text, status_text}
-use Rattle.play_reasons.specs.Mends.{access_text, address_digits, address_text, allowed_by, allowed_register, allowed_text, asked_text, beyond_text, buffer_text, bytes_text, cause_text, ends_text, form_text, holder_text, kind_text, kinds_text, mend_text, message_text, misplaced_text, one_text, outside_text, pending_text, room_text, short_digits, short_text, span_text, tag_text, version_text, wanted_text, word_text, work_text}
+use Rattle.play_reasons.specs.Mends.{access_text, address_digits, address_text, allowed_text, asked_text, beyond_text, buffer_text, bytes_text, cause_text, ends_text, form_text, holder_text, kind_text, kinds_text, mend_text, message_text, misplaced_text, one_text, outside_text, pending_text, room_text, short_digits, short_text, span_text, steps_text, tag_text, version_text, wanted_text, word_text, work_text}
 use Rattle.play_forms.proofs.Singles.{IsSingle, single_append, single_hex}
 
 pub single_address : (address : ℕ) → IsSingle (address_text address)
@@ -61,18 +59,31 @@ single_misplaced address =
       | inr inside ↦ rw inside refl
     ]
 
-single_values : (digits : ℕ) (allowed : Allowed) → IsSingle (allowed_by digits allowed)
-single_values digits (One value) = single_one digits value
-single_values digits (Span least most) = single_span digits (codes " to ") least most refl
-single_values digits (Either a b) = single_span digits (codes " or ") a b refl
-single_values digits (Place address) = single_misplaced address
+single_steps : (digits : ℕ) (its : Allowed) → IsSingle (steps_text digits its)
+unfolding steps_text
+single_steps digits its =
+    single_append (span_text digits (codes " to ") its.least its.most) (codes " in steps of " ++ hex digits its.step)
+    (single_span digits (codes " to ") its.least its.most refl) (single_hex digits its.step)
 
-pub single_allowed : (digits : ℕ) (allowed : Option Allowed) → IsSingle (allowed_text digits allowed)
-single_allowed digits None = refl
-single_allowed digits (Some allowed) = single_values digits allowed
+single_allowed : (digits : ℕ) (its : Allowed) → IsSingle (allowed_text digits its)
+single_allowed digits its =
+    elim (cases_Bool (its.least == its.most)) [
+      | inl one ↦ rw one (single_one digits its.least)
+      | inr more ↦ rw more
+          (elim (cases_Bool (its.step == 1)) [
+            | inl all ↦ rw all (single_span digits (codes " to ") its.least its.most refl)
+            | inr some ↦ rw some
+                (elim (cases_Bool (its.most - its.least == its.step)) [
+                  | inl two ↦ rw two (single_span digits (codes " or ") its.least its.most refl)
+                  | inr many ↦ rw many (single_steps digits its)
+                ])
+          ])
+    ]
 
-pub single_wanted : (op : Op) (refusal : Refusal) (value : ℕ) → IsSingle (wanted_text op refusal value)
-single_wanted op refusal value = single_allowed 8 (allowed_register (call_of op) refusal value)
+pub single_wanted : (refusal : Refusal) (value : ℕ) → IsSingle (wanted_text refusal value)
+single_wanted TxMisplaced value = single_misplaced value
+single_wanted RxMisplaced value = single_misplaced value
+single_wanted refusal value = refl
 
 -- WHAT IS TO BE MENDED
 
@@ -233,10 +244,11 @@ single_run_state status awaits = single_append (status_text status) (awaited_tex
 single_standing : (standing : Standing) → IsSingle (standing_text standing)
 single_standing (RunState status awaits) = single_run_state status awaits
 
-single_detail : (detail : Detail) → IsSingle (detail_text detail)
-single_detail (details.Mend mend) = single_mend mend
-single_detail (details.Standing standing) = single_standing standing
+single_detail : (digits : ℕ) (detail : Detail) → IsSingle (detail_text digits detail)
+single_detail digits (details.Mend mend) = single_mend mend
+single_detail digits (details.Standing standing) = single_standing standing
+single_detail digits (details.Allowed values) = single_allowed digits values
 
-pub single_detailed : (detail : Option Detail) → IsSingle (detailed_text detail)
-single_detailed None = refl
-single_detailed (Some detail) = single_detail detail
+pub single_detailed : (digits : ℕ) (detail : Option Detail) → IsSingle (detailed_text digits detail)
+single_detailed digits None = refl
+single_detailed digits (Some detail) = single_detail digits detail

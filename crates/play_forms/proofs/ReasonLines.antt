@@ -19,7 +19,7 @@ use Rattle.ffa_model.specs.declared.why.Obstacle.TheVariants as obstacles
 use Rattle.ffa_model.specs.declared.why.Why.{Why}
 use Rattle.ffa_model.specs.declared.why.Why.TheVariants.{Refused, Fault}
 use Rattle.ffa_model.specs.Registers.{low}
-use Rattle.ffa_playable.specs.Bench.{Bench, as_done, why_of}
+use Rattle.ffa_playable.specs.Bench.{Bench, why_of}
 use Rattle.play_syntax.specs.TraceLines.{Line, operate, show, audit, skip, turn, interrupt, has_no_feed}
 use Rattle.play_syntax.specs.TraceText.{bytes_moved, hex}
 use Rattle.ffa_abi.specs.Names.{call_name_of}
@@ -29,17 +29,16 @@ use Rattle.play_reasons.specs.FlawWords.{flaw_words_of}
 use Rattle.ffa_model.specs.Words.{words_of}
 use Rattle.play_reasons.proofs.SingleWords.{single_flaw, single_words}
 use Rattle.play_forms.specs.Cut.{CutsTo}
-use Rattle.play_reasons.specs.Reasons.{about_text, call_text, check_text, fault_text, field_digits, field_text, handle_text, index_text, last_of, letter_text, name_text, named_text, number_in_field, number_text, obstacle_text, page_address, page_text, place_text, reason_if, reason_line, reason_mark, reason_text, register_text, right_text, subject_text, told_size, told_value, transaction_text, value_text, verb_text, why_text}
+use Rattle.play_reasons.specs.Reasons.{about_text, call_text, check_text, fault_text, field_digits, field_text, handle_text, index_text, last_of, letter_text, name_text, named_text, number_in_field, number_text, obstacle_text, page_address, page_text, place_text, reason_if, reason_line, reason_mark, reason_text, register_text, right_text, subject_text, told_size, told_value, transaction_text, value_digits, value_text, verb_text, why_text}
 use Rattle.play_reasons.specs.Closer.{closer_text}
 use Rattle.play_forms.proofs.CloserLines.{single_closer}
-use Rattle.play_forms.proofs.MendLines.{single_address, single_allowed, single_detailed, single_short, single_wanted}
+use Rattle.play_forms.proofs.MendLines.{single_address, single_detailed, single_short, single_wanted}
 use Rattle.play_forms.proofs.Singles.{IsSingle, single_append, single_hex}
-use Rattle.ffa_mend.specs.Mend.{address_of, call_of}
+use Rattle.ffa_mend.specs.Mend.{address_of}
 use Rattle.ffa_playable.specs.declared.detail.Detail.{Detail}
-use Rattle.ffa_playable.specs.Standing.{detail}
-use Rattle.play_reasons.specs.declared.allowed.Allowed.{Allowed}
+use Rattle.ffa_playable.specs.Standing.{detail_of}
 use Rattle.play_reasons.specs.Details.{detailed_text}
-use Rattle.play_reasons.specs.Mends.{address_text, allowed_field, allowed_text, kind_of, short_text, wanted_text}
+use Rattle.play_reasons.specs.Mends.{address_text, short_text, wanted_text}
 use Rattle.play_forms.proofs.Cuts.{cuts_none, cuts_reason, decimal_digits, digits_single}
 use Rattle.play_forms.proofs.PrintedWords.{single_call}
 
@@ -117,29 +116,26 @@ single_verb size =
       | inr more ↦ rw more refl
     ]
 
-single_in_field : (size value : ℕ) (allowed : Option Allowed) → IsSingle (number_in_field size value allowed)
+single_in_field : (size value : ℕ) → IsSingle (number_in_field size value)
 unfolding number_in_field
-single_in_field size value allowed =
-    single_append (verb_text size ++ hex (field_digits size) value) (allowed_text (field_digits size) allowed)
-    (single_append (verb_text size) (hex (field_digits size) value) (single_verb size) (single_hex (field_digits size) value))
-    (single_allowed (field_digits size) allowed)
+single_in_field size value =
+    single_append (verb_text size) (hex (field_digits size) value) (single_verb size) (single_hex (field_digits size) value)
 
-single_value : (size : ℕ) (value : Option ℕ) (allowed : Option Allowed) → IsSingle (value_text size value allowed)
-single_value size None allowed = refl
-single_value size (Some value) allowed = single_in_field size value allowed
+single_value : (size : ℕ) (value : Option ℕ) → IsSingle (value_text size value)
+single_value size None = refl
+single_value size (Some value) = single_in_field size value
 
-single_field : (op : Op) (flaw : Flaw) (place : FieldPlace) (value : Option ℕ) → IsSingle (field_text op flaw place value)
+single_field : (flaw : Flaw) (place : FieldPlace) (value : Option ℕ) → IsSingle (field_text flaw place value)
 unfolding field_text
-single_field op flaw place value =
+single_field flaw place value =
     let size = told_size flaw place.size in
     let its = option_map (told_value flaw) value in
     let at = place_text place.first size in
-    let allowed = allowed_field (kind_of (call_of op)) flaw in
-    single_append (index_text flaw ++ flaw_words_of flaw ++ codes ": " ++ at) (value_text size its allowed)
+    single_append (index_text flaw ++ flaw_words_of flaw ++ codes ": " ++ at) (value_text size its)
     (single_append (index_text flaw ++ flaw_words_of flaw ++ codes ": ") at
     (single_append (index_text flaw ++ flaw_words_of flaw) (codes ": ")
     (single_append (index_text flaw) (flaw_words_of flaw) (single_index flaw) (single_flaw flaw)) refl)
-    (single_place place.first size)) (single_value size its allowed)
+    (single_place place.first size)) (single_value size its)
 
 -- WHAT A CHECK IS ABOUT
 
@@ -179,9 +175,9 @@ single_subject base op refusal (Page page obstacle) = single_page base page.0 ob
 single_subject base op refusal (Endpoint endpoint) = single_named endpoint.0
 single_subject base op refusal (Handle handle) = single_handle handle
 single_subject base op refusal (Register register value) =
-    single_append (register_text op register value) (wanted_text op refusal value) (single_register op register value) (single_wanted op refusal value)
+    single_append (register_text op register value) (wanted_text refusal value) (single_register op register value) (single_wanted refusal value)
 single_subject base op refusal (Bit number) = single_short number
-single_subject base op refusal (Field flaw place value) = single_field op flaw place value
+single_subject base op refusal (Field flaw place value) = single_field flaw place value
 
 single_about : (base : ℕ) (op : Op) (refusal : Refusal) (about : Option About) → IsSingle (about_text base op refusal about)
 single_about base op refusal None = refl
@@ -201,8 +197,9 @@ single_why base op (Fault kind obstacle) =
 line_cuts : (base : ℕ) (op : Op) (reason : Why) (its : Option Detail) → CutsTo (reason_line base op reason its) []
 unfolding reason_line
 line_cuts base op reason its =
-    cuts_reason (reason_mark ++ why_text base op reason ++ detailed_text its)
-    (single_append (why_text base op reason) (detailed_text its) (single_why base op reason) (single_detailed its)) refl
+    let digits = value_digits reason in
+    cuts_reason (reason_mark ++ why_text base op reason ++ detailed_text digits its)
+    (single_append (why_text base op reason) (detailed_text digits its) (single_why base op reason) (single_detailed digits its)) refl
 
 some_cuts : (base : ℕ) (op : Op) (its : Why → Option Detail) (reason : Option Why)
     → CutsTo (option_map_or (λ why. reason_line base op why (its why)) reason []) []
@@ -210,7 +207,7 @@ some_cuts base op its None = cuts_none
 some_cuts base op its (Some reason) = line_cuts base op reason (its reason)
 
 told_cuts : (s : Bench) (line : Line) → CutsTo (reason_text s line) []
-told_cuts s (operate op) = some_cuts s.state.ram_base op (detail s.state (as_done s op)) (why_of s op)
+told_cuts s (operate op) = some_cuts s.state.ram_base op (detail_of s op) (why_of s op)
 told_cuts s show = cuts_none
 told_cuts s audit = cuts_none
 told_cuts s skip = cuts_none

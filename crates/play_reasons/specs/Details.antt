@@ -1,16 +1,17 @@
 -- SPDX-License-Identifier: MIT OR Apache-2.0
--- What stands in the line of a reason behind what the check is about: what is to be mended, or how that stands.
+-- What stands in the line of a reason behind what the check is about: what is to be mended, how that stands, or which values may be
+-- there, each in so many digits.
 use Rattle.std.specs.Prelude.{ℕ, List, [], ◌++◌, codes, Option, Some, None}
 use Rattle.std.specs.Option.{option_map_or}
 use Rattle.ffa_model.specs.declared.endpoint.EndpointId.{EndpointId}
 use Rattle.ffa_model.specs.declared.schedule.Status.{Status}
 use Rattle.ffa_model.specs.declared.schedule.Status.TheVariants.{Running, Waiting, Yielded, Blocked, Preempted, RunsElsewhere}
 use Rattle.ffa_playable.specs.declared.detail.Detail.{Detail}
-use Rattle.ffa_playable.specs.declared.detail.Detail.TheVariants.{Mend, Standing as Stands}
+use Rattle.ffa_playable.specs.declared.detail.Detail.TheVariants.{Mend, Standing as Stands, Allowed}
 use Rattle.ffa_playable.specs.declared.detail.Standing.{Standing}
 use Rattle.ffa_playable.specs.declared.detail.Standing.TheVariants.{RunState}
 use Rattle.play_syntax.specs.TraceText.{hex}
-use Rattle.play_reasons.specs.Mends.{mend_text}
+use Rattle.play_reasons.specs.Mends.{allowed_text, mend_text}
 
 -- a run state by the standard's words, and the machine's own for the two that the standard lacks
 abbrev pub status_text : Status → List ℕ
@@ -32,9 +33,10 @@ run_state_text status awaits = status_text status ++ awaited_text awaits
 abbrev pub standing_text : Standing → List ℕ
 standing_text (RunState status awaits) = run_state_text status awaits
 
-abbrev pub detail_text : Detail → List ℕ
-detail_text (Mend mend) = mend_text mend
-detail_text (Stands standing) = standing_text standing
+abbrev pub detail_text : ℕ → Detail → List ℕ
+detail_text digits (Mend mend) = mend_text mend
+detail_text digits (Stands standing) = standing_text standing
+detail_text digits (Allowed values) = allowed_text digits values
 
-abbrev pub detailed_text : Option Detail → List ℕ
-detailed_text detail = option_map_or detail_text detail []
+abbrev pub detailed_text : ℕ → Option Detail → List ℕ
+detailed_text digits detail = option_map_or (detail_text digits) detail []

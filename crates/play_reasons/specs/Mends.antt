@@ -1,45 +1,23 @@
 -- SPDX-License-Identifier: MIT OR Apache-2.0
 -- What stands in the line of a reason behind what the check is about: a value that is wanted, and what is to be mended.
-use Rattle.std.specs.Prelude.{ℕ, ◌+◌, ◌*◌, ◌%◌, ◌^◌, ◌==◌, nat_lt, List, [], ◌++◌, codes, Option, Some, None, if◌then◌else◌}
-use Rattle.std.specs.Option.{option_map_or}
-use Rattle.ffa_model.specs.declared.call.Call.{Call}
-use Rattle.ffa_model.specs.declared.call.Call.TheVariants as calls
+use Rattle.std.specs.Prelude.{ℕ, ◌+◌, ◌-◌, ◌%◌, ◌^◌, ◌==◌, nat_lt, List, [], ◌++◌, codes, Some, if◌then◌else◌}
 use Rattle.ffa_model.specs.declared.endpoint.Version.{Version}
 use Rattle.ffa_model.specs.declared.endpoint.Version.TheVariants.{Compact, V1_1}
-use Rattle.ffa_model.specs.declared.flaw.Flaw.{Flaw}
-use Rattle.ffa_model.specs.declared.flaw.Flaw.TheVariants.{Header, Send, Access as AccessOf, Composite, Range as RangeOf, Retrieve, Relinquish}
-use Rattle.ffa_model.specs.declared.flaw.SendFlaw.{SendFlaw}
-use Rattle.ffa_model.specs.declared.flaw.SendFlaw.TheVariants.{Attributes, Flags, Handle as HandleGiven, NoReceiver, ManyReceivers}
-use Rattle.ffa_model.specs.declared.flaw.AccessFlaw.{AccessFlaw}
-use Rattle.ffa_model.specs.declared.flaw.AccessFlaw.TheVariants.{Permissions, Flags as AccessFlags, Reserved as AccessReserved}
-use Rattle.ffa_model.specs.declared.flaw.CompositeFlaw.{CompositeFlaw}
-use Rattle.ffa_model.specs.declared.flaw.CompositeFlaw.TheVariants.{NoRange, ManyRanges, Reserved as CompositeReserved}
-use Rattle.ffa_model.specs.declared.flaw.RangeFlaw.{RangeFlaw}
-use Rattle.ffa_model.specs.declared.flaw.RangeFlaw.TheVariants.{Reserved as RangeReserved}
-use Rattle.ffa_model.specs.declared.flaw.RetrieveFlaw.{RetrieveFlaw}
-use Rattle.ffa_model.specs.declared.flaw.RetrieveFlaw.TheVariants.{Attributes as AskedAttributes, AccessCount, AccessFlags as AskedAccessFlags, CompositeTold, AccessReserved as AskedAccessReserved}
-use Rattle.ffa_model.specs.declared.flaw.RelinquishFlaw.{RelinquishFlaw}
-use Rattle.ffa_model.specs.declared.flaw.RelinquishFlaw.TheVariants.{Flags as RelinquishFlags, EndpointCount}
-use Rattle.ffa_model.specs.declared.limits.TheConstants.{MOST_BUFFER_PAGES, MOST_RANGES}
-use Rattle.ffa_model.specs.declared.operation.Op.{Op}
 use Rattle.ffa_model.specs.declared.refusal.Refusal.{Refusal}
-use Rattle.ffa_model.specs.declared.refusal.Refusal.TheVariants.{FlagsReserved, ContextUnknown, BufferPageCount, TxMisplaced, RxMisplaced, EndpointNotZero, EndpointNotNormalWorld, ContextCount, ClassesUnknown, Fragmented, BufferAddressGiven, BufferPagesGiven}
+use Rattle.ffa_model.specs.declared.refusal.Refusal.TheVariants.{TxMisplaced, RxMisplaced}
 use Rattle.ffa_model.specs.declared.rights.Kind.{Kind}
 use Rattle.ffa_model.specs.declared.rights.Kind.TheVariants.{Share, Lend, Donate}
 use Rattle.ffa_model.specs.declared.schedule.Work.{Work}
 use Rattle.ffa_model.specs.declared.schedule.Work.TheVariants.{Run, Request}
-use Rattle.ffa_model.specs.DescriptorPlaces.{normal_memory, told_access_size}
-use Rattle.ffa_model.specs.SendDescriptor.{most_flags, most_receivers}
+use Rattle.ffa_model.specs.DescriptorPlaces.{told_access_size}
+use Rattle.ffa_mend.specs.declared.allowed.Allowed.{Allowed}
 use Rattle.ffa_mend.specs.declared.Cause.{Cause}
 use Rattle.ffa_mend.specs.declared.Cause.TheVariants.{BuffersMissing, RxNotFull, BitPending, BitTaken, BitUnbound, HandleUnknown, NotReceiver, NotLent, BitmapsUncreated, NotificationsUnreceived, SecureToNormal, PagesOfBothWorlds}
 use Rattle.ffa_mend.specs.declared.Mend.{Mend}
 use Rattle.ffa_mend.specs.declared.Mend.TheVariants as mends
 use Rattle.ffa_mend.specs.declared.Side.{Side}
 use Rattle.ffa_mend.specs.declared.Side.TheVariants.{Tx, Rx}
-use Rattle.ffa_mend.specs.Mend.{call_of}
 use Rattle.play_syntax.specs.TraceText.{hex, rights_text}
-use Rattle.play_reasons.specs.declared.allowed.Allowed.{Allowed}
-use Rattle.play_reasons.specs.declared.allowed.Allowed.TheVariants.{One, Span, Either, Place}
 
 -- NUMBERS, all hexadecimal: as many digits as a value has of 1, 2, 4 or 8 bytes
 
@@ -59,103 +37,6 @@ short_text n = hex (short_digits n) n
 
 -- VALUES THAT MAY BE
 
--- the values from one to another, which may be one alone
-abbrev pub between : ℕ → ℕ → Allowed
-between least most = if least == most then One least else Span least most
-
--- what a register may be where a check of a call fails that wants one value, a range or one of two
-abbrev pub allowed_flags : Call → Allowed
-allowed_flags (calls.MemReclaim handle flags) = Span 0 1
-allowed_flags (calls.NotificationSet its) = Either 0 2
-allowed_flags call = One 0
-
-abbrev pub allowed_context : Call → Option Allowed
-allowed_context (calls.Run target context) = Some (One (2 ^ 16 * target.0))
-allowed_context (calls.NotificationGet receiver context flags) = Some (One receiver.0)
-allowed_context call = None
-
-abbrev pub allowed_fragment : Call → Option Allowed
-allowed_fragment (calls.MemDonate transfer) = Some (One transfer.total)
-allowed_fragment (calls.MemLend transfer) = Some (One transfer.total)
-allowed_fragment (calls.MemShare transfer) = Some (One transfer.total)
-allowed_fragment (calls.MemRetrieve transfer) = Some (One transfer.total)
-allowed_fragment call = None
-
--- where it has this value
-abbrev pub allowed_register : Call → Refusal → ℕ → Option Allowed
-allowed_register call FlagsReserved value = Some (allowed_flags call)
-allowed_register call ContextUnknown value = allowed_context call
-allowed_register call Fragmented value = allowed_fragment call
-allowed_register call BufferPageCount value = Some (Span 1 MOST_BUFFER_PAGES)
-allowed_register call TxMisplaced value = Some (Place value)
-allowed_register call RxMisplaced value = Some (Place value)
-allowed_register call EndpointNotZero value = Some (One 0)
-allowed_register call EndpointNotNormalWorld value = Some (One 0)
-allowed_register call ContextCount value = Some (One 1)
-allowed_register call ClassesUnknown value = Some (Span 0 15)
-allowed_register call BufferAddressGiven value = Some (One 0)
-allowed_register call BufferPagesGiven value = Some (One 0)
-allowed_register call refusal value = None
-
--- and a field of a descriptor
-abbrev pub allowed_send : Kind → SendFlaw → Option Allowed
-allowed_send Share Attributes = Some (One normal_memory)
-allowed_send Donate Attributes = Some (One 0)
-allowed_send Lend Attributes = None
-allowed_send kind Flags = Some (between 0 (most_flags kind))
-allowed_send kind HandleGiven = Some (One 0)
-allowed_send kind NoReceiver = Some (between 1 (most_receivers kind))
-allowed_send kind ManyReceivers = Some (between 1 (most_receivers kind))
-
-abbrev pub allowed_permissions : Kind → Allowed
-allowed_permissions Share = Span 1 2
-allowed_permissions Lend = Span 1 2
-allowed_permissions Donate = One 0
-
-abbrev pub allowed_access : Kind → AccessFlaw → Option Allowed
-allowed_access kind Permissions = Some (allowed_permissions kind)
-allowed_access kind AccessFlags = Some (One 0)
-allowed_access kind AccessReserved = Some (One 0)
-allowed_access kind flaw = None
-
-abbrev pub allowed_composite : CompositeFlaw → Option Allowed
-allowed_composite NoRange = Some (Span 1 MOST_RANGES)
-allowed_composite ManyRanges = Some (Span 1 MOST_RANGES)
-allowed_composite CompositeReserved = Some (One 0)
-allowed_composite flaw = None
-
-abbrev pub allowed_range : RangeFlaw → Option Allowed
-allowed_range RangeReserved = Some (One 0)
-allowed_range flaw = None
-
-abbrev pub allowed_retrieve : RetrieveFlaw → Option Allowed
-allowed_retrieve AskedAttributes = Some (Either 0 normal_memory)
-allowed_retrieve AccessCount = Some (One 1)
-allowed_retrieve AskedAccessFlags = Some (One 0)
-allowed_retrieve CompositeTold = Some (One 0)
-allowed_retrieve AskedAccessReserved = Some (One 0)
-allowed_retrieve flaw = None
-
-abbrev pub allowed_relinquish : RelinquishFlaw → Option Allowed
-allowed_relinquish RelinquishFlags = Some (Span 0 1)
-allowed_relinquish EndpointCount = Some (One 1)
-allowed_relinquish flaw = None
-
-abbrev pub allowed_field : Kind → Flaw → Option Allowed
-allowed_field kind (Header flaw) = None
-allowed_field kind (Send flaw) = allowed_send kind flaw
-allowed_field kind (AccessOf index flaw) = allowed_access kind flaw
-allowed_field kind (Composite flaw) = allowed_composite flaw
-allowed_field kind (RangeOf index flaw) = allowed_range flaw
-allowed_field kind (Retrieve flaw) = allowed_retrieve flaw
-allowed_field kind (Relinquish flaw) = allowed_relinquish flaw
-
--- which kind of send a call is, where it is one
-abbrev pub kind_of : Call → Kind
-kind_of (calls.MemDonate transfer) = Donate
-kind_of (calls.MemShare transfer) = Share
-kind_of call = Lend
-
 -- in so many digits
 unfoldable pub one_text : ℕ → ℕ → List ℕ
 one_text digits value = codes ", and must be " ++ hex digits value
@@ -168,18 +49,22 @@ abbrev pub misplaced_text : ℕ → List ℕ
 misplaced_text address =
     if address % 4096 == 0 then codes ", where the buffer does not lie in RAM" else codes ", which is not the address of a page"
 
-abbrev pub allowed_by : ℕ → Allowed → List ℕ
-allowed_by digits (One value) = one_text digits value
-allowed_by digits (Span least most) = span_text digits (codes " to ") least most
-allowed_by digits (Either a b) = span_text digits (codes " or ") a b
-allowed_by digits (Place address) = misplaced_text address
+unfoldable pub steps_text : ℕ → Allowed → List ℕ
+steps_text digits its = span_text digits (codes " to ") its.least its.most ++ (codes " in steps of " ++ hex digits its.step)
 
-abbrev pub allowed_text : ℕ → Option Allowed → List ℕ
-allowed_text digits allowed = option_map_or (allowed_by digits) allowed []
+-- one alone, all from one to another, one of two, or those in greater steps
+abbrev pub allowed_text : ℕ → Allowed → List ℕ
+allowed_text digits its =
+    if its.least == its.most then one_text digits its.least
+    else if its.step == 1 then span_text digits (codes " to ") its.least its.most
+    else if its.most - its.least == its.step then span_text digits (codes " or ") its.least its.most
+    else steps_text digits its
 
 -- behind a register
-abbrev pub wanted_text : Op → Refusal → ℕ → List ℕ
-wanted_text op refusal value = allowed_text 8 (allowed_register (call_of op) refusal value)
+abbrev pub wanted_text : Refusal → ℕ → List ℕ
+wanted_text TxMisplaced value = misplaced_text value
+wanted_text RxMisplaced value = misplaced_text value
+wanted_text refusal value = []
 
 -- WHAT IS TO BE MENDED
 

@@ -19,20 +19,19 @@ use Rattle.ffa_model.specs.declared.why.Why.{Why}
 use Rattle.ffa_model.specs.declared.why.Why.TheVariants.{Refused, Fault}
 use Rattle.ffa_model.specs.Registers.{low}
 use Rattle.ffa_playable.specs.declared.detail.Detail.{Detail}
-use Rattle.ffa_playable.specs.Bench.{Bench, as_done, processors_of, why_of}
-use Rattle.ffa_playable.specs.Standing.{detail}
+use Rattle.ffa_playable.specs.Bench.{Bench, processors_of, why_of}
+use Rattle.ffa_playable.specs.Standing.{detail_of}
 use Rattle.play_syntax.specs.TraceLines.{Line, operate, show, audit, skip, turn, interrupt, line_in}
 use Rattle.play_syntax.specs.TraceText.{bytes_moved, ended, hex}
 use Rattle.ffa_model.specs.Words.{words_of}
-use Rattle.ffa_mend.specs.Mend.{address_of, call_of}
+use Rattle.ffa_mend.specs.Mend.{address_of}
 use Rattle.ffa_abi.specs.Names.{call_name_of}
 use Rattle.ffa_abi.specs.Widths.{is_read_whole}
 use Rattle.play_reasons.specs.Checks.{number_of}
 use Rattle.play_reasons.specs.Closer.{closer_text}
 use Rattle.play_reasons.specs.Details.{detailed_text}
 use Rattle.play_reasons.specs.FlawWords.{flaw_words_of}
-use Rattle.play_reasons.specs.Mends.{address_text, allowed_field, allowed_text, kind_of, short_text, wanted_text}
-use Rattle.play_reasons.specs.declared.allowed.Allowed.{Allowed}
+use Rattle.play_reasons.specs.Mends.{address_text, short_text, wanted_text}
 use Rattle.play_reasons.specs.declared.reason.Reason.{Reason}
 
 -- each such line begins so
@@ -132,13 +131,11 @@ verb_text size = if nat_le size 1 then codes " is " else codes " are "
 abbrev pub field_digits : ℕ → ℕ
 field_digits size = if nat_le size 8 then 2 * size else 16
 
--- with what it may be
-unfoldable pub number_in_field : ℕ → ℕ → Option Allowed → List ℕ
-number_in_field size value allowed =
-    verb_text size ++ hex (field_digits size) value ++ allowed_text (field_digits size) allowed
+unfoldable pub number_in_field : ℕ → ℕ → List ℕ
+number_in_field size value = verb_text size ++ hex (field_digits size) value
 
-abbrev pub value_text : ℕ → Option ℕ → Option Allowed → List ℕ
-value_text size value allowed = option_map_or (λ v. number_in_field size v allowed) value []
+abbrev pub value_text : ℕ → Option ℕ → List ℕ
+value_text size value = option_map_or (number_in_field size) value []
 
 -- Of access descriptors that don't end inside the descriptor the count alone is told, which is the first half of eight bytes
 abbrev pub told_size : Flaw → ℕ → ℕ
@@ -150,18 +147,18 @@ told_value (Header ArrayOutside) value = value % 2 ^ 32
 told_value flaw value = value
 
 -- the condition that the descriptor breaks, the field of which it speaks, and the number in that
-unfoldable pub field_text : Op → Flaw → FieldPlace → Option ℕ → List ℕ
-field_text op flaw place value =
+unfoldable pub field_text : Flaw → FieldPlace → Option ℕ → List ℕ
+field_text flaw place value =
     index_text flaw ++ flaw_words_of flaw ++ codes ": " ++ place_text place.first (told_size flaw place.size)
-    ++ value_text (told_size flaw place.size) (option_map (told_value flaw) value) (allowed_field (kind_of (call_of op)) flaw)
+    ++ value_text (told_size flaw place.size) (option_map (told_value flaw) value)
 
 abbrev pub subject_text : ℕ → Op → Refusal → About → List ℕ
 subject_text base op refusal (Page page obstacle) = page_text base page.0 obstacle
 subject_text base op refusal (Endpoint endpoint) = named_text endpoint.0
 subject_text base op refusal (Handle handle) = handle_text handle
-subject_text base op refusal (Register register value) = register_text op register value ++ wanted_text op refusal value
+subject_text base op refusal (Register register value) = register_text op register value ++ wanted_text refusal value
 subject_text base op refusal (Bit number) = bit_text number
-subject_text base op refusal (Field flaw place value) = field_text op flaw place value
+subject_text base op refusal (Field flaw place value) = field_text flaw place value
 
 abbrev pub about_text : ℕ → Op → Refusal → Option About → List ℕ
 about_text base op refusal about = option_map_or (λ its. codes ": " ++ subject_text base op refusal its) about []
@@ -173,14 +170,23 @@ why_text base op (Refused refusal about) =
     (call_text op refusal ++ words_of refusal ++ about_text base op refusal about) ++ closer_text op refusal about
 why_text base op (Fault kind obstacle) = address_text (address_of op) ++ fault_text op kind obstacle
 
-unfoldable pub reason_line : ℕ → Op → Why → Option Detail → List ℕ
-reason_line base op reason detail = ended (reason_mark ++ why_text base op reason ++ detailed_text detail)
+-- in how many digits a value is told that may be in the register or in the field
+abbrev pub subject_digits : Option About → ℕ
+subject_digits (Some (Field flaw place value)) = field_digits place.size
+subject_digits about = 8
 
--- what stands under the text of a line, where it is an operation that is refused there, with what is to be mended or how
--- that stands which the check is about
+abbrev pub value_digits : Why → ℕ
+value_digits (Refused refusal about) = subject_digits about
+value_digits (Fault kind obstacle) = 8
+
+unfoldable pub reason_line : ℕ → Op → Why → Option Detail → List ℕ
+reason_line base op reason detail = ended (reason_mark ++ why_text base op reason ++ detailed_text (value_digits reason) detail)
+
+-- what stands under the text of a line, where it is an operation that is refused there, with what is to be mended, how that stands
+-- which the check is about, or which values may be there
 abbrev pub reason_text : Bench → Line → List ℕ
 reason_text b (operate op) =
-    option_map_or (λ reason. reason_line b.state.ram_base op reason (detail b.state (as_done b op) reason)) (why_of b op) []
+    option_map_or (λ reason. reason_line b.state.ram_base op reason (detail_of b op reason)) (why_of b op) []
 reason_text b show = []
 reason_text b audit = []
 reason_text b skip = []

@@ -1,30 +1,34 @@
 // SPDX-License-Identifier: MIT OR Apache-2.0
-//! What stands in the line of a reason behind what the check is about: what is to be mended, or how that stands.
-ghost use Rattle.std.specs.Prelude.{◌≡◌};
+//! What stands in the line of a reason behind what the check is about: what is to be mended, how that stands, or which values may
+//! be there.
+ghost use Rattle.std.specs.Prelude.{◌≡◌, ◌≤◌};
 ghost use Rattle.play_reasons.specs.Details.{awaited_text, detail_text, detailed_text, run_state_text, standing_text, status_text};
 ghost use Rattle.play_reasons.specs.Drafts.{Puts};
 
 use crate::draft::Draft;
-use crate::mend::{put_endpoint, put_mend};
+use crate::mend::{put_allowed, put_endpoint, put_mend};
 use ffa_model::{EndpointId, Status};
 use ffa_playable::{Detail, Standing};
 use std::alloc::Allocator;
 
-/// Puts what is to be mended, or how things stand, where that is known.
-pub(crate) fn put_detailed<A: Allocator>(text: &mut Draft<A>, detail: Option<Detail>)
-    ensures { Puts text.old text.new (detailed_text detail) }
+/// Puts what is to be mended, how things stand, or which values may be there, each in so many digits, where that is known.
+pub(crate) fn put_detailed<A: Allocator>(text: &mut Draft<A>, digits: u32, detail: Option<Detail>)
+    requires { digits ≤ 16 }
+    ensures { Puts text.old text.new (detailed_text digits detail) }
 {
     if let Some(detail) = detail {
-        put_detail(text, detail);
+        put_detail(text, digits, detail);
     }
 }
 
-fn put_detail<A: Allocator>(text: &mut Draft<A>, detail: Detail)
-    ensures { Puts text.old text.new (detail_text detail) }
+fn put_detail<A: Allocator>(text: &mut Draft<A>, digits: u32, detail: Detail)
+    requires { digits ≤ 16 }
+    ensures { Puts text.old text.new (detail_text digits detail) }
 {
     match detail {
         Detail::Mend(mend) => put_mend(text, mend),
         Detail::Standing(standing) => put_standing(text, standing),
+        Detail::Allowed(allowed) => put_allowed(text, digits, allowed),
     }
 }
 

@@ -4,7 +4,6 @@
 //! hold, why an operation is refused, and why a line is none of the format. None of it asks a machine.
 #![tactic(auto)]
 
-mod allowed;
 mod closer;
 mod detail;
 mod digits;
@@ -17,7 +16,6 @@ mod numbers;
 mod reason;
 mod sentences;
 
-pub use allowed::Allowed;
 pub use draft::Draft;
 pub use fault::{LineFault, WordFault, line_fault};
 pub use flaws::flaw_words;

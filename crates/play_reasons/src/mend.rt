@@ -4,43 +4,49 @@ ghost use Rattle.std.specs.Prelude.{◌≡◌, ◌++◌, ◌^◌, ◌<◌, ◌�
 ghost use Rattle.play_syntax.specs.TraceText.{hex, rights_text};
 ghost use Rattle.ffa_model.specs.DescriptorPlaces.{told_access_size};
 ghost use Rattle.play_reasons.specs.Drafts.{Puts};
-ghost use Rattle.play_reasons.specs.Mends.{access_text, allowed_by, allowed_text, asked_text, beyond_text, buffer_text, bytes_text, cause_text, ends_text, form_text, holder_text, kind_text, kinds_text, mend_text, message_text, misplaced_text, one_text, outside_text, pending_text, room_text, side_text, span_text, tag_text, version_text, wanted_text, word_text, work_text};
+ghost use Rattle.play_reasons.specs.Mends.{access_text, allowed_text, asked_text, beyond_text, buffer_text, bytes_text, cause_text, ends_text, form_text, holder_text, kind_text, kinds_text, mend_text, message_text, misplaced_text, one_text, outside_text, pending_text, room_text, side_text, span_text, steps_text, tag_text, version_text, wanted_text, word_text, work_text};
 
-use crate::allowed::{Allowed, allowed_register, call_of};
 use crate::draft::Draft;
-use ffa_mend::{Cause, Mend, Side};
-use ffa_model::{Data, EndpointId, Kind, Op, Refusal, Rights, Version, Work};
+use ffa_mend::{Allowed, Cause, Mend, Side};
+use ffa_model::{Data, EndpointId, Kind, Refusal, Rights, Version, Work};
 use std::alloc::Allocator;
 
 const GRANTED: &str = ", where rw- is granted, and the owner's own right is ";
 
-/// Puts what a register that has this value may be.
-pub(crate) fn put_wanted<A: Allocator>(text: &mut Draft<A>, op: Op, refusal: Refusal, value: u64)
-    ensures { Puts text.old text.new (wanted_text op refusal value) }
+/// Puts why a register with this value can't be the address of a buffer, where the check says so.
+pub(crate) fn put_wanted<A: Allocator>(text: &mut Draft<A>, refusal: Refusal, value: u64)
+    ensures { Puts text.old text.new (wanted_text refusal value) }
 {
-    put_allowed(text, 8, allowed_register(call_of(op), refusal, value));
+    match refusal {
+        Refusal::TxMisplaced | Refusal::RxMisplaced => text.put(misplaced(value)),
+        _ => {}
+    }
 }
 
-/// Puts which values are allowed, each in so many digits.
-pub(crate) fn put_allowed<A: Allocator>(text: &mut Draft<A>, digits: u32, allowed: Option<Allowed>)
+/// Puts which values may be there, each in so many digits.
+pub(crate) fn put_allowed<A: Allocator>(text: &mut Draft<A>, digits: u32, allowed: Allowed)
     requires { digits ≤ 16 }
     ensures { Puts text.old text.new (allowed_text digits allowed) }
 {
-    if let Some(allowed) = allowed {
-        put_values(text, digits, allowed);
+    let Allowed { least, most, step } = allowed;
+    if least == most {
+        put_one(text, digits, least);
+    } else if step == 1 {
+        put_span(text, digits, " to ", least, most);
+    } else if most.saturating_sub(least) == step {
+        put_span(text, digits, " or ", least, most);
+    } else {
+        put_steps(text, digits, allowed);
     }
 }
 
-fn put_values<A: Allocator>(text: &mut Draft<A>, digits: u32, allowed: Allowed)
+#[tactic(auto, using(crate::proofs::Together::together), unfolding(crate::specs::Mends::steps_text))]
+fn put_steps<A: Allocator>(text: &mut Draft<A>, digits: u32, allowed: Allowed)
     requires { digits ≤ 16 }
-    ensures { Puts text.old text.new (allowed_by digits allowed) }
+    ensures { Puts text.old text.new (steps_text digits allowed) }
 {
-    match allowed {
-        Allowed::One(value) => put_one(text, digits, value),
-        Allowed::Span(least, most) => put_span(text, digits, " to ", least, most),
-        Allowed::Either(a, b) => put_span(text, digits, " or ", a, b),
-        Allowed::Place(address) => text.put(misplaced(address)),
-    }
+    put_span(text, digits, " to ", allowed.least, allowed.most);
+    text.put_behind(" in steps of ", digits, allowed.step);
 }
 
 // Why no buffer can begin at an address.

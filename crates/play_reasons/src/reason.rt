@@ -8,13 +8,12 @@ ghost use Rattle.ffa_mend.specs.Mend.{address_of};
 ghost use Rattle.play_reasons.specs.Closer.{closer_text};
 ghost use Rattle.play_reasons.specs.Drafts.{Puts};
 ghost use Rattle.play_reasons.specs.Mends.{address_text, short_text, wanted_text};
-ghost use Rattle.play_reasons.specs.Reasons.{about_text, bit_text, call_text, check_text, fault_text, field_digits, field_text, handle_text, index_text, letter_text, number_in_field, name_text, named_text, number_text, obstacle_text, page_address, page_text, place_text, reason_line, register_text, right_text, subject_text, told_line, told_size, told_value, transaction_text, value_text, verb_text, why_text};
+ghost use Rattle.play_reasons.specs.Reasons.{about_text, bit_text, call_text, check_text, fault_text, field_digits, field_text, handle_text, index_text, letter_text, number_in_field, name_text, named_text, number_text, obstacle_text, page_address, page_text, place_text, reason_line, register_text, right_text, subject_digits, subject_text, told_line, told_size, told_value, transaction_text, value_digits, value_text, verb_text, why_text};
 
-use crate::allowed::{Allowed, allowed_field, call_of, kind_of};
 use crate::closer::put_closer;
 use crate::detail::put_detailed;
 use crate::draft::Draft;
-use crate::mend::{put_allowed, put_wanted};
+use crate::mend::put_wanted;
 use crate::{check_number, flaw_words, words};
 use ffa_abi::{call_name, is_read_whole, low};
 use ffa_model::{
@@ -31,7 +30,7 @@ pub struct Reason {
     pub base: Address,
     pub op: Op,
     pub why: Why,
-    /// What is to be mended, or how things stand, where that is known.
+    /// What is to be mended, how things stand, or which values may be there, where that is known.
     pub detail: Option<Detail>,
 }
 
@@ -55,7 +54,7 @@ fn put_line<A: Allocator>(
 {
     text.put("# refused: ");
     put_why(text, base, op, why);
-    put_detailed(text, detail);
+    put_detailed(text, value_digits(why), detail);
     text.put("\n");
 }
 
@@ -178,7 +177,7 @@ fn put_subject<A: Allocator>(
         About::Handle(handle) => text.put_behind("handle ", 16, handle),
         About::Register { register, value } => put_named_by(text, op, refusal, register, value),
         About::Bit(number) => put_bit(text, number),
-        About::Field { flaw, place, value } => put_field(text, op, flaw, place, value),
+        About::Field { flaw, place, value } => put_field(text, flaw, place, value),
     }
 }
 
@@ -196,7 +195,7 @@ fn put_page<A: Allocator>(
     }
 }
 
-// Puts a register with its value, and what that may be.
+// Puts a register with its value, and why that is no place of a buffer.
 fn put_named_by<A: Allocator>(
     text: &mut Draft<A>,
     op: Op,
@@ -204,10 +203,10 @@ fn put_named_by<A: Allocator>(
     register: u32,
     value: u64,
 )
-    ensures { let told = register_text op register value ++ wanted_text op refusal value in Puts text.old text.new told }
+    ensures { let told = register_text op register value ++ wanted_text refusal value in Puts text.old text.new told }
 {
     put_register(text, op, register, value);
-    put_wanted(text, op, refusal, value);
+    put_wanted(text, refusal, value);
 }
 
 #[tactic(auto, unfolding(crate::specs::Reasons::register_text))]
@@ -241,20 +240,18 @@ fn put_bit<A: Allocator>(text: &mut Draft<A>, number: u32)
 #[tactic(auto, unfolding(crate::specs::Reasons::field_text))]
 fn put_field<A: Allocator>(
     text: &mut Draft<A>,
-    op: Op,
     flaw: Flaw,
     place: FieldPlace,
     value: Option<u64>,
 )
-    ensures { Puts text.old text.new (field_text op flaw place value) }
+    ensures { Puts text.old text.new (field_text flaw place value) }
 {
     put_index(text, flaw);
     text.put(flaw_words(flaw));
     text.put(": ");
     let size = told_size(flaw, place.size);
     put_place(text, place.first, size);
-    let allowed = allowed_field(kind_of(call_of(op)), flaw);
-    put_value(text, size, told_value(flaw, value), allowed);
+    put_value(text, size, told_value(flaw, value));
 }
 
 // How many bytes of a field are told.
@@ -315,31 +312,20 @@ fn put_place<A: Allocator>(text: &mut Draft<A>, first: u64, size: u64)
     }
 }
 
-fn put_value<A: Allocator>(
-    text: &mut Draft<A>,
-    size: u64,
-    value: Option<u64>,
-    allowed: Option<Allowed>,
-)
-    ensures { Puts text.old text.new (value_text size value allowed) }
+fn put_value<A: Allocator>(text: &mut Draft<A>, size: u64, value: Option<u64>)
+    ensures { Puts text.old text.new (value_text size value) }
 {
     if let Some(value) = value {
-        put_number_in_field(text, size, value, allowed);
+        put_number_in_field(text, size, value);
     }
 }
 
 #[tactic(auto, unfolding(crate::specs::Reasons::number_in_field))]
-fn put_number_in_field<A: Allocator>(
-    text: &mut Draft<A>,
-    size: u64,
-    value: u64,
-    allowed: Option<Allowed>,
-)
-    ensures { Puts text.old text.new (number_in_field size value allowed) }
+fn put_number_in_field<A: Allocator>(text: &mut Draft<A>, size: u64, value: u64)
+    ensures { Puts text.old text.new (number_in_field size value) }
 {
     text.put(verb(size));
     text.put_digits(field_digits(size), value);
-    put_allowed(text, field_digits(size), allowed);
 }
 
 fn verb(size: u64) -> &'static str
@@ -354,6 +340,27 @@ fn field_digits(size: u64) -> u32
     ensures few { result ≤ 16 }
 {
     if size <= 8 { 2 * size as u32 } else { 16 }
+}
+
+// In how many digits a value is told that may be in the register or in the field.
+fn value_digits(why: Why) -> u32
+    ensures digits { result ≡ value_digits why }
+    ensures few { result ≤ 16 }
+{
+    match why {
+        Why::Refused { about, .. } => subject_digits(about),
+        Why::Fault { .. } => 8,
+    }
+}
+
+fn subject_digits(about: Option<About>) -> u32
+    ensures digits { result ≡ subject_digits about }
+    ensures few { result ≤ 16 }
+{
+    match about {
+        Some(About::Field { place, .. }) => field_digits(place.size),
+        _ => 8,
+    }
 }
 
 // What is so of the address of an access that faults.

@@ -5,7 +5,7 @@ use super::play_line;
 use gorseplumb::{call_name, registers, AccessReason, Fault, Machine, Ram, Registers, Size};
 use std::fmt::Write;
 
-/// A text in which reasons end behind the words of the check, or behind the fault: what is to be mended the program alone tells.
+/// A text in which reasons end behind the words of the check, or behind the fault: what is to be mended, for the most part, the program alone tells.
 #[allow(dead_code)]
 pub fn briefly(text: &str) -> String {
     text.lines().map(|line| brief_line(line) + "\n").collect()

@@ -1,0 +1,211 @@
+-- SPDX-License-Identifier: MIT OR Apache-2.0
+-- Which values a register or a field of a descriptor may have, where a check that fails wants others than it has (DEN0077A, 5.11
+-- and 11 to 16). Each is a set of numbers.
+use Rattle.std.specs.Prelude.{◌≡◌, ◌≤◌, ℕ, ◌+◌, ◌-◌, ◌*◌, ◌%◌, ◌==◌, is_none, nat_le, List, length, Option, Some, None, if◌then◌else◌}
+use Rattle.std.specs.Option.{option_and_then, option_map}
+use Rattle.ffa_model.specs.declared.call.Call.{Call}
+use Rattle.ffa_model.specs.declared.call.Call.TheVariants as calls
+use Rattle.ffa_model.specs.declared.call.Transfer.{Transfer}
+use Rattle.ffa_model.specs.declared.flaw.FieldPlace.{FieldPlace}
+use Rattle.ffa_model.specs.declared.flaw.Flaw.{Flaw}
+use Rattle.ffa_model.specs.declared.flaw.Flaw.TheVariants.{Send, Access as AccessOf, Composite, Range as RangeOf, Retrieve, Relinquish}
+use Rattle.ffa_model.specs.declared.flaw.SendFlaw.{SendFlaw}
+use Rattle.ffa_model.specs.declared.flaw.SendFlaw.TheVariants.{Attributes, Flags, Handle as HandleGiven, NoReceiver, ManyReceivers}
+use Rattle.ffa_model.specs.declared.flaw.AccessFlaw.{AccessFlaw}
+use Rattle.ffa_model.specs.declared.flaw.AccessFlaw.TheVariants.{Permissions, Flags as AccessFlags, Reserved as AccessReserved}
+use Rattle.ffa_model.specs.declared.flaw.CompositeFlaw.{CompositeFlaw}
+use Rattle.ffa_model.specs.declared.flaw.CompositeFlaw.TheVariants.{Outside, Unaligned, InArray, NoRange, ManyRanges, Reserved as CompositeReserved}
+use Rattle.ffa_model.specs.declared.flaw.RangeFlaw.{RangeFlaw}
+use Rattle.ffa_model.specs.declared.flaw.RangeFlaw.TheVariants.{Reserved as RangeReserved}
+use Rattle.ffa_model.specs.declared.flaw.RetrieveFlaw.{RetrieveFlaw}
+use Rattle.ffa_model.specs.declared.flaw.RetrieveFlaw.TheVariants.{Attributes as AskedAttributes, AccessCount, AccessFlags as AskedAccessFlags, CompositeTold, AccessReserved as AskedAccessReserved}
+use Rattle.ffa_model.specs.declared.flaw.RelinquishFlaw.{RelinquishFlaw}
+use Rattle.ffa_model.specs.declared.flaw.RelinquishFlaw.TheVariants.{Flags as RelinquishFlags, EndpointCount}
+use Rattle.ffa_model.specs.declared.limits.TheConstants.{MOST_BUFFER_PAGES, MOST_RANGES}
+use Rattle.ffa_model.specs.declared.operation.Op.{Op}
+use Rattle.ffa_model.specs.declared.refusal.Refusal.{Refusal}
+use Rattle.ffa_model.specs.declared.refusal.Refusal.TheVariants.{FlagsReserved, ContextUnknown, BufferPageCount, EndpointNotZero, EndpointNotNormalWorld, ContextCount, ClassesUnknown, Fragmented, BufferAddressGiven, BufferPagesGiven}
+use Rattle.ffa_model.specs.declared.rights.Kind.{Kind}
+use Rattle.ffa_model.specs.declared.rights.Kind.TheVariants.{Share, Lend, Donate}
+use Rattle.ffa_model.specs.declared.why.About.{About}
+use Rattle.ffa_model.specs.declared.why.About.TheVariants.{Register, Field}
+use Rattle.ffa_model.specs.declared.why.Why.{Why}
+use Rattle.ffa_model.specs.declared.why.Why.TheVariants.{Refused, Fault}
+use Rattle.ffa_model.specs.Numbers.{Identifier}
+use Rattle.ffa_model.specs.Bits.{word_of_two}
+use Rattle.ffa_model.specs.Calls.{first_refusal}
+use Rattle.ffa_model.specs.DescriptorPlaces.{Versioned, normal_memory, receiver_count}
+use Rattle.ffa_model.specs.MemorySend.{descriptor_in, transfer_guards}
+use Rattle.ffa_model.specs.SendDescriptor.{attributes_of, most_flags, most_receivers}
+use Rattle.ffa_model.specs.State.{State, Buffers}
+use Rattle.ffa_mend.specs.declared.allowed.Allowed.{Allowed}
+use Rattle.ffa_mend.specs.Mend.{call_of}
+
+-- a number is one of them
+pub record IsAmong (its : Allowed) (n : ℕ) : Type 0 where
+  pub least : its.least ≤ n
+  pub most : n ≤ its.most
+  pub step : (n - its.least) % its.step ≡ 0
+
+-- from one to another in equal steps; one alone; all from one to another; one of two
+abbrev pub steps : ℕ → ℕ → ℕ → Allowed
+steps least most step = record { least = least; most = most; step = step }
+
+abbrev pub one : ℕ → Allowed
+one n = steps n n 1
+
+abbrev pub between : ℕ → ℕ → Allowed
+between least most = steps least most 1
+
+abbrev pub either : ℕ → ℕ → Allowed
+either a b = steps a b (b - a)
+
+-- REGISTERS, where the normal world has so many execution contexts, and each partition one
+
+abbrev pub contexts_of : ℕ → Identifier → ℕ
+contexts_of contexts e = if e == 0 then contexts else 1
+
+abbrev pub allowed_flags : Call → Allowed
+allowed_flags (calls.MemReclaim handle flags) = between 0 1
+allowed_flags (calls.NotificationSet its) = either 0 2
+allowed_flags call = one 0
+
+-- the same endpoint, in each of its contexts
+abbrev pub allowed_contexts : ℕ → Identifier → Allowed
+allowed_contexts contexts e = steps e (word_of_two (contexts_of contexts e - 1) e) 0x10000
+
+abbrev pub allowed_context : ℕ → Call → Option Allowed
+allowed_context contexts (calls.Run target context) = Some (one (word_of_two target.0 0))
+allowed_context contexts (calls.NotificationGet receiver context flags) = Some (allowed_contexts contexts receiver.0)
+allowed_context contexts call = None
+
+-- as many bytes as the descriptor has
+abbrev pub allowed_fragment : Call → Option Allowed
+allowed_fragment (calls.MemDonate transfer) = Some (one transfer.total)
+allowed_fragment (calls.MemLend transfer) = Some (one transfer.total)
+allowed_fragment (calls.MemShare transfer) = Some (one transfer.total)
+allowed_fragment (calls.MemRetrieve transfer) = Some (one transfer.total)
+allowed_fragment call = None
+
+abbrev pub allowed_register : ℕ → Call → Refusal → Option Allowed
+allowed_register contexts call FlagsReserved = Some (allowed_flags call)
+allowed_register contexts call ContextUnknown = allowed_context contexts call
+allowed_register contexts call Fragmented = allowed_fragment call
+allowed_register contexts call BufferPageCount = Some (between 1 MOST_BUFFER_PAGES)
+allowed_register contexts call EndpointNotZero = Some (one 0)
+allowed_register contexts call EndpointNotNormalWorld = Some (one 0)
+allowed_register contexts call ContextCount = Some (between 1 contexts)
+allowed_register contexts call ClassesUnknown = Some (between 0 15)
+allowed_register contexts call BufferAddressGiven = Some (one 0)
+allowed_register contexts call BufferPagesGiven = Some (one 0)
+allowed_register contexts call refusal = None
+
+-- FIELDS of an offer to so many receivers, if its header tells how many, in so many bytes
+
+abbrev pub allowed_send : Kind → Option ℕ → SendFlaw → Option Allowed
+allowed_send kind receivers Attributes = option_map (λ n. one (attributes_of kind n)) receivers
+allowed_send kind receivers Flags = Some (between 0 (most_flags kind))
+allowed_send kind receivers HandleGiven = Some (one 0)
+allowed_send kind receivers NoReceiver = Some (between 1 (most_receivers kind))
+allowed_send kind receivers ManyReceivers = Some (between 1 (most_receivers kind))
+
+abbrev pub allowed_permissions : Kind → Allowed
+allowed_permissions Share = between 1 2
+allowed_permissions Lend = between 1 2
+allowed_permissions Donate = one 0
+
+abbrev pub allowed_access : Kind → AccessFlaw → Option Allowed
+allowed_access kind Permissions = Some (allowed_permissions kind)
+allowed_access kind AccessFlags = Some (one 0)
+allowed_access kind AccessReserved = Some (one 0)
+allowed_access kind flaw = None
+
+-- A composite may stand at a place behind access descriptors that end at a multiple of 16, and inside so many bytes with one range
+pub record IsPlace (end length place : ℕ) : Type 0 where
+  pub behind : end ≤ place
+  pub aligned : place % 16 ≡ 0
+  pub inside : place + 32 ≤ length
+
+-- these places, if there is one
+abbrev pub allowed_places : ℕ → ℕ → Option Allowed
+allowed_places end length =
+    if nat_le (end + 32) length then Some (steps end (length - 32 - (length - 32 - end) % 16) 16) else None
+
+-- by the place of the first of so many access descriptors
+abbrev pub allowed_behind : ℕ → Option ℕ → ℕ → Option Allowed
+allowed_behind array receivers length = option_and_then (λ n. allowed_places (array + 16 * n) length) receivers
+
+abbrev pub allowed_composite : ℕ → Option ℕ → ℕ → CompositeFlaw → Option Allowed
+allowed_composite array receivers length Outside = allowed_behind array receivers length
+allowed_composite array receivers length Unaligned = allowed_behind array receivers length
+allowed_composite array receivers length InArray = allowed_behind array receivers length
+allowed_composite array receivers length NoRange = Some (between 1 MOST_RANGES)
+allowed_composite array receivers length ManyRanges = Some (between 1 MOST_RANGES)
+allowed_composite array receivers length CompositeReserved = Some (one 0)
+allowed_composite array receivers length flaw = None
+
+abbrev pub allowed_range : RangeFlaw → Option Allowed
+allowed_range RangeReserved = Some (one 0)
+allowed_range flaw = None
+
+-- the offset of the composite stands 4 bytes behind the first access descriptor's place
+abbrev pub allowed_offer : Kind → Option ℕ → ℕ → FieldPlace → Flaw → Option Allowed
+allowed_offer kind receivers length place (Send flaw) = allowed_send kind receivers flaw
+allowed_offer kind receivers length place (AccessOf index flaw) = allowed_access kind flaw
+allowed_offer kind receivers length place (Composite flaw) = allowed_composite (place.first - 4) receivers length flaw
+allowed_offer kind receivers length place (RangeOf index flaw) = allowed_range flaw
+allowed_offer kind receivers length place flaw = None
+
+-- how many receivers the header of a descriptor tells that stands whole in TX of e
+abbrev pub told_receivers : List (Option Buffers) → Identifier → Transfer → Versioned → Option ℕ
+told_receivers buffers e transfer descriptor =
+    if is_none (first_refusal (transfer_guards buffers e transfer))
+    then if nat_le 32 (length descriptor.bytes) then Some (receiver_count descriptor) else None
+    else None
+
+-- OF A RETRIEVE AND A RELINQUISH
+
+abbrev pub allowed_retrieve : RetrieveFlaw → Option Allowed
+allowed_retrieve AskedAttributes = Some (either 0 normal_memory)
+allowed_retrieve AccessCount = Some (one 1)
+allowed_retrieve AskedAccessFlags = Some (one 0)
+allowed_retrieve CompositeTold = Some (one 0)
+allowed_retrieve AskedAccessReserved = Some (one 0)
+allowed_retrieve flaw = None
+
+abbrev pub allowed_asked : Flaw → Option Allowed
+allowed_asked (Retrieve flaw) = allowed_retrieve flaw
+allowed_asked flaw = None
+
+abbrev pub allowed_relinquish : RelinquishFlaw → Option Allowed
+allowed_relinquish RelinquishFlags = Some (between 0 1)
+allowed_relinquish EndpointCount = Some (one 1)
+allowed_relinquish flaw = None
+
+abbrev pub allowed_returned : Flaw → Option Allowed
+allowed_returned (Relinquish flaw) = allowed_relinquish flaw
+allowed_returned flaw = None
+
+-- ON A STATE
+
+abbrev pub receivers_told : State → Transfer → Option ℕ
+receivers_told s transfer = told_receivers s.buffers s.runner transfer (descriptor_in s transfer.total)
+
+abbrev pub allowed_field : State → Call → FieldPlace → Flaw → Option Allowed
+allowed_field s (calls.MemDonate transfer) place flaw = allowed_offer Donate (receivers_told s transfer) transfer.total place flaw
+allowed_field s (calls.MemLend transfer) place flaw = allowed_offer Lend (receivers_told s transfer) transfer.total place flaw
+allowed_field s (calls.MemShare transfer) place flaw = allowed_offer Share (receivers_told s transfer) transfer.total place flaw
+allowed_field s (calls.MemRetrieve transfer) place flaw = allowed_asked flaw
+allowed_field s calls.MemRelinquish place flaw = allowed_returned flaw
+allowed_field s call place flaw = None
+
+-- a check of a call that fails, where it is about a register, or about a field whose value is told
+abbrev pub allowed_check : ℕ → State → Call → Refusal → Option About → Option Allowed
+allowed_check contexts s call refusal (Some (Register number value)) = allowed_register contexts call refusal
+allowed_check contexts s call refusal (Some (Field flaw place (Some value))) = allowed_field s call place flaw
+allowed_check contexts s call refusal about = None
+
+-- of what an operation of the runner is refused for
+abbrev pub allowed : ℕ → State → Op → Why → Option Allowed
+allowed contexts s op (Refused refusal about) = allowed_check contexts s (call_of op) refusal about
+allowed contexts s op (Fault kind obstacle) = None
