@@ -6,7 +6,7 @@ use Rattle.std.specs.Str.{bytes_eq}
 use Rattle.ffa_abi.specs.Names.{answer_names}
 use Rattle.ffa_model.specs.declared.rows.TheConstants.{CALLS}
 use Rattle.play_syntax.specs.TraceLines.{space, words_of}
-use Rattle.play_forms.specs.Patterns.{fit}
+use Rattle.play_forms.specs.Patterns.{behind_first, fit}
 use Rattle.play_forms.specs.declared.guards.Asks.{Asks}
 use Rattle.play_forms.specs.declared.guards.Asks.TheVariants.{Printed, Runner}
 use Rattle.play_forms.specs.declared.hint.Hint.{Hint}
@@ -56,11 +56,23 @@ begins_listing word =
 abbrev pub is_opening : Option ℕ → List ℕ → Bool
 is_opening processors word = begins_outcome word || (begins_resumed processors word || begins_listing word)
 
+-- behind FFA_ERROR stands a check, by its number, or what the error is
+abbrev pub may_follow_error : List ℕ → Bool
+may_follow_error text =
+    if starts_with nat_eq text (codes "check ") then is_check (first_word (drop 6 text)) else true
+
+-- behind any other name nothing stands, or `..`
+abbrev pub may_follow : (name text : List ℕ) → Bool
+may_follow name text =
+    list_any (bytes_eq text) (codes "" ∷ codes ".." ∷ [])
+    || (bytes_eq name (codes "FFA_ERROR") && may_follow_error text)
+
 -- some line that is printed in a trace of so many processors may meet a text, by its first words
 abbrev pub can_be_met : Option ℕ → List ℕ → Bool
 can_be_met processors text =
     if starts_with nat_eq text (codes "check ") then is_check (first_word (drop 6 text))
-    else if starts_with nat_eq text (codes "FFA_") then is_call_name (first_word text)
+    else if starts_with nat_eq text (codes "FFA_")
+    then is_call_name (first_word text) && may_follow (first_word text) (behind_first text)
     else is_opening processors (first_word text)
 
 -- a text is written as an endpoint's identifier is

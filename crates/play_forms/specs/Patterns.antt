@@ -1,6 +1,6 @@
 -- SPDX-License-Identifier: MIT OR Apache-2.0
 -- What the text of a guard wants of a printed line: to be that line, or to fit a pattern.
-use Rattle.std.specs.Prelude.{ℕ, ◌-◌, ◌==◌, Bool, true, false, not, ◌&&◌, ◌||◌, nat_eq, nat_le, List, [], ◌∷◌, ◌++◌, codes, decimal, drop, length, slice_index, take, Option, None, Some, if◌then◌else◌}
+use Rattle.std.specs.Prelude.{ℕ, ◌+◌, ◌-◌, ◌==◌, Bool, true, false, not, ◌&&◌, ◌||◌, nat_eq, nat_le, List, [], ◌∷◌, ◌++◌, codes, decimal, drop, length, slice_index, take, unwrap_or, Option, None, Some, if◌then◌else◌}
 use Rattle.std.specs.List.{position_or_len, starts_with}
 use Rattle.std.specs.Option.{option_map_or}
 use Rattle.std.specs.Str.{bytes_eq}
@@ -13,13 +13,13 @@ use Rattle.ffa_model.specs.declared.why.Why.{Why}
 use Rattle.ffa_model.specs.declared.why.Why.TheVariants.{Refused, Fault}
 use Rattle.ffa_model.specs.Registers.{low}
 use Rattle.ffa_playable.specs.Bench.{Bench, processors_of, why_of}
-use Rattle.play_syntax.specs.TraceLines.{Line, operate, show, audit, skip, turn, interrupt, line_in, words_of}
+use Rattle.play_syntax.specs.TraceLines.{Line, operate, show, audit, skip, turn, interrupt, line_in, space, words_of}
 use Rattle.play_syntax.specs.TraceText.{spaced}
 use Rattle.play_syntax.specs.Lines.{outcome_of}
 use Rattle.play_reasons.specs.Checks.{number_of}
 use Rattle.play_forms.specs.declared.patterns.Came.{Came}
 use Rattle.play_forms.specs.declared.patterns.Pattern.{Pattern}
-use Rattle.play_forms.specs.declared.patterns.Pattern.TheVariants.{Words, Name, Check}
+use Rattle.play_forms.specs.declared.patterns.Pattern.TheVariants.{Words, Name, NameAndCheck, Check}
 
 -- WHAT A LINE CAME TO
 
@@ -52,10 +52,15 @@ came_of s bytes = option_map_or (line_came s) (line_in (processors_of s) bytes) 
 
 -- WHAT A TEXT IS COMPARED WITH
 
--- the name of a call, or a check, or else words
+-- what stands behind the first word
+abbrev pub behind_first : List ℕ → List ℕ
+behind_first text = drop (position_or_len (λ c. c == space) text + 1) text
+
+-- the name of a call, with the error's between them or without; or a check, or else words
 abbrev pub pattern_of : List ℕ → Pattern
 pattern_of text =
-    if starts_with nat_eq text (codes "FFA_") then Name
+    if starts_with nat_eq text (codes "FFA_")
+    then (if starts_with nat_eq (behind_first text) (codes "check ") then NameAndCheck else Name)
     else if starts_with nat_eq text (codes "check ") then Check
     else Words
 
@@ -78,10 +83,17 @@ check_text number = codes "check " ++ decimal number
 abbrev pub check_behind : Option ℕ → List ℕ
 check_behind check = option_map_or (λ number. spaced (check_text number)) check []
 
--- what a line tells that came to this: itself, or its names with the check that refuses it, or that check alone
+-- the name of registers alone, or the line that prints them
+abbrev pub told_by_call : Option Outcome → List ℕ → List ℕ
+told_by_call (Some (Regs runner x)) line = unwrap_or (call_name_of x) line
+told_by_call other line = line
+
+-- what a line tells that came to this: itself, or its names with the check that refuses it, of which the error's may be left
+-- out, or that check alone
 abbrev pub told : Pattern → Came → List ℕ → List ℕ
 told Words came line = line
 told Name came line = told_by_name came.outcome line ++ check_behind came.check
+told NameAndCheck came line = told_by_call came.outcome line ++ check_behind came.check
 told Check came line = option_map_or check_text came.check (told_by_name came.outcome line)
 
 -- WHETHER IT MEETS A TEXT

@@ -1,10 +1,10 @@
 // SPDX-License-Identifier: MIT OR Apache-2.0
 //! What more there is to say of a guard that isn't met than what is found.
 ghost use Rattle.std.specs.Prelude.{◌≡◌};
-ghost use Rattle.play_forms.specs.Hints.{are_digits, are_upper_digits, begins_listing, begins_outcome, begins_resumed, can_be_met, first_word, hint_of, is_answer_name, is_call_name, is_check, is_opening, is_row_name, is_runner};
+ghost use Rattle.play_forms.specs.Hints.{are_digits, are_upper_digits, begins_listing, begins_outcome, begins_resumed, can_be_met, first_word, hint_of, is_answer_name, is_call_name, is_check, is_opening, is_row_name, is_runner, may_follow, may_follow_error};
 
 use crate::guards::Asks;
-use crate::patterns::{begins_line, first_space};
+use crate::patterns::{begins_line, behind_first, first_space};
 use ffa_model::CALLS;
 
 /// What more there is to say of a guard that isn't met.
@@ -61,9 +61,30 @@ fn can_be_met(processors: Option<usize>, text: &[u8]) -> bool
     if text.starts_with(b"check ") {
         is_check(first_word(&text[6..]))
     } else if text.starts_with(b"FFA_") {
-        is_call_name(first_word(text))
+        let name = first_word(text);
+        is_call_name(name) && may_follow(name, behind_first(text))
     } else {
         is_opening(processors, first_word(text))
+    }
+}
+
+// Whether a text may stand behind the name of a call.
+fn may_follow(name: &[u8], text: &[u8]) -> bool
+    ensures { result ≡ may_follow name.now text.now }
+{
+    text == b"".as_slice()
+        || text == b"..".as_slice()
+        || name == b"FFA_ERROR".as_slice() && may_follow_error(text)
+}
+
+// Whether a text may stand behind the name of an error: a check with its number, or what the error is.
+fn may_follow_error(text: &[u8]) -> bool
+    ensures { result ≡ may_follow_error text.now }
+{
+    if text.starts_with(b"check ") {
+        is_check(first_word(&text[6..]))
+    } else {
+        true
     }
 }
 

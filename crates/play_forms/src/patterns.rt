@@ -7,7 +7,7 @@ ghost use Rattle.play_syntax.specs.TraceLines.{space, words_of};
 ghost use Rattle.play_reasons.specs.Drafts.{Puts};
 ghost use Rattle.play_forms.specs.Asking.{AreWords, SaysCame, SaysCheck};
 ghost use Rattle.play_forms.specs.Hints.{begins_line};
-ghost use Rattle.play_forms.specs.Patterns.{check_behind, check_text, fit, fits, is_alike, meets, named, pattern_of, told, told_by_name, without_zeros};
+ghost use Rattle.play_forms.specs.Patterns.{behind_first, check_behind, check_text, fit, fits, is_alike, meets, named, pattern_of, told, told_by_call, told_by_name, without_zeros};
 
 use crate::reason::is_refused;
 use ffa_abi::{call_name, low};
@@ -27,6 +27,8 @@ pub enum Pattern {
     /// The name of the call that the line's registers are, that of their error, and the number of the check by which the call
     /// is refused: `FFA_ERROR DENIED check 12`.
     Name,
+    /// The same without the error: `FFA_ERROR check 12`.
+    NameAndCheck,
     /// The number of the check by which the call is refused: `check 12`.
     Check,
 }
@@ -37,7 +39,11 @@ impl Pattern {
         ensures { result ≡ pattern_of text.now }
     {
         if text.starts_with(b"FFA_") {
-            Pattern::Name
+            if behind_first(text).starts_with(b"check ") {
+                Pattern::NameAndCheck
+            } else {
+                Pattern::Name
+            }
         } else if text.starts_with(b"check ") {
             Pattern::Check
         } else {
@@ -119,6 +125,7 @@ pub(crate) fn put_told<A: Allocator + Copy>(
         (Pattern::Check, Some(number)) => put_check(&mut text, number),
         (Pattern::Check, None) => put_named(came.outcome, line, &mut text),
         (Pattern::Name, check) => put_name_and_check(came.outcome, check, line, &mut text),
+        (Pattern::NameAndCheck, check) => put_call_and_check(came.outcome, check, line, &mut text),
     }
     *found = text.end()?;
     Ok(())
@@ -141,9 +148,41 @@ fn put_name_and_check<A: Allocator>(
     ensures { Puts text.old text.new (told_by_name outcome line.now ++ check_behind check) }
 {
     put_named(outcome, line, text);
+    put_check_behind(text, check);
+}
+
+// The same without the name of the error.
+fn put_call_and_check<A: Allocator>(
+    outcome: Option<Outcome>,
+    check: Option<usize>,
+    line: &[u8],
+    text: &mut Draft<A>,
+)
+    ensures { Puts text.old text.new (told_by_call outcome line.now ++ check_behind check) }
+{
+    put_call(outcome, line, text);
+    put_check_behind(text, check);
+}
+
+fn put_check_behind<A: Allocator>(text: &mut Draft<A>, check: Option<usize>)
+    ensures { Puts text.old text.new (check_behind check) }
+{
     if let Some(number) = check {
         text.put(" ");
         put_check(text, number);
+    }
+}
+
+// Puts the name of the call that registers are, or the line, where there is none.
+fn put_call<A: Allocator>(outcome: Option<Outcome>, line: &[u8], text: &mut Draft<A>)
+    ensures { Puts text.old text.new (told_by_call outcome line.now) }
+{
+    match outcome {
+        Some(Outcome::Regs { x, .. }) => match call_name(&x) {
+            Some(name) => text.put(name),
+            None => text.put_bytes(line),
+        },
+        _ => text.put_bytes(line),
     }
 }
 
@@ -219,6 +258,16 @@ fn words_fit(numbers: bool, loose: bool, text: &[u8], line: &[u8]) -> bool
             (None, Some(_)) => return loose,
             (None, None) => return true,
         }
+    }
+}
+
+/// What stands behind the first word.
+pub(crate) fn behind_first(text: &[u8]) -> &[u8]
+    ensures { result.now ≡ behind_first text.now }
+{
+    match first_space(text) {
+        Some(end) => &text[end + 1..],
+        None => &[],
     }
 }
 
