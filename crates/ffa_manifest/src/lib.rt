@@ -25,6 +25,7 @@ mod text_place;
 
 pub use error::ManifestError;
 pub use ffa_model::Manifest;
+pub use near::nearest;
 pub use parts::of_parts;
 pub use parts_place::{PartsPlace, place_of_parts};
 pub use refusal::{Found, ManifestRefusal};

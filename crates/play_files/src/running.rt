@@ -4,8 +4,8 @@ use crate::commands::{Commands, Files};
 use crate::input::Input;
 use crate::output::{Output, Told};
 use crate::testing::test;
-use crate::wording::Text;
-use play_arguments::{ErrorKind, Request, STANDARD_INPUT, request};
+use crate::wording::{Text, Wording};
+use play_arguments::{ErrorKind, PlayOptions, Purpose, Request, STANDARD_INPUT, request};
 use std::alloc::{AllocError, Global};
 use std::env::Env;
 use std::io::{BufWriter, IsTerminal, Read, Write};
@@ -17,10 +17,14 @@ const OUTPUT: usize = 65536;
 /// The status with which the program ends where nobody reads its output: that which a shell has of one that SIGPIPE ends.
 const CLOSED: u8 = 141;
 
+/// With what a session at a terminal begins.
+const GREETING: &str =
+    "ffaplay: a session: each line is done when it ends; help says what a line is, and quit ends the session";
+
 /// Runs the program with these standard streams, and answers the status with which it ends.
 pub fn run<
     H: AllocGlobal + Env + fs::Files + Print + Eprint + Clone + Drop,
-    S: Read + Copy + Drop,
+    S: Read + IsTerminal + Copy + Drop,
     W: Write + Drop,
     E: Write + IsTerminal,
     C: Commands,
@@ -40,7 +44,7 @@ fn no_memory<H: Eprint>(rt: &H) -> u8 {
 // Reads the command line, and does what it asks for.
 fn status<
     H: AllocGlobal + Env + fs::Files + Print + Eprint + Clone + Drop,
-    S: Read + Copy + Drop,
+    S: Read + IsTerminal + Copy + Drop,
     W: Write + Drop,
     E: Write + IsTerminal,
     C: Commands,
@@ -63,6 +67,9 @@ fn status<
         }
         // Who reads what is told at a terminal is told more.
         Ok(request) if err.is_terminal() => {
+            if input.is_terminal() && is_session(&request) {
+                let _ = writeln!(err, "{GREETING}");
+            }
             carry_out(rt, input, out, err, commands, &request.said_more())
         }
         Ok(request) => carry_out(rt, input, out, err, commands, &request),
@@ -82,7 +89,7 @@ fn status<
 
 /// Opens the files, and does what was asked for. Where nobody reads the output, nothing is told of that.
 pub(crate) fn carry_out<
-    H: AllocGlobal + fs::Files,
+    H: AllocGlobal + fs::Files + Eprint + Drop,
     S: Read + Copy + Drop,
     W: Write + Drop,
     E: Write,
@@ -103,8 +110,8 @@ pub(crate) fn carry_out<
     let expected = unless_no_memory(open(rt, input, request.expected()), &mut reason)?;
     let files = Files {
         manifest: manifest.as_ref().map(|bytes| bytes.as_slice()),
-        trace: text_of(alloc, trace, is_in_words(request))?,
-        expected: text_of(alloc, expected, false)?,
+        trace: text_of(alloc, trace, wording_of(rt, request))?,
+        expected: text_of(alloc, expected, None)?,
         reason,
     };
     // With no room nothing is gathered: each write goes to standard output at once.
@@ -142,22 +149,48 @@ fn lowered<'a>(request: &Request<'a>) -> Option<&'a str> {
     }
 }
 
-// Whether the trace that it plays is in words.
-fn is_in_words(request: &Request<'_>) -> bool {
+// Whether it is a session over standard input.
+fn is_session(request: &Request<'_>) -> bool {
+    request.trace() == Some(STANDARD_INPUT)
+        && matches!(
+            *request,
+            Request::Play(
+                PlayOptions {
+                    purpose: Purpose::Print {
+                        interactive: true,
+                        ..
+                    },
+                    ..
+                },
+            )
+        )
+}
+
+/// How the trace is played that is in words, where it is.
+pub(crate) fn wording_of<'a, H>(rt: &'a H, request: &Request<'_>) -> Option<Wording<'a, H>> {
     match *request {
-        Request::Play(options) => options.words,
-        _ => false,
+        Request::Play(options) if options.words => Some(Wording {
+            processors: options.machine.processors,
+            session: match options.purpose {
+                Purpose::Print {
+                    interactive: true,
+                    ..
+                } => Some(rt),
+                _ => None,
+            },
+        }),
+        _ => None,
     }
 }
 
-/// What a reader reads, where there is one, in words or not.
-pub(crate) fn text_of<R: Read + Drop>(
+/// What a reader reads, where there is one, which is in words where it is said how these are played.
+pub(crate) fn text_of<'a, H: Eprint + Drop, R: Read + Drop>(
     alloc: Global,
     reader: Option<R>,
-    words: bool,
-) -> Result<Option<Text<R, Global>>, AllocError> {
+    wording: Option<Wording<'a, H>>,
+) -> Result<Option<Text<'a, H, R, Global>>, AllocError> {
     match reader {
-        Some(reader) => Ok(Some(Text::new(alloc, reader, words)?)),
+        Some(reader) => Ok(Some(Text::new(alloc, reader, wording)?)),
         None => Ok(None),
     }
 }

@@ -1,7 +1,7 @@
 // SPDX-License-Identifier: MIT OR Apache-2.0
 //! Traces that are tested: all of some folders, each played with its guards.
 use crate::commands::Commands;
-use crate::running::{carry_out, open, read_whole, text_of, unless_no_memory};
+use crate::running::{carry_out, open, read_whole, text_of, unless_no_memory, wording_of};
 use play_arguments::{
     MachineOptions, PlayOptions, Purpose, Request, Source, TestOptions, TextOptions,
 };
@@ -43,7 +43,7 @@ impl Trace<'_> {
 /// passed. Where that is asked for, it prints behind that what all of them reach. All folders are read first: where one
 /// can't be, or has no trace, the first such one is told, and nothing is played.
 pub(crate) fn test<
-    H: AllocGlobal + fs::Files + Clone + Drop,
+    H: AllocGlobal + fs::Files + Eprint + Clone + Drop,
     S: Read + Copy + Drop,
     W: Write,
     E: Write,
@@ -109,7 +109,7 @@ fn push_traces<'a>(
 
 // Plays them one by one, and prints what came of each, and of all.
 fn play_all<
-    H: AllocGlobal + fs::Files + Clone + Drop,
+    H: AllocGlobal + fs::Files + Eprint + Clone + Drop,
     S: Read + Copy + Drop,
     W: Write,
     C: Commands,
@@ -141,7 +141,7 @@ fn play_all<
 }
 
 // Plays a trace, and answers the status with which that ends. Where that is asked for, it is counted too.
-fn play_one<H: AllocGlobal + fs::Files + Clone + Drop, S: Read + Copy + Drop, C: Commands>(
+fn play_one<H: AllocGlobal + fs::Files + Eprint + Clone + Drop, S: Read + Copy + Drop, C: Commands>(
     rt: &H,
     input: S,
     commands: &C,
@@ -173,7 +173,7 @@ fn play_one<H: AllocGlobal + fs::Files + Clone + Drop, S: Read + Copy + Drop, C:
 }
 
 // Counts what comes of a trace's operations. Files that can't be read are told where it is played.
-fn count_one<H: AllocGlobal + fs::Files, S: Read + Copy + Drop, C: Commands>(
+fn count_one<H: AllocGlobal + fs::Files + Eprint + Drop, S: Read + Copy + Drop, C: Commands>(
     rt: &H,
     input: S,
     commands: &C,
@@ -184,7 +184,7 @@ fn count_one<H: AllocGlobal + fs::Files, S: Read + Copy + Drop, C: Commands>(
     let mut reason = None;
     let manifest = unless_no_memory(read_whole(rt, input, request.manifest()), &mut reason)?;
     let trace = unless_no_memory(open(rt, input, request.trace()), &mut reason)?;
-    let trace = text_of(rt.alloc(), trace, play.words)?;
+    let trace = text_of(rt.alloc(), trace, wording_of(rt, request))?;
     match (manifest, trace) {
         (Some(manifest), Some(trace)) => {
             commands.count(play, manifest.as_slice(), trace, counts)

@@ -4,7 +4,7 @@ use Rattle.std.specs.Prelude.{◌==◌, ℕ, List, ◌++◌, codes, decimal, if�
 use Rattle.play_reasons.specs.declared.fault.LineFault.{LineFault}
 use Rattle.play_reasons.specs.declared.fault.LineFault.TheVariants.{NoEnd, CarriageReturn, Words, Whole}
 use Rattle.play_reasons.specs.declared.fault.WordFault.{WordFault}
-use Rattle.play_reasons.specs.declared.fault.WordFault.TheVariants.{Empty, UnknownCommand, Help, HelpOnSeveral, Quit, NoNumber, Prefix, LongNumber, Size, Digits, Registers, Processor, Missing, TooMany}
+use Rattle.play_reasons.specs.declared.fault.WordFault.TheVariants.{Empty, UnknownCommand, Help, HelpOnSeveral, Quit, Name, NoNumber, Prefix, LongNumber, Size, Digits, Registers, Processor, Missing, TooMany}
 
 -- that the value to store has so many digits
 abbrev pub digits_words : ℕ → List ℕ
@@ -16,10 +16,11 @@ abbrev pub word_fault_words : WordFault → List ℕ
 word_fault_words Empty = codes "an empty word"
 word_fault_words UnknownCommand = codes "an unknown command"
 word_fault_words Help =
-    codes "a line is call X0 .. X7, load A N, store A V, fetch A, show or audit, in hexadecimal; quit ends a session"
+    codes "a line is call X0 .. X7, load A N, store A V, fetch A, show or audit, in hexadecimal; with --words also call NAME ARGUMENT=N .., as call FFA_RUN partition=8001, whose names docs/PYTHON.md lists; quit ends a session"
 word_fault_words HelpOnSeveral =
-    codes "a line is call X0 .. X7, load A N, store A V, fetch A, show, audit, on N or interrupt, in hexadecimal; quit ends a session"
+    codes "a line is call X0 .. X7, load A N, store A V, fetch A, show, audit, on N or interrupt, in hexadecimal; with --words also call NAME ARGUMENT=N .., as call FFA_RUN partition=8001, whose names docs/PYTHON.md lists; quit ends a session"
 word_fault_words Quit = codes "the end of the input ends a session, as Ctrl+D does"
+word_fault_words Name = codes "the name of a call, which is read with --words"
 word_fault_words NoNumber = codes "no hexadecimal number"
 word_fault_words Prefix = codes "a number is written without 0x"
 word_fault_words (LongNumber digits) =

@@ -33,9 +33,12 @@ pub enum WordFault {
     HelpOnSeveral,
     /// The first word asks that the play end.
     Quit,
+    /// The first register of a call is the name of one, which stands in a trace in words.
+    Name,
     /// A number is wanted, and a byte of the word is no hexadecimal digit.
     NoNumber,
-    /// A number is wanted, and the word has `0x` in front of its digits.
+    /// A number is wanted, and the word has `0x` in front of its digits, as it may have in a trace in words. Nothing else is wrong
+    /// with the line.
     Prefix,
     /// The number has so many digits, which are more than 16.
     LongNumber(usize),
@@ -55,7 +58,7 @@ pub enum WordFault {
 
 /// Says what is wrong first with a line as it stands in a trace of so many processors, or of one alone, with the LF that
 /// ends it where there is one. Words are read from the left, and that some are missing, or are too many registers, comes
-/// behind what is wrong with one of them.
+/// behind what is wrong with one of them, and last that `0x` stands before a number.
 pub fn line_fault(processors: Option<usize>, bytes: &[u8]) -> Option<LineFault>
     ensures { IsNone result ↔ IsWhole processors bytes.now }
 {
@@ -91,6 +94,7 @@ fn words_fault(processors: Option<usize>, line: &[u8]) -> LineFault {
     };
     let mut column = usize::saturating_add(name.len(), 2);
     let (mut count, mut ninth) = (0, column);
+    let mut prefixed = None;
     for word in words {
         count = usize::saturating_add(count, 1);
         if count == 9 {
@@ -99,9 +103,19 @@ fn words_fault(processors: Option<usize>, line: &[u8]) -> LineFault {
         if let Some(cause) = word_fault(command, count, word) {
             return LineFault::Words { column, cause };
         }
+        if prefixed.is_none() && has_prefix(word) {
+            prefixed = Some(column);
+        }
         column = usize::saturating_add(column, usize::saturating_add(word.len(), 1));
     }
-    count_fault(command, count, ninth, line.len())
+    match (count_fault(command, count, ninth, line.len()), prefixed) {
+        (Some(fault), _) => fault,
+        (None, Some(column)) => LineFault::Words {
+            column,
+            cause: WordFault::Prefix,
+        },
+        (None, None) => LineFault::Whole,
+    }
 }
 
 fn command_named(processors: Option<usize>, name: &[u8]) -> Option<Command> {
@@ -139,35 +153,38 @@ fn word_fault(command: Command, place: usize, word: &[u8]) -> Option<WordFault> 
     if word.is_empty() {
         return Some(WordFault::Empty);
     }
+    let digits = without_prefix(word);
     match (command, place) {
-        (Command::Load, 2) => size_fault(word),
-        (Command::Store, 2) => value_fault(word),
-        (Command::On(count), 1) => processor_fault(count, word),
+        (Command::Call, 1) if word.starts_with(b"FFA_") => Some(WordFault::Name),
+        (Command::Load, 2) => size_fault(digits),
+        (Command::Store, 2) => value_fault(digits),
+        (Command::On(count), 1) => processor_fault(count, digits),
         (Command::Call, _) | (Command::Load | Command::Store | Command::Fetch, 1) => {
-            number_fault(word)
+            number_fault(digits)
         }
         (_, _) => Some(WordFault::TooMany),
     }
 }
 
+// Whether `0x` stands in front of a word, and something behind that.
+fn has_prefix(word: &[u8]) -> bool {
+    without_prefix(word).len() < word.len()
+}
+
+fn without_prefix(word: &[u8]) -> &[u8] {
+    match word {
+        [b'0', b'x' | b'X', _, ..] => &word[2..],
+        _ => word,
+    }
+}
+
 fn number_fault(word: &[u8]) -> Option<WordFault> {
     if !word.iter().all(u8::is_ascii_hexdigit) {
-        Some(digit_fault(word))
+        Some(WordFault::NoNumber)
     } else if word.len() > 16 {
         Some(WordFault::LongNumber(word.len()))
     } else {
         None
-    }
-}
-
-// What is wrong with a word that has another byte than digits.
-fn digit_fault(word: &[u8]) -> WordFault {
-    match word {
-        [b'0', b'x' | b'X', digits @ ..]
-            if !digits.is_empty() && digits.iter().all(u8::is_ascii_hexdigit) => {
-            WordFault::Prefix
-        }
-        _ => WordFault::NoNumber,
     }
 }
 
@@ -180,7 +197,7 @@ fn size_fault(word: &[u8]) -> Option<WordFault> {
 
 fn value_fault(word: &[u8]) -> Option<WordFault> {
     if !word.iter().all(u8::is_ascii_hexdigit) {
-        return Some(digit_fault(word));
+        return Some(WordFault::NoNumber);
     }
     match word.len() {
         2 | 4 | 8 | 16 => None,
@@ -197,24 +214,19 @@ fn processor_fault(count: usize, word: &[u8]) -> Option<WordFault> {
     }
 }
 
-// What is wrong with a line of so many bytes, with so many words behind the command, of which each is as it should be.
-// The ninth word stands at this column.
-fn count_fault(command: Command, count: usize, ninth: usize, bytes: usize) -> LineFault {
-    match command {
-        Command::Call => LineFault::Words {
-            column: if count == 0 {
-                usize::saturating_add(bytes, 1)
-            } else {
-                ninth
-            },
-            cause: WordFault::Registers(count),
-        },
-        Command::Load | Command::Store | Command::Fetch | Command::On(_) => LineFault::Words {
-            column: usize::saturating_add(bytes, 1),
-            cause: WordFault::Missing,
-        },
-        Command::Bare => LineFault::Whole,
-    }
+// What is wrong with how many words a line of so many bytes has behind the command, of which each is as it should be. The ninth
+// stands at this column.
+fn count_fault(command: Command, count: usize, ninth: usize, bytes: usize) -> Option<LineFault> {
+    let end = usize::saturating_add(bytes, 1);
+    let (column, cause) = match (command, count) {
+        (Command::Call, 0) => (end, WordFault::Registers(count)),
+        (Command::Call, 9..) => (ninth, WordFault::Registers(count)),
+        (Command::Load | Command::Store, 0 | 1) | (Command::Fetch | Command::On(_), 0) => {
+            (end, WordFault::Missing)
+        }
+        (_, _) => return None,
+    };
+    Some(LineFault::Words { column, cause })
 }
 
 impl fmt::Display for LineFault {
@@ -245,13 +257,14 @@ impl fmt::Display for WordFault {
             WordFault::UnknownCommand => write!(f, "an unknown command"),
             WordFault::Help => write!(
                 f,
-                "a line is call X0 .. X7, load A N, store A V, fetch A, show or audit, in hexadecimal; quit ends a session"
+                "a line is call X0 .. X7, load A N, store A V, fetch A, show or audit, in hexadecimal; with --words also call NAME ARGUMENT=N .., as call FFA_RUN partition=8001, whose names docs/PYTHON.md lists; quit ends a session"
             ),
             WordFault::HelpOnSeveral => write!(
                 f,
-                "a line is call X0 .. X7, load A N, store A V, fetch A, show, audit, on N or interrupt, in hexadecimal; quit ends a session"
+                "a line is call X0 .. X7, load A N, store A V, fetch A, show, audit, on N or interrupt, in hexadecimal; with --words also call NAME ARGUMENT=N .., as call FFA_RUN partition=8001, whose names docs/PYTHON.md lists; quit ends a session"
             ),
             WordFault::Quit => write!(f, "the end of the input ends a session, as Ctrl+D does"),
+            WordFault::Name => write!(f, "the name of a call, which is read with --words"),
             WordFault::NoNumber => write!(f, "no hexadecimal number"),
             WordFault::Prefix => write!(f, "a number is written without 0x"),
             WordFault::LongNumber(digits) => {

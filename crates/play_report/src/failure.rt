@@ -3,18 +3,39 @@
 ghost use Rattle.std.specs.Prelude.{◌≡◌};
 ghost use Rattle.play_report.specs.Failures.{StopsFor, failure_of, status_of};
 
+use crate::call_fault::{CallFault, call_fault};
 use crate::excerpt::Excerpt;
 use ffa_manifest::ManifestError;
 use play_descriptor::WordsFault;
 use play_reasons::{LineFault, line_fault};
 use play_syntax::PlayError;
 use play_writer::Unfit;
+use std::alloc::Allocator;
+use std::fmt;
 use thiserror::Error;
+
+/// What is wrong with a line. It prints as one line.
+#[derive(Clone, Copy, Debug, PartialEq, Eq)]
+pub enum Fault {
+    /// The words say no call, in a line that names one.
+    Call(CallFault),
+    /// The line is none of a trace.
+    Line(LineFault),
+}
+
+impl fmt::Display for Fault {
+    fn fmt<W: fmt::Write>(&self, f: &mut fmt::Formatter<W>) -> fmt::Result {
+        match self {
+            Fault::Call(fault) => write!(f, "{fault}"),
+            Fault::Line(fault) => write!(f, "{fault}"),
+        }
+    }
+}
 
 /// What is wrong with a bad line, and where it is shown in its text, where it is in some place of that.
 #[derive(Clone, Copy, Debug, PartialEq, Eq)]
 pub struct LineFlaw {
-    pub fault: LineFault,
+    pub fault: Fault,
     pub excerpt: Option<Excerpt>,
 }
 
@@ -80,31 +101,39 @@ impl<'a> Failure<'a> {
         }
     }
 
-    /// The same, where these are the bytes of the line at which it did, in a trace of so many processors.
-    pub fn of_line(
+    /// The same, where these are the bytes of the line at which it did, in a trace of so many processors. A line that names its
+    /// call is told as one in words.
+    pub fn of_line<A: Allocator + Copy>(
         path: &'a str,
         error: PlayError,
         processors: Option<usize>,
-        line: &[u8],
+        line: &Vec<u8, A>,
     ) -> Failure<'a>
         ensures { StopsFor (Failure.Read path.entry) error result }
     {
         let flaw = match (error, line_fault(processors, line)) {
-            (PlayError::BadLine(number), Some(fault)) => Some(flaw_of(number, line, fault)),
+            (PlayError::BadLine(number), Some(fault)) => {
+                Some(flaw_of(*line.allocator(), number, line, fault))
+            }
             _ => None,
         };
         Failure::of_play(path, error, flaw)
     }
 }
 
-// What is wrong with the line of this number, as it stands in a trace.
-fn flaw_of(number: u64, line: &[u8], fault: LineFault) -> LineFlaw {
+// What is wrong with the line of this number, as it stands in a trace, where it is this as a plain one.
+fn flaw_of<A: Allocator + Copy>(alloc: A, number: u64, line: &[u8], fault: LineFault) -> LineFlaw {
     let text = line.strip_suffix(b"\n").unwrap_or(line);
+    let fault = match (fault, call_fault(alloc, text)) {
+        (LineFault::Words { .. }, Some(fault)) => Fault::Call(fault),
+        _ => Fault::Line(fault),
+    };
     let at = match fault {
-        LineFault::NoEnd => Some(text.len()),
-        LineFault::CarriageReturn => Some(text.len().saturating_sub(1)),
-        LineFault::Words { column, cause: _ } => Some(column.saturating_sub(1)),
-        LineFault::Whole => None,
+        Fault::Line(LineFault::NoEnd) => Some(text.len()),
+        Fault::Line(LineFault::CarriageReturn) => Some(text.len().saturating_sub(1)),
+        Fault::Line(LineFault::Words { column, .. }) => Some(column.saturating_sub(1)),
+        Fault::Call(CallFault { fault, .. }) => Some(fault.column.saturating_sub(1)),
+        Fault::Line(LineFault::Whole) => None,
     };
     let excerpt = match at {
         Some(at) => Some(Excerpt::of_line(number, text, at)),

@@ -3,6 +3,7 @@
 //! what those commands print that play and make no trace.
 #![tactic(auto)]
 
+mod call_fault;
 mod counts;
 mod descriptor;
 mod difference;
@@ -17,11 +18,12 @@ mod regions;
 mod telling;
 mod unmet;
 
+pub use call_fault::{CallFault, call_fault};
 pub use counts::print_counts;
 pub use descriptor::describe_for;
 pub use difference::Difference;
 pub use excerpt::Excerpt;
-pub use failure::{Failure, LineFlaw};
+pub use failure::{Failure, Fault, LineFlaw};
 pub use manifest::{accept, lay_out, read_manifest};
 pub use notes::{More, Notes};
 pub use picture::print_picture;

@@ -8,7 +8,7 @@ use Rattle.play_syntax.specs.TraceLines.{hash, words_of}
 use Rattle.play_syntax.specs.TraceText.{spaced}
 use Rattle.play_words.specs.Calls.{Argument, Form, function_named}
 use Rattle.play_words.specs.Names.{name_text}
-use Rattle.play_words.specs.Numbers.{bare, number_in}
+use Rattle.play_words.specs.Numbers.{bare, number_in, uuid_in}
 use Rattle.play_words.specs.declared.arguments.Place.{Place}
 use Rattle.play_words.specs.declared.arguments.Place.TheVariants.{High, Low, Word, Words}
 use Rattle.play_words.specs.declared.arguments.Usual.{Usual}
@@ -19,6 +19,8 @@ use Rattle.play_words.specs.declared.fault.LowerError.{LowerError}
 use Rattle.play_words.specs.declared.fault.LowerError.TheVariants as error
 use Rattle.play_words.specs.declared.fault.WordsFault.{WordsFault}
 use Rattle.play_words.specs.declared.given.Given.{Given}
+use Rattle.play_words.specs.declared.name.Name.{Name}
+use Rattle.play_words.specs.declared.name.Name.TheVariants.{Feature, Uuid}
 
 -- THE ARGUMENTS THAT ARE GIVEN
 
@@ -43,16 +45,30 @@ most_at function other most = most
 abbrev pub most_of : Form → Argument → ℕ
 most_of function argument = most_at function argument.1 argument.2
 
-abbrev pub valued : Argument → ℕ → Option ℕ → Result Given Cause
-valued argument most None = Err cause.NoNumber
-valued argument most (Some value) =
+-- a feature is a number, or the call of a name, behind which `_64` stands for the 64-bit form
+unfoldable pub feature_in : List ℕ → Option ℕ
+feature_in text = option_or (number_in text) (option_map (λ form. form.number) (function_named text))
+
+abbrev pub or_cause : Cause → Option ℕ → Result ℕ Cause
+or_cause cause None = Err cause
+or_cause cause (Some value) = Ok value
+
+-- the number that a text writes of an argument of this name
+abbrev pub value_in : Name → List ℕ → Result ℕ Cause
+value_in Uuid text = or_cause cause.NoUuid (uuid_in text)
+value_in Feature text = or_cause cause.NoFeature (feature_in text)
+value_in other text = or_cause cause.NoNumber (number_in text)
+
+abbrev pub valued : Argument → ℕ → Result ℕ Cause → Result Given Cause
+valued argument most (Err cause) = Err cause
+valued argument most (Ok value) =
     if nat_le value most then Ok (record { argument = argument; value = value }) else Err (cause.TooLarge most)
 
--- what is given, behind what was given before it, by the argument of a name, where the call has it, and the text of a number
+-- what is given, behind what was given before it, by the argument of a name, where the call has it, and its text
 abbrev pub first_given : Form → List Given → Option Argument → (name text : List ℕ) → Result Given Cause
 first_given function before None name text = Err (cause.UnknownArgument function.narrow)
 first_given function before (Some argument) name text =
-    if is_given before name then Err cause.Twice else valued argument (most_of function argument) (number_in text)
+    if is_given before name then Err cause.Twice else valued argument (most_of function argument) (value_in argument.0 text)
 
 unfoldable pub named_in : Form → List Given → (name text : List ℕ) → Result Given Cause
 named_in function before name text =

@@ -8,14 +8,14 @@ use std::fmt;
 
 /// What is wrong first with a call in words, and the column of its word, where the first byte of the line has column 1. An
 /// argument that is missing would stand behind the line's last byte.
-#[derive(Clone, Copy, Debug)]
+#[derive(Clone, Copy, Debug, PartialEq, Eq)]
 pub struct WordsFault {
     pub column: usize,
     pub cause: Cause,
 }
 
 /// What is wrong with a word of a call.
-#[derive(Clone, Copy, Debug)]
+#[derive(Clone, Copy, Debug, PartialEq, Eq)]
 pub enum Cause {
     /// No call has the name.
     UnknownCall,
@@ -27,6 +27,10 @@ pub enum Cause {
     Twice,
     /// No hexadecimal number stands behind the `=`.
     NoNumber,
+    /// No UUID in a form that a manifest has stands behind the `=`.
+    NoUuid,
+    /// Neither a hexadecimal number nor the name of a call stands behind the `=`.
+    NoFeature,
     /// The number is larger than this one, which is the largest that the argument may be.
     TooLarge(u128),
     /// The argument of this name isn't given.
@@ -56,6 +60,16 @@ impl fmt::Display for Cause {
             Cause::UnknownArgument(function) => put_known(*function, f),
             Cause::Twice => write!(f, "an argument that was given before"),
             Cause::NoNumber => write!(f, "no hexadecimal number behind the ="),
+            Cause::NoUuid => write!(
+                f,
+                "no UUID behind the =: it is 32 hexadecimal digits, alone or with hyphens as 8-4-4-4-12"
+            ),
+            Cause::NoFeature => {
+                write!(
+                    f,
+                    "neither a hexadecimal number nor the name of a call behind the ="
+                )
+            }
             Cause::TooLarge(most) => write!(f, "a number above {most:X}"),
             Cause::Missing(name) => write!(f, "the argument {name} is missing"),
         }

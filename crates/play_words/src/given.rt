@@ -4,13 +4,13 @@ ghost use Rattle.std.specs.Prelude.{◌≡◌, ◌+◌, ◌<◌, ◌≤◌, ◌^
 ghost use Rattle.play_syntax.specs.TraceLines.{words_of};
 ghost use Rattle.play_words.specs.Calls.{form_of};
 ghost use Rattle.play_words.specs.Cuts.{left_length, words_left};
-ghost use Rattle.play_words.specs.Words.{Gives, argument_named, given_in, givens, is_given, is_missing, is_whole, most_of, named_in, register_of, registers, share, usual_of, value_named, value_of, word_at};
+ghost use Rattle.play_words.specs.Words.{Gives, argument_named, given_in, givens, feature_in, is_given, is_missing, is_whole, most_of, named_in, register_of, registers, share, usual_of, value_in, value_named, value_of, word_at};
 
 use crate::arguments::{Argument, Place, Usual};
 use crate::fault::{Cause, LowerError, WordsFault};
-use crate::function::Function;
+use crate::function::{Function, function_named};
 use crate::name::Name;
-use crate::number::number_in;
+use crate::number::{number_in, uuid_in};
 use std::alloc::Allocator;
 
 /// An argument with the number that was given for it.
@@ -88,10 +88,35 @@ fn named_in(function: &Function, before: &[Given], name: &[u8], text: &[u8]) -> 
         return Err(Cause::Twice);
     }
     let most = most_of(function, &argument);
-    match number_in(text) {
-        None => Err(Cause::NoNumber),
-        Some(value) if value > most => Err(Cause::TooLarge(most)),
-        Some(value) => Ok(Given { argument, value }),
+    match value_in(argument.0, text) {
+        Err(cause) => Err(cause),
+        Ok(value) if value > most => Err(Cause::TooLarge(most)),
+        Ok(value) => Ok(Given { argument, value }),
+    }
+}
+
+// The number that a text writes of an argument of this name.
+fn value_in(name: Name, text: &[u8]) -> Result<u128, Cause>
+    ensures { result ≡ value_in name text.now }
+{
+    match name {
+        Name::Uuid => uuid_in(text).ok_or(Cause::NoUuid),
+        Name::Feature => feature_in(text).ok_or(Cause::NoFeature),
+        _ => number_in(text).ok_or(Cause::NoNumber),
+    }
+}
+
+// A feature is a number, or the call of a name.
+#[tactic(auto, unfolding(crate::specs::Words::feature_in))]
+fn feature_in(text: &[u8]) -> Option<u128>
+    ensures { result ≡ feature_in text.now }
+{
+    if let Some(number) = number_in(text) {
+        return Some(number);
+    }
+    match function_named(text) {
+        Some(function) => Some(u128::from(function.number)),
+        None => None,
     }
 }
 

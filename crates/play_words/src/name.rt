@@ -37,7 +37,7 @@ pub enum Name {
 
 impl Name {
     /// How it is written.
-    pub(crate) fn text(self) -> &'static str
+    pub fn text(self) -> &'static str
         ensures { result.now ≡ name_text self }
     {
         match self {

@@ -2,7 +2,9 @@
 //! Numbers in words.
 ghost use Rattle.std.specs.Prelude.{◌≡◌, ◌≤◌, fold, length, Some};
 ghost use Rattle.play_syntax.specs.TraceLines.{digit_value, with_digit};
-ghost use Rattle.play_words.specs.Numbers.{bare, number_in};
+ghost use Rattle.play_words.specs.Numbers.{bare, number_in, uuid_in};
+
+use uuid::Uuid;
 
 /// A word without the mark of a hexadecimal number in front.
 pub(crate) fn bare(word: &[u8]) -> &[u8]
@@ -50,5 +52,16 @@ fn digit(byte: u8) -> Option<u128>
         b'A'..=b'F' => Some(u128::from(byte - b'A') + 10),
         b'a'..=b'f' => Some(u128::from(byte - b'a') + 10),
         _ => None,
+    }
+}
+
+/// The number of a UUID, which is written as in a manifest: its first byte has the lowest bits.
+#[tactic(auto, unfolding(crate::specs::Numbers::uuid_in))]
+pub(crate) fn uuid_in(word: &[u8]) -> Option<u128>
+    ensures { result ≡ uuid_in word.now }
+{
+    match Uuid::try_parse_ascii(word) {
+        Ok(uuid) => Some(u128::from_le_bytes(uuid.into_bytes())),
+        Err(_) => None,
     }
 }

@@ -1,0 +1,89 @@
+// SPDX-License-Identifier: MIT OR Apache-2.0
+//! What is wrong with a line that names its call, and which name may have been meant.
+use ffa_manifest::nearest;
+use ffa_model::CALLS;
+use play_words::{ARGUMENTS, Cause, LowerError, WordsFault, lower_line};
+use std::alloc::Allocator;
+use std::{fmt, str};
+
+/// What is wrong with a line that names its call. It prints as one line.
+#[derive(Clone, Copy, Debug, PartialEq, Eq)]
+pub struct CallFault {
+    /// What is wrong, and where.
+    pub fault: WordsFault,
+    near: Option<Near>,
+}
+
+// The name that a word may have been meant for, with `_64` behind it where that is meant too.
+#[derive(Clone, Copy, Debug, PartialEq, Eq)]
+struct Near {
+    name: &'static str,
+    is_wide: bool,
+}
+
+impl fmt::Display for CallFault {
+    fn fmt<W: fmt::Write>(&self, f: &mut fmt::Formatter<W>) -> fmt::Result {
+        write!(f, "{}", self.fault)?;
+        match self.near {
+            Some(Near {
+                name,
+                is_wide: true,
+            }) => write!(f, ": did you mean '{name}_64'?"),
+            Some(Near { name, .. }) => write!(f, ": did you mean '{name}'?"),
+            None => Ok(()),
+        }
+    }
+}
+
+/// What is wrong with a line, without the LF that ends it, that names its call, where something is. Where there is no memory to
+/// read it, nothing is found, and where there is none to compare names, none is near.
+pub fn call_fault<A: Allocator + Copy>(alloc: A, line: &[u8]) -> Option<CallFault> {
+    match lower_line(alloc, line) {
+        Err(LowerError::Words(fault)) => Some(CallFault {
+            fault,
+            near: near_name(alloc, line, fault),
+        }),
+        Ok(_) | Err(LowerError::NoMemory) => None,
+    }
+}
+
+// The name that the word may have been meant for that is wrong.
+fn near_name<A: Allocator + Copy>(alloc: A, line: &[u8], fault: WordsFault) -> Option<Near> {
+    let rest = line.get(fault.column.saturating_sub(1)..)?;
+    let word = str::from_utf8(rest.split(|byte| *byte == b' ').next()?).ok()?;
+    match fault.cause {
+        Cause::UnknownCall => near_call(alloc, word),
+        Cause::NoFeature => near_call(alloc, word.split_once('=')?.1),
+        Cause::UnknownArgument(function) => {
+            near_argument(alloc, word.split_once('=')?.0, function)
+        }
+        _ => None,
+    }
+}
+
+fn near_call<A: Allocator + Copy>(alloc: A, word: &str) -> Option<Near> {
+    let front = word.strip_suffix("_64");
+    let mut names = Vec::new(alloc);
+    for row in CALLS {
+        names.push(row.1).ok()?;
+    }
+    let name = nearest(alloc, front.unwrap_or(word), &names).ok()??;
+    let row = CALLS.iter().find(|row| row.1 == name)?;
+    Some(Near {
+        name,
+        is_wide: front.is_some() && !row.2.is_empty(),
+    })
+}
+
+fn near_argument<A: Allocator + Copy>(alloc: A, word: &str, function: u32) -> Option<Near> {
+    let row = ARGUMENTS.iter().find(|row| row.0 == function)?;
+    let mut names = Vec::new(alloc);
+    for argument in row.1 {
+        names.push(argument.0.text()).ok()?;
+    }
+    let name = nearest(alloc, word, &names).ok()??;
+    Some(Near {
+        name,
+        is_wide: false,
+    })
+}
