@@ -60,9 +60,11 @@ secure:
 
 # Compares the pages and licence lines with the code, what other languages have of its tables, each list of calls with the definitions'
 # table, C's names with the crates', the manual's lists of checks with the definitions, and its pictures with what the program draws; and
-# adds the example's call to a copy. It proves nothing.
+# adds the example's call to a copy. It proves nothing. All are run, and the last line names those that failed.
+OF_THE_PAGES = tests/docs tests/licence-lines tests/copies tests/calls tests/names tests/manual-checks tests/a-call tests/pictures
 docs:
-	tests/docs && tests/licence-lines && tests/copies && tests/calls && tests/names && tests/manual-checks && tests/a-call && tests/pictures
+	@failed=; for each in $(OF_THE_PAGES); do echo $$each; $$each || failed="$$failed $$each"; done; \
+	[ -z "$$failed" ] || { echo "failed:$$failed"; exit 1; }
 
 # Looks at the page of a trace in a browser without a window.
 page:
