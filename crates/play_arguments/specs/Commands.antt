@@ -4,7 +4,7 @@ use Rattle.std.specs.Prelude.{◌≡◌, ◌⊎◌, ◌∷◌, ℕ, ◌^◌, Lis
 use Rattle.std.specs.Char.{digit_value}
 use Rattle.std.specs.List.{count_by, list_all, starts_with}
 use Rattle.std.specs.Str.{bytes_eq}
-use Rattle.std.specs.Str.Parse.{digits_value, without_leading_plus}
+use Rattle.std.specs.Str.Parse.{digits_value}
 use Rattle.std.specs.Option.{option_map_or}
 use Rattle.ffa_model.specs.declared.limits.TheConstants.{MOST_PROCESSORS}
 use Rattle.clap.specs.Words.{App, HasKind, Row, Rule, Text, all_of, fault_of, first_of, new_app, new_rule, subcommand_of, with_rule, with_subcommand}
@@ -145,12 +145,16 @@ picture_app =
     with_verbose
     (with_setting (with_flag (codes "page") (with_rows (with_trace (with_manifest (new_app (codes "picture")))))))
 
--- folders of traces, how it is told what came of them, whether that is counted, and each machine's setting
+-- folders of traces, how it is told what came of them, whether that is counted, whether a trace without a guard passes, and
+-- each machine's setting
 abbrev pub with_folders : App → App
 with_folders app = with_rule app (paths_rule (codes "folder"))
 
 unfoldable pub test_app : App
-test_app = with_setting (with_flag (codes "count") (with_flag (codes "tap") (with_folders (new_app (codes "test")))))
+test_app =
+    with_setting
+    (with_flag (codes "allow-unguarded")
+    (with_flag (codes "count") (with_flag (codes "tap") (with_folders (new_app (codes "test"))))))
 
 unfoldable pub lower_app : App
 lower_app = with_verbose (with_trace (new_app (codes "lower")))
@@ -231,7 +235,7 @@ pub data Ask : Type 0 where
   layout : Text → (regions verbose : Bool) → Ask
   descriptor : (manifest : Option Text) → Described → Ask
   generate : Text → (seed lines : ℕ) → (count worlds verbose : Bool) → Ask
-  test : (folders : List Text) → (tap count : Bool) → (processors : Option ℕ) → (worlds words : Bool) → Ask
+  test : (folders : List Text) → (tap count allow_unguarded : Bool) → (processors : Option ℕ) → (worlds words : Bool) → Ask
   lower : (trace : Text) → (verbose : Bool) → Ask
 
 abbrev pub ask_of : Request → Ask
@@ -240,7 +244,7 @@ ask_of (Check manifest verbose) = check manifest.now verbose
 ask_of (Layout manifest regions verbose) = layout manifest.now regions verbose
 ask_of (Descriptor manifest words) = descriptor (option_map (λ s. s.now) manifest) (words_of words)
 ask_of (Generate o) = generate o.manifest.now o.seed o.lines o.count o.worlds o.verbose
-ask_of (Test o) = test (map (λ f. f.now) o.folders.items) o.tap o.count o.processors o.worlds o.words
+ask_of (Test o) = test (map (λ f. f.now) o.folders.items) o.tap o.count o.allow_unguarded o.processors o.worlds o.words
 ask_of (Lower trace verbose) = lower trace.now verbose
 
 -- the path of the manifest that is asked for, that of the trace that is played, and that of the expected text
@@ -250,7 +254,7 @@ manifest_of (check manifest verbose) = Some manifest
 manifest_of (layout manifest regions verbose) = Some manifest
 manifest_of (descriptor manifest words) = manifest
 manifest_of (generate manifest seed lines count worlds verbose) = Some manifest
-manifest_of (test folders tap count processors worlds words) = None
+manifest_of (test folders tap count allow_unguarded processors worlds words) = None
 manifest_of (lower trace verbose) = None
 
 abbrev pub trace_of : Ask → Option Text
@@ -268,7 +272,7 @@ verbose_of (check manifest verbose) = verbose
 verbose_of (layout manifest regions verbose) = verbose
 verbose_of (descriptor manifest words) = false
 verbose_of (generate manifest seed lines count worlds verbose) = verbose
-verbose_of (test folders tap count processors worlds words) = false
+verbose_of (test folders tap count allow_unguarded processors worlds words) = false
 verbose_of (lower trace verbose) = verbose
 
 -- the same, of which more is to be said, where it can be
@@ -278,7 +282,7 @@ said_more (check manifest verbose) = check manifest true
 said_more (layout manifest regions verbose) = layout manifest regions true
 said_more (descriptor manifest words) = descriptor manifest words
 said_more (generate manifest seed lines count worlds verbose) = generate manifest seed lines count worlds true
-said_more (test folders tap count processors worlds words) = test folders tap count processors worlds words
+said_more (test folders tap count allow_unguarded processors worlds words) = test folders tap count allow_unguarded processors worlds words
 said_more (lower trace verbose) = lower trace true
 
 -- whether a path is given and is `-`, which stands for standard input
@@ -296,10 +300,11 @@ answers_at_once _ = false
 unfoldable pub reads_once : Ask → Bool
 reads_once ask = nat_le (count_by is_input (manifest_of ask ∷ trace_of ask ∷ expected_of ask ∷ [])) 1
 
--- flags that exclude one another: a play that checks guards isn't one that lives on behind a bad line
+-- flags that exclude one another: a play that checks guards isn't one that lives on behind a bad line, and it stops at one that
+-- isn't met, or goes on
 abbrev pub excludes_none : Ask → Bool
 excludes_none (play manifest trace machine (print text strict keep_going interactive) words verbose) =
-    not ((strict || keep_going) && interactive)
+    not (strict && keep_going) && not ((strict || keep_going) && interactive)
 excludes_none _ = true
 
 -- whether a flag was given
@@ -310,18 +315,23 @@ is_given id rows = option_map_or (λ value. bytes_eq value (codes "true")) (firs
 abbrev pub are_digits : ℕ → Text → Bool
 are_digits base text = nat_lt 0 (length text) && list_all (λ d. nat_lt (digit_value d) base) text
 
--- the number that digits of a base write, before which a plus may stand, where it is below 2^64
+-- the number that digits of a base write, and nothing else, where it is below 2^64
 abbrev pub numeral_of : ℕ → Text → Option ℕ
 numeral_of base text =
-    let digits = without_leading_plus text in
-    if are_digits base digits && nat_lt (digits_value base digits) (2 ^ 64)
-    then Some (digits_value base digits)
-    else None
+    if are_digits base text && nat_lt (digits_value base text) (2 ^ 64) then Some (digits_value base text) else None
+
+-- whether a zero stands before something else
+abbrev pub has_zero : Text → Bool
+has_zero text = starts_with nat_eq text (codes "0") && nat_lt 1 (length text)
+
+-- the number that decimal digits write, without a zero in front
+abbrev pub plain_number_of : Text → Option ℕ
+plain_number_of text = if has_zero text then None else numeral_of 10 text
 
 -- the number that a word writes: hexadecimal digits behind 0x, and else decimal ones
 unfoldable pub number_of : Text → Option ℕ
 number_of text =
-    if starts_with nat_eq text (codes "0x") then numeral_of 16 (drop 2 text) else numeral_of 10 text
+    if starts_with nat_eq text (codes "0x") then numeral_of 16 (drop 2 text) else plain_number_of text
 
 -- how many processors a word says, of which there is room for so many
 unfoldable pub count_of : Text → Option ℕ
@@ -432,7 +442,7 @@ unfoldable pub test_in : List Row → Option Ask
 test_in rows = do
   folders ← all_of (codes "folder") rows
   processors ← processors_in rows
-  Some (test folders (is_given (codes "tap") rows) (is_given (codes "count") rows) processors (is_given (codes "worlds") rows) (is_given (codes "words") rows))
+  Some (test folders (is_given (codes "tap") rows) (is_given (codes "count") rows) (is_given (codes "allow-unguarded") rows) processors (is_given (codes "worlds") rows) (is_given (codes "words") rows))
 
 unfoldable pub lower_in : List Row → Option Ask
 lower_in rows = do

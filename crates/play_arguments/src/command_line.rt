@@ -3,7 +3,7 @@
 ghost use Rattle.std.specs.Prelude.{◌≡◌, IfOk, map, option_map, codes, drop, nat_eq, true};
 ghost use Rattle.std.specs.List.{starts_with};
 ghost use Rattle.clap.specs.Words.{all_of, found_of, first_of, rows_of, subcommand_rows_of};
-ghost use Rattle.play_arguments.specs.Commands.{aim_of, ask_of, path_of, words_of, manifest_of, trace_of, expected_of, verbose_of, answers_at_once, is_input, reads_once, asked_in, is_given, number_of, numeral_of, machine_in, text_in, words_in, ask_beside, ask_in, ask_met, number_in, print_in, compare_in, draw_in, play_in, play_file_in, count_of, processors_in, check_in, layout_in, descriptor_in, generate_in, test_in, lower_in, said_more, excludes_none};
+ghost use Rattle.play_arguments.specs.Commands.{aim_of, ask_of, path_of, words_of, manifest_of, trace_of, expected_of, verbose_of, answers_at_once, is_input, reads_once, asked_in, is_given, number_of, numeral_of, plain_number_of, has_zero, machine_in, text_in, words_in, ask_beside, ask_in, ask_met, number_in, print_in, compare_in, draw_in, play_in, play_file_in, count_of, processors_in, check_in, layout_in, descriptor_in, generate_in, test_in, lower_in, said_more, excludes_none};
 
 use clap::ArgMatches;
 use ffa_model::MOST_PROCESSORS;
@@ -13,19 +13,19 @@ use std::alloc::{AllocError, Global};
 const NUMBERS: [(&str, &str); 4] = [
     (
         "seed",
-        "'--seed' takes a number below 2^64, as 1000 or 0x3E8",
+        "'--seed' takes a number below 2^64: decimal without a sign or leading zeros, as 1000, or hexadecimal behind 0x, as 0x3E8",
     ),
     (
         "lines",
-        "'--lines' takes a number below 2^64, as 1000 or 0x3E8",
+        "'--lines' takes a number below 2^64: decimal without a sign or leading zeros, as 1000, or hexadecimal behind 0x, as 0x3E8",
     ),
     (
         "every",
-        "'--every' takes a number below 2^64, as 1000 or 0x3E8",
+        "'--every' takes a number below 2^64: decimal without a sign or leading zeros, as 1000, or hexadecimal behind 0x, as 0x3E8",
     ),
     (
         "width",
-        "'--width' takes a number below 2^64, as 1000 or 0x3E8",
+        "'--width' takes a number below 2^64: decimal without a sign or leading zeros, as 1000, or hexadecimal behind 0x, as 0x3E8",
     ),
 ];
 
@@ -121,7 +121,7 @@ impl<'a> Source<'a> {
 #[derive(Clone, Copy)]
 pub enum Purpose<'a> {
     /// To print its text. Where `strict` is set, the trace's guards are checked, up to the first that isn't met, and where
-    /// `keep_going` is set, all of them. Where `interactive` is set, neither is: a bad line is told, and the play goes on.
+    /// `keep_going` is set, all of them. Where `interactive` is set, a bad line is told, and the play goes on. At most one is.
     Print {
         text: TextOptions,
         strict: bool,
@@ -176,6 +176,8 @@ pub struct TestOptions<'a> {
     pub tap: bool,
     /// The calls and accesses of all are counted, which is told behind that.
     pub count: bool,
+    /// A trace without a guard passes, too.
+    pub allow_unguarded: bool,
     /// So many processors run each machine, as `MachineOptions` has it.
     pub processors: Option<usize>,
     /// Each machine tells worlds apart, as `MachineOptions` has it.
@@ -339,7 +341,26 @@ impl<'a> Request<'a> {
         }
     }
 
-    // Whether its flags go together: a play that checks guards isn't one that lives on behind a bad line.
+    /// Which of its flags don't go together, of a request whose flags don't.
+    pub(crate) fn excluded(&self) -> &'static str {
+        match *self {
+            Request::Play(
+                PlayOptions {
+                    purpose: Purpose::Print {
+                        interactive: true,
+                        ..
+                    },
+                    ..
+                },
+            ) => {
+                "'--strict' and '--keep-going' check guards, and '--interactive' none: leave that out, or them"
+            }
+            _ => "the argument '--strict' cannot be used with '--keep-going', which goes on where that stops",
+        }
+    }
+
+    // Whether its flags go together: a play that checks guards isn't one that lives on behind a bad line, and it stops at one
+    // that isn't met, or goes on.
     fn excludes_none(&self) -> bool
         ensures { result ≡ excludes_none (ask_of self.now) }
     {
@@ -354,7 +375,7 @@ impl<'a> Request<'a> {
                     },
                     ..
                 },
-            ) => !((strict || keep_going) && interactive),
+            ) => !(strict && keep_going) && !((strict || keep_going) && interactive),
             _ => true,
         }
     }
@@ -387,14 +408,53 @@ fn read_number(text: &str) -> Option<u64>
 {
     match text.as_bytes() {
         [b'0', b'x', ..] => read_hexadecimal(text),
-        _ => read_decimal(text),
+        _ => read_plain(text),
     }
+}
+
+fn read_plain(text: &str) -> Option<u64>
+    ensures { result ≡ plain_number_of text.now }
+{
+    if has_zero(text) {
+        None
+    } else {
+        read_decimal(text)
+    }
+}
+
+// Whether a text begins with a zero that it hasn't to.
+fn has_zero(text: &str) -> bool
+    ensures { result ≡ has_zero text.now }
+{
+    matches!(text.as_bytes(), [b'0', _, ..])
 }
 
 fn read_decimal(text: &str) -> Option<u64>
     ensures { result ≡ numeral_of 10 text.now }
 {
-    text.parse().ok()
+    if has_sign(text) {
+        None
+    } else {
+        text.parse().ok()
+    }
+}
+
+// Whether a text begins with the sign that the library takes before digits.
+fn has_sign(text: &str) -> bool
+    ensures { result ≡ starts_with nat_eq text.now (codes "+") }
+{
+    matches!(text.as_bytes(), [b'+', ..])
+}
+
+// The number that hexadecimal digits write.
+fn read_digits(text: &str) -> Option<u64>
+    ensures { result ≡ numeral_of 16 text.now }
+{
+    if has_sign(text) {
+        None
+    } else {
+        u64::from_str_radix(text, 16).ok()
+    }
 }
 
 // The number that is written behind the first x.
@@ -403,7 +463,7 @@ fn read_hexadecimal(text: &str) -> Option<u64>
     ensures { result ≡ numeral_of 16 (drop 2 text.now) }
 {
     match text.split_once('x') {
-        Some((_, digits)) => u64::from_str_radix(digits, 16).ok(),
+        Some((_, digits)) => read_digits(digits),
         None => None,
     }
 }
@@ -420,7 +480,7 @@ pub(crate) fn unread_number(matches: &ArgMatches<'_>) -> Option<&'static str> {
     }
     match processors_in(inner) {
         Some(_) => None,
-        None => Some("'--processors' takes a number from 1 to 8"),
+        None => Some("'--processors' takes a number from 1 to 8, without a sign or leading zeros"),
     }
 }
 
@@ -635,6 +695,7 @@ fn test_in<'a>(alloc: Global, matches: &ArgMatches<'a>) -> Result<Option<Request
             folders,
             tap: is_given(matches, "tap"),
             count: is_given(matches, "count"),
+            allow_unguarded: is_given(matches, "allow-unguarded"),
             processors,
             worlds: is_given(matches, "worlds"),
             words: is_given(matches, "words"),

@@ -72,11 +72,9 @@ fn refusal(
     matches: &ArgMatches<'_>,
 ) -> Result<Error, AllocError> {
     let twice = "'-' stands for standard input, which can be given once only";
-    let flags =
-        "'--strict' and '--keep-going' check guards, and '--interactive' none: leave that out, or them";
     match command_line::request_of(alloc, matches)? {
         Some(request) if request.reads_once() => {
-            command.error(ErrorKind::ArgumentConflict, flags)
+            command.error(ErrorKind::ArgumentConflict, request.excluded())
         }
         Some(_) => command.error(ErrorKind::ArgumentConflict, twice),
         None => match command_line::unread_number(matches) {

@@ -333,10 +333,17 @@ const REACHED: Word = Word::Flag {
     help: "Prints behind it what all these traces reach: how often each call succeeded, each error and fault came, and each check was the first to fail",
 };
 
+const ALLOW_UNGUARDED: Word = Word::Flag {
+    id: "allow-unguarded",
+    help: "Lets a trace pass that has no guard, and so asks nothing",
+};
+
 const TEST: Entry = Entry {
     name: "test",
     about: "Plays the traces of folders, and checks their guards",
-    words: &[FOLDERS, TAP, REACHED, PROCESSORS, WORLDS, WORDS],
+    words: &[
+        FOLDERS, TAP, REACHED, ALLOW_UNGUARDED, PROCESSORS, WORLDS, WORDS,
+    ],
 };
 
 const EVERY: Word = Word::Number {

@@ -1,6 +1,7 @@
 -- SPDX-License-Identifier: MIT OR Apache-2.0
 -- What a command of the program leaves.
 use Rattle.std.specs.Prelude.{◌≡◌, ◌⊎◌, ℕ, Bool, true, false, List, None, Option, Result, Ok, Err, IfErr, OnOk, is_some, option_map, ⊤, if◌then◌else◌}
+use Rattle.std.specs.List.{list_all}
 use Rattle.std.specs.Option.{option_and_then}
 use Rattle.std.specs.Io.KnownBytes.{Keeps}
 use Rattle.ffa_model.specs.State.{State}
@@ -9,8 +10,11 @@ use Rattle.ffa_model.specs.declared.manifest.Worlds.TheVariants.{One, Two}
 use Rattle.ffa_playable.specs.Bench.{Bench}
 use Rattle.play_demo.specs.Machine.{built_in_endpoints}
 use Rattle.ffa_manifest.specs.Document.{Parts}
+use Rattle.play_syntax.specs.TraceLines.{has_no_feed, joined}
 use Rattle.play_syntax.specs.declared.output.PlayError.{PlayError}
 use Rattle.play_syntax.specs.declared.output.PlayError.TheVariants as play_error
+use Rattle.play_forms.specs.Guards.{guards_among}
+use Rattle.play_forms.specs.Reading.{IsAll}
 use Rattle.play_writer.specs.declared.unfit.Unfit.{Unfit}
 use Rattle.play_transcript.specs.Counting.{Tally}
 use Rattle.play_transcript.specs.Traces.{Wrote}
@@ -113,6 +117,12 @@ CountsFor o manifest trace old new (Err (failure.BadLine n fault)) = IsCounted o
 CountsFor o manifest trace old new (Err (failure.Read path)) = (new ≡ old) ⊎ IsCounted o manifest trace old new (Err play_error.Read)
 CountsFor o manifest trace old new (Err failure.NoMemory) = ⊤
 CountsFor o manifest trace old new (Err other) = new ≡ old
+
+-- a trace is lines, of which so many are guards
+abbrev pub HasGuards : (trace : Option (List ℕ)) → ℕ → Type 0
+HasGuards trace guards =
+    (lines : List (List ℕ)) × IsAll trace (joined lines) × (list_all has_no_feed lines ≡ true)
+    × (guards ≡ guards_among lines)
 
 -- a command was done, on whichever machine; a test comes to plays, which are commands of their own, and a trace in words is
 -- printed by none of this

@@ -5,6 +5,7 @@
 
 mod counting;
 mod generating;
+mod guards;
 mod lowering;
 mod playing;
 mod program;

@@ -5,17 +5,19 @@ ghost use Rattle.std.specs.Io.KnownBytes.{Keeps};
 ghost use Rattle.play_tasks.specs.Counted.{tally_of};
 ghost use Rattle.play_report.specs.declared.failure.Failure.{Failure};
 ghost use Rattle.play_report.specs.declared.failure.Failure.TheVariants.{NoMemory};
-ghost use Rattle.play_commands.specs.Performed.{CountsFor, Differs, Does, FailsFor, IsDone, IsRead, IsUnsaid, is_session, is_strict, SomeBadLine, SomeRefusal, SomeUnmetGuard, needs_manifest, needs_trace, ran};
+ghost use Rattle.play_commands.specs.Performed.{CountsFor, Differs, Does, FailsFor, HasGuards, IsDone, IsRead, IsUnsaid, is_session, is_strict, SomeBadLine, SomeRefusal, SomeUnmetGuard, needs_manifest, needs_trace, ran};
 
+use crate::guards::count_guards;
 use crate::lowering::lower;
 use play_arguments::{PlayOptions, Purpose, Request};
 use play_files::{Commands, Files};
 use play_report::{Failure, Notes, accept, describe_for, lay_out, show, tell, tell_more};
+use play_syntax::PlayError;
 use play_tasks::Machines;
 use play_transcript::Counts;
 use std::alloc::{AllocError, Allocator, Global};
 use std::fmt::Display;
-use std::io::{Read, Write};
+use std::io::{self, ErrorKind, Read, Write};
 
 /// The commands, on the machines that this boots. A manifest is read with the memory of `manifests`; RAM, a machine's room
 /// and what plays a trace take that of `alloc`.
@@ -102,6 +104,16 @@ impl<M: Machines, A: Allocator + Copy> Commands for Program<M, A> {
         match self.count_play(*options, manifest, trace, counts) {
             Err(Failure::NoMemory) => Err(AllocError),
             _ => Ok(()),
+        }
+    }
+
+    fn guards<R: Read + Drop>(&self, trace: R) -> io::Result<u64>
+        ensures { OnOk result (HasGuards (R.remaining trace)) }
+    {
+        match count_guards(self.alloc, trace) {
+            Ok(guards) => Ok(guards),
+            Err(PlayError::NoMemory) => Err(ErrorKind::OutOfMemory.into()),
+            Err(_) => Err(ErrorKind::InvalidData.into()),
         }
     }
 

@@ -4,7 +4,7 @@ use play_arguments::{PlayOptions, Request};
 use play_transcript::Counts;
 use std::alloc::AllocError;
 use std::fmt::Display;
-use std::io::{ErrorKind, Read, Write};
+use std::io::{self, ErrorKind, Read, Write};
 
 /// What was read of the files that a command names. What it doesn't name is left alone.
 #[derive(Drop)]
@@ -50,6 +50,10 @@ pub trait Commands {
         trace: R,
         counts: &mut Counts,
     ) -> Result<(), AllocError>;
+
+    /// Answers how many guards a trace has, which can be read to its end and ends at a line: `perform` tells so many where all
+    /// are met.
+    fn guards<R: Read + Drop>(&self, trace: R) -> io::Result<u64>;
 
     /// Writes the help or the version that was asked for.
     fn show<T: Display, W: Write, E: Write>(&self, help: &T, out: &mut W, err: &mut E) -> u8;

@@ -6,6 +6,7 @@
 mod commands;
 mod input;
 mod output;
+mod report;
 mod running;
 mod testing;
 mod wording;

@@ -1,16 +1,16 @@
 // SPDX-License-Identifier: MIT OR Apache-2.0
 //! What output is written to, and what is told, where a reader of a pipe may be gone.
-use std::alloc::Allocator;
+use std::cell::Cell;
 use std::io::{self, ErrorKind, Write};
 
-/// A writer, and whether it was found that nobody reads what it writes.
+/// What output is written to. It notes where it is found that nobody reads it.
 #[derive(Drop)]
-pub(crate) struct Output<W> {
+pub(crate) struct Output<'a, W> {
     pub(crate) out: W,
-    pub(crate) is_closed: bool,
+    pub(crate) is_closed: &'a Cell<bool>,
 }
 
-impl<W: Write> Write for Output<W> {
+impl<W: Write> Write for Output<'_, W> {
     fn write(&mut self, buf: &[u8]) -> io::Result<usize> {
         let written = self.out.write(buf);
         self.note(&written);
@@ -24,34 +24,32 @@ impl<W: Write> Write for Output<W> {
     }
 }
 
-impl<W> Output<W> {
-    fn note<T>(&mut self, done: &io::Result<T>) {
+impl<W> Output<'_, W> {
+    fn note<T>(&self, done: &io::Result<T>) {
         if let Err(error) = done
             && error.kind() == ErrorKind::BrokenPipe
         {
-            self.is_closed = true;
+            self.is_closed.set(true);
         }
     }
 }
 
-/// What is told, which is kept back until it is known whether anybody reads the output. Where there is no memory for more it is
-/// told at once, behind what was kept.
-pub(crate) struct Told<'a, E, A: Allocator> {
+/// What is told. Once it was found that nobody reads the output, nothing is.
+#[derive(Drop)]
+pub(crate) struct Told<'a, E> {
     pub(crate) err: &'a mut E,
-    pub(crate) kept: Vec<u8, A>,
+    pub(crate) is_closed: &'a Cell<bool>,
 }
 
-impl<E: Write, A: Allocator> Write for Told<'_, E, A> {
+impl<E: Write> Write for Told<'_, E> {
     fn write(&mut self, buf: &[u8]) -> io::Result<usize> {
-        if self.kept.extend_from_slice(buf).is_ok() {
+        if self.is_closed.get() {
             return Ok(buf.len());
         }
-        self.err.write_all(&self.kept)?;
-        self.kept.clear();
         self.err.write(buf)
     }
 
     fn flush(&mut self) -> io::Result<()> {
-        Ok(())
+        self.err.flush()
     }
 }

@@ -7,6 +7,7 @@ use crate::testing::test;
 use crate::wording::{Text, Wording};
 use play_arguments::{ErrorKind, PlayOptions, Purpose, Request, STANDARD_INPUT, request};
 use std::alloc::{AllocError, Global};
+use std::cell::Cell;
 use std::env::Env;
 use std::io::{BufWriter, IsTerminal, Read, Write};
 use std::{env, fs, io};
@@ -21,7 +22,8 @@ const CLOSED: u8 = 141;
 const GREETING: &str =
     "ffaplay: a session: each line is done when it ends; help says what a line is, and quit ends the session";
 
-/// Runs the program with these standard streams, and answers the status with which it ends.
+/// Runs the program with these standard streams, and answers the status with which it ends. Where nobody reads the output,
+/// nothing is told of that.
 pub fn run<
     H: AllocGlobal + Env + fs::Files + Print + Eprint + Clone + Drop,
     S: Read + IsTerminal + Copy + Drop,
@@ -29,26 +31,48 @@ pub fn run<
     E: Write + IsTerminal,
     C: Commands,
 >(rt: &H, input: S, out: W, err: &mut E, commands: &C) -> u8 {
-    match status(rt, input, out, err, commands) {
+    let is_closed = Cell::new(false);
+    let is_seen = err.is_terminal();
+    let out = Output {
+        out,
+        is_closed: &is_closed,
+    };
+    let mut told = Told {
+        err,
+        is_closed: &is_closed,
+    };
+    let status = match status(rt, input, out, &mut told, is_seen, commands) {
         Ok(status) => status,
-        Err(_) => no_memory(rt),
+        Err(_) => no_memory(&mut told),
+    };
+    if status == 3 && is_closed.get() {
+        CLOSED
+    } else {
+        status
     }
 }
 
 // Where not even the message can be written, the status alone tells.
-fn no_memory<H: Eprint>(rt: &H) -> u8 {
-    let _ = eprintln!(rt; "ffaplay: no memory");
+fn no_memory<E: Write>(err: &mut E) -> u8 {
+    let _ = writeln!(err, "ffaplay: no memory");
     3
 }
 
-// Reads the command line, and does what it asks for.
+// Reads the command line, and does what it asks for. Who reads what is told at a terminal is told more.
 fn status<
     H: AllocGlobal + Env + fs::Files + Print + Eprint + Clone + Drop,
     S: Read + IsTerminal + Copy + Drop,
     W: Write + Drop,
-    E: Write + IsTerminal,
+    E: Write,
     C: Commands,
->(rt: &H, input: S, out: W, err: &mut E, commands: &C) -> Result<u8, AllocError> {
+>(
+    rt: &H,
+    input: S,
+    out: W,
+    err: &mut E,
+    is_seen: bool,
+    commands: &C,
+) -> Result<u8, AllocError> {
     let alloc = rt.alloc();
     let args = match env::args(rt) {
         Ok(args) => args,
@@ -65,8 +89,7 @@ fn status<
             let mut out = out;
             test(rt, input, &mut out, err, commands, &options)
         }
-        // Who reads what is told at a terminal is told more.
-        Ok(request) if err.is_terminal() => {
+        Ok(request) if is_seen => {
             if input.is_terminal() && is_session(&request) {
                 let _ = writeln!(err, "{GREETING}");
             }
@@ -87,7 +110,7 @@ fn status<
     }
 }
 
-/// Opens the files, and does what was asked for. Where nobody reads the output, nothing is told of that.
+/// Opens the files, and does what was asked for.
 pub(crate) fn carry_out<
     H: AllocGlobal + fs::Files + Eprint + Drop,
     S: Read + Copy + Drop,
@@ -116,29 +139,8 @@ pub(crate) fn carry_out<
     };
     // With no room nothing is gathered: each write goes to standard output at once.
     let room = if request.answers_at_once() { 0 } else { OUTPUT };
-    let mut out = BufWriter::with_capacity(
-        alloc,
-        room,
-        Output {
-            out,
-            is_closed: false,
-        },
-    )
-    .map_err(|_| AllocError)?;
-    if request.answers_at_once() {
-        return Ok(perform(commands, request, files, &mut out, err));
-    }
-    let mut told = Told {
-        err,
-        kept: Vec::new(alloc),
-    };
-    let status = perform(commands, request, files, &mut out, &mut told);
-    let Told { err, kept } = told;
-    if status == 3 && out.get_ref().is_closed {
-        return Ok(CLOSED);
-    }
-    let _ = err.write_all(&kept);
-    Ok(status)
+    let mut out = BufWriter::with_capacity(alloc, room, out).map_err(|_| AllocError)?;
+    Ok(perform(commands, request, files, &mut out, err))
 }
 
 // The path of a trace that is to be printed in the plain format.

@@ -1,6 +1,7 @@
 // SPDX-License-Identifier: MIT OR Apache-2.0
 //! Traces that are tested: all of some folders, each played with its guards.
 use crate::commands::Commands;
+use crate::report::{Outcome, Report, Shown};
 use crate::running::{carry_out, open, read_whole, text_of, unless_no_memory, wording_of};
 use play_arguments::{
     MachineOptions, PlayOptions, Purpose, Request, Source, TestOptions, TextOptions,
@@ -27,9 +28,9 @@ struct Trace<'a> {
 }
 
 impl Trace<'_> {
-    // The name by which it is told, behind its folder's where there are several.
+    // The name by which it is told, behind its folder's where there are several, in one line.
     fn title(&self, alloc: Global, has_folder: bool) -> Result<String, AllocError> {
-        let Trace { folder, name } = self;
+        let (folder, name) = (Shown(self.folder), Shown(self.name.as_str()));
         if has_folder {
             format!(in alloc; "{folder}/{name}")
         } else {
@@ -39,9 +40,10 @@ impl Trace<'_> {
 }
 
 /// Plays each trace of the folders on the machine of its manifest, past guards that aren't met, and prints what came of it: a
-/// line for each in the order of the folders and of their names, under one that failed what was told of it, and how many
-/// passed. Where that is asked for, it prints behind that what all of them reach. All folders are read first: where one
-/// can't be, or has no trace, the first such one is told, and nothing is played.
+/// line for each in the order of the folders and of their names, with how many guards were met, under one that failed what was
+/// told of it, and how many passed. A trace without a guard fails, unless that is allowed. Where that is asked for, it prints
+/// behind that what all of them reach. All folders are read first: where one can't be, or has no trace, the first such one is
+/// told, and nothing is played. Where there is no memory for what is told of a trace, there is none for the command.
 pub(crate) fn test<
     H: AllocGlobal + fs::Files + Eprint + Clone + Drop,
     S: Read + Copy + Drop,
@@ -127,29 +129,66 @@ fn play_all<
     counts.everyone = Everyone::NOWHERE;
     report.begin(traces.len(), out)?;
     for trace in traces {
-        let mut told = Vec::new(alloc);
-        let status = play_one(rt, input, commands, options, trace, &mut told, &mut counts)?;
+        let mut told = Kept::new(alloc);
+        let outcome = play_one(rt, input, commands, options, trace, &mut told, &mut counts)?;
         let title = trace.title(alloc, options.folders.len() > 1)?;
-        report.put(title.as_str(), status, &told, out)?;
+        report.put(title.as_str(), outcome, told.whole()?, out)?;
     }
     report.end(out)?;
     if options.count {
         let text = format!(in alloc; "{counts}")?;
-        put_lines(report.front(), text.as_bytes(), out)?;
+        report.put_counts(text.as_bytes(), out)?;
     }
     out.flush()
 }
 
-// Plays a trace, and answers the status with which that ends. Where that is asked for, it is counted too.
+// What was told of a trace, and whether there was memory for all of it.
+#[derive(Drop)]
+struct Kept {
+    text: Vec<u8>,
+    is_whole: bool,
+}
+
+impl Kept {
+    fn new(alloc: Global) -> Kept {
+        Kept {
+            text: Vec::new(alloc),
+            is_whole: true,
+        }
+    }
+
+    fn whole(&self) -> Result<&[u8], AllocError> {
+        if self.is_whole {
+            Ok(self.text.as_slice())
+        } else {
+            Err(AllocError)
+        }
+    }
+}
+
+impl Write for Kept {
+    fn write(&mut self, buf: &[u8]) -> io::Result<usize> {
+        if self.text.extend_from_slice(buf).is_err() {
+            self.is_whole = false;
+        }
+        Ok(buf.len())
+    }
+
+    fn flush(&mut self) -> io::Result<()> {
+        Ok(())
+    }
+}
+
+// Plays a trace, and answers what came of that. Where that is asked for, it is counted too.
 fn play_one<H: AllocGlobal + fs::Files + Eprint + Clone + Drop, S: Read + Copy + Drop, C: Commands>(
     rt: &H,
     input: S,
     commands: &C,
     options: &TestOptions<'_>,
     trace: &Trace<'_>,
-    told: &mut Vec<u8>,
+    told: &mut Kept,
     counts: &mut Counts,
-) -> io::Result<u8> {
+) -> io::Result<Outcome> {
     let (alloc, Trace { folder, name }) = (rt.alloc(), trace);
     let path = format!(in alloc; "{folder}/{name}{ENDING}")?;
     let own = format!(in alloc; "{folder}/{name}.toml")?;
@@ -169,7 +208,33 @@ fn play_one<H: AllocGlobal + fs::Files + Eprint + Clone + Drop, S: Read + Copy +
     if options.count {
         count_one(rt, input, commands, &play, &request, counts)?;
     }
-    Ok(carry_out(rt, input, io::sink(), told, commands, &request)?)
+    match carry_out(rt, input, io::sink(), told, commands, &request)? {
+        0 => outcome_of(guards_in(rt, input, commands, &request), options),
+        status => Ok(Outcome::Failed(status)),
+    }
+}
+
+// What came of a trace that was played to its end, and met all of so many guards. Where it can't be read again, it failed.
+fn outcome_of(guards: io::Result<u64>, options: &TestOptions<'_>) -> io::Result<Outcome> {
+    match guards {
+        Ok(0) if !options.allow_unguarded => Ok(Outcome::Unguarded),
+        Ok(guards) => Ok(Outcome::Passed(guards)),
+        Err(error) if error.kind() == ErrorKind::OutOfMemory => Err(error),
+        Err(_) => Ok(Outcome::Failed(3)),
+    }
+}
+
+// How many guards the trace has, which was played to its end.
+fn guards_in<H: AllocGlobal + fs::Files, S: Read + Copy + Drop, C: Commands>(
+    rt: &H,
+    input: S,
+    commands: &C,
+    request: &Request<'_>,
+) -> io::Result<u64> {
+    match open(rt, input, request.trace())? {
+        Some(trace) => commands.guards(trace),
+        None => Ok(0),
+    }
 }
 
 // Counts what comes of a trace's operations. Files that can't be read are told where it is played.
@@ -206,7 +271,7 @@ fn play_of<'a>(
         machine,
         purpose: Purpose::Print {
             text: TEXT,
-            strict: true,
+            strict: false,
             keep_going: true,
             interactive: false,
         },
@@ -233,84 +298,4 @@ fn names_in<H: AllocGlobal + fs::Files + Clone + Drop>(
     }
     names.sort_unstable();
     Ok(names)
-}
-
-// What came of the traces so far.
-#[derive(Drop)]
-struct Report {
-    tap: bool,
-    passed: usize,
-    failed: usize,
-}
-
-impl Report {
-    fn new(tap: bool) -> Report {
-        Report {
-            tap,
-            passed: 0,
-            failed: 0,
-        }
-    }
-
-    fn begin<W: Write>(&self, count: usize, out: &mut W) -> io::Result<()> {
-        if self.tap {
-            writeln!(out, "TAP version 14\n1..{count}")?;
-        }
-        Ok(())
-    }
-
-    fn put<W: Write>(
-        &mut self,
-        name: &str,
-        status: u8,
-        told: &[u8],
-        out: &mut W,
-    ) -> io::Result<()> {
-        let passed = status == 0;
-        if passed {
-            self.passed = usize::saturating_add(self.passed, 1);
-        } else {
-            self.failed = usize::saturating_add(self.failed, 1);
-        }
-        let number = usize::saturating_add(self.passed, self.failed);
-        match (self.tap, passed) {
-            (true, true) => writeln!(out, "ok {number} - {name}")?,
-            (true, false) => writeln!(out, "not ok {number} - {name}")?,
-            (false, true) => writeln!(out, "{name}: ok")?,
-            (false, false) => writeln!(out, "{name}: FAILED, with status {status}")?,
-        }
-        if !passed {
-            put_lines(if self.tap { "# " } else { "  " }, told, out)?;
-        }
-        out.flush()
-    }
-
-    fn end<W: Write>(&self, out: &mut W) -> io::Result<()> {
-        if !self.tap {
-            let (passed, failed) = (self.passed, self.failed);
-            writeln!(out, "{passed} passed, {failed} failed")?;
-        }
-        out.flush()
-    }
-
-    // What stands in front of each line of what was counted.
-    fn front(&self) -> &'static str {
-        if self.tap { "# " } else { "" }
-    }
-
-    fn status(&self) -> u8 {
-        if self.failed == 0 { 0 } else { 5 }
-    }
-}
-
-// Writes the lines of a text, each with this in front.
-fn put_lines<W: Write>(front: &str, text: &[u8], out: &mut W) -> io::Result<()> {
-    for line in text.split(|byte| *byte == b'\n') {
-        if !line.is_empty() {
-            out.write_all(front.as_bytes())?;
-            out.write_all(line)?;
-            out.write_all(b"\n")?;
-        }
-    }
-    Ok(())
 }
