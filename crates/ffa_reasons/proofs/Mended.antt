@@ -65,6 +65,8 @@ module _ (x : Parts) (machine : IsManager x) (e : ℕ) (at : e ≡ x.kept.chain.
   unfolding first
   message-mended = λ i. mend_message (buffers_in x.kept.buffers (at i)) (header_in (sent-is x machine e at i)) refusal
 
-  pub pending-mended : mend_pending x.kept.bitmaps e ≡ mend_pending (notifications_of s) s.runner
+-- the same of what is pending
+module _ (x : Parts) (machine : IsManager x) (e : ℕ) (at : e ≡ x.kept.chain.runner) where
+  pub pending-mended : mend_pending x.kept.bitmaps e ≡ mend_pending (notifications_of (state_of x)) (state_of x).runner
   unfolding first
   pending-mended = λ i. mend_pending x.kept.bitmaps (at i)

@@ -4,7 +4,6 @@
 #![tactic(auto)]
 
 mod abouts;
-mod allowed;
 mod contents;
 mod explained;
 mod faults;
@@ -15,6 +14,7 @@ mod registers;
 mod several;
 mod standings;
 mod telling;
+mod values;
 
 pub use explained::Explained;
 pub use several::ExplainedCluster;

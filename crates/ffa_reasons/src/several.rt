@@ -95,12 +95,7 @@ impl<M: PhysMem + Drop, T: Translations + Drop, S: Store> Playable for Explained
 
     fn detail(&self, op: &Op, why: Why) -> Option<Detail> {
         let contexts = MOST_PROCESSORS as u32;
-        crate::detail(
-            self.cluster.machine(),
-            contexts,
-            &in_one_context(op),
-            why,
-        )
+        crate::detail(self.cluster.machine(), contexts, &in_one_context(op), why)
     }
 
     fn runner(&self) -> EndpointId {

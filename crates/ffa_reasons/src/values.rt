@@ -45,11 +45,13 @@ impl<M: PhysMem + Drop, T: Translations + Drop, S: Store> Reasons<'_, M, T, S> {
     {
         match about {
             Some(About::Register { .. }) => allowed_register(contexts, call, refusal),
-            Some(About::Field {
-                flaw,
-                place,
-                value: Some(_),
-            }) => self.allowed_field(call, place, flaw),
+            Some(
+                About::Field {
+                    flaw,
+                    place,
+                    value: Some(_),
+                },
+            ) => self.allowed_field(call, place, flaw),
             _ => None,
         }
     }
@@ -293,11 +295,11 @@ fn allowed_places(end: u128, length: u32) -> Option<Allowed>
     ensures each { (place : ℕ) → end % 16 ≡ 0 → IsPlace end length place → IsSomeAnd result (λ its. IsAmong its place) }
     ensures only { (place : ℕ) → end % 16 ≡ 0 → IfSome result (λ its. IsAmong its place → IsPlace end length place) }
 {
-    let last = u128::from(length);
-    if end + 32 > last {
+    let last = u128::from(length).checked_sub(32)?;
+    if end > last {
         return None;
     }
-    let most = last - 32 - (last - 32 - end) % 16;
+    let most = last - (last - end) % 16;
     Some(steps(end as u64, most as u64, 16))
 }
 
