@@ -355,7 +355,8 @@ impl<'a> Request<'a> {
             ) => {
                 "'--strict' and '--keep-going' check guards, and '--interactive' none: leave that out, or them"
             }
-            _ => "the argument '--strict' cannot be used with '--keep-going', which goes on where that stops",
+            _ =>
+                "the argument '--strict' cannot be used with '--keep-going', which goes on where that stops",
         }
     }
 

@@ -342,7 +342,13 @@ const TEST: Entry = Entry {
     name: "test",
     about: "Plays the traces of folders, and checks their guards",
     words: &[
-        FOLDERS, TAP, REACHED, ALLOW_UNGUARDED, PROCESSORS, WORLDS, WORDS,
+        FOLDERS,
+        TAP,
+        REACHED,
+        ALLOW_UNGUARDED,
+        PROCESSORS,
+        WORLDS,
+        WORDS,
     ],
 };
 

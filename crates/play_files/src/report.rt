@@ -58,7 +58,10 @@ impl Report {
         }
         if let Outcome::Unguarded = outcome {
             let front = self.front_of_told();
-            writeln!(out, "{front}ffaplay: no guard: it asks nothing, which --allow-unguarded allows")?;
+            writeln!(
+                out,
+                "{front}ffaplay: no guard: it asks nothing, which --allow-unguarded allows"
+            )?;
         }
         out.flush()
     }

@@ -65,14 +65,7 @@ fn status<
     W: Write + Drop,
     E: Write,
     C: Commands,
->(
-    rt: &H,
-    input: S,
-    out: W,
-    err: &mut E,
-    is_seen: bool,
-    commands: &C,
-) -> Result<u8, AllocError> {
+>(rt: &H, input: S, out: W, err: &mut E, is_seen: bool, commands: &C) -> Result<u8, AllocError> {
     let alloc = rt.alloc();
     let args = match env::args(rt) {
         Ok(args) => args,
@@ -156,15 +149,13 @@ fn is_session(request: &Request<'_>) -> bool {
     request.trace() == Some(STANDARD_INPUT)
         && matches!(
             *request,
-            Request::Play(
-                PlayOptions {
-                    purpose: Purpose::Print {
-                        interactive: true,
-                        ..
-                    },
+            Request::Play(PlayOptions {
+                purpose: Purpose::Print {
+                    interactive: true,
                     ..
                 },
-            )
+                ..
+            },)
         )
 }
 

@@ -4,7 +4,7 @@ ghost use Rattle.std.specs.Counts.{IsPrefixLen};
 ghost use Rattle.std.specs.Result.{IfOk};
 
 use play_reasons::line_fault;
-use play_report::call_fault;
+use play_report::CallFault;
 use play_words::{LowerError, lower_line};
 use std::alloc::{AllocError, Allocator};
 use std::io::{self, BufRead, BufReader, ErrorKind, Read};
@@ -32,10 +32,13 @@ impl<'a, H: Eprint + Drop, R: Read + Drop, A: Allocator + Copy> Text<'a, H, R, A
         reader: R,
         wording: Option<Wording<'a, H>>,
     ) -> Result<Text<'a, H, R, A>, AllocError> {
-        let Some(Wording {
-            processors,
-            session,
-        }) = wording else {
+        let Some(
+            Wording {
+                processors,
+                session,
+            },
+        ) = wording
+        else {
             return Ok(Text::Plain(reader));
         };
         Ok(Text::InWords(InWords {
@@ -120,7 +123,7 @@ impl<H: Eprint + Drop, R: Read + Drop, A: Allocator + Copy> InWords<'_, H, R, A>
         let Some(rt) = self.session else {
             return false;
         };
-        match call_fault(self.alloc, line) {
+        match CallFault::of_line(self.alloc, line) {
             Some(fault) if !line.ends_with(b"\r") => {
                 let _ = eprintln!(rt; "ffaplay: line {}, {fault}", self.number);
                 true

@@ -21,29 +21,33 @@ struct Near {
     is_wide: bool,
 }
 
-impl fmt::Display for CallFault {
-    fn fmt<W: fmt::Write>(&self, f: &mut fmt::Formatter<W>) -> fmt::Result {
-        write!(f, "{}", self.fault)?;
-        match self.near {
-            Some(Near {
-                name,
-                is_wide: true,
-            }) => write!(f, ": did you mean '{name}_64'?"),
-            Some(Near { name, .. }) => write!(f, ": did you mean '{name}'?"),
-            None => Ok(()),
+impl CallFault {
+    /// What is wrong with a line, without the LF that ends it, that names its call, where something is. Where there is no memory to
+    /// read it, nothing is found, and where there is none to compare names, none is near.
+    pub fn of_line<A: Allocator + Copy>(alloc: A, line: &[u8]) -> Option<CallFault> {
+        match lower_line(alloc, line) {
+            Err(LowerError::Words(fault)) => Some(CallFault {
+                fault,
+                near: near_name(alloc, line, fault),
+            }),
+            Ok(_) | Err(LowerError::NoMemory) => None,
         }
     }
 }
 
-/// What is wrong with a line, without the LF that ends it, that names its call, where something is. Where there is no memory to
-/// read it, nothing is found, and where there is none to compare names, none is near.
-pub fn call_fault<A: Allocator + Copy>(alloc: A, line: &[u8]) -> Option<CallFault> {
-    match lower_line(alloc, line) {
-        Err(LowerError::Words(fault)) => Some(CallFault {
-            fault,
-            near: near_name(alloc, line, fault),
-        }),
-        Ok(_) | Err(LowerError::NoMemory) => None,
+impl fmt::Display for CallFault {
+    fn fmt<W: fmt::Write>(&self, f: &mut fmt::Formatter<W>) -> fmt::Result {
+        write!(f, "{}", self.fault)?;
+        match self.near {
+            Some(
+                Near {
+                    name,
+                    is_wide: true,
+                },
+            ) => write!(f, ": did you mean '{name}_64'?"),
+            Some(Near { name, .. }) => write!(f, ": did you mean '{name}'?"),
+            None => Ok(()),
+        }
     }
 }
 

@@ -3,7 +3,7 @@
 ghost use Rattle.std.specs.Prelude.{◌≡◌};
 ghost use Rattle.play_report.specs.Failures.{StopsFor, failure_of, status_of};
 
-use crate::call_fault::{CallFault, call_fault};
+use crate::call_fault::CallFault;
 use crate::excerpt::Excerpt;
 use ffa_manifest::ManifestError;
 use play_descriptor::WordsFault;
@@ -124,7 +124,7 @@ impl<'a> Failure<'a> {
 // What is wrong with the line of this number, as it stands in a trace, where it is this as a plain one.
 fn flaw_of<A: Allocator + Copy>(alloc: A, number: u64, line: &[u8], fault: LineFault) -> LineFlaw {
     let text = line.strip_suffix(b"\n").unwrap_or(line);
-    let fault = match (fault, call_fault(alloc, text)) {
+    let fault = match (fault, CallFault::of_line(alloc, text)) {
         (LineFault::Words { .. }, Some(fault)) => Fault::Call(fault),
         _ => Fault::Line(fault),
     };

@@ -18,7 +18,7 @@ mod regions;
 mod telling;
 mod unmet;
 
-pub use call_fault::{CallFault, call_fault};
+pub use call_fault::CallFault;
 pub use counts::print_counts;
 pub use descriptor::describe_for;
 pub use difference::Difference;
