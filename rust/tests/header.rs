@@ -63,7 +63,9 @@ fn questions() -> Vec<(String, i64)> {
     let mut rows = fields!(Grant, "grant", kind handle);
     rows.extend(fields!(CertRun, "cert_run", first last owner has_handle handle access));
     rows.extend(fields!(Reason, "reason", fault check error about obstacle page endpoint owner number flaw));
-    rows.extend(fields!(Reason, "reason", index has_value state awaits handle transaction value first size least most step));
+    rows.extend(
+        fields!(Reason, "reason", index has_value state awaits handle transaction value first size least most step),
+    );
     rows.extend(fields!(Operation, "operation", kind size address value x));
     rows.extend(numbers!(NOT_CERTIFIED LENT BAD_BASE BAD_ROOTS DECLARATIONS));
     rows.extend(numbers!(GRANT_NONE GRANT_OWN GRANT_SHARED GRANT_HELD));

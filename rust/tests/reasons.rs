@@ -7,8 +7,8 @@ use common::machines::{MACHINE, PARTITIONS};
 use common::refusals::{rows, Row};
 use common::{example, generated, play, play_line, ram, refusals, top};
 use gorseplumb::{
-    call_name, raw, registers, About, Allowed, CallError, Check, ErrorCode, Fault, Flaw, Function, Grant, Handle, Id, Machine,
-    Obstacle, RunState, Size,
+    call_name, raw, registers, About, Allowed, CallError, Check, ErrorCode, Fault, Flaw, Function, Grant, Handle, Id,
+    Machine, Obstacle, RunState, Size,
 };
 use std::ffi::CStr;
 
