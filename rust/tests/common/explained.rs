@@ -17,7 +17,8 @@ fn brief_line(line: &str) -> String {
         return line.to_owned();
     }
     let parts = if line.contains("check ") { 3 } else { 2 };
-    line.split(": ").take(parts).collect::<Vec<_>>().join(": ")
+    let brief = line.split(": ").take(parts).collect::<Vec<_>>().join(": ");
+    [", where ", ", which "].iter().fold(brief, |brief, mend| brief.split(mend).next().unwrap().to_owned())
 }
 
 /// What the program prints of a trace, with reasons, but for what is to be mended.
