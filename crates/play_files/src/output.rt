@@ -36,12 +36,12 @@ impl<W> Output<'_, W> {
 
 /// What is told. Once it was found that nobody reads the output, nothing is.
 #[derive(Drop)]
-pub(crate) struct Told<'a, E> {
+pub(crate) struct Told<'a, 'b, E> {
     pub(crate) err: &'a mut E,
-    pub(crate) is_closed: &'a Cell<bool>,
+    pub(crate) is_closed: &'b Cell<bool>,
 }
 
-impl<E: Write> Write for Told<'_, E> {
+impl<E: Write> Write for Told<'_, '_, E> {
     fn write(&mut self, buf: &[u8]) -> io::Result<usize> {
         if self.is_closed.get() {
             return Ok(buf.len());
