@@ -1,6 +1,6 @@
 -- SPDX-License-Identifier: MIT OR Apache-2.0
 -- Guards that are counted line by line.
-use Rattle.std.proofs.Common.{◌≡◌, ◌+◌, ◌≤◌, ℕ, true, List, [], ◌∷◌, ◌++◌, length, Option, sym, ap, ◌∙◌, subst, refl, arith, length-append}
+use Rattle.std.proofs.Common.{◌≡◌, ◌+◌, ◌≤◌, ℕ, Bool, true, Result, Ok, List, [], ◌∷◌, ◌++◌, length, Option, sym, ap, ◌∙◌, subst, refl, arith, length-append}
 use Rattle.std.specs.Prelude.{filter}
 use Rattle.std.specs.List.{list_all}
 use Rattle.std.specs.Io.KnownBytes.{Consumes, IsAtEnd}
@@ -10,6 +10,9 @@ use Rattle.std.proofs.lemmas.List.Folds.{list_all-append}
 use Rattle.play_syntax.specs.TraceLines.{feed, has_no_feed, joined}
 use Rattle.play_player.proofs.Runs.{joined-append}
 use Rattle.play_forms.specs.Guards.{guards_among, is_guard}
+use Rattle.play_syntax.specs.declared.output.PlayError.{PlayError}
+use Rattle.play_forms.specs.Reading.{ReadsLine}
+use Rattle.play_forms.proofs.BadLines.{line_read}
 use Rattle.play_forms.proofs.Guarding.{few_guards}
 use Rattle.play_tasks.proofs.Plays.{all_consumed}
 use Rattle.play_commands.specs.Performed.{HasGuards}
@@ -37,6 +40,13 @@ counted_more had has then number guards more line so read single is = record {
       let parts = ap length (filter-append is_guard so.lines (line ∷ [])) ∙ length-append (filter is_guard so.lines) (filter is_guard (line ∷ [])) in
       ap (λ n. n + more) so.count ∙ ap (λ n. guards_among so.lines + n) is ∙ sym parts;
 }
+
+-- a line that was read whole
+pub counted_line : (had has then : Option (List ℕ)) (number guards more : ℕ) (line : List ℕ) (b : Bool) (r : Result Bool PlayError) → Counted had has number guards
+    → ReadsLine has then line number r → r ≡ Ok b → b ≡ true → more ≡ guards_among (line ∷ []) → Counted had then (number + 1) (guards + more)
+counted_line had has then number guards more line b r so read was is count =
+    let told = line_read has then line number b is (subst (ReadsLine has then line number) was read) in
+    counted_more had has then number guards more line so told.0 told.1 count
 
 -- there are no more guards than lines
 pub fewer : (had has : Option (List ℕ)) (number guards : ℕ) → Counted had has number guards → guards + 1 ≤ number

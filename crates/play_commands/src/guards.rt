@@ -1,6 +1,6 @@
 // SPDX-License-Identifier: MIT OR Apache-2.0
 //! The guards of a trace, counted.
-ghost use Rattle.std.specs.Prelude.{◌≡◌, ◌≤◌, OnOk, [], ◌∷◌};
+ghost use Rattle.std.specs.Prelude.{◌≡◌, ◌≤◌, IfOk, [], ◌∷◌};
 ghost use Rattle.play_forms.specs.Guards.{guards_among};
 ghost use Rattle.play_commands.specs.Performed.{HasGuards};
 
@@ -14,7 +14,7 @@ pub(crate) fn count_guards<A: Allocator + Copy, R: Read + Drop>(
     alloc: A,
     trace: R,
 ) -> Result<u64, PlayError>
-    ensures { OnOk result (HasGuards (R.remaining trace)) }
+    ensures { IfOk result (HasGuards (R.remaining trace)) }
 {
     match BufReader::new(alloc, trace) {
         Ok(mut reader) => count_lines(alloc, &mut reader),
@@ -24,7 +24,7 @@ pub(crate) fn count_guards<A: Allocator + Copy, R: Read + Drop>(
 
 // The same of the lines that a reader gives, of which there are no more than can be counted.
 fn count_lines<A: Allocator, R: BufRead>(alloc: A, reader: &mut R) -> Result<u64, PlayError>
-    ensures { OnOk result (HasGuards (R.remaining reader.old)) }
+    ensures { IfOk result (HasGuards (R.remaining reader.old)) }
 {
     let mut line = Vec::new(alloc);
     let mut number: u64 = 1;
