@@ -6,7 +6,6 @@
 mod allowed;
 
 pub use allowed::Allowed;
-
 use ffa_model::{EndpointId, Kind, Rights, Version, Work};
 
 /// What a machine tells of an operation that is refused, beside why it is.

@@ -238,12 +238,7 @@ fn put_bit<A: Allocator>(text: &mut Draft<A>, number: u32)
 
 // Puts the condition that a descriptor breaks, the field of which it speaks, and the number in that.
 #[tactic(auto, unfolding(crate::specs::Reasons::field_text))]
-fn put_field<A: Allocator>(
-    text: &mut Draft<A>,
-    flaw: Flaw,
-    place: FieldPlace,
-    value: Option<u64>,
-)
+fn put_field<A: Allocator>(text: &mut Draft<A>, flaw: Flaw, place: FieldPlace, value: Option<u64>)
     ensures { Puts text.old text.new (field_text flaw place value) }
 {
     put_index(text, flaw);
