@@ -1,6 +1,6 @@
 // SPDX-License-Identifier: MIT OR Apache-2.0
 //! The commands of the program.
-ghost use Rattle.std.specs.Prelude.{◌≡◌, ◌≢◌, ◌≤◌, ◌⊎◌, true, false, Err, IfErr, OnOk, Result, Some, is_some};
+ghost use Rattle.std.specs.Prelude.{◌≡◌, ◌≢◌, ◌≤◌, ◌⊎◌, true, false, Err, IfErr, IfOk, OnOk, Result, Some, is_some};
 ghost use Rattle.std.specs.Io.KnownBytes.{Keeps};
 ghost use Rattle.play_tasks.specs.Counted.{tally_of};
 ghost use Rattle.play_report.specs.declared.failure.Failure.{Failure};
@@ -108,7 +108,7 @@ impl<M: Machines, A: Allocator + Copy> Commands for Program<M, A> {
     }
 
     fn guards<R: Read + Drop>(&self, trace: R) -> io::Result<u64>
-        ensures { OnOk result (HasGuards (R.remaining trace)) }
+        ensures { IfOk result (HasGuards (R.remaining trace)) }
     {
         match count_guards(self.alloc, trace) {
             Ok(guards) => Ok(guards),
