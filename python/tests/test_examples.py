@@ -24,8 +24,8 @@ def test_prints_what_the_front_page_has() -> None:
     with Machine(BUILT_IN) as machine:
         printed = list(play(machine, EXAMPLES / "first.trace"))
     quoted = [line[4:] for line in (TOP / "README.md").read_text().splitlines() if line.startswith("    ")]
-    at = next(place for place, line in enumerate(quoted) if line.startswith("$ ./ffaplay demo examples/first.trace"))
-    wanted = [line.partition("  # ")[0].rstrip() for line in quoted[at + 1 : at + 1 + len(printed)]]
+    at = next(place for place, line in enumerate(quoted) if line.startswith("regs 0000 "))
+    wanted = quoted[at : at + len(printed)]
     assert printed[1:] == wanted[1:]
     assert printed[0].startswith(wanted[0].removesuffix(" .."))
 
