@@ -1,5 +1,5 @@
 // SPDX-License-Identifier: MIT OR Apache-2.0
-//! What the command line asks for.
+//! The requests of the command line, and how they are read from the matches of `clap`.
 ghost use Rattle.std.specs.Prelude.{◌≡◌, IfOk, map, option_map, codes, drop, nat_eq, true};
 ghost use Rattle.std.specs.List.{starts_with};
 ghost use Rattle.clap.specs.Words.{all_of, found_of, first_of, rows_of, subcommand_rows_of};
@@ -9,104 +9,105 @@ use clap::ArgMatches;
 use ffa_model::MOST_PROCESSORS;
 use std::alloc::{AllocError, Global};
 
-// The words that are numbers, with what they take.
+// The options that need a number, with the message for another value.
 const NUMBERS: [(&str, &str); 4] = [
     (
         "seed",
-        "'--seed' takes a number below 2^64: decimal without a sign or leading zeros, as 1000, or hexadecimal behind 0x, as 0x3E8",
+        "'--seed' must be a number below 2^64: decimal without a sign or leading zeros, such as 1000, or hexadecimal after 0x, such as 0x3E8",
     ),
     (
         "lines",
-        "'--lines' takes a number below 2^64: decimal without a sign or leading zeros, as 1000, or hexadecimal behind 0x, as 0x3E8",
+        "'--lines' must be a number below 2^64: decimal without a sign or leading zeros, such as 1000, or hexadecimal after 0x, such as 0x3E8",
     ),
     (
         "every",
-        "'--every' takes a number below 2^64: decimal without a sign or leading zeros, as 1000, or hexadecimal behind 0x, as 0x3E8",
+        "'--every' must be a number below 2^64: decimal without a sign or leading zeros, such as 1000, or hexadecimal after 0x, such as 0x3E8",
     ),
     (
         "width",
-        "'--width' takes a number below 2^64: decimal without a sign or leading zeros, as 1000, or hexadecimal behind 0x, as 0x3E8",
+        "'--width' must be a number below 2^64: decimal without a sign or leading zeros, such as 1000, or hexadecimal after 0x, such as 0x3E8",
     ),
 ];
 
-/// The word that stands for standard input in a path's place.
+/// The path that means standard input.
 pub const STANDARD_INPUT: &str = "-";
 
-/// How the machine of a play is built.
+/// The options for the machine that plays a trace.
 #[derive(Clone, Copy, PartialEq, Eq)]
 pub struct MachineOptions {
-    /// RAM lies in frames, a piece of memory for each page, and not in one piece.
+    /// Whether each page of RAM is an allocation of its own. Otherwise RAM is one allocation.
     pub frames: bool,
-    /// The last few translations of addresses are held, as a TLB does.
+    /// Whether the machine caches the last translations of addresses, as a TLB does.
     pub tlb: bool,
-    /// So many processors run it, from 1 to 8; where it is nothing, one runs it alone, and a trace names none.
+    /// The number of processors, from 1 to 8. If it is `None`, there is one processor, and a trace cannot name it.
     pub processors: Option<usize>,
-    /// Worlds are told apart: memory of the normal world's regions is non-secure, all other secure.
+    /// Whether the normal world's regions are non-secure memory, and all other memory is secure.
     pub worlds: bool,
 }
 
-/// How the text of a play is written.
+/// The options for the text that a play prints.
 #[derive(Clone, Copy, PartialEq, Eq)]
 pub struct TextOptions {
-    /// The text of each line is written before more of the trace is read.
+    /// Whether the text of each line is written before more of the trace is read.
     pub line_buffered: bool,
-    /// Each text begins with the number of its line.
+    /// Whether each text begins with the number of its line.
     pub number: bool,
-    /// The name of a call and of an error stands behind its registers.
+    /// Whether the names of the call and of the error follow the registers.
     pub names: bool,
-    /// A line under the text of an operation that is refused says why.
+    /// Whether a line after the text of a refused operation says why it was refused.
     pub explain: bool,
-    /// Registers and data are written in short words.
+    /// Whether registers and data are written in the short form.
     pub short: bool,
 }
 
-/// The words that say what a descriptor of a memory transaction is to hold, as they were given.
+/// The contents of a descriptor of a memory transaction, as the command line gives them.
 #[derive(Clone, Copy)]
 pub struct DescriptorWords<'a> {
-    /// What the descriptor is for: a call on memory, by the last word of its name.
+    /// The call on memory, by the last word of its name.
     pub kind: &'a str,
-    /// Where TX stands, which a reclaim needn't say.
+    /// The address of TX. A reclaim does not use it.
     pub tx: Option<&'a str>,
-    /// The transaction's sender.
+    /// The sender of the transaction.
     pub from: Option<&'a str>,
-    /// The transaction's receivers, each with its right.
+    /// The receivers of the transaction, each with its right.
     pub to: Option<&'a str>,
-    /// The transaction's pages.
+    /// The pages of the transaction.
     pub pages: Option<&'a str>,
     pub handle: Option<&'a str>,
     pub tag: Option<&'a str>,
-    /// The kind of the transaction that is retrieved.
+    /// The kind of the transaction that the call retrieves.
     pub of: Option<&'a str>,
-    /// The pages are to be zeroed.
+    /// Whether the call zeroes the pages.
     pub zero: bool,
-    /// The descriptor has the compact form.
+    /// Whether the descriptor has the compact form.
     pub compact: bool,
 }
 
-/// What a picture is to show, and how.
+/// The options for a picture.
 #[derive(Clone, Copy, PartialEq, Eq)]
 pub struct PictureOptions {
-    /// Each line whose number is a multiple of this one has a row; where it is 0, those that change the certificate.
+    /// A line has a row if its number is a multiple of this number. If this is 0, a line has a row if it changes the
+    /// certificate.
     pub every: u64,
-    /// How many pixels it is wide at most; where it is 0, as many as its columns take.
+    /// The width in pixels. Columns become narrower to fit it, down to a least width. If it is 0, columns keep their width.
     pub width: u64,
-    /// Calls that are refused have a row, too.
+    /// Whether each refused call has a row, too.
     pub refused: bool,
-    /// It is a page to look at operation by operation, in place of an SVG.
+    /// Whether it is an HTML page that shows the trace line by line, instead of an SVG.
     pub page: bool,
 }
 
-/// Where the machine comes from on which a trace is played.
+/// The machine that plays a trace.
 #[derive(Clone, Copy)]
 pub enum Source<'a> {
-    /// It is the built-in one.
+    /// The built-in machine.
     BuiltIn,
-    /// It is that of the manifest at this path.
+    /// The machine of the manifest at this path.
     File(&'a str),
 }
 
 impl<'a> Source<'a> {
-    /// The manifest's path.
+    /// Returns the path of the manifest. For the built-in machine it returns `None`.
     pub fn path(&self) -> Option<&'a str>
         ensures { option_map (λ path. path.now) result ≡ path_of self.now }
     {
@@ -117,104 +118,107 @@ impl<'a> Source<'a> {
     }
 }
 
-/// What a trace is played for.
+/// The purpose of a play.
 #[derive(Clone, Copy)]
 pub enum Purpose<'a> {
-    /// To print its text. Where `strict` is set, the trace's guards are checked, up to the first that isn't met, and where
-    /// `keep_going` is set, all of them. Where `interactive` is set, a bad line is told, and the play goes on. At most one is.
+    /// Prints the text of the trace. With `strict`, the play checks the guards up to the first that fails; with `keep_going`,
+    /// it checks all of them. With `interactive`, it reports a bad line and continues. At most one of the three is set.
     Print {
         text: TextOptions,
         strict: bool,
         keep_going: bool,
         interactive: bool,
     },
-    /// To print it with the guards of its own play.
+    /// Prints the trace with its output as guards.
     Record,
-    /// To compare its text with the one at this path. A difference is told with why the operation is refused at which it
-    /// is, where reasons are asked for.
+    /// Compares the text of the trace with the text at this path. With `text.explain`, a difference at a refused operation
+    /// has the reason.
     Compare {
         expected: &'a str,
         text: TextOptions,
     },
-    /// To print a picture of who reaches which page along it.
+    /// Draws each endpoint's access to pages along the trace.
     Draw(PictureOptions),
 }
 
-/// A trace to play: its path, on which machine, and what for.
+/// A trace to play, with its machine and its purpose.
 #[derive(Clone, Copy)]
 pub struct PlayOptions<'a> {
     pub source: Source<'a>,
+    /// The path of the trace.
     pub trace: &'a str,
     pub machine: MachineOptions,
     pub purpose: Purpose<'a>,
-    /// The trace is in words, and comes to one of the plain format, which is played.
+    /// Whether the trace has named calls. The play converts it to the plain format.
     pub words: bool,
-    /// More is said of what is refused.
+    /// Whether standard error has details of errors.
     pub verbose: bool,
 }
 
-/// A trace to make up: for the machine of which manifest, from which seed, and of how many lines.
+/// A trace to generate.
 #[derive(Clone, Copy)]
 pub struct GenerateOptions<'a> {
+    /// The path of the manifest of its machine.
     pub manifest: &'a str,
     pub seed: u64,
+    /// The number of its lines.
     pub lines: u64,
-    /// Its calls and accesses are counted, and it isn't printed.
+    /// Whether the program prints counts of its calls and accesses instead of the trace.
     pub count: bool,
-    /// The machine tells worlds apart, as `MachineOptions` has it.
+    /// Whether memory has two worlds, as in `MachineOptions`.
     pub worlds: bool,
-    /// More is said of what is refused.
+    /// Whether standard error has details of errors.
     pub verbose: bool,
 }
 
-/// Traces to test: all of some folders.
+/// Folders of traces to test.
 #[derive(Drop)]
 pub struct TestOptions<'a> {
-    /// The paths of the folders, in the order in which they are tested.
+    /// The paths of the folders, in the order of the tests.
     pub folders: Vec<&'a str>,
-    /// What came of each is told as the Test Anything Protocol has it.
+    /// Whether the results are in the Test Anything Protocol.
     pub tap: bool,
-    /// The calls and accesses of all are counted, which is told behind that.
+    /// Whether counts of the calls and accesses of all traces follow the results.
     pub count: bool,
-    /// A trace without a guard passes, too.
+    /// Whether a trace without a guard passes.
     pub allow_unguarded: bool,
-    /// So many processors run each machine, as `MachineOptions` has it.
+    /// The number of processors of each machine, as in `MachineOptions`.
     pub processors: Option<usize>,
-    /// Each machine tells worlds apart, as `MachineOptions` has it.
+    /// Whether memory of each machine has two worlds, as in `MachineOptions`.
     pub worlds: bool,
-    /// The traces are in words, as `PlayOptions` has it.
+    /// Whether the traces have named calls, as in `PlayOptions`.
     pub words: bool,
 }
 
-/// A command with its paths, which are words of the command line, and what its flags say.
+/// A command with its paths and flags. The paths are words of the command line.
 ///
-/// At most one of its paths is `STANDARD_INPUT`. Where `verbose` is set, more is said on standard error of what is refused.
+/// At most one of its paths is `STANDARD_INPUT`. With `verbose`, standard error has details of errors.
 #[derive(Drop)]
 pub enum Request<'a> {
-    /// To play a trace.
+    /// Plays a trace.
     Play(PlayOptions<'a>),
-    /// To say whether a manifest is accepted.
+    /// Checks whether a manifest is accepted.
     Check {
         manifest: &'a str,
         verbose: bool,
     },
-    /// To print where the tables of a manifest's machine stand, and where that is asked for its regions and RAM.
+    /// Prints the addresses of the tables of a manifest's machine, and with `regions` its regions and RAM.
     Layout {
         manifest: &'a str,
         regions: bool,
         verbose: bool,
     },
-    /// To print the lines of a trace that write a descriptor and make its call, in the form that the caller has by the manifest
-    /// at this path, where one is named.
+    /// Prints the lines of a trace that make a call on memory. If there is a manifest, the descriptor has the form of the
+    /// caller in the manifest at this path.
     Descriptor {
         manifest: Option<&'a str>,
         words: DescriptorWords<'a>,
     },
-    /// To print a trace of so many lines for the machine of a manifest, or how often its calls and accesses ended in which way.
+    /// Prints a generated trace for the machine of a manifest, or counts of how its calls and accesses ended.
     Generate(GenerateOptions<'a>),
-    /// To play the traces of folders, each with its guards.
+    /// Plays the traces of folders and checks their guards.
     Test(TestOptions<'a>),
-    /// To print a trace in words as one of the plain format.
+    /// Converts a trace with named calls to the plain format.
     Lower {
         trace: &'a str,
         verbose: bool,
@@ -222,7 +226,7 @@ pub enum Request<'a> {
 }
 
 impl<'a> Request<'a> {
-    /// The path of the manifest that it names.
+    /// Returns the path of the manifest, if the request names one.
     pub fn manifest(&self) -> Option<&'a str>
         ensures { option_map (λ path. path.now) result ≡ manifest_of (ask_of self.now) }
     {
@@ -235,7 +239,7 @@ impl<'a> Request<'a> {
         }
     }
 
-    /// The path of the trace that it plays.
+    /// Returns the path of the trace that the request plays, if it plays one.
     pub fn trace(&self) -> Option<&'a str>
         ensures { option_map (λ path. path.now) result ≡ trace_of (ask_of self.now) }
     {
@@ -245,7 +249,7 @@ impl<'a> Request<'a> {
         }
     }
 
-    /// The path of the expected text that it names.
+    /// Returns the path of the expected text, if the request names one.
     pub fn expected(&self) -> Option<&'a str>
         ensures { option_map (λ path. path.now) result ≡ expected_of (ask_of self.now) }
     {
@@ -260,7 +264,7 @@ impl<'a> Request<'a> {
         }
     }
 
-    /// Whether more is to be said of what is refused.
+    /// Whether standard error has details of errors.
     pub fn is_verbose(&self) -> bool
         ensures { result ≡ verbose_of (ask_of self.now) }
     {
@@ -273,8 +277,9 @@ impl<'a> Request<'a> {
         }
     }
 
-    /// Whether the text of each line is to be written before more of the trace is read: where the trace is standard input,
-    /// since who writes it may wait for the answer, where the play is interactive, and where that is asked for.
+    /// Whether the text of each line is written before more of the trace is read. This holds for a play with
+    /// `line_buffered` or `interactive`. It also holds for a play that prints its text, and for `Lower`, if the trace is
+    /// standard input: the writer of the trace may wait for the answer.
     #[tactic(auto, unfolding(crate::specs::Commands::is_input))]
     pub fn answers_at_once(&self) -> bool
         ensures { result ≡ answers_at_once (ask_of self.now) }
@@ -296,7 +301,7 @@ impl<'a> Request<'a> {
         }
     }
 
-    /// Whether at most one of the paths is standard input, which can be read once only.
+    /// Whether at most one of the paths is standard input, which can be read only once.
     #[tactic(auto, unfolding(crate::specs::Commands::reads_once))]
     pub(crate) fn reads_once(&self) -> bool
         ensures { result ≡ reads_once (ask_of self.now) }
@@ -307,7 +312,7 @@ impl<'a> Request<'a> {
         u8::from(manifest) + u8::from(trace) + u8::from(expected) <= 1
     }
 
-    /// The same command, of which more is to be said of what is refused, where it can be.
+    /// Returns the same request with `verbose`, if it has that flag.
     pub fn said_more(self) -> Request<'a>
         ensures { ask_of result ≡ said_more (ask_of self.entry) }
     {
@@ -341,7 +346,7 @@ impl<'a> Request<'a> {
         }
     }
 
-    /// Which of its flags don't go together, of a request whose flags don't.
+    /// Returns the message for flags of the request that exclude each other.
     pub(crate) fn excluded(&self) -> &'static str {
         match *self {
             Request::Play(
@@ -352,16 +357,13 @@ impl<'a> Request<'a> {
                     },
                     ..
                 },
-            ) => {
-                "'--strict' and '--keep-going' check guards, and '--interactive' none: leave that out, or them"
-            }
-            _ =>
-                "the argument '--strict' cannot be used with '--keep-going', which goes on where that stops",
+            ) => { "the argument '--interactive' cannot be used with '--strict' or '--keep-going'" }
+            _ => "the argument '--strict' cannot be used with '--keep-going'",
         }
     }
 
-    // Whether its flags go together: a play that checks guards isn't one that lives on behind a bad line, and it stops at one
-    // that isn't met, or goes on.
+    // Whether no two flags of the request exclude each other. A session checks no guards. A play that checks guards either stops
+    // at the first that fails, or continues.
     fn excludes_none(&self) -> bool
         ensures { result ≡ excludes_none (ask_of self.now) }
     {
@@ -382,7 +384,7 @@ impl<'a> Request<'a> {
     }
 }
 
-// Whether a path is given and is standard input.
+// Whether there is a path, and it is standard input.
 #[tactic(auto, unfolding(crate::specs::Commands::is_input))]
 fn is_input(path: Option<&str>) -> bool
     ensures { result ≡ is_input (option_map (λ p. p.now) path.entry) }
@@ -402,7 +404,7 @@ fn is_given(matches: &ArgMatches<'_>, id: &str) -> bool
     text_of(matches, id) == Some("true")
 }
 
-// The number that a text writes, which is hexadecimal behind 0x.
+// Reads a number, which is hexadecimal after `0x` and decimal otherwise.
 #[tactic(auto, unfolding(crate::specs::Commands::number_of))]
 fn read_number(text: &str) -> Option<u64>
     ensures { result ≡ number_of text.now }
@@ -423,7 +425,7 @@ fn read_plain(text: &str) -> Option<u64>
     }
 }
 
-// Whether a text begins with a zero that it hasn't to.
+// Whether a text begins with a superfluous zero.
 fn has_zero(text: &str) -> bool
     ensures { result ≡ has_zero text.now }
 {
@@ -440,14 +442,14 @@ fn read_decimal(text: &str) -> Option<u64>
     }
 }
 
-// Whether a text begins with the sign that the library takes before digits.
+// Whether a text begins with the sign that the standard library allows before digits.
 fn has_sign(text: &str) -> bool
     ensures { result ≡ starts_with nat_eq text.now (codes "+") }
 {
     matches!(text.as_bytes(), [b'+', ..])
 }
 
-// The number that hexadecimal digits write.
+// Reads a number of hexadecimal digits.
 fn read_digits(text: &str) -> Option<u64>
     ensures { result ≡ numeral_of 16 text.now }
 {
@@ -458,7 +460,7 @@ fn read_digits(text: &str) -> Option<u64>
     }
 }
 
-// The number that is written behind the first x.
+// Reads the number after the first `x`.
 fn read_hexadecimal(text: &str) -> Option<u64>
     requires { starts_with nat_eq text.now (codes "0x") ≡ true }
     ensures { result ≡ numeral_of 16 (drop 2 text.now) }
@@ -469,7 +471,7 @@ fn read_hexadecimal(text: &str) -> Option<u64>
     }
 }
 
-/// What is wanted of the first word that is no number where one has to be.
+/// Returns the message for the first option that needs a number and has another value.
 pub(crate) fn unread_number(matches: &ArgMatches<'_>) -> Option<&'static str> {
     let (_, inner) = matches.subcommand()?;
     for (id, wanted) in NUMBERS {
@@ -481,18 +483,20 @@ pub(crate) fn unread_number(matches: &ArgMatches<'_>) -> Option<&'static str> {
     }
     match processors_in(inner) {
         Some(_) => None,
-        None => Some("'--processors' takes a number from 1 to 8, without a sign or leading zeros"),
+        None => Some(
+            "'--processors' must be a number from 1 to 8, without a sign or leading zeros",
+        ),
     }
 }
 
-// The number that was given, or that stands for one that wasn't.
+// Returns the number that was given, or the default.
 fn number_in(matches: &ArgMatches<'_>, id: &str) -> Option<u64>
     ensures { result ≡ number_in id.now (rows_of (found_of matches.now)) }
 {
     read_number(text_of(matches, id)?)
 }
 
-// How many processors a text says, of which there is room for so many.
+// Reads a number of processors, from 1 to the most that a machine has.
 #[tactic(auto, unfolding(crate::specs::Commands::count_of))]
 fn read_count(text: &str) -> Option<usize>
     ensures { result ≡ count_of text.now }
@@ -503,7 +507,7 @@ fn read_count(text: &str) -> Option<usize>
     }
 }
 
-// The processors that were asked for, if any were.
+// Returns the number of processors, if the words give one. The outer `None` means that its text is not such a number.
 #[tactic(auto, unfolding(crate::specs::Commands::processors_in))]
 fn processors_in(matches: &ArgMatches<'_>) -> Option<Option<usize>>
     ensures { result ≡ processors_in (rows_of (found_of matches.now)) }
@@ -573,7 +577,7 @@ fn draw_in<'a>(matches: &ArgMatches<'a>) -> Option<Purpose<'a>>
     }))
 }
 
-// To play a trace on this machine.
+// Returns the request to play a trace on the machine of this source.
 #[tactic(auto, unfolding(crate::specs::Commands::play_in))]
 fn play_in<'a>(
     matches: &ArgMatches<'a>,
@@ -595,7 +599,7 @@ fn play_in<'a>(
     }))
 }
 
-// To play a trace on the machine of the manifest that is named.
+// Returns the request to play a trace on the machine of the manifest that the words name.
 #[tactic(auto, unfolding(crate::specs::Commands::play_file_in))]
 fn play_file_in<'a>(matches: &ArgMatches<'a>, purpose: Purpose<'a>) -> Option<Request<'a>>
     ensures { option_map ask_of result ≡ play_file_in (rows_of (found_of matches.now)) (aim_of purpose.entry) }
@@ -667,7 +671,7 @@ fn generate_in<'a>(matches: &ArgMatches<'a>) -> Option<Request<'a>>
     }))
 }
 
-// All texts that were given for a word, where there are any.
+// Returns all values of a word, if it has any.
 fn texts_of<'m, 'a>(matches: &'m ArgMatches<'a>, id: &str) -> Option<&'m [&'a str]>
     ensures { option_map (λ s. map (λ t. t.now) s.now) result ≡ all_of id.now (rows_of (found_of matches.now)) }
 {
@@ -714,7 +718,7 @@ fn lower_in<'a>(matches: &ArgMatches<'a>) -> Option<Request<'a>>
     Some(Request::Lower { trace, verbose })
 }
 
-// What a command asks for that tests no folders.
+// Returns the request of a command other than `test`.
 #[tactic(auto, unfolding(crate::specs::Commands::ask_beside))]
 fn request_beside<'a>(name: &str, matches: &ArgMatches<'a>) -> Option<Request<'a>>
     ensures { option_map ask_of result ≡ ask_beside name.now (rows_of (found_of matches.now)) }
@@ -759,8 +763,7 @@ fn request_in<'a>(
     }
 }
 
-/// What the matches of the program's command line name, however often that reads standard input, and whether its flags go
-/// together or not.
+/// Returns the request of the matches, also if two of its paths are standard input or two of its flags exclude each other.
 pub(crate) fn request_of<'a>(
     alloc: Global,
     matches: &ArgMatches<'a>,
@@ -773,8 +776,8 @@ pub(crate) fn request_of<'a>(
     }
 }
 
-/// What the matches of the program's command line ask for, where that reads standard input once at most and its flags go
-/// together.
+/// Returns the request of the matches if at most one of its paths is standard input and no two of its flags exclude each
+/// other.
 pub(crate) fn fit_request_of<'a>(
     alloc: Global,
     matches: &ArgMatches<'a>,

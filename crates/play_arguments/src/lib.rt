@@ -1,5 +1,5 @@
 // SPDX-License-Identifier: MIT OR Apache-2.0
-//! The program's command line: which command its words ask for, with which paths and flags.
+//! The command line of the program: the command, paths and flags that its words give.
 #![tactic(auto)]
 
 ghost use Rattle.std.specs.Prelude.{◌≡◌, ◌⊎◌, IfOk, IfErr, Some, None, map};
@@ -19,12 +19,12 @@ pub use command_line::{
 pub use program::{TOOLCHAIN, VERSION};
 use std::alloc::{AllocError, Global};
 
-/// What the words ask for, of which the first is the program's name.
+/// Returns the request that the words of a command line make. The first word is the program's name.
 ///
-/// An error with the kind `OutOfMemory` is want of memory, whatever the words are. One with the kind `DisplayHelp` has
-/// the help that was asked for, and one with the kind `DisplayVersion` the version. Any other says what is wrong with
-/// the words: that of `STANDARD_INPUT` in the place of two paths, and that of flags that exclude one another, have the kind
-/// `ArgumentConflict`.
+/// An error of the kind `OutOfMemory` means that there is not enough memory; it can occur with any words. An error of the
+/// kind `DisplayHelp` has the help that the words request, and one of the kind `DisplayVersion` has the version. Every
+/// other error says what is wrong with the words. Its kind is `ArgumentConflict` if two paths are `STANDARD_INPUT`, or if
+/// two flags exclude each other.
 pub fn request<'a>(alloc: Global, words: &'a [&'a str]) -> Result<Request<'a>, Error>
     // The command, its paths and its flags are clap's matches of the words.
     ensures asked { IfOk result (λ r. asked_by (map (λ w. w.now) words.entry.now) ≡ Some (ask_of r)) }
@@ -34,7 +34,7 @@ pub fn request<'a>(alloc: Global, words: &'a [&'a str]) -> Result<Request<'a>, E
     match_words(alloc, &mut command, words)
 }
 
-// What the words of the program's command ask for.
+// Returns the request that the words make of the program's command.
 fn match_words<'a>(
     alloc: Global,
     command: &mut Command<'a>,
@@ -50,7 +50,7 @@ fn match_words<'a>(
     }
 }
 
-// What the matches ask for. Where they ask for nothing, an error says so, or want of memory.
+// Returns the request of the matches. An error says that they make no request, or that there is not enough memory.
 fn read_matches<'a>(
     alloc: Global,
     command: &mut Command<'_>,
@@ -65,13 +65,13 @@ fn read_matches<'a>(
     }
 }
 
-// What is wrong with words in which `clap` finds no fault, and which ask for nothing.
+// Returns what is wrong with words that `clap` accepts and that make no request.
 fn refusal(
     alloc: Global,
     command: &mut Command<'_>,
     matches: &ArgMatches<'_>,
 ) -> Result<Error, AllocError> {
-    let twice = "'-' stands for standard input, which can be given once only";
+    let twice = "'-' is standard input, which can be given only once";
     match command_line::request_of(alloc, matches)? {
         Some(request) if request.reads_once() => {
             command.error(ErrorKind::ArgumentConflict, request.excluded())

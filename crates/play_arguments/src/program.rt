@@ -1,5 +1,5 @@
 // SPDX-License-Identifier: MIT OR Apache-2.0
-//! The program's commands and their words, as `clap` is told of them.
+//! The commands of the program and their words, as `clap` gets them.
 ghost use Rattle.std.specs.Prelude.{◌≡◌, IfOk, false};
 ghost use Rattle.clap.specs.Words.{app_of, rule_of};
 ghost use Rattle.clap.specs.declared.builder.command.Command.TheViews.{out-Command};
@@ -16,43 +16,43 @@ pub const TOOLCHAIN: &str = "rattle-kit-13f";
 // `VERSION`, and `TOOLCHAIN` in brackets.
 const VERSION_TEXT: &str = "0.1.0 (rattle-kit-13f)";
 
-// What the help of the program ends with.
+// The end of the program's help.
 const AFTER_HELP: &str = "\
 Status:
    0  done
-   1  the manifest is refused
-   2  a line is none of a trace
-   3  a file can't be read, the output can't be written or memory is short
-   4  the trace's text is another than expected
-   5  a guard of the trace isn't met, or a trace that is tested fails
-  64  the words make no sense
+   1  the manifest is rejected
+   2  a line of the trace is not valid
+   3  cannot read a file, cannot write output, or out of memory
+   4  the output differs from the expected output
+   5  a guard failed, or a tested trace failed
+  64  the command line is wrong
 
 Manual: docs/USING.md";
 
-// A word of a command.
+// A path, flag or value of a command. `tests/generated` lists these in docs/COMMANDS.md.
 #[derive(Clone, Copy)]
 enum Word<'a> {
-    // A path that has to be given.
+    // A path, which is required.
     Path {
         id: &'a str,
         help: &'a str,
     },
-    // Paths, of which one has to be given at least.
+    // One path or more.
     Paths {
         id: &'a str,
         help: &'a str,
     },
-    // A flag, which may be given by its name.
+    // A flag, which is optional.
     Flag {
         id: &'a str,
         help: &'a str,
     },
-    // A value, which may be given behind its name.
+    // A value after its name, which is optional.
     Value {
         id: &'a str,
         help: &'a str,
     },
-    // A number below 2^64, which may be given behind its name, and which stands for it otherwise.
+    // A number below 2^64 after its name, with its default.
     Number {
         id: &'a str,
         help: &'a str,
@@ -70,92 +70,92 @@ struct Entry<'a> {
 
 const MANIFEST: Word = Word::Path {
     id: "manifest",
-    help: "The machine's manifest, a TOML file; - is standard input",
+    help: "Manifest of the machine (TOML), or - for standard input",
 };
 
 const TRACE: Word = Word::Path {
     id: "trace",
-    help: "The trace: a line for each operation; - is standard input",
+    help: "Trace, one operation on each line, or - for standard input",
 };
 
 const EXPECTED: Word = Word::Path {
     id: "expected",
-    help: "What the trace is expected to print; - is standard input",
+    help: "Expected output, or - for standard input",
 };
 
 const FRAMES: Word = Word::Flag {
     id: "frames",
-    help: "Keeps RAM in frames, a piece of memory for each page",
+    help: "Allocate each page of RAM separately",
 };
 
 const TLB: Word = Word::Flag {
     id: "tlb",
-    help: "Holds the last few translations of addresses, as a TLB does",
+    help: "Cache the last translations, as a TLB does",
 };
 
 const PROCESSORS: Word = Word::Value {
     id: "processors",
-    help: "How many processors run the machine, from 1 to 8: a trace may then have `on N` and `interrupt`",
+    help: "Simulate 1 to 8 processors; allow `on N` and `interrupt`",
 };
 
 const WORLDS: Word = Word::Flag {
     id: "worlds",
-    help: "Tells memory of the normal world, which is non-secure, from all other",
+    help: "Make the normal world's regions non-secure, all other memory secure",
 };
 
 const WORDS: Word = Word::Flag {
     id: "words",
-    help: "Reads a trace in words: calls and what registers hold by their names, and numbers with 0x",
+    help: "Read calls and arguments by name; numbers may have 0x",
 };
 
 const LINE_BUFFERED: Word = Word::Flag {
     id: "line-buffered",
-    help: "Writes the text of each line before more of the trace is read",
+    help: "Write each line's output before reading more of the trace",
 };
 
 const NUMBER: Word = Word::Flag {
     id: "number",
-    help: "Begins each text with the number of its line",
+    help: "Print each line's number before its output",
 };
 
 const NAMES: Word = Word::Flag {
     id: "names",
-    help: "Writes the name of a call and of an error behind its registers",
+    help: "Print the names of calls and errors after the registers",
 };
 
 const EXPLAIN: Word = Word::Flag {
     id: "explain",
-    help: "Says under each text why its operation is refused, in a line that begins with `# refused: `",
+    help: "Print why an operation was refused, as `# refused: ..`",
 };
 
 const SHORT: Word = Word::Flag {
     id: "short",
-    help: "Writes registers and data shortly: a name for an identifier, and no zeros in front or at the end",
+    help: "Print registers and data in a short form",
 };
 
 const STRICT: Word = Word::Flag {
     id: "strict",
-    help: "Checks guards: `#= TEXT`, which the line before prints, and `#@ ENDPOINT`, which runs",
+    help: "Check the guards `#=` and `#@`; stop at a failure",
 };
 
 const KEEP_GOING: Word = Word::Flag {
     id: "keep-going",
-    help: "Checks guards, and goes on at one that isn't met",
+    help: "Check guards and continue after a failure",
 };
 
 const INTERACTIVE: Word = Word::Flag {
     id: "interactive",
-    help: "Tells of a bad line, and goes on; writes the text of each line at once",
+    help: "Report bad lines and continue; write output at once",
 };
 
 const VERBOSE: Word = Word::Flag {
     id: "verbose",
-    help: "Says more on standard error of what is refused",
+    help: "Print details of errors on standard error",
 };
 
 const RUN: Entry = Entry {
     name: "run",
-    about: "Plays a trace on the machine of a manifest",
+    about: "Play a trace on the machine of a manifest",
     words: &[
         MANIFEST,
         TRACE,
@@ -178,7 +178,7 @@ const RUN: Entry = Entry {
 
 const DEMO: Entry = Entry {
     name: "demo",
-    about: "Plays a trace on the built-in machine",
+    about: "Play a trace on the built-in machine",
     words: &[
         TRACE,
         FRAMES,
@@ -200,7 +200,7 @@ const DEMO: Entry = Entry {
 
 const RECORD: Entry = Entry {
     name: "record",
-    about: "Prints a trace with the guards of its own play on the machine of a manifest",
+    about: "Play a trace; print it with its output as guards",
     words: &[
         MANIFEST, TRACE, FRAMES, TLB, PROCESSORS, WORLDS, WORDS, VERBOSE,
     ],
@@ -208,7 +208,7 @@ const RECORD: Entry = Entry {
 
 const COMPARE: Entry = Entry {
     name: "compare",
-    about: "Compares what a trace prints with what is expected",
+    about: "Compare the output of a trace with the expected output",
     words: &[
         MANIFEST, TRACE, EXPECTED, FRAMES, TLB, PROCESSORS, WORLDS, WORDS, NUMBER, NAMES, EXPLAIN,
         SHORT, VERBOSE,
@@ -217,96 +217,96 @@ const COMPARE: Entry = Entry {
 
 const CHECK: Entry = Entry {
     name: "check",
-    about: "Says whether a manifest is accepted",
+    about: "Check whether a manifest is accepted",
     words: &[MANIFEST, VERBOSE],
 };
 
 const REGIONS: Word = Word::Flag {
     id: "regions",
-    help: "Prints the regions, the first page behind the tables and the end of RAM, too",
+    help: "Also print regions, table pages, space for regions, and RAM",
 };
 
 const LAYOUT: Entry = Entry {
     name: "layout",
-    about: "Prints where each endpoint's tables stand",
+    about: "Print the addresses of each endpoint's tables",
     words: &[MANIFEST, REGIONS, VERBOSE],
 };
 
 const KIND: Word = Word::Path {
     id: "kind",
-    help: "What it is for: donate, lend, share, retrieve, relinquish or reclaim",
+    help: "Kind of call: donate, lend, share, retrieve, relinquish or reclaim",
 };
 
 const TX_ADDRESS: Word = Word::Value {
     id: "tx",
-    help: "The address of TX of the endpoint that calls, as 4002E000; a reclaim needs none",
+    help: "The caller's TX address, such as 4002E000; not for reclaim",
 };
 
 const FROM: Word = Word::Value {
     id: "from",
-    help: "The transaction's sender, as 8001",
+    help: "Sender of the transaction, such as 8001",
 };
 
 const TO: Word = Word::Value {
     id: "to",
-    help: "Its receivers, each with the right that a lend or a share grants or a retrieve asks for: 8002:rw,8003:ro",
+    help: "Receivers, such as 8002:rw,8003:ro; donate and relinquish take no right",
 };
 
 const PAGES: Word = Word::Value {
     id: "pages",
-    help: "Its ranges, each with how many pages, in hexadecimal, with 0x or without: 40021000+1,40025000+2",
+    help: "Ranges as ADDRESS+PAGES in hexadecimal, such as 40021000+1,40025000+2",
 };
 
 const HANDLE: Word = Word::Value {
     id: "handle",
-    help: "The handle of what is retrieved, relinquished or reclaimed, as 0000800100000001",
+    help: "Handle of the transaction, such as 0000800100000001",
 };
 
 const TAG: Word = Word::Value {
     id: "tag",
-    help: "The tag; 0 where it isn't given",
+    help: "Tag of the transaction [default: 0]",
 };
 
 const OF: Word = Word::Value {
     id: "of",
-    help: "The kind of what is retrieved: share, lend or donate; left open where it isn't given",
+    help: "Kind to retrieve: share, lend or donate [default: any]",
 };
 
 const ZERO: Word = Word::Flag {
     id: "zero",
-    help: "Zeroes the pages as they are donated, lent, relinquished or reclaimed",
+    help: "Zero the pages; not for share or retrieve",
 };
 
 const COMPACT: Word = Word::Flag {
     id: "compact",
-    help: "Writes the form of an endpoint whose version is \"compact\"",
+    help: "Write the \"compact\" form of the descriptor",
 };
 
 const VERSIONS: Word = Word::Value {
     id: "manifest",
-    help: "The machine's manifest: the form is that of its endpoint that calls; - is standard input",
+    help: "Manifest with the caller's form, or - for standard input",
 };
 
 const SEED: Word = Word::Number {
     id: "seed",
-    help: "Which trace it is: the same for a seed on each run",
+    help: "Seed; the same seed generates the same trace",
     usual: "1",
 };
 
 const LINES: Word = Word::Number {
     id: "lines",
-    help: "How many lines it has",
+    help: "Number of lines",
     usual: "1000",
 };
 
 const COUNT: Word = Word::Flag {
     id: "count",
-    help: "Prints how often each call succeeded and each error and fault came, in place of the trace",
+    help: "Print counts of successes, errors, faults and checks instead",
 };
 
 const DESCRIPTOR: Entry = Entry {
     name: "descriptor",
-    about: "Prints the lines of a trace that write a descriptor and make its call, or the call of a reclaim",
+    about: "Print trace lines that make a call on memory",
     words: &[
         KIND, TX_ADDRESS, FROM, TO, PAGES, HANDLE, TAG, OF, ZERO, COMPACT, VERSIONS,
     ],
@@ -314,33 +314,33 @@ const DESCRIPTOR: Entry = Entry {
 
 const GENERATE: Entry = Entry {
     name: "generate",
-    about: "Prints a trace for the machine of a manifest",
+    about: "Generate a random trace for the machine of a manifest",
     words: &[MANIFEST, SEED, LINES, COUNT, WORLDS, VERBOSE],
 };
 
 const FOLDERS: Word = Word::Paths {
     id: "folder",
-    help: "A folder: of each of its files NAME.trace the manifest is NAME.toml, or else machine.toml",
+    help: "Folder of NAME.trace files, each with NAME.toml or machine.toml",
 };
 
 const TAP: Word = Word::Flag {
     id: "tap",
-    help: "Tells what came of each as the Test Anything Protocol has it",
+    help: "Print results in the Test Anything Protocol",
 };
 
 const REACHED: Word = Word::Flag {
     id: "count",
-    help: "Prints behind it what all these traces reach: how often each call succeeded, each error and fault came, and each check was the first to fail",
+    help: "Also print counts of successes, errors, faults and checks",
 };
 
 const ALLOW_UNGUARDED: Word = Word::Flag {
     id: "allow-unguarded",
-    help: "Lets a trace pass that has no guard, and so asks nothing",
+    help: "Let a trace without guards pass",
 };
 
 const TEST: Entry = Entry {
     name: "test",
-    about: "Plays the traces of folders, and checks their guards",
+    about: "Play all traces of folders and check their guards",
     words: &[
         FOLDERS,
         TAP,
@@ -354,29 +354,29 @@ const TEST: Entry = Entry {
 
 const EVERY: Word = Word::Number {
     id: "every",
-    help: "A row for each line whose number is a multiple of this; with 0 for each that changes a cell",
+    help: "Draw a row every N lines; 0 draws each change",
     usual: "0",
 };
 
 const WIDTH: Word = Word::Number {
     id: "width",
-    help: "The width in pixels that it is to fit; with 0 as its columns take it",
+    help: "Narrow columns to fit N pixels; 0 keeps their width",
     usual: "0",
 };
 
 const REFUSED: Word = Word::Flag {
     id: "refused",
-    help: "A row for each call that is refused, too",
+    help: "Also draw a row for each refused call",
 };
 
 const PAGE: Word = Word::Flag {
     id: "page",
-    help: "Prints a page of HTML to look at line by line, in place of an SVG",
+    help: "Print an HTML page to step through instead of SVG",
 };
 
 const PICTURE: Entry = Entry {
     name: "picture",
-    about: "Prints a picture, as SVG, of who reaches which page along a trace",
+    about: "Draw each endpoint's access along a trace, as SVG",
     words: &[
         MANIFEST, TRACE, EVERY, WIDTH, REFUSED, PAGE, PROCESSORS, WORLDS, WORDS, VERBOSE,
     ],
@@ -384,7 +384,7 @@ const PICTURE: Entry = Entry {
 
 const LOWER: Entry = Entry {
     name: "lower",
-    about: "Prints a trace in words as one of the plain format",
+    about: "Convert a trace with named calls to the plain format",
     words: &[TRACE, VERBOSE],
 };
 
@@ -414,7 +414,7 @@ fn arg<'a>(alloc: Global, word: &Word<'a>) -> Arg<'a>
     }
 }
 
-// The command with these words.
+// The command with these words added.
 fn with_words<'a>(
     alloc: Global,
     mut command: Command<'a>,
@@ -441,13 +441,13 @@ fn command<'a>(alloc: Global, entry: &Entry<'a>) -> Result<Command<'a>, AllocErr
     )
 }
 
-// Help names the program by its own name, whatever the first word is.
+// The program without commands. Its help has the name `ffaplay`, whatever the first word is.
 #[tactic(auto, unfolding(crate::specs::Commands::bare))]
 fn bare<'a>(alloc: Global) -> Result<Command<'a>, AllocError>
     ensures { IfOk result (λ c. app_of c ≡ bare) }
 {
     Command::new(alloc, "ffaplay")
-        .about("Plays FF-A calls and memory accesses on a small machine")
+        .about("Play FF-A calls and memory accesses on a simulated machine")
         .version(VERSION_TEXT)
         .after_help(AFTER_HELP)
         .subcommand_required(true)
@@ -465,7 +465,7 @@ fn with_commands<'a>(alloc: Global, entries: &[Entry<'a>]) -> Result<Command<'a>
     Ok(program)
 }
 
-/// The program's command line.
+/// The command line of the program, for `clap`.
 #[tactic(auto, unfolding(crate::specs::Commands::program, crate::specs::Commands::run_app, crate::specs::Commands::demo_app, crate::specs::Commands::record_app, crate::specs::Commands::compare_app, crate::specs::Commands::check_app, crate::specs::Commands::layout_app, crate::specs::Commands::descriptor_app, crate::specs::Commands::generate_app, crate::specs::Commands::picture_app, crate::specs::Commands::test_app, crate::specs::Commands::lower_app))]
 pub(crate) fn program<'a>(alloc: Global) -> Result<Command<'a>, AllocError>
     ensures { IfOk result (λ c. app_of c ≡ program) }
