@@ -205,7 +205,7 @@ enum gorseplumb_answer {
     GORSEPLUMB_OK = 0,
     GORSEPLUMB_NO_MEMORY = 1, /* an allocation was refused */
 
-    /* The manifest is refused: the first cause that applies, as docs/FORMATS.md numbers them (M2 to M14, and below M25). */
+    /* The manifest is refused: the first cause that applies, as docs/MANIFEST.md numbers them (M2 to M14, and below M25). */
     GORSEPLUMB_MANIFEST_TOML = 2,            /* the text is no TOML, or no UTF-8 */
     GORSEPLUMB_MANIFEST_UNKNOWN_KEY = 3,     /* a key that its table doesn't have */
     GORSEPLUMB_MANIFEST_MISSING_KEY = 4,     /* a table lacks one of its keys */

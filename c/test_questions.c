@@ -2,7 +2,7 @@
 /* The questions, asked of a struct in memory that can only be read: how many pages a list has; and of the machine of
  * machine.toml.h, whose endpoint 0000 has the 16 pages from 40010000 on, 8001 those from 40020000 and 8002 those from
  * 40030000, while 8001 lends a page to 8002 and shares one with it; and of no machine. Addresses of tables are as
- * docs/FORMATS.md has them, handles and descriptors as docs/MEMORY.md. */
+ * docs/MANIFEST.md has them, handles and descriptors as docs/MEMORY.md. */
 #define _DEFAULT_SOURCE
 #include <stdio.h>
 #include <string.h>

@@ -31,7 +31,7 @@ def test_tells_of_ram(partitions: Machine) -> None:
 
 
 def test_tells_of_roots(partitions: Machine) -> None:
-    # docs/FORMATS.md, `layout` of this manifest
+    # docs/MANIFEST.md, `layout` of this manifest
     assert [partitions.root(endpoint) for endpoint in partitions.endpoints] == [0x40000000, 0x40004000, 0x40008000]
     with pytest.raises(NoSuchEndpoint):
         partitions.root(0x8003)

@@ -40,18 +40,18 @@ def test_checks_and_flaws_are_printed_by_their_words() -> None:
 
 
 def test_causes_are_those_of_the_manual() -> None:
-    told = re.findall(r"^\| (M\d+ \w+) \|", (TOP / "docs" / "FORMATS.md").read_text(), re.M)
+    told = re.findall(r"^\| (M\d+ \w+) \|", (TOP / "docs" / "MANIFEST.md").read_text(), re.M)
     assert [cause.text for cause in Cause] == told[1:]
     assert told[0] == "M1 NoMemory"
 
 
 def test_words_of_faults_rights_and_versions_are_those_of_the_manual() -> None:
-    page = (TOP / "docs" / "FORMATS.md").read_text()
+    traces, manifest = (source(f"docs/{page}.md") for page in ("TRACES", "MANIFEST"))
     for fault in Fault:
-        assert f"`fault {fault.text}`" in page
+        assert f"`fault {fault.text}`" in traces
     for right in Right:
-        assert f"`{right.text}`" in page
-    assert all(f'`"{form.text}"`' in page for form in Form)
+        assert f"`{right.text}`" in manifest
+    assert all(f'`"{form.text}"`' in manifest for form in Form)
 
 
 def test_numbers_are_those_of_the_header() -> None:

@@ -58,7 +58,7 @@ def test_comes_back_when_nobody_has_the_machine() -> None:
     Machine(MANIFEST, ram)
     gc.collect()
     assert not ram.is_lent
-    # docs/FORMATS.md: level 1 of the first endpoint has, in the place of 40000000, the address of level 2, plus 3
+    # docs/MANIFEST.md: level 1 of the first endpoint has, in the place of 40000000, the address of level 2, plus 3
     assert ram.read(8, 8) == (RAM + 0x1000 + 3).to_bytes(8, "little")
 
 

@@ -85,7 +85,7 @@ impl fmt::Display for ErrorCode {
 }
 
 codes! {
-    /// Why a manifest is refused: the first cause that applies, by its number in docs/FORMATS.md (M2 to M14, and M25).
+    /// Why a manifest is refused: the first cause that applies, by its number in docs/MANIFEST.md (M2 to M14, and M25).
     pub enum Cause: u32 {
         2 Toml "the text is no TOML, or no UTF-8",
         3 UnknownKey "a table has a key that it may not have",

@@ -12,7 +12,7 @@ use gorseplumb::{
 /// Stands for all of the text from the first endpoint on.
 const ENDPOINTS: &str = "[[endpoint]] ..";
 
-/// The change of examples/machine.toml that has a cause: what stands there, and what takes its place. docs/FORMATS.md
+/// The change of examples/machine.toml that has a cause: what stands there, and what takes its place. docs/MANIFEST.md
 /// has the causes.
 fn change(cause: Cause) -> (&'static str, &'static str) {
     match cause {

@@ -11,10 +11,10 @@ use std::fs;
 const FIRST: Id = Id(0x8001);
 const SECOND: Id = Id(0x8002);
 
-/// The lines of `audit` in docs/FORMATS.md, on the built-in machine.
+/// The lines of `audit` in docs/TRACES.md, on the built-in machine.
 #[test]
 fn the_manuals_certificate() {
-    let page = fs::read_to_string(top().join("docs/FORMATS.md")).unwrap();
+    let page = fs::read_to_string(top().join("docs/TRACES.md")).unwrap();
     let lines = page.lines().skip_while(|line| !line.starts_with("    cert ")).take_while(|line| !line.is_empty());
     let expected: String = lines.map(|line| line.trim_start().to_owned() + "\n").collect();
     let text = example("machine.toml");
@@ -37,7 +37,7 @@ fn certificates_are_what_the_program_prints() {
     }
 }
 
-/// The lines of `layout` in docs/FORMATS.md, for the worked example.
+/// The lines of `layout` in docs/MANIFEST.md, for the worked example.
 #[test]
 fn where_tables_stand() {
     let machine = Machine::boot(&PARTITIONS).unwrap();

@@ -30,7 +30,7 @@ fn manual() -> BTreeMap<String, Vec<ErrorCode>> {
 
 /// The rows of a list of checks: how many checks a row has, and their code.
 fn listed(body: &str) -> Vec<(usize, ErrorCode)> {
-    let table = body.split("| Check | Applies where | Code |\n|---|---|---|\n").nth(1).unwrap_or("");
+    let table = body.split("| Check | Applies if | Code |\n|---|---|---|\n").nth(1).unwrap_or("");
     let rows = table.lines().take_while(|line| line.starts_with("| "));
     let row = |line: &str| {
         let cells: Vec<&str> =

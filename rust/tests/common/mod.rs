@@ -1,5 +1,5 @@
 // SPDX-License-Identifier: MIT OR Apache-2.0
-//! Plays lines of a trace on a machine, and says what the program would print of them. docs/FORMATS.md has the lines.
+//! Plays lines of a trace on a machine, and says what the program would print of them. docs/TRACES.md has the lines.
 #![allow(dead_code)] // each test takes a part of it
 
 pub mod explained;
