@@ -1,75 +1,85 @@
 # SPDX-License-Identifier: MIT OR Apache-2.0
-# What is run here, each by one line. Every target needs the toolchain's rt on the path; what else it needs it says itself.
+# Each target runs a script. `make` prints them, with the lines below that begin with two number signs. Every target but `help` needs the
+# toolchain's rt on your path. If a script needs more, it says so.
 
-# How many processes prove, try wrong bodies or run tests at a time, each of which takes some 4 GB of memory. Where it isn't given, ./prove
-# takes one for each processor that has 4 GB of free memory, wrong bodies are tried by four, and tests run by one for each processor.
-JOBS =
-# The commit from which `quick` takes what differs.
-AGAINST =
-# The crates whose wrong bodies `wrong` tries; all where none is named.
-CRATES =
+.PHONY: help test quick gate prove wrong c rust python board linux secure docs page bench
 
-.PHONY: test quick gate prove wrong c rust python board linux secure docs page bench
+## Print these lines
+help:
+	@awk -F '[ :]' '/^## / { what = substr($$0, 4) } what && /^[A-Za-z]+( =|:)/ { printf "%-14s%s\n", / =/ ? $$1 "=.." : "make " $$1, what; what = "" }' Makefile
 
-# All tests over unproved builds, side by side, from a fresh clone in minutes: it proves nothing.
+## Test everything over unproved builds, in minutes
+# It proves nothing.
 test:
 	tests/all $(if $(JOBS),--jobs $(JOBS))
 
-# Before each commit: the crates that differ from where the branch left origin/main, lowest first, their wrong bodies that turn what
-# differs, and the tests that name these crates, without proofs, for five minutes at most: what these didn't reach is said, and is no
-# failure. AGAINST=COMMIT takes another commit.
+## Prove and test the crates that you changed, before a commit
+# It takes the crates that differ from where the branch left origin/main, the lowest first. It lays out and proves each. Then it tries the wrong
+# bodies that edit a changed file, or that changed themselves. Last it runs the tests that name these crates, without proofs, for at most five
+# minutes. It prints which tests it did not reach, and does not fail because of them.
 quick:
 	bench/changed --tests $(AGAINST)
 
-# The merge gate, as CI runs it: all tests unproved, every proof from nothing, the wrong bodies, the tests, the programs.
+## Run the merge gate, as CI does
+# The gate has all tests unproved, every proof from nothing, wrong bodies, and the tests over the proved program and libraries.
 gate:
 	.ci/run
 
-# Proves and builds the program, and tells of each crate as it is proved.
+## Prove and build the program
 prove:
 	./ffaplay prove $(if $(JOBS),--jobs $(JOBS))
 
-# Tries all wrong bodies, of which a landing tries some, over what is kept. The last line counts them. CRATES takes those of these crates
-# alone, in this order.
+## Try all wrong bodies over the proofs that are kept
+# A landing tries only some. The last line counts them.
 wrong:
 	bench/wrong-bodies --all --jobs $(or $(JOBS),4) $(CRATES)
 
-# Builds and runs the core as a C library.
+## Build the library for C and test it
 c:
 	c/test.sh
 
-# Builds and runs the crate for Rust over that library.
+## Build the crate for Rust and test it
 rust:
 	rust/test.sh
 
-# Builds the package for Python over that library, and tests it.
+## Build the package for Python and test it
 python:
 	python/test.sh
 
-# Runs the core as a board's firmware under QEMU.
+## Run the library in a board's firmware, under QEMU
 board:
 	board/run.sh
 
-# Runs Linux as the normal world of the core, under QEMU.
+## Run Linux as the library's normal world, under QEMU
 linux:
 	board/linux/run.sh
 
-# Runs the core as the manager of the secure world that TF-A boots, under QEMU.
+## Run the library as TF-A's secure partition manager, under QEMU
 secure:
 	board/secure/run.sh
 
-# Compares the pages and licence lines with the code, what other languages have of its tables, each list of calls with the definitions'
-# table, C's names with the crates', the manual's lists of checks with the definitions, and its pictures with what the program draws; and
-# adds the example's call to a copy. It proves nothing. All are run, and the last line names those that failed.
+## Compare the pages with the code
+# The scripts also check licence lines, the tables in other languages, each list of calls, the names in C, the manual's lists of checks and its
+# pictures, and add the example's call to a copy. They prove nothing. All of them run, and the last line names those that failed.
 OF_THE_PAGES = tests/docs tests/licence-lines tests/copies tests/calls tests/names tests/manual-checks tests/a-call tests/pictures
 docs:
 	@failed=; for each in $(OF_THE_PAGES); do echo $$each; $$each || failed="$$failed $$each"; done; \
 	[ -z "$$failed" ] || { echo "failed:$$failed"; exit 1; }
 
-# Looks at the page of a trace in a browser without a window.
+## Test the page of a trace in a browser
 page:
 	tests/page
 
-# Measures the program: accesses, transactions, pictures, memory and stack, and instructions, which need valgrind.
+## Measure the program
+# It measures accesses, transactions, pictures, memory and stack, and, with valgrind, instructions.
 bench:
 	bench/accesses && bench/transactions && bench/pictures && bench/memory && bench/instructions
+
+## How many at a time (for prove, wrong and test)
+# Each process that proves takes some 4 GB of memory. If you do not give a number, ./prove starts one process for each processor that has 4 GB of
+# free memory, bench/wrong-bodies four, and tests/all one job for each processor.
+JOBS =
+## Commit to compare with (for quick)
+AGAINST =
+## Crates whose wrong bodies to try (for wrong)
+CRATES =

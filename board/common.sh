@@ -1,5 +1,5 @@
 # SPDX-License-Identifier: MIT OR Apache-2.0
-# What the board's scripts have in common. Who reads this in has a name, `me`, by which it speaks, and its own `usage`.
+# Functions that the board's scripts share. A script that sources this file sets `me`, the name in its messages, and has its own `usage`.
 board=$(cd "$(dirname "${BASH_SOURCE[0]}")" && pwd)
 top=$(dirname "$board")
 player=${FFAPLAY:-$top/ffaplay} # the program, which judges
@@ -35,11 +35,11 @@ trap 'exit 130' INT
 is_count() { [[ $1 =~ ^(0|[1-9][0-9]{0,8})$ ]]; }
 
 # A number of processors, of --jobs: check_jobs NUMBER
-check_jobs() { [[ $1 =~ ^[1-9][0-9]{0,3}$ ]] || refuse "--jobs is a number of processors from 1 on, and not $1"; }
+check_jobs() { [[ $1 =~ ^[1-9][0-9]{0,3}$ ]] || refuse "--jobs $1: must be a number of processors from 1 to 9999"; }
 
 # Makes the folder $to, which is gone when the script ends.
 make_room() {
-    to=$(mktemp -d) || fail "there is no room for what is built: TMPDIR says where"
+    to=$(mktemp -d) || fail "cannot make a folder in ${TMPDIR:-/tmp}; set TMPDIR to another place"
     trap end EXIT
     needs_room "$to" "$1"
 }
@@ -58,13 +58,13 @@ end() {
 needs_room() {
     local free
     free=$(df --output=avail -B 1M "$1" | tail -n 1)
-    ((free >= $2)) || fail "$1 has $((free)) MB free, and $2 MB are needed"
+    ((free >= $2)) || fail "$1 has $((free)) MB free; this needs $2 MB"
 }
 
 # Refuses a folder in which make can't work: check_folder FOLDER
 check_folder() {
     local marks=${1//[\/._+@~=-]/}
-    [[ ! $marks =~ [[:space:][:punct:]] ]] || fail "make can't work in '$1': a folder's name may have no space, no comma and no mark but /._+@~=-"
+    [[ ! $marks =~ [[:space:][:punct:]] ]] || fail "make cannot work in '$1': a folder's name may have only letters, digits and /._+@~=-"
 }
 
 # Waits until no other process has a lock, and says for whom it waits: take_lock FILE. By `held` it is given back.
@@ -98,17 +98,17 @@ default_work=${TMPDIR:-/tmp}/gorseplumb-boards
 # Installs Debian's packages: install_packages PACKAGE..
 install_packages() {
     local log
-    command -v apt-get >/dev/null || fail "there is no apt-get, by which --install installs Debian's $*"
-    log=$(apt-get update 2>&1 && apt-get install -y --no-install-recommends "$@" 2>&1) || fail "packages aren't installed: $log"
+    command -v apt-get >/dev/null || fail "there is no apt-get; --install needs it to install Debian's $*"
+    log=$(apt-get update 2>&1 && apt-get install -y --no-install-recommends "$@" 2>&1) || fail "cannot install the packages: $log"
 }
 
 # Whether commands are there, of packages that --install installs: needs "PACKAGE.." COMMAND..
 needs() {
     local command
     for command in "${@:2}"; do
-        command -v "$command" >/dev/null || fail "there is no $command: Debian has it in $1, which --install installs"
+        command -v "$command" >/dev/null || fail "there is no $command; --install installs it with Debian's $1"
     done
-    command -v rt >/dev/null || fail "there is no rt, the toolchain's command: README.md says what is needed"
+    command -v rt >/dev/null || fail "there is no rt, the toolchain's command, on your path; README.md says what you need"
 }
 
 target=aarch64-unknown-linux-gnu
@@ -121,15 +121,15 @@ archive_in() { echo "$1/$target${2:+-${2#--}}/libgorseplumb.a"; }
 check_given() {
     local file
     file=$(archive_in "${ARCHIVES:-}" "$@")
-    [[ -z ${ARCHIVES:-} || -f $file ]] || fail "ARCHIVES is $ARCHIVES, and there is no $file"
-    [[ -z ${FFAPLAY:-} || $only ]] || { command -v "$FFAPLAY" && "$FFAPLAY" --version; } >/dev/null || fail "FFAPLAY is $FFAPLAY, which can't be run"
+    [[ -z ${ARCHIVES:-} || -f $file ]] || fail "ARCHIVES is $ARCHIVES, but there is no $file"
+    [[ -z ${FFAPLAY:-} || $only ]] || { command -v "$FFAPLAY" && "$FFAPLAY" --version; } >/dev/null || fail "FFAPLAY is $FFAPLAY, but that program does not run"
 }
 
 # Sets `archive` to the core's archive for AArch64: the one that stands ready in the folder ARCHIVES, or the repository's own, which is
 # made: make_archive REPOSITORY [--general-registers]
 make_archive() {
     archive=$(archive_in "${ARCHIVES:-$1/out}" "${@:2}")
-    [[ ${ARCHIVES:-} ]] || "$1/c/archive" --target $target "${@:2}" >&2 || fail "the archive isn't made, c/archive ended with $?"
+    [[ ${ARCHIVES:-} ]] || "$1/c/archive" --target $target "${@:2}" >&2 || fail "c/archive did not make the library, and ended with $?"
 }
 
 # A file that QEMU puts somewhere, as two of its words: loader FILE ADDRESS
@@ -144,7 +144,7 @@ emulate() {
     : >"$to/uart"
     (cd "$to" && timeout --foreground "${limit:-300}" "$emulator" -nodefaults -display none -serial file:uart "$@" </dev/null >&2) || status=$?
     if ((status == 124)); then
-        late="it hasn't ended after ${limit:-300} seconds"
+        late="it did not end within ${limit:-300} seconds"
         cut_last_line "$to/uart"
         echo "! $late" >>"$to/uart"
     elif ((status)); then

@@ -1,7 +1,7 @@
 #!/usr/bin/env bash
 # SPDX-License-Identifier: MIT OR Apache-2.0
-# Builds the board's firmware over the core's library for AArch64, has QEMU run each scene on it, and compares what the processor did with what the
-# program ffaplay prints of the same operations. With --help it says more.
+# Builds the board's firmware over the library for AArch64, runs each scene on it under QEMU, and compares what the processor did with what ffaplay
+# prints for the same operations. --help says more.
 set -euo pipefail
 me=board
 . "$(dirname "${BASH_SOURCE[0]}")/common.sh"
@@ -11,36 +11,40 @@ packages=(qemu-system-arm gcc-aarch64-linux-gnu)
 
 usage() {
     cat <<'HELP'
-board/run.sh [--install] [--build-only | --keep FOLDER] [--seed N] [--operations N] [--rounds N]
-    [--break-root | --break-vectors | --break-settling | --break-zeros-first | --break-zeros-last | --break-resumed | --break-untold] [SCENE..]
+usage: board/run.sh [--install] [--build-only | --keep FOLDER] [--seed N] [--operations N] [--rounds N]
+           [--break-NAME | SCENE..]
 
-Runs scenes on QEMU's machine `virt`, and compares: all of them, or those that are named, as `lend`. A name that is none of them has them listed, each
-with its machine. All take some minutes, and one some seconds, where the library and the program are there. Else both are proved first, which takes some
-50 minutes on four processors. A scene has 300 seconds.
+Runs scenes on QEMU's machine `virt`, and compares what the processor did with what the program prints. With neither a
+scene nor a --break it runs all scenes, and then tries every --break. If you name a scene that does not exist, it lists
+all scenes, each with its machine. A scene may take 300 seconds.
 
-  --install             installs Debian's packages for it first: qemu-system-arm and gcc-aarch64-linux-gnu
-  --build-only          builds the firmwares, but for those over a core that its proofs refuse, and runs none
-  --keep FOLDER         leaves what each scene printed in this folder: FIRMWARE-PROCESSOR-SCENE.uart, and its .trace, .found and .expected
-  --seed N              the seed of operations that are made up; 1 where none is given
-  --operations N        how many of them; 10000 where nothing is given
-  --rounds N            how often pages are offered and had back while a second processor watches, and partitions of two processors are asked at
-                        once; 60 where nothing is given
-  --break-root          builds a firmware in which one endpoint runs with another's tables, and wants a difference to be found
-  --break-vectors       builds one that doesn't save vector registers, and wants a difference to be found
-  --break-settling      builds one that forgets no translation when the core asks for it, and wants the second processor to see it
-  --break-zeros-first   compiles, without proofs, a core that writes zeros before it takes a right, and wants the second processor to see it
-  --break-zeros-last    the same of one that writes zeros behind the right that it gives
-  --break-resumed       builds a firmware that writes registers of a partition that goes on behind an interrupt, and wants it to be found
-  --break-untold        builds one that doesn't tell the core of an interrupt, and wants it to be found
+All scenes take some minutes, one scene some seconds. Without ARCHIVES and FFAPLAY it first proves the library and the
+program, if they are not proved yet. From nothing this takes about 50 minutes on four processors.
 
-Without a --break and a SCENE all of them are tried at the end, too.
+  --install            first install Debian's qemu-system-arm and gcc-aarch64-linux-gnu
+  --build-only         build the firmwares, except those of unproved libraries, and run nothing
+  --keep FOLDER        keep each scene's output: FOLDER/FIRMWARE-PROCESSOR-SCENE.uart, .trace, .found and .expected
+  --seed N             seed of the operations that are generated [default: 1]
+  --operations N       number of operations that are generated [default: 10000]
+  --rounds N           number of rounds in watch-owner, watch-borrower and several-two [default: 60]
 
-Two variables of the environment have it take what is there, and prove nothing:
+Each --break builds a wrong firmware or library, which a scene must find:
 
-  ARCHIVES=FOLDER       the library is FOLDER/aarch64-unknown-linux-gnu/libgorseplumb.a
-  FFAPLAY=FILE          the program that judges is FILE
+  --break-root         the firmware runs one endpoint with another's tables
+  --break-vectors      the firmware does not save vector registers
+  --break-settling     the firmware's gorseplumb_settle forgets no translation
+  --break-resumed      the firmware writes registers of a partition that resumes after an interrupt
+  --break-untold       the firmware does not report interrupts to the library
+  --break-zeros-first  the library, compiled without proofs, zeroes pages before it takes away a right
+  --break-zeros-last   the library, compiled without proofs, zeroes pages after it grants a right
 
-It ends with 0 and `passed`, with 1 and what differs or is missing, or with 64 where the words are none of these.
+Two environment variables name ready builds. With both, nothing is proved:
+
+  ARCHIVES=FOLDER      use the library FOLDER/aarch64-unknown-linux-gnu/libgorseplumb.a
+  FFAPLAY=FILE         compare with this program
+
+Status: 0, and the last line is `passed`; 1 if something differs or is missing; 64 if the arguments are wrong; 130 after
+Ctrl-C.
 HELP
 }
 
@@ -50,22 +54,22 @@ while (($#)); do
         --install) install=yes ;;
         --build-only) only=yes ;;
         --keep | --seed | --operations | --rounds)
-            [[ ${2:-} ]] || refuse "$1 needs a word behind it"
+            [[ ${2:-} ]] || refuse "$1 needs a value"
             declare "${1#--}=$2"
             shift
             ;;
         --break-root | --break-vectors | --break-settling | --break-zeros-first | --break-zeros-last | --break-resumed | --break-untold) breaks+=("${1#--break-}") ;;
         --help) usage && exit 0 ;;
-        -*) refuse "there is no $1" ;;
+        -*) refuse "there is no flag $1" ;;
         *) names+=("$1") ;;
     esac
     shift
 done
-is_count "$seed" || refuse "the seed is a number below a thousand million, and not $seed"
-is_count "$operations" || refuse "the number of operations is one below a thousand million, and not $operations"
-is_count "$rounds" || refuse "the number of rounds is one below a thousand million, and not $rounds"
-((${#breaks[@]} < 2)) || refuse "one --break at a time"
-((${#breaks[@]} == 0 || ${#names[@]} == 0)) || refuse "a --break names its scenes itself"
+is_count "$seed" || refuse "--seed $seed: must be a number from 0 to 999999999"
+is_count "$operations" || refuse "--operations $operations: must be a number from 0 to 999999999"
+is_count "$rounds" || refuse "--rounds $rounds: must be a number from 0 to 999999999"
+((${#breaks[@]} < 2)) || refuse "give only one --break"
+((${#breaks[@]} == 0 || ${#names[@]} == 0)) || refuse "a --break chooses its scenes; do not name any"
 if [[ $install ]]; then install_packages "${packages[@]}"; fi
 needs "${packages[*]}" $compiler $copier $([[ $only ]] || echo $emulator)
 check_given
@@ -108,7 +112,7 @@ play() {
     fi
     mapfile -t devices < <(loader "$3" 48000000 && loader "$4" 49000000)
     emulate -kernel "$to/$1.elf" -machine $machine -accel tcg,thread=multi -smp "$processors" -cpu "$2" -m $memory "${devices[@]}"
-    "${judge[@]}" "$3" "$to/trace" >"$to/expected" || fail "the program doesn't play what $(basename "$4") did"
+    "${judge[@]}" "$3" "$to/trace" >"$to/expected" || fail "the program does not play what $(basename "$4") did"
     if [[ $keep ]]; then keep_scene "$1-$2-$(basename "$4")"; fi
     has_end && ! grep -q '^!' "$to/uart" && cmp -s "$to/expected" "$to/found"
 }
@@ -146,7 +150,7 @@ count() { grep -c "^$1" "$2" || true; }
 # The first lines that differ, of the program and of the processor, and why the board stopped where it did.
 difference() {
     { diff "$to/expected" "$to/found" || true; } | awk '/^</ && !expected++ || /^>/ && !found++'
-    grep '^!' "$to/uart" || has_end || echo "! the board didn't come to the scene's end"
+    grep '^!' "$to/uart" || has_end || echo "! the board did not reach the end of the scene"
 }
 
 # The line of the scene at which the board stopped since it is none of a trace, as NUMBER: WHY.
@@ -159,12 +163,12 @@ agree() {
     if ! play "$@"; then
         line=$(wrong_line)
         [[ -z $line ]] || fail "$4:$line: $(sed -n "${line%%:*}p" "$4")"
-        [[ -z $late ]] || fail "$name: $1 on $2: $late; fewer --operations or --rounds take less"
+        [[ -z $late ]] || fail "$name: $1 on $2: $late; use fewer --operations or --rounds"
         echo "$name: $1 on $2 differs from the program (< the program, > the processor):" >&2
         difference >&2
         fail "$name differs"
     fi
-    whole "$4" || fail "$name: $1 on $2 left lines out"
+    whole "$4" || fail "$name: $1 on $2 left out lines of the scene"
     echo "$name: $1 on $2, $(basename "$3"): $(wc -l <"$to/trace") operations, $(count fault "$to/found") faults," \
         "$(count fetch "$to/trace") fetches: as the program prints them"
     sed -n 's/^= the/the/p' "$to/uart"
@@ -246,7 +250,7 @@ choose_scenes() {
         for i in "${!all_traces[@]}"; do
             if [[ $(name_of_scene "${all_traces[i]}") == "$name" ]]; then add "${all_manifests[i]}" "${all_traces[i]}" && continue 2; fi
         done
-        fail "there is no scene $name, but$all"
+        fail "there is no scene $name; the scenes are$all"
     done
 }
 
@@ -294,7 +298,7 @@ found() {
             return
         fi
     done
-    fail "$2: no scene finds it"
+    fail "$2: no scene found it"
 }
 
 # A firmware over a core that its proofs refuse, by an edit of board/broken, and the scene of two processors that shows it.
@@ -319,12 +323,12 @@ find_break() {
     build_break "$1"
     case $1 in
         root) found wrong-root "an endpoint with another's tables" ;;
-        vectors) found no-vectors "vector registers that aren't saved" ;;
+        vectors) found no-vectors "vector registers that are not saved" ;;
         settling) found no-settling "translations that are kept" watch ;;
-        resumed) found written "registers of a partition that goes on" several ;;
-        untold) found untold "an interrupt that the core isn't told" several ;;
-        zeros-first) find_unproved zeros-first "zeros before a right is taken" ;;
-        zeros-last) find_unproved zeros-last "zeros behind a right that is given" ;;
+        resumed) found written "written registers of a partition that resumes" several ;;
+        untold) found untold "an interrupt that is not reported" several ;;
+        zeros-first) find_unproved zeros-first "zeros before a right is taken away" ;;
+        zeros-last) find_unproved zeros-last "zeros after a right is granted" ;;
     esac
 }
 

@@ -1,18 +1,29 @@
 #!/usr/bin/env bash
 # SPDX-License-Identifier: MIT OR Apache-2.0
-# Builds the C library and what stands in this folder over it, with every warning an error, and runs it: the tests under
-# sanitizers and valgrind and over a shared library, those of copies of bytes and of floating point, the example, the
-# traces of examples/ through the border beside the program, reasons too, texts on a stack of 256 KiB, and links with no
-# C library, of which one runs on a stack of 64 KiB; the archive for general registers alone; for AArch64 too, where
-# there are a compiler and an emulator for it, or with x86-64 or AArch64 for that alone. With --install it first installs
-# Debian's packages for that; with --install-only it does nothing else.
+# Builds the library for C, builds the programs of this folder over it with every warning an error, and runs them:
+#
+# - the tests, with sanitizers, under valgrind, and over a shared library; the tests of bytes.c and floats.c; the example
+# - the traces of examples/ and a generated one, through the C interface: outcomes and reasons must be the program's
+# - texts on a stack of 256 KiB; programs without a C library, one of them on a stack of 64 KiB
+# - the library for general registers
+#
+# usage: c/test.sh [--install | --install-only] [x86-64 | AArch64]
+#
+#   --install        first install Debian's packages of compilers, valgrind and QEMU
+#   --install-only   install these packages and do nothing else
+#   x86-64, AArch64  test only this processor; AArch64 needs a compiler and an emulator
+#
+# ARCHIVES=FOLDER has ready libraries, TARGET/libgorseplumb.a; UNPROVED=1 says that they are not proved. FFAPLAY=FILE is the program to
+# compare with. Without these variables the script proves and builds both.
+#
+# Status: 0 if all tests that ran passed; the last line says whether all ran. 2 if the arguments are wrong; otherwise another number.
 set -euo pipefail
 here=$(cd "$(dirname "${BASH_SOURCE[0]}")" && pwd)
 top=$(dirname "$here")
-player=${FFAPLAY:-$top/ffaplay} # the program, whose answers to traces are compared
+player=${FFAPLAY:-$top/ffaplay} # the program to compare with
 packages="gcc g++ clang valgrind libc6-dev gcc-aarch64-linux-gnu libc6-dev-arm64-cross qemu-user-static"
 if [[ ${1:-} == --install* ]]; then
-    { apt-get update && apt-get install -y $packages; } >/dev/null || echo "not all packages were installed"
+    { apt-get update && apt-get install -y $packages; } >/dev/null || echo "could not install all of: $packages"
 fi
 if [[ ${1:-} == --install-only ]]; then exit 0; fi
 only= # the processor that is given, or both
@@ -32,9 +43,8 @@ deep=${UNPROVED:+-DGORSEPLUMB_STACK_BYTES=0x80000} # what tests/all compiled wit
 renamed="-Dmemcpy=copy_bytes -Dmemmove=move_bytes -Dmemset=set_bytes" # bytes.c beside a C library, which has these
 missing=0
 
-# Sets `made` to the archive for a target: the one that stands ready in the folder ARCHIVES, which is like out/; or, where no folder is
-# given, out/'s own, which c/archive makes: what of it isn't proved it proves, as it says. That for general registers alone:
-# make_archive TARGET --general-registers
+# Sets `made` to the library for a target: the one in the folder ARCHIVES, which is like out/. Without that variable c/archive makes the one
+# in out/, and proves what is not proved: make_archive TARGET [--general-registers]
 make_archive() {
     made=${ARCHIVES:-$top/out}/$1${2:+-general-registers}/libgorseplumb.a
     if [[ -z ${ARCHIVES:-} ]]; then
@@ -47,10 +57,10 @@ make_archive() {
 }
 
 has() {
-    command -v "$1" >/dev/null || { echo "not run: no $1 (Debian has it in: $packages)"; missing=1; return 1; }
+    command -v "$1" >/dev/null || { echo "not run: there is no $1 (Debian has it in one of: $packages)"; missing=1; return 1; }
 }
 
-# Runs a program, and prints what it prints behind a name. Where the program doesn't end well, neither does this: says NAME COMMAND..
+# Runs a program, and prints a name before its output. If the program fails, the script ends: says NAME COMMAND..
 says() {
     local said status=0
     said=$("${@:2}") || status=$?
@@ -75,8 +85,8 @@ stores() {
         !writes_tables || /\(%rsp/ || /\[(sp|x29)/ { next }
         /\tmov[a-z]* +[%$][a-z0-9]+,-?(0x[0-9a-f]+)?\(%/ { if (($2 == "mov" && $3 ~ /^%r([abcd]x|[sd]i|bp|8|9|1[0-5]),/) || ($2 == "movq" && $3 ~ /^\$/)) whole++; else { print; others++ } }
         /\tst[a-z]*\t/ { if ($2 == "str" && $3 ~ /^x/) whole++; else { print; others++ } }
-        END { exit !(whole && !others) }' >&2 || { echo "$1: a word of a table isn't written by one store of 64 bits" >&2; exit 1; }
-    echo "$1: each store of the functions that write tables is of 64 bits"
+        END { exit !(whole && !others) }' >&2 || { echo "$1: the functions that write tables must have stores, and only stores of 64 bits" >&2; exit 1; }
+    echo "$1: each store of the functions that write tables has 64 bits"
 }
 
 # Whether no function of the whole archive leads to one that asks for memory, as they are compiled, but those by which
@@ -85,8 +95,8 @@ asks() {
     local found others
     found=$("$here/reaches" "$2" "$3" | sed 's/^gorseplumb_//' | tr '\n' ' ')
     others=$(tr ' ' '\n' <<<"$found" | grep -Evx '(boot.*|copy|copy_lent|read_manifest|why_text|audit|audit_tables|free|begin_lending|lend|lend_span|)' || true)
-    if [[ $others ]]; then echo "$1: asks for memory:" $others >&2; exit 1; fi
-    echo "$1: only these ask for memory: $found"
+    if [[ $others ]]; then echo "$1: these functions allocate memory, and must not:" $others >&2; exit 1; fi
+    echo "$1: only these functions allocate memory: $found"
 }
 
 # Prints how many instructions of an archive name a vector register, or one of floating point, and how many there are: vectors OBJDUMP
@@ -106,23 +116,23 @@ general() {
     read -r named all < <(vectors "$2" "$3")
     read -r others _ < <(vectors "$2" "$4")
     if ((named || !all || !others)); then
-        echo "$name: $named of $all instructions name a vector register, and $others of the other archive do" >&2
+        echo "$name: $named of $all instructions name a vector register, and must not; of the other library's instructions $others do" >&2
         exit 1
     fi
-    echo "$name, general registers alone: of $all instructions none names a vector register; of the other archive $others do"
+    echo "$name, general registers only: $all instructions name no vector register; of the other library's instructions $others do"
     local archive=$3 run=$5
     shift 5
     "$@" -pthread "$here"/{test,floats}.c "$archive" -o "$to/test"
-    says "$name, general registers alone, test" $run "$to/test"
+    says "$name, general registers only, test" $run "$to/test"
     "$@" "$here"/{play,heap,unsettled,floats}.c "$archive" -o "$to/play"
-    plays "$name, general registers alone" $run "$to/play"
+    plays "$name, general registers only" $run "$to/play"
     set -- "$@" -mgeneral-regs-only -ffreestanding -fno-stack-protector -nostdlib -static -Wl,--gc-sections
     "$@" "$here"/{freestanding,array,bytes}.c "$archive" -o "$to/free"
     $run "$to/free"
     "$@" -DGORSEPLUMB_ARRAY_BYTES=0x800000 "$here"/{small_stack,array,bytes,floats}.c "$archive" -o "$to/small"
-    says "$name, general registers alone, linked with no C library, $(bytes "$to/free") bytes" $run "$to/small"
+    says "$name, general registers only, without a C library, $(bytes "$to/free") bytes" $run "$to/small"
     named=$(nm -u "$archive" | sed -n '/ __wrap_write$/d; s/^ *U \(__.*\)/\1/p' | sort -u | tr '\n' ' ')
-    echo "$name, general registers alone: asked of floats.c: $named"
+    echo "$name, general registers only: the library calls these functions of floats.c: $named"
 }
 
 # The test over a shared library of the whole archive, none of whose code has to be changed for its address, as
@@ -140,7 +150,7 @@ moves() {
     local name=$1 archive=$2
     shift 2
     "$@" -static-pie -fpie -Wl,--gc-sections "$here"/{freestanding,array,bytes}.c "$archive" -o "$to/moved"
-    if readelf -rW "$to/moved" | grep ' R_'; then echo "$name: a program has to relocate itself" >&2; exit 1; fi
+    if readelf -rW "$to/moved" | grep ' R_'; then echo "$name: a position-independent program without texts has relocations, and must not" >&2; exit 1; fi
 }
 
 # A program without a gorseplumb_settle isn't linked, and is told that name; also one that has a `write` of its own, which the
@@ -150,14 +160,14 @@ unsettled() {
     shift 2
     echo 'long write(int, const void *, unsigned long); long write(int to, const void *at, unsigned long size) { return to + (at != 0) + (long)size; }' >"$to/write.c"
     if said=$("$@" -Dgorseplumb_settle=forgotten -Wl,--gc-sections "$here"/{freestanding,array,bytes}.c "$to/write.c" "$archive" -o "$to/unsettled" 2>&1); then
-        echo "$name: a program is linked that settles nothing" >&2
+        echo "$name: a program without gorseplumb_settle links, and must not" >&2
         exit 1
     fi
-    grep -q 'undefined .*gorseplumb_settle' <<<"$said" || { echo "$name: without gorseplumb_settle the linker says $said" >&2; exit 1; }
+    grep -q 'undefined .*gorseplumb_settle' <<<"$said" || { echo "$name: the linker must report that gorseplumb_settle is undefined, but says: $said" >&2; exit 1; }
     said=$(nm "$archive" 2>/dev/null | awk '$1 == "U" { asked[$2] } NF == 3 { had[$3] } END { for (name in asked) if (!(name in had)) print name }' |
         LC_ALL=C sort | tr '\n' ' ')
-    [[ $said == "gorseplumb_settle memcpy memmove memset rattle_alloc rattle_dealloc rattle_realloc " ]] || { echo "$name: asked of the program: $said" >&2; exit 1; }
-    echo "$name: a program without gorseplumb_settle isn't linked; asked of the program: $said"
+    [[ $said == "gorseplumb_settle memcpy memmove memset rattle_alloc rattle_dealloc rattle_realloc " ]] || { echo "$name: the library needs these functions of the program: $said; c/test.sh has the list that is allowed" >&2; exit 1; }
+    echo "$name: a program without gorseplumb_settle does not link; the library needs: $said"
 }
 
 # What the archive says of its proofs is what is known of it: version NAME ARCHIVE "RUN.." COMMAND..
@@ -167,7 +177,7 @@ version() {
     printf '#include <stdio.h>\n#include "gorseplumb.h"\nint main(void) { return puts(gorseplumb_version()) < 0; }\n' >"$to/version.c"
     "$@" "$to/version.c" "$archive" -Wl,--gc-sections -o "$to/version"
     said=$($run "$to/version")
-    [[ $said == "$wanted" ]] || { echo "$name: the library is of version $said, and not $wanted (UNPROVED=1 says that ARCHIVES isn't proved)" >&2; exit 1; }
+    [[ $said == "$wanted" ]] || { echo "$name: the library's version is $said; it must be $wanted (set UNPROVED=1 if the library is not proved)" >&2; exit 1; }
     echo "$name: version $said"
 }
 
@@ -178,11 +188,11 @@ ends() {
     for level in 0 1 2 3 s; do
         "$@" -O$level -c "$here/bytes.c" -o "$to/bytes.o"
         if readelf -rW "$to/bytes.o" | grep -E ' mem(cpy|move|set)( |$)' >&2; then
-            echo "$name: bytes.c by -O$level calls itself" >&2
+            echo "$name: with -O$level, bytes.c calls a function of its own, and must not" >&2
             exit 1
         fi
     done
-    echo "$name: bytes.c calls none of its own functions, at no level"
+    echo "$name: bytes.c calls no function of its own, at any level"
 }
 
 # The bytes of code and data of a program, as `size` adds them up.
@@ -204,10 +214,10 @@ plays() {
             if [[ $kind == several ]]; then of=(--processors 1); fi
             "$player" run "${of[@]}" "$machine" "$to/trace" >"$to/expected"
             "$@" $kind "$machine" "$to/trace" >"$to/played"
-            cmp "$to/expected" "$to/played" || { echo "$name: $kind: $pair differs" >&2; exit 1; }
+            cmp "$to/expected" "$to/played" || { echo "$name: $kind: the outcomes of $pair differ from the program's" >&2; exit 1; }
         done
     done
-    echo "$name: five traces and $(wc -l <"$to/generated") generated lines, on the heap's RAM, on lent pages, and by processor 0 of several: as the program prints them"
+    echo "$name: five traces and $(wc -l <"$to/generated") generated lines, in RAM of the heap, in lent pages, and on processor 0 of several: as the program prints them"
 }
 
 # Plays the generated lines, of which some are each of another processor, with interrupts: turns NAME COMMAND..
@@ -217,9 +227,9 @@ turns() {
     awk 'NR % 29 == 0 { printf "on %d\n", NR / 29 % 8 } NR % 13 == 0 { print "interrupt" } { print }' "$to/generated" >"$to/trace"
     "$player" run --processors 8 "$machine" "$to/trace" >"$to/expected"
     "$@" several "$machine" "$to/trace" >"$to/played"
-    cmp "$to/expected" "$to/played" || { echo "$name: lines of eight processors differ" >&2; exit 1; }
-    echo "$name: $(grep -c '^interrupt' "$to/trace") interrupts among these lines on eight processors, behind which $(grep -c '^resumed' "$to/played")" \
-        "times a partition went on: as the program prints them"
+    cmp "$to/expected" "$to/played" || { echo "$name: outcomes on eight processors differ from the program's" >&2; exit 1; }
+    echo "$name: these lines on eight processors, with $(grep -c '^interrupt' "$to/trace") interrupts after which $(grep -c '^resumed' "$to/played")" \
+        "partitions resumed: as the program prints them"
 }
 
 # Plays what the normal world is told of a notification of a partition that waits, once, and contexts that it names, by two processors; with
@@ -232,11 +242,11 @@ told() {
     sed 's/^call 84000081/on 1\n&/' "$to/alone" >"$to/trace"
     "$player" run --processors 2 "$machine" "$to/trace" >"$to/expected"
     "$@" several "$machine" "$to/trace" >"$to/played"
-    cmp "$to/expected" "$to/played" || { echo "$name: what is told of notifications differs" >&2; exit 1; }
+    cmp "$to/expected" "$to/played" || { echo "$name: what two processors report of notifications differs from the program" >&2; exit 1; }
     "$player" run "$machine" "$to/alone" >"$to/expected"
     "$@" heap "$machine" "$to/alone" >"$to/played"
-    cmp "$to/expected" "$to/played" || { echo "$name: what isn't told of notifications differs" >&2; exit 1; }
-    echo "$name: the normal world is told of a notification as the program prints it"
+    cmp "$to/expected" "$to/played" || { echo "$name: what one processor reports of notifications differs from the program" >&2; exit 1; }
+    echo "$name: the library reports a notification to the normal world as the program does"
 }
 
 # Whether play tells each reason of the generated lines, and those of each check that a table of tests has, as the program does: explains
@@ -247,8 +257,8 @@ explains() {
     PLAYER=$(realpath "$player")
     "$here/explained" run --explain "$top/examples/partitions.toml" "$to/generated" >"$to/explained"
     FFAPLAY=$here/explained "$top/tests/tables" "$top/tests/tables.d/explained.table" >"$to/tables" || { cat "$to/tables" >&2; exit 1; }
-    echo "$name: $(grep -c '^# refused: ' "$to/explained") reasons of generated lines are the program's," \
-        "and of those of a table $(tail -n 1 "$to/tables")"
+    echo "$name: $(grep -c '^# refused: ' "$to/explained") reasons in generated lines are the program's;" \
+        "reasons in a table: $(tail -n 1 "$to/tables")"
 }
 
 # What is built by a compiler for this machine: by_compiler COMPILER
@@ -283,11 +293,11 @@ by_compiler() {
     moves $compiler "$native" $compiler $bare
     "$to/moved"
     unsettled $compiler "$native" $compiler $bare
-    if nm "$to/whole" "$to/free" | grep _names; then echo "$compiler: names that nobody asks are linked" >&2; exit 1; fi
+    if nm "$to/whole" "$to/free" | grep _names; then echo "$compiler: a program that uses no names of checks links them, and must not" >&2; exit 1; fi
     $compiler $bare -Wl,--gc-sections,--undefined=gorseplumb_check_name "$here"/{freestanding,array,bytes}.c \
         "$native" -o "$to/named"
-    echo "$compiler: linked with no C library, and run: $(bytes "$to/free") bytes," \
-        "$(bytes "$to/named") with the checks' names, and $(bytes "$to/whole") with what nobody calls"
+    echo "$compiler: links without a C library, and runs: $(bytes "$to/free") bytes;" \
+        "$(bytes "$to/named") with the names of checks; $(bytes "$to/whole") with functions that nothing calls"
     $compiler $bare -Wl,--gc-sections -DGORSEPLUMB_ARRAY_BYTES=0x800000 "$here"/{small_stack,array,bytes}.c "$native" -o "$to/small"
     says "$compiler" "$to/small"
     $compiler $strict -O2 $deep "$here"/{deep_text,heap,unsettled}.c "$native" -o "$to/deep"
@@ -317,14 +327,14 @@ CPP
         for standard in c++11 c++17 c++20; do
             $compiler -std=$standard -Wall -Wextra -Wpedantic -Werror "-I$here" -c "$to/headers.cpp" -o "$to/headers.o"
         done
-        echo "$compiler: the headers are C++ from C++11 on"
+        echo "$compiler: the headers compile as C++11, C++17 and C++20"
     done
     for compiler in gcc clang; do
         has $compiler || continue
         for standard in c99 c11 c17; do
             $compiler -std=$standard -Wall -Wextra -Wpedantic -Werror "-I$here" -c "$to/headers.c" -o "$to/headers.o"
         done
-        echo "$compiler: the headers are C from C99 on"
+        echo "$compiler: the headers compile as C99, C11 and C17"
     done
     # The archive isn't instrumented by the sanitizers: valgrind looks at what it reads and writes, too. (Its threads take turns, so walks beside
     # calls are left out.)
@@ -343,7 +353,7 @@ CPP
     fi
     # (the linker's name for what takes the place of `write` is its own)
     others=$(nm -g --defined-only "$native" | awk 'NF == 3 && $3 !~ /^(gorseplumb_|__wrap_write$)/ { print $3 }')
-    if [[ $others ]]; then echo "names of the archive that don't begin with gorseplumb_:" $others >&2; exit 1; fi
+    if [[ $others ]]; then echo "these names of the library must begin with gorseplumb_:" $others >&2; exit 1; fi
 }
 
 # What is built for AArch64, and run by an emulator.
@@ -370,7 +380,7 @@ on_aarch64() {
     qemu-aarch64-static "$to/free"
     $arm $bare "$here"/{freestanding,array,bytes}.c "$made" -o "$to/free"
     qemu-aarch64-static "$to/free"
-    echo "AArch64: linked with no C library, and run"
+    echo "AArch64: links without a C library, and runs"
     moves AArch64 "$made" $arm $bare
     qemu-aarch64-static "$to/moved"
     $arm $bare -DGORSEPLUMB_ARRAY_BYTES=0x800000 "$here"/{small_stack,array,bytes}.c "$made" -o "$to/small"
@@ -388,9 +398,9 @@ on_aarch64() {
 
 for words in "--jobs 0:from 1 on" "--jobs -1:from 1 on" "--unproved --jobs 2:proves nothing" "--unproved --as-built:proves nothing"; do
     said=$(timeout 60 "$here/archive" ${words%:*} 2>&1) && status=0 || status=$?
-    if ((status != 2)) || ! grep -q "${words#*:}" <<<"$said"; then echo "c/archive ${words%:*}: status $status, $said" >&2; exit 1; fi
+    if ((status != 2)) || ! grep -q "${words#*:}" <<<"$said"; then echo "c/archive ${words%:*}: status $status; it must be 2, with a message that has '${words#*:}': $said" >&2; exit 1; fi
 done
-echo "c/archive refuses fewer than one process, and what has no meaning with --unproved"
+echo "c/archive rejects fewer than one process, and flags that exclude --unproved"
 [ -n "${FFAPLAY:-}" ] || "$top/ffaplay" prove
 "$player" check "$top/examples/machine.toml" >/dev/null
 # (rust/test.sh and python/test.sh play the same)
@@ -403,4 +413,4 @@ if [[ $only != AArch64 ]]; then
     beside_compilers
 fi
 if [[ $only != x86-64 ]] && has aarch64-linux-gnu-gcc && has qemu-aarch64-static && make_archive aarch64-unknown-linux-gnu; then on_aarch64; fi
-if ((missing)); then echo "passed, but for what was not run"; else echo "passed"; fi
+if ((missing)); then echo "passed, except what did not run"; else echo "passed"; fi

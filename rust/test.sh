@@ -1,15 +1,24 @@
 #!/usr/bin/env bash
 # SPDX-License-Identifier: MIT OR Apache-2.0
-# Builds the crate over the library for C and runs all that stands here, with every warning an error: the tests, among
-# them the manual's examples and generated operations beside the program; the examples of the pages, and what the
-# compiler has to refuse; lent pages under valgrind; a program without std; what is said of an archive that is missing,
-# or another processor's; and the tests for AArch64, where there are a compiler, a std and an emulator for it. With
-# --install it first installs Debian's packages for that, with --install-only it does nothing else; with --bench it
-# measures operations, from Rust and from C.
+# Builds the crate for Rust over the library for C, with every warning an error, and tests it:
 #
-# ARCHIVES is a folder with ready archives, <target>/libgorseplumb.a, FFAPLAY the program: what isn't given is proved and
-# built where that isn't done, as it then says. The cargo on the path is taken, and no network. Miri, which would look at
-# each unsafe block, isn't among Debian's packages, and calls nothing foreign: valgrind takes its place.
+# - its format and clippy; its tests, with the manual's examples and generated operations compared with the program
+# - the examples of its pages, and those that the compiler must reject; the example `first`; a program without std
+# - tests of lent pages, traces, certificates, lists and copies under valgrind. Miri, which checks unsafe blocks, is not in Debian's packages
+#   and cannot call foreign functions
+# - messages about a library that is missing or is for another processor
+# - the tests for AArch64, if there are a compiler, a std and an emulator for it
+#
+# usage: rust/test.sh [--install | --install-only] [--bench]
+#
+#   --install       first install Debian's packages of Rust, C, valgrind and QEMU
+#   --install-only  install these packages and do nothing else
+#   --bench         also measure operations, from Rust and from C
+#
+# ARCHIVES=FOLDER has ready libraries, TARGET/libgorseplumb.a. FFAPLAY=FILE is the program to compare with. Without these variables the script
+# proves and builds both. It uses the cargo on your path, and no network.
+#
+# Status: 0 if all tests that ran passed; the last line says whether all ran. 64 if the arguments are wrong; otherwise another number.
 set -euo pipefail
 here=$(cd "$(dirname "${BASH_SOURCE[0]}")" && pwd)
 top=$(dirname "$here")
@@ -22,7 +31,7 @@ for word in "$@"; do
     case $word in
     --install | --install-only)
         { dpkg --add-architecture arm64 && apt-get update && apt-get install -y $packages $arm_std; } >/dev/null ||
-            echo "not all packages were installed"
+            echo "could not install all of: $packages $arm_std"
         if [[ $word == --install-only ]]; then exit 0; fi
         ;;
     --bench) bench=1 ;;
@@ -38,31 +47,31 @@ missing=0
 export CARGO_TARGET_DIR=$to/target CARGO_TERM_COLOR=never CARGO_NET_OFFLINE=true
 
 has() {
-    command -v "$1" >/dev/null || { echo "not run: no $1 (Debian has it in: $packages)"; missing=1; return 1; }
+    command -v "$1" >/dev/null || { echo "not run: there is no $1 (Debian has it in one of: $packages)"; missing=1; return 1; }
 }
 
 # What a log of cargo says of tests, if it ran some.
 summary() {
     awk '/^test result/ { tests += $4; left += $8 + $12 }
-        END { print (tests ? tests " tests" : "done") (left ? ", and " left " not run" : "") }' "$1"
+        END { print (tests ? tests " tests passed" : "done") (left ? "; " left " did not run" : "") }' "$1"
 }
 
-# Runs a command, of which what it prints is shown where it fails: quiet NAME COMMAND..
+# Runs a command, and shows its output only if it fails: quiet NAME COMMAND..
 quiet() {
     "${@:2}" >"$to/log" 2>&1 || { cat "$to/log" >&2; echo "$1: failed" >&2; exit 1; }
     echo "$1: $(summary "$to/log")"
 }
 
-# With an archive that isn't to be linked a check goes on, and a build ends; both say why: refused NAME FOLDER PATTERN
+# If the library cannot be linked, a check goes on and a build fails. Both must say why: refused NAME FOLDER PATTERN
 refused() {
     local said
-    said=$(GORSEPLUMB_LIB_DIR=$2 cargo check --all-targets 2>&1) || { echo "$1: no check: $said" >&2; exit 1; }
-    grep -q "gorseplumb: .*$3" <<<"$said" || { echo "$1: a check says $said" >&2; exit 1; }
-    if said=$(GORSEPLUMB_LIB_DIR=$2 cargo build --example first 2>&1); then echo "$1: built" >&2; exit 1; fi
-    grep -q "gorseplumb: .*$3" <<<"$said" || { echo "$1: $said" >&2; exit 1; }
+    said=$(GORSEPLUMB_LIB_DIR=$2 cargo check --all-targets 2>&1) || { echo "$1: cargo check must succeed, but says: $said" >&2; exit 1; }
+    grep -q "gorseplumb: .*$3" <<<"$said" || { echo "$1: cargo check must say '$3', but says: $said" >&2; exit 1; }
+    if said=$(GORSEPLUMB_LIB_DIR=$2 cargo build --example first 2>&1); then echo "$1: cargo build succeeded, and must fail" >&2; exit 1; fi
+    grep -q "gorseplumb: .*$3" <<<"$said" || { echo "$1: cargo build must say '$3', but says: $said" >&2; exit 1; }
     grep -q "error: could not find native static library .gorseplumb (run c/archive --unproved" <<<"$said" ||
-        { echo "$1: the compiler says $said" >&2; exit 1; }
-    echo "$1: refused: $(sed -n "s|$to|..|g; s/.*gorseplumb: //p" <<<"$said" | head -1)"
+        { echo "$1: the compiler must name c/archive --unproved, but says: $said" >&2; exit 1; }
+    echo "$1: rejected: $(sed -n "s|$to|..|g; s/.*gorseplumb: //p" <<<"$said" | head -1)"
 }
 
 # Puts the archive for a target into a folder: archive TARGET FOLDER
@@ -83,12 +92,12 @@ archive() {
 has_arm() {
     has aarch64-linux-gnu-gcc && has qemu-aarch64-static || return
     compgen -G "$(rustc --print target-libdir --target $arm)/libstd-*.rlib" >/dev/null && return
-    echo "not run: this rustc has no std for AArch64 (Debian's has it in $arm_std)"
+    echo "not run: this rustc has no std for AArch64 (Debian has it in $arm_std)"
     missing=1
     return 1
 }
 
-has cargo && has gcc || { echo "nothing was run"; exit 0; }
+has cargo && has gcc || { echo "no test ran"; exit 0; }
 mkdir "$to/lib" "$to/arm" "$to/other" "$to/none"
 archive $target "$to/lib" || exit 1
 if [[ -z ${FFAPLAY:-} ]]; then
@@ -101,8 +110,8 @@ cd "$here"
 
 rustc --version
 if has cargo-fmt; then
-    quiet "the form of the crate" cargo fmt --check
-    quiet "the form of bare/" cargo fmt --check --manifest-path bare/Cargo.toml
+    quiet "format of the crate" cargo fmt --check
+    quiet "format of bare/" cargo fmt --check --manifest-path bare/Cargo.toml
 fi
 if has cargo-clippy; then
     quiet "clippy" cargo clippy --all-targets -- -D warnings
@@ -110,7 +119,7 @@ if has cargo-clippy; then
     quiet "clippy, bare/" cargo clippy --manifest-path bare/Cargo.toml -- -D warnings
 fi
 # (rustdoc compares the codes of the errors that it expects only where it may use what isn't stable)
-quiet "examples of the pages, and what may not be compiled" env RUSTC_BOOTSTRAP=1 cargo test --doc
+quiet "examples of the pages, and those that must not compile" env RUSTC_BOOTSTRAP=1 cargo test --doc
 quiet "pages" env RUSTDOCFLAGS="-D warnings" cargo doc --no-deps
 quiet "tests" cargo test --lib --tests -- --include-ignored
 quiet "tests, optimized" cargo test --release --lib --tests -- --include-ignored
@@ -123,14 +132,14 @@ nm "$to/lib/libgorseplumb.a" 2>/dev/null | awk '$1 == "U" { asked[$2] } NF == 3 
     END { for (name in asked) if (!(name in had)) print name }' | sort >"$to/asked"
 named=$(sed -n '/^.*# What the program has to have/,/^.*# What the types ask/p' src/lib.rs |
     grep '^//! - ' | sed 's/:.*//' | grep -o '`[a-z_]*`' | tr -d '`' | sort)
-diff <(echo "$named") "$to/asked" >&2 || { echo "the crate's page doesn't name what the archive calls" >&2; exit 1; }
-echo "the crate's page names the $(wc -l <"$to/asked") functions that the archive calls"
+diff <(echo "$named") "$to/asked" >&2 || { echo "the crate's page must name exactly the functions that the library needs (>)" >&2; exit 1; }
+echo "the crate's page names the $(wc -l <"$to/asked") functions that the library needs"
 toml() { nm "$1" 2>/dev/null | grep -ci toml || true; }
 if (($(toml "$to/lib/libgorseplumb.a") == 0 || $(toml "$CARGO_TARGET_DIR/release/bare") > 0)); then
-    echo "a program that boots from numbers links the reader of TOML, or the archive has none by this name" >&2
+    echo "a program that boots from numbers links the TOML reader, and must not; or no function of the library has TOML in its name" >&2
     exit 1
 fi
-echo "a program that boots from numbers links no reader of TOML"
+echo "a program that boots from numbers does not link the TOML reader"
 if has valgrind; then
     # The archive isn't instrumented by a sanitizer. One test forgets machines, so that their memory is lost.
     definite="--leak-check=full --show-leak-kinds=definite --errors-for-leak-kinds=definite"
@@ -145,22 +154,22 @@ echo 'int nothing;' >"$to/nothing.c"
 gcc -c "$to/nothing.c" -o "$to/nothing.o"
 printf '\xb7\x00' | dd of="$to/nothing.o" bs=1 seek=18 conv=notrunc status=none # e_machine of AArch64
 ar rcS "$to/other/libgorseplumb.a" "$to/nothing.o"
-refused "an archive for AArch64" "$to/other" "is for aarch64, and x86_64 is built for"
-refused "no archive" "$to/none" "there is no .*libgorseplumb.a"
+refused "a library for AArch64" "$to/other" "is for aarch64, and x86_64 is built for"
+refused "no library" "$to/none" "there is no .*libgorseplumb.a"
 # In a fresh clone the first line says how an archive is made, the way of minutes first.
 mkdir -p "$to/fresh/c" && touch "$to/fresh/c/archive" && cp -r "$here" "$to/fresh/rust"
-said=$(cd "$to/fresh/rust" && env -u GORSEPLUMB_LIB_DIR cargo check --target-dir "$to/fresh/target" 2>&1) || { echo "a fresh clone: no check: $said" >&2; exit 1; }
+said=$(cd "$to/fresh/rust" && env -u GORSEPLUMB_LIB_DIR cargo check --target-dir "$to/fresh/target" 2>&1) || { echo "a fresh clone: cargo check must succeed, but says: $said" >&2; exit 1; }
 grep -q 'by `c/archive --unproved --target [^`]*` (about four minutes;.* by `c/archive --target' <<<"$(grep -m 1 'gorseplumb: ' <<<"$said")" ||
-    { echo "a fresh clone is told $said" >&2; exit 1; }
+    { echo "a fresh clone: the first line must say how to make the library, but is: $said" >&2; exit 1; }
 # Firmware that forgets to settle isn't linked.
 sed -i '/^settle_by!/d; s/    settle_by, /    /' "$to/fresh/rust/bare/src/main.rs"
-if said=$(cargo build --manifest-path "$to/fresh/rust/bare/Cargo.toml" --target-dir "$to/fresh/target" 2>&1); then echo "a program is built that settles nothing" >&2; exit 1; fi
-grep -q 'undefined .*gorseplumb_settle' <<<"$said" || { echo "without settle_by a build says $said" >&2; exit 1; }
-echo "a program without settle_by isn't linked"
+if said=$(cargo build --manifest-path "$to/fresh/rust/bare/Cargo.toml" --target-dir "$to/fresh/target" 2>&1); then echo "a program without settle_by links, and must not" >&2; exit 1; fi
+grep -q 'undefined .*gorseplumb_settle' <<<"$said" || { echo "without settle_by a build must report that gorseplumb_settle is undefined, but says: $said" >&2; exit 1; }
+echo "a program without settle_by does not link"
 echo nothing >"$to/none/libgorseplumb.a"
-refused "a file that is no archive" "$to/none" "is no archive of ELF files"
+refused "a file that is not a library" "$to/none" "is no archive of ELF files"
 rm "$to/none/libgorseplumb.a"
-quiet "pages without an archive" env GORSEPLUMB_LIB_DIR="$to/none" RUSTDOCFLAGS="-D warnings" cargo doc --no-deps
+quiet "pages without a library" env GORSEPLUMB_LIB_DIR="$to/none" RUSTDOCFLAGS="-D warnings" cargo doc --no-deps
 
 if has_arm && archive $arm "$to/arm"; then
     export CARGO_TARGET_AARCH64_UNKNOWN_LINUX_GNU_LINKER=aarch64-linux-gnu-gcc
@@ -179,4 +188,4 @@ if [[ $bench ]]; then
         "$to/lib/libgorseplumb.a" -o "$to/operations"
     "$to/operations"
 fi
-if ((missing)); then echo "passed, but for what was not run"; else echo "passed"; fi
+if ((missing)); then echo "passed, except what did not run"; else echo "passed"; fi

@@ -1,6 +1,6 @@
 # SPDX-License-Identifier: MIT OR Apache-2.0
-# What run.sh and secure/run.sh have in common where Linux is the normal world. Who reads this in has read in ../common.sh, and has the folder of a
-# kernel, `linux`, and what linux.dts wants to know: `image_at`, with which Linux's memory begins, `memory_bytes`, `initramfs_at`, `redistributors`.
+# Functions that run.sh and secure/run.sh share for Linux as the normal world. A script that sources this file has sourced ../common.sh. It sets `linux`, the
+# folder of a kernel, and what linux.dts needs: `image_at`, where Linux's memory begins, `memory_bytes`, `initramfs_at`, `redistributors`.
 
 # What the core has room for, by its name in limits.rt.
 limit_of() { sed -n "s/^pub const $1: .* = \([0-9]*\);.*/\1/p" "${repository:-$top}/crates/ffa_model/src/limits.rt"; }
@@ -47,7 +47,7 @@ named() {
         $1 !~ /^call C4000083/ { next }
         $2 ~ /^regs 0000 0000000084000060/ { nobody++; next }
         { named++; split($2, words, " "); partition += words[6] ~ /8001/ }
-        END { printf "whom to run was told %d times, of these %d times 8001, and %d times there was nobody", named, partition, nobody }'
+        END { printf "FFA_NOTIFICATION_INFO_GET named a partition %d times, 8001 %d of these times, and no one %d times", named, partition, nobody }'
 }
 
 # How many calls of Linux's were answered that somebody is busy. They are those that may be: requests, cycles and messages.

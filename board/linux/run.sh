@@ -1,7 +1,7 @@
 #!/usr/bin/env bash
 # SPDX-License-Identifier: MIT OR Apache-2.0
-# Builds Linux, partitions and the firmware that runs them over the core's library, has QEMU run it, and compares: Linux has to say what is expected of it, and
-# what the core answered has to be what the program ffaplay prints of the same calls. With --help it says more.
+# Builds Linux, partitions and the firmware that runs them over the library, runs them under QEMU, and compares: Linux must print what expected.txt has, and
+# the library must answer each call as ffaplay does. --help says more.
 set -euo pipefail
 me=board/linux
 . "$(dirname "${BASH_SOURCE[0]}")/../common.sh"
@@ -16,28 +16,32 @@ image_at=40200000 memory_bytes=3C00000 redistributors=20000 initramfs_at=43C0000
 
 usage() {
     cat <<'HELP'
-board/linux/run.sh [--install] [--build-only] [--kernel KIND | --limits NAME] [--several] [--rounds N] [--work FOLDER] [--keep FOLDER] [--jobs N]
+usage: board/linux/run.sh [--install] [--build-only] [--kernel KIND | --limits NAME] [--several] [--rounds N]
+           [--work FOLDER] [--keep FOLDER] [--jobs N]
 
-Runs Linux as the normal world on QEMU's machine `virt`, some times, and compares. Where the core is proved and the kernel built it takes some minutes.
+Boots Linux as the normal world on QEMU's machine `virt`, ten times, and compares what it prints and each answer of the
+library. This takes some minutes if the library and the program are proved and the kernel is built.
 
-  --install      installs Debian's packages for it first
-  --build-only   builds the firmwares and the partitions' program, and runs none
-  --kernel KIND  runs another Linux than that of the kind 4k; board/linux/kernel --help names the kinds
-  --limits NAME  runs it over a copy of the repository with other limits, limits/NAME.edit: its library is proved first, and its program, which judges, is
-                 compiled unproved. Linux shares a page 100,000 times there
-  --several      runs Linux on two and on four processors alone, each of which may run a partition
-  --rounds N     how much is made up by threads of Linux; 10000 where nothing is given
-  --work FOLDER  has the kernel's source and what is built; what stands there is built once. /tmp/gorseplumb-boards where nothing is given, which
-                 board/secure/run.sh has too: a kernel is built once for both
-  --keep FOLDER  leaves what each run printed in this folder: NAME.uart, and its .linux, .trace, .found, .expected and .explained
-  --jobs N       how many processors the kernel's build has
+  --install      first install Debian's packages for this
+  --build-only   build the firmwares and the partitions' program, and run nothing
+  --kernel KIND  boot another Linux: 16k, 64k, 6.1, debian or debian-cloud [default: 4k]
+                 (board/linux/kernel --help describes them)
+  --limits NAME  use a copy of the repository with limits/NAME.edit; Linux then shares a page 100,000 times
+                 (the copy's library is proved first, and its program is compiled without proofs)
+  --several      only boot Linux on two and on four processors, each of which may run a partition
+  --rounds N     number of random rounds of Linux's threads [default: 10000]
+  --work FOLDER  keep the kernel's source and all builds in FOLDER, so that each is built once
+                 [default: /tmp/gorseplumb-boards, which board/secure/run.sh uses too]
+  --keep FOLDER  keep each run's output: FOLDER/NAME.uart, .linux, .trace, .found, .expected and .explained
+  --jobs N       number of processors for the kernel's build [default: all]
 
-Two variables of the environment have it take what is there, and prove nothing:
+Two environment variables name ready builds. With both, nothing is proved:
 
-  ARCHIVES=FOLDER  the library is FOLDER/aarch64-unknown-linux-gnu/libgorseplumb.a
-  FFAPLAY=FILE     the program that judges is FILE
+  ARCHIVES=FOLDER  use the library FOLDER/aarch64-unknown-linux-gnu/libgorseplumb.a
+  FFAPLAY=FILE     compare with this program
 
-It ends with 0 and `passed`, with 1 and what is missing or differs, or with 64 where the words are none of these.
+Status: 0, and the last line is `passed`; 1 if something differs or is missing; 64 if the arguments are wrong; 130 after
+Ctrl-C.
 HELP
 }
 
@@ -48,19 +52,19 @@ while (($#)); do
         --build-only) only=yes ;;
         --several) several=yes ;;
         --kernel | --limits | --rounds | --work | --keep | --jobs)
-            [[ ${2:-} ]] || refuse "$1 needs a word behind it"
+            [[ ${2:-} ]] || refuse "$1 needs a value"
             declare "${1#--}=$2"
             shift
             ;;
         --help) usage && exit 0 ;;
-        *) refuse "there is no $1" ;;
+        *) refuse "there is no argument $1" ;;
     esac
     shift
 done
-[[ $kernel =~ ^(4k|16k|64k|6\.1|debian|debian-cloud)$ ]] || refuse "there is no kernel $kernel"
-[[ $kernel == 4k || -z $limits ]] || refuse "other limits are tried with the kernel of the kind 4k alone"
-[[ -z $limits || -e $top/limits/$limits.edit ]] || refuse "there are no limits $limits"
-is_count "$rounds" || refuse "the number of rounds is one below a thousand million, and not $rounds"
+[[ $kernel =~ ^(4k|16k|64k|6\.1|debian|debian-cloud)$ ]] || refuse "--kernel $kernel: must be 4k, 16k, 64k, 6.1, debian or debian-cloud"
+[[ $kernel == 4k || -z $limits ]] || refuse "--limits can be used only with the kernel 4k"
+[[ -z $limits || -e $top/limits/$limits.edit ]] || refuse "--limits $limits: there is no limits/$limits.edit"
+is_count "$rounds" || refuse "--rounds $rounds: must be a number from 0 to 999999999"
 check_jobs "$jobs"
 check_folder "$work"
 if [[ $install ]]; then install_packages "${packages[@]}"; fi
@@ -115,7 +119,7 @@ run() {
     emulated=$SECONDS
     lines_of_linux >"$to/linux"
     [[ -z $late ]] || fail "$name: $late"
-    "${judge[@]}" "$to/manifest" "$to/trace" >"$to/expected" || fail "$name: the program doesn't play what Linux did"
+    "${judge[@]}" "$to/manifest" "$to/trace" >"$to/expected" || fail "$name: the program does not play what Linux did"
     if [[ $keep ]]; then keep_run "$name"; fi
 }
 
@@ -132,13 +136,13 @@ judge() {
     shift
     if ! cmp -s "$to/expected" "$to/found"; then
         { diff "$to/expected" "$to/found" || true; } | sed -n 1,10p >&2
-        fail "$name: the core answered Linux otherwise than the program (< the program, > the core)"
+        fail "$name: the library's answers to Linux differ from the program's (< the program, > the library)"
     fi
     lacks=$(missing "$@")
-    [[ -z $lacks ]] || { last_words >&2; fail "$name: Linux doesn't say: $lacks"; }
-    if grep 'FAILED' "$to/linux" >&2; then fail "$name: something that Linux tried came out otherwise"; fi
-    has_end || fail "$name: the board didn't come to its end"
-    echo "$name: $(grep -c '^call' "$to/trace") calls as the program prints them, $(grep -c 'ffa_try: ok' "$to/linux") things that the driver tried," \
+    [[ -z $lacks ]] || { last_words >&2; fail "$name: Linux does not print: $lacks"; }
+    if grep 'FAILED' "$to/linux" >&2; then fail "$name: Linux reports FAILED, as printed above"; fi
+    has_end || fail "$name: the board did not reach its end"
+    echo "$name: $(grep -c '^call' "$to/trace") calls, answered as the program prints them; $(grep -c 'ffa_try: ok' "$to/linux") checks of the driver passed;" \
         "$(sed -n 's/^# \(settled .*\)/\1/p' "$to/linux"), $emulated s"
 }
 
@@ -146,8 +150,8 @@ judge() {
 find_stale() {
     build_tree smc 1
     run stale stale -cpu cortex-a57
-    grep -qF 'FAILED: a page that is lent' "$to/linux" || fail "Linux doesn't find that translations are kept"
-    echo "stale: translations that are kept: found by Linux, which loads from a page that it has lent"
+    grep -qF 'FAILED: a page that is lent' "$to/linux" || fail "stale: Linux does not find that translations are kept"
+    echo "stale: Linux finds kept translations: it loads from a page that it lent"
 }
 
 # What takes how many instructions, with nothing printed: the emulator counts one as a nanosecond.
@@ -155,7 +159,7 @@ measure() {
     build_tree smc 1 ffa_try.rounds=1000
     run silent silent -cpu cortex-a57 -icount shift=0,sleep=off
     sed -n 's/^# boot/boot/p' "$to/linux"
-    grep -o 'note: 1000 rounds.*' "$to/linux" || fail "nothing was measured"
+    grep -o 'note: 1000 rounds.*' "$to/linux" || fail "silent: nothing was measured"
 }
 
 # Runs Linux once, and judges: try NAME FIRMWARE PROCESSOR SECTION..
@@ -181,10 +185,10 @@ try_several() {
     judge "$1-processors" linux driver held 6.12 "$1-processors" notifications scheduled works random
     grep -o 'works: [0-9].*' "$to/linux"
     grep -o 'random: [0-9].*' "$to/linux"
-    if grep -E 'Notification (bitmap|setup)|Failed to retrieve' "$to/linux" >&2; then fail "$1-processors: Linux's driver can't notify"; fi
-    found=$(busy) || fail "$1-processors: a call is busy that names no partition"
-    echo "$1-processors: $(grep -c '^interrupt' "$to/trace") interrupts of partitions, $(grep -c '^resumed' "$to/found") times one went on;" \
-        "$found calls were busy; $(named); $(sed -n 's/^# interrupts.*; \(faults .*\)/\1/p' "$to/linux")"
+    if grep -E 'Notification (bitmap|setup)|Failed to retrieve' "$to/linux" >&2; then fail "$1-processors: Linux's driver cannot use notifications"; fi
+    found=$(busy) || fail "$1-processors: a call was refused with BUSY though it names no partition"
+    echo "$1-processors: $(grep -c '^interrupt' "$to/trace") interrupts of partitions, $(grep -c '^resumed' "$to/found") resumptions;" \
+        "$found calls were refused with BUSY; $(named); $(sed -n 's/^# interrupts.*; \(faults .*\)/\1/p' "$to/linux")"
 }
 
 all_several() {

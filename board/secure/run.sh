@@ -1,7 +1,7 @@
 #!/usr/bin/env bash
 # SPDX-License-Identifier: MIT OR Apache-2.0
-# Builds TF-A out of Debian's source, the core's firmware as its manager of the secure world, and a program or Linux as the normal world, has QEMU boot
-# them, and compares each answer of the core with what the program ffaplay prints. With --help it says more.
+# Builds TF-A from Debian's source, the firmware as its manager of the secure world, and a program or Linux as the normal world, boots them under QEMU, and
+# compares each answer of the library with what ffaplay prints. --help says more.
 set -euo pipefail
 me=board/secure
 . "$(dirname "${BASH_SOURCE[0]}")/../common.sh"
@@ -16,32 +16,38 @@ image_at=48800000 memory_bytes=3800000 initramfs_at=4BC00000 tree_at=4BD80000
 
 usage() {
     cat <<'HELP'
-board/secure/run.sh [--install] [--build-only] [--work FOLDER] [--keep FOLDER] [--jobs N] [RUN..]
+usage: board/secure/run.sh [--install] [--build-only] [--work FOLDER] [--keep FOLDER] [--jobs N] [RUN..]
 
-  --install      installs Debian's packages for it first
-  --build-only   builds the firmwares and the normal world's programs, and runs none
-  --work FOLDER  has sources and what is built of them; what stands there is built once. /tmp/gorseplumb-boards where nothing is given, which
-                 board/linux/run.sh has too: a kernel is built once for both
-  --keep FOLDER  leaves what each run printed in this folder: NAME.uart, which is what TF-A, the normal world and TSP print, NAME.core, which is what the
-                 firmware prints, and NAME.trace, .found and .expected
-  --jobs N       how many processors a build has
+Boots TF-A with the library's firmware as its manager of the secure world, on QEMU's machine `virt`, and compares each
+answer of the library with what the program prints.
 
-Runs, of which all but the last are done where none is named:
+  --install      first install Debian's packages for this
+  --build-only   build the firmwares and the normal world's programs, and run nothing
+  --work FOLDER  keep sources and all builds in FOLDER, so that each is built once
+                 [default: /tmp/gorseplumb-boards, which board/linux/run.sh uses too]
+  --keep FOLDER  keep each run's output: FOLDER/NAME.uart of TF-A, the normal world and TSP, NAME.core of the firmware,
+                 and NAME.trace, .found and .expected
+  --jobs N       number of processors for each build [default: all]
 
-  plain    TF-A with nothing changed: a program calls three partitions through the dispatcher, which says version 1.0, and a timer stops one that works
-  version  the dispatcher asks the core for the version, which is 1.1
-  two      as version, with two processors, each of which calls, and has a timer; the second is turned off and on
-  tsp      TF-A's own test partition (TSP) as the one partition
-  small    a machine in QEMU's secure memory, of which the normal world reaches nothing
-  linux    Linux as the normal world, on one processor; and on two and on four, with a partition that works long, and clients at random
+Runs; without RUN all except `measure`:
+
+  plain    TF-A without a change. A program calls three partitions through the dispatcher, which reports version 1.0.
+           A timer stops a partition
+  version  the same, but the dispatcher asks the library for the version, which is 1.1
+  two      as version, with two processors that both call and have timers; the second is turned off and on
+  tsp      TF-A's own test partition (TSP) as the only partition
+  small    a machine in QEMU's secure memory, which the normal world cannot reach
+  linux    Linux as the normal world, on one, two and four processors; on two and four a partition works for long, and
+           threads work at random
   measure  instructions of calls to three partitions, and to TSP
 
-Two variables of the environment have it take what is there, and prove nothing:
+Two environment variables name ready builds. With both, nothing is proved:
 
-  ARCHIVES=FOLDER  the library is FOLDER/aarch64-unknown-linux-gnu-general-registers/libgorseplumb.a
-  FFAPLAY=FILE     the program that judges is FILE
+  ARCHIVES=FOLDER  use the library FOLDER/aarch64-unknown-linux-gnu-general-registers/libgorseplumb.a
+  FFAPLAY=FILE     compare with this program
 
-It ends with 0 and `passed`, with 1 and what is missing or differs, or with 64 where the words are none of these.
+Status: 0, and the last line is `passed`; 1 if something differs or is missing; 64 if the arguments are wrong; 130 after
+Ctrl-C.
 HELP
 }
 
@@ -51,13 +57,13 @@ while (($#)); do
         --install) install=yes ;;
         --build-only) only=yes ;;
         --work | --keep | --jobs)
-            [[ ${2:-} ]] || refuse "$1 needs a word behind it"
+            [[ ${2:-} ]] || refuse "$1 needs a value"
             declare "${1#--}=$2"
             shift
             ;;
         plain | version | two | tsp | small | linux | measure) runs+=("$1") ;;
         --help) usage && exit 0 ;;
-        *) refuse "there is no $1" ;;
+        *) refuse "there is no argument $1" ;;
     esac
     shift
 done
@@ -156,7 +162,7 @@ boot() {
     tr -d '\r' <"$to/uart" >"$to/linux"
     [[ -z $late ]] || fail "$name: $late"
     part "$to/core"
-    "$player" run --worlds --processors "$processors" "$to/manifest" "$to/trace" >"$to/expected" || fail "$name: the program doesn't play what was done"
+    "$player" run --worlds --processors "$processors" "$to/manifest" "$to/trace" >"$to/expected" || fail "$name: the program does not play what was done"
     if [[ $keep ]]; then for kind in uart core trace found expected; do cp "$to/$kind" "$keep/$name.$kind"; done; fi
 }
 
@@ -164,19 +170,19 @@ boot() {
 judge() {
     if ! cmp -s "$to/expected" "$to/found"; then
         { diff "$to/expected" "$to/found" || true; } | sed -n 1,10p >&2
-        fail "$1: the core answered otherwise than the program (< the program, > the core)"
+        fail "$1: the library's answers differ from the program's (< the program, > the library)"
     fi
     if grep '^!' "$to/core" "$to/uart" >&2; then fail "$1: the board stopped"; fi
-    echo "$1: $(grep -c '^call' "$to/trace") calls as the program prints them, $(grep -c '^interrupt' "$to/trace") interrupts of partitions," \
-        "$(grep -c '^resumed' "$to/found") times one went on, $(grep -cE '^(ok:|.*ffa_try: ok)' "$to/linux") things that the normal world tried, $emulated s"
+    echo "$1: $(grep -c '^call' "$to/trace") calls, answered as the program prints them; $(grep -c '^interrupt' "$to/trace") interrupts of partitions," \
+        "$(grep -c '^resumed' "$to/found") resumptions; $(grep -cE '^(ok:|.*ffa_try: ok)' "$to/linux") checks of the normal world passed; $emulated s"
 }
 
 # The program as the normal world: try_program NAME KIND
 try_program() {
     boot "$2" "$1"
     judge "$1"
-    grep -qx '= end' "$to/linux" || { tail -n 20 "$to/linux" >&2; fail "$1: the normal world didn't come to its end"; }
-    if grep '^FAILED' "$to/linux" >&2; then fail "$1: something that the normal world tried came out otherwise"; fi
+    grep -qx '= end' "$to/linux" || { tail -n 20 "$to/linux" >&2; fail "$1: the normal world did not reach its end"; }
+    if grep '^FAILED' "$to/linux" >&2; then fail "$1: the normal world reports FAILED, as printed above"; fi
     sed -n 's/^normal: FFA_VERSION/the dispatcher answers FFA_VERSION/p; s/^note: //p' "$to/linux"
 }
 
@@ -192,13 +198,13 @@ try_linux() {
     add_image "$to/tree" $tree_at
     boot version "$1"
     judge "$1"
-    grep -q '^resumed' "$to/found" || fail "$1: no partition was stopped and went on"
-    found=$(busy) || fail "$1: a call is busy that names no partition"
+    grep -q '^resumed' "$to/found" || fail "$1: no partition was stopped and resumed"
+    found=$(busy) || fail "$1: a call was refused with BUSY though it names no partition"
     lacks=$(missing linux driver 6.12 beside "$3")
-    [[ -z $lacks ]] || { last_words >&2; fail "$1: Linux doesn't say: $lacks"; }
+    [[ -z $lacks ]] || { last_words >&2; fail "$1: Linux does not print: $lacks"; }
     (($(grep -c FAILED "$to/linux") == $(grep -c FAILED "$board/linux/expected.txt"))) || fail "$1: $(grep FAILED "$to/linux")"
     grep -oE '(works|random): [0-9].*' "$to/linux" || true
-    echo "$1: $found calls were busy; $(named)"
+    echo "$1: $found calls were refused with BUSY; $(named)"
 }
 
 # What takes how many instructions, with nothing printed of calls: measure NAME
