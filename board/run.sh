@@ -101,7 +101,8 @@ build_several() {
 }
 
 # Runs a scene, and has the program play what was done: play FIRMWARE PROCESSOR MANIFEST SCENE, true where
-# both print the same. What the program printed is in $to/expected.
+# both print the same. What the program printed is in $to/expected. So nobody writes outcomes down. Of tables, their effect is compared,
+# and not their words.
 play() {
     local devices memory=256M processors=1 machine=virt,virtualization=on judge=("$player" run)
     if [[ $1 == high ]]; then memory=3G; fi

@@ -28,6 +28,7 @@
 /* What was to be seen is kept behind so many operations. */
 #define KEPT 1024
 
+/* It makes no operations: the machine has one runner, so a trace has no place for them. What it sees is compared with what the core grants. */
 #define SECOND_PROCESSOR 1
 
 enum access { A_LOAD, A_STORE, A_FETCH, ACCESSES };

@@ -306,6 +306,7 @@ fn is_called(registers: &[u64; 8], call: &mut Call) -> bool
 }
 
 /// Whether the call that the registers hold reads this one whole, as its 64-bit form does some, or the low half alone.
+// A subject of a reason does not have its width, because that would change each clause that mentions a subject.
 #[tactic(auto, unfolding(crate::specs::Widths::is_read_whole))]
 pub fn is_read_whole(x: &[u64; 8], register: u32) -> bool
     ensures { result ≡ is_read_whole x.now register }

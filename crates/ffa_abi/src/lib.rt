@@ -1,5 +1,6 @@
 // SPDX-License-Identifier: MIT OR Apache-2.0
-//! Calls and replies in the eight registers (DEN0028, 2; DEN0077A, 11).
+//! Decodes a call from the registers x0 to x7, and encodes a reply into them (DEN0028, 2; DEN0077A, 11). It also has
+//! the names of calls and errors.
 #![tactic(auto)]
 
 mod call;

@@ -111,6 +111,8 @@ pub fn encode(reply: &Reply) -> [u64; 8]
 }
 
 /// The same, filled in where they stand.
+// It writes a reply where the caller needs it, and a direct message that is passed on becomes the reply. Otherwise the
+// registers would be copied five times.
 #[inline(never)]
 pub fn encode_into(reply: &Reply, x: &mut [u64; 8])
     ensures { x.new ≡ encode reply.now }

@@ -1,5 +1,6 @@
 -- SPDX-License-Identifier: MIT OR Apache-2.0
 -- How the machine stores a `HeldList`, and what one is put together from. Assumes `Logic`.
+-- `Held` and `HeldList` each have a proof by hand, because one proof for both is longer.
 use Rattle.ffa_lent.proofs.Owners.{owner_in}
 use Rattle.ffa_lent.proofs.Steps.{List, [], ◌∷◌, Option, refl, Val, ‵, RattleType, Ptr, ptr_val, bare}
 use denote.Exit.{no}

@@ -22,7 +22,8 @@ abbrev pub public_part : State → PublicPart
 public_part s =
     record { runner = s.runner; statuses = s.statuses; works = s.works; buffers = map public_buffers s.buffers }
 
--- two public parts are equal, or they aren't: which, the type says, whatever stands behind it
+-- two public parts are equal, or they aren't: which, the type says, whatever stands behind it.
+-- Numbers that encode the public parts would be 11 more lines to believe.
 abbrev pub same_public : (a b : PublicPart) → (a ≡ b) ⊎ (a ≢ b)
 same_public =
     equal_by (λ (p : PublicPart). ((p.runner, p.statuses), (p.works, p.buffers)))

@@ -100,6 +100,8 @@ AreMet e v (event ∷ later) = (is_met e v event ≡ true) × AreMet e (apply e 
 -- name, and the public part is the view's. Of a bit that is bound or unbound, a holder, and a transaction that is closed nothing
 -- is left out where they change the view (`AreNews`), and the one whose pages are zeroed stands in the view (`AreMet`). A message
 -- changes nothing: its registers are the operation's outcome (`Shown`, of a run of this operation alone).
+-- Without this law an event could carry every page of RAM and meet all other laws. There is a row for each event,
+-- because one rule for all would have to say which part of a view an event is about.
 abbrev pub IsBare : Identifier → State → Event → Type 0
 IsBare e v (Wrote address bytes) = (v.ram_base ≤ address) × (bytes ≢ [])
 IsBare e v (Filled bytes) = length bytes ≤ room_of (buffers_of v e)

@@ -36,7 +36,9 @@ abbrev pub MayAllStore : State → List (Identifier × PageIndex) → Type 0
 MayAllStore s [] = ⊤
 MayAllStore s (x ∷ xs) = (is_known s x.0 ≡ true) × (may_store (access s x.0 x.1) ≡ true) × MayAllStore s xs
 
--- what others write between two operations: to pages, to each of which some endpoint has the right to write
+-- what others write between two operations: to pages, to each of which some endpoint has the right to write.
+-- Because they are stores, the laws about lists of any endpoints hold for them. Steps that no operation makes would
+-- need their own laws.
 pub record AreWritten (s t : State) : Type 0 where
   pub pages : List (Identifier × PageIndex)
   pub may : MayAllStore s pages

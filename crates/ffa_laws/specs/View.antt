@@ -47,6 +47,8 @@ buffers_seen e past i b = if identifier i == e then b else hidden past b
 -- The constants are public, and so are who runs, each status and work, and of each endpoint's buffers whether they are
 -- mapped, how many pages they have, and whether RX is full. Of the sends and of who has bitmaps e knows its own element;
 -- of the bits that are bound, those that it receives or sends; of those that are pending, its own.
+-- A view is a state with blanks, so that the step itself runs on it (`Replays`). A type of its own would need 18 more
+-- lines to believe, which turn it into a state, and a proof that it tells the same states apart.
 abbrev pub view : Identifier → State → State
 view e s =
     record {

@@ -1,5 +1,5 @@
 // SPDX-License-Identifier: MIT OR Apache-2.0
-//! Laws of the small machine, proved over its definitions alone.
+//! Proves isolation and other laws of the definitions in `ffa_model/specs`. It has no code that runs.
 #![tactic(auto)]
 
 pub mod elsewhere;

@@ -13,6 +13,8 @@ use std::marker::Model;
 
 /// Pages that are lent, in the order in which they came, and beside them room for the copies that RAM over them keeps. Contracts
 /// see the bytes of each page, for how many there is room, and whether the room for copies is there.
+// A list has a box for each page. RAM cannot be one slice, because no `&mut` may outlive a call of C, and no `Vec` can
+// be made of memory that the library did not request.
 #[derive(Drop)]
 pub struct Frames {
     pub(crate) list: Vec<Box<[u8; 4096], Lent>>,

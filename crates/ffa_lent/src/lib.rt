@@ -1,5 +1,5 @@
 // SPDX-License-Identifier: MIT OR Apache-2.0
-//! RAM that its caller lends, page by page or several side by side.
+//! Makes RAM of pages that the caller lends, one by one or several that follow each other in memory.
 #![tactic(auto)]
 
 pub mod copied;

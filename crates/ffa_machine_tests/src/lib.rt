@@ -1,5 +1,5 @@
 // SPDX-License-Identifier: MIT OR Apache-2.0
-//! Tests of the machine and of its player: the worked rows, certificates, streams that fail.
+//! Tests the machine and its player: worked rows, certificates, and streams that fail.
 #![tactic(auto)]
 
 #[cfg(test)]

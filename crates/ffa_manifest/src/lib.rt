@@ -1,5 +1,5 @@
 // SPDX-License-Identifier: MIT OR Apache-2.0
-//! Reads manifests: the description of a machine in TOML, accepted whole or refused by its first cause.
+//! Reads a manifest from a text in TOML or from numbers, or finds the first cause to reject it.
 #![tactic(auto)]
 
 ghost use Rattle.std.specs.Prelude.{◌≡◌, ◌≢◌, ◌≤◌, Ok, Err, IfOk, IfErr, IfSome, IsUtf8, length};
@@ -36,6 +36,8 @@ pub use text_place::TextPlace;
 ///
 /// A text is refused by the first cause in the order of reading: a table's unknown keys, and then its keys in their
 /// order, each for its presence, its kind and its value.
+// It uses the heap, because `toml` takes no other allocator. So `tests/refused-memory` refuses each allocation of the
+// built program. RAM, the player and the commands take any allocator, so tests in Rattle refuse theirs.
 #[tactic(auto, unfolding(crate::specs::Document::machine_of))]
 pub fn read(alloc: Global, text: &str) -> Result<Manifest, ManifestError>
     ensures accepted { IfOk result (λ m. machine_of text.now ≡ Ok (parts_of m)) }

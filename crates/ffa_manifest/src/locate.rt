@@ -84,6 +84,7 @@ pub(crate) fn byte_of(error: &toml::de::Error) -> usize
 }
 
 /// Where the document of a top table is refused.
+// With this second walk, the functions that read a manifest need not carry places.
 #[tactic(auto, using(crate::proofs::Views::item_count_view), unfolding(crate::specs::Document::machine, crate::specs::Places::top))]
 pub(crate) fn in_top(alloc: Global, table: &Table) -> Result<Location, AllocError>
     requires { IsErr (machine (table_view table.now)) }

@@ -1,5 +1,6 @@
 // SPDX-License-Identifier: MIT OR Apache-2.0
-//! Descriptors of memory transactions (DEN0077A, 5.11 and 16): read where they lie, and written where they are read.
+//! Reads descriptors of memory transactions, and writes the response of a retrieve (DEN0077A, 5.11, 16). It reads them
+//! in TX, and writes it into RX.
 #![tactic(auto)]
 
 // What descriptors are read from and written into.

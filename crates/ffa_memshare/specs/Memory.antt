@@ -33,7 +33,9 @@ memory_of ram layout entries =
       normal = normal_in layout;
     }
 
--- with the buffers of endpoints, and what is open
+-- with the buffers of endpoints, and what is open.
+-- In the pool's code, RAM, layout, pages and buffers are four parameters. With a struct of four borrows, each clause
+-- would have to say that each borrow remains the same.
 pub record MemoryParts : Type 0 where
   pub memory : Memory
   pub buffers : List (Option Buffers)

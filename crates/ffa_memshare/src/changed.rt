@@ -29,6 +29,8 @@ pub enum Value {
 }
 
 /// What a call on memory answers that was done.
+// The four calls on memory return this type. One function for all four would have the stack frame of the largest. If
+// they returned a `Reply`, each would have to promise that it is not an error.
 #[derive(Drop)]
 pub struct Done {
     pub value: Value,

@@ -12,6 +12,7 @@ use ffa_pages::{KeptPage, PageTable};
 use std::marker::Model;
 
 // A range by the number of its first page in RAM.
+// With 16 bits for each number a range would have 4 bytes instead of 8, but RAM could have at most 127 blocks.
 #[derive(Clone, Copy, Default)]
 pub(crate) struct PageRange {
     first: u32,

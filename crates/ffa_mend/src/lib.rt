@@ -1,6 +1,6 @@
 // SPDX-License-Identifier: MIT OR Apache-2.0
-//! What is to be mended where an operation is refused: what stands in the machine beside what the refusal names. It serves
-//! diagnostics alone, and no call is done by it.
+//! Describes what to change after a refusal: a fact of the machine, or the values that would pass. Only diagnostics
+//! use it, and no call does.
 #![tactic(auto)]
 
 mod allowed;

@@ -1,5 +1,5 @@
 // SPDX-License-Identifier: MIT OR Apache-2.0
-//! Messages between endpoints (DEN0077A, 7.1 and 15).
+//! Passes direct and indirect messages between endpoints (DEN0077A, 7.1 and 15).
 #![tactic(auto)]
 
 mod checks;

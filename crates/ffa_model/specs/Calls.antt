@@ -60,7 +60,8 @@ pub record Stepped : Type 0 where
 abbrev pub replied : State → Reply → Stepped
 replied s reply = record { state = s; outcome = Regs (record { 0 = s.runner }) (encode reply) }
 
--- how a call is served: its guards, and where all pass the state after it and the reply
+-- how a call is served: its guards, and where all pass the state after it and the reply.
+-- All parts of a call are in this record. Three tables by call, of guards, states and replies, would scatter them.
 pub record Service : Type 0 where
   pub guards : List (Bool × Refusal)
   pub state : State

@@ -25,7 +25,9 @@ busy e s = record { state = s; outcome = Regs (record { 0 = e }) (encode (Error 
 abbrev pub with_runner : ℕ → Stepped → Stepped
 with_runner runner done = record done { state = as_run_by runner done.state }
 
--- an operation of an endpoint that doesn't run: no call is served, and it has access where it would have it if it ran
+-- an operation of an endpoint that doesn't run: no call is served, and it has access where it would have it if it ran.
+-- Its accesses are accesses of the state in which it runs. Loads and stores with the endpoint as an argument would be
+-- a second definition, which a proof must compare with the first.
 abbrev pub step_elsewhere : State → Identifier → Op → Stepped
 step_elsewhere s e (Call x) = busy e s
 step_elsewhere s e (Load addr size) = with_runner s.runner (load (as_run_by e s) addr size)

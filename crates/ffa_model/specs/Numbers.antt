@@ -2,6 +2,9 @@
 -- Kinds of numbers, so that a signature says which number is which. What is none of these, as a count or an address, is a ℕ.
 use Rattle.std.specs.Prelude.{ℕ}
 
+-- They are other words for ℕ. Types of their own would need a conversion at each map, list and sum that uses such a
+-- number.
+
 -- of an endpoint, or of the manager (DEN0077A, 6.1)
 abbrev pub Identifier : Type 0
 Identifier = ℕ

@@ -63,6 +63,7 @@ effected s op (Some e) = record { state = with_switch s Blocked e; effect = effe
 
 -- One operation of the runner where partitions may be preempted: FFA_RUN of one that was lets it go on, with its own registers,
 -- and all else is a step.
+-- It is an effect over the step. An outcome for it would be one more case in each clause about outcomes.
 abbrev pub step_resuming : State → Op → Effected
 step_resuming s op = effected s op (resumed_by s op)
 

@@ -50,7 +50,8 @@ pub record Buffers : Type 0 where
   pub pages : ℕ
   pub full : Bool
 
--- an endpoint is named by its identifier; a list by endpoint is in the manifest's order
+-- an endpoint is named by its identifier; a list by endpoint is in the manifest's order.
+-- Each change of a state is one record update with its cases inside the fields. So a law about the change computes.
 pub record State : Type 0 where
   pub ram_base : ℕ
   pub tables : PageIndex  -- the first page of the tables

@@ -27,7 +27,9 @@ use Rattle.ffa_model.specs.Step.{service}
 abbrev pub why_fault : State → ℕ → Option FaultKind → Option Why
 why_fault s address fault = option_map (λ (kind : FaultKind). Fault kind (obstacle_of s address kind)) fault
 
--- a check that fails, with what it is about
+-- a check that fails, with what it is about.
+-- A check's name carries no data, because data would change every guard. What the check is about is a function of the
+-- call and the name. If no function has a row for a name, nothing is reported, and no proof fails.
 abbrev pub refused : State → List ℕ → Refusal → Why
 refused s x refusal = Refused refusal (about s (low (slice_index x 0)) (decode x) refusal)
 

@@ -13,6 +13,8 @@ use bitflags::{Flag, Flags, bitflag_items};
 
 /// The identifier of an endpoint (DEN0077A, 6.1): 0 is the normal world, partitions are 0x8001 and on, and 0x8000 is
 /// the manager itself.
+// Definitions, descriptors, reasons and the pool use plain numbers instead of this type and `Handle`: as keys, and as
+// bytes that a call reads. With the types, some 300 places would take the number out again.
 #[derive(Clone, Copy, Debug, PartialEq, Eq, PartialOrd, Ord, Default)]
 pub struct EndpointId(pub u16);
 

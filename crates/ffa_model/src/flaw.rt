@@ -88,6 +88,8 @@ pub enum CompositeFlaw {
     /// Its ranges don't end inside the descriptor.
     RangesOutside,
     /// Its count of pages is not the sum of its ranges'.
+    // No reason reports the correct sum. With a wrong total the bytes are no descriptor, so the sum would need its own
+    // reader.
     Total,
 }
 

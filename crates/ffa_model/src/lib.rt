@@ -1,5 +1,6 @@
 // SPDX-License-Identifier: MIT OR Apache-2.0
-//! The plain types of the partition manager. Its `specs/` hold the small machine that every contract cites.
+//! The types that all crates share, and in `specs/` the definition of what each operation does. Contracts cite these
+//! definitions, the small machine.
 #![tactic(auto)]
 
 pub mod call;

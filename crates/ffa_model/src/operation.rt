@@ -80,6 +80,8 @@ pub enum Outcome {
     /// The endpoint that runs next, and the registers x0 to x7 that it sees.
     Regs { runner: EndpointId, x: [u64; 8] },
     /// The bytes of a load or a fetch as a number, the lowest first.
+    // It has no size, although a trace prints two digits for each byte. A size would change each clause that names
+    // `Data`, and save only one arm that no access reaches.
     Data(u64),
     /// A store was done.
     Done,

@@ -6,6 +6,9 @@ use crate::refusal::Refusal;
 
 /// Of a call the identifier of its 32-bit form and its name; the registers that its 64-bit form reads whole, none where it
 /// has no such form; and its checks, in the order in which they are made.
+// A row is a tuple, because no definition can name a constant of a struct with references. The library for C does not
+// reach CALLS and WORDS, because they would need relocation. If guards were made from a row's checks and a list of
+// tests, each test would be far from its name.
 pub type CallRow = (u32, &'static str, &'static [u32], &'static [Refusal]);
 
 macro_rules! checks {

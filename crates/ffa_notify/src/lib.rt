@@ -1,5 +1,5 @@
 // SPDX-License-Identifier: MIT OR Apache-2.0
-//! Notifications (DEN0077A, 10): bits that an endpoint sets for another, and that the other gets when it runs.
+//! Keeps notifications: bits that an endpoint sets for another, which gets them later (DEN0077A, 10).
 #![tactic(auto)]
 
 mod bitmaps;

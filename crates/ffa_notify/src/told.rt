@@ -21,6 +21,8 @@ use std::marker::Model;
 pub const NO_DATA: u32 = 0xFFFF_FFF7;
 
 /// Which bits of receivers the normal world has been told of, so that it is told of each once.
+// After each operation `follow` drops the bits that are no longer pending. Mostly its test of `has_some` is enough. If
+// an invariant said that all these bits are pending, each call that clears a bit would have to keep it.
 #[derive(Drop)]
 pub struct Told {
     // Of each receiver that there may be a word for each class.

@@ -17,7 +17,10 @@ pub record Reading : Type 0 where
   pub count : ℕ
   pub begins : Bool
 
--- one step: RAM as it was before, and as it is behind it; and what was settled, or read at once, where the step is that
+-- one step: RAM as it was before, and as it is behind it; and what was settled, or read at once, where the step is that.
+-- A step is data, and a history is a list that grows. If the promise were that some single writes lead from the old
+-- RAM to the new one, a bad body could meet it with RAMs that it never had. A set of RAMs could have a bad one from
+-- before.
 pub record Step : Type 0 where
   pub before : Ram
   pub after : Ram

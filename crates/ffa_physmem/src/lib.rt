@@ -1,5 +1,6 @@
 // SPDX-License-Identifier: MIT OR Apache-2.0
-//! RAM, behind a trait whose clauses see a base address and pages of 4096 bytes.
+//! Defines RAM as a trait: a base address, pages of 4096 bytes, and a history of writes. `FlatRam` is one piece of
+//! memory, `FrameRam` has a box for each page, and `Observed` is RAM to which others write.
 #![tactic(auto)]
 
 pub mod descriptor;

@@ -104,6 +104,7 @@ pub trait PhysMem {
 
     /// Each step begins with the RAM with which the one before ended, the last ended with this one, and RAM stays where it
     /// stands.
+    // This is a law of each kind of RAM, so that no operation needs it as a premise.
     ghost in_turn: { (m : Self) → TurnsIn (ram m) (past m) };
 }
 

@@ -11,6 +11,9 @@ use ffa_model::PageNo;
 
 /// RAM to which others may write beside us. The first bytes of pages can be read at once: until these are released, they are
 /// what that one reading gave.
+// Observing is a step of the history, and its clauses name memory (`beneath`). Without the step, a body that never
+// observes would meet a clause about bytes, because RAM to which nobody else writes stays the same. Without memory, a
+// body that copies another page would meet a clause about what it sees.
 pub trait Observed: PhysMem {
     /// The bytes of a page in memory itself: what others see there, and what they write.
     ghost beneath: { Self → ℕ → List ℕ };

@@ -1,6 +1,6 @@
 // SPDX-License-Identifier: MIT OR Apache-2.0
-//! A machine as a player sees it: what it does, and what it tells of itself. All of it is said by the small machine's
-//! state, so whoever plays on a machine needs neither its RAM nor its tables.
+//! Defines what a player needs of a machine: its operations, and what it reports about itself. The definitions of the
+//! state say all of it, so a player needs neither RAM nor tables.
 #![tactic(auto)]
 
 ghost use Rattle.std.specs.Prelude.{◌≡◌, ℕ, ◌+◌, ◌*◌, ◌^◌, ◌<◌, ◌≤◌, IfSome, IsTrue, Some, is_some, length};

@@ -9,6 +9,7 @@ use ffa_spmc::{Inline, Machine, Store};
 use ffa_tlb::{NoTlb, Translations};
 
 /// A machine that tells why it refuses.
+// It is a wrapper, because only the crate of a trait or of a type may implement the trait for the type.
 #[derive(Drop)]
 pub struct Explained<M: PhysMem + Drop, T: Translations + Drop = NoTlb, S: Store = Inline>(
     pub Machine<M, T, S>,

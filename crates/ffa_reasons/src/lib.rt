@@ -1,6 +1,6 @@
 // SPDX-License-Identifier: MIT OR Apache-2.0
-//! Why an operation is refused, what is to be mended or how things stand, by what an endpoint has its access to a page, and
-//! what it may still retrieve. No operation asks this and nothing is changed, so who audits what operations do can skip this crate.
+//! Finds why an operation is refused, what would pass, and why an endpoint has its access to a page. No operation uses
+//! it and it changes nothing. So you can skip it in an audit of what operations do.
 #![tactic(auto)]
 
 mod abouts;

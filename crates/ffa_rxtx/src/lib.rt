@@ -1,5 +1,5 @@
 // SPDX-License-Identifier: MIT OR Apache-2.0
-//! The RX and TX buffers of endpoints.
+//! Maps, unmaps, fills and releases the RX and TX buffers of endpoints.
 #![tactic(auto)]
 
 pub mod buffers;

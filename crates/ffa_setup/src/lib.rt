@@ -1,5 +1,5 @@
 // SPDX-License-Identifier: MIT OR Apache-2.0
-//! Setup: the version, features, identifiers and partition information (DEN0077A, 13).
+//! Answers the setup calls: version, features, identifiers and partition information (DEN0077A, 13).
 #![tactic(auto)]
 
 mod partitions;

@@ -1,5 +1,6 @@
 // SPDX-License-Identifier: MIT OR Apache-2.0
-//! The machine of the partition manager: RAM with the tables of all endpoints, and what each operation does.
+//! Joins all parts into the machine, which boots and does each operation. `Machine` has one runner, and `Cluster` has
+//! several processors.
 #![tactic(auto)]
 
 mod answer;

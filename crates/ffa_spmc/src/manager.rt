@@ -246,6 +246,8 @@ impl<M: PhysMem + Drop, S: Store> Manager<M, S> {
     }
 
     // The reply to a call of the runner. Each arm answers for itself.
+    // Each arm first checks, which changes nothing, and then has its effect. If an effect made the checks, each test
+    // would exist twice, or the code that says why a call is refused would not be the code that refuses it.
     #[inline(always)]
     fn reply<T: Translations>(&mut self, call: &Call, cache: &mut T, news: &mut News) -> Reply
         requires { passes_no_error call.now ≡ true }

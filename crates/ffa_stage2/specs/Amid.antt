@@ -65,6 +65,8 @@ pub record IsAmong (written : List ℕ) (s x : Step) : Type 0 where
 
 -- Where steps have led from one moment to another while nobody else wrote, memory may stand at this moment, and others have
 -- written to these pages: at first it is as it was; a step of theirs leads on, or a step as it is done in that memory.
+-- It is a relation over the history. If pages of RAM changed by themselves, no clause of `page` would be true. If each
+-- read required that its page is steady, each reader of RAM would have to prove that.
 pub data Amid (endpoints tables blocks : ℕ) (begun : Moment) : Moment → Moment → List ℕ → Type 0 where
   Begun : Amid endpoints tables blocks begun begun begun []
   Own :

@@ -1,5 +1,5 @@
 // SPDX-License-Identifier: MIT OR Apache-2.0
-//! Stage 2 tables of all endpoints, in pages of RAM from one on.
+//! Builds the stage 2 tables of all endpoints in pages of RAM, and changes them for runs of pages.
 #![tactic(auto)]
 
 mod blocks;

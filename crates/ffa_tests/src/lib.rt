@@ -1,7 +1,5 @@
 // SPDX-License-Identifier: MIT OR Apache-2.0
-//! Tests of the crates below the machine, each through what its crate makes public: of what no trace, no table of command lines
-//! and no program over the library shows. They stand here and not in their crates, since a crate with tests is proved twice
-//! at each landing.
+//! Tests crates below the machine, for facts that no trace, command line or program over C shows.
 #![tactic(auto)]
 
 #[cfg(test)]

@@ -8,7 +8,8 @@ use Rattle.ffa_tlb.specs.declared.translations.Entry.{Entry}
 abbrev pub is_pair : ℕ → ℕ → ℕ → ℕ → Bool
 is_pair f q e p = (f == e) && (q == p)
 
--- the leaf of the first entry that is held for a page of an endpoint
+-- the leaf of the first entry that is held for a page of an endpoint.
+-- A list serves instead of a function, because a value that clauses see needs a code, and a function has no code.
 abbrev pub lookup : List Entry → ℕ → ℕ → Option Leaf
 lookup [] e p = None
 lookup (entry ∷ entries) e p = if is_pair entry.endpoint.0 entry.page.0 e p then Some entry.leaf else lookup entries e p

@@ -1,7 +1,7 @@
 // SPDX-License-Identifier: MIT OR Apache-2.0
-//! Leaves of walks that are held for later, as a translation lookaside buffer holds them (DDI 0487, D8): the trait
-//! `Translations`, of which `NoTlb` holds none and `Tlb` a few. An endpoint's identifier stands where the standard's
-//! entries have a VMID.
+//! Keeps results of walks for later accesses, as a translation lookaside buffer does (DDI 0487, D8). `Translations` is
+//! the trait; `NoTlb` keeps nothing, and `Tlb` keeps a few results. An endpoint's identifier serves instead of the
+//! standard's VMID.
 #![tactic(auto)]
 
 pub mod replacement;

@@ -1,5 +1,6 @@
 // SPDX-License-Identifier: MIT OR Apache-2.0
-//! The stage 2 walk over any bytes in RAM, and loads, stores and fetches through it (DDI 0487, D8.2 and D8.3).
+//! Walks stage 2 tables in RAM, and loads, stores and fetches through them (DDI 0487, D8.2 and D8.3). It also checks a
+//! certificate against tables.
 #![tactic(auto)]
 
 pub mod access;

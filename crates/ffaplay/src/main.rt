@@ -1,5 +1,5 @@
 // SPDX-License-Identifier: MIT OR Apache-2.0
-//! Plays FF-A calls and memory accesses on a small machine.
+//! The program `ffaplay`, which plays FF-A calls and memory accesses on a machine.
 #![tactic(auto)]
 
 use play_commands::Program;

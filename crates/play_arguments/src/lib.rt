@@ -1,5 +1,5 @@
 // SPDX-License-Identifier: MIT OR Apache-2.0
-//! The command line of the program: the command, paths and flags that its words give.
+//! Reads the command line of `ffaplay`: the command, its paths and its flags.
 #![tactic(auto)]
 
 ghost use Rattle.std.specs.Prelude.{◌≡◌, ◌⊎◌, IfOk, IfErr, Some, None, map};
@@ -7,6 +7,8 @@ ghost use Rattle.clap.specs.Words.{app_of, kind_of, subcommand_rows_of};
 ghost use Rattle.clap.specs.declared.error.kind.ErrorKind.TheVariants.{OutOfMemory};
 ghost use Rattle.play_arguments.specs.Commands.{ask_of, asked_by, asked_in, program, IsRefusedFor};
 
+// `clap` has a crate of its own, because each crate above it pays for it in each proof. It takes no allocator except
+// the heap's.
 mod command_line;
 mod program;
 

@@ -180,7 +180,9 @@ FailsToName source.BuiltIn manifest failure = ⊥
 FailsToName (source.File path) manifest failure = FailsUnplayed manifest None None failure
 
 -- a command fails: a manifest is refused for its own cause, and then nothing was written, or a play stops, or a text
--- differs, or the output can't be written, and then the manifest, where one is named, isn't refused
+-- differs, or the output can't be written, and then the manifest, where one is named, isn't refused.
+-- Each failure has its row, so that a new failure must get a promise. In tables with a row for all others,
+-- constructors have the name of their module (`request.Play`). Without it a misspelt constructor would be a variable.
 abbrev pub FailsFor : Request → Ran → Failure → Type 0
 FailsFor request ran (failure.Manifest cause) =
     (needs_manifest request ≡ true) × IsRefused ran.manifest cause × IsQuiet ran

@@ -1,6 +1,5 @@
 // SPDX-License-Identifier: MIT OR Apache-2.0
-//! What the program does with a command whose files were read: it reads the manifest, boots a machine, plays, compares,
-//! writes traces, and says what went wrong. It opens nothing: readers and writers are given.
+//! Does each command of `ffaplay` after its files are open: it boots, plays, compares and generates.
 #![tactic(auto)]
 
 mod counting;

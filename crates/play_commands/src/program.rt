@@ -153,6 +153,7 @@ fn is_strict(request: &Request<'_>) -> bool
 impl<M: Machines, A: Allocator + Copy> Program<M, A> {
     // Does what was asked for, and flushes what it wrote. Where that fails, a command isn't done, and no bad line,
     // difference or guard is told of, since the text is lost. Another failure was found before, and stays.
+    // It has single clauses instead of one `Does`, because the check of that record after the flush ran out of memory.
     fn do_request<'a, R: Read + Drop, W: Write, E: Write>(
         &self,
         request: &Request<'a>,

@@ -1,5 +1,5 @@
 // SPDX-License-Identifier: MIT OR Apache-2.0
-//! The machine of the program's demonstration, which needs no manifest's text.
+//! Defines the machine of `ffaplay demo`, so that it needs no manifest.
 #![tactic(auto)]
 
 ghost use Rattle.std.specs.Prelude.{◌≡◌};

@@ -1,5 +1,5 @@
 // SPDX-License-Identifier: MIT OR Apache-2.0
-//! The words of the command that writes a descriptor of a memory transaction, read into what it is to hold.
+//! Reads the words of `ffaplay descriptor`, which describe a memory transaction.
 #![tactic(auto)]
 
 mod fault;

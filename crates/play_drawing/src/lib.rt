@@ -1,6 +1,5 @@
 // SPDX-License-Identifier: MIT OR Apache-2.0
-//! Pictures of who reaches which page of RAM: rows, columns and cells, and their text as an SVG. No machine is needed
-//! for them.
+//! Draws who reaches which page of RAM: rows, columns and cells, and their text as an SVG. It needs no machine.
 #![tactic(auto)]
 
 mod cell;

@@ -1,6 +1,6 @@
 // SPDX-License-Identifier: MIT OR Apache-2.0
-//! The program around its commands: it reads the words, opens the files that they name, and has done what they ask for. What
-//! does that, and the system on which it runs, are left open.
+//! Opens the files that the command line names, and has the command done. Traits hide the system, and the code that
+//! does the command.
 #![tactic(auto)]
 
 mod commands;

@@ -1,6 +1,5 @@
 // SPDX-License-Identifier: MIT OR Apache-2.0
-//! Plays a trace line by line: with the number of each line, with the names of what registers hold, with the reasons of
-//! refusals, with guards that are checked or made, past bad lines, or against a text that is expected.
+//! Plays a trace with numbers, names, reasons or guards, past bad lines, or next to an expected text.
 #![tactic(auto)]
 
 mod asking;

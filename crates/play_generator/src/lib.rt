@@ -1,6 +1,6 @@
 // SPDX-License-Identifier: MIT OR Apache-2.0
-//! Traces for a machine, made at random: the scenes of `play_scenes`, played on the machine of a manifest, which the caller
-//! boots. The same seed gives the same trace.
+//! Generates a trace at random: it plays the scenes of `play_scenes` on the machine of a manifest. The same seed gives
+//! the same trace.
 #![tactic(auto)]
 
 ghost use Rattle.std.specs.Prelude.{OnOk};

@@ -1,5 +1,5 @@
 // SPDX-License-Identifier: MIT OR Apache-2.0
-//! The machines of `ffa_spmc` for the program: they are booted with the RAM and the cache that are asked for.
+//! Boots the machines of `ffa_spmc` for the program, with the RAM and cache that the options ask for.
 #![tactic(auto)]
 
 mod counting;

@@ -17,6 +17,8 @@ use std::io::{self, Write};
 
 /// Writes the page as HTML: how it looks, what stands in it, what a browser does with it, and the data, which are
 /// those of the page. Of these the browser reads nothing as HTML or as a script.
+// HTML, style and script are constants, and `play_drawing` has a function for XML's escapes: the toolchain has no
+// `include_str!` and no library for these.
 pub fn write_page<A: Allocator, W: Write>(page: &Page<A>, writer: &mut W) -> io::Result<()>
     ensures { OnOk result (WritesPage (W.contents writer.old) (W.contents writer.new)) }
 {

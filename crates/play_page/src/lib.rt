@@ -1,6 +1,5 @@
 // SPDX-License-Identifier: MIT OR Apache-2.0
-//! A trace as one HTML page, to look at it line by line: what each line says, answers and changes, with all that a
-//! browser needs to show it.
+//! Writes a played trace as one HTML page, which shows what each line says, answers and changes.
 #![tactic(auto)]
 
 mod html;

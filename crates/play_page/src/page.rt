@@ -32,6 +32,7 @@ pub struct RowOffers<A: Allocator = Global> {
 }
 
 /// A trace that was done on a machine, line by line.
+// It has the certificates that changed, and not a state for each line. So the page of 20,000 lines stays small.
 #[derive(Drop)]
 pub struct Page<A: Allocator = Global> {
     /// Where RAM begins.

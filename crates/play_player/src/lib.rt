@@ -1,5 +1,5 @@
 // SPDX-License-Identifier: MIT OR Apache-2.0
-//! The player of traces: what each line does on the machine, and the text of what comes of it.
+//! Plays traces: it does each line on a machine, and writes the text of the outcome.
 #![tactic(auto)]
 
 pub mod certificate;

@@ -125,6 +125,8 @@ impl<P: Playable> Player<P> {
     ///
     /// So no text of a line whose LF has come is kept back. It asks the writer for `write` alone, and tries nothing
     /// again after an error. After `PlayError::Read` there are more lines than can be counted.
+    // A play reads and then calls `feed`, in turn. The values of a reader and a writer cannot say which of them was
+    // asked first.
     pub fn feed<A: Allocator + Copy, W: Write>(
         &mut self,
         alloc: A,

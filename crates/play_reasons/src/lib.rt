@@ -1,7 +1,6 @@
 // SPDX-License-Identifier: MIT OR Apache-2.0
-//! Why a call is refused, for a reader: what each check finds and what is wrong with a descriptor, in words, and the
-//! numbers of a call's checks; and what is printed beside the text of a line: its number, the names of what registers
-//! hold, why an operation is refused, and why a line is none of the format. None of it asks a machine.
+//! Puts reasons into words: what a check finds, what is wrong with a descriptor, and why a line is bad. It also writes
+//! line numbers and names of registers. It uses no machine.
 #![tactic(auto)]
 
 mod closer;

@@ -1,6 +1,5 @@
 // SPDX-License-Identifier: MIT OR Apache-2.0
-//! What the program says without a machine: why a command isn't done, where a trace prints another text than is expected, and
-//! what those commands print that play and make no trace.
+//! Writes what the program says without a machine: failures, differences, manifests and layouts.
 #![tactic(auto)]
 
 mod call_fault;

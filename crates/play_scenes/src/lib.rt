@@ -1,6 +1,6 @@
 // SPDX-License-Identifier: MIT OR Apache-2.0
-//! Scenes of a trace, made at random: each call in its right form and with something changed, as what came before allows, and
-//! accesses at the edges of what an endpoint reaches. They are played on a stage, of which no more is known than its trait says.
+//! Makes up scenes at random: calls in their right form or with one change, and accesses. It plays them on a stage,
+//! which is a trait.
 #![tactic(auto)]
 
 mod accesses;

@@ -1,5 +1,5 @@
 // SPDX-License-Identifier: MIT OR Apache-2.0
-//! The lines of a trace and the text of what comes of them, as far as no machine is needed for either.
+//! Reads lines of a trace and writes the text of outcomes, as far as this needs no machine.
 #![tactic(auto)]
 
 pub mod line;

@@ -1,5 +1,5 @@
 // SPDX-License-Identifier: MIT OR Apache-2.0
-//! What is done with a trace on a machine, by what it is played for. Which machine that is, and what boots it, is left open.
+//! Does what a trace is played for, on a machine that another crate boots.
 #![tactic(auto)]
 
 mod comparing;

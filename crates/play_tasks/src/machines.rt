@@ -31,6 +31,8 @@ pub struct Play<'a, A, R> {
 pub trait Machines {
     /// Plays a trace on the machine of this manifest, which is built as is asked for, and which so many processors run as are
     /// asked for, or one alone.
+    // `out` and `told` are not fields of `Play`. A field would be borrowed as long as the play, and each clause would
+    // have to say that it is the same reference.
     fn play<'a, A: Allocator + Copy, R: Read + Drop, W: Write, E: Write>(
         &self,
         play: Play<'a, A, R>,

@@ -1,6 +1,6 @@
 // SPDX-License-Identifier: MIT OR Apache-2.0
-//! Tests of what stands on the player: machines that go on behind a play, comments of generated traces, and commands whose
-//! reads, writes or growths of memory fail.
+//! Tests the crates above the player, above all reads, writes and allocations that fail. It also tests machines after
+//! a play, and comments of generated traces.
 #![tactic(auto)]
 
 #[cfg(test)]

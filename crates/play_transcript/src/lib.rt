@@ -1,6 +1,6 @@
 // SPDX-License-Identifier: MIT OR Apache-2.0
-//! The turns of a trace that is made: whose turn it is, how the lines that a turn gave are written, with comments that say what
-//! is tried, and how often what came of them. What gives the lines is handed over.
+//! Writes generated traces, with comments that say what a line tries, and counts the outcomes. Another crate makes the
+//! lines of each turn.
 #![tactic(auto)]
 
 mod attempts;

@@ -1,6 +1,6 @@
 // SPDX-License-Identifier: MIT OR Apache-2.0
-//! Traces in words: calls by their names, what registers hold by the names of arguments, and numbers behind `0x`. Each line
-//! comes to one of the plain format.
+//! Translates a line with names of calls and arguments into a line of the plain format. Its numbers may begin with
+//! `0x`.
 #![tactic(auto)]
 
 mod arguments;

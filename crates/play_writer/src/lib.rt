@@ -1,6 +1,6 @@
 // SPDX-License-Identifier: MIT OR Apache-2.0
-//! Descriptors of memory transactions (DEN0077A, 5.11 and 16), written as `ffa_memdesc` reads them, and lines of traces, written
-//! so that they are read as what was meant: an operation, stores of bytes, a descriptor with its call.
+//! Writes descriptors of memory transactions and lines of traces (DEN0077A, 5.11 and 16). `ffa_memdesc` and the player
+//! read them as the same values.
 #![tactic(auto)]
 
 mod access;

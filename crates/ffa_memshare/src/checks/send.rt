@@ -166,6 +166,7 @@ fn is_range_sendable<P: Room<KeptPage> + Drop>(
 }
 
 // Whether an endpoint may send the pages of these ranges.
+// Owner, open transaction and buffer are one check with one name. Three names would need three passes over the pages.
 fn are_sendable<P: Room<KeptPage> + Drop>(
     pages: &PageTable<P>,
     base: Address,

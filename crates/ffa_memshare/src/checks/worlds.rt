@@ -90,6 +90,8 @@ fn names_normal_world(receivers: &[Receiver]) -> bool
 
 // Whether the pages that are offered to these receivers are told to be non-secure, or why worlds forbid the offer. Where
 // worlds aren't told apart no page is looked at.
+// This check is about all pages and receivers together, so it follows the checks of single pages. If it were a part of
+// `PageUnsendable`, that name would not mention worlds.
 pub(crate) fn check_worlds<P: Room<KeptPage> + Drop>(
     layout: &Layout,
     pages: &PageTable<P>,

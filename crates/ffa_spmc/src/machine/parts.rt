@@ -11,6 +11,8 @@ use ffa_tlb::Translations;
 impl<M: PhysMem + Drop, T: Translations + Drop, S: Store> Machine<M, T, S> {
     /// All parts, to be read: for `ffa_reasons`, which tells why operations are refused. What holds of them holds of every machine,
     /// and the state is what they mean.
+    // The machine lends its parts, so that a crate above it can find a reason. An audit of the operations need not
+    // read that crate. Only code that needs private parts of a lower crate remains there.
     pub fn parts(&self) -> Parts<'_, M, S>
         ensures { AreParts (lent_parts M.ram result) self.now.state }
     {
