@@ -1,5 +1,5 @@
 # SPDX-License-Identifier: MIT OR Apache-2.0
-# Each target runs a script. `make` prints them, with the lines below that begin with two number signs. Every target but `help` needs the
+# Each target runs a script. `make` prints them, with the lines below that begin with two number signs. All targets except `help` need the
 # toolchain's rt on your path. If a script needs more, it says so.
 
 .PHONY: help test quick gate prove wrong c rust python board linux secure docs page bench

@@ -1,7 +1,7 @@
 #!/usr/bin/env bash
 # SPDX-License-Identifier: MIT OR Apache-2.0
-# Builds the board's firmware over the library for AArch64, runs each scene on it under QEMU, and compares what the processor did with what ffaplay
-# prints for the same operations. --help says more.
+# Builds the board's firmware over the library for AArch64, and runs each scene on it under QEMU. Then it compares what the processor did with what
+# ffaplay prints for the same operations. --help says more.
 set -euo pipefail
 me=board
 . "$(dirname "${BASH_SOURCE[0]}")/common.sh"
@@ -22,7 +22,7 @@ All scenes take some minutes, one scene some seconds. Without ARCHIVES and FFAPL
 program, if they are not proved yet. From nothing this takes about 50 minutes on four processors.
 
   --install            first install Debian's qemu-system-arm and gcc-aarch64-linux-gnu
-  --build-only         build the firmwares, except those of unproved libraries, and run nothing
+  --build-only         build the firmwares, except the two over unproved libraries, and run nothing
   --keep FOLDER        keep each scene's output: FOLDER/FIRMWARE-PROCESSOR-SCENE.uart, .trace, .found and .expected
   --seed N             seed of the operations that are generated [default: 1]
   --operations N       number of operations that are generated [default: 10000]

@@ -1,7 +1,7 @@
 #!/usr/bin/env bash
 # SPDX-License-Identifier: MIT OR Apache-2.0
-# Builds Linux, partitions and the firmware that runs them over the library, runs them under QEMU, and compares: Linux must print what expected.txt has, and
-# the library must answer each call as ffaplay does. --help says more.
+# Builds Linux, partitions and the firmware that runs them over the library, and runs them under QEMU. Linux must print what expected.txt has, and the
+# library must answer each call as ffaplay does. --help says more.
 set -euo pipefail
 me=board/linux
 . "$(dirname "${BASH_SOURCE[0]}")/../common.sh"
@@ -28,7 +28,7 @@ library. This takes some minutes if the library and the program are proved and t
                  (board/linux/kernel --help describes them)
   --limits NAME  use a copy of the repository with limits/NAME.edit; Linux then shares a page 100,000 times
                  (the copy's library is proved first, and its program is compiled without proofs)
-  --several      only boot Linux on two and on four processors, each of which may run a partition
+  --several      only boot Linux on two and on four processors, where each may run a partition
   --rounds N     number of random rounds of Linux's threads [default: 10000]
   --work FOLDER  keep the kernel's source and all builds in FOLDER, so that each is built once
                  [default: /tmp/gorseplumb-boards, which board/secure/run.sh uses too]

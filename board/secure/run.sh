@@ -1,7 +1,7 @@
 #!/usr/bin/env bash
 # SPDX-License-Identifier: MIT OR Apache-2.0
-# Builds TF-A from Debian's source, the firmware as its manager of the secure world, and a program or Linux as the normal world, boots them under QEMU, and
-# compares each answer of the library with what ffaplay prints. --help says more.
+# Builds TF-A from Debian's source, the firmware as its manager of the secure world, and a program or Linux as the normal world. It boots them under
+# QEMU, and compares each answer of the library with what ffaplay prints. --help says more.
 set -euo pipefail
 me=board/secure
 . "$(dirname "${BASH_SOURCE[0]}")/../common.sh"
@@ -162,7 +162,7 @@ boot() {
     tr -d '\r' <"$to/uart" >"$to/linux"
     [[ -z $late ]] || fail "$name: $late"
     part "$to/core"
-    "$player" run --worlds --processors "$processors" "$to/manifest" "$to/trace" >"$to/expected" || fail "$name: the program does not play what was done"
+    "$player" run --worlds --processors "$processors" "$to/manifest" "$to/trace" >"$to/expected" || fail "$name: the program does not play what the normal world did"
     if [[ $keep ]]; then for kind in uart core trace found expected; do cp "$to/$kind" "$keep/$name.$kind"; done; fi
 }
 
