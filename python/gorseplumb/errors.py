@@ -123,7 +123,7 @@ class GuardUnmet(GorseplumbError, AssertionError):
         told = "nothing" if self.got is None else f'"{self.got}"'
         name = "bad guard: " if self.is_bad else ""
         hint = f": {self.hint}" if self.hint else ""
-        return f'line {self.number}: {name}wanted "{self.wanted}", got {told}{hint}'
+        return f'line {self.number}: {name}expected "{self.wanted}", found {told}{hint}'
 
 
 class NotRecordable(GorseplumbError):

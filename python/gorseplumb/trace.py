@@ -195,9 +195,9 @@ class Player:
         can_be_met = bool(_RUNNER.fullmatch(wanted)) if asks_runner else _can_be_met(wanted)
         hint = None
         if not can_be_met:
-            hint = "nothing that is printed meets it"
+            hint = "this guard can never pass"
         elif got is None and self._printed:
-            hint = "an earlier guard took that line"
+            hint = "an earlier guard checked that line"
         return GuardUnmet(number, wanted, got, is_bad=not can_be_met, hint=hint)
 
 

@@ -40,7 +40,7 @@ def test_is_played_by_the_program_to_the_same_answers(program: Program, tmp_path
     assert program("run", "--strict", MANIFEST, path).returncode == 0
     changed = text.replace("#= fault translation", "#= data 00", 1)
     done = program("run", "--strict", MANIFEST, "-", text=changed.encode())
-    assert done.returncode == 5 and b'wanted "data 00", got "fault translation"' in done.stderr
+    assert done.returncode == 5 and b'expected "data 00", found "fault translation"' in done.stderr
 
 
 def test_has_what_show_and_audit_print(program: Program) -> None:

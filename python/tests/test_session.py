@@ -102,7 +102,7 @@ def test_takes_back_and_saves_what_was_done(session: Session, program: Program, 
     assert other.line(f"play {path}") == ["done", "data 2A"]
     assert other.line("undo") == [f"undone: play {path}"]
     path.write_text("load 40010000 1\n#= data 01\n")
-    assert other.line(f"play {path}") == ["data 00", 'error: line 2: wanted "data 01", got "data 00"']
+    assert other.line(f"play {path}") == ["data 00", 'error: line 2: expected "data 01", found "data 00"']
 
 
 def test_sends_descriptors(session: Session, program: Program, tmp_path: Path) -> None:

@@ -105,11 +105,11 @@ def test_stops_at_a_guard_that_is_not_met() -> None:
     with Machine(BUILT_IN) as machine:
         assert list(play(machine, text, strict=True))
     with Machine(BUILT_IN) as machine:
-        with pytest.raises(GuardUnmet, match='line 10: wanted "data 00", got "fault translation"'):
+        with pytest.raises(GuardUnmet, match='line 10: expected "data 00", found "fault translation"'):
             list(play(machine, text.replace("#= fault translation", "#= data 00"), strict=True))
-        with pytest.raises(GuardUnmet, match='line 1: wanted "done", got nothing'):
+        with pytest.raises(GuardUnmet, match='line 1: expected "done", found nothing'):
             list(play(machine, "#= done\n", strict=True))
-        with pytest.raises(GuardUnmet, match='line 1: wanted "0000", got "8001"'):
+        with pytest.raises(GuardUnmet, match='line 1: expected "0000", found "8001"'):
             list(play(machine, "#@ 0000\n", strict=True))
         assert list(play(machine, "#= done\n")) == []
 

@@ -168,7 +168,7 @@ impl Manifest {
     /// # use gorseplumb::*;
     /// let mut room = [0; 256];
     /// let said = Manifest::why("rambase = 1", &mut room);
-    /// assert_eq!(said, Some("key 'rambase' is unknown: did you mean 'ram_base'?"));
+    /// assert_eq!(said, Some("unknown key 'rambase': did you mean 'ram_base'?"));
     /// ```
     pub fn why(text: impl AsRef<[u8]>, room: &mut [u8]) -> Option<&str> {
         let text = text.as_ref();

@@ -178,9 +178,9 @@ fn words_are_those_of_the_program() {
     let mut room = [0; 300];
     assert_eq!(Manifest::why(example("machine.toml").as_str(), &mut room), None);
     let text = refused_text(Cause::RamBlocks);
-    assert_eq!(Manifest::why(&text, &mut room), Some("ram_blocks = 33: 1 to 32"));
+    assert_eq!(Manifest::why(&text, &mut room), Some("ram_blocks = 33: must be 1 to 32"));
     assert_eq!(Manifest::why(&text, &mut room[..6]), Some("ram_b"));
-    assert_eq!(Manifest::why("\"\u{e9}\" = 1", &mut room[..7]), Some("key '"), "a character is cut");
+    assert_eq!(Manifest::why("\"\u{e9}\" = 1", &mut room[..15]), Some("unknown key '"), "a character is cut");
     assert_eq!(Manifest::why(&text, &mut []), Some(""));
 }
 

@@ -186,7 +186,7 @@ fn in_normal_world(
         return Ok((None, at_version(alloc, table)?));
     }
     if normal_world_properties(table).is_err() {
-        let fault = Fault::Words("0, 2, 4 or 6");
+        let fault = Fault::Words("must be 0, 2, 4 or 6");
         return Ok((None, at_key(alloc, table, "properties", fault)?));
     }
     in_regions(alloc, table, space, &[])
@@ -213,11 +213,11 @@ fn in_partition(
         return Ok((None, at_version(alloc, table)?));
     }
     if uuid_at(table).is_err() {
-        let fault = Fault::Words("no UUID, or the Nil UUID");
+        let fault = Fault::Words("must be a UUID other than the Nil UUID");
         return Ok((None, at_key(alloc, table, "uuid", fault)?));
     }
     if properties_at(table).is_err() {
-        let fault = Fault::Words("0 to 15");
+        let fault = Fault::Words("must be 0 to 15");
         return Ok((None, at_key(alloc, table, "properties", fault)?));
     }
     in_regions(alloc, table, space, before)
@@ -288,11 +288,11 @@ fn in_region(
     if region_keys(table).is_err() {
         unknown_key(alloc, table, &REGION_KEYS)
     } else if base_at(table).is_err() {
-        at_key(alloc, table, "base", Fault::Words("no integer"))
+        at_key(alloc, table, "base", Fault::Words("must be an integer"))
     } else if pages_at(table).is_err() {
-        at_key(alloc, table, "pages", Fault::Words("no integer"))
+        at_key(alloc, table, "pages", Fault::Words("must be an integer"))
     } else if rights_at(table).is_err() {
-        let fault = Fault::Words("none of \"ro\", \"rw\", \"rox\" and \"rwx\"");
+        let fault = Fault::Words("must be \"ro\", \"rw\", \"rox\" or \"rwx\"");
         at_key(alloc, table, "rights", fault)
     } else {
         match region(table, space) {
@@ -413,7 +413,7 @@ fn at_array(
             count: values.len(),
             most,
         }),
-        None => at_key(alloc, table, key, Fault::Words("no array")),
+        None => at_key(alloc, table, key, Fault::Words("must be an array")),
     }
 }
 
@@ -421,7 +421,7 @@ fn at_array(
 fn at_version(alloc: Global, table: &Table) -> Result<Found, AllocError>
     ensures { IfOk result SharesPage }
 {
-    let fault = Fault::Words("neither \"1.1\" nor \"compact\"");
+    let fault = Fault::Words("must be \"1.1\" or \"compact\"");
     at_key(alloc, table, "version", fault)
 }
 

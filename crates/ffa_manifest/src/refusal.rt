@@ -123,12 +123,12 @@ impl fmt::Display for Fault {
                 let (least, most) = (MOST_RAM, (1 << 32) - MOST_RAM);
                 write!(
                     f,
-                    "a multiple of {least:08X} from {least:08X} to {most:08X}"
+                    "must be a multiple of {least:08X}, from {least:08X} to {most:08X}"
                 )
             }
-            Fault::BlockCount => write!(f, "1 to {MOST_BLOCKS}"),
-            Fault::RegionBase(bounds) => write!(f, "a multiple of 1000 in {bounds}"),
-            Fault::PageCount => write!(f, "1 or more"),
+            Fault::BlockCount => write!(f, "must be 1 to {MOST_BLOCKS}"),
+            Fault::RegionBase(bounds) => write!(f, "must be a multiple of 1000, from {bounds}"),
+            Fault::PageCount => write!(f, "must be 1 or more"),
             Fault::Words(words) => write!(f, "{words}"),
         }
     }
@@ -278,27 +278,27 @@ impl fmt::Display for Found {
                     "control character \\x{byte:02X}, which TOML does not allow"
                 )
             }
-            Found::UnknownKey { key, near: None } => write!(f, "key '{key}' is unknown"),
+            Found::UnknownKey { key, near: None } => write!(f, "unknown key '{key}'"),
             Found::UnknownKey {
                 key,
                 near: Some(near),
-            } => write!(f, "key '{key}' is unknown: did you mean '{near}'?"),
-            Found::MissingKey(key) => write!(f, "'{key}' is missing"),
+            } => write!(f, "unknown key '{key}': did you mean '{near}'?"),
+            Found::MissingKey(key) => write!(f, "missing key '{key}'"),
             Found::Value { key, value, fault } => write!(f, "{key} = {value}: {fault}"),
             Found::Number { key, number, fault } => {
                 write!(f, "{key} = {}: {fault}", Number::refused(*number, *fault))
             }
             Found::Count { key, count, most } => {
-                write!(f, "{key} has {count} members: 1 to {most}")
+                write!(f, "{key} has {count} members: must have 1 to {most}")
             }
-            Found::NoTable(value) => write!(f, "{value}: no table"),
+            Found::NoTable(value) => write!(f, "{value} is not a table"),
             Found::Outside {
                 base,
                 pages,
                 bounds,
             } => {
                 write_region(f, *base, *pages)?;
-                write!(f, "; regions lie in {bounds}")
+                write!(f, "; regions must be in {bounds}")
             }
             Found::Overlap { region, met } => {
                 write_region(f, u64::from(region.base), u64::from(region.pages))?;

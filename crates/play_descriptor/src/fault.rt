@@ -66,16 +66,16 @@ impl Word {
         }
     }
 
-    // What the word isn't, where it can't be read.
+    // What the word must be.
     fn form(self) -> &'static str {
         match self {
-            Word::Tx => "no address of a page, as 4002E000 is",
-            Word::From => "no identifier, as 8001 is",
-            Word::To => "none of the form 8002, or 8002:rw where a right is given",
-            Word::Pages => "none of the form 40021000+1",
-            Word::Handle | Word::Tag => "no hexadecimal number of 1 to 16 digits",
-            Word::Of => "none of donate, lend and share",
-            Word::Zero | Word::Compact => "no flag",
+            Word::Tx => "must be the address of a page, such as 4002E000",
+            Word::From => "must be an identifier, such as 8001",
+            Word::To => "must be 8002, or 8002:rw with a right",
+            Word::Pages => "must be ADDRESS+PAGES, such as 40021000+1",
+            Word::Handle | Word::Tag => "must be a hexadecimal number of 1 to 16 digits",
+            Word::Of => "must be donate, lend or share",
+            Word::Zero | Word::Compact => "must be a flag without a value",
         }
     }
 }
@@ -103,26 +103,26 @@ impl Form {
         }
     }
 
-    // Which rights have a place beside an endpoint, and what is to be known of others.
+    // Which rights an endpoint may have in this form, and where other rights are requested.
     fn rights(self) -> &'static str {
         match self {
-            Form::Donate => "grants no right; its receiver asks for one at the retrieve",
-            Form::Lend => "grants ro or rw; execution is asked for at the retrieve",
+            Form::Donate => "grants no right; its receiver requests one in the retrieve",
+            Form::Lend => "grants ro or rw; a receiver requests execution in the retrieve",
             Form::Share => "grants ro or rw; no receiver of a share may execute",
-            Form::Retrieve => "asks for ro, rw, rox, rwx or x",
-            Form::Relinquish => "takes no right; it gives up all that was retrieved",
+            Form::Retrieve => "requests ro, rw, rox, rwx or x",
+            Form::Relinquish => "takes no right; it releases all that was retrieved",
             Form::Reclaim => "takes no right",
         }
     }
 
-    // What is to be known of a word that has no place.
-    fn place(self, word: Word) -> &'static str {
+    // What to use instead of a word that cannot be used for this form.
+    fn instead(self, word: Word) -> &'static str {
         match (self, word) {
-            (Form::Reclaim, _) => "a reclaim, which takes --handle and --zero",
+            (Form::Reclaim, _) => ", which takes --handle and --zero",
             (Form::Retrieve, Word::Zero) => {
-                "this descriptor: pages are zeroed by the donate, lend, relinquish or reclaim that asks for it"
+                ": a donate, lend, relinquish or reclaim with --zero zeroes the pages"
             }
-            _ => "this descriptor",
+            _ => "",
         }
     }
 }
@@ -144,16 +144,20 @@ impl fmt::Display for WordsFault {
         match self {
             WordsFault::UnknownKind => write!(
                 f,
-                "the kind is none of donate, lend, share, retrieve, relinquish and reclaim"
+                "the kind must be donate, lend, share, retrieve, relinquish or reclaim"
             ),
             WordsFault::OutOfPlace(word, form) => {
-                write!(f, "{word} has no place in {}", form.place(*word))
+                let instead = form.instead(*word);
+                write!(f, "{word} cannot be used for a {form}{instead}")
             }
             WordsFault::Missing(word) => write!(f, "{word} is missing"),
-            WordsFault::TooMany(word) => write!(f, "{word}: more than this descriptor can have"),
+            WordsFault::TooMany(word) => write!(f, "{word}: too many for this descriptor"),
             WordsFault::RightOutOfPlace(right, form) => {
                 let rights = form.rights();
-                write!(f, "--to: {right} has no place in a {form}, which {rights}")
+                write!(
+                    f,
+                    "--to: {right} cannot be used for a {form}, which {rights}"
+                )
             }
             WordsFault::Unreadable(word) => write!(f, "{word}: {}", word.form()),
         }

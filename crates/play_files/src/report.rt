@@ -60,7 +60,7 @@ impl Report {
             let front = self.front_of_told();
             writeln!(
                 out,
-                "{front}ffaplay: no guard: it asks nothing, which --allow-unguarded allows"
+                "{front}ffaplay: the trace has no guard; use --allow-unguarded to allow this"
             )?;
         }
         out.flush()

@@ -20,7 +20,7 @@ const CLOSED: u8 = 141;
 
 /// With what a session at a terminal begins.
 const GREETING: &str =
-    "ffaplay: a session: each line is done when it ends; help says what a line is, and quit ends the session";
+    "ffaplay: session: each line runs when you press Enter. Type help for the forms of a line, or quit to end the session";
 
 /// Runs the program with these standard streams, and answers the status with which it ends. Where nobody reads the output,
 /// nothing is told of that.
@@ -71,7 +71,7 @@ fn status<
         Ok(args) => args,
         Err(error) if error.kind() == io::ErrorKind::OutOfMemory => return Err(AllocError),
         Err(_) => {
-            let _ = eprintln!(rt; "ffaplay: a word is not UTF-8");
+            let _ = eprintln!(rt; "ffaplay: an argument is not UTF-8");
             return Ok(64);
         }
     };

@@ -40,7 +40,7 @@ pub enum CompareError {
     #[error("{0}")]
     Play(PlayError),
     /// The reader of the expected text failed, or that text has more lines than can be counted.
-    #[error("cannot read what is expected")]
+    #[error("cannot read the expected output")]
     Expected,
 }
 

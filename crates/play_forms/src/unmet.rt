@@ -39,7 +39,7 @@ fn put_line<A: Allocator>(
     let (name, more) = words_of(hint);
     write!(
         told,
-        "ffaplay: line {number}: {name}wanted \"{}\", got ",
+        "ffaplay: line {number}: {name}expected \"{}\", found ",
         wanted.escape_ascii()
     )?;
     if found.is_empty() {
@@ -53,8 +53,8 @@ fn put_line<A: Allocator>(
 fn words_of(hint: Option<Hint>) -> (&'static str, &'static str) {
     match hint {
         None => ("", ""),
-        Some(Hint::Bad) => ("bad guard: ", ": nothing that is printed meets it"),
-        Some(Hint::Taken) => ("", ": an earlier guard took that line"),
-        Some(Hint::Open) => ("", ": \" ..\" behind it leaves the rest open"),
+        Some(Hint::Bad) => ("bad guard: ", ": this guard can never pass"),
+        Some(Hint::Taken) => ("", ": an earlier guard checked that line"),
+        Some(Hint::Open) => ("", ": end the guard with \" ..\" to ignore the rest"),
     }
 }

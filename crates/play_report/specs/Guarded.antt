@@ -7,15 +7,15 @@ use Rattle.play_syntax.specs.TraceText.{ended}
 -- the comment in the line of this number is nearly a guard
 abbrev pub near_line : ℕ → List ℕ
 near_line number =
-    codes "ffaplay: line " ++ (decimal number ++ ended (codes ": no guard: a space follows the #"))
+    codes "ffaplay: line " ++ (decimal number ++ ended (codes ": not a guard: remove the space after #"))
 
 abbrev pub near_text : List ℕ → List ℕ
 near_text numbers = flat_map near_line numbers
 
 -- so many guards were met
 abbrev pub met_text : ℕ → List ℕ
-met_text met = codes "ffaplay: guards met: " ++ ended (decimal met)
+met_text met = codes "ffaplay: guards passed: " ++ ended (decimal met)
 
 -- so many weren't
 abbrev pub unmet_text : ℕ → List ℕ
-unmet_text unmet = codes "ffaplay: guards not met: " ++ ended (decimal unmet)
+unmet_text unmet = codes "ffaplay: guards failed: " ++ ended (decimal unmet)

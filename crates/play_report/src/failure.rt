@@ -58,10 +58,10 @@ pub enum Failure<'a> {
     #[error("no memory")]
     NoMemory,
     /// A trace prints another text than is expected, which the output has told.
-    #[error("another text than expected")]
+    #[error("the output differs from the expected output")]
     Differs,
     /// The guard in the line of this number, counted from 1, isn't met.
-    #[error("line {0}: a guard isn't met")]
+    #[error("line {0}: guard failed")]
     Unmet(u64),
     /// The words of a descriptor say none.
     #[error("descriptor: {0}")]
@@ -70,7 +70,7 @@ pub enum Failure<'a> {
     #[error("descriptor: {0}")]
     Unfit(Unfit),
     /// A picture would have more rows than this many.
-    #[error("a picture of more than {0} rows: say --every N, with a larger N where it is refused again, or --page")]
+    #[error("the picture would have more than {0} rows; use --every with a larger number, or --page")]
     TooManyRows(usize),
 }
 

@@ -24,7 +24,7 @@ fn put_near<A: Allocator>(told: &mut Vec<u8, A>, number: u64) -> Result<(), Fail
 {
     writeln!(
         told,
-        "ffaplay: line {number}: no guard: a space follows the #"
+        "ffaplay: line {number}: not a guard: remove the space after #"
     )
     .map_err(|_| Failure::NoMemory)
 }
@@ -34,7 +34,7 @@ pub fn tell_met<A: Allocator>(told: &mut Vec<u8, A>, met: u64) -> Result<(), Fai
     ensures written { OnOk result (told.new.items ≡ told.old.items ++ met_text met) }
     ensures failed { IfErr result (λ failure. failure ≡ Failure.NoMemory) }
 {
-    writeln!(told, "ffaplay: guards met: {met}").map_err(|_| Failure::NoMemory)
+    writeln!(told, "ffaplay: guards passed: {met}").map_err(|_| Failure::NoMemory)
 }
 
 /// Puts a line behind a text that says how many weren't.
@@ -42,5 +42,5 @@ pub fn tell_unmet<A: Allocator>(told: &mut Vec<u8, A>, unmet: usize) -> Result<(
     ensures written { OnOk result (told.new.items ≡ told.old.items ++ unmet_text unmet) }
     ensures failed { IfErr result (λ failure. failure ≡ Failure.NoMemory) }
 {
-    writeln!(told, "ffaplay: guards not met: {unmet}").map_err(|_| Failure::NoMemory)
+    writeln!(told, "ffaplay: guards failed: {unmet}").map_err(|_| Failure::NoMemory)
 }

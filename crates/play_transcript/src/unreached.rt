@@ -73,30 +73,30 @@ pub fn why_unreached(everyone: Everyone, function: u32, refusal: Refusal) -> Opt
     match refusal {
         Refusal::TargetNotReady => of_call(
             function == FFA_RUN && everyone.runs_alone,
-            "each partition waits or has yielded while the normal world runs",
+            "each partition is waiting or has yielded while the normal world runs",
         ),
         Refusal::GrantTooMuch => { of_call(function == FFA_MEM_DONATE, "a donate grants no right") }
         Refusal::ZerosUnwritable => {
-            of_call(function == FFA_MEM_SHARE, "a share can't ask for zeros")
+            of_call(function == FFA_MEM_SHARE, "a share cannot request zeroing")
         }
         Refusal::WorldsMixed => of_call(
             everyone.tells_no_worlds,
-            "the machine doesn't tell worlds apart",
+            "the machine does not separate secure and non-secure memory",
         ),
         Refusal::HandlesUsedUp => {
-            Some("an endpoint would have to send memory 65535 times before")
+            Some("an endpoint would first have to send memory 65535 times")
         }
         Refusal::RequestsUnsent => of_call(
             everyone.sends_requests,
-            "every endpoint sends direct requests",
+            "every endpoint may send direct requests",
         ),
         Refusal::RequestsUnreceived => of_call(
             everyone.receives_requests,
-            "every partition receives direct requests",
+            "every partition may receive direct requests",
         ),
         Refusal::MessagesUnsent | Refusal::MessagesUnreceived => of_call(
             everyone.takes_messages,
-            "every endpoint takes part in indirect messages",
+            "every endpoint may send and receive indirect messages",
         ),
         _ => None,
     }

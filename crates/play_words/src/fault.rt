@@ -55,23 +55,23 @@ impl fmt::Display for WordsFault {
 impl fmt::Display for Cause {
     fn fmt<W: fmt::Write>(&self, f: &mut fmt::Formatter<W>) -> fmt::Result {
         match self {
-            Cause::UnknownCall => write!(f, "no call has this name"),
-            Cause::NoArgument => write!(f, "an argument is NAME=NUMBER"),
+            Cause::UnknownCall => write!(f, "unknown call"),
+            Cause::NoArgument => write!(f, "an argument must be NAME=NUMBER"),
             Cause::UnknownArgument(function) => put_known(*function, f),
-            Cause::Twice => write!(f, "an argument that was given before"),
-            Cause::NoNumber => write!(f, "no hexadecimal number behind the ="),
+            Cause::Twice => write!(f, "duplicate argument"),
+            Cause::NoNumber => write!(f, "expected a hexadecimal number after ="),
             Cause::NoUuid => write!(
                 f,
-                "no UUID behind the =: it is 32 hexadecimal digits, alone or with hyphens as 8-4-4-4-12"
+                "expected a UUID after =: 32 hexadecimal digits, plain or with hyphens as 8-4-4-4-12"
             ),
             Cause::NoFeature => {
                 write!(
                     f,
-                    "neither a hexadecimal number nor the name of a call behind the ="
+                    "expected a hexadecimal number or the name of a call after ="
                 )
             }
-            Cause::TooLarge(most) => write!(f, "a number above {most:X}"),
-            Cause::Missing(name) => write!(f, "the argument {name} is missing"),
+            Cause::TooLarge(most) => write!(f, "the number is above {most:X}"),
+            Cause::Missing(name) => write!(f, "missing argument {name}"),
         }
     }
 }
@@ -79,9 +79,9 @@ impl fmt::Display for Cause {
 fn put_known<W: fmt::Write>(function: u32, f: &mut fmt::Formatter<W>) -> fmt::Result {
     let known = arguments_of(function).unwrap_or(&[]);
     if known.is_empty() {
-        return write!(f, "the call has no arguments");
+        return write!(f, "unknown argument; this call has none");
     }
-    write!(f, "no argument of this call, which has")?;
+    write!(f, "unknown argument; this call has")?;
     for (name, _, _, usual) in known {
         match usual {
             Usual::Needed => write!(f, " {name}")?,
