@@ -42,7 +42,7 @@ use ffa_model::{
 use ffa_notify::Told;
 use ffa_physmem::{FlatRam, PhysMem};
 use ffa_playable::Standing;
-use ffa_spmc::{Cluster, Given, Ready, Storage};
+use ffa_spmc::{Cluster, Fill, Given, Machine, Ready, Storage};
 use ffa_tlb::NoTlb;
 use std::alloc::Global;
 use std::marker::Model;
@@ -108,7 +108,13 @@ impl Board {
         ensures notices { result.notices ≡ finite_set.empty }
         ensures kind { result.is_lent ≡ false }
     {
-        let kind = BoardMachine::Heap(Cluster::boot_cleared_in(storage, manifest, ram, NoTlb));
+        let kind = BoardMachine::Heap(Cluster::of(Machine::boot_in(
+            storage,
+            manifest,
+            ram,
+            NoTlb,
+            Fill::AlreadyZero,
+        )));
         Board {
             kind,
             notices: Told::nothing(),
@@ -131,12 +137,12 @@ impl Board {
         ensures notices { result.notices ≡ finite_set.empty }
         ensures kind { result.is_lent ≡ true }
     {
-        let cluster = match bytes {
-            FirstBytes::Cleared => Cluster::boot_in(storage, manifest, ram, NoTlb),
-            FirstBytes::Kept => Cluster::boot_held_in(storage, manifest, ram, NoTlb),
+        let machine = match bytes {
+            FirstBytes::Cleared => Machine::boot_in(storage, manifest, ram, NoTlb, Fill::Clear),
+            FirstBytes::Kept => Machine::boot_in(storage, manifest, ram, NoTlb, Fill::KeepRegions),
         };
         Board {
-            kind: BoardMachine::Lent(cluster),
+            kind: BoardMachine::Lent(Cluster::of(machine)),
             notices: Told::nothing(),
         }
     }

@@ -28,9 +28,6 @@ mod held;
 // Steps of memory transactions.
 mod memory;
 
-// A list of operations and interrupts of several processors.
-mod processors;
-
 // Which pages operations read.
 mod reads;
 

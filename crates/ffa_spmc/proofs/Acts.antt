@@ -1,40 +1,19 @@
 -- SPDX-License-Identifier: MIT OR Apache-2.0
 -- Acts of several processors that are done one after another.
-use Rattle.std.proofs.Common.{◌≡◌, ◌∙◌, ℕ, ◌+◌, ◌<◌, true, List, [], ◌∷◌, ◌++◌, length, take, drop, set, get_or, refl, sym, ap, subst}
+use Rattle.std.proofs.Common.{◌≡◌, ◌∙◌, ℕ, true, List, [], ◌∷◌, sym, ap, subst}
 use Rattle.std.specs.Prelude.{nat_lt}
 use Rattle.std.specs.List.{list_all}
-use Rattle.std.proofs.lemmas.Bool.{and_parts}
-use Rattle.std.proofs.lemmas.List.{append_assoc, at_drop_more, take_more_set}
-use Rattle.ffa_model.specs.declared.limits.TheConstants.{MOST_PROCESSORS}
 use Rattle.ffa_model.specs.declared.operation.Act.{Act}
 use Rattle.ffa_model.specs.declared.operation.Act.TheVariants.{Operate, Interrupt}
 use Rattle.ffa_model.specs.declared.operation.Effect.{Effect}
 use Rattle.ffa_model.specs.declared.operation.Effect.TheVariants as effects
 use Rattle.ffa_model.specs.declared.operation.Op.{Op}
 use Rattle.ffa_model.specs.Processors.{ArePlaced, Shared, acted_on, are_there, effected, effects_on, shared_after, shared_after_all, step_resuming}
-use Rattle.ffa_spmc.specs.Clustered.{AreActed, Clustered, IsActedOn, IsEffected, are_processors, seen_by, shared_by}
+use Rattle.ffa_model.specs.SoundState.{IsSoundState}
+use Rattle.ffa_laws.specs.Isolation.{NeverGrow}
+use Rattle.ffa_laws.proofs.ProcessorRunLaws.{isolated_on, shared_never_grows}
+use Rattle.ffa_spmc.specs.Clustered.{AreActed, Clustered, IsActedOn, IsEffected, IsRunOfActs, are_processors, seen_by, shared_by}
 use Rattle.ffa_spmc.specs.Snapshot.{Snapshot}
-
--- one act more: what comes of it is filled in, and what is left then ends the chain
-module _ (IsDoneSo : Snapshot → Op → Effect → Snapshot → Type 0) where
-  pub one-more_acted : (old now next : Clustered) (acts : List (ℕ × Act)) (filled : List Effect) (i : ℕ) (d : ℕ × Act) (effect : Effect)
-      → i < length acts → i < length filled → IsActedOn IsDoneSo now (get_or acts i d).0 (get_or acts i d).1 effect next
-      → ((rest : List Effect) (new : Clustered) → AreActed IsDoneSo now (drop i acts) rest new → AreActed IsDoneSo old acts (take i filled ++ rest) new)
-      → (rest : List Effect) (new : Clustered) → AreActed IsDoneSo next (drop (i + 1) acts) rest new
-      → AreActed IsDoneSo old acts (take (i + 1) (set filled i effect) ++ rest) new
-  one-more_acted old now next acts filled i d effect lt inside done before rest new left =
-      subst (λ (told : List Effect). AreActed IsDoneSo old acts told new)
-      (sym (ap (λ (xs : List Effect). xs ++ rest) (take_more_set filled i effect inside) ∙ append_assoc (take i filled) (effect ∷ []) rest))
-      (before (effect ∷ rest) new
-      (subst (λ (acts : List (ℕ × Act)). AreActed IsDoneSo now acts (effect ∷ rest) new) (sym (at_drop_more (λ left. left) acts i d lt))
-      (next, effect, rest, refl, done, left)))
-
--- who acts next is a processor, and so is who acts behind it
-pub processors-both : (acts : List (ℕ × Act)) (i : ℕ) (d : ℕ × Act) → i < length acts → are_processors (drop i acts) ≡ true
-    → (nat_lt (get_or acts i d).0 MOST_PROCESSORS ≡ true) × (are_processors (drop (i + 1) acts) ≡ true)
-processors-both acts i d lt all =
-    and_parts (nat_lt (get_or acts i d).0 MOST_PROCESSORS) (are_processors (drop (i + 1) acts))
-    (sym (at_drop_more (λ (left : List (ℕ × Act)). are_processors left) acts i d lt) ∙ all)
 
 -- an operation has the effect of the small machine, and leaves its state
 pub effected-is : (old : Snapshot) (op : Op) (effect : Effect) (new : Snapshot) → IsEffected old op effect new
@@ -71,3 +50,18 @@ acted-all old (x ∷ xs) told new (next, effect, rest, is, done, later) =
 -- the processors are the machine's
 pub there-all : (c : Clustered) (acts : List (ℕ × Act)) → ArePlaced c.processors c.machine.state → are_processors acts ≡ true → are_there (shared_by c) acts ≡ true
 there-all c acts placed within = ap (λ (n : ℕ). list_all (λ (x : ℕ × Act). nat_lt x.0 n) acts) placed.count ∙ within
+
+-- so a list has the laws of lists
+pub acted-run : (old : Clustered) (acts : List (ℕ × Act)) (told : List Effect) (new : Clustered) → IsSoundState old.machine.state → ArePlaced old.processors old.machine.state
+    → are_processors acts ≡ true → AreActed IsEffected old acts told new → IsRunOfActs old acts told new
+acted-run old acts told new sound placed within acted =
+    let (effects, state) = acted-all old acts told new acted in
+    let there = there-all old acts placed within in
+    record {
+      effects = effects;
+      state = state;
+      isolated = isolated_on (shared_by old) acts (record { state = sound; placed = placed }) there;
+      never_grow =
+          subst (λ (m : Shared). NeverGrow old.machine.state m.state) (sym state)
+          (shared_never_grows (shared_by old) acts (record { state = sound; placed = placed }) there);
+    }

@@ -38,8 +38,10 @@ use Rattle.ffa_model.specs.Endpoints.{have_uuids}
 use Rattle.ffa_model.specs.SoundState.{IsSoundState, are_bytes}
 use Rattle.ffa_model.specs.Uuid.{is_uuid}
 use Rattle.ffa_laws.proofs.Firsts.{first-held-sound}
-use Rattle.ffa_spmc.specs.Booted.{IsBooted, IsBootedHeld}
-use Rattle.ffa_spmc.specs.Readied.{IsReadyFor, first_owner}
+use Rattle.ffa_spmc.specs.declared.fill.Fill.{Fill}
+use Rattle.ffa_spmc.specs.declared.fill.Fill.TheVariants.{AlreadyZero, Clear, KeepRegions}
+use Rattle.ffa_spmc.specs.Booted.{IsBooted, IsBootedBy, IsBootedHeld}
+use Rattle.ffa_spmc.specs.Readied.{IsFilled, IsReadyFor, first_owner}
 use Rattle.ffa_spmc.specs.Unowned.{IsNoTable}
 use Rattle.ffa_model.specs.Identifiers.{manager}
 use Rattle.ffa_spmc.specs.Meaning.{AreOpenTransactions, AreOwners, HasTables, IsManager, Parts, access_by_place, held_page, slot_names, state_of}
@@ -315,3 +317,16 @@ booted-kept m given cleared s ram kept booted =
       cleared = booted.cleared;
       sound = booted.sound;
     }
+
+-- a machine may begin in RAM that a boot filled
+pub filled-ready : (fill : Fill) (m : Manifest) (given filled : Ram) → IsFilled fill m given filled → IsReadyFor m filled
+filled-ready Clear m given filled is = zeros-ready m filled is
+filled-ready AlreadyZero m given filled is = zeros-ready m filled is
+filled-ready KeepRegions m given filled is = is.0
+
+-- and what it begins with there is what the boot promises of the RAM that was given
+pub filled-booted : (fill : Fill) (m : Manifest) (given filled : Ram) (s : State) (ram : Ram) → IsFilled fill m given filled → IsBootedHeld m filled s ram
+    → IsBootedBy fill m given s ram
+filled-booted Clear m given filled s ram is booted = booted-zeros m filled s ram is booted
+filled-booted AlreadyZero m given filled s ram is booted = booted-zeros m filled s ram is booted
+filled-booted KeepRegions m given filled s ram is booted = booted-kept m given filled s ram is.1 booted

@@ -1,6 +1,6 @@
 -- SPDX-License-Identifier: MIT OR Apache-2.0
 -- Operations that are done one after another.
-use Rattle.std.proofs.Common.{◌≡◌, ◌∙◌, ℕ, ◌+◌, ◌<◌, ◌≤◌, Bool, true, List, [], ◌∷◌, ◌++◌, length, take, drop, set, get_or, None, refl, sym, ap, subst}
+use Rattle.std.proofs.Common.{◌≡◌, ◌∙◌, ℕ, ◌+◌, ◌<◌, true, List, [], ◌∷◌, ◌++◌, length, take, drop, set, get_or, None, sym, ap, subst}
 use Rattle.std.proofs.lemmas.Bool.{and_parts}
 use Rattle.std.proofs.lemmas.List.{append_assoc, at_drop_more, take_more_set}
 use Rattle.ffa_model.specs.declared.endpoint.EndpointId.{EndpointId}
@@ -15,7 +15,6 @@ use Rattle.ffa_laws.proofs.ElsewhereRunLaws.{all-known}
 use Rattle.ffa_laws.proofs.Growth.{step_never_grows}
 use Rattle.ffa_laws.proofs.SoundOperations.{step-sound}
 use Rattle.ffa_laws.proofs.SoundSteady.{sound-steady}
-use Rattle.ffa_spmc.specs.Among.{AreDoneReading, IsDoneAlone, IsDoneReading, pages_read}
 use Rattle.ffa_spmc.specs.Operated.{AreOperated, AreOperatedAs, IsOperated, IsOperatedAs, numbered}
 use Rattle.ffa_spmc.specs.Snapshot.{Snapshot}
 use Rattle.ffa_spmc.specs.Unowned.{IsNoTable, KeepsUnowned}
@@ -78,21 +77,6 @@ pub one-more_as : (old now next : Snapshot) (ops : List (EndpointId × Op)) (i :
     → (new : Snapshot) → AreOperatedAs next (drop (i + 1) ops) new → AreOperatedAs old ops new
 one-more_as old now next ops i d lt done before new rest =
     before new (subst (λ (left : List (EndpointId × Op)). AreOperatedAs now left new) (sym (at_drop_more (λ left. left) ops i d lt)) (next, (done, rest)))
-
--- and while others may write
-pub one-more_among : (alone : Bool) (old now next : Snapshot) (ops : List Op) (filled : List Outcome) (i : ℕ) (d : Op) (outcome : Outcome)
-    → i < length ops → i < length filled
-    → IsDoneReading (pages_read now.state (get_or ops i d)) now (get_or ops i d) outcome next
-    → (alone ≡ true → IsDoneAlone now.state (get_or ops i d) outcome next.state)
-    → ((rest : List Outcome) (new : Snapshot) → AreDoneReading alone now (drop i ops) rest new → AreDoneReading alone old ops (take i filled ++ rest) new)
-    → (rest : List Outcome) (new : Snapshot) → AreDoneReading alone next (drop (i + 1) ops) rest new
-    → AreDoneReading alone old ops (take (i + 1) (set filled i outcome) ++ rest) new
-one-more_among alone old now next ops filled i d outcome lt inside done by_memory before rest new left =
-    subst (λ (told : List Outcome). AreDoneReading alone old ops told new)
-    (sym (ap (λ (xs : List Outcome). xs ++ rest) (take_more_set filled i outcome inside) ∙ append_assoc (take i filled) (outcome ∷ []) rest))
-    (before (outcome ∷ rest) new
-    (subst (λ (ops : List Op). AreDoneReading alone now ops (outcome ∷ rest) new) (sym (at_drop_more (λ left. left) ops i d lt))
-    (next, outcome, rest, refl, done, by_memory, left)))
 
 -- what nobody owns keeps its bytes
 pub unowned-chained : (old : Snapshot) (ops : List Op) (new : Snapshot) → IsSoundState old.state → AreOperated old ops new → KeepsUnowned old.state old.ram new.ram

@@ -1,6 +1,6 @@
 -- SPDX-License-Identifier: MIT OR Apache-2.0
 -- A machine keeps its tables through a write to a page that an endpoint owns, and is one after a call.
-use Rattle.std.proofs.Common.{◌≡◌, ◌∙◌, ℕ, ◌<◌, ◌≤◌, List, [], length, Option, Some, refl, sym, ap, subst, arith, length-set}
+use Rattle.std.proofs.Common.{◌≡◌, ◌∙◌, ℕ, ◌<◌, List, [], length, Option, Some, refl, sym, ap, subst, length-set}
 use Rattle.std.proofs.lemmas.List.{get_or-set_other}
 use Rattle.ffa_model.specs.Access.{access}
 use Rattle.ffa_model.specs.Identifiers.{identifier}

@@ -10,6 +10,8 @@ use Rattle.ffa_model.specs.Ram.{Ram, page_of}
 use Rattle.ffa_model.specs.SoundState.{IsSoundState}
 use Rattle.ffa_model.specs.State.{State, page_at}
 use Rattle.ffa_stage2.specs.Tables.{InBlock}
+use Rattle.ffa_spmc.specs.declared.fill.Fill.{Fill}
+use Rattle.ffa_spmc.specs.declared.fill.Fill.TheVariants.{AlreadyZero, Clear, KeepRegions}
 use Rattle.ffa_spmc.specs.Unowned.{IsNoTable}
 
 -- the words by which the tables give the access, so also memory's type and whom it is shared with: in each endpoint's tables a
@@ -35,3 +37,9 @@ pub record IsBootedHeld (m : Manifest) (given : Ram) (s : State) (ram : Ram) : T
   -- pages but the tables' that no endpoint owns are zeros
   pub cleared : (p : ℕ) → IsNoTable s p → p < length ram.pages → page_at s p ≡ None → page_of ram p ≡ replicate 4096 0
   pub sound : IsSoundState s
+
+-- by what the boot did with the bytes of the RAM that was given
+abbrev pub IsBootedBy : Fill → Manifest → Ram → State → Ram → Type 0
+IsBootedBy Clear m given s ram = IsBooted m s ram
+IsBootedBy AlreadyZero m given s ram = IsBooted m s ram
+IsBootedBy KeepRegions m given s ram = IsBootedHeld m given s ram

@@ -10,8 +10,10 @@ use Rattle.ffa_model.specs.declared.operation.Effect.{Effect}
 use Rattle.ffa_model.specs.declared.operation.Effect.TheVariants.{Outcome, Resumed}
 use Rattle.ffa_model.specs.declared.operation.Op.{Op}
 use Rattle.ffa_model.specs.declared.schedule.Status.TheVariants.{Blocked}
-use Rattle.ffa_model.specs.Processors.{Processors, Shared, interrupt, on, resumed_by, turned, with_switch}
+use Rattle.ffa_model.specs.Processors.{Processors, Shared, effects_on, interrupt, on, resumed_by, shared_after_all, turned, with_switch}
 use Rattle.ffa_model.specs.State.{State}
+use Rattle.ffa_laws.specs.Isolation.{NeverGrow}
+use Rattle.ffa_laws.specs.ProcessorRuns.{IsolatedOn}
 use Rattle.ffa_spmc.specs.Among.{IsDone, IsDoneAlone, IsDoneReading, pages_read}
 use Rattle.ffa_spmc.specs.Snapshot.{Snapshot, coded_snapshot}
 
@@ -81,3 +83,11 @@ are_processors xs = list_all (λ (x : ℕ × Act). nat_lt x.0 MOST_PROCESSORS) x
 -- without the RAM, and what is held and told
 abbrev pub shared_by : Clustered → Shared
 shared_by c = record { processors = c.processors; state = c.machine.state }
+
+-- acts had these effects and led to this machine, as the definitions say of the list; each endpoint sees of them what isolation
+-- says, and no right grew
+pub record IsRunOfActs (old : Clustered) (acts : List (ℕ × Act)) (told : List Effect) (new : Clustered) : Type 0 where
+  pub effects : told ≡ effects_on (shared_by old) acts
+  pub state : shared_by new ≡ shared_after_all (shared_by old) acts
+  pub isolated : IsolatedOn (shared_by old) acts
+  pub never_grow : NeverGrow old.machine.state new.machine.state

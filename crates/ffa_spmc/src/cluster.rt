@@ -1,31 +1,26 @@
 // SPDX-License-Identifier: MIT OR Apache-2.0
 //! A machine that several processors run.
-ghost use Rattle.std.specs.Prelude.{◌≡◌, ◌*◌, ◌<◌, [], None, length, map, slice_set};
+ghost use Rattle.std.specs.Prelude.{◌≡◌, ◌<◌, length, map, slice_set};
 ghost use Rattle.ffa_model.specs.declared.endpoint.EndpointId.{EndpointId};
 ghost use Rattle.ffa_model.specs.declared.limits.TheConstants.{MOST_PROCESSORS};
 ghost use Rattle.ffa_model.specs.Agreement.{Agrees};
 ghost use Rattle.ffa_model.specs.Processors.{ArePlaced, IsHere, first_processors, interrupt_on, left_status, on, step_on, turned};
-ghost use Rattle.ffa_model.specs.Ram.{zero_ram};
 ghost use Rattle.ffa_model.specs.SoundState.{IsSoundState};
 ghost use Rattle.ffa_laws.specs.Isolation.{NeverGrow};
 ghost use Rattle.ffa_laws.specs.OwnAccess.{AreApart};
 ghost use Rattle.ffa_laws.specs.Processors.{ConfidentialInterrupt, ConfidentialOn, IntegrityOn, OneInterrupt, OneOperation, OnlyWritersOn, OwnAccessOn, SilenceOn};
-ghost use Rattle.ffa_spmc.specs.Booted.{IsBooted, IsBootedHeld};
 ghost use Rattle.ffa_spmc.specs.Cached.{AreWalks};
 ghost use Rattle.ffa_spmc.specs.Clustered.{IsEffected, in_state, seen_by};
-ghost use Rattle.ffa_spmc.specs.Mixtures.{TablesRest};
-ghost use Rattle.ffa_spmc.specs.Storages.{IsRoomFor};
 
 mod among;
 mod copy;
 mod here;
-mod lists;
 mod noticing;
 
 use crate::machine::Machine;
-use crate::storage::{Inline, Storage, Store};
+use crate::storage::{Inline, Store};
 use arrayvec::ArrayVec;
-use ffa_model::{Effect, EndpointId, MOST_PROCESSORS, Manifest, Op, Outcome, Status};
+use ffa_model::{Effect, EndpointId, MOST_PROCESSORS, Op, Outcome, Status};
 use ffa_physmem::PhysMem;
 use ffa_tlb::{NoTlb, Translations};
 use std::marker::Model;
@@ -61,77 +56,7 @@ impl<M: PhysMem + Drop, T: Translations + Drop, S: Store> Model for Cluster<M, T
         (record { current = c.current; runners = map (λ (e : EndpointId). e.0) c.runners.items }) c.machine.state };
 }
 
-impl<M: PhysMem + Drop, T: Translations + Drop> Cluster<M, T> {
-    /// The machine of a manifest in its first state, as `Machine::boot_with` boots it: on each processor the normal world runs.
-    #[inline(never)]
-    pub fn boot_with(manifest: &Manifest, ram: M, cache: T) -> Cluster<M, T>
-        requires base { (M.ram ram).base ≡ manifest.now.ram_base.0 }
-        requires size { length (M.ram ram).pages ≡ 512 * manifest.now.ram_blocks }
-        ensures booted { IsBooted manifest.now result.machine.state result.machine.ram }
-        ensures held { result.machine.held ≡ [] }
-        ensures told { result.machine.told ≡ None }
-        ensures rest { TablesRest result.machine.state result.machine.ram result.machine.past }
-        ensures processors { result.processors ≡ first_processors }
-    {
-        Cluster::of(Machine::boot_with(manifest, ram, cache))
-    }
-}
-
 impl<M: PhysMem + Drop, T: Translations + Drop, S: Store> Cluster<M, T, S> {
-    /// The same with room of the caller's, as `Machine::boot_in`.
-    #[inline(never)]
-    pub fn boot_in(storage: Storage<S>, manifest: &Manifest, ram: M, cache: T) -> Cluster<M, T, S>
-        requires storage { IsRoomFor manifest.now storage }
-        requires base { (M.ram ram).base ≡ manifest.now.ram_base.0 }
-        requires size { length (M.ram ram).pages ≡ 512 * manifest.now.ram_blocks }
-        ensures booted { IsBooted manifest.now result.machine.state result.machine.ram }
-        ensures held { result.machine.held ≡ [] }
-        ensures told { result.machine.told ≡ None }
-        ensures rest { TablesRest result.machine.state result.machine.ram result.machine.past }
-        ensures processors { result.processors ≡ first_processors }
-    {
-        Cluster::of(Machine::boot_in(storage, manifest, ram, cache))
-    }
-
-    /// The same in RAM of which every byte is zero already, as `Machine::boot_cleared_in`.
-    #[inline(never)]
-    pub fn boot_cleared_in(
-        storage: Storage<S>,
-        manifest: &Manifest,
-        ram: M,
-        cache: T,
-    ) -> Cluster<M, T, S>
-        requires storage { IsRoomFor manifest.now storage }
-        requires ram { M.ram ram ≡ zero_ram manifest.now.ram_base.0 (512 * manifest.now.ram_blocks) }
-        ensures booted { IsBooted manifest.now result.machine.state result.machine.ram }
-        ensures held { result.machine.held ≡ [] }
-        ensures told { result.machine.told ≡ None }
-        ensures rest { TablesRest result.machine.state result.machine.ram result.machine.past }
-        ensures processors { result.processors ≡ first_processors }
-    {
-        Cluster::of(Machine::boot_cleared_in(storage, manifest, ram, cache))
-    }
-
-    /// The same in RAM that comes with bytes, as `Machine::boot_held_in`.
-    #[inline(never)]
-    pub fn boot_held_in(
-        storage: Storage<S>,
-        manifest: &Manifest,
-        ram: M,
-        cache: T,
-    ) -> Cluster<M, T, S>
-        requires storage { IsRoomFor manifest.now storage }
-        requires base { (M.ram ram).base ≡ manifest.now.ram_base.0 }
-        requires size { length (M.ram ram).pages ≡ 512 * manifest.now.ram_blocks }
-        ensures booted { IsBootedHeld manifest.now (M.ram ram) result.machine.state result.machine.ram }
-        ensures held { result.machine.held ≡ [] }
-        ensures told { result.machine.told ≡ None }
-        ensures rest { TablesRest result.machine.state result.machine.ram result.machine.past }
-        ensures processors { result.processors ≡ first_processors }
-    {
-        Cluster::of(Machine::boot_held_in(storage, manifest, ram, cache))
-    }
-
     /// A machine of which the first processor did all operations so far: on all others the normal world runs.
     pub fn of(machine: Machine<M, T, S>) -> Cluster<M, T, S>
         requires { IsHere machine.state }

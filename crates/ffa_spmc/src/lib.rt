@@ -5,10 +5,11 @@
 
 mod answer;
 pub mod cluster;
+pub mod fill;
 mod kept;
+pub mod lists;
 pub mod machine;
 mod manager;
-pub mod meanwhile;
 pub mod parts;
 mod records;
 mod replies;
@@ -16,8 +17,9 @@ mod run;
 pub mod storage;
 
 pub use cluster::Cluster;
+pub use fill::Fill;
+pub use lists::{act_in_turn, left_among_others};
 pub use machine::Machine;
-pub use meanwhile::left_among_others;
 pub use parts::Parts;
 pub use records::Records;
 pub use storage::{Given, Inline, Ready, Storage, Store};

@@ -5,6 +5,7 @@ ghost use Rattle.ffa_model.specs.declared.limits.TheConstants.{MOST_ENDPOINTS};
 ghost use Rattle.ffa_model.specs.Access.{access};
 ghost use Rattle.ffa_model.specs.Agreement.{Agrees};
 ghost use Rattle.ffa_model.specs.Notifications.{has_pending, notifications_of};
+ghost use Rattle.ffa_model.specs.Processors.{IsHere};
 ghost use Rattle.ffa_model.specs.Ram.{zero_ram};
 ghost use Rattle.ffa_model.specs.SoundState.{IsSoundState};
 ghost use Rattle.ffa_laws.specs.Events.{seen};
@@ -25,7 +26,7 @@ ghost use Rattle.ffa_spmc.specs.AccessChange.{IsTelling};
 ghost use Rattle.ffa_spmc.specs.Among.{IsDone};
 ghost use Rattle.ffa_spmc.specs.Cached.{AreSameOrGone, AreForgotten, AreKept, AreWalks, is_accessed, is_miss};
 ghost use Rattle.ffa_spmc.specs.Operated.{AreOperated};
-ghost use Rattle.ffa_spmc.specs.Booted.{IsBooted, IsBootedHeld};
+ghost use Rattle.ffa_spmc.specs.Booted.{IsBooted, IsBootedBy, IsBootedHeld};
 ghost use Rattle.ffa_spmc.specs.Mixtures.{TablesRest, StayMixed};
 ghost use Rattle.ffa_spmc.specs.Moments.{AreMoments};
 ghost use Rattle.ffa_spmc.specs.Readied.{IsReadyFor};
@@ -40,7 +41,8 @@ mod elsewhere;
 mod interrupts;
 mod parts;
 
-use crate::manager::{Manager, clear_rest};
+use crate::fill::Fill;
+use crate::manager::Manager;
 use crate::storage::{Inline, Storage, Store};
 use ffa_memshare::{Changed, News};
 use ffa_model::{EndpointId, Manifest, Op, Outcome, PageNo, Rights};
@@ -86,15 +88,6 @@ impl<M: PhysMem + Drop, T: Translations + Drop, S: Store> Model for Machine<M, T
     }) × TablesRest m.manager.state m.manager.ram m.manager.past };
 }
 
-// Fills all pages with zeros.
-fn clear<M: PhysMem>(ram: &mut M)
-    ensures { M.ram ram.new ≡ zero_ram (M.ram ram.old).base (length (M.ram ram.old).pages) }
-{
-    for page in 0..ram.pages() {
-        ram.clear_page(PageNo(page));
-    }
-}
-
 impl<M: PhysMem + Drop> Machine<M> {
     /// The machine of a manifest in its first state: it clears the RAM and builds the tables. All pages but the
     /// tables' are zeros, the manager's too. Each of its accesses walks the tables.
@@ -118,108 +111,35 @@ impl<M: PhysMem + Drop, T: Translations + Drop> Machine<M, T> {
         ensures told { result.told ≡ None }
         ensures rest { TablesRest result.state result.ram result.past }
     {
-        let mut ram = ram;
-        clear(&mut ram);
-        Machine::boot_cleared(manifest, ram, cache)
-    }
-
-    /// The same machine, in RAM of which every byte is zero already, as new RAM is: it builds the tables and clears
-    /// nothing but the cache.
-    // Not inlined, since its frame holds copies of what the machine keeps, which no caller needs once it runs.
-    #[inline(never)]
-    pub fn boot_cleared(manifest: &Manifest, ram: M, cache: T) -> Machine<M, T>
-        requires { M.ram ram ≡ zero_ram manifest.now.ram_base.0 (512 * manifest.now.ram_blocks) }
-        ensures booted { IsBooted manifest.now result.state result.ram }
-        ensures held { result.held ≡ [] }
-        ensures told { result.told ≡ None }
-        ensures rest { TablesRest result.state result.ram result.past }
-    {
-        Machine::first(manifest, ram, cache, Storage::inline(manifest))
-    }
-
-    /// The same machine, in RAM that comes with bytes: pages of the manifest's regions keep theirs, so that what was put there,
-    /// as an image of a partition, is there before the first operation. All other pages but the tables' are zeros.
-    #[inline(never)]
-    pub fn boot_held(manifest: &Manifest, ram: M, cache: T) -> Machine<M, T>
-        requires base { (M.ram ram).base ≡ manifest.now.ram_base.0 }
-        requires size { length (M.ram ram).pages ≡ 512 * manifest.now.ram_blocks }
-        ensures booted { IsBootedHeld manifest.now (M.ram ram) result.state result.ram }
-        ensures held { result.held ≡ [] }
-        ensures told { result.told ≡ None }
-        ensures rest { TablesRest result.state result.ram result.past }
-    {
-        Machine::first_held(manifest, ram, cache, Storage::inline(manifest))
+        Machine::boot_in(Storage::inline(manifest), manifest, ram, cache, Fill::Clear)
     }
 }
 
 impl<M: PhysMem + Drop, T: Translations + Drop, S: Store> Machine<M, T, S> {
-    /// The same machine, which keeps what it keeps of pages and open transactions in room of its caller's: so it is small
-    /// itself, wherever that room is.
+    /// Boots the machine of a manifest in its first state, with room of the caller's for what the machine keeps of pages and open
+    /// transactions. It does with the bytes of the RAM what `fill` says, and then builds the tables. All pages except the
+    /// tables' and those that `fill` keeps are zeros. The cache holds nothing.
+    // Not inlined, since its frame holds copies of what the machine keeps, which no caller needs once it runs.
     #[inline(never)]
-    pub fn boot_in(storage: Storage<S>, manifest: &Manifest, ram: M, cache: T) -> Machine<M, T, S>
+    pub fn boot_in(
+        storage: Storage<S>,
+        manifest: &Manifest,
+        ram: M,
+        cache: T,
+        fill: Fill,
+    ) -> Machine<M, T, S>
         requires storage { IsRoomFor manifest.now storage }
         requires base { (M.ram ram).base ≡ manifest.now.ram_base.0 }
         requires size { length (M.ram ram).pages ≡ 512 * manifest.now.ram_blocks }
-        ensures booted { IsBooted manifest.now result.state result.ram }
+        requires zeros { fill ≡ Fill.AlreadyZero → M.ram ram ≡ zero_ram manifest.now.ram_base.0 (512 * manifest.now.ram_blocks) }
+        ensures booted { IsBootedBy fill manifest.now (M.ram ram) result.state result.ram }
+        ensures here { IsHere result.state }
         ensures held { result.held ≡ [] }
         ensures told { result.told ≡ None }
         ensures rest { TablesRest result.state result.ram result.past }
     {
         let mut ram = ram;
-        clear(&mut ram);
-        Machine::first(manifest, ram, cache, storage)
-    }
-
-    /// The same machine, in RAM of which every byte is zero already.
-    #[inline(never)]
-    pub fn boot_cleared_in(
-        storage: Storage<S>,
-        manifest: &Manifest,
-        ram: M,
-        cache: T,
-    ) -> Machine<M, T, S>
-        requires storage { IsRoomFor manifest.now storage }
-        requires ram { M.ram ram ≡ zero_ram manifest.now.ram_base.0 (512 * manifest.now.ram_blocks) }
-        ensures booted { IsBooted manifest.now result.state result.ram }
-        ensures held { result.held ≡ [] }
-        ensures told { result.told ≡ None }
-        ensures rest { TablesRest result.state result.ram result.past }
-    {
-        Machine::first(manifest, ram, cache, storage)
-    }
-
-    /// The machine of `boot_held`, with room of the caller's.
-    #[inline(never)]
-    pub fn boot_held_in(
-        storage: Storage<S>,
-        manifest: &Manifest,
-        ram: M,
-        cache: T,
-    ) -> Machine<M, T, S>
-        requires storage { IsRoomFor manifest.now storage }
-        requires base { (M.ram ram).base ≡ manifest.now.ram_base.0 }
-        requires size { length (M.ram ram).pages ≡ 512 * manifest.now.ram_blocks }
-        ensures booted { IsBootedHeld manifest.now (M.ram ram) result.state result.ram }
-        ensures held { result.held ≡ [] }
-        ensures told { result.told ≡ None }
-        ensures rest { TablesRest result.state result.ram result.past }
-    {
-        Machine::first_held(manifest, ram, cache, storage)
-    }
-
-    // The machine of a manifest, with this room, in RAM whose regions keep their bytes.
-    #[inline(always)]
-    fn first_held(manifest: &Manifest, ram: M, cache: T, storage: Storage<S>) -> Machine<M, T, S>
-        requires base { (M.ram ram).base ≡ manifest.now.ram_base.0 }
-        requires size { length (M.ram ram).pages ≡ 512 * manifest.now.ram_blocks }
-        requires storage { IsRoomFor manifest.now storage }
-        ensures booted { IsBootedHeld manifest.now (M.ram ram) result.state result.ram }
-        ensures held { result.held ≡ [] }
-        ensures told { result.told ≡ None }
-        ensures rest { TablesRest result.state result.ram result.past }
-    {
-        let mut ram = ram;
-        clear_rest(&mut ram, manifest);
+        fill.prepare(&mut ram, manifest);
         Machine::first(manifest, ram, cache, storage)
     }
 

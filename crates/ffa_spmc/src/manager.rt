@@ -26,7 +26,6 @@ ghost use Rattle.ffa_spmc.specs.Unowned.{KeepsUnowned, OwnsNoTables};
 mod accesses;
 mod buffers;
 mod certificates;
-mod clearing;
 mod copy;
 mod forgetting;
 mod memory;
@@ -38,7 +37,6 @@ mod switching;
 
 use crate::kept::Kept;
 use crate::storage::{Inline, Storage, Store};
-pub(crate) use clearing::clear_rest;
 use ffa_memshare::News;
 use ffa_model::{
     Address, Call, EndpointId, ErrorCode, Home, Kind, Manifest, Outcome, PageNo, Reply, Rights,
@@ -47,6 +45,7 @@ use ffa_model::{
 use ffa_physmem::PhysMem;
 use ffa_stage2::{build, built_tables};
 use ffa_tlb::Translations;
+pub(crate) use readings::holds_bytes;
 use std::marker::Model;
 
 /// The partition manager over any RAM. Contracts see its state, which is that of the small machine, and its RAM with

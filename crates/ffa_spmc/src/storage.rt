@@ -136,27 +136,6 @@ impl<A: Allocator + Copy + Drop> Storage<Given<A>> {
             manifest.endpoints.len(),
         )
     }
-
-    /// Whether it is room for as many pages and endpoints as a manifest has.
-    pub fn is_room_for(&self, manifest: &Manifest) -> bool
-        ensures pages { result ≡ true → 512 * manifest.now.ram_blocks ≤ length self.now.pages }
-        ensures endpoints { result ≡ true → length manifest.now.endpoints.items ≤ length self.now.pool.sent }
-        ensures lacking { result ≡ false → (length self.now.pages < 512 * manifest.now.ram_blocks)
-            ⊎ (length self.now.pool.sent < length manifest.now.endpoints.items) }
-    {
-        512 * manifest.ram_blocks <= self.pages.pages()
-            && manifest.endpoints.len() <= self.pool.endpoints()
-    }
-
-    /// Makes it room for the machine of a manifest. It takes memory only where it is room for fewer pages, or fewer endpoints.
-    pub fn fit(&mut self, manifest: &Manifest) -> Result<(), AllocError>
-        ensures fits { OnOk result (IsRoomFor manifest.now self.new) }
-        ensures more { OnErr result ((length self.old.pages < 512 * manifest.now.ram_blocks)
-            ⊎ (length self.old.pool.sent < length manifest.now.endpoints.items)) }
-    {
-        self.pages.resize(512 * manifest.ram_blocks as usize)?;
-        self.pool.restart(manifest.endpoints.len())
-    }
 }
 
 impl<A: Allocator + Copy + Drop> Storage<Ready<A>> {

@@ -9,7 +9,7 @@ use crate::playing::boot_for;
 use ffa_model::Manifest;
 use ffa_physmem::PhysMem;
 use ffa_reasons::Explained;
-use ffa_spmc::{Machine, Storage};
+use ffa_spmc::{Fill, Machine, Storage};
 use ffa_tlb::NoTlb;
 use play_player::Player;
 use play_syntax::PlayError;
@@ -37,7 +37,7 @@ pub(crate) fn count_in<M: PhysMem + Drop, A: Allocator + Copy, R: Read + Drop>(
     };
     match processors {
         None => {
-            let machine = Machine::boot_cleared_in(storage, manifest, ram, NoTlb);
+            let machine = Machine::boot_in(storage, manifest, ram, NoTlb, Fill::AlreadyZero);
             count_trace(&mut Player::new(Explained(machine)), alloc, reader, counts)
         }
         Some(count) => {

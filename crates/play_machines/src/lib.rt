@@ -9,7 +9,7 @@ use counting::count_in;
 use ffa_model::Manifest;
 use ffa_physmem::{FlatRam, FrameRam};
 use ffa_reasons::Explained;
-use ffa_spmc::{Machine, Storage};
+use ffa_spmc::{Fill, Machine, Storage};
 use ffa_tlb::NoTlb;
 use play_generator::{Counts, GenerateError, generate};
 use play_report::Failure;
@@ -76,7 +76,7 @@ impl Machines for Booted {
         let Ok(storage) = Storage::allocate_for(alloc, manifest) else {
             return Err(GenerateError::NoMemory);
         };
-        let machine = Machine::boot_cleared_in(storage, manifest, ram, NoTlb);
+        let machine = Machine::boot_in(storage, manifest, ram, NoTlb, Fill::AlreadyZero);
         generate(alloc, manifest, Explained(machine), seed, lines, out)
     }
 }

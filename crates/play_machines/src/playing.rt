@@ -11,7 +11,7 @@ ghost use Rattle.play_tasks.specs.Starts.{processors_for, start_of};
 use ffa_model::{MOST_PROCESSORS, Manifest};
 use ffa_physmem::PhysMem;
 use ffa_reasons::{Explained, ExplainedCluster};
-use ffa_spmc::{Cluster, Machine, Storage, Store};
+use ffa_spmc::{Cluster, Fill, Machine, Storage, Store};
 use ffa_tlb::{InTurn, NoTlb, Tlb, Translations};
 use play_player::Player;
 use play_report::Failure;
@@ -79,7 +79,7 @@ fn play_with<
     };
     match play.machine.processors {
         None => {
-            let machine = Machine::boot_cleared_in(storage, manifest, ram, cache);
+            let machine = Machine::boot_in(storage, manifest, ram, cache, Fill::AlreadyZero);
             do_task(&mut Player::new(Explained(machine)), play, out, err, told)
         }
         Some(count) => {
@@ -101,8 +101,8 @@ pub(crate) fn boot_for<M: PhysMem + Drop, T: Translations + Drop, S: Store>(
     requires ram { M.ram ram ≡ zero_ram manifest.now.ram_base.0 (512 * manifest.now.ram_blocks) }
     ensures { result ≡ start_of (Some count) manifest.now }
 {
-    let cluster = Cluster::boot_cleared_in(storage, manifest, ram, cache);
-    ExplainedCluster::of(cluster, processors_for(count))
+    let machine = Machine::boot_in(storage, manifest, ram, cache, Fill::AlreadyZero);
+    ExplainedCluster::of(Cluster::of(machine), processors_for(count))
 }
 
 // As many processors, where there is room for so many.

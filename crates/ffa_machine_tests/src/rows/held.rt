@@ -8,7 +8,7 @@ use ffa_manifest::read;
 use ffa_model::Manifest;
 use ffa_physmem::{FlatRam, FrameRam, PhysMem};
 use ffa_reasons::Explained;
-use ffa_spmc::{Given, Machine, Storage};
+use ffa_spmc::{Fill, Given, Machine, Storage};
 use fixtures::set_word;
 
 // The first partition has code that nobody may write, and data; the second has data that nobody may write.
@@ -93,10 +93,16 @@ fn marked_flat(alloc: Global, manifest: &Manifest) -> Result<FlatRam, Fail>
 fn loads_what_came_with_ram(rt: HostRuntime) -> Result<(), Fail> {
     let manifest = read(rt.alloc(), MANIFEST)?;
     let frames = FrameRam::new(rt.alloc(), manifest.ram_base, 512 * manifest.ram_blocks)?;
-    let framed = Machine::boot_held(&manifest, marked(frames, &manifest)?, four_in_turn());
+    let framed = Machine::boot_in(
+        Storage::inline(&manifest),
+        &manifest,
+        marked(frames, &manifest)?,
+        four_in_turn(),
+        Fill::KeepRegions,
+    );
     goes_on(&rt, rt.alloc(), &mut Player::new(Explained(framed)), ROW)?;
     let storage: Storage<Given<Global>> = Storage::allocate_for(rt.alloc(), &manifest)?;
     let ram = marked_flat(rt.alloc(), &manifest)?;
-    let roomed = Machine::boot_held_in(storage, &manifest, ram, NoTlb);
+    let roomed = Machine::boot_in(storage, &manifest, ram, NoTlb, Fill::KeepRegions);
     goes_on(&rt, rt.alloc(), &mut Player::new(Explained(roomed)), ROW)
 }

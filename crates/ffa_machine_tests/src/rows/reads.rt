@@ -172,7 +172,7 @@ fn is_refused(outcome: &Outcome) -> bool {
 fn noting_machine(alloc: Global) -> Result<Machine<Noting>, Fail> {
     let manifest = row_machine();
     let ram = Noting::new(alloc, &manifest)?;
-    let mut machine = Machine::boot_cleared(&manifest, ram, NoTlb);
+    let mut machine = Machine::boot_with(&manifest, ram, NoTlb);
     let _ = machine.op(&map(0x4001_E000));
     for (target, tx) in [(0x8002_0000, 0x4003_E000), (0x8001_0000, 0x4002_E000)] {
         let _ = machine.op(&call(0x8400_006B, 0, 0));

@@ -41,7 +41,7 @@ fn recorded_machine(rt: &impl Abort, alloc: Global) -> Result<Player<Explained<R
     let manifest = row_machine();
     let ram = FlatRam::new(alloc, manifest.ram_base, 512 * manifest.ram_blocks)?;
     let ram = Recorded::new(alloc, ram, ROOM)?;
-    let mut player = Player::new(Explained(Machine::boot_cleared(&manifest, ram, NoTlb)));
+    let mut player = Player::new(Explained(Machine::boot_with(&manifest, ram, NoTlb)));
     goes_on(rt, alloc, &mut player, MAPPED)?;
     Ok(player)
 }

@@ -43,7 +43,7 @@ fn flat_player<'a>(
     let manifest = row_machine();
     let ram = FlatRam::new_in(heap, manifest.ram_base, 512 * manifest.ram_blocks)?;
     holds(rt, is_full(heap));
-    Ok(Player::new(Explained(Machine::boot_cleared(&manifest, ram, NoTlb))))
+    Ok(Player::new(Explained(Machine::boot_with(&manifest, ram, NoTlb))))
 }
 
 fn player_in_frames<'a>(
@@ -53,7 +53,7 @@ fn player_in_frames<'a>(
     let manifest = row_machine();
     let ram = FrameRam::new_in(heap, manifest.ram_base, 512 * manifest.ram_blocks)?;
     holds(rt, is_full(heap));
-    Ok(Player::new(Explained(Machine::boot_cleared(&manifest, ram, four_in_turn()))))
+    Ok(Player::new(Explained(Machine::boot_with(&manifest, ram, four_in_turn()))))
 }
 
 // Whether not one byte is left.

@@ -205,7 +205,7 @@ fn shifting_machine(alloc: Global, word: usize, next: [u64; 2]) -> Result<Machin
 {
     let manifest = three_partitions()?;
     let ram = Shifting::new(alloc, &manifest, word, next)?;
-    let mut machine = Machine::boot_cleared(&manifest, ram, NoTlb);
+    let mut machine = Machine::boot_with(&manifest, ram, NoTlb);
     begin(&mut machine);
     Ok(machine)
 }

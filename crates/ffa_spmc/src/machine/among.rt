@@ -5,9 +5,8 @@ ghost use Rattle.ffa_model.specs.declared.limits.TheConstants.{MOST_BUFFER_PAGES
 ghost use Rattle.ffa_model.specs.Agreement.{Agrees};
 ghost use Rattle.ffa_model.specs.SoundState.{IsSoundState};
 ghost use Rattle.ffa_model.specs.State.{page_at};
-ghost use Rattle.ffa_spmc.specs.Among.{bytes_read_by, is_in, AreDoneReading, HaveInFront, IsDone, IsDoneAlone, IsDoneAmong, IsDoneReading, IsRead, pages_read};
+ghost use Rattle.ffa_spmc.specs.Among.{bytes_read_by, is_in, HaveInFront, IsDone, IsDoneAlone, IsDoneAmong, IsDoneReading, IsRead, pages_read};
 ghost use Rattle.ffa_spmc.specs.Cached.{AreWalks};
-ghost use Rattle.ffa_spmc.specs.Interleaved.{IsInterleaved};
 ghost use Rattle.ffa_spmc.specs.Unowned.{KeepsUnowned, IsNoTable};
 
 use super::Machine;
@@ -75,36 +74,6 @@ impl<M: Observed + Drop, T: Translations + Drop, S: Store> Machine<M, T, S> {
         self.begin_reading(front);
         self.op_apart(op, outcome);
         self.end_reading(front.pages);
-    }
-
-    /// Does operations one after another, each of the endpoint that runs then, while others may write to its TX, and fills in
-    /// their outcomes.
-    pub fn run_among_others(&mut self, ops: &[Op], filled: &mut [Outcome])
-        requires { length ops.now ≡ length filled.old }
-        // From one operation to the next the machine changes as `op_among_others` says, and nothing is done besides.
-        ensures chain { AreDoneReading M.is_alone self.old ops.now filled.new self.new }
-        // So they are a list of operations of endpoints, what others write being stores of the runner: isolated, with rights that
-        // never grow.
-        ensures interleaved { IsInterleaved self.old.state ops.now filled.new self.new.state }
-        ensures agrees { Agrees self.new.ram self.new.state }
-        ensures sound { IsSoundState self.new.state }
-        ensures walks { AreWalks self.new }
-    {
-        // Proof step: the state is sound, and the tables give its access.
-        self.manager.holds();
-        self.operate_all_among(ops, filled);
-        // Proof step: so it is afterwards.
-        self.manager.holds();
-    }
-
-    // The operations themselves, in turn.
-    fn operate_all_among(&mut self, ops: &[Op], filled: &mut [Outcome])
-        requires { length ops.now ≡ length filled.old }
-        ensures { AreDoneReading M.is_alone self.old ops.now filled.new self.new }
-    {
-        for i in 0..ops.len() {
-            filled[i] = self.op_among_others(&ops[i]);
-        }
     }
 
     // Reads the first bytes of pages that are none of the tables' at once.

@@ -72,7 +72,7 @@ fn pages_holding(pages: u32, bytes: usize) -> u32
 }
 
 // What was read of a page are bytes.
-pub(super) fn holds_bytes(page: &[u8; 4096])
+pub(crate) fn holds_bytes(page: &[u8; 4096])
     ensures { are_bytes page.now }
 {
     for index in 0..PAGE_SIZE {

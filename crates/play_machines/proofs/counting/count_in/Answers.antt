@@ -7,7 +7,7 @@ use Rattle.play_machines.proofs.counting.count_in.Goals as goal
 pub returns-in-None : goal.returns-in-None
 returns-in-None g c =
     subst (λ start. CountsTrace start (g.R.Read.remaining c.args.reader) (tally_of c.args.counts.now) (tally_of c.count_trace.new.counts) c.count_trace.result)
-    (c.new.ensures ∙ ap (begun_by None) c.boot_cleared_in-machine.ensures.booted.state ∙ ap (λ (processors : Option ℕ). start_of processors c.args.manifest.now) (sym c.in-None.is))
+    (c.new.ensures ∙ ap (begun_by None) c.boot_in-machine.ensures.booted.state ∙ ap (λ (processors : Option ℕ). start_of processors c.args.manifest.now) (sym c.in-None.is))
     c.count_trace.ensures
 
 pub returns-in-Some : goal.returns-in-Some

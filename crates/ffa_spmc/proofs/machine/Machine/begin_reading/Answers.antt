@@ -1,5 +1,5 @@
 -- SPDX-License-Identifier: MIT OR Apache-2.0
-use Rattle.std.proofs.Common.{◌≡◌, ◌+◌, ◌≤◌, length, true, refl, sym, ap, subst}
+use Rattle.std.proofs.Common.{◌+◌, ◌≤◌, length, true, refl, sym, ap, subst}
 use Rattle.ffa_model.specs.SoundState.{IsSoundState}
 use Rattle.ffa_model.specs.State.{State}
 use Rattle.ffa_spmc.specs.Among.{HaveInFront, IsRead, is_in}

@@ -1,6 +1,5 @@
 -- SPDX-License-Identifier: MIT OR Apache-2.0
-use Rattle.std.proofs.Common.{◌≡◌, ◌+◌, ◌≤◌, true, length, sym, ap, subst}
-use Rattle.ffa_model.specs.Ram.{Ram}
+use Rattle.std.proofs.Common.{◌+◌, ◌≤◌, true, length, sym, subst}
 use Rattle.ffa_laws.specs.Reads.{AreBeside}
 use Rattle.ffa_physmem.specs.Moments.{IsBeside, IsReading, One}
 use Rattle.ffa_spmc.specs.Among.{HaveInFront, is_in}

@@ -1,5 +1,5 @@
 -- SPDX-License-Identifier: MIT OR Apache-2.0
-use Rattle.std.proofs.Common.{List, [], arith}
+use Rattle.std.proofs.Common.{[], arith}
 use Rattle.std.proofs.lemmas.List.{ext_get_or}
 use Rattle.ffa_spmc.proofs.manager.copy.copy_pages.Goals as goal
 

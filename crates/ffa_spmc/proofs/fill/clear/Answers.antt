@@ -2,7 +2,7 @@
 use Rattle.std.proofs.Common.{◌≡◌, ◌∙◌, ℕ, [], length, replicate, sym, arith}
 use Rattle.std.proofs.lemmas.List.{ext_get_or, get_or-replicate, length-replicate}
 use Rattle.ffa_model.specs.Ram.{Ram}
-use Rattle.ffa_spmc.proofs.machine.clear.Goals as goal
+use Rattle.ffa_spmc.proofs.fill.clear.Goals as goal
 
 pub returns : goal.returns
 returns g c =

@@ -1,7 +1,7 @@
 -- SPDX-License-Identifier: MIT OR Apache-2.0
 use Rattle.std.proofs.Common.{◌≡◌, ℕ, ◌<◌, length, replicate}
 use Rattle.ffa_model.specs.Ram.{page_of}
-use Rattle.ffa_spmc.proofs.machine.clear.Given as goal
+use Rattle.ffa_spmc.proofs.fill.clear.Given as goal
 
 -- the pages so far
 abbrev pub invariant-loop-page : goal.invariant-loop-page

@@ -1,7 +1,7 @@
 -- SPDX-License-Identifier: MIT OR Apache-2.0
 use Rattle.std.proofs.Common.{arith}
 use Rattle.ffa_spmc.proofs.Clearings.{cleared-next, cleared-ready}
-use Rattle.ffa_spmc.proofs.manager.clearing.clear_rest.Goals as goal
+use Rattle.ffa_spmc.proofs.fill.clear_rest.Goals as goal
 
 pub loop-page-preserved : goal.loop-page-preserved
 loop-page-preserved g c =

@@ -1,7 +1,7 @@
 -- SPDX-License-Identifier: MIT OR Apache-2.0
-use Rattle.ffa_spmc.proofs.Interleaved.{between}
+use Rattle.ffa_spmc.proofs.Interleaved.{between, interleaved}
 use Rattle.ffa_spmc.proofs.Left.{left-operated, left-operated_as, safe-amid}
-use Rattle.ffa_spmc.proofs.meanwhile.left_among_others.Goals as goal
+use Rattle.ffa_spmc.proofs.lists.left_among_others.Goals as goal
 
 pub returns-clause-operated : goal.returns-clause-operated
 returns-clause-operated c = left-operated
@@ -14,3 +14,6 @@ returns-clause-list c = safe-amid
 
 pub returns-clause-isolated : goal.returns-clause-isolated
 returns-clause-isolated c old ops told new = between ops old new told
+
+pub returns-clause-interleaved : goal.returns-clause-interleaved
+returns-clause-interleaved c alone old ops told new = interleaved ops alone old new told

@@ -1,6 +1,6 @@
 -- SPDX-License-Identifier: MIT OR Apache-2.0
 use Rattle.ffa_spmc.proofs.Clearings.{IsClearedTo}
-use Rattle.ffa_spmc.proofs.manager.clearing.clear_rest.Given as goal
+use Rattle.ffa_spmc.proofs.fill.clear_rest.Given as goal
 
 -- the pages so far
 abbrev pub invariant-loop-page : goal.invariant-loop-page

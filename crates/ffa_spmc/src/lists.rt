@@ -1,13 +1,18 @@
 // SPDX-License-Identifier: MIT OR Apache-2.0
-//! A law of operations while others write to memory.
+//! Laws of operations one after another, and of operations while others write to memory.
 
-ghost use Rattle.std.specs.Prelude.{ℕ, List};
+ghost use Rattle.std.specs.Prelude.{◌≡◌, ℕ, Bool, List, true};
+ghost use Rattle.ffa_model.specs.declared.operation.Act.{Act};
+ghost use Rattle.ffa_model.specs.declared.operation.Effect.{Effect};
 ghost use Rattle.ffa_model.specs.declared.operation.Op.{Op};
 ghost use Rattle.ffa_model.specs.declared.operation.Outcome.{Outcome};
 ghost use Rattle.ffa_model.specs.Agreement.{Agrees};
+ghost use Rattle.ffa_model.specs.Processors.{ArePlaced};
 ghost use Rattle.ffa_model.specs.SoundState.{IsSoundState};
 ghost use Rattle.ffa_laws.specs.Isolation.{NeverGrow};
-ghost use Rattle.ffa_spmc.specs.Interleaved.{AreDoneBetween, IsRunOfAll};
+ghost use Rattle.ffa_spmc.specs.Among.{AreDoneReading};
+ghost use Rattle.ffa_spmc.specs.Clustered.{AreActed, Clustered, IsEffected, IsRunOfActs, are_processors};
+ghost use Rattle.ffa_spmc.specs.Interleaved.{AreDoneBetween, IsInterleaved, IsRunOfAll};
 ghost use Rattle.ffa_spmc.specs.Meanwhile.{AreDoneAmid, LeavesAmid};
 ghost use Rattle.ffa_spmc.specs.Operated.{IsOperated, IsOperatedAs};
 ghost use Rattle.ffa_spmc.specs.Snapshot.{Snapshot};
@@ -24,8 +29,22 @@ pub fn left_among_others()
     // A list of operations, between which others write too: the state stays sound, and rights never grow.
     ensures list { (old : Snapshot) (ops : List Op) (told : List Outcome) (new : Snapshot) → IsSoundState old.state
         → AreDoneAmid old ops told new → IsSoundState new.state × NeverGrow old.state new.state }
+    // Where others write to the runner's TX while operations are done, the operations are a list of operations of endpoints. What
+    // others write are stores of the runner before and after each: isolated, with rights that never grow.
+    ensures interleaved { (alone : Bool) (old : Snapshot) (ops : List Op) (told : List Outcome) (new : Snapshot)
+        → IsSoundState old.state → AreDoneReading alone old ops told new → IsInterleaved old.state ops told new.state }
     // Where others write to the runner's TX while operations are done, and between them into whatever they may, all is a list of
     // operations of endpoints, what others write being stores: isolated, with rights that never grow.
     ensures isolated { (old : Snapshot) (ops : List Op) (told : List Outcome) (new : Snapshot) → IsSoundState old.state
         → AreDoneBetween old ops told new → IsRunOfAll old.state ops told new.state }
+{}
+
+/// Operations and interrupts of several processors are done one after another, each as `Cluster::op` and `Cluster::interrupt`
+/// promise it. They have the effects and leave the state that the definitions give for the list. What an endpoint sees, and its
+/// view afterwards, are the same from every state that it sees alike, with every list in which it does the same and learns the
+/// same. Rights never grow.
+pub fn act_in_turn()
+    ensures { (old : Clustered) (acts : List (ℕ × Act)) (told : List Effect) (new : Clustered) → IsSoundState old.machine.state
+        → ArePlaced old.processors old.machine.state → are_processors acts ≡ true → AreActed IsEffected old acts told new
+        → IsRunOfActs old acts told new }
 {}
