@@ -36,7 +36,6 @@ mod accesses;
 mod among;
 mod certificates;
 mod copy;
-mod elsewhere;
 mod interrupts;
 mod parts;
 

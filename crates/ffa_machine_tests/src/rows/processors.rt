@@ -1,11 +1,30 @@
 // SPDX-License-Identifier: MIT OR Apache-2.0
 //! A list of operations and interrupts of two processors, which no trace gives to a machine at once.
-use super::elsewhere::is_wanted;
 use super::*;
 use crate::checks::holds_at;
 use ffa_model::{Act, Effect, EndpointId, Op, Outcome};
 use ffa_physmem::FlatRam;
 use ffa_spmc::Cluster;
+use play_syntax::text;
+
+// Registers as they are printed.
+fn registers(alloc: Global, runner: EndpointId, x: &[u64; 8]) -> Result<String, Fail> {
+    let mut line = [0; text::REGISTERS];
+    text::put_registers(&mut line, runner.0, x);
+    let mut printed = Vec::new(alloc);
+    printed.extend_from_slice(&line)?;
+    text_of(printed)
+}
+
+// Whether an outcome is what is wanted.
+fn is_wanted(alloc: Global, outcome: Outcome, wanted: &str) -> Result<bool, Fail> {
+    let Outcome::Regs { runner, x } = outcome else {
+        return Ok(false);
+    };
+    let mut row = Row::new(alloc);
+    row.add(wanted)?;
+    Ok(row.text == registers(alloc, runner, &x)?)
+}
 
 // Whether an effect is what is wanted.
 fn is_effect(alloc: Global, effect: Effect, wanted: &str) -> Result<bool, Fail> {
