@@ -45,7 +45,7 @@ extern "C" {
 
 /* The number of these declarations, raised by each change that a caller has to know of. Who loads the library while a
  * program runs compares it with gorseplumb_declarations, which answers the number that the library was built by. */
-#define GORSEPLUMB_DECLARATIONS 7
+#define GORSEPLUMB_DECLARATIONS 8
 
 uint32_t gorseplumb_declarations(void);
 
@@ -129,9 +129,8 @@ enum gorseplumb_kind {
     GORSEPLUMB_KIND_NO_MACHINE = 4, /* there is no machine, and nothing was done */
     GORSEPLUMB_KIND_BAD_SIZE = 5,   /* the size is none of 1, 2, 4 and 8, or of gorseplumb_run the kind is unknown, with a
                                      * machine or without one, and nothing was done */
-    GORSEPLUMB_KIND_NO_ENDPOINT = 6, /* the machine has no such endpoint, and nothing was done */
-    GORSEPLUMB_KIND_RESUMED = 7,     /* `runner` runs next and goes on where an interrupt stopped it, with its own registers: `x`
-                                      * is zeros, and isn't for it */
+    GORSEPLUMB_KIND_RESUMED = 7,    /* `runner` runs next and goes on where an interrupt stopped it, with its own registers: `x`
+                                     * is zeros, and isn't for it */
     GORSEPLUMB_KIND_NO_PROCESSOR = 8 /* there is no such processor, and nothing was done */
 };
 
@@ -351,21 +350,10 @@ struct gorseplumb_operation {
 size_t gorseplumb_run(struct gorseplumb_machine *machine, const struct gorseplumb_operation *operations, size_t count,
                       struct gorseplumb_outcome *outcomes, size_t places);
 
-/* The four above of any endpoint, whoever runs, as where another processor runs it: of the runner they are these. A
- * call of another is answered FFA_ERROR with BUSY, `runner` names that endpoint, which isn't the machine's runner, and
- * nothing changes; its loads, stores and fetches go by its own table. Where the machine has no such endpoint the answer
- * is GORSEPLUMB_KIND_NO_ENDPOINT. */
-struct gorseplumb_outcome gorseplumb_call_as(struct gorseplumb_machine *machine, uint16_t endpoint,
-                                             const struct gorseplumb_registers *registers);
-struct gorseplumb_outcome gorseplumb_load_as(struct gorseplumb_machine *machine, uint16_t endpoint, uint64_t address, uint32_t size);
-struct gorseplumb_outcome gorseplumb_store_as(struct gorseplumb_machine *machine, uint16_t endpoint, uint64_t address, uint32_t size,
-                                              uint64_t value);
-struct gorseplumb_outcome gorseplumb_fetch_as(struct gorseplumb_machine *machine, uint16_t endpoint, uint64_t address);
-
 /* How many processors may run endpoints of a machine: 0 to 7. */
 #define GORSEPLUMB_MOST_PROCESSORS 8
 
-/* The first four above of whoever runs on a processor, where several run endpoints of a machine at once: on each runs the
+/* The four operations above of whoever runs on a processor, where several run endpoints of a machine at once: on each runs the
  * normal world or a partition, and each partition on one at most. They are done in the machine as that processor sees it,
  * in which a partition that another one runs is busy, and the normal world, which is on each, may call. When a machine has
  * booted the normal world runs on all. One thing is as above no more: FFA_RUN of a partition that an interrupt had stopped

@@ -162,28 +162,6 @@ static void lend(void) {
     nothing_changed();
 }
 
-/* While 0000 runs, 8001 acts as it may on another processor. */
-static void elsewhere(void) {
-    struct gorseplumb_registers id = {{0x84000069}};
-    struct gorseplumb_outcome busy = gorseplumb_call_as(&machine, 0x8001, &id);
-    CHECK(busy.kind == GORSEPLUMB_KIND_REGISTERS && busy.runner == 0x8001 && gorseplumb_runner(&machine) == 0);
-    CHECK(busy.x[0] == 0x84000060 && busy.x[1] == 0 && busy.x[2] == 0xFFFFFFFC);
-    for (int i = 3; i < 8; i++) CHECK(busy.x[i] == 0);
-    struct gorseplumb_outcome own = gorseplumb_call_as(&machine, 0, &id);
-    CHECK(own.kind == GORSEPLUMB_KIND_REGISTERS && own.runner == 0 && own.x[0] == 0x84000061 && own.x[2] == 0);
-    CHECK(gorseplumb_store_as(&machine, 0x8001, 0x40020000, 1, 0x2B).kind == GORSEPLUMB_KIND_DONE);
-    struct gorseplumb_outcome loaded = gorseplumb_load_as(&machine, 0x8001, 0x40020000, 1);
-    CHECK(loaded.kind == GORSEPLUMB_KIND_DATA && loaded.value == 0x2B);
-    CHECK(gorseplumb_fetch_as(&machine, 0x8001, 0x40020000).kind == GORSEPLUMB_KIND_DATA);
-    CHECK(gorseplumb_store_as(&machine, 0x8001, 0x40020000, 1, 0).kind == GORSEPLUMB_KIND_DONE);
-    faults(gorseplumb_load_as(&machine, 0x8001, 0x40010000, 1), GORSEPLUMB_FAULT_TRANSLATION);
-    faults(gorseplumb_load_as(&machine, 0, 0x40020000, 1), GORSEPLUMB_FAULT_TRANSLATION);
-    CHECK(gorseplumb_call_as(&machine, 0x8000, &id).kind == GORSEPLUMB_KIND_NO_ENDPOINT &&
-          gorseplumb_call_as(&machine, 0x8003, &id).kind == GORSEPLUMB_KIND_NO_ENDPOINT);
-    CHECK(gorseplumb_load_as(&machine, 0x8003, 0x40020000, 1).kind == GORSEPLUMB_KIND_NO_ENDPOINT);
-    CHECK(gorseplumb_load_as(&machine, 0x8001, 0x40020000, 3).kind == GORSEPLUMB_KIND_BAD_SIZE && gorseplumb_runner(&machine) == 0);
-}
-
 /* Notifications are pending for these endpoints, and for nobody else. */
 static void pending_for(bool first, bool second) {
     for (uint32_t endpoint = 0; endpoint <= UINT16_MAX; endpoint++) {
@@ -230,10 +208,6 @@ static void out_of_order(void) {
           gorseplumb_fetch(&machine, 0).kind == GORSEPLUMB_KIND_NO_MACHINE);
     CHECK(gorseplumb_load(&machine, 0, 1).kind == GORSEPLUMB_KIND_NO_MACHINE &&
           gorseplumb_store(&machine, 0, 1, 0).kind == GORSEPLUMB_KIND_NO_MACHINE);
-    CHECK(gorseplumb_call_as(&machine, 0, &none).kind == GORSEPLUMB_KIND_NO_MACHINE &&
-          gorseplumb_fetch_as(&machine, 0, 0).kind == GORSEPLUMB_KIND_NO_MACHINE);
-    CHECK(gorseplumb_load_as(&machine, 0, 0, 1).kind == GORSEPLUMB_KIND_NO_MACHINE &&
-          gorseplumb_store_as(&machine, 0, 0, 3, 0).kind == GORSEPLUMB_KIND_BAD_SIZE);
     CHECK(gorseplumb_load(&machine, 0, 3).kind == GORSEPLUMB_KIND_BAD_SIZE &&
           gorseplumb_store(&machine, 0, 0, 0).kind == GORSEPLUMB_KIND_BAD_SIZE && !machine.live);
     CHECK(gorseplumb_runner(&machine) == GORSEPLUMB_NOTHING && gorseplumb_endpoints(&machine) == GORSEPLUMB_NOTHING);
@@ -352,7 +326,6 @@ static void numbers(void) {
     struct gorseplumb_lent untouched = {0};
     CHECK(gorseplumb_boot_manifest(&machine, &right) == GORSEPLUMB_OK && gorseplumb_boot_manifest(&machine, &right) == GORSEPLUMB_OCCUPIED);
     first_row();
-    elsewhere();
     pending();
     lend();
     CHECK(gorseplumb_free(&machine, &untouched) == GORSEPLUMB_OK);
@@ -585,11 +558,14 @@ static void held_machine(void) {
     CHECK(gorseplumb_boot_held_manifest(&machine, &list, &manifest) == GORSEPLUMB_OK && asked == 0 && gorseplumb_lent_pages(&list) == 0);
     is_held(tables);
     loads(0x40010000, 8, 0x9090909090909090);
-    struct gorseplumb_outcome code = gorseplumb_fetch_as(&machine, 0x8001, 0x40020000),
-                              data = gorseplumb_load_as(&machine, 0x8002, 0x4003FFFF, 1);
-    CHECK(code.kind == GORSEPLUMB_KIND_DATA && code.value == 0xA0A0A0A0 && data.kind == GORSEPLUMB_KIND_DATA && data.value == 0xBF);
-    faults(gorseplumb_store_as(&machine, 0x8001, 0x40020000, 1, 0), GORSEPLUMB_FAULT_PERMISSION);
-    faults(gorseplumb_store_as(&machine, 0x8002, 0x40030000, 1, 0), GORSEPLUMB_FAULT_PERMISSION);
+    CALL(0x8001, 0x8400006D, 0x80010000, 0, 0, 0x8400006D, 0x80010000);
+    struct gorseplumb_outcome code = gorseplumb_fetch(&machine, 0x40020000);
+    CHECK(code.kind == GORSEPLUMB_KIND_DATA && code.value == 0xA0A0A0A0);
+    faults(gorseplumb_store(&machine, 0x40020000, 1, 0), GORSEPLUMB_FAULT_PERMISSION);
+    CALL(0, 0x8400006B, 0x80010000, 0, 0, 0x8400006B);
+    CALL(0x8002, 0x8400006D, 0x80020000, 0, 0, 0x8400006D, 0x80020000);
+    loads(0x4003FFFF, 1, 0xBF);
+    faults(gorseplumb_store(&machine, 0x40030000, 1, 0), GORSEPLUMB_FAULT_PERMISSION);
     CHECK(gorseplumb_boot_held_manifest(&machine, &list, &manifest) == GORSEPLUMB_OCCUPIED &&
           gorseplumb_boot_held(&machine, &list, text, text_size) == GORSEPLUMB_OCCUPIED);
     is_held(tables);
@@ -599,7 +575,8 @@ static void held_machine(void) {
     mark_pages();
     CHECK(gorseplumb_boot_held(&machine, &list, text, text_size) == GORSEPLUMB_OK && gorseplumb_lent_pages(&list) == 0);
     is_held(tables);
-    CHECK(gorseplumb_store_as(&machine, 0x8002, 0x40030000, 1, 0).kind == GORSEPLUMB_KIND_DONE &&
+    CALL(0x8002, 0x8400006D, 0x80020000, 0, 0, 0x8400006D, 0x80020000);
+    CHECK(gorseplumb_store(&machine, 0x40030000, 1, 0).kind == GORSEPLUMB_KIND_DONE &&
           gorseplumb_free(&machine, &list) == GORSEPLUMB_OK);
     CHECK(gorseplumb_take_all_back(&list, pages, 512) && pieces == 0);
 }

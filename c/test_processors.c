@@ -194,7 +194,7 @@ static void notices(void) {
     CHECK(!gorseplumb_schedule_due(&machine));
 
     /* what a call that names no processor gets counts too */
-    SEES(gorseplumb_call_as(&machine, 0, &GORSEPLUMB_REGISTERS(FFA_NOTIFICATION_GET, 0x00050000, 7)), 0, FFA_ERROR, 0, invalid);
+    SEES(CALL(FFA_NOTIFICATION_GET, 0x00050000, 7), 0, FFA_ERROR, 0, invalid);
     SEES(CALL_ON(1, FFA_NOTIFICATION_GET, 0x00080000, 7), 0, FFA_ERROR, 0, invalid);
     SEES(CALL_ON(1, FFA_NOTIFICATION_GET, 0x00050000, 7), 0, FFA_SUCCESS, 0, 0, 0x80000000);
     SEES(CALL_ON(2, FFA_NOTIFICATION_GET, 0x00018001, 7), 0x8001, FFA_ERROR, 0, invalid);

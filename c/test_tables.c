@@ -80,6 +80,17 @@ static void tables_stand(void) {
     }
 }
 
+static void enter(uint16_t endpoint) { CHECK(CALL(GORSEPLUMB_FFA_RUN, gorseplumb_pair(endpoint, 0)).runner == endpoint); }
+
+static void leave(void) { CHECK(CALL(GORSEPLUMB_FFA_MSG_WAIT).runner == GORSEPLUMB_NORMAL_WORLD); }
+
+/* Whoever runs reads pages that are its own, and no others. */
+static void reads_its_own(uint16_t endpoint) {
+    for (uint32_t page = 0; page < RAM_PAGES; page++) {
+        CHECK(faults(gorseplumb_load(&machine, ADDRESS(page), 1)) == (owner(page) != endpoint));
+    }
+}
+
 /* Pages of tables are nobody's, and all others those of the regions. */
 static void pages_are_apart(void) {
     struct gorseplumb_cert_run run;
@@ -88,8 +99,13 @@ static void pages_are_apart(void) {
         for (uint32_t place = 0; place < ENDPOINTS; place++) {
             uint16_t endpoint = gorseplumb_identifier(place);
             CHECK((gorseplumb_access(&machine, endpoint, page) != 0) == (owner(page) == endpoint));
-            CHECK(faults(gorseplumb_load_as(&machine, endpoint, ADDRESS(page), 1)) == (owner(page) != endpoint));
         }
+    }
+    reads_its_own(GORSEPLUMB_NORMAL_WORLD);
+    for (uint32_t place = 1; place < ENDPOINTS; place++) {
+        enter(gorseplumb_identifier(place));
+        reads_its_own(gorseplumb_identifier(place));
+        leave();
     }
     CHECK(gorseplumb_cert_run(&machine, TABLES, &run) && run.first == TABLES && run.last == BEHIND - 1 && run.owner == 0x8000);
     CHECK(run.has_handle == 0 && run.access[0] == 0 && run.access[1] == 0 && run.access[2] == 0);
@@ -107,10 +123,6 @@ static void audited(void) {
 static void maps(uint32_t first) {
     CHECK(gorseplumb_function_of(CALL(GORSEPLUMB_FFA_RXTX_MAP_64, ADDRESS(first + 14), ADDRESS(first + 15), 1)) == GORSEPLUMB_FFA_SUCCESS);
 }
-
-static void enter(void) { CHECK(CALL(GORSEPLUMB_FFA_RUN, gorseplumb_pair(0x8001, 0)).runner == 0x8001); }
-
-static void leave(void) { CHECK(CALL(GORSEPLUMB_FFA_MSG_WAIT).runner == GORSEPLUMB_NORMAL_WORLD); }
 
 /* What begins a descriptor for 8001, at a TX. */
 static void begin(uint64_t tx, uint64_t header, uint64_t handle, uint64_t access) {
@@ -152,7 +164,7 @@ static void share(void) {
     puts_word(ADDRESS(0), 0x11);
     puts_word(ADDRESS(BEHIND), 0x22);
     CHECK(gorseplumb_handle_of(shares()) == 1);
-    enter();
+    enter(0x8001);
     maps(TABLES - 16);
     CHECK(faults(gorseplumb_load(&machine, ADDRESS(0), 8)) && faults(gorseplumb_load(&machine, ADDRESS(BEHIND), 8)));
     retrieves();
@@ -225,7 +237,8 @@ static void in_lent_pages(void) {
     CHECK(gorseplumb_boot_held_manifest(&machine, &list, &manifest) == GORSEPLUMB_OK);
     has_bytes(true);
     CHECK(loads(ADDRESS(0), 0xA5A5A5A5A5A5A5A5) && loads(ADDRESS(BEHIND), 0xA5A5A5A5A5A5A5A5));
-    CHECK(gorseplumb_load_as(&machine, 0x8002, ADDRESS(RAM_PAGES) - 1, 1).value == 0xA5);
+    enter(0x8002);
+    CHECK(gorseplumb_load(&machine, ADDRESS(RAM_PAGES) - 1, 1).value == 0xA5);
     CHECK(gorseplumb_free(&machine, &list) == GORSEPLUMB_OK);
     CHECK(gorseplumb_boot_lent_manifest(&machine, &list, &manifest) == GORSEPLUMB_OK);
     has_bytes(false);

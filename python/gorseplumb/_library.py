@@ -13,7 +13,7 @@ from typing import Any, Callable
 
 from .errors import LibraryError
 
-DECLARATIONS = 7
+DECLARATIONS = 8
 """The number of the declarations that this file has."""
 
 MOST_REGIONS = 16
@@ -23,7 +23,7 @@ MOST_BLOCKS = 32
 MOST_RANGES = 64
 NOTHING = 0xFFFFFFFF
 
-KIND_REGISTERS, KIND_DATA, KIND_DONE, KIND_FAULT, KIND_NO_MACHINE, KIND_BAD_SIZE, KIND_NO_ENDPOINT = range(7)
+KIND_REGISTERS, KIND_DATA, KIND_DONE, KIND_FAULT, KIND_NO_MACHINE, KIND_BAD_SIZE = range(6)
 KIND_RESUMED, KIND_NO_PROCESSOR = 7, 8
 OPERATION_CALL, OPERATION_LOAD, OPERATION_STORE, OPERATION_FETCH = range(4)
 
@@ -159,10 +159,6 @@ _DECLARED: dict[str, tuple[Any, ...]] = {
     "load": (Outcome, _MACHINE, c_uint64, c_uint32),
     "store": (Outcome, _MACHINE, c_uint64, c_uint32, c_uint64),
     "fetch": (Outcome, _MACHINE, c_uint64),
-    "call_as": (Outcome, _MACHINE, c_uint16, _REGISTERS),
-    "load_as": (Outcome, _MACHINE, c_uint16, c_uint64, c_uint32),
-    "store_as": (Outcome, _MACHINE, c_uint16, c_uint64, c_uint32, c_uint64),
-    "fetch_as": (Outcome, _MACHINE, c_uint16, c_uint64),
     "call_on": (Outcome, _MACHINE, c_uint32, _REGISTERS),
     "load_on": (Outcome, _MACHINE, c_uint32, c_uint64, c_uint32),
     "store_on": (Outcome, _MACHINE, c_uint32, c_uint64, c_uint32, c_uint64),

@@ -11,19 +11,16 @@ from .outcomes import Act, Call, Data, Done, Effect, Fetch, Interrupt, Load, Reg
 
 
 class Entry(NamedTuple):
-    """An operation or an interrupt, what came of it, and the endpoint or the processor that was asked for, where one was."""
+    """An operation or an interrupt, what came of it, and the processor that was asked for, where one was."""
 
     operation: Act
     outcome: Effect
-    by: int | None
     processor: int | None = None
 
 
-def dumps(operation: Act, outcome: Effect, by: int | None = None, processor: int | None = None) -> str:
+def dumps(operation: Act, outcome: Effect, processor: int | None = None) -> str:
     """The line, without its end."""
-    told: dict[str, Any] = {"by": f"{by:04X}"} if by is not None else {}
-    if processor is not None:
-        told["on"] = processor
+    told: dict[str, Any] = {"on": processor} if processor is not None else {}
     return json.dumps({**told, **_operation(operation), "outcome": _outcome(outcome)})
 
 
@@ -31,9 +28,8 @@ def loads(line: str) -> Entry:
     """What a line says."""
     try:
         told = json.loads(line)
-        by = int(told["by"], 16) if "by" in told else None
         processor = int(told["on"]) if "on" in told else None
-        return Entry(_read_operation(told), _read_outcome(told["outcome"]), by, processor)
+        return Entry(_read_operation(told), _read_outcome(told["outcome"]), processor)
     except (KeyError, TypeError, AttributeError, ValueError) as wrong:
         raise ValueError(f"no operation with its outcome: {line.strip()[:80]!r}: {wrong!r}") from None
 

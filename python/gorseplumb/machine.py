@@ -32,11 +32,8 @@ if TYPE_CHECKING:
 class Watcher:
     """Who is told of each operation of a machine."""
 
-    def before(self, machine: Machine, by: int, operation: Operation) -> None:
-        """An operation that is asked of an endpoint is about to be done. An exception stops it."""
-
-    def after(self, machine: Machine, by: int | None, operation: Operation, outcome: Outcome) -> None:
-        """An operation was done, or refused: of the endpoint that was asked for, or of the runner, which is None."""
+    def after(self, machine: Machine, operation: Operation, outcome: Outcome) -> None:
+        """An operation of the endpoint that runs was done, or refused."""
 
     def before_on(self, machine: Machine, processor: int, act: Act) -> None:
         """An operation or an interrupt of a processor is about to be done. An exception stops it."""
@@ -48,7 +45,7 @@ class Watcher:
 class _First(Watcher):
     """Sees that a machine isn't as it booted any more."""
 
-    def after(self, machine: Machine, by: int | None, operation: Operation, outcome: Outcome) -> None:
+    def after(self, machine: Machine, operation: Operation, outcome: Outcome) -> None:
         machine.unwatch(self)
 
     def after_on(self, machine: Machine, processor: int, act: Act, effect: Effect) -> None:
@@ -188,7 +185,7 @@ class Machine(Questions):
         _set_runner(answer, told.runner)
         _set_x(answer, _unpack(told))
         if self._watchers:
-            self._tell(None, Call((x0, x1, x2, x3, x4, x5, x6, x7)), answer)
+            self._tell(Call((x0, x1, x2, x3, x4, x5, x6, x7)), answer)
         return answer
 
     def load(self, address: int, size: int) -> Data | Faulted:
@@ -201,7 +198,7 @@ class Machine(Questions):
             Load(address, size)  # says which is wrong
         found = self._accessed(_load(self._raw, address, size), size)
         if self._watchers:
-            self._tell(None, Load(address, size), found)
+            self._tell(Load(address, size), found)
         return found
 
     def store(self, address: int, size: int, value: int) -> Done | Faulted:
@@ -214,7 +211,7 @@ class Machine(Questions):
             Store(address, size, value)
         found = self._stored(_store(self._raw, address, size, value))
         if self._watchers:
-            self._tell(None, Store(address, size, value), found)
+            self._tell(Store(address, size, value), found)
         return found
 
     def fetch(self, address: int) -> Data | Faulted:
@@ -227,44 +224,7 @@ class Machine(Questions):
             Fetch(address)
         found = self._accessed(_fetch(self._raw, address), 4)
         if self._watchers:
-            self._tell(None, Fetch(address), found)
-        return found
-
-    # THE SAME of any endpoint, as where another processor runs it
-
-    def call_as(self, endpoint: int, *x: int) -> Registers:
-        """A call of an endpoint. Where it isn't the runner it is answered BUSY, and nothing changes."""
-        call = Call(x)
-        self._warn(endpoint, call)
-        told = library.call_as(self._raw, endpoint, _pack(*call.x))
-        if told.kind != c.KIND_REGISTERS:
-            self._refuse_kind(told.kind)
-        answer = Registers(told.runner, tuple(told.x))
-        self._tell(endpoint, call, answer)
-        return answer
-
-    def load_as(self, endpoint: int, address: int, size: int) -> Data | Faulted:
-        """A load of an endpoint, by its own table."""
-        operation = Load(address, size)
-        self._warn(endpoint, operation)
-        found = self._accessed(library.load_as(self._raw, endpoint, address, size), size)
-        self._tell(endpoint, operation, found)
-        return found
-
-    def store_as(self, endpoint: int, address: int, size: int, value: int) -> Done | Faulted:
-        """A store of an endpoint, by its own table."""
-        operation = Store(address, size, value)
-        self._warn(endpoint, operation)
-        found = self._stored(library.store_as(self._raw, endpoint, address, size, value))
-        self._tell(endpoint, operation, found)
-        return found
-
-    def fetch_as(self, endpoint: int, address: int) -> Data | Faulted:
-        """A fetch of an endpoint, by its own table."""
-        operation = Fetch(address)
-        self._warn(endpoint, operation)
-        found = self._accessed(library.fetch_as(self._raw, endpoint, address), 4)
-        self._tell(endpoint, operation, found)
+            self._tell(Fetch(address), found)
         return found
 
     # THE SAME of whoever runs on a processor, where several run endpoints of a machine at once, and interrupts
@@ -363,7 +323,7 @@ class Machine(Questions):
             raise LibraryError(f"{done} of {len(batch)} operations were done")
         if self._watchers:
             for operation, outcome in zip(batch.operations, outcomes):
-                self._tell(None, operation, outcome)
+                self._tell(operation, outcome)
         return outcomes
 
     def do(self, function: Function, /, **arguments: Argument) -> Registers:
@@ -480,14 +440,9 @@ class Machine(Questions):
 
         return JsonRecording(self, path)
 
-    def _warn(self, endpoint: int, operation: Operation) -> None:
-        self._check_endpoint(endpoint)
-        for watcher in self._watchers:
-            watcher.before(self, endpoint, operation)
-
-    def _tell(self, by: int | None, operation: Operation, outcome: Outcome) -> None:
+    def _tell(self, operation: Operation, outcome: Outcome) -> None:
         for watcher in tuple(self._watchers):
-            watcher.after(self, by, operation, outcome)
+            watcher.after(self, operation, outcome)
 
     def _warn_on(self, processor: int, act: Act) -> None:
         self._check_processor(processor)

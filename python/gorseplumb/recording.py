@@ -10,7 +10,7 @@ from typing import Self, TextIO
 from . import jsonlines
 from .errors import NotRecordable
 from .machine import Machine, Watcher
-from .outcomes import Act, Effect, Operation, Outcome, Registers, Store
+from .outcomes import Act, Effect, Operation, Outcome, Registers
 
 
 class Recording(Watcher):
@@ -63,16 +63,8 @@ class TraceRecording(Recording):
         self._told: int | None = None
         self._runner = machine.runner
 
-    def before(self, machine: Machine, by: int, operation: Operation) -> None:
-        """Refuses a store of another endpoint than the runner, which no trace can have."""
-        if isinstance(operation, Store) and by != self._runner:
-            raise NotRecordable(f"a trace has stores of the endpoint that runs alone, which is {self._runner:04X}")
-
-    def after(self, machine: Machine, by: int | None, operation: Operation, outcome: Outcome) -> None:
-        """Writes the operation, with its outcome as a guard; as a comment where another than the runner was asked."""
-        if by is not None and by != self._runner:
-            self.note(f"{by:04X}, which doesn't run: {operation}: {outcome}")
-            return
+    def after(self, machine: Machine, operation: Operation, outcome: Outcome) -> None:
+        """Writes the operation, with its outcome as a guard."""
         if self._told != self._runner:
             self._put(f"#@ {self._runner:04X}")
             self._told = self._runner
@@ -108,12 +100,12 @@ class TraceRecording(Recording):
 class JsonRecording(Recording):
     """Lines of JSON, one for each operation and its outcome."""
 
-    def after(self, machine: Machine, by: int | None, operation: Operation, outcome: Outcome) -> None:
+    def after(self, machine: Machine, operation: Operation, outcome: Outcome) -> None:
         """Writes a line."""
-        self._put(jsonlines.dumps(operation, outcome, by))
+        self._put(jsonlines.dumps(operation, outcome))
 
     def after_on(self, machine: Machine, processor: int, act: Act, effect: Effect) -> None:
         """Writes a line."""
-        self._put(jsonlines.dumps(act, effect, processor=processor))
+        self._put(jsonlines.dumps(act, effect, processor))
 
 

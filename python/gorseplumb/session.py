@@ -275,7 +275,7 @@ class _Operations(Watcher):
     def __init__(self) -> None:
         self.operations: list[Operation] = []
 
-    def after(self, machine: Machine, by: int | None, operation: Operation, outcome: Outcome) -> None:
+    def after(self, machine: Machine, operation: Operation, outcome: Outcome) -> None:
         self.operations.append(operation)
 
 

@@ -114,7 +114,7 @@ def test_are_watched_by_nobody_and_fresh_as_the_machine_is() -> None:
     class Counter(Watcher):
         count = 0
 
-        def after(self, machine: Machine, by: int | None, operation: Operation, outcome: Outcome) -> None:
+        def after(self, machine: Machine, operation: Operation, outcome: Outcome) -> None:
             self.count += 1
 
     counter = Counter()

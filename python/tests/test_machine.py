@@ -62,8 +62,6 @@ def test_does_calls(partitions: Machine) -> None:
     with pytest.raises(Denied, match="^8001: DENIED$") as wrong:
         refused.ok()
     assert (wrong.value.caller, wrong.value.reason) == (0x8001, None)
-    with pytest.raises(Busy, match="^8002: BUSY$"):
-        partitions.call_as(0x8002, Function.FFA_ID_GET).ok()
     assert partitions.fetch(0x40020000) == Data(0, 4)
     with pytest.raises(AttributeError):
         refused.runner = 1  # type: ignore[misc]
@@ -95,24 +93,6 @@ def test_reads_and_writes_any_bytes(partitions: Machine) -> None:
     assert issubclass(AlignmentFault, AccessFault)
 
 
-def test_does_operations_of_any_endpoint(partitions: Machine) -> None:
-    assert partitions.load_as(0x8001, 0x40020000, 4) == Data(0, 4)
-    assert partitions.fetch_as(0x8001, 0x40020000) == Data(0, 4)
-    assert partitions.store_as(0x8001, 0x40028000, 2, 0xABCD) == Done()
-    assert partitions.load_as(0, 0x40028000, 2) == Faulted(Fault.TRANSLATION)
-    assert partitions.load_as(0x8001, 0x40028000, 2) == Data(0xABCD, 2)
-    busy = partitions.call_as(0x8001, Function.FFA_ID_GET)
-    assert busy == Registers(0x8001, (Function.FFA_ERROR, 0, 0xFFFFFFFC, 0, 0, 0, 0, 0)) and partitions.runner == 0
-    assert partitions.call_as(0, Function.FFA_ID_GET).x[:3] == (Function.FFA_SUCCESS, 0, 0)
-    others: list[Callable[[], object]] = [
-        lambda: partitions.load_as(0x8005, 0, 1),
-        lambda: partitions.call_as(0x8000, 1),
-    ]
-    for asked in others:
-        with pytest.raises(NoSuchEndpoint):
-            asked()
-
-
 def test_tells_of_changes_and_notifications(partitions: Machine) -> None:
     assert partitions.changed() is None
     assert not any(partitions.pending(endpoint) for endpoint in partitions.endpoints)
@@ -142,7 +122,7 @@ def test_refuses_numbers_that_have_no_room() -> None:
     with Machine(MANIFEST) as machine:
         for count in (0, 9):
             with pytest.raises(ValueError, match=f"one to eight registers, and not {count}"):
-                machine.call_as(0, *[1] * count)
+                machine.call_on(0, *[1] * count)
             with pytest.raises(TypeError):
                 machine.call(*[1] * count)
         with pytest.raises(ValueError, match="x1 has 64 bits, and is -0x1"):
@@ -189,7 +169,7 @@ def test_says_what_is_no_number_and_no_operation() -> None:
     with Machine(MANIFEST) as machine:
         asks: list[tuple[Callable[[], object], str]] = [
             (lambda: machine.call(text), f"x0 is {number}"),
-            (lambda: machine.call_as(0, 1, text), f"x1 is {number}"),
+            (lambda: machine.call_on(0, 1, text), f"x1 is {number}"),
             (lambda: machine.load(text, 1), f"an address is {number}"),
             (lambda: machine.fetch(text), f"an address is {number}"),
             (lambda: machine.fetch(half), "an address is a number, and not the float 1.5"),
@@ -198,7 +178,6 @@ def test_says_what_is_no_number_and_no_operation() -> None:
             (lambda: machine.write(text, b""), f"an address is {number}"),
             (lambda: machine.write(RAM, text), "data is bytes, and not the str '40010000': give its encode()"),
             (lambda: machine.access(text, 0), f"an endpoint is {number}"),
-            (lambda: machine.load_as(text, 0, 1), f"an endpoint is {number}"),
             (lambda: machine.owner(text), f"a page is {number}"),
             (lambda: machine.page(text), f"a page is {number}"),
             (lambda: machine.run_at(text), f"a page is {number}"),
@@ -326,7 +305,6 @@ def test_ends_once() -> None:
         lambda: machine.call(1),
         lambda: machine.runner,
         lambda: machine.owner(0),
-        lambda: machine.load_as(0, RAM, 1),
         lambda: machine.page(0),
         lambda: machine.pending(0),
         lambda: machine.changed(),
@@ -350,22 +328,22 @@ def test_is_not_pickled() -> None:
 def test_tells_its_watchers(partitions: Machine) -> None:
     class Keeper(Watcher):
         def __init__(self) -> None:
-            self.told: list[tuple[int | None, Operation, Outcome]] = []
+            self.told: list[tuple[Operation, Outcome]] = []
 
-        def after(self, machine: Machine, by: int | None, operation: Operation, outcome: Outcome) -> None:
-            self.told.append((by, operation, outcome))
+        def after(self, machine: Machine, operation: Operation, outcome: Outcome) -> None:
+            self.told.append((operation, outcome))
 
     keeper = Keeper()
     partitions.watch(keeper)
     partitions.call(Function.FFA_ID_GET)
-    partitions.store_as(0x8001, 0x40028000, 1, 1)
+    partitions.store(0x40010000, 1, 1)
     partitions.fetch(0x40010000)
     partitions.unwatch(keeper)
     partitions.load(0x40010000, 1)
     assert keeper.told == [
-        (None, Call((Function.FFA_ID_GET,)), Registers(0, (Function.FFA_SUCCESS, 0, 0, 0, 0, 0, 0, 0))),
-        (0x8001, Store(0x40028000, 1, 1), Done()),
-        (None, Fetch(0x40010000), Faulted(Fault.PERMISSION)),
+        (Call((Function.FFA_ID_GET,)), Registers(0, (Function.FFA_SUCCESS, 0, 0, 0, 0, 0, 0, 0))),
+        (Store(0x40010000, 1, 1), Done()),
+        (Fetch(0x40010000), Faulted(Fault.PERMISSION)),
     ]
     assert str(Load(0x40010000, 1)) == "load 40010000 1"
 

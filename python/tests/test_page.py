@@ -57,12 +57,11 @@ def test_the_session_answers_what_it_shows() -> None:
 
 
 def test_the_lines_of_json_are_read() -> None:
-    entries = [jsonlines.loads(line) for line in block("Recordings", 1).splitlines()]
     with Machine(EXAMPLES / "partitions.toml") as machine:
-        for entry, line in zip(entries, block("Recordings", 1).splitlines()):
+        for line in block("Recordings", 1).splitlines():
+            entry = jsonlines.loads(line)
             assert jsonlines.dumps(*entry) == line
-        assert machine.perform_on(0, entries[0].operation) == entries[0].outcome
-        assert str(machine.load_as(0x8001, 0x40010000, 1)) == str(entries[1].outcome)
+            assert machine.perform_on(entry.processor or 0, entry.operation) == entry.outcome
 
 
 def test_the_logs_are_read() -> None:

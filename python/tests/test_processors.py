@@ -105,8 +105,8 @@ def test_they_are_written_as_lines_of_json(partitions: Machine, tmp_path: Path) 
         effects = [partitions.perform_on(processor, act) for processor, act in ACTS]
     lines = path.read_text().splitlines()
     entries = [jsonlines.loads(line) for line in lines]
-    assert [(it.processor, it.operation, it.outcome, it.by) for it in entries] == [
-        (processor, act, effect, None) for (processor, act), effect in zip(ACTS, effects)
+    assert [(it.processor, it.operation, it.outcome) for it in entries] == [
+        (processor, act, effect) for (processor, act), effect in zip(ACTS, effects)
     ]
     assert lines[2].startswith('{"on": 0, "interrupt": true, "outcome": {"runner": "0000"')
     assert lines[3].endswith('"outcome": {"resumed": "8001"}}')

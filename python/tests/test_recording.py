@@ -14,7 +14,7 @@ MANIFEST = EXAMPLES / "partitions.toml"
 
 
 def bench(machine: Machine) -> None:
-    """What a test bench may do: calls, messages, a lend, accesses that fault, and one of another endpoint."""
+    """What a test bench may do: calls, messages, a lend, and accesses that fault."""
     machine.write(0x40010003, b"hello")
     machine.do(Function.FFA_RUN, partition=0x8002)
     machine.do(Function.FFA_RXTX_MAP, tx=0x40206000, rx=0x40207000, pages=1)
@@ -25,8 +25,6 @@ def bench(machine: Machine) -> None:
     offer = Offer(Kind.LEND, 0x8001, (Receiver(0x8002, DataAccess.RW),), (PageRange(0x40029000, 1),))
     machine.send(offer, 0x4002E000)
     assert machine.load(0x40029000, 1) == Faulted(Fault.TRANSLATION)
-    machine.load_as(0x8002, 0x40200000, 4)
-    machine.call_as(0x8002, Function.FFA_ID_GET)
     machine.call(0x84000083, (1 << 64) - 1)
 
 
@@ -61,16 +59,11 @@ def test_is_played_by_the_package_to_the_same_answers(partitions: Machine) -> No
     assert played == [line[3:] for line in recording.text.splitlines() if line.startswith("#= ")]
 
 
-def test_says_what_a_trace_cannot_have() -> None:
+def test_begins_at_the_boot_and_ends_where_it_is_stopped() -> None:
     with Machine(MANIFEST) as machine:
         with machine.record() as recording:
-            with pytest.raises(NotRecordable, match="the endpoint that runs alone, which is 0000"):
-                machine.store_as(0x8001, 0x40028000, 1, 1)
-            assert machine.load_as(0x8001, 0x40028000, 1) != Faulted(Fault.TRANSLATION)
-            machine.store_as(0, 0x40010000, 1, 1)
-        assert recording.text == (
-            "# 8001, which doesn't run: load 40028000 1: data 00\n#@ 0000\nstore 40010000 01\n#= done\n"
-        )
+            machine.store(0x40010000, 1, 1)
+        assert recording.text == "#@ 0000\nstore 40010000 01\n#= done\n"
         machine.store(0x40010000, 1, 2)
         assert "store 40010000 02" not in recording.text
         with pytest.raises(NotRecordable, match="begins at the boot"):
@@ -82,14 +75,14 @@ def test_lines_of_json_are_read_as_they_were_written(partitions: Machine, tmp_pa
     with partitions.record() as trace, partitions.record_json(path):
         bench(partitions)
     entries = [jsonlines.loads(line) for line in path.read_text().splitlines()]
-    assert [str(it.outcome) for it in entries if it.by is None] == [
+    assert [str(it.outcome) for it in entries] == [
         line[3:] for line in trace.text.splitlines() if line.startswith("#= ")
     ]
-    assert {it.by for it in entries} == {None, 0x8002} and {it.processor for it in entries} == {None}
+    assert {it.processor for it in entries} == {None}
     with Machine(MANIFEST) as machine:
         for entry in entries:
-            if entry.by is None and not isinstance(entry.operation, Interrupt):
-                assert machine.perform(entry.operation) == entry.outcome
+            assert not isinstance(entry.operation, Interrupt)
+            assert machine.perform(entry.operation) == entry.outcome
 
 
 def test_a_line_of_json_is_as_documented() -> None:

@@ -142,49 +142,9 @@ impl fmt::Display for BootError {
     }
 }
 
-/// The machine has no such endpoint.
-#[derive(Clone, Copy, Debug, PartialEq, Eq, Hash)]
-pub struct NoEndpoint;
-
-impl fmt::Display for NoEndpoint {
-    fn fmt(&self, to: &mut fmt::Formatter<'_>) -> fmt::Result {
-        to.write_str("the machine has no such endpoint")
-    }
-}
-
-/// Why an access of an endpoint that is named isn't done.
-#[derive(Clone, Copy, Debug, PartialEq, Eq, Hash)]
-pub enum AccessError {
-    /// The machine has no such endpoint.
-    NoEndpoint,
-    /// It is refused.
-    Fault(Fault),
-}
-
-impl fmt::Display for AccessError {
-    fn fmt(&self, to: &mut fmt::Formatter<'_>) -> fmt::Result {
-        match self {
-            AccessError::NoEndpoint => NoEndpoint.fmt(to),
-            AccessError::Fault(fault) => fault.fmt(to),
-        }
-    }
-}
-
-impl From<NoEndpoint> for AccessError {
-    fn from(_: NoEndpoint) -> AccessError {
-        AccessError::NoEndpoint
-    }
-}
-
-impl From<Fault> for AccessError {
-    fn from(fault: Fault) -> AccessError {
-        AccessError::Fault(fault)
-    }
-}
-
 #[cfg(feature = "std")]
 mod errors {
-    use super::{AccessError, BootError, Cause, ErrorCode, Fault, NoEndpoint};
+    use super::{BootError, Cause, ErrorCode, Fault};
     use crate::checks::{Check, Flaw};
     use std::error::Error;
 
@@ -193,22 +153,12 @@ mod errors {
     impl Error for Fault {}
     impl Error for ErrorCode {}
     impl Error for Cause {}
-    impl Error for NoEndpoint {}
 
     impl Error for BootError {
         fn source(&self) -> Option<&(dyn Error + 'static)> {
             match self {
                 BootError::Refused(refusal) => Some(&refusal.cause),
                 BootError::NoMemory | BootError::WrongCount => None,
-            }
-        }
-    }
-
-    impl Error for AccessError {
-        fn source(&self) -> Option<&(dyn Error + 'static)> {
-            match self {
-                AccessError::Fault(fault) => Some(fault),
-                AccessError::NoEndpoint => None,
             }
         }
     }

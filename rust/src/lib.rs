@@ -150,7 +150,7 @@ mod settling;
 pub use allowed::Allowed;
 pub use certificate::{AuditError, Grant, PageRun};
 pub use checks::{Check, Flaw};
-pub use codes::{AccessError, BootError, Cause, ErrorCode, Fault, NoEndpoint};
+pub use codes::{BootError, Cause, ErrorCode, Fault};
 pub use descriptors::{
     DataAccess, DescriptorError, InstructionAccess, Kind, Offer, OfferRoom, PageRange, Receiver, Relinquish, Retrieve,
     RetrieveResponse, MOST_DESCRIPTOR, MOST_RANGES, MOST_RECEIVERS,

@@ -1,8 +1,8 @@
 // SPDX-License-Identifier: MIT OR Apache-2.0
 //! The machine: how it begins, what it does, and how it ends.
-use crate::codes::{AccessError, BootError, Cause, Fault, NoEndpoint};
+use crate::codes::{BootError, Cause, Fault};
 use crate::hexadecimal::shown;
-use crate::operation::{accessed, accessed_by, known, Answer, Registers, Size};
+use crate::operation::{accessed, known, Answer, Registers, Size};
 use crate::ram::{Heap, Lent, Page, Ram};
 use crate::refusal::Refusal;
 use crate::{raw, Id, Manifest};
@@ -246,48 +246,6 @@ impl<R: Ram> Machine<R> {
     pub fn fetch(&mut self, address: u64) -> Result<u32, Fault> {
         // SAFETY: as above.
         accessed(&unsafe { raw::gorseplumb_fetch(&mut self.at, address) }).map(|word| word as u32)
-    }
-
-    /// A call of any endpoint, whoever runs, as where another processor runs it. One that isn't the runner is answered
-    /// FFA_ERROR with BUSY, under its own name, and nothing changes.
-    ///
-    /// # Errors
-    /// [`NoEndpoint`].
-    #[inline]
-    pub fn call_as(&mut self, endpoint: Id, registers: &Registers) -> Result<Answer, NoEndpoint> {
-        // SAFETY: as above.
-        Answer::of_endpoint(unsafe { raw::gorseplumb_call_as(&mut self.at, endpoint.0, of(registers)) })
-    }
-
-    /// A load of any endpoint, by its own table.
-    ///
-    /// # Errors
-    /// [`AccessError::NoEndpoint`], or the fault by which it is refused. Nothing has changed then.
-    #[inline]
-    pub fn load_as(&mut self, endpoint: Id, address: u64, size: Size) -> Result<u64, AccessError> {
-        // SAFETY: as above.
-        accessed_by(&unsafe { raw::gorseplumb_load_as(&mut self.at, endpoint.0, address, size as u32) })
-    }
-
-    /// A store of any endpoint.
-    ///
-    /// # Errors
-    /// As [`Machine::load_as`].
-    #[inline]
-    pub fn store_as(&mut self, endpoint: Id, address: u64, size: Size, value: u64) -> Result<(), AccessError> {
-        // SAFETY: as above.
-        let outcome = unsafe { raw::gorseplumb_store_as(&mut self.at, endpoint.0, address, size as u32, value) };
-        accessed_by(&outcome).map(drop)
-    }
-
-    /// A fetch of any endpoint.
-    ///
-    /// # Errors
-    /// As [`Machine::load_as`].
-    #[inline]
-    pub fn fetch_as(&mut self, endpoint: Id, address: u64) -> Result<u32, AccessError> {
-        // SAFETY: as above.
-        accessed_by(&unsafe { raw::gorseplumb_fetch_as(&mut self.at, endpoint.0, address) }).map(|word| word as u32)
     }
 
     /// What the last call on memory that was done has changed of access, told once.

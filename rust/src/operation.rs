@@ -1,6 +1,6 @@
 // SPDX-License-Identifier: MIT OR Apache-2.0
 //! What an operation is given, and what comes of it.
-use crate::codes::{AccessError, ErrorCode, Fault, NoEndpoint};
+use crate::codes::{ErrorCode, Fault};
 use crate::hexadecimal::All;
 use crate::{raw, Handle, Id};
 use core::fmt;
@@ -113,14 +113,6 @@ impl Answer {
         debug_assert_eq!(outcome.kind, raw::KIND_REGISTERS);
         Answer(outcome)
     }
-
-    #[inline]
-    pub(crate) fn of_endpoint(outcome: raw::Outcome) -> Result<Answer, NoEndpoint> {
-        if outcome.kind == raw::KIND_NO_ENDPOINT {
-            return Err(NoEndpoint);
-        }
-        Ok(Answer::of(outcome))
-    }
 }
 
 impl fmt::Debug for Answer {
@@ -145,15 +137,6 @@ pub(crate) fn accessed(outcome: &raw::Outcome) -> Result<u64, Fault> {
         raw::KIND_DATA | raw::KIND_DONE => Ok(outcome.value),
         _ => Err(known(Fault::of(outcome.value as u32))),
     }
-}
-
-/// The same of an endpoint that is named.
-#[inline]
-pub(crate) fn accessed_by(outcome: &raw::Outcome) -> Result<u64, AccessError> {
-    if outcome.kind == raw::KIND_NO_ENDPOINT {
-        return Err(AccessError::NoEndpoint);
-    }
-    Ok(accessed(outcome)?)
 }
 
 /// A number of the library's, in the enum that has all of them.

@@ -8,7 +8,7 @@
 use core::ffi::c_void;
 
 /// The number of the declarations that stand here.
-pub const DECLARATIONS: u32 = 7;
+pub const DECLARATIONS: u32 = 8;
 
 /// What a question answers where there is nothing to tell.
 pub const NOTHING: u32 = u32::MAX;
@@ -75,7 +75,6 @@ pub const KIND_DONE: u32 = 2;
 pub const KIND_FAULT: u32 = 3;
 pub const KIND_NO_MACHINE: u32 = 4;
 pub const KIND_BAD_SIZE: u32 = 5;
-pub const KIND_NO_ENDPOINT: u32 = 6;
 pub const KIND_RESUMED: u32 = 7;
 pub const KIND_NO_PROCESSOR: u32 = 8;
 
@@ -256,10 +255,6 @@ extern "C" {
     pub fn gorseplumb_load(machine: *mut Machine, address: u64, size: u32) -> Outcome;
     pub fn gorseplumb_store(machine: *mut Machine, address: u64, size: u32, value: u64) -> Outcome;
     pub fn gorseplumb_fetch(machine: *mut Machine, address: u64) -> Outcome;
-    pub fn gorseplumb_call_as(machine: *mut Machine, endpoint: u16, registers: *const Registers) -> Outcome;
-    pub fn gorseplumb_load_as(machine: *mut Machine, endpoint: u16, address: u64, size: u32) -> Outcome;
-    pub fn gorseplumb_store_as(machine: *mut Machine, endpoint: u16, address: u64, size: u32, value: u64) -> Outcome;
-    pub fn gorseplumb_fetch_as(machine: *mut Machine, endpoint: u16, address: u64) -> Outcome;
     pub fn gorseplumb_call_on(machine: *mut Machine, processor: u32, registers: *const Registers) -> Outcome;
     pub fn gorseplumb_load_on(machine: *mut Machine, processor: u32, address: u64, size: u32) -> Outcome;
     pub fn gorseplumb_store_on(machine: *mut Machine, processor: u32, address: u64, size: u32, value: u64) -> Outcome;

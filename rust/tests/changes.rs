@@ -3,7 +3,7 @@
 mod common;
 
 use common::machines::MACHINE;
-use common::steps::{act, LEND, MAPPED, RELINQUISH, RETRIEVE, RETRIEVED, TO_FIRST, TO_SECOND};
+use common::steps::{take_steps, LEND, MAPPED, RELINQUISH, RETRIEVE, RETRIEVED, TO_FIRST, TO_SECOND};
 use common::{ram, RAM};
 use gorseplumb::{Change, Id, Machine, Ram, Range, Rights};
 
@@ -47,7 +47,7 @@ fn names(change: &Option<Reported>, endpoint: Id, page: u32) -> bool {
 /// that access is not as before the step, and the machine reports it once.
 fn follow<R: Ram>(machine: &mut Machine<R>, step: &str) -> Option<Reported> {
     let before = accesses(machine);
-    act(machine, step);
+    take_steps(machine, step);
     let now = accesses(machine);
     let change = machine.changed().as_ref().map(reported);
     for (place, (endpoint, page)) in endpoints_and_pages().enumerate() {
@@ -178,6 +178,6 @@ call 84000074 40 40 -> 8002: 84000075 60 60
 fn the_last_change_is_told() {
     let mut machine = Machine::boot(&MACHINE).unwrap();
     let steps = [MAPPED, LEND, TO_SECOND, RETRIEVE, RETRIEVED, TO_FIRST].concat();
-    steps.lines().for_each(|step| act(&mut machine, step));
+    take_steps(&mut machine, &steps);
     assert_eq!(machine.changed().as_ref().map(reported), Some((SECOND, vec![pages(0x4002_1000, 1)])));
 }

@@ -51,7 +51,7 @@ fn operations() -> Vec<(String, i64)> {
     rows.extend(fields!(Range, "range", address size));
     rows.extend(fields!(Change, "change", endpoint range_count ranges));
     rows.push(("sizeof(struct gorseplumb_page)".into(), size_of::<gorseplumb::Page>() as i64));
-    rows.extend(numbers!(KIND_REGISTERS KIND_DATA KIND_DONE KIND_FAULT KIND_NO_MACHINE KIND_BAD_SIZE KIND_NO_ENDPOINT));
+    rows.extend(numbers!(KIND_REGISTERS KIND_DATA KIND_DONE KIND_FAULT KIND_NO_MACHINE KIND_BAD_SIZE));
     rows.extend(numbers!(OK NO_MEMORY OCCUPIED NO_LIST NO_PAGE HAS_PAGES NO_MACHINE WRONG_COUNT NOTHING));
     rows.extend(numbers!(KIND_RESUMED KIND_NO_PROCESSOR));
     rows.extend(numbers!(MOST_REGIONS MOST_ENDPOINTS MOST_BLOCKS MOST_RANGES MOST_PROCESSORS));

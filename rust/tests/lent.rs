@@ -5,9 +5,7 @@ mod common;
 
 use common::machines::{MACHINE, PARTITIONS};
 use common::{example, play_line, ram};
-use gorseplumb::{
-    registers, AccessError, BootError, ErrorCode, Fault, Id, Lent, Machine, NoEndpoint, Page, Range, Rights, Size,
-};
+use gorseplumb::{registers, BootError, Id, Lent, Machine, Page, Range, Rights, Size};
 
 const PLACE: u64 = 0x4001_0000;
 const FIRST: Id = Id(0x8001);
@@ -109,29 +107,6 @@ fn what_a_shared_page_changes() {
     }
     drop(machine);
     assert_eq!(pages[40].0[0], 0x2B);
-}
-
-/// While the normal world runs, 8001 acts as it may on another processor.
-#[test]
-fn any_endpoint_acts() {
-    let mut pages = ram(1);
-    let mut machine = Machine::boot_lent(&MACHINE, &mut pages).unwrap();
-    let id_get = registers([0x8400_0069]);
-    let busy = machine.call_as(FIRST, &id_get).unwrap();
-    assert_eq!((busy.runner(), busy.error(), machine.runner()), (FIRST, Some(ErrorCode::Busy), Id::NORMAL_WORLD));
-    assert_eq!(busy.registers(), &registers([0x8400_0060, 0, 0xFFFF_FFFC]));
-    assert_eq!(machine.call_as(Id::NORMAL_WORLD, &id_get), Ok(machine.call(&id_get)));
-    assert_eq!(machine.store_as(FIRST, 0x4002_0000, Size::B1, 0x2B), Ok(()));
-    assert_eq!(machine.load_as(FIRST, 0x4002_0000, Size::B1), Ok(0x2B));
-    assert_eq!(machine.fetch_as(FIRST, 0x4002_0000), Ok(0x2B));
-    assert_eq!(machine.load_as(FIRST, PLACE, Size::B1), Err(AccessError::Fault(Fault::Translation)));
-    assert_eq!(machine.load_as(Id(0), 0x4002_0000, Size::B1), Err(AccessError::Fault(Fault::Translation)));
-    for nobody in [Id::MANAGER, Id(0x8003), Id(1)] {
-        assert_eq!(machine.call_as(nobody, &id_get), Err(NoEndpoint));
-        assert_eq!(machine.load_as(nobody, PLACE, Size::B1), Err(AccessError::NoEndpoint));
-        assert_eq!(machine.store_as(nobody, PLACE, Size::B1, 0), Err(AccessError::NoEndpoint));
-        assert_eq!(machine.fetch_as(nobody, PLACE), Err(AccessError::NoEndpoint));
-    }
 }
 
 /// 8001 lets the normal world set a bit, which is pending from there to where 8001 gets it.

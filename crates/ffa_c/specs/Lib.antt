@@ -1,7 +1,6 @@
 -- SPDX-License-Identifier: MIT OR Apache-2.0
 pub mod Audit
 pub mod Border
-pub mod Elsewhere
 pub mod Processors
 pub mod Boarded
 pub mod Booting

@@ -1,6 +1,6 @@
 // SPDX-License-Identifier: MIT OR Apache-2.0
 //! A machine with the outcomes that C sees, whichever RAM it has.
-ghost use Rattle.std.specs.Prelude.{◌≡◌, ◌≢◌, ◌<◌, ◌≤◌, ◌*◌, ◌↔◌, IsTrue, true, false, length, is_some};
+ghost use Rattle.std.specs.Prelude.{◌≡◌, ◌<◌, ◌≤◌, ◌*◌, ◌↔◌, IsTrue, true, false, length, is_some};
 ghost use Rattle.std.specs.FinSet as finite_set;
 ghost use Rattle.std.specs.Option.{option_and_then};
 ghost use Rattle.ffa_model.specs.declared.limits.TheConstants.{MOST_PROCESSORS};
@@ -11,7 +11,6 @@ ghost use Rattle.ffa_model.specs.Notifications.{has_pending, notifications_of};
 ghost use Rattle.ffa_model.specs.Processors.{first_processors, on};
 ghost use Rattle.ffa_model.specs.Ram.{page_of, zero_ram};
 ghost use Rattle.ffa_model.specs.Refusals.{is_refusal};
-ghost use Rattle.ffa_model.specs.State.{is_known};
 ghost use Rattle.ffa_model.specs.Step.{step};
 ghost use Rattle.ffa_model.specs.Why.{granted, why};
 ghost use Rattle.ffa_manifest.specs.Document.{parts_of};
@@ -21,16 +20,14 @@ ghost use Rattle.ffa_mend.specs.Allowed.{allowed};
 ghost use Rattle.ffa_playable.specs.Standing.{standing};
 ghost use Rattle.ffa_c.specs.Boarded.{cluster_of};
 ghost use Rattle.ffa_c.specs.Booting.{IsFirst, IsFirstBy};
-ghost use Rattle.ffa_c.specs.Border.{HasDoneIn, access_code, nothing_done, owner_number, root_number};
+ghost use Rattle.ffa_c.specs.Border.{HasDoneIn, access_code, owner_number, root_number};
 ghost use Rattle.ffa_c.specs.Changes.{with_all_told};
-ghost use Rattle.ffa_c.specs.Elsewhere.{HasActed};
 ghost use Rattle.ffa_c.specs.Processors.{HasDoneInOn, HasInterrupted, notices_after};
 ghost use Rattle.ffa_c.specs.Runs.{run_at};
 
-use crate::codes::KIND_NO_ENDPOINT;
 use crate::kind::{
-    BoardMachine, acted_by, audited_by, code_of, done_among, done_among_on, done_by, done_on,
-    interrupted_by, owner_by, root_by, run_by,
+    BoardMachine, audited_by, code_of, done_among, done_among_on, done_by, done_on, interrupted_by,
+    owner_by, root_by, run_by,
 };
 use crate::outcome::COutcome;
 use ffa_lent::{Frames, LentRam};
@@ -226,31 +223,6 @@ impl Board {
         ensures { result ≡ (on self.now.processors processor self.now.machine.state).runner }
     {
         either!(&self.kind, cluster => u32::from(cluster.runner_of(processor).0))
-    }
-
-    /// Does one operation of an endpoint, whoever runs: that of the runner is `op`. Where there is no such endpoint,
-    /// nothing is done.
-    pub fn op_as(&mut self, endpoint: EndpointId, op: &Op) -> COutcome
-        ensures unknown { is_known self.old.machine.state endpoint.0 ≡ false → result ≡ nothing_done 6 }
-        ensures unchanged { is_known self.old.machine.state endpoint.0 ≡ false → self.new ≡ self.old }
-        ensures runner { is_known self.old.machine.state endpoint.0 ≡ true → self.old.machine.state.runner ≡ endpoint.0
-            → HasDoneIn self.old.is_lent self.old.machine self.new.machine op.now result }
-        ensures other { is_known self.old.machine.state endpoint.0 ≡ true → self.old.machine.state.runner ≢ endpoint.0
-            → HasActed self.old.machine self.new.machine endpoint.0 op.now result }
-        ensures notices { is_known self.old.machine.state endpoint.0 ≡ true
-            → self.new.notices ≡ still_told self.old.notices (notifications_of self.new.machine.state) }
-        ensures processors { self.new.processors ≡ self.old.processors }
-        ensures kind { self.new.is_lent ≡ self.old.is_lent }
-    {
-        if !endpoint.is_among(self.endpoints() as usize) {
-            return COutcome::nothing(KIND_NO_ENDPOINT);
-        }
-        if u32::from(endpoint.0) == self.runner() {
-            let mut outcome = COutcome::nothing(KIND_NO_ENDPOINT);
-            self.op(op, &mut outcome);
-            return outcome;
-        }
-        either!(&mut self.kind, cluster => acted_by(cluster, &mut self.notices, endpoint, op))
     }
 
     /// Whose access to which pages the last call on memory that was done has changed: told once.

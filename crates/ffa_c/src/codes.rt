@@ -3,7 +3,7 @@
 //! which a call answers in its registers.
 
 /// The number of the header's declarations, raised by each change that a caller has to know of.
-pub const DECLARATIONS: u32 = 7;
+pub const DECLARATIONS: u32 = 8;
 
 /// It was done.
 pub const OK: u32 = 0;
@@ -103,9 +103,6 @@ pub const KIND_NO_MACHINE: u32 = 4;
 
 /// Of an outcome: there is no access of such a size, or no operation of such a kind, and nothing was done.
 pub const KIND_BAD_SIZE: u32 = 5;
-
-/// Of an outcome: the machine has no such endpoint, and nothing was done.
-pub const KIND_NO_ENDPOINT: u32 = 6;
 
 /// Of an outcome: a partition that an interrupt had stopped runs next, and goes on where it was.
 pub const KIND_RESUMED: u32 = 7;

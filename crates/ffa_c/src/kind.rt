@@ -1,14 +1,12 @@
 // SPDX-License-Identifier: MIT OR Apache-2.0
 //! A machine by where its RAM comes from, and what C asks of any machine.
-ghost use Rattle.std.specs.Prelude.{◌≡◌, ◌<◌, ◌≤◌, ◌↔◌, IsTrue, true, length};
+ghost use Rattle.std.specs.Prelude.{◌≡◌, ◌<◌, ◌≤◌, ◌↔◌, IsTrue, length};
 ghost use Rattle.ffa_model.specs.declared.limits.TheConstants.{MOST_PROCESSORS};
 ghost use Rattle.ffa_model.specs.Agreement.{Agrees, roots_of};
 ghost use Rattle.ffa_model.specs.Certified.{IsCertified};
 ghost use Rattle.ffa_model.specs.Notifications.{notifications_of};
-ghost use Rattle.ffa_model.specs.State.{is_known};
 ghost use Rattle.ffa_notify.specs.Notices.{still_told};
 ghost use Rattle.ffa_c.specs.Border.{HasDone, HasDoneAmong, access_code, exec_code, level_code, owner_number, root_number};
-ghost use Rattle.ffa_c.specs.Elsewhere.{HasActed};
 ghost use Rattle.ffa_c.specs.Processors.{HasDoneAmongOn, HasDoneOn, HasInterrupted, notices_after};
 ghost use Rattle.ffa_c.specs.Runs.{run_at};
 
@@ -67,24 +65,6 @@ pub(crate) fn done_among<S: Store>(
     cluster.op_here_among_others(op, &mut done);
     cluster.follow(notices);
     outcome.tell(&done);
-}
-
-/// An operation of an endpoint of a machine, whoever runs, with the outcome for C.
-#[inline]
-pub(crate) fn acted_by<M: PhysMem + Drop, S: Store>(
-    cluster: &mut Cluster<M, NoTlb, S>,
-    notices: &mut Told,
-    endpoint: EndpointId,
-    op: &Op,
-) -> COutcome
-    requires { is_known cluster.old.machine.state endpoint.0 ≡ true }
-    ensures done { HasActed cluster.old.machine cluster.new.machine endpoint.0 op.now result }
-    ensures processors { cluster.new.processors ≡ cluster.old.processors }
-    ensures notices { notices.new ≡ still_told notices.old (notifications_of cluster.new.machine.state) }
-{
-    let outcome = cluster.op_as(endpoint, op);
-    cluster.follow(notices);
-    COutcome::of(&outcome)
 }
 
 /// An operation of a processor, with what C is told of it.

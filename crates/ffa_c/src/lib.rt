@@ -14,7 +14,6 @@ pub mod changes;
 pub mod codes;
 pub mod copying;
 pub mod declarations;
-pub mod elsewhere;
 pub mod ending;
 pub mod exports;
 pub mod grants;

@@ -7,14 +7,13 @@ ghost use Rattle.ffa_model.specs.declared.limits.TheConstants.{MOST_PROCESSORS};
 ghost use Rattle.ffa_c.specs.Boarded.{Boarded, coded_boarded, lends, ram_pages};
 ghost use Rattle.ffa_c.specs.Border.{Operated};
 ghost use Rattle.ffa_c.specs.Changes.{told_by, with_all_told};
-ghost use Rattle.ffa_c.specs.Elsewhere.{OperatedAs};
 ghost use Rattle.ffa_c.specs.Processors.{Interrupted, OperatedOn};
 
 use crate::board::Board;
 use crate::outcome::COutcome;
 use ffa_lent::Frames;
 use ffa_memshare::Changed;
-use ffa_model::{EndpointId, MOST_PROCESSORS, Op};
+use ffa_model::{MOST_PROCESSORS, Op};
 use ffa_spmc::{Ready, Storage};
 use std::alloc::{AllocError, Global};
 use std::marker::Model;
@@ -109,18 +108,6 @@ impl Seat {
             unreachable!()
         };
         board.interrupt(processor)
-    }
-
-    /// Does one operation of an endpoint, whoever runs.
-    pub fn op_as(&mut self, endpoint: EndpointId, op: &Op) -> COutcome
-        requires { IsSome self.old }
-        ensures done { OperatedAs self.old self.new endpoint.0 op.now result }
-        ensures there { IsSome self.new }
-    {
-        let Some(board) = &mut self.board else {
-            unreachable!()
-        };
-        board.op_as(endpoint, op)
     }
 
     /// Whose access to which pages the last call on memory that was done has changed: told once.

@@ -19,9 +19,6 @@ use std::test::Fail;
 // Rows on machines with a cache, and what it holds.
 mod cached;
 
-// Operations of endpoints that don't run.
-mod elsewhere;
-
 // Machines that keep the bytes with which their RAM came.
 mod held;
 

@@ -1,21 +1,16 @@
 -- SPDX-License-Identifier: MIT OR Apache-2.0
 -- Operations that are done one after another.
-use Rattle.std.proofs.Common.{◌≡◌, ◌∙◌, ℕ, ◌+◌, ◌<◌, true, List, [], ◌∷◌, ◌++◌, length, take, drop, set, get_or, None, sym, ap, subst}
-use Rattle.std.proofs.lemmas.Bool.{and_parts}
+use Rattle.std.proofs.Common.{◌≡◌, ◌∙◌, ℕ, ◌+◌, ◌<◌, List, [], ◌∷◌, ◌++◌, length, take, drop, set, get_or, None, sym, ap, subst}
 use Rattle.std.proofs.lemmas.List.{append_assoc, at_drop_more, take_more_set}
-use Rattle.ffa_model.specs.declared.endpoint.EndpointId.{EndpointId}
 use Rattle.ffa_model.specs.declared.operation.Op.{Op}
 use Rattle.ffa_model.specs.declared.operation.Outcome.{Outcome}
 use Rattle.ffa_model.specs.SoundState.{IsSoundState}
-use Rattle.ffa_model.specs.Elsewhere.{outcomes_as, state_after_as, step_as}
-use Rattle.ffa_model.specs.State.{State, is_known, page_at}
+use Rattle.ffa_model.specs.State.{State, page_at}
 use Rattle.ffa_model.specs.Step.{outcomes, state_after, step}
-use Rattle.ffa_laws.specs.ElsewhereRuns.{are_known}
-use Rattle.ffa_laws.proofs.ElsewhereRunLaws.{all-known}
 use Rattle.ffa_laws.proofs.Growth.{step_never_grows}
 use Rattle.ffa_laws.proofs.SoundOperations.{step-sound}
 use Rattle.ffa_laws.proofs.SoundSteady.{sound-steady}
-use Rattle.ffa_spmc.specs.Operated.{AreOperated, AreOperatedAs, IsOperated, IsOperatedAs, numbered}
+use Rattle.ffa_spmc.specs.Operated.{AreOperated, IsOperated}
 use Rattle.ffa_spmc.specs.Snapshot.{Snapshot}
 use Rattle.ffa_spmc.specs.Unowned.{IsNoTable, KeepsUnowned}
 use Rattle.ffa_spmc.proofs.Sizes.{tables-kept}
@@ -40,43 +35,6 @@ pub one-more : (old now next : Snapshot) (ops : List Op) (i : ℕ) (d : Op) → 
     → (new : Snapshot) → AreOperated next (drop (i + 1) ops) new → AreOperated old ops new
 one-more old now next ops i d lt done before new rest =
     before new (subst (λ (left : List Op). AreOperated now left new) (sym (at_drop_more (λ left. left) ops i d lt)) (next, (done, rest)))
-
--- who acts next is an endpoint, and so is who acts behind it
-pub known-both : (now : State) (ops : List (EndpointId × Op)) (i : ℕ) (d : EndpointId × Op) → i < length ops → are_known now (numbered (drop i ops)) ≡ true
-    → (is_known now (get_or ops i d).0.0 ≡ true) × (are_known now (numbered (drop (i + 1) ops)) ≡ true)
-known-both now ops i d lt all =
-    and_parts (is_known now (get_or ops i d).0.0) (are_known now (numbered (drop (i + 1) ops)))
-    (sym (at_drop_more (λ (left : List (EndpointId × Op)). are_known now (numbered left)) ops i d lt) ∙ all)
-
--- one more of any endpoint
-module _ (now next : State) (ops : List (EndpointId × Op)) (i : ℕ) (d : EndpointId × Op) (lt : i < length ops)
-    (is : next ≡ (step_as now (get_or ops i d).0.0 (get_or ops i d).1).state) where
-  pub outcomes-more_as : (filled : List Outcome) (outcome : Outcome) (all : List Outcome) → i < length filled
-      → outcome ≡ (step_as now (get_or ops i d).0.0 (get_or ops i d).1).outcome
-      → take i filled ++ outcomes_as now (numbered (drop i ops)) ≡ all
-      → take (i + 1) (set filled i outcome) ++ outcomes_as next (numbered (drop (i + 1) ops)) ≡ all
-  outcomes-more_as filled outcome all inside told before =
-      ap (λ (xs : List Outcome). xs ++ outcomes_as next (numbered (drop (i + 1) ops))) (take_more_set filled i outcome inside)
-      ∙ append_assoc (take i filled) (outcome ∷ []) (outcomes_as next (numbered (drop (i + 1) ops)))
-      ∙ (λ k. take i filled ++ (told k ∷ outcomes_as (is k) (numbered (drop (i + 1) ops))))
-      ∙ sym (at_drop_more (λ (left : List (EndpointId × Op)). take i filled ++ outcomes_as now (numbered left)) ops i d lt) ∙ before
-
-  pub state-more_as : (last : State) → state_after_as now (numbered (drop i ops)) ≡ last → state_after_as next (numbered (drop (i + 1) ops)) ≡ last
-  state-more_as last before =
-      ap (λ (s : State). state_after_as s (numbered (drop (i + 1) ops))) is
-      ∙ sym (at_drop_more (λ (left : List (EndpointId × Op)). state_after_as now (numbered left)) ops i d lt) ∙ before
-
-  pub known-more_as : are_known now (numbered (drop i ops)) ≡ true → are_known next (numbered (drop (i + 1) ops)) ≡ true
-  known-more_as all =
-      subst (λ (s : State). are_known s (numbered (drop (i + 1) ops)) ≡ true) (sym is)
-      (all-known now (get_or ops i d).0.0 (get_or ops i d).1 (numbered (drop (i + 1) ops)) (known-both now ops i d lt all).1)
-
-pub one-more_as : (old now next : Snapshot) (ops : List (EndpointId × Op)) (i : ℕ) (d : EndpointId × Op) → i < length ops
-    → IsOperatedAs now (get_or ops i d).0.0 (get_or ops i d).1 next
-    → ((new : Snapshot) → AreOperatedAs now (drop i ops) new → AreOperatedAs old ops new)
-    → (new : Snapshot) → AreOperatedAs next (drop (i + 1) ops) new → AreOperatedAs old ops new
-one-more_as old now next ops i d lt done before new rest =
-    before new (subst (λ (left : List (EndpointId × Op)). AreOperatedAs now left new) (sym (at_drop_more (λ left. left) ops i d lt)) (next, (done, rest)))
 
 -- what nobody owns keeps its bytes
 pub unowned-chained : (old : Snapshot) (ops : List Op) (new : Snapshot) → IsSoundState old.state → AreOperated old ops new → KeepsUnowned old.state old.ram new.ram

@@ -1,9 +1,8 @@
 -- SPDX-License-Identifier: MIT OR Apache-2.0
 -- Who runs on each processor of a machine, as it is kept.
-use Rattle.std.proofs.Common.{◌≡◌, ◌≢◌, ◌∙◌, ℕ, suc, inl, inr, zero, ◌<◌, ◌≤◌, Bool, true, false, cond, Option, Some, None, List, [], ◌∷◌, length, map, get_or, set, replicate, refl, sym, ap, subst, subst₂, arith}
+use Rattle.std.proofs.Common.{◌≡◌, ◌≢◌, ◌∙◌, ℕ, suc, zero, ◌<◌, ◌≤◌, Bool, true, false, cond, Option, Some, None, List, [], ◌∷◌, length, map, get_or, set, replicate, refl, sym, ap, subst, subst₂, arith}
 use Rattle.std.specs.Prelude.{◌==◌}
-use Rattle.std.proofs.lemmas.Bool.{cases_eq, eq-eqb, ne_eqb}
-use Rattle.byteorder.specs.Endian.{little_bytes}
+use Rattle.std.proofs.lemmas.Bool.{eq-eqb, ne_eqb}
 use Rattle.std.proofs.lemmas.List.{get_or-replicate, length-map, map-set}
 use Rattle.ffa_model.specs.declared.endpoint.Endpoint.{Endpoint}
 use Rattle.ffa_model.specs.declared.manifest.Manifest.{Manifest}
@@ -17,11 +16,6 @@ use Rattle.ffa_model.specs.declared.limits.TheConstants.{MOST_PROCESSORS}
 use Rattle.ffa_model.specs.declared.operation.Effect.{Effect}
 use Rattle.ffa_model.specs.declared.operation.Effect.TheVariants as effects
 use Rattle.ffa_model.specs.declared.operation.Op.{Op}
-use Rattle.ffa_model.specs.declared.operation.Op.TheVariants.{Call, Load, Store, Fetch}
-use Rattle.ffa_model.specs.declared.operation.Outcome.TheVariants.{Data, Done}
-use Rattle.ffa_model.specs.Calls.{Stepped}
-use Rattle.ffa_model.specs.Elsewhere.{as_run_by, step_as, step_elsewhere}
-use Rattle.ffa_model.specs.Memory.{fetch_fault, number_at, read_fault, size_of, store_fault, stored}
 use Rattle.ffa_model.specs.Step.{step}
 use Rattle.ffa_model.specs.declared.operation.Outcome.{Outcome}
 use Rattle.ffa_model.specs.declared.schedule.Status.{Status}
@@ -36,9 +30,6 @@ use Rattle.ffa_laws.specs.OwnAccess.{AreApart}
 use Rattle.ffa_laws.specs.Processors.{ConfidentialOn, IntegrityOn, OneOperation, OnlyWritersOn, OwnAccessOn, SilenceOn}
 use Rattle.ffa_laws.proofs.ProcessorLaws.{effect-elsewhere, has-runner, interrupt-placed, on-sound-state, one_operation, operation-placed, operation_never_grows}
 use Rattle.ffa_laws.proofs.ProcessorRights.{confidential-on, integrity-on, only-writers-on, own-access-on, silence-on}
-use Rattle.ffa_laws.proofs.ElsewhereLaws.{step_as-rests, step_as-runs}
-use Rattle.ffa_laws.proofs.Form.{accessed-kept}
-use Rattle.ffa_laws.proofs.SoundLaws.{same-elsewhere}
 use Rattle.ffa_laws.proofs.SoundOperations.{elsewhere-step}
 use Rattle.ffa_laws.proofs.SoundSteady.{sound-steady}
 use Rattle.ffa_spmc.specs.declared.run.Run.{Run}
@@ -161,31 +152,7 @@ runner-there machine current p items slice other same =
     ∙ sym (number-at items p)
     ∙ ap (λ b. (cond b machine.state (moved_to machine.state (runner_on (kept_as current items) p))).runner) (sym (ne_eqb current p other))
 
--- an operation of any endpoint, whoever runs, leaves those that run elsewhere
-module _ (s : State) (e : ℕ) where
-  abbrev there : State
-  there = as_run_by e s
-
-  abbrev stays : SameElsewhere (schedule_of s) (schedule_of s)
-  stays = same-elsewhere (schedule_of s)
-
-  abbrev StaysBehind : State → Type 0
-  StaysBehind t = SameElsewhere (schedule_of s) (schedule_of (as_run_by s.runner t))
-
-  rests-elsewhere : (op : Op) → SameElsewhere (schedule_of s) (schedule_of (step_elsewhere s e op).state)
-  rests-elsewhere (Call x) = stays
-  rests-elsewhere (Load address size) = accessed-kept StaysBehind there there (Data (number_at there address (size_of size))) (read_fault there address (size_of size)) stays (λ none. stays)
-  rests-elsewhere (Store address size value) =
-      accessed-kept StaysBehind there (stored there address (little_bytes (size_of size) value)) Done (store_fault there address (size_of size)) stays (λ none. stays)
-  rests-elsewhere (Fetch address) = accessed-kept StaysBehind there there (Data (number_at there address 4)) (fetch_fault there address) stays (λ none. stays)
-
-  as-elsewhere : IsSoundState s → (op : Op) → SameElsewhere (schedule_of s) (schedule_of (step_as s e op).state)
-  as-elsewhere sound op = elim (cases_eq s.runner e) [
-    | inl runs ↦ subst (λ (done : Stepped). SameElsewhere (schedule_of s) (schedule_of done.state)) (sym (step_as-runs s e op runs)) (elsewhere-step s sound op)
-    | inr rests ↦ subst (λ (done : Stepped). SameElsewhere (schedule_of s) (schedule_of done.state)) (sym (step_as-rests s e op rests)) (rests-elsewhere op)
-  ]
-
--- an operation while others write to TX changes nothing of who runs elsewhere either
+-- an operation while others write to TX changes nothing of who runs elsewhere
 read-elsewhere : (run : Run) (begins : Bool) (old new : Snapshot) → IsRead run begins old new → SameElsewhere (schedule_of old.state) (schedule_of new.state)
 read-elsewhere run begins old new read =
     subst (SameElsewhere (schedule_of old.state)) (ap (λ (t : State). schedule_of t) read.state.same) (λ e. ((λ its. its), (λ its. its)))
@@ -208,10 +175,6 @@ reading-elsewhere (Some run) old new op outcome sound done =
 module _ (processors : Processors) (old : Snapshot) (sound : IsSoundState old.state) (placed : ArePlaced processors old.state) where
   pub placed-here : (op : Op) (new : State) → new ≡ (step old.state op).state → ArePlaced processors new
   placed-here op new is = subst (ArePlaced processors) (sym is) (placed-still processors old.state (step old.state op).state (elsewhere-step old.state sound op) placed)
-
-  pub placed-as : (e : ℕ) (op : Op) (new : State) → new ≡ (step_as old.state e op).state → ArePlaced processors new
-  placed-as e op new is =
-      subst (ArePlaced processors) (sym is) (placed-still processors old.state (step_as old.state e op).state (as-elsewhere old.state e sound op) placed)
 
   pub placed-reading : (o : Option Run) (op : Op) (outcome : Outcome) (new : Snapshot) → IsDoneReading o old op outcome new → ArePlaced processors new.state
   placed-reading o op outcome new done = placed-still processors old.state new.state (reading-elsewhere o old new op outcome sound done) placed

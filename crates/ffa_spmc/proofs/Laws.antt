@@ -1,13 +1,11 @@
 -- SPDX-License-Identifier: MIT OR Apache-2.0
 -- The laws of isolation, of a sound state.
-use Rattle.std.proofs.Common.{◌≡◌, ◌∙◌, ℕ, true, List, sym, ap, subst}
+use Rattle.std.proofs.Common.{◌≡◌, ◌∙◌, ℕ, List, sym, ap, subst}
 use Rattle.ffa_model.specs.declared.operation.Op.{Op}
 use Rattle.ffa_model.specs.declared.operation.Outcome.{Outcome}
 use Rattle.ffa_model.specs.SoundState.{IsSoundState}
-use Rattle.ffa_model.specs.Elsewhere.{step_as}
-use Rattle.ffa_model.specs.State.{State, is_known}
+use Rattle.ffa_model.specs.State.{State}
 use Rattle.ffa_model.specs.Step.{outcomes, state_after, step}
-use Rattle.ffa_laws.specs.Elsewhere.{ConfidentialAs, IntegrityAs, OneStepAs, OnlyWritersAs, OwnAccessAs, SilenceAs}
 use Rattle.ffa_laws.specs.Events.{seen}
 use Rattle.ffa_laws.specs.Isolation.{Integrity, Isolated, NeverGrow, OneStep, shown_to}
 use Rattle.ffa_laws.specs.Loans.{OfferSaysNothing, ZeroedIsForgotten}
@@ -20,7 +18,6 @@ use Rattle.ffa_laws.specs.Silence.{Silence}
 use Rattle.ffa_laws.specs.Steady.{IsSteady}
 use Rattle.ffa_laws.specs.Writers.{OnlyWriters}
 use Rattle.ffa_laws.proofs.Alone.{run_integrity}
-use Rattle.ffa_laws.proofs.ElsewhereLaws.{confidential_as, integrity_as, never_grows_as, one_step_as, only_writers_as, own_access_as, silence_as}
 use Rattle.ffa_laws.proofs.Forgotten.{zeroed_is_forgotten}
 use Rattle.ffa_laws.proofs.Growth.{never_grow, step_never_grows}
 use Rattle.ffa_laws.proofs.Integrities.{integrity}
@@ -84,29 +81,6 @@ module _ (s : State) (sound : IsSoundState s) where
 
   pub never_grow-now : (ops : List Op) (after : State) → after ≡ state_after s ops → NeverGrow s after
   never_grow-now ops after is = subst (NeverGrow s) (sym is) (never_grow s ops steady)
-
--- of any endpoint
-module _ (s : State) (sound : IsSoundState s) (e : ℕ) (known : is_known s e ≡ true) (op : Op) where
-  pub step-as : OneStepAs s e op
-  step-as = one_step_as s e op (sound-steady s sound) known
-
-  pub integrity-as : IntegrityAs s e op
-  integrity-as = integrity_as s e op (sound-steady s sound) known
-
-  pub writers-as : OnlyWritersAs s e op
-  writers-as = only_writers_as s e op sound
-
-  pub silence-as : SilenceAs s e op
-  silence-as = silence_as s e op (sound-steady s sound)
-
-  pub confidential-as : AreApart s → ConfidentialAs s e op
-  confidential-as apart = confidential_as s e op (sound-steady s sound) known apart
-
-  pub access-as : AreApart s → OwnAccessAs s e op
-  access-as apart = own_access_as s e op (sound-steady s sound) apart
-
-  pub no_growth-as : (after : State) → after ≡ (step_as s e op).state → NeverGrow s after
-  no_growth-as after is = subst (NeverGrow s) (sym is) (never_grows_as s e op (sound-steady s sound) known)
 
 pub shown-now : (s : State) (ops : List Op) (filled : List Outcome) → filled ≡ outcomes s ops → (e : ℕ) → shown_to e s.runner filled ≡ seen e s ops
 shown-now s ops filled are e = ap (shown_to e s.runner) are ∙ shown s ops e

@@ -26,7 +26,6 @@ use Rattle.ffa_laws.specs.Readable.{blank, blank_where}
 use Rattle.ffa_laws.specs.Reads.{AreBeside}
 use Rattle.ffa_laws.proofs.Blanks.{blank-none, ownership-b, page-b}
 use Rattle.ffa_laws.proofs.Changes.{AreRewritten, standing}
-use Rattle.ffa_laws.proofs.ElsewhereLaws.{fixed-step_as, sound-step_as}
 use Rattle.ffa_laws.proofs.Growth.{never_grow, step_never_grows}
 use Rattle.ffa_laws.proofs.Kept.{step-fixed}
 use Rattle.ffa_laws.proofs.Maps.{at-map_at, map_at-alike, map_at-twice}
@@ -43,12 +42,11 @@ use Rattle.ffa_spmc.specs.Amid.{EndsAmid, StandsAmid}
 use Rattle.ffa_spmc.specs.Cached.{AreWalks}
 use Rattle.ffa_spmc.specs.Meanwhile.{AreDoneAmid, IsLeft, LeavesAmid, MayStore}
 use Rattle.ffa_spmc.specs.Mixtures.{StayMixed, TablesRest}
-use Rattle.ffa_spmc.specs.Operated.{IsOperated, IsOperatedAs}
+use Rattle.ffa_spmc.specs.Operated.{IsOperated}
 use Rattle.ffa_spmc.specs.Snapshot.{Snapshot}
 use Rattle.ffa_spmc.proofs.Amid.{seen}
 use Rattle.ffa_spmc.proofs.Besides.{beside-access, placement}
 use Rattle.ffa_spmc.proofs.HeldWalks.{walks-after}
-use Rattle.ffa_spmc.proofs.Mixtures.{pages-as}
 use Rattle.ffa_spmc.proofs.Sizes.{pages-step}
 
 -- a state, with the bytes that RAM has
@@ -231,13 +229,6 @@ left-operated old new op done was sound =
     (ap (λ (s : State). length s.parties) done.state ∙ ap (λ (f : List Party × (ℕ × ℕ)). length f.0) (step-fixed old.state op))
     (ap placement done.state ∙ ap (λ (f : List Party × (ℕ × ℕ)). f.1) (step-fixed old.state op))
     (ap (λ (s : State). length s.pages) done.state ∙ pages-step old.state op) done.walks done.mixtures
-
-pub left-operated_as : (old new : Snapshot) (e : ℕ) (op : Op) → IsOperatedAs old e op new → Agrees old.ram old.state → IsSoundState old.state → LeavesAmid old new
-left-operated_as old new e op done was sound =
-    leaves-amid old new was done.agrees (subst IsSoundState (sym done.state) (sound-step_as old.state e op sound))
-    (ap (λ (s : State). length s.parties) done.state ∙ ap (λ (f : List Party × (ℕ × ℕ)). length f.0) (fixed-step_as old.state e op))
-    (ap placement done.state ∙ ap (λ (f : List Party × (ℕ × ℕ)). f.1) (fixed-step_as old.state e op))
-    (ap (λ (s : State). length s.pages) done.state ∙ pages-as old.state e op) done.walks done.mixtures
 
 -- ---- one after another
 

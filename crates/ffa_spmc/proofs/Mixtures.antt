@@ -1,7 +1,7 @@
 -- SPDX-License-Identifier: MIT OR Apache-2.0
 -- What an operation changes of the walks, and so of those in mixtures.
-use Rattle.std.proofs.Common.{◌≡◌, ◌≢◌, ◌∙◌, ℕ, zero, suc, ◌-◌, ◌/◌, ◌^◌, ◌<◌, true, false, refl, ap, sym, subst, arith, List, ◌∷◌, length, Option, Some, None, inl, inr}
-use Rattle.std.specs.Prelude.{◌==◌, nat_le, nat_lt, ◌&&◌, if◌then◌else◌, is_ok}
+use Rattle.std.proofs.Common.{◌≡◌, ◌≢◌, ◌∙◌, ℕ, zero, suc, ◌-◌, ◌/◌, ◌^◌, ◌<◌, true, refl, ap, sym, subst, arith, List, ◌∷◌, length, Option, Some, None, inl, inr}
+use Rattle.std.specs.Prelude.{nat_le, nat_lt, ◌&&◌, is_ok}
 use Rattle.std.specs.Option.{option_and_then}
 use Rattle.std.proofs.lemmas.Bool.{cases_eq, false≢true}
 use Rattle.ffa_model.specs.declared.operation.Op.{Op}
@@ -9,7 +9,7 @@ use Rattle.ffa_model.specs.declared.operation.Op.TheVariants.{Call, Load, Store,
 use Rattle.ffa_model.specs.declared.rights.Rights.{Rights}
 use Rattle.ffa_model.specs.Access.{access}
 use Rattle.ffa_model.specs.Agreement.{Agrees, blocks_of}
-use Rattle.ffa_model.specs.Elsewhere.{as_run_by, step_as, step_elsewhere}
+use Rattle.ffa_model.specs.Elsewhere.{as_run_by, step_elsewhere}
 use Rattle.ffa_model.specs.Identifiers.{identifier, place}
 use Rattle.ffa_model.specs.Memory.{access_at, page_of_address}
 use Rattle.ffa_model.specs.Ram.{Ram}
@@ -17,9 +17,7 @@ use Rattle.ffa_model.specs.SoundState.{IsSoundState}
 use Rattle.ffa_model.specs.State.{Party, State}
 use Rattle.ffa_model.specs.Step.{step}
 use Rattle.ffa_model.specs.Walk.{mapped_answer}
-use Rattle.ffa_laws.specs.Elsewhere.{OwnAccessAs}
 use Rattle.ffa_laws.specs.OwnAccess.{IsSameOrNone, OwnAccess}
-use Rattle.ffa_laws.proofs.ElsewhereLaws.{fixed-step_as}
 use Rattle.ffa_laws.proofs.Kept.{step-fixed}
 use Rattle.ffa_physmem.specs.Moments.{Only, Step, TurnsIn}
 use Rattle.ffa_physmem.proofs.Moments.{Only-map}
@@ -151,13 +149,3 @@ pages-elsewhere s e (Call x) = refl
 pages-elsewhere s e (Load address size) = pages-step (as_run_by e s) (Load address size)
 pages-elsewhere s e (Store address size value) = pages-step (as_run_by e s) (Store address size value)
 pages-elsewhere s e (Fetch address) = pages-step (as_run_by e s) (Fetch address)
-
-pub pages-as : (s : State) (e : ℕ) (op : Op) → length (step_as s e op).state.pages ≡ length s.pages
-pages-as s e op = elim (s.runner == e) as (λ b. length (if b then step s op else step_elsewhere s e op).state.pages ≡ length s.pages) [ true ↦ pages-step s op | false ↦ pages-elsewhere s e op ]
-
--- of an operation of any endpoint
-pub op_as-mixed : (s t : State) (e : ℕ) (op : Op) (old new : Ram) (past later : Option (List Step)) → t ≡ (step_as s e op).state → Agrees old s → Agrees new t → OwnAccessAs s e op
-    → IsSoundState s → OwnsNoTables s → OwnsNoTables t → TurnsIn new later → AreMoments s old new past later → TablesRest s old past → StayMixed s old new past later
-op_as-mixed s t e op old new past later state was is own sound none none' turns moments =
-    stay-mixed s (step_as s e op).state old new was (subst (Agrees new) state is) (ap (λ (f : List Party × (ℕ × ℕ)). length f.0) (fixed-step_as s e op)) (ap (λ (f : List Party × (ℕ × ℕ)). f.1) (fixed-step_as s e op))
-    (pages-as s e op) e (λ f p far. own.others f p far) own.keeps sound none (subst OwnsNoTables state none') past later turns moments

@@ -14,17 +14,15 @@ ghost use Rattle.ffa_spmc.specs.Among.{AreDoneReading};
 ghost use Rattle.ffa_spmc.specs.Clustered.{AreActed, Clustered, IsEffected, IsRunOfActs, are_processors};
 ghost use Rattle.ffa_spmc.specs.Interleaved.{AreDoneBetween, IsInterleaved, IsRunOfAll};
 ghost use Rattle.ffa_spmc.specs.Meanwhile.{AreDoneAmid, LeavesAmid};
-ghost use Rattle.ffa_spmc.specs.Operated.{IsOperated, IsOperatedAs};
+ghost use Rattle.ffa_spmc.specs.Operated.{IsOperated};
 ghost use Rattle.ffa_spmc.specs.Snapshot.{Snapshot};
 
-/// While an operation is done as `op` or `op_as` promise it, others may write into each page to which their walks, or what
+/// While an operation is done as `op` promises it, others may write into each page to which their walks, or what
 /// their translation units hold, let them write then. Whatever they write, a machine is left that differs from the promised
 /// one in bytes of these pages alone, so that the next operation may begin there; and to each of these pages some endpoint
 /// has the right to write, in the state before the operation or behind it.
 pub fn left_among_others()
     ensures operated { (old new : Snapshot) (op : Op) → IsOperated old op new → Agrees old.ram old.state
-        → IsSoundState old.state → LeavesAmid old new }
-    ensures operated_as { (old new : Snapshot) (e : ℕ) (op : Op) → IsOperatedAs old e op new → Agrees old.ram old.state
         → IsSoundState old.state → LeavesAmid old new }
     // A list of operations, between which others write too: the state stays sound, and rights never grow.
     ensures list { (old : Snapshot) (ops : List Op) (told : List Outcome) (new : Snapshot) → IsSoundState old.state

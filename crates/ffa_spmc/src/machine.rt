@@ -37,7 +37,6 @@ mod accesses;
 mod among;
 mod certificates;
 mod copy;
-mod elsewhere;
 mod interrupts;
 mod parts;
 

@@ -3,8 +3,8 @@
 //! `call 84000069 -> 8001: 84000061 0 8001`.
 //!
 //! An answer is the runner, and x0 to x7 without leading zeros and without the last registers that are zero.
-use super::{data, faulted, play_line};
-use gorseplumb::{registers, AccessError, Id, Machine, Ram, Size};
+use super::play_line;
+use gorseplumb::{Machine, Ram};
 
 /// All endpoints of examples/machine.toml map their buffers, and 8001 runs.
 pub const MAPPED: &str = "\
@@ -86,45 +86,5 @@ pub fn take_steps<R: Ram>(machine: &mut Machine<R>, steps: &str) {
     for step in steps.lines() {
         let (line, wanted) = read_step(step);
         assert_eq!(play_line(machine, line), wanted, "{step}");
-    }
-}
-
-/// Does the operation of a step, and checks what it prints. If the step begins with an endpoint, that endpoint does it,
-/// whoever runs. Otherwise the runner does it.
-pub fn act<R: Ram>(machine: &mut Machine<R>, step: &str) {
-    let (line, wanted) = read_step(step);
-    let (word, rest) = line.split_once(' ').unwrap_or((line, ""));
-    let (endpoint, line) = match u16::from_str_radix(word, 16) {
-        Ok(number) => (Id(number), rest),
-        Err(_) => (machine.runner(), line),
-    };
-    assert_eq!(play_line_as(machine, endpoint, line), wanted, "{step}");
-}
-
-/// Does an operation as this endpoint, whoever runs, and returns the text that the program prints of the outcome.
-fn play_line_as<R: Ram>(machine: &mut Machine<R>, endpoint: Id, line: &str) -> String {
-    let words: Vec<&str> = line.split(' ').collect();
-    let number = |place: usize| u64::from_str_radix(words[place], 16).unwrap_or_else(|why| panic!("{line}: {why}"));
-    let size = |bytes: usize| Size::of(bytes).unwrap_or_else(|| panic!("{line}: no size"));
-    let fault = |error: AccessError| match error {
-        AccessError::Fault(fault) => fault,
-        AccessError::NoEndpoint => panic!("{line}: there is no endpoint {endpoint}"),
-    };
-    match words[0] {
-        "call" => {
-            let mut given = registers([]);
-            (1..words.len()).for_each(|place| given[place - 1] = number(place));
-            format!("regs {}\n", machine.call_as(endpoint, &given).expect(line))
-        }
-        "load" => {
-            let bytes = number(2) as usize;
-            data(machine.load_as(endpoint, number(1), size(bytes)).map_err(fault), bytes)
-        }
-        "store" => match machine.store_as(endpoint, number(1), size(words[2].len() / 2), number(2)) {
-            Ok(()) => "done\n".into(),
-            Err(error) => faulted(fault(error)),
-        },
-        "fetch" => data(machine.fetch_as(endpoint, number(1)).map(u64::from).map_err(fault), 4),
-        _ => panic!("{line}: not an operation"),
     }
 }
