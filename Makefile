@@ -59,8 +59,8 @@ secure:
 	board/secure/run.sh
 
 ## Compare the pages with the code
-# The scripts also check licence lines, the tables in other languages, each list of calls, the names in C, the manual's lists of checks and its
-# pictures, and add the example's call to a copy. They prove nothing. All of them run, and the last line names those that failed.
+# The scripts also check licence lines, the tables in other languages, each list of calls, the names in C, registers in the manual, words of
+# reasons and pictures, and add the example's call to a copy. They prove nothing. All of them run, and the last line names those that failed.
 OF_THE_PAGES = tests/docs tests/licence-lines tests/copies tests/calls tests/names tests/manual-checks tests/a-call tests/pictures
 docs:
 	@failed=; for each in $(OF_THE_PAGES); do echo $$each; $$each || failed="$$failed $$each"; done; \

@@ -28,7 +28,7 @@
  * - Memory that is lent is nobody else's until it is taken back: C neither reads nor writes it, through any mapping.
  *   Endpoints that a processor runs do, each within the access that the machine gives it. While a call is on its way the
  *   pages of the caller's TX may be written: what the call reads of them it copies first. What else may be is in
- *   docs/EMBEDDING.md, and what of this no proof speaks of in docs/SECURITY.md.
+ *   docs/CONCURRENCY.md, and what of this no proof speaks of in docs/SECURITY.md.
  * - The library's memory and the stack are memory in which accesses that aren't aligned are done: on AArch64 normal
  *   memory, with SCTLR_ELx.A clear. With the MMU off memory is device memory, and there they fault.
  */
@@ -113,7 +113,7 @@ void rattle_dealloc(void *block);
  * IPAS2E1IS of each page, DSB ISH, TLBI VMALLE1IS; and last DSB ISH and ISB. With a size of 0 the first DSB is all of
  * it. With the RAM's address and a size of 2^32, as at the end of each boot, it is of all that came of this endpoint's
  * tables: TLBI VMALLS12E1IS. It is called while an operation or a boot is on its way, under the lock of that, and may
- * not call the library. docs/EMBEDDING.md says when. */
+ * not call the library. docs/CONCURRENCY.md says when. */
 void gorseplumb_settle(uint16_t endpoint, uint64_t address, uint64_t size);
 
 /* Registers x0 to x7. */
@@ -319,7 +319,7 @@ enum gorseplumb_answer gorseplumb_why_manifest(const struct gorseplumb_manifest 
 /* One operation of the endpoint that runs: a call with eight registers, a load of 1, 2, 4 or 8 bytes, a store of the
  * value's lowest bytes, as many as `size` says, and a fetch of one instruction. The outcome and the machine's next
  * state are those of the definition of the machine, and with them goes every promise that the machine's own operations
- * make, but what these say of a cache (docs/THEOREMS.md). A load and a store of another size answer
+ * make, but what these say of a cache and `reads_no_more` (docs/THEOREMS.md). A load and a store of another size answer
  * GORSEPLUMB_KIND_BAD_SIZE, with a machine or without one; every other operation answers GORSEPLUMB_KIND_NO_MACHINE
  * where there is none. With either nothing was done. */
 struct gorseplumb_outcome gorseplumb_call(struct gorseplumb_machine *machine, const struct gorseplumb_registers *registers);

@@ -31,7 +31,7 @@ extern "C" fn gorseplumb_settle(_endpoint: u16, _address: u64, _size: u64) {}
 /// ```no_run
 /// # fn main() {}
 /// fn settle(asked: gorseplumb::Settling) {
-///     // DSB ISHST, and where `asked.size` isn't 0 a TLBI of each page: docs/EMBEDDING.md
+///     // DSB ISHST, and where `asked.size` isn't 0 a TLBI of each page: docs/CONCURRENCY.md
 /// }
 ///
 /// gorseplumb::settle_by!(settle);

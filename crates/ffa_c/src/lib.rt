@@ -1,5 +1,5 @@
 // SPDX-License-Identifier: MIT OR Apache-2.0
-//! The machine for C: a static library. Its four operations say again what `Machine::op` promises, but for what that
+//! The static library for C: the functions that c/gorseplumb.h declares. Its four operations say again what `Machine::op` promises, but for what that
 //! says of a cache, since there is none. Boots say that the machine is in its first state; questions, changes and lists
 //! have promises of their own. A function has the name that it has in C; what is `struct gorseplumb_machine` there is
 //! `CMachine` here, and so on.

@@ -81,8 +81,8 @@ pub record SaysNothing (e : ℕ) (s t : State) (ops : List Op) : Type 0 where
   pub readings : readings e t ops ≡ readings e s ops
   pub readable : readable e (state_after t ops) ≡ readable e (state_after s ops)
 
--- An operation of another endpoint opens a transaction that is offered to e. As long as e doesn't retrieve it, the bytes
--- that stood in its pages make no difference to e, whatever is done later: t is s but for these.
+-- An operation of another endpoint opens a transaction that is offered to e. While the transaction is open and e doesn't
+-- hold it, the bytes that its pages had make no difference to e: t is s except for these.
 abbrev pub OfferSaysNothing : State → Op → Type 0
 OfferSaysNothing s op =
     (e h : ℕ) (later : List Op) (t : State) → s.runner ≢ e → transaction_of s h ≡ None

@@ -13,7 +13,7 @@ use ffa_physmem::{Observed, PhysMem};
 use std::alloc::Global;
 
 /// RAM in frames of one page each, which are lent and may lie anywhere. Others may write to them. Pages that are observed have
-/// a copy, which is read in their place, so what was observed of them is what one reading gave. Each step that others see is one of its effects.
+/// a copy, which is read in their place, so what was observed of them is what one reading gave.
 #[derive(Drop)]
 pub struct LentRam<E: Effects = Unrecorded> {
     ram: CopiedRam,

@@ -1,5 +1,5 @@
 // SPDX-License-Identifier: MIT OR Apache-2.0
-//! Which endpoint owns each page of RAM.
+//! Stores the owner of each page of RAM, the owner's right, and the open transaction that names the page.
 #![tactic(auto)]
 
 pub mod page;

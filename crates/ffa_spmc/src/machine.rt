@@ -311,8 +311,8 @@ impl<M: PhysMem + Drop, T: Translations + Drop, S: Store> Machine<M, T, S> {
         ensures own_access { OwnAccess self.old.state op.now }
         ensures only_writers { OnlyWriters self.old.state op.now }
 
-        // Where it opens a transaction, the bytes of the pages make no difference to a receiver that doesn't retrieve
-        // them, whatever is done later.
+        // Where it opens a transaction, the bytes of the pages make no difference to a receiver while the transaction is open
+        // and the receiver doesn't hold it.
         ensures silent_offers { OfferSaysNothing self.old.state op.now }
 
         // From another sound state, with other bytes that it doesn't read, it has the same outcome, and leaves a state with

@@ -39,7 +39,7 @@ pub enum Asked {
 ///
 /// Numbers are hexadecimal, of 1 to 16 digits, and may have `0x` or `0X` before them. Each descriptor needs where TX stands. A
 /// donate, a lend and a share need the sender, the receivers and the pages, and may have a tag and be zeroed; a receiver of a lend
-/// or a share may have a right to data. A retrieve needs the sender, the one receiver, which may have a right to data and to
+/// or a share has a right to data, which the writer checks. A retrieve needs the sender, the one receiver, which may have a right to data and to
 /// instructions, and the handle, and may have a tag and the kind of the transaction. A relinquish needs the one receiver and the
 /// handle, and may be zeroed. A reclaim needs the handle alone, and may be zeroed.
 #[tactic(auto, unfolding(crate::specs::Told::asked))]

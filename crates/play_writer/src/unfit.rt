@@ -175,7 +175,7 @@ impl fmt::Display for Unfit {
     fn fmt<W: fmt::Write>(&self, f: &mut fmt::Formatter<W>) -> fmt::Result {
         f.write_str(match self {
             Unfit::ZeroedShare => {
-                "a share asks for zeroed pages, and zeroes none: store zeros before it, or lend or donate the pages, which zeroes them at the send"
+                "a share cannot zero its pages: store zeros first, or lend or donate the pages, which zeroes them at the send"
             }
             Unfit::NoReceiver => "no receiver is named",
             Unfit::SeveralReceiversOfADonate => "a donate has several receivers",
