@@ -468,12 +468,12 @@ bool gorseplumb_schedule_due(const struct gorseplumb_machine *machine);
  * answer doesn't tell apart, and `bytes` stays. */
 bool gorseplumb_read_page(const struct gorseplumb_machine *machine, uint32_t page, struct gorseplumb_page *bytes);
 
-/* The checks of the calls, each with what it finds where it fails, as gorseplumb_check_name says it. Calls that check
- * the same share it; gorseplumb_check_number gives the number of a check in the list of a call. */
+/* The checks of the calls. Each comment says what is wrong if the check fails, in the words of gorseplumb_check_name.
+ * Calls that check the same share a check. gorseplumb_check_number returns its number in the list of a call. */
 enum gorseplumb_check {
-    GORSEPLUMB_CHECK_FUNCTION_UNKNOWN = 1, /* no such function is served */
+    GORSEPLUMB_CHECK_FUNCTION_UNKNOWN = 1, /* the function is not supported */
     GORSEPLUMB_CHECK_BUFFERS_MISSING = 2, /* the caller has no RX and TX */
-    GORSEPLUMB_CHECK_FLAGS_RESERVED = 3, /* a flag is set that has to be 0 */
+    GORSEPLUMB_CHECK_FLAGS_RESERVED = 3, /* a flag is set that must be 0 */
     GORSEPLUMB_CHECK_SENDER_IS_ANOTHER = 4, /* the sender is not the caller */
     GORSEPLUMB_CHECK_RECEIVER_IS_ANOTHER = 5, /* the receiver is not the caller */
     GORSEPLUMB_CHECK_RECEIVER_UNKNOWN = 6, /* no endpoint has the receiver's identifier */
@@ -482,125 +482,125 @@ enum gorseplumb_check {
     GORSEPLUMB_CHECK_CONTEXT_UNKNOWN = 9, /* the execution context is not 0 */
     GORSEPLUMB_CHECK_RX_FULL = 10, /* the caller's RX is full */
     GORSEPLUMB_CHECK_UUID_UNKNOWN = 11, /* no partition has the UUID */
-    GORSEPLUMB_CHECK_BUFFERS_MAPPED = 12, /* the caller has RX and TX already */
-    GORSEPLUMB_CHECK_BUFFER_PAGE_COUNT = 13, /* a buffer has no page, or more than it may have */
-    GORSEPLUMB_CHECK_TX_MISPLACED = 14, /* TX does not begin at a page and lie in RAM */
-    GORSEPLUMB_CHECK_RX_MISPLACED = 15, /* RX does not begin at a page and lie in RAM */
-    GORSEPLUMB_CHECK_BUFFERS_OVERLAP = 16, /* RX and TX have a page in common */
-    GORSEPLUMB_CHECK_TX_UNUSABLE = 17, /* a page of TX is not the caller's own to read and write, or is in an open transaction */
-    GORSEPLUMB_CHECK_RX_UNUSABLE = 18, /* a page of RX is not the caller's own to read and write, or is in an open transaction */
-    GORSEPLUMB_CHECK_ENDPOINT_NOT_ZERO = 19, /* the endpoint is not 0 */
+    GORSEPLUMB_CHECK_BUFFERS_MAPPED = 12, /* the caller already has RX and TX */
+    GORSEPLUMB_CHECK_BUFFER_PAGE_COUNT = 13, /* a buffer has no pages, or too many */
+    GORSEPLUMB_CHECK_TX_MISPLACED = 14, /* TX is not page-aligned, or not entirely in RAM */
+    GORSEPLUMB_CHECK_RX_MISPLACED = 15, /* RX is not page-aligned, or not entirely in RAM */
+    GORSEPLUMB_CHECK_BUFFERS_OVERLAP = 16, /* RX and TX overlap */
+    GORSEPLUMB_CHECK_TX_UNUSABLE = 17, /* a page of TX does not belong to the caller, is not writable, or is in an open transaction */
+    GORSEPLUMB_CHECK_RX_UNUSABLE = 18, /* a page of RX does not belong to the caller, is not writable, or is in an open transaction */
+    GORSEPLUMB_CHECK_ENDPOINT_NOT_ZERO = 19, /* the endpoint's identifier is not 0 */
     GORSEPLUMB_CHECK_RX_EMPTY = 20, /* the caller has no RX and TX, or its RX is not full */
     GORSEPLUMB_CHECK_RECEIVER_IS_NORMAL_WORLD = 21, /* the receiver is the normal world */
-    GORSEPLUMB_CHECK_REQUESTS_UNSENT = 22, /* the caller does not send direct requests (bit 1 of its properties) */
-    GORSEPLUMB_CHECK_REQUESTS_UNRECEIVED = 23, /* the receiver does not receive direct requests (bit 0 of its properties) */
-    GORSEPLUMB_CHECK_RECEIVER_NOT_WAITING = 24, /* the receiver does not wait */
-    GORSEPLUMB_CHECK_NO_REQUEST = 25, /* the caller works on no direct request */
-    GORSEPLUMB_CHECK_ANSWER_MISDIRECTED = 26, /* the response is not from the caller to the endpoint that asked */
+    GORSEPLUMB_CHECK_REQUESTS_UNSENT = 22, /* the caller may not send direct requests (bit 1 of its properties is not set) */
+    GORSEPLUMB_CHECK_REQUESTS_UNRECEIVED = 23, /* the receiver does not accept direct requests (bit 0 of its properties is not set) */
+    GORSEPLUMB_CHECK_RECEIVER_NOT_WAITING = 24, /* the receiver is not waiting */
+    GORSEPLUMB_CHECK_NO_REQUEST = 25, /* the caller is not processing a direct request */
+    GORSEPLUMB_CHECK_ANSWER_MISDIRECTED = 26, /* the response does not go from the caller to the sender of the request */
     GORSEPLUMB_CHECK_TARGET_UNKNOWN = 27, /* no partition has the target's identifier */
-    GORSEPLUMB_CHECK_TARGET_NOT_READY = 28, /* the target neither waits nor has yielded */
-    GORSEPLUMB_CHECK_NOT_RUN = 29, /* the caller does not run by cycles of the normal world */
-    GORSEPLUMB_CHECK_NOBODY_TO_YIELD_TO = 30, /* the caller works for nobody to whom it may yield */
+    GORSEPLUMB_CHECK_TARGET_NOT_READY = 28, /* the target is not waiting and has not yielded */
+    GORSEPLUMB_CHECK_NOT_RUN = 29, /* the caller is not processing an FFA_RUN */
+    GORSEPLUMB_CHECK_NOBODY_TO_YIELD_TO = 30, /* the caller works for no endpoint that it may yield to */
     GORSEPLUMB_CHECK_HEADER_RESERVED = 31, /* a reserved field of the header is not 0 */
     GORSEPLUMB_CHECK_MESSAGE_IN_HEADER = 32, /* the message begins inside its header */
-    GORSEPLUMB_CHECK_MESSAGE_EMPTY = 33, /* the message has no byte */
-    GORSEPLUMB_CHECK_MESSAGE_TOO_LONG = 34, /* the message does not end inside TX */
-    GORSEPLUMB_CHECK_MESSAGES_UNSENT = 35, /* the caller does not send indirect messages (bit 2 of its properties) */
-    GORSEPLUMB_CHECK_MESSAGES_UNRECEIVED = 36, /* the receiver does not receive indirect messages (bit 2 of its properties) */
+    GORSEPLUMB_CHECK_MESSAGE_EMPTY = 33, /* the message is empty */
+    GORSEPLUMB_CHECK_MESSAGE_TOO_LONG = 34, /* the message ends outside TX */
+    GORSEPLUMB_CHECK_MESSAGES_UNSENT = 35, /* the caller may not send indirect messages (bit 2 of its properties is not set) */
+    GORSEPLUMB_CHECK_MESSAGES_UNRECEIVED = 36, /* the receiver does not accept indirect messages (bit 2 of its properties is not set) */
     GORSEPLUMB_CHECK_RECEIVER_BUFFERS_MISSING = 37, /* the receiver has no RX and TX */
     GORSEPLUMB_CHECK_RECEIVER_RX_FULL = 38, /* the receiver's RX is full */
     GORSEPLUMB_CHECK_RECEIVER_RX_SMALL = 39, /* the message with its header is longer than the receiver's RX */
     GORSEPLUMB_CHECK_ENDPOINT_NOT_NORMAL_WORLD = 40, /* the endpoint is not the normal world */
-    GORSEPLUMB_CHECK_CONTEXT_COUNT = 41, /* the count of execution contexts is not 1 */
-    GORSEPLUMB_CHECK_BITMAPS_EXIST = 42, /* the normal world has bitmaps already */
-    GORSEPLUMB_CHECK_BITMAPS_MISSING = 43, /* the endpoint has no bitmaps */
-    GORSEPLUMB_CHECK_BITS_PENDING = 44, /* a bit of the normal world is pending */
+    GORSEPLUMB_CHECK_CONTEXT_COUNT = 41, /* the number of execution contexts is not 1 */
+    GORSEPLUMB_CHECK_BITMAPS_EXIST = 42, /* the normal world already has notification bitmaps */
+    GORSEPLUMB_CHECK_BITMAPS_MISSING = 43, /* the endpoint has no notification bitmaps */
+    GORSEPLUMB_CHECK_BITS_PENDING = 44, /* a notification bit of the normal world is pending */
     GORSEPLUMB_CHECK_SENDER_UNKNOWN = 45, /* no endpoint has the sender's identifier */
     GORSEPLUMB_CHECK_SENDER_IS_CALLER = 46, /* the sender is the caller */
-    GORSEPLUMB_CHECK_BITS_NONE = 47, /* no bit is named */
-    GORSEPLUMB_CHECK_BITS_TAKEN = 48, /* another sender has one of the bits, or one is pending */
-    GORSEPLUMB_CHECK_BITS_NOT_THE_SENDERS = 49, /* one of the bits is not the sender's, or is pending */
-    GORSEPLUMB_CHECK_BITS_NOT_THE_CALLERS = 50, /* one of the bits is not the caller's */
-    GORSEPLUMB_CHECK_CLASSES_UNKNOWN = 51, /* the flags ask for a class that is none of the four */
+    GORSEPLUMB_CHECK_BITS_NONE = 47, /* no bit is selected */
+    GORSEPLUMB_CHECK_BITS_TAKEN = 48, /* one of the bits is bound to another sender, or is pending */
+    GORSEPLUMB_CHECK_BITS_NOT_THE_SENDERS = 49, /* one of the bits is not bound to the sender, or is pending */
+    GORSEPLUMB_CHECK_BITS_NOT_THE_CALLERS = 50, /* one of the bits is not bound to the caller */
+    GORSEPLUMB_CHECK_CLASSES_UNKNOWN = 51, /* the flags select an unknown class of notifications */
     GORSEPLUMB_CHECK_FRAGMENTED = 52, /* the fragment is not the whole descriptor */
     GORSEPLUMB_CHECK_DESCRIPTOR_TOO_LONG = 53, /* the descriptor is longer than TX */
-    GORSEPLUMB_CHECK_BUFFER_ADDRESS_GIVEN = 54, /* the address of a buffer is given, and there is TX alone */
-    GORSEPLUMB_CHECK_BUFFER_PAGES_GIVEN = 55, /* the pages of a buffer are counted, and there is TX alone */
-    GORSEPLUMB_CHECK_DESCRIPTOR_MALFORMED = 56, /* the bytes in TX are no descriptor of this call */
-    GORSEPLUMB_CHECK_RANGE_OUTSIDE = 57, /* a range does not lie in RAM */
-    GORSEPLUMB_CHECK_PAGE_UNSENDABLE = 58, /* a page is not the caller's own, or is in an open transaction or a buffer */
-    GORSEPLUMB_CHECK_GRANT_TOO_MUCH = 59, /* a grant is more than the owner's right to a page */
-    GORSEPLUMB_CHECK_ZEROS_UNWRITABLE = 60, /* zeros are asked of a page that its owner may not write to */
-    GORSEPLUMB_CHECK_TRANSACTIONS_FULL = 61, /* the caller has as many open transactions as it may have */
+    GORSEPLUMB_CHECK_BUFFER_ADDRESS_GIVEN = 54, /* a buffer address is given, but only TX is supported */
+    GORSEPLUMB_CHECK_BUFFER_PAGES_GIVEN = 55, /* a page count of a buffer is given, but only TX is supported */
+    GORSEPLUMB_CHECK_DESCRIPTOR_MALFORMED = 56, /* the bytes in TX are not a descriptor of this call */
+    GORSEPLUMB_CHECK_RANGE_OUTSIDE = 57, /* a range is not entirely in RAM */
+    GORSEPLUMB_CHECK_PAGE_UNSENDABLE = 58, /* a page does not belong to the caller, or is in an open transaction or a buffer */
+    GORSEPLUMB_CHECK_GRANT_TOO_MUCH = 59, /* a grant exceeds the owner's right to a page */
+    GORSEPLUMB_CHECK_ZEROS_UNWRITABLE = 60, /* zeroing is requested for a page that its owner may not write to */
+    GORSEPLUMB_CHECK_TRANSACTIONS_FULL = 61, /* the caller has reached its limit of open transactions */
     GORSEPLUMB_CHECK_HANDLES_USED_UP = 62, /* the caller has used up its handles */
     GORSEPLUMB_CHECK_HANDLE_UNKNOWN = 63, /* no open transaction has the handle */
-    GORSEPLUMB_CHECK_NOT_RECEIVER = 64, /* the caller is no receiver of the transaction */
-    GORSEPLUMB_CHECK_TRANSACTION_SENDER_DIFFERS = 65, /* the sender is not that of the transaction */
-    GORSEPLUMB_CHECK_TAG_DIFFERS = 66, /* the tag is not that of the transaction */
-    GORSEPLUMB_CHECK_KIND_DIFFERS = 67, /* the kind is not that of the transaction */
-    GORSEPLUMB_CHECK_ALREADY_RETRIEVED = 68, /* the caller holds the transaction already */
-    GORSEPLUMB_CHECK_RIGHT_TOO_MUCH = 69, /* the right that is asked for is more than the caller may get */
-    GORSEPLUMB_CHECK_ENDPOINT_IS_ANOTHER = 70, /* the endpoint of the descriptor is not the caller */
-    GORSEPLUMB_CHECK_NOT_OFFERED = 71, /* no open transaction with the handle has the caller among its receivers */
+    GORSEPLUMB_CHECK_NOT_RECEIVER = 64, /* the caller is not a receiver of the transaction */
+    GORSEPLUMB_CHECK_TRANSACTION_SENDER_DIFFERS = 65, /* the sender differs from the transaction's */
+    GORSEPLUMB_CHECK_TAG_DIFFERS = 66, /* the tag differs from the transaction's */
+    GORSEPLUMB_CHECK_KIND_DIFFERS = 67, /* the kind differs from the transaction's */
+    GORSEPLUMB_CHECK_ALREADY_RETRIEVED = 68, /* the caller already holds the transaction */
+    GORSEPLUMB_CHECK_RIGHT_TOO_MUCH = 69, /* the requested right exceeds the right that the caller may get */
+    GORSEPLUMB_CHECK_ENDPOINT_IS_ANOTHER = 70, /* the endpoint in the descriptor is not the caller */
+    GORSEPLUMB_CHECK_NOT_OFFERED = 71, /* no open transaction with the handle has the caller as a receiver */
     GORSEPLUMB_CHECK_NOT_HELD = 72, /* the caller does not hold the transaction */
-    GORSEPLUMB_CHECK_ZEROS_NOT_ALLOWED = 73, /* zeros are asked of memory that is not lent to the caller to write to */
-    GORSEPLUMB_CHECK_NOT_THE_SENDERS = 74, /* no open transaction of the caller has the handle */
-    GORSEPLUMB_CHECK_STILL_HELD = 75, /* a receiver holds the transaction */
-    GORSEPLUMB_CHECK_WORLDS_MIXED = 76 /* secure pages are sent to the normal world, or together with non-secure ones */
+    GORSEPLUMB_CHECK_ZEROS_NOT_ALLOWED = 73, /* zeroing is requested, but the caller does not hold a lend with write access */
+    GORSEPLUMB_CHECK_NOT_THE_SENDERS = 74, /* no open transaction from the caller has the handle */
+    GORSEPLUMB_CHECK_STILL_HELD = 75, /* a receiver still holds the transaction */
+    GORSEPLUMB_CHECK_WORLDS_MIXED = 76 /* secure pages are sent to the normal world, or together with non-secure pages */
 };
 
-/* The conditions of a descriptor, as gorseplumb_flaw_name says them. Those of a retrieve stand behind those of a header,
- * which it shares with a send. */
+/* The conditions of a descriptor. Each comment says what is wrong if the bytes break it, in the words of
+ * gorseplumb_flaw_name. A retrieve has the conditions HEADER, which it shares with a send, and then its own. */
 enum gorseplumb_flaw {
     GORSEPLUMB_FLAW_HEADER_SHORT = 1, /* the descriptor is shorter than its header */
-    GORSEPLUMB_FLAW_HEADER_ACCESS_SIZE = 2, /* the size of an access descriptor is not told as 16, or as 0 in the compact form */
-    GORSEPLUMB_FLAW_HEADER_ARRAY_UNALIGNED = 3, /* the access descriptors do not begin at a multiple of 16 */
+    GORSEPLUMB_FLAW_HEADER_ACCESS_SIZE = 2, /* the access descriptor size field is not 16, or not 0 in the compact form */
+    GORSEPLUMB_FLAW_HEADER_ARRAY_UNALIGNED = 3, /* the offset of the access descriptors is not a multiple of 16 */
     GORSEPLUMB_FLAW_HEADER_ARRAY_IN_HEADER = 4, /* the access descriptors begin inside the header */
-    GORSEPLUMB_FLAW_HEADER_ARRAY_OUTSIDE = 5, /* the access descriptors do not end inside the descriptor */
-    GORSEPLUMB_FLAW_HEADER_RESERVED = 6, /* reserved bytes at the header's end are not 0 */
-    GORSEPLUMB_FLAW_SEND_ATTRIBUTES = 7, /* the memory attributes are not those of this call to so many receivers */
-    GORSEPLUMB_FLAW_SEND_FLAGS = 8, /* a flag is set that this call does not have */
+    GORSEPLUMB_FLAW_HEADER_ARRAY_OUTSIDE = 5, /* the access descriptors end outside the descriptor */
+    GORSEPLUMB_FLAW_HEADER_RESERVED = 6, /* reserved bytes at the end of the header are not 0 */
+    GORSEPLUMB_FLAW_SEND_ATTRIBUTES = 7, /* the memory attributes are wrong for this call and this number of receivers */
+    GORSEPLUMB_FLAW_SEND_FLAGS = 8, /* a flag is set that this call does not allow */
     GORSEPLUMB_FLAW_SEND_HANDLE = 9, /* the handle is not 0 */
     GORSEPLUMB_FLAW_SEND_NO_RECEIVER = 10, /* there is no receiver */
-    GORSEPLUMB_FLAW_SEND_MANY_RECEIVERS = 11, /* there are more receivers than this call may have */
-    GORSEPLUMB_FLAW_ACCESS_PERMISSIONS = 12, /* the permissions are none that this call may grant */
-    GORSEPLUMB_FLAW_ACCESS_FLAGS = 13, /* the flags are not 0 */
-    GORSEPLUMB_FLAW_ACCESS_OTHER_COMPOSITE = 14, /* it tells another composite than the first one does */
-    GORSEPLUMB_FLAW_ACCESS_RESERVED = 15, /* its reserved bytes are not 0 */
-    GORSEPLUMB_FLAW_ACCESS_RECEIVER_IS_SENDER = 16, /* it names the sender */
-    GORSEPLUMB_FLAW_ACCESS_RECEIVER_TWICE = 17, /* it names a receiver that an earlier one names */
-    GORSEPLUMB_FLAW_COMPOSITE_OUTSIDE = 18, /* the composite without its ranges does not end inside the descriptor */
-    GORSEPLUMB_FLAW_COMPOSITE_UNALIGNED = 19, /* the composite does not begin at a multiple of 16 */
+    GORSEPLUMB_FLAW_SEND_MANY_RECEIVERS = 11, /* there are more receivers than this call allows */
+    GORSEPLUMB_FLAW_ACCESS_PERMISSIONS = 12, /* this call does not allow these permissions */
+    GORSEPLUMB_FLAW_ACCESS_FLAGS = 13, /* the flags of the access descriptor are not 0 */
+    GORSEPLUMB_FLAW_ACCESS_OTHER_COMPOSITE = 14, /* the access descriptor refers to a different composite than the first one */
+    GORSEPLUMB_FLAW_ACCESS_RESERVED = 15, /* reserved bytes of the access descriptor are not 0 */
+    GORSEPLUMB_FLAW_ACCESS_RECEIVER_IS_SENDER = 16, /* the access descriptor names the sender */
+    GORSEPLUMB_FLAW_ACCESS_RECEIVER_TWICE = 17, /* the access descriptor names the same receiver as an earlier one */
+    GORSEPLUMB_FLAW_COMPOSITE_OUTSIDE = 18, /* the composite ends outside the descriptor, even without its ranges */
+    GORSEPLUMB_FLAW_COMPOSITE_UNALIGNED = 19, /* the offset of the composite is not a multiple of 16 */
     GORSEPLUMB_FLAW_COMPOSITE_IN_ARRAY = 20, /* the composite begins before the access descriptors end */
-    GORSEPLUMB_FLAW_COMPOSITE_NO_RANGE = 21, /* the composite has no range */
+    GORSEPLUMB_FLAW_COMPOSITE_NO_RANGE = 21, /* the composite has no ranges */
     GORSEPLUMB_FLAW_COMPOSITE_MANY_RANGES = 22, /* the composite has more ranges than a transaction may have */
-    GORSEPLUMB_FLAW_COMPOSITE_RESERVED = 23, /* the composite's reserved bytes are not 0 */
-    GORSEPLUMB_FLAW_COMPOSITE_RANGES_OUTSIDE = 24, /* the ranges do not end inside the descriptor */
-    GORSEPLUMB_FLAW_COMPOSITE_TOTAL = 25, /* the composite's count of pages is not the sum of its ranges' */
-    GORSEPLUMB_FLAW_RANGE_EMPTY = 26, /* it has no page */
-    GORSEPLUMB_FLAW_RANGE_UNALIGNED = 27, /* it begins inside a page */
-    GORSEPLUMB_FLAW_RANGE_TOO_HIGH = 28, /* it ends above 2^48 */
-    GORSEPLUMB_FLAW_RANGE_RESERVED = 29, /* its reserved bytes are not 0 */
-    GORSEPLUMB_FLAW_RANGE_OVERLAP = 30, /* it has a page of an earlier one */
-    GORSEPLUMB_FLAW_RETRIEVE_ATTRIBUTES = 31, /* the memory attributes are neither 0 nor those of normal memory */
-    GORSEPLUMB_FLAW_RETRIEVE_FLAGS = 32, /* a flag is set beside the transaction type */
-    GORSEPLUMB_FLAW_RETRIEVE_ACCESS_COUNT = 33, /* the count of access descriptors is not 1 */
+    GORSEPLUMB_FLAW_COMPOSITE_RESERVED = 23, /* reserved bytes of the composite are not 0 */
+    GORSEPLUMB_FLAW_COMPOSITE_RANGES_OUTSIDE = 24, /* the ranges end outside the descriptor */
+    GORSEPLUMB_FLAW_COMPOSITE_TOTAL = 25, /* the page count of the composite is not the sum of the page counts of its ranges */
+    GORSEPLUMB_FLAW_RANGE_EMPTY = 26, /* the range has no pages */
+    GORSEPLUMB_FLAW_RANGE_UNALIGNED = 27, /* the range is not page-aligned */
+    GORSEPLUMB_FLAW_RANGE_TOO_HIGH = 28, /* the range ends above 2^48 */
+    GORSEPLUMB_FLAW_RANGE_RESERVED = 29, /* reserved bytes of the range are not 0 */
+    GORSEPLUMB_FLAW_RANGE_OVERLAP = 30, /* the range overlaps an earlier range */
+    GORSEPLUMB_FLAW_RETRIEVE_ATTRIBUTES = 31, /* the memory attributes are neither 0 nor normal memory */
+    GORSEPLUMB_FLAW_RETRIEVE_FLAGS = 32, /* a flag other than the transaction type is set */
+    GORSEPLUMB_FLAW_RETRIEVE_ACCESS_COUNT = 33, /* the number of access descriptors is not 1 */
     GORSEPLUMB_FLAW_RETRIEVE_RECEIVER_IS_ANOTHER = 34, /* the access descriptor does not name the caller */
-    GORSEPLUMB_FLAW_RETRIEVE_DATA_PERMISSION = 35, /* the data permission is reserved */
-    GORSEPLUMB_FLAW_RETRIEVE_INSTRUCTION_PERMISSION = 36, /* the instruction permission is reserved */
+    GORSEPLUMB_FLAW_RETRIEVE_DATA_PERMISSION = 35, /* the data permission has a reserved value */
+    GORSEPLUMB_FLAW_RETRIEVE_INSTRUCTION_PERMISSION = 36, /* the instruction permission has a reserved value */
     GORSEPLUMB_FLAW_RETRIEVE_PERMISSIONS_RESERVED = 37, /* reserved bits of the permissions are not 0 */
     GORSEPLUMB_FLAW_RETRIEVE_ACCESS_FLAGS = 38, /* the flags of the access descriptor are not 0 */
-    GORSEPLUMB_FLAW_RETRIEVE_COMPOSITE_TOLD = 39, /* a composite is told */
+    GORSEPLUMB_FLAW_RETRIEVE_COMPOSITE_TOLD = 39, /* a composite is given */
     GORSEPLUMB_FLAW_RETRIEVE_ACCESS_RESERVED = 40, /* reserved bytes of the access descriptor are not 0 */
     GORSEPLUMB_FLAW_RELINQUISH_SHORT = 41, /* the descriptor is shorter than 18 bytes */
     GORSEPLUMB_FLAW_RELINQUISH_FLAGS = 42, /* a flag other than bit 0 is set */
-    GORSEPLUMB_FLAW_RELINQUISH_ENDPOINT_COUNT = 43 /* the count of endpoints is not 1 */
+    GORSEPLUMB_FLAW_RELINQUISH_ENDPOINT_COUNT = 43 /* the number of endpoints is not 1 */
 };
 
-/* What a check that fails is about. */
+/* The subject of a check that fails, in a reason. */
 enum gorseplumb_about {
-    GORSEPLUMB_ABOUT_NOTHING = 0,  /* nothing more is told */
-    GORSEPLUMB_ABOUT_PAGE = 1,     /* `page`, the first that fails it, and `obstacle` */
+    GORSEPLUMB_ABOUT_NOTHING = 0,  /* the reason has no subject */
+    GORSEPLUMB_ABOUT_PAGE = 1,     /* `page`, the first that fails the check, and `obstacle` */
     GORSEPLUMB_ABOUT_ENDPOINT = 2, /* `endpoint`, which the call names */
     GORSEPLUMB_ABOUT_HANDLE = 3,   /* `handle` of a transaction */
     GORSEPLUMB_ABOUT_REGISTER = 4, /* the register `number`, which has `value` */
@@ -608,58 +608,59 @@ enum gorseplumb_about {
     GORSEPLUMB_ABOUT_FIELD = 6     /* the field of a descriptor that breaks `flaw`: `size` bytes from `first` on, which have `value` */
 };
 
-/* The run state of an endpoint that is to wait. */
+/* The run state of an endpoint that is not ready for a call, in a reason. */
 enum gorseplumb_state {
-    GORSEPLUMB_STATE_NONE = 0,          /* nothing is told */
-    GORSEPLUMB_STATE_RUNNING = 1,       /* it runs */
-    GORSEPLUMB_STATE_WAITING = 2,       /* it waits */
-    GORSEPLUMB_STATE_YIELDED = 3,       /* it has yielded */
-    GORSEPLUMB_STATE_BLOCKED = 4,       /* it is blocked, by its own direct request to `awaits` where that isn't 0 */
-    GORSEPLUMB_STATE_PREEMPTED = 5,     /* an interrupt preempted it */
-    GORSEPLUMB_STATE_RUNS_ELSEWHERE = 6 /* it runs on another processor */
+    GORSEPLUMB_STATE_NONE = 0,          /* the reason has no run state */
+    GORSEPLUMB_STATE_RUNNING = 1,       /* the endpoint is running */
+    GORSEPLUMB_STATE_WAITING = 2,       /* the endpoint is waiting */
+    GORSEPLUMB_STATE_YIELDED = 3,       /* the endpoint has yielded */
+    GORSEPLUMB_STATE_BLOCKED = 4,       /* the endpoint is blocked: by its own direct request to `awaits`, if that is not 0 */
+    GORSEPLUMB_STATE_PREEMPTED = 5,     /* an interrupt preempted the endpoint */
+    GORSEPLUMB_STATE_RUNS_ELSEWHERE = 6 /* the endpoint is running on another processor */
 };
 
-/* What stands in the way at an address that the runner's tables don't map, or at a page. */
+/* Why the runner's tables do not map an address, or why a page fails a check, in a reason. */
 enum gorseplumb_obstacle {
-    GORSEPLUMB_OBSTACLE_NONE = 0,          /* nothing is told: also of an address from 100000000 on, and of the runner's own page in no open transaction */
-    GORSEPLUMB_OBSTACLE_OUTSIDE_RAM = 1,   /* it is not in RAM */
-    GORSEPLUMB_OBSTACLE_MANAGERS_PAGE = 2, /* the page is the manager's */
-    GORSEPLUMB_OBSTACLE_OWNED_BY = 3,      /* the page is the endpoint's that `owner` names */
-    GORSEPLUMB_OBSTACLE_IN_TRANSACTION = 4 /* the page stands in the open transaction with the handle `transaction` */
+    GORSEPLUMB_OBSTACLE_NONE = 0,          /* the reason names no obstacle: also for an address from 100000000 on, and for the runner's own page in no open transaction */
+    GORSEPLUMB_OBSTACLE_OUTSIDE_RAM = 1,   /* the address is not in RAM */
+    GORSEPLUMB_OBSTACLE_MANAGERS_PAGE = 2, /* the page belongs to the manager */
+    GORSEPLUMB_OBSTACLE_OWNED_BY = 3,      /* the page belongs to the endpoint `owner` */
+    GORSEPLUMB_OBSTACLE_IN_TRANSACTION = 4 /* the page is in the open transaction with the handle `transaction` */
 };
 
-/* Why an operation is refused. A call has a `check`, and an access a `fault`. What the tags don't name is zero, and no
- * byte lies between the fields. */
+/* Why an operation is refused. A call has a `check`, and an access a `fault`. A field that the tags do not name is zero.
+ * The struct has no padding. */
 struct gorseplumb_reason {
     uint32_t fault;       /* of an access: an enum gorseplumb_fault */
     uint32_t check;       /* of a call: an enum gorseplumb_check */
     int32_t error;        /* of a call: the code that FFA_ERROR has in w2, as a signed number */
     uint32_t about;       /* of a call: an enum gorseplumb_about */
     uint32_t obstacle;    /* of an access, or with GORSEPLUMB_ABOUT_PAGE: an enum gorseplumb_obstacle */
-    uint32_t page;        /* GORSEPLUMB_ABOUT_PAGE: counted from RAM's first */
-    uint32_t endpoint;    /* GORSEPLUMB_ABOUT_ENDPOINT: its identifier */
-    uint32_t owner;       /* GORSEPLUMB_OBSTACLE_OWNED_BY: its identifier */
-    uint32_t number;      /* GORSEPLUMB_ABOUT_REGISTER and GORSEPLUMB_ABOUT_BIT: which */
+    uint32_t page;        /* GORSEPLUMB_ABOUT_PAGE: the page, counted from the first page of RAM */
+    uint32_t endpoint;    /* GORSEPLUMB_ABOUT_ENDPOINT: the identifier of the endpoint */
+    uint32_t owner;       /* GORSEPLUMB_OBSTACLE_OWNED_BY: the identifier of the owner */
+    uint32_t number;      /* GORSEPLUMB_ABOUT_REGISTER, GORSEPLUMB_ABOUT_BIT: the number of the register or of the bit */
     uint32_t flaw;        /* GORSEPLUMB_ABOUT_FIELD: an enum gorseplumb_flaw */
-    uint32_t index;       /* GORSEPLUMB_ABOUT_FIELD, of an access descriptor or a range: which, counted from 0 */
-    uint32_t has_value;   /* 1 with GORSEPLUMB_ABOUT_REGISTER, and where the field has 1, 2, 4 or 8 bytes that are all there */
-    uint32_t state;       /* GORSEPLUMB_ABOUT_ENDPOINT, where it is to wait: an enum gorseplumb_state */
-    uint32_t awaits;      /* GORSEPLUMB_STATE_BLOCKED: whose answer it awaits, by the identifier, or 0 */
+    uint32_t index;       /* GORSEPLUMB_ABOUT_FIELD: the index of the access descriptor or of the range, counted from 0 */
+    uint32_t has_value;   /* 1 with GORSEPLUMB_ABOUT_REGISTER, and if the field has 1, 2, 4 or 8 bytes that are all in the descriptor */
+    uint32_t state;       /* GORSEPLUMB_ABOUT_ENDPOINT, if the endpoint is not ready: an enum gorseplumb_state */
+    uint32_t awaits;      /* GORSEPLUMB_STATE_BLOCKED: the identifier of the endpoint whose response it awaits, or 0 */
     uint64_t handle;      /* GORSEPLUMB_ABOUT_HANDLE */
     uint64_t transaction; /* GORSEPLUMB_OBSTACLE_IN_TRANSACTION */
-    uint64_t value;       /* where has_value is 1 */
-    uint64_t first;       /* GORSEPLUMB_ABOUT_FIELD: the place of its first byte in the descriptor, counted from 0 */
-    uint64_t size;        /* GORSEPLUMB_ABOUT_FIELD: how many bytes it has */
-    uint64_t least;       /* where step isn't 0: the least number that the register or the field may have instead */
-    uint64_t most;        /* the greatest, which may be the same */
-    uint64_t step;        /* how far each is from the next: 1 of all from least to most; 0 where none are told */
+    uint64_t value;       /* if has_value is 1: the value of the register or of the field */
+    uint64_t first;       /* GORSEPLUMB_ABOUT_FIELD: the offset of the field's first byte in the descriptor, counted from 0 */
+    uint64_t size;        /* GORSEPLUMB_ABOUT_FIELD: the size of the field in bytes */
+    uint64_t least;       /* if step is not 0: the least number that the register or the field may have instead */
+    uint64_t most;        /* if step is not 0: the greatest such number, which may be the same */
+    uint64_t step;        /* the distance from one such number to the next; 0 if the reason does not say which are allowed */
 };
 
-/* Why an operation of the endpoint that runs would be refused now: true, and `reason` says it. False: it would be done, or
- * there is no machine, or the size is none of 1, 2, 4 and 8; `reason` stays. These are questions too: nothing else
- * changes. A refused operation changes nothing, so asked just behind it they say why it was refused; in RAM that is lent
- * they do where nobody has written to the runner's TX since that call began, and while somebody writes there they
- * promise nothing, since they read it where it lies. gorseplumb_explain.h writes a reason as a line of text. */
+/* These four functions return true, and write to `reason`, if an operation of the runner would be refused now. They
+ * return false, and leave `reason` as it is, if the operation would be done, if there is no machine, or if the size is
+ * not 1, 2, 4 or 8. They change nothing else. A refused operation changes nothing, so a question right after it returns
+ * why it was refused. In lent RAM that holds if nobody has written to the runner's TX since that call began. While
+ * somebody writes to TX, these functions promise nothing, because they read TX where it is. gorseplumb_explain.h writes
+ * a reason as a line of text. */
 bool gorseplumb_why_call(const struct gorseplumb_machine *machine, const struct gorseplumb_registers *registers,
                          struct gorseplumb_reason *reason);
 bool gorseplumb_why_load(const struct gorseplumb_machine *machine, uint64_t address, uint32_t size,
@@ -668,29 +669,32 @@ bool gorseplumb_why_store(const struct gorseplumb_machine *machine, uint64_t add
                           struct gorseplumb_reason *reason);
 bool gorseplumb_why_fetch(const struct gorseplumb_machine *machine, uint64_t address, struct gorseplumb_reason *reason);
 
-/* Names as text, as the program prints them (docs/COMMANDS.md); never null, and "" where there is none. They take no
- * machine and no memory, and a linker leaves out those that nobody asks for: names.c has them.
+/* The functions whose names end in _name return a text as the program prints it (docs/COMMANDS.md). They never return null,
+ * and return "" if a number has no name. They need no machine and no memory. A linker drops the tables of names.c that
+ * nobody asks for.
  *
- * The name of a call in the standard, by the function identifier in w0 in either form: "FFA_RUN". */
+ * Returns the name of a call in the standard, by the function identifier in w0 in either form: "FFA_RUN". */
 const char *gorseplumb_call_name(uint32_t function);
 
-/* The name of an error code in the standard, by its number: "DENIED" of -6. */
+/* Returns the name of an error code in the standard, by its number: "DENIED" for -6. */
 const char *gorseplumb_error_name(int32_t error);
 
-/* What a check finds where it fails: an enum gorseplumb_check. And its number in the list of a call, counted from 1, as
- * the manual has it (docs/CALLS.md, docs/MEMORY.md); 0 where it is none of the call's. */
+/* Returns what is wrong if a check fails, an enum gorseplumb_check: "the receiver is not waiting". */
 const char *gorseplumb_check_name(uint32_t check);
+
+/* Returns the number of a check in the list of a call, counted from 1, as docs/CALLS.md and docs/MEMORY.md list them; 0 if
+ * the call does not make the check. */
 uint32_t gorseplumb_check_number(uint32_t function, uint32_t check);
 
-/* What is wrong with a descriptor: an enum gorseplumb_flaw. Of an access descriptor and of a range it goes on from the
- * index. */
+/* Returns what is wrong with a descriptor, an enum gorseplumb_flaw: "the range has no pages". It does not say which access
+ * descriptor or which range: `index` of the reason does. */
 const char *gorseplumb_flaw_name(uint32_t flaw);
 
-/* "translation" and the like: an enum gorseplumb_fault. */
+/* Returns the name of a fault, an enum gorseplumb_fault: "translation". */
 const char *gorseplumb_fault_name(uint32_t fault);
 
-/* What a boot or a function of lists answers: an enum gorseplumb_answer. The causes of a manifest are named as the
- * program names them, "M6 RamBase" and the like. */
+/* Returns the name of an answer of a boot or of a function of lists, an enum gorseplumb_answer. A cause of a manifest has
+ * the name that the program prints: "M6 RamBase". */
 const char *gorseplumb_answer_name(uint32_t answer);
 
 /* Whether runs are a certificate that the machine's tables give: they follow one another from RAM's first page to its

@@ -1,14 +1,14 @@
 /* SPDX-License-Identifier: MIT OR Apache-2.0 */
-/* Why an operation of the endpoint that runs would be refused, as a line of text: what gorseplumb_why_call and its like
- * tell, with the words of the names. It is what the program prints with --explain (docs/COMMANDS.md) behind
- * `# refused: `, but for what else is to be mended than a value, of which a reason tells nothing. It is optional, C, and not proved;
- * c/test.sh compares it with the program. It asks nothing of a C library. */
+/* Why an operation of the runner would be refused, as a line of text: the reason that gorseplumb_why_call and its like
+ * return, in the words of gorseplumb_check_name and gorseplumb_flaw_name. With --explain the program prints this line
+ * after `# refused: ` (docs/COMMANDS.md), and adds hints that a reason does not have. This header is optional and not
+ * proved. c/test.sh compares it with the program. It needs no C library. */
 #ifndef GORSEPLUMB_EXPLAIN_H
 #define GORSEPLUMB_EXPLAIN_H
 
 #include "gorseplumb_ffa.h"
 
-/* A text as it is written. `size` counts all that was put, also where there was no room for it. */
+/* A text that grows piece by piece. `size` counts every byte that was put, also the bytes that had no room. */
 struct gorseplumb_text {
     char *to;
     size_t room;
@@ -28,24 +28,24 @@ static inline void gorseplumb_put_hex(struct gorseplumb_text *text, uint64_t dig
     for (; digits > 0; digits--) gorseplumb_put_char(text, "0123456789ABCDEF"[number >> 4 * (digits - 1) & 15]);
 }
 
-/* A number of at most two digits, as a register's or a check's. */
+/* Puts a number of at most two decimal digits, such as the number of a register or of a check. */
 static inline void gorseplumb_put_decimal(struct gorseplumb_text *text, uint32_t number) {
     if (number >= 10) gorseplumb_put_char(text, (char)('0' + number / 10 % 10));
     gorseplumb_put_char(text, (char)('0' + number % 10));
 }
 
-/* An address or a register: in 16 digits where 8 are too few. */
+/* Puts an address or the value of a register: in 8 digits, or in 16 if 8 are too few. */
 static inline void gorseplumb_put_address(struct gorseplumb_text *text, uint64_t number) {
     gorseplumb_put_hex(text, number >> 32 == 0 ? 8 : 16, number);
 }
 
-/* A bit, an index or a place in a descriptor: in two digits where they are enough. */
+/* Puts a bit, an index or an offset in a descriptor: in 2 digits, in 4, or as an address. */
 static inline void gorseplumb_put_short(struct gorseplumb_text *text, uint64_t number) {
     if (number >> 16 == 0) gorseplumb_put_hex(text, number >> 8 == 0 ? 2 : 4, number);
     else gorseplumb_put_address(text, number);
 }
 
-/* What stands in the way, behind an address. */
+/* Puts, after an address, why the runner's tables do not map it, or why the page fails the check. */
 static inline void gorseplumb_put_obstacle(struct gorseplumb_text *text, const struct gorseplumb_reason *reason) {
     switch (reason->obstacle) {
     case GORSEPLUMB_OBSTACLE_OUTSIDE_RAM:
@@ -67,7 +67,7 @@ static inline void gorseplumb_put_obstacle(struct gorseplumb_text *text, const s
     }
 }
 
-/* Whether a call reads all 64 bits of a register, of those that a check is about. */
+/* Whether a call reads all 64 bits of a register that a check is about. */
 static inline bool gorseplumb_reads_whole(uint32_t function, uint32_t number) {
     switch (function) {
     case GORSEPLUMB_FFA_RXTX_MAP_64:
@@ -82,11 +82,11 @@ static inline bool gorseplumb_reads_whole(uint32_t function, uint32_t number) {
     }
 }
 
-/* Which numbers may be in a register or in a field instead, each in so many digits. */
+/* Puts the numbers that a register or a field may have instead, each with this number of digits. */
 static inline void gorseplumb_put_allowed(struct gorseplumb_text *text, uint64_t digits,
                                           const struct gorseplumb_reason *reason) {
     if (reason->step == 0) return;
-    gorseplumb_put(text, reason->least == reason->most ? ", and must be " : ", and may be ");
+    gorseplumb_put(text, ", and must be ");
     gorseplumb_put_hex(text, digits, reason->least);
     if (reason->least == reason->most) return;
     bool are_two = reason->step != 1 && reason->most - reason->least == reason->step;
@@ -97,20 +97,20 @@ static inline void gorseplumb_put_allowed(struct gorseplumb_text *text, uint64_t
     gorseplumb_put_hex(text, digits, reason->step);
 }
 
-/* Why a register can't be the address of a buffer, where the check says so. */
+/* Puts why a register cannot be the address of a buffer, if the check says that. */
 static inline void gorseplumb_put_misplaced(struct gorseplumb_text *text, const struct gorseplumb_reason *reason) {
     if (reason->check != GORSEPLUMB_CHECK_TX_MISPLACED && reason->check != GORSEPLUMB_CHECK_RX_MISPLACED) return;
-    gorseplumb_put(text, reason->value % GORSEPLUMB_PAGE_SIZE == 0 ? ", where the buffer does not lie in RAM"
-                                                                   : ", which is not the address of a page");
+    gorseplumb_put(text, reason->value % GORSEPLUMB_PAGE_SIZE == 0 ? ", and the buffer is not entirely in RAM"
+                                                                   : ", which is not page-aligned");
 }
 
-/* Which access descriptor or which range has the flaw, the flaw, and the bytes of its field. */
+/* Puts which access descriptor or range has the flaw, the flaw, and the bytes of its field. */
 static inline void gorseplumb_put_field(struct gorseplumb_text *text, const struct gorseplumb_reason *reason) {
     uint32_t flaw = reason->flaw;
     bool is_access = flaw >= GORSEPLUMB_FLAW_ACCESS_PERMISSIONS && flaw <= GORSEPLUMB_FLAW_ACCESS_RECEIVER_TWICE;
     bool is_range = flaw >= GORSEPLUMB_FLAW_RANGE_EMPTY && flaw <= GORSEPLUMB_FLAW_RANGE_OVERLAP;
     bool is_byte = reason->size <= 1;
-    /* Of access descriptors that do not end inside the descriptor the count alone is told, the first half of eight bytes. */
+    /* If the access descriptors end outside the descriptor, only their number is printed: the first four bytes. */
     uint64_t size = flaw == GORSEPLUMB_FLAW_HEADER_ARRAY_OUTSIDE && reason->size > 4 ? 4 : reason->size;
     if (is_access || is_range) {
         gorseplumb_put(text, is_access ? "access descriptor " : "range ");
@@ -130,7 +130,7 @@ static inline void gorseplumb_put_field(struct gorseplumb_text *text, const stru
     gorseplumb_put_allowed(text, 2 * size, reason);
 }
 
-/* The run state of an endpoint that is to wait, behind the endpoint. */
+/* Puts, after an endpoint that is not ready for the call, its run state. */
 static inline void gorseplumb_put_state(struct gorseplumb_text *text, const struct gorseplumb_reason *reason) {
     switch (reason->state) {
     case GORSEPLUMB_STATE_RUNNING:
@@ -159,7 +159,7 @@ static inline void gorseplumb_put_state(struct gorseplumb_text *text, const stru
     gorseplumb_put_hex(text, 4, reason->awaits);
 }
 
-/* What a check is about, behind its words. */
+/* Puts, after the words of a check, what the check is about. */
 static inline void gorseplumb_put_about(struct gorseplumb_text *text, const struct gorseplumb_machine *machine,
                                         uint32_t function, const struct gorseplumb_reason *reason) {
     if (reason->about != GORSEPLUMB_ABOUT_NOTHING) gorseplumb_put(text, ": ");
@@ -197,16 +197,17 @@ static inline void gorseplumb_put_about(struct gorseplumb_text *text, const stru
     }
 }
 
-/* Ends a text, as far as there is room: its size. */
+/* Ends a text with a byte of 0, if there is room for one, and returns the size of the whole text. */
 static inline size_t gorseplumb_end_text(struct gorseplumb_text *text) {
     if (text->room != 0) text->to[text->size < text->room ? text->size : text->room - 1] = '\0';
     return text->size;
 }
 
-/* Writes why a call would be refused, or an access, to `room` bytes: the line without its end, a byte of 0 behind it,
- * and no more of it than there is room for. The answer is the size of the whole line without that byte, as snprintf's
- * is, and 0, with an empty line, where the operation would be done. When to ask, and what stays as it is, is as with
- * gorseplumb_why_call and its like. 256 bytes have room for each line. */
+/* Writes why a call would be refused to `room` bytes from `to` on: the line without LF, and a byte of 0 after it. It
+ * cuts the line after `room` - 1 bytes, as snprintf does, and writes nothing if `room` is 0. Returns the size of the
+ * whole line without the byte of 0. If the call would be done, the line is empty and the size is 0. 256 bytes have room
+ * for each line. Ask when you may ask gorseplumb_why_call. Like that function, it changes nothing of the machine.
+ * gorseplumb_explain_load, gorseplumb_explain_store and gorseplumb_explain_fetch do the same for an access. */
 static inline size_t gorseplumb_explain_call(const struct gorseplumb_machine *machine,
                                              const struct gorseplumb_registers *registers, char *to, size_t room) {
     struct gorseplumb_text text = {to, room, 0};
@@ -224,7 +225,7 @@ static inline size_t gorseplumb_explain_call(const struct gorseplumb_machine *ma
     return gorseplumb_end_text(&text);
 }
 
-/* The line of an access, of which `may_not` names the right that it lacks where that is the fault. */
+/* Writes the line of an access. `may_not` is the text for a permission fault. */
 static inline size_t gorseplumb_explain_access(const struct gorseplumb_reason *reason, uint64_t address, uint32_t size,
                                                const char *may_not, char *to, size_t room) {
     struct gorseplumb_text text = {to, room, 0};
@@ -238,7 +239,7 @@ static inline size_t gorseplumb_explain_access(const struct gorseplumb_reason *r
         gorseplumb_put(&text, may_not);
         break;
     case GORSEPLUMB_FAULT_ALIGNMENT:
-        gorseplumb_put(&text, " is no multiple of ");
+        gorseplumb_put(&text, " is not a multiple of ");
         gorseplumb_put_decimal(&text, size);
         break;
     case GORSEPLUMB_FAULT_ACCESS_FLAG:

@@ -201,15 +201,15 @@ static void descriptors(void) {
     refuses(CALL(FFA_MEM_LEND, 0x70, 0x70), REASON(DESCRIPTOR_MALFORMED, -2, .about = GORSEPLUMB_ABOUT_FIELD,
                                                    .flaw = GORSEPLUMB_FLAW_ACCESS_PERMISSIONS, .index = 1, .first = 66,
                                                    .size = 1, .value = 0x0F, .has_value = 1, .least = 1, .most = 2, .step = 1));
-    LINE("FFA_MEM_LEND check 6: the bytes in TX are no descriptor of this call: access descriptor 01: "
-         "the permissions are none that this call may grant: byte 42 is 0F, and may be 01 to 02",
+    LINE("FFA_MEM_LEND check 6: the bytes in TX are not a descriptor of this call: access descriptor 01: "
+         "this call does not allow these permissions: byte 42 is 0F, and must be 01 to 02",
          call, &CALL(FFA_MEM_LEND, 0x70, 0x70));
     /* The reserved part of a header has 12 bytes from 36 on, which are no number. */
     stores(0x4001E040, 0x0000005000018002);
     stores(0x4001E020, 0x0000000100000030);
     refuses(CALL(FFA_MEM_LEND, 0x70, 0x70), REASON(DESCRIPTOR_MALFORMED, -2, .about = GORSEPLUMB_ABOUT_FIELD,
                                                    .flaw = GORSEPLUMB_FLAW_HEADER_RESERVED, .first = 36, .size = 12));
-    LINE("FFA_MEM_LEND check 6: the bytes in TX are no descriptor of this call: reserved bytes at the header's end are not 0: "
+    LINE("FFA_MEM_LEND check 6: the bytes in TX are not a descriptor of this call: reserved bytes at the end of the header are not 0: "
          "bytes 24 to 2F",
          call, &CALL(FFA_MEM_LEND, 0x70, 0x70));
     stores(0x4001E020, 0x30);
@@ -233,7 +233,7 @@ static void run_states(void) {
     refuses(CALL(FFA_MSG_SEND_DIRECT_REQ, 0x80028001),
             REASON(RECEIVER_NOT_WAITING, -4, .about = GORSEPLUMB_ABOUT_ENDPOINT, .endpoint = 0x8001,
                    .state = GORSEPLUMB_STATE_BLOCKED, .awaits = 0x8002));
-    LINE("FFA_MSG_SEND_DIRECT_REQ check 8: the receiver does not wait: endpoint 8001, "
+    LINE("FFA_MSG_SEND_DIRECT_REQ check 8: the receiver is not waiting: endpoint 8001, "
          "which is blocked by its direct request to 8002",
          call, &CALL(FFA_MSG_SEND_DIRECT_REQ, 0x80028001));
     done(FFA_MSG_SEND_DIRECT_RESP, CALL(FFA_MSG_SEND_DIRECT_RESP, 0x80028001));
@@ -257,24 +257,24 @@ static void lines(void) {
     LINE("", call, &CALL(FFA_ID_GET));
     LINE("", load, 0x40010000, 8);
     LINE("", load, 0x40020000, 3); /* no size */
-    LINE("check 1: no such function is served: w0 is 84000099", call, &CALL(0x1234567884000099));
+    LINE("check 1: the function is not supported: w0 is 84000099", call, &CALL(0x1234567884000099));
     LINE("FFA_RX_RELEASE check 1: the caller has no RX and TX, or its RX is not full", call, &CALL(FFA_RX_RELEASE));
     LINE("FFA_RUN check 2: no partition has the target's identifier: endpoint 8003", call, &CALL(FFA_RUN, 0x80030000));
-    LINE("FFA_RXTX_MAP check 3: TX does not begin at a page and lie in RAM: x1 is 000000014001E000, where the buffer does not lie in RAM",
+    LINE("FFA_RXTX_MAP check 3: TX is not page-aligned, or not entirely in RAM: x1 is 000000014001E000, and the buffer is not entirely in RAM",
          call,
          &CALL(FFA_RXTX_MAP | WITH_64_BITS, 0x14001E000, 0x4001F000, 1));
-    LINE("FFA_RXTX_MAP check 6: a page of TX is not the caller's own to read and write, or is in an open transaction: "
+    LINE("FFA_RXTX_MAP check 6: a page of TX does not belong to the caller, is not writable, or is in an open transaction: "
          "40020000 belongs to 8001",
          call, &CALL(FFA_RXTX_MAP, 0x40020000, 0x4001F000, 1));
-    LINE("FFA_MEM_RECLAIM check 2: no open transaction of the caller has the handle: handle 0000800100000007", call,
+    LINE("FFA_MEM_RECLAIM check 2: no open transaction from the caller has the handle: handle 0000800100000007", call,
          &CALL(FFA_MEM_RECLAIM, 7, 0x8001));
-    LINE("FFA_NOTIFICATION_SET check 6: one of the bits is not the caller's: bit 23", call,
+    LINE("FFA_NOTIFICATION_SET check 6: one of the bits is not bound to the caller: bit 23", call,
          &CALL(FFA_NOTIFICATION_SET, 0x00008001, 0, 0, 0x28));
     LINE("40020FFF belongs to 8001", load, 0x40020FFF, 1);
     LINE("40000000 belongs to the manager", store, 0x40000000, 8);
     LINE("3FFFFFFC is outside RAM", fetch, 0x3FFFFFFC);
     LINE("0000000100000000 is above FFFFFFFF", load, 0x100000000, 1);
-    LINE("40010001 is no multiple of 2", load, 0x40010001, 2);
+    LINE("40010001 is not a multiple of 2", load, 0x40010001, 2);
     LINE("40010000 may not be executed", fetch, 0x40010000);
 }
 
@@ -289,9 +289,9 @@ static void names(void) {
     CHECK(is(gorseplumb_error_name(0), "") && is(gorseplumb_error_name(-10), "") && is(gorseplumb_error_name(1), ""));
     CHECK(is(gorseplumb_error_name(INT32_MIN), "") && is(gorseplumb_error_name(INT32_MAX), ""));
     CHECK(is(gorseplumb_check_name(GORSEPLUMB_CHECK_PAGE_UNSENDABLE),
-             "a page is not the caller's own, or is in an open transaction or a buffer"));
+             "a page does not belong to the caller, or is in an open transaction or a buffer"));
     CHECK(is(gorseplumb_flaw_name(GORSEPLUMB_FLAW_ACCESS_PERMISSIONS),
-             "the permissions are none that this call may grant"));
+             "this call does not allow these permissions"));
     CHECK(is(gorseplumb_fault_name(GORSEPLUMB_FAULT_ALIGNMENT), "alignment"));
     CHECK(is(gorseplumb_fault_name(GORSEPLUMB_FAULT_OUTSIDE_RAM), "outside-ram"));
     CHECK(is(gorseplumb_answer_name(GORSEPLUMB_MANIFEST_RAM_BASE), "M6 RamBase"));

@@ -211,7 +211,7 @@ class CallRefused(GorseplumbError):
 
 
 class NotSupported(CallRefused):
-    """No such function is served, or FFA_FEATURES knows no such feature."""
+    """The function is not supported, or FFA_FEATURES knows no such feature."""
 
 
 class InvalidParameters(CallRefused):

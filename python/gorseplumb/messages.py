@@ -56,9 +56,9 @@ class IndirectMessage:
         if flags or reserved:
             raise ValueError("a reserved field of the header is not 0")
         if offset < HEADER_SIZE or size < 1:
-            raise ValueError("the message begins inside its header" if size else "the message has no byte")
+            raise ValueError("the message begins inside its header" if size else "the message is empty")
         if offset + size > len(data):
-            raise ValueError("the message does not end inside the buffer")
+            raise ValueError("the message ends outside the buffer")
         return cls(sender, receiver, data[offset : offset + size], offset)
 
     def operations(self, tx: int, form: Form = Form.FFA_1_1) -> list[Operation]:

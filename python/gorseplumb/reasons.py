@@ -14,7 +14,7 @@ from .registers import is_read_whole
 
 @dataclass(frozen=True, slots=True)
 class Hindrance:
-    """What stands in the way at a page: who owns it, or the open transaction in which it stands."""
+    """Why an endpoint does not reach a page: who owns the page, or the open transaction that the page is in."""
 
     obstacle: Obstacle
     owner: int = MANAGER
@@ -34,40 +34,40 @@ class Hindrance:
 
 @dataclass(frozen=True, slots=True)
 class Subject:
-    """What a check speaks of. Only what `about` says has a meaning."""
+    """The subject of a check that fails. Only the fields that belong to `about` have a meaning."""
 
     about: About
     address: int = 0
-    """PAGE: of its first byte"""
+    """PAGE: the address of the first byte of the page"""
     endpoint: int = 0
     state: RunState = RunState.NONE
-    """ENDPOINT: what it does, where it is to wait"""
+    """ENDPOINT: its run state, if it is not ready for the call"""
     awaits: int = 0
-    """BLOCKED: whose answer it awaits, where it sent a direct request; else 0"""
+    """BLOCKED: the endpoint whose response it awaits, or 0"""
     handle: int = 0
     number: int = 0
-    """REGISTER: which; BIT: which; FIELD: the index of the access descriptor or of the range"""
+    """REGISTER, BIT: the number of the register or of the bit; FIELD: the index of the access descriptor or of the range"""
     flaw: Flaw | None = None
     value: int | None = None
-    """REGISTER, FIELD: what is there, where that can be told"""
+    """REGISTER, FIELD: the number that the register or the field has, if it is known"""
     first: int = 0
     size: int = 0
     allowed: range | None = None
-    """REGISTER, FIELD: which numbers may be there, where that can be told"""
+    """REGISTER, FIELD: the numbers that the register or the field may have instead, if they are known"""
 
     __repr__ = by_fields
 
 
 @dataclass(frozen=True, slots=True)
 class Reason:
-    """Why an operation is refused. `str` is what the program says of it with `--explain`, up to what else is to be
-    mended than a number."""
+    """Why an operation is refused. `str` is the line that the program prints with `--explain`, without the hints that the
+    library does not give."""
 
     operation: Operation
     fault: Fault | None
     check: Check | None
     check_number: int = field(metadata=DECIMAL)
-    """The number of the check in the manual's list of the call; 0 where there is none."""
+    """The number of the check in the manual's list of the call, or 0 if there is none"""
     code: ErrorCode | None
     subject: Subject
     hindrance: Hindrance
@@ -82,7 +82,7 @@ class Reason:
 
     @property
     def words(self) -> str:
-        """The same without the call's name, or the address, that it begins with."""
+        """The text of `str` without the name of the call, or without the address, at its start."""
         if isinstance(self.operation, Call):
             return _call_words(self.operation, self)
         return _access_words(self.operation, self)
@@ -128,7 +128,7 @@ def _state_text(it: Subject) -> str:
 def _misplaced_text(check: Check | None, value: int) -> str:
     if check not in (Check.TX_MISPLACED, Check.RX_MISPLACED):
         return ""
-    return ", which is not the address of a page" if value % PAGE_SIZE else ", where the buffer does not lie in RAM"
+    return ", which is not page-aligned" if value % PAGE_SIZE else ", and the buffer is not entirely in RAM"
 
 
 def _allowed_text(allowed: range | None, digits: int) -> str:
@@ -139,15 +139,15 @@ def _allowed_text(allowed: range | None, digits: int) -> str:
         return f", and must be {least}"
     if allowed.step == 1 or len(allowed) > 2:
         steps = f" in steps of {allowed.step:0{digits}X}" if allowed.step != 1 else ""
-        return f", and may be {least} to {most}{steps}"
-    return f", and may be {least} or {most}"
+        return f", and must be {least} to {most}{steps}"
+    return f", and must be {least} or {most}"
 
 
 def _field_text(it: Subject) -> str:
     words = flaw_text(it.flaw, it.number) if it.flaw is not None else ""
     size, number = it.size, it.value
     if it.flaw is Flaw.HEADER_ARRAY_OUTSIDE:
-        # The count alone is told, which is the first half of eight bytes.
+        # Only the number of access descriptors is printed: the first four bytes.
         size, number = min(size, 4), None if number is None else number % 2**32
     if size <= 1:
         place, verb = f"byte {short_text(it.first)}", "is"
@@ -163,7 +163,7 @@ def _access_words(operation: Load | Store | Fetch, reason: Reason) -> str:
     words = {
         Fault.TRANSLATION: str(reason.hindrance) or "is above FFFFFFFF",
         Fault.PERMISSION: f"may not be {verb}",
-        Fault.ALIGNMENT: f"is no multiple of {size}",
+        Fault.ALIGNMENT: f"is not a multiple of {size}",
         Fault.ACCESS_FLAG: "has no access flag",
         Fault.OUTSIDE_RAM: "leads out of RAM",
     }

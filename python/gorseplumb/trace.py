@@ -30,7 +30,7 @@ _NUMBER = re.compile(f"{_HEX}+")
 _PREFIXED = re.compile(f"0[xX]{_HEX}+")
 _OF_SESSIONS = {
     "help": "a line is call X0 .. X7, load A N, store A V, fetch A, show or audit, in hexadecimal; quit ends a session",
-    "quit": "the end of the input ends a session, as Ctrl+D does",
+    "quit": "to end a session, end the input, as Ctrl+D does",
 }
 _RUNNER = re.compile("[0-9A-F]{4}")
 _CHECK = re.compile(r"\.\.|[1-9][0-9]*")
@@ -74,42 +74,42 @@ def _parse_other(line: str) -> Question | None:
 def _fault(line: str) -> BadLine:
     """What is wrong with a line, and where, in the words of `ffaplay --verbose`."""
     if line.endswith("\r"):
-        return BadLine("a CR before the line's end")
+        return BadLine("the line ends in CR LF; it must end in LF")
     command, *words = line.split(" ")
     if command not in ("call", "load", "store", "fetch", "show", "audit"):
-        return BadLine(_OF_SESSIONS.get(command, "an unknown command") if command else "an empty word", 1)
+        return BadLine(_OF_SESSIONS.get(command, "unknown command") if command else "empty word", 1)
     column = len(command) + 2
     for place, word in enumerate(words, 1):
         why = _word_fault(command, place, word)
         if why is None and command == "call" and place == 9:
-            why = f"{len(words)} registers, where a call has 1 to 8"
+            why = f"a call needs 1 to 8 registers, found {len(words)}"
         if why is not None:
             return BadLine(why, column)
         column += len(word) + 1
-    missing = "0 registers, where a call has 1 to 8" if command == "call" else "a word is missing"
+    missing = "a call needs 1 to 8 registers, found 0" if command == "call" else "missing word"
     return BadLine(missing, len(line) + 1)
 
 
 def _word_fault(command: str, place: int, word: str) -> str | None:
     most = {"call": len(word) + 8, "load": 2, "store": 2, "fetch": 1}.get(command, 0)
     if not word:
-        return "an empty word"
+        return "empty word"
     if place > most and command != "call":
-        return "a word too many"
+        return "unexpected word"
     if command == "load" and place == 2:
-        return None if word in ("1", "2", "4", "8") else "a size that is none of 1, 2, 4 and 8"
+        return None if word in ("1", "2", "4", "8") else "the size must be 1, 2, 4 or 8"
     if _NUMBER.fullmatch(word) is None:
         prefixed = _PREFIXED.fullmatch(word) is not None
-        return "a number is written without 0x" if prefixed else "no hexadecimal number"
+        return "a number must not begin with 0x" if prefixed else "not a hexadecimal number"
     if command == "store" and place == 2:
         return None if len(word) in (2, 4, 8, 16) else _digits_fault(len(word))
-    return f"a number of {len(word)} digits, where 16 are the most" if len(word) > 16 else None
+    return f"the number has {len(word)} digits; it must have at most 16" if len(word) > 16 else None
 
 
 def _digits_fault(digits: int) -> str:
     if digits == 1:
-        return "a value of 1 digit, which is none of 2, 4, 8 and 16"
-    return f"a value of {digits} digits, which are none of 2, 4, 8 and 16"
+        return "the value has 1 digit; it must have 2, 4, 8 or 16"
+    return f"the value has {digits} digits; it must have 2, 4, 8 or 16"
 
 
 def lines(trace: Trace) -> Iterator[tuple[int, str]]:
@@ -124,7 +124,7 @@ def lines(trace: Trace) -> Iterator[tuple[int, str]]:
     yield from enumerate(whole, 1)
     if rest:
         hint = file_hint(rest, "the text itself", _may_be_name(rest)) if isinstance(trace, str) and not whole else ""
-        raise BadLine("no line end", number=len(whole) + 1, hint=hint)
+        raise BadLine("the line does not end in LF", number=len(whole) + 1, hint=hint)
 
 
 def _may_be_name(line: str) -> bool:

@@ -279,9 +279,9 @@ def test_takes_plain_numbers_and_lists() -> None:
 
 
 def test_refuses_what_no_descriptor_can_say() -> None:
-    with pytest.raises(MalformedDescriptor, match="a flag is set that this call does not have"):
+    with pytest.raises(MalformedDescriptor, match="a flag is set that this call does not allow"):
         Offer(Kind.SHARE, 1, (Receiver(2, RW),), (PageRange(4096, 1),), zero=True).to_bytes()
-    with pytest.raises(MalformedDescriptor, match="access descriptor 00: it names the sender"):
+    with pytest.raises(MalformedDescriptor, match="access descriptor 00: the access descriptor names the sender"):
         Offer(Kind.LEND, 1, (Receiver(1, RW),), (PageRange(4096, 1),)).to_bytes()
     with pytest.raises(ValueError, match="doesn't hold its number"):
         Offer(Kind.LEND, 0x10000, (Receiver(1, RW),), (PageRange(4096, 1),)).to_bytes()

@@ -33,7 +33,7 @@ from gorseplumb.errors import access_fault, call_refused
         (BadLine("why", hint="a hint"), "why: a hint"),
         (GuardUnmet(1, "done", None), 'line 1: expected "done", found nothing'),
         (GuardUnmet(1, "done", "data 00"), 'line 1: expected "done", found "data 00"'),
-        (MalformedDescriptor(Flaw.RANGE_EMPTY, 16), "range 10: it has no page"),
+        (MalformedDescriptor(Flaw.RANGE_EMPTY, 16), "range 10: the range has no pages"),
         (MachineEnded("the machine was closed"), "the machine was closed"),
     ],
 )

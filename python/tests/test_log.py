@@ -158,4 +158,4 @@ def test_is_a_command(tmp_path: Path) -> None:
     assert (done.returncode, done.stderr) == (2, f"gorseplumb: no call is in {log}\n")
     log.write_text("nonsense\n")
     done = subprocess.run(words, capture_output=True, text=True, check=False)
-    assert (done.returncode, done.stderr) == (2, "gorseplumb: line 1: an unknown command\n")
+    assert (done.returncode, done.stderr) == (2, "gorseplumb: line 1: unknown command\n")

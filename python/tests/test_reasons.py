@@ -27,38 +27,38 @@ def test_has_the_programs_words() -> None:
     lend = Call((Function.FFA_MEM_LEND, 0x60, 0x60))
     page = Subject(About.PAGE, address=0x40029000)
     assert refused(lend, Check.PAGE_UNSENDABLE, 10, page, in_way) == (
-        "FFA_MEM_LEND check 10: a page is not the caller's own, or is in an open transaction or a buffer: "
+        "FFA_MEM_LEND check 10: a page does not belong to the caller, or is in an open transaction or a buffer: "
         "40029000 is in the open transaction 0000800100000001"
     )
     mapped = Call((Function.FFA_RXTX_MAP, 0, 0, 5))
-    told = "FFA_RXTX_MAP check 2: a buffer has no page, or more than it may have: w3 is 00000005"
+    told = "FFA_RXTX_MAP check 2: a buffer has no pages, or too many: w3 is 00000005"
     assert refused(mapped, Check.BUFFER_PAGE_COUNT, 2, Subject(About.REGISTER, number=3, value=5)) == told
     may_be = Subject(About.REGISTER, number=3, value=5, allowed=range(1, 5))
-    assert refused(mapped, Check.BUFFER_PAGE_COUNT, 2, may_be) == f"{told}, and may be 00000001 to 00000004"
+    assert refused(mapped, Check.BUFFER_PAGE_COUNT, 2, may_be) == f"{told}, and must be 00000001 to 00000004"
     wide = Call((Function.FFA_RXTX_MAP_64, 0x14001E000))
     x1 = Subject(About.REGISTER, number=1, value=0x14001E000)
-    assert refused(wide, Check.TX_MISPLACED, 3, x1).endswith("x1 is 000000014001E000, where the buffer does not lie in RAM")
+    assert refused(wide, Check.TX_MISPLACED, 3, x1).endswith("x1 is 000000014001E000, and the buffer is not entirely in RAM")
     field = Subject(About.FIELD, number=0, flaw=Flaw.ACCESS_PERMISSIONS, value=0x0F, first=50, size=1)
     assert refused(lend, Check.DESCRIPTOR_MALFORMED, 6, field).endswith(
-        "access descriptor 00: the permissions are none that this call may grant: byte 32 is 0F"
+        "access descriptor 00: this call does not allow these permissions: byte 32 is 0F"
     )
     field = Subject(About.FIELD, number=10, flaw=Flaw.RANGE_RESERVED, value=1, first=252, size=8)
-    told = "range 0A: its reserved bytes are not 0: bytes FC to 0103 are 0000000000000001"
+    told = "range 0A: reserved bytes of the range are not 0: bytes FC to 0103 are 0000000000000001"
     assert refused(lend, Check.DESCRIPTOR_MALFORMED, 6, field).endswith(told)
     # Where they begin stands in the high half of the same eight bytes.
     field = Subject(About.FIELD, number=0, flaw=Flaw.HEADER_ARRAY_OUTSIDE, value=0x3000000005, first=28, size=8)
-    told = ": the access descriptors do not end inside the descriptor: bytes 1C to 1F are 00000005"
+    told = ": the access descriptors end outside the descriptor: bytes 1C to 1F are 00000005"
     assert refused(lend, Check.DESCRIPTOR_MALFORMED, 6, field).endswith(told)
     unknown = Call((0x8400008F,))
     w0 = Subject(About.REGISTER, number=0, value=0x8400008F)
-    assert refused(unknown, Check.FUNCTION_UNKNOWN, 1, w0) == "check 1: no such function is served: w0 is 8400008F"
+    assert refused(unknown, Check.FUNCTION_UNKNOWN, 1, w0) == "check 1: the function is not supported: w0 is 8400008F"
     handle, bit = Subject(About.HANDLE, handle=0x0000800100000001), Subject(About.BIT, number=18)
     assert refused(lend, Check.HANDLE_UNKNOWN, 7, handle).endswith(": handle 0000800100000001")
     assert refused(lend, Check.BITS_TAKEN, 7, bit).endswith(": bit 12")
     endpoint = Subject(About.ENDPOINT, endpoint=0x8003)
     assert refused(lend, Check.RECEIVER_UNKNOWN, 8, endpoint).endswith(": endpoint 8003")
     asked = Subject(About.ENDPOINT, endpoint=0x8001, state=RunState.BLOCKED, awaits=0x8002)
-    told = ": the receiver does not wait: endpoint 8001, which is blocked by its direct request to 8002"
+    told = ": the receiver is not waiting: endpoint 8001, which is blocked by its direct request to 8002"
     assert refused(lend, Check.RECEIVER_NOT_WAITING, 8, asked).endswith(told)
     nothing = refused(lend, Check.BUFFERS_MISSING, 1, Subject(About.NOTHING))
     assert nothing == "FFA_MEM_LEND check 1: the caller has no RX and TX"
@@ -73,8 +73,8 @@ def test_has_the_programs_words() -> None:
         (Load(0x100000000, 1), Fault.TRANSLATION, NOBODY, "0000000100000000 is above FFFFFFFF"),
         (Store(0x40020000, 1, 0), Fault.PERMISSION, NOBODY, "40020000 may not be written"),
         (Fetch(0x40028000), Fault.PERMISSION, NOBODY, "40028000 may not be executed"),
-        (Load(0x40028001, 2), Fault.ALIGNMENT, NOBODY, "40028001 is no multiple of 2"),
-        (Fetch(0x40028002), Fault.ALIGNMENT, NOBODY, "40028002 is no multiple of 4"),
+        (Load(0x40028001, 2), Fault.ALIGNMENT, NOBODY, "40028001 is not a multiple of 2"),
+        (Fetch(0x40028002), Fault.ALIGNMENT, NOBODY, "40028002 is not a multiple of 4"),
     ],
 )
 def test_has_the_programs_words_of_faults(
@@ -85,10 +85,11 @@ def test_has_the_programs_words_of_faults(
 
 def may_stay_untold(ours: str, its: str) -> bool:
     """Whether the program alone says what it has behind our reason: what else is to be mended than a number."""
-    its = re.sub(", where the (header|access descriptors|composite|ranges) ends? at [0-9A-F]+ of [0-9A-F]+ bytes", "", its)
+    ends = r" \(the (header|access descriptors|composite|ranges) ends? at [0-9A-F]+, but the descriptor has [0-9A-F]+ bytes\)"
+    its = re.sub(ends, "", its)
     behind = its.removeprefix(ours)
-    numbers = re.match(", and (must|may) be ", behind) and ", since " not in behind and "_RESP check 2: " not in its
-    return its.startswith(ours) and not numbers and not re.match(", where the buffer does not|, which is not the a", behind)
+    numbers = re.match(", and must be ", behind) and ", because " not in behind and "_RESP check 2: " not in its
+    return its.startswith(ours) and not numbers and not re.match(", and the buffer is not|, which is not page", behind)
 
 
 def are_alike(told: list[str], wanted: list[str]) -> bool:

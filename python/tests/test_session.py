@@ -59,7 +59,7 @@ def test_does_operations_and_calls_by_name(session: Session) -> None:
     "line, told",
     [
         ("lod 1", "no such command: lod"),
-        ("load 40010000", "a word is missing"),
+        ("load 40010000", "missing word"),
         ("load 40010000 x", "a size that is none"),
         ("FFA_RUN endpoint=8001", "FFA_RUN has no argument 'endpoint'"),
         ("FFA_RUN", "FFA_RUN lacks the argument partition: it has partition, [context]"),
@@ -117,7 +117,7 @@ def test_sends_descriptors(session: Session, program: Program, tmp_path: Path) -
     done = [line for line in path.read_text().splitlines() if not line.startswith("#")]
     assert done[-len(lines) :] == lines
     assert session.line("lend 4002E000 8002:rx 40029000+1")[0].startswith("error: a right is none of ro, rw")
-    assert session.line("lend 4002E000 8001:ro 40029000+1") == ["error: access descriptor 00: it names the sender"]
+    assert session.line("lend 4002E000 8001:ro 40029000+1") == ["error: access descriptor 00: the access descriptor names the sender"]
     assert session.line("donate 40020000 8002 40029000+1")[0] == "fault permission"
     for line in ("FFA_MSG_WAIT", "FFA_RUN partition=8002", "FFA_RXTX_MAP tx=40206000 rx=40207000 pages=1"):
         session.line(line)

@@ -24,25 +24,25 @@ def test_reads_each_kind_of_line() -> None:
 
 BAD = [
     ("", None),
-    ("call", "0 registers, where a call has 1 to 8"),
-    ("call 1 2 3 4 5 6 7 8 9", "9 registers, where a call has 1 to 8"),
-    ("call 12345678901234567", "a number of 17 digits, where 16 are the most"),
-    ("call 0x1", "a number is written without 0x"),
-    ("call 0x", "no hexadecimal number"),
-    ("call 1_0", "no hexadecimal number"),
-    ("call  1", "an empty word"),
-    ("call 1 ", "an empty word"),
-    (" call 1", "an empty word"),
-    ("Call 1", "an unknown command"),
-    ("call\t1", "an unknown command"),
-    ("load 1", "a word is missing"),
-    ("load 1 3", "a size that is none of 1, 2, 4 and 8"),
-    ("load 1 1 1", "a word too many"),
-    ("store 1 1", "a value of 1 digit, which is none of 2, 4, 8 and 16"),
-    ("store 1 123", "a value of 3 digits, which are none of 2, 4, 8 and 16"),
-    ("fetch 1 2", "a word too many"),
-    ("show 1", "a word too many"),
-    ("show\r", "a CR before the line's end"),
+    ("call", "a call needs 1 to 8 registers, found 0"),
+    ("call 1 2 3 4 5 6 7 8 9", "a call needs 1 to 8 registers, found 9"),
+    ("call 12345678901234567", "the number has 17 digits; it must have at most 16"),
+    ("call 0x1", "a number must not begin with 0x"),
+    ("call 0x", "not a hexadecimal number"),
+    ("call 1_0", "not a hexadecimal number"),
+    ("call  1", "empty word"),
+    ("call 1 ", "empty word"),
+    (" call 1", "empty word"),
+    ("Call 1", "unknown command"),
+    ("call\t1", "unknown command"),
+    ("load 1", "missing word"),
+    ("load 1 3", "the size must be 1, 2, 4 or 8"),
+    ("load 1 1 1", "unexpected word"),
+    ("store 1 1", "the value has 1 digit; it must have 2, 4, 8 or 16"),
+    ("store 1 123", "the value has 3 digits; it must have 2, 4, 8 or 16"),
+    ("fetch 1 2", "unexpected word"),
+    ("show 1", "unexpected word"),
+    ("show\r", "the line ends in CR LF; it must end in LF"),
 ]
 
 
@@ -67,9 +67,9 @@ def test_judges_a_line_when_it_is_reached() -> None:
     with Machine(BUILT_IN) as machine:
         played = play(machine, "store 40010000 2A\nload 40010000 1\nload 40010000\n")
         assert next(played) == "done" and next(played) == "data 2A"
-        with pytest.raises(BadLine, match="line 3, column 14: a word is missing"):
+        with pytest.raises(BadLine, match="line 3, column 14: missing word"):
             next(played)
-        with pytest.raises(BadLine, match="line 2: no line end"):
+        with pytest.raises(BadLine, match="line 2: the line does not end in LF"):
             list(play(machine, b"# \xff\nload 40010000 1"))
         assert list(play(machine, ["load 40010000 1"], numbers=True)) == ["1: data 2A"]
         named = list(play(machine, ["call 84000069", "call 8400008F", "call 84000063 10001"], names=True))
@@ -93,10 +93,10 @@ def test_says_that_a_str_is_no_path(tmp_path: Path) -> None:
                 with pytest.raises(BadLine) as wrong:
                     asked(name)
                 hint = f"{name!r} {told} the name of a file, {is_text}"
-                assert str(wrong.value) == f"line 1: no line end: {hint}" and wrong.value.hint == hint
+                assert str(wrong.value) == f"line 1: the line does not end in LF: {hint}" and wrong.value.hint == hint
         texts: list[str | bytes] = ["load 40010000 1", "# see first.trace", "# 1\nfirst.trace", b"first.trace"]
         for text in texts:
-            with pytest.raises(BadLine, match="^line [12]: no line end$"):
+            with pytest.raises(BadLine, match="^line [12]: the line does not end in LF$"):
                 list(play(machine, text))
 
 

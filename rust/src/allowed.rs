@@ -1,18 +1,18 @@
 // SPDX-License-Identifier: MIT OR Apache-2.0
-//! Which numbers a register or a field of a descriptor may have, where a check wants others.
+//! The numbers that a register or a field of a descriptor may have instead of a refused one.
 use crate::hexadecimal::shown;
 use crate::raw;
 use crate::reasons::About;
 use core::fmt;
 
-/// The numbers from the least to the most, in equal steps.
+/// The numbers that a refused register or field may have instead: from the least to the greatest, in equal steps.
 #[derive(Clone, Copy, PartialEq, Eq, Hash)]
 pub struct Allowed {
-    /// The least.
+    /// The least number.
     pub least: u64,
-    /// The greatest, which may be the same.
+    /// The greatest number, which may be the least one.
     pub most: u64,
-    /// How far each is from the next, which is never 0.
+    /// The distance from one number to the next, which is never 0.
     pub step: u64,
 }
 
@@ -24,7 +24,7 @@ impl Allowed {
         (step != 0).then_some(Allowed { least, most, step })
     }
 
-    /// Whether a number is one of them.
+    /// Whether a number is allowed.
     ///
     /// ```
     /// # use gorseplumb::*;
@@ -36,7 +36,7 @@ impl Allowed {
     /// let reason = machine.why_call(&map).unwrap();
     /// let pages = reason.allowed.unwrap();
     /// assert!(pages.contains(4) && !pages.contains(5));
-    /// assert!(reason.to_string().ends_with(", and may be 00000001 to 00000004"));
+    /// assert!(reason.to_string().ends_with(", and must be 00000001 to 00000004"));
     /// # Ok::<(), BootError>(())
     /// ```
     #[must_use]
@@ -44,7 +44,7 @@ impl Allowed {
         (self.least..=self.most).contains(&number) && (number - self.least) % self.step == 0
     }
 
-    /// Writes them as the program does, behind what a check is about.
+    /// Writes the allowed numbers as the program does, after what a check is about.
     pub(crate) fn put(&self, to: &mut fmt::Formatter<'_>, about: Option<About>) -> fmt::Result {
         let digits = match about {
             Some(About::Field { size, .. }) => 2 * size as usize,
@@ -53,9 +53,9 @@ impl Allowed {
         let Allowed { least, most, step } = self;
         match step {
             _ if least == most => write!(to, ", and must be {least:0digits$X}"),
-            1 => write!(to, ", and may be {least:0digits$X} to {most:0digits$X}"),
-            _ if most - least == *step => write!(to, ", and may be {least:0digits$X} or {most:0digits$X}"),
-            _ => write!(to, ", and may be {least:0digits$X} to {most:0digits$X} in steps of {step:0digits$X}"),
+            1 => write!(to, ", and must be {least:0digits$X} to {most:0digits$X}"),
+            _ if most - least == *step => write!(to, ", and must be {least:0digits$X} or {most:0digits$X}"),
+            _ => write!(to, ", and must be {least:0digits$X} to {most:0digits$X} in steps of {step:0digits$X}"),
         }
     }
 }

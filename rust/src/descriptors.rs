@@ -200,7 +200,7 @@ impl std::error::Error for DescriptorError {
 /// assert_eq!(error.flaw, Flaw::SendFlags);
 /// let ranges = [PageRange::new(0x4002_1000, 1), PageRange::new(0x4002_1800, 1)];
 /// let error = Offer { ranges: &ranges, ..lend }.to_bytes(Version::V1_1).unwrap_err();
-/// assert_eq!(error.to_string(), "range 1: it begins inside a page");
+/// assert_eq!(error.to_string(), "range 1: the range is not page-aligned");
 /// # Ok::<(), DescriptorError>(())
 /// ```
 #[derive(Clone, Copy, PartialEq, Eq)]

@@ -53,7 +53,7 @@ impl<R: Ram> Machine<R> {
     /// let error = machine.call_or_why(&Function::MemReclaim.with([1])).unwrap_err();
     /// assert_eq!(
     ///     error.to_string(),
-    ///     "FFA_MEM_RECLAIM is refused: INVALID_PARAMETERS: check 2: no open transaction of the caller has the handle: \
+    ///     "FFA_MEM_RECLAIM is refused: INVALID_PARAMETERS: check 2: no open transaction from the caller has the handle: \
     ///      handle 0000000000000001",
     /// );
     /// # Ok::<(), BootError>(())

@@ -14,103 +14,103 @@ use core::fmt;
 /// Why a call is refused: the first of its checks that fails, and what that is about.
 #[derive(Clone, Copy, Debug, PartialEq, Eq, Hash)]
 pub struct CallReason {
-    /// The check.
+    /// The first check of the call that fails.
     pub check: Check,
     /// The number of the check in the manual's list of the call's checks.
     pub number: Option<u32>,
-    /// What FFA_ERROR tells.
+    /// The error code of FFA_ERROR.
     pub error: ErrorCode,
-    /// What the check is about, where more is to be told than its words.
+    /// The subject of the check, if it has one.
     pub about: Option<About>,
-    /// The run state of the endpoint that the check is about, where that is to wait.
+    /// The run state of the endpoint that the check is about, if the endpoint is not ready for the call.
     pub state: Option<RunState>,
-    /// Which numbers may be in the register or the field that the check is about.
+    /// The numbers that the register or the field may have instead, if they are known.
     pub allowed: Option<Allowed>,
 }
 
-/// What an endpoint does (DEN0077A, 8.2).
+/// The run state of an endpoint (DEN0077A, 8.2).
 #[derive(Clone, Copy, Debug, PartialEq, Eq, Hash)]
 pub enum RunState {
-    /// It runs.
+    /// The endpoint is running.
     Running,
-    /// It waits.
+    /// The endpoint is waiting.
     Waiting,
-    /// It has yielded.
+    /// The endpoint has yielded.
     Yielded,
-    /// It is blocked.
+    /// The endpoint is blocked.
     Blocked {
-        /// Whose answer it awaits, where it sent a direct request.
+        /// The endpoint whose response it awaits, if it sent a direct request.
         awaits: Option<Id>,
     },
-    /// An interrupt preempted it.
+    /// An interrupt preempted the endpoint.
     Preempted,
-    /// It runs on another processor.
+    /// The endpoint is running on another processor.
     RunsElsewhere,
 }
 
 /// Why an access is refused.
 #[derive(Clone, Copy, PartialEq, Eq, Hash)]
 pub struct AccessReason {
-    /// The address of its first byte.
+    /// The address of the first byte of the access.
     pub address: u64,
-    /// The fault.
+    /// The fault of the access.
     pub fault: Fault,
-    /// What stands in the way, of a translation fault. None there: the address has more than 32 bits.
+    /// Why the tables do not map the address, for a translation fault. None there: the address has more than 32 bits.
     pub obstacle: Option<Obstacle>,
 }
 
-/// What a check is about.
+/// The subject of a check that fails.
 #[derive(Clone, Copy, PartialEq, Eq, Hash)]
 pub enum About {
-    /// A page, counted from RAM's first.
+    /// A page of RAM.
     Page {
-        /// Which.
+        /// The number of the page, counted from the first page of RAM.
         page: u32,
-        /// Of its first byte.
+        /// The address of the first byte of the page.
         address: u64,
-        /// What stands in the way there.
+        /// Why the page fails the check.
         obstacle: Option<Obstacle>,
     },
-    /// An endpoint that is named.
+    /// An endpoint that the call names.
     Endpoint(Id),
-    /// A handle that is named.
+    /// A handle that the call names.
     Handle(Handle),
-    /// A register.
+    /// A register of the call.
     Register {
-        /// x0 is 0.
+        /// The number of the register; x0 is 0.
         number: u32,
-        /// What it holds, as far as the call reads it.
+        /// The value of the register, as far as the call reads it.
         value: u64,
-        /// The call reads all 64 bits of it, and not the low 32 alone.
+        /// Whether the call reads all 64 bits of the register, and not only the low 32.
         is_whole: bool,
     },
-    /// The least bit of a notification's bitmap that fails the check.
+    /// The least bit of a notification bitmap that fails the check.
     Bit(u32),
     /// A field of a descriptor.
     Field {
-        /// The condition that it breaks.
+        /// The condition that the field breaks.
         flaw: Flaw,
-        /// Of an access descriptor or a range, which, from 0.
+        /// The index of the access descriptor or of the range, counted from 0.
         index: u32,
-        /// The place of its first byte.
+        /// The offset of the field's first byte in the descriptor.
         first: u64,
-        /// How many bytes it has.
+        /// The size of the field in bytes.
         size: u64,
-        /// The number in it, where it has 1, 2, 4 or 8 bytes and all are there.
+        /// The number in the field, if it has 1, 2, 4 or 8 bytes that are all in the descriptor.
         value: Option<u64>,
     },
 }
 
-/// What stands in the way at a page.
+/// Why the tables of an endpoint do not map an address, or why a page fails a check.
 #[derive(Clone, Copy, PartialEq, Eq, Hash)]
 pub enum Obstacle {
-    /// RAM has no such page.
+    /// The address is not in RAM.
     OutsideRam,
-    /// It is the manager's.
+    /// The page belongs to the manager.
     ManagersPage,
-    /// Another endpoint owns it.
+    /// The page belongs to this endpoint.
     OwnedBy(Id),
-    /// It stands in the open transaction of this handle.
+    /// The page is in the open transaction with this handle.
     InTransaction(Handle),
 }
 
@@ -186,7 +186,7 @@ impl fmt::Display for RunState {
     }
 }
 
-/// What the program says of it.
+/// The text of the program for the subject of a check.
 impl fmt::Display for About {
     fn fmt(&self, to: &mut fmt::Formatter<'_>) -> fmt::Result {
         match *self {
@@ -209,7 +209,7 @@ impl fmt::Display for About {
     }
 }
 
-/// What a condition is about of which a descriptor has several.
+/// The part of a descriptor, of which it may have several, that a condition is about.
 fn element(flaw: Flaw) -> Option<&'static str> {
     let is_from = |first: Flaw, last: Flaw| (first.number()..=last.number()).contains(&flaw.number());
     match flaw {
@@ -219,7 +219,7 @@ fn element(flaw: Flaw) -> Option<&'static str> {
     }
 }
 
-/// Bytes of a descriptor, and the number in them.
+/// Writes which bytes of a descriptor a field has, and the number in them.
 fn put_bytes(to: &mut fmt::Formatter<'_>, first: u64, size: u64, value: Option<u64>) -> fmt::Result {
     let verb = if size <= 1 {
         write!(to, "byte {}", Short(first))?;
@@ -232,7 +232,7 @@ fn put_bytes(to: &mut fmt::Formatter<'_>, first: u64, size: u64, value: Option<u
     value.map_or(Ok(()), |value| write!(to, " {verb} {value:0digits$X}"))
 }
 
-/// The check's number and words, what it is about, and the run state of that, or which numbers may be there.
+/// The number and the words of the check, its subject, and the run state or the allowed numbers.
 impl fmt::Display for CallReason {
     fn fmt(&self, to: &mut fmt::Formatter<'_>) -> fmt::Result {
         self.number.map_or(Ok(()), |number| write!(to, "check {number}: "))?;
@@ -243,7 +243,7 @@ impl fmt::Display for CallReason {
     }
 }
 
-/// The fault, the address, and what stands in the way.
+/// The fault, the address, and why the tables do not map the address.
 impl fmt::Display for AccessReason {
     fn fmt(&self, to: &mut fmt::Formatter<'_>) -> fmt::Result {
         write!(to, "{} at {}", self.fault, Long(self.address))?;
@@ -270,7 +270,7 @@ impl std::error::Error for AccessReason {
 }
 
 impl CallReason {
-    /// Of a call of this function, on a machine whose RAM begins there.
+    /// The reason of a call of this function, on a machine whose RAM begins at this address.
     fn of(told: &raw::Reason, function: u32, ram: u32) -> CallReason {
         let check: Check = known(Check::of(told.check));
         CallReason {
@@ -339,8 +339,8 @@ impl Obstacle {
 
 // SAFETY, of each function: as of the other questions, and the reason is live.
 impl<R: Ram> Machine<R> {
-    /// Why this call of the runner would be refused now, or was refused just before: a refused call changes nothing.
-    /// None: it would be done.
+    /// Returns why this call of the runner would be refused now, or was refused just before: a refused call changes
+    /// nothing. None: the call would be done.
     ///
     /// ```
     /// # use gorseplumb::*;
@@ -352,7 +352,7 @@ impl<R: Ram> Machine<R> {
     /// assert_eq!(machine.call(&map).error(), Some(ErrorCode::InvalidParameters));
     /// let reason = machine.why_call(&map).unwrap();
     /// assert_eq!((reason.check, reason.number), (Check::BuffersOverlap, Some(5)));
-    /// assert_eq!(reason.to_string(), "check 5: RX and TX have a page in common: w2 is 40010000");
+    /// assert_eq!(reason.to_string(), "check 5: RX and TX overlap: w2 is 40010000");
     /// # Ok::<(), BootError>(())
     /// ```
     #[must_use]
@@ -362,7 +362,7 @@ impl<R: Ram> Machine<R> {
             .then(|| CallReason::of(&told, registers[0] as u32, self.ram_base()))
     }
 
-    /// The same of a load.
+    /// Returns why this load of the runner would be refused now, or was refused just before. None: it would be done.
     ///
     /// ```
     /// # use gorseplumb::*;
@@ -382,7 +382,7 @@ impl<R: Ram> Machine<R> {
             .then(|| AccessReason::of(address, &told))
     }
 
-    /// The same of a store.
+    /// Returns why this store of the runner would be refused now, or was refused just before. None: it would be done.
     #[must_use]
     pub fn why_store(&self, address: u64, size: Size) -> Option<AccessReason> {
         let mut told = raw::Reason::default();
@@ -390,7 +390,7 @@ impl<R: Ram> Machine<R> {
             .then(|| AccessReason::of(address, &told))
     }
 
-    /// The same of a fetch.
+    /// Returns why this fetch of the runner would be refused now, or was refused just before. None: it would be done.
     #[must_use]
     pub fn why_fetch(&self, address: u64) -> Option<AccessReason> {
         let mut told = raw::Reason::default();

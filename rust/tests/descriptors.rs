@@ -220,12 +220,12 @@ fn offers_that_are_malformed() {
 fn words_of_what_is_malformed() {
     let page = |place: u64| PageRange::new(4096 * place, 1);
     let words = |offer: Offer| offer.to_bytes(Version::V1_1).unwrap_err().to_string();
-    assert_eq!(words(Offer { zero: true, ..SHARE }), "a flag is set that this call does not have");
+    assert_eq!(words(Offer { zero: true, ..SHARE }), "a flag is set that this call does not allow");
     assert_eq!(
         words(Offer { receivers: &[Receiver::rw(Id(0x8001))], ..LEND }),
-        "access descriptor 0: it names the sender"
+        "access descriptor 0: the access descriptor names the sender"
     );
-    assert_eq!(words(Offer { ranges: &[page(1), page(1)], ..LEND }), "range 1: it has a page of an earlier one");
+    assert_eq!(words(Offer { ranges: &[page(1), page(1)], ..LEND }), "range 1: the range overlaps an earlier range");
 }
 
 /// The largest offers are well formed.

@@ -108,21 +108,21 @@ fn reasons_are_told_as_the_program_tells_them() {
     let told = |line: &str| machine.why_call(&given(line)).unwrap().to_string();
     let unmapped = Machine::boot(&MACHINE).unwrap();
     let said = |line: &str| unmapped.why_call(&given(line)).unwrap().to_string();
-    let count = "check 2: a buffer has no page, or more than it may have: w3 is 00000005";
+    let count = "check 2: a buffer has no pages, or too many: w3 is 00000005";
     assert!(said("call 84000066 4001E000 4001F000 5").starts_with(count));
-    let wide = "check 3: TX does not begin at a page and lie in RAM: x1 is 000000014001E000";
+    let wide = "check 3: TX is not page-aligned, or not entirely in RAM: x1 is 000000014001E000";
     assert!(said("call C4000066 14001E000 4001F000 1").starts_with(wide));
-    let taken = "check 6: a page of TX is not the caller's own to read and write, or is in an open transaction: \
+    let taken = "check 6: a page of TX does not belong to the caller, is not writable, or is in an open transaction: \
                  40020000 belongs to 8001";
     assert_eq!(said("call 84000066 40020000 4001F000 1"), taken);
-    assert_eq!(told("call 84000081 8001 0 1000"), "check 6: one of the bits is not the caller's: bit 0C");
+    assert_eq!(told("call 84000081 8001 0 1000"), "check 6: one of the bits is not bound to the caller: bit 0C");
     let mut empty = machine_after(&[DESCRIBED, "store 40010058 0000000000000000"]);
-    let range = "check 6: the bytes in TX are no descriptor of this call: range 00: it has no page: \
+    let range = "check 6: the bytes in TX are not a descriptor of this call: range 00: the range has no pages: \
                  bytes 58 to 5B are 00000000";
     assert!(empty.why_call(&given("call 84000072 60 60")).unwrap().to_string().starts_with(range));
     play(&mut empty, "store 40010032 FF");
-    let access = "check 6: the bytes in TX are no descriptor of this call: access descriptor 00: \
-                  the permissions are none that this call may grant: byte 32 is FF";
+    let access = "check 6: the bytes in TX are not a descriptor of this call: access descriptor 00: \
+                  this call does not allow these permissions: byte 32 is FF";
     assert!(empty.why_call(&given("call 84000072 60 60")).unwrap().to_string().starts_with(access));
 }
 
@@ -138,13 +138,13 @@ fn numbers_that_may_be() {
     let ends = |told: &str, end: &str| assert!(told.ends_with(end), "{told}");
     let (pages, words) = told("", "call 84000066 4001E000 4001F000 5");
     assert_eq!(pages, Some((1, 4, 1)));
-    ends(&words, ", and may be 00000001 to 00000004");
+    ends(&words, ", and must be 00000001 to 00000004");
     let (context, words) = told("", "call 84000082 10000 1");
     assert_eq!(context.map(|(least, most, _)| (least, most)), Some((0, 0)));
     ends(&words, ", and must be 00000000");
     let (flags, words) = told("", "call 84000081 8001 1 1");
     assert_eq!(flags, Some((0, 2, 2)));
-    ends(&words, ", and may be 00000000 or 00000002");
+    ends(&words, ", and must be 00000000 or 00000002");
     assert_eq!(told("", "call 8400006F 8003").0, None);
     // A lend to one receiver leaves the attributes to that, and a composite stands behind its access descriptor.
     let lend = "call 84000066 4001E000 4001F000 1\nstore 4001E000 00000000002F0000\n\
@@ -156,7 +156,7 @@ fn numbers_that_may_be() {
     ends(&words, ", and must be 0000");
     let (offset, words) = told("store 4001E002 0000\n", "call 84000072 80 80");
     assert_eq!(offset, Some((0x40, 0x60, 0x10)));
-    ends(&words, ", and may be 00000040 to 00000060 in steps of 00000010");
+    ends(&words, ", and must be 00000040 to 00000060 in steps of 00000010");
 }
 
 /// What an endpoint does that is to wait.
@@ -329,10 +329,10 @@ fn operations_that_say_why() {
     assert_eq!(machine.store_or_why(0x4001_0000, Size::B4, 42), Ok(()));
     assert_eq!(machine.load_or_why(0x4001_0000, Size::B4), Ok(42));
     let refused = machine.call_or_why(&registers([0x8400_008F])).unwrap_err();
-    let check = "check 1: no such function is served: w0 is 8400008F";
+    let check = "check 1: the function is not supported: w0 is 8400008F";
     assert_eq!(words(&refused), format!("call 8400008F is refused: NOT_SUPPORTED: {check}"));
     let refused = machine.call_or_why(&Function::MemReclaim.with([1, 0x8001])).unwrap_err();
-    let check = "check 2: no open transaction of the caller has the handle: handle 0000800100000001";
+    let check = "check 2: no open transaction from the caller has the handle: handle 0000800100000001";
     assert_eq!(words(&refused), format!("FFA_MEM_RECLAIM is refused: INVALID_PARAMETERS: {check}"));
     let answer = machine.call_or_why(&Function::Run.with([0x8001_0000])).unwrap();
     assert_eq!(answer.runner(), Id(0x8001));

@@ -197,7 +197,10 @@ fn what_is_not_sent_changes_nothing() {
     let malformed = machine.send(&Offer::new(Kind::Lend, WORLD, &to, &ranges), TX, V1_1).unwrap_err();
     let why = DescriptorError { flaw: Flaw::AccessReceiverIsSender, index: 0 };
     assert_eq!(malformed, SendError::Malformed(why));
-    assert_eq!(malformed.to_string(), "the descriptor is malformed: access descriptor 0: it names the sender");
+    assert_eq!(
+        malformed.to_string(),
+        "the descriptor is malformed: access descriptor 0: the access descriptor names the sender"
+    );
     let misplaced = machine.send(&Relinquish::new(Handle(1), WORLD), 0x4001_FFF8, V1_1).unwrap_err();
     let said = "the descriptor can't be stored: translation fault at 40020000: the page belongs to 8001";
     assert_eq!(misplaced.to_string(), said);
@@ -219,7 +222,7 @@ fn what_is_refused_says_why() {
         }
         other => panic!("{other:?}"),
     }
-    let said = "FFA_MEM_SHARE is refused: DENIED: check 9: a range does not lie in RAM";
+    let said = "FFA_MEM_SHARE is refused: DENIED: check 9: a range is not entirely in RAM";
     assert!(refused.to_string().starts_with(said), "{refused}");
     let unknown = machine.send(&Retrieve::new(FIRST, Handle(9), Receiver::new(WORLD)), TX, V1_1).unwrap_err();
     let said = "FFA_MEM_RETRIEVE_REQ is refused: INVALID_PARAMETERS: check 7: no open transaction has the handle: \
@@ -254,9 +257,9 @@ fn handles_of_answers() {
 fn errors_have_sources() {
     use std::error::Error;
     let why = DescriptorError { flaw: Flaw::RangeEmpty, index: 3 };
-    assert_eq!(why.to_string(), "range 3: it has no page");
+    assert_eq!(why.to_string(), "range 3: the range has no pages");
     assert_eq!(SendError::from(why).source().unwrap().to_string(), why.to_string());
-    assert_eq!(why.source().unwrap().to_string(), "it has no page");
+    assert_eq!(why.source().unwrap().to_string(), "the range has no pages");
     let reason = AccessReason { address: 0, fault: Fault::Translation, obstacle: None };
     assert_eq!(SendError::from(reason).source().unwrap().to_string(), reason.to_string());
     let refused = CallError { function: Function::MemLend.number(), error: ErrorCode::Busy, reason: None };

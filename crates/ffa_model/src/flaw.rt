@@ -1,154 +1,154 @@
 // SPDX-License-Identifier: MIT OR Apache-2.0
-//! What is wrong with bytes that are no descriptor of a memory transaction: the condition that they break, by the part
-//! of the descriptor in which it stands (DEN0077A, 5.11 and 16).
+//! The conditions of the descriptors of memory transactions, by the part of the descriptor (DEN0077A, 5.11 and 16). Bytes that break
+//! one are not a descriptor.
 
-/// A condition that the bytes break.
+/// A condition of a descriptor that its bytes break, by the part of the descriptor.
 #[derive(Clone, Copy)]
 pub enum Flaw {
-    /// A condition of a header, which a send and a retrieve have in common.
+    /// A condition of the header, the same for a send and a retrieve.
     Header(HeaderFlaw),
-    /// A condition of a send's header.
+    /// A condition of the header of a send only.
     Send(SendFlaw),
-    /// A condition of a send's access descriptor with this index, counted from 0.
+    /// A condition of the access descriptor of a send that has this index, counted from 0.
     Access(u32, AccessFlaw),
-    /// A condition of a send's composite.
+    /// A condition of the composite of a send.
     Composite(CompositeFlaw),
-    /// A condition of the composite's range with this index, counted from 0.
+    /// A condition of the range of a send that has this index, counted from 0.
     Range(u32, RangeFlaw),
-    /// A condition of a retrieve.
+    /// A condition of a retrieve descriptor only.
     Retrieve(RetrieveFlaw),
-    /// A condition of a relinquish.
+    /// A condition of a relinquish descriptor.
     Relinquish(RelinquishFlaw),
 }
 
-/// What is wrong with a header.
+/// A condition of the header of a send or a retrieve, by what is wrong if the bytes break it.
 #[derive(Clone, Copy)]
 pub enum HeaderFlaw {
     /// The descriptor is shorter than its header.
     Short,
-    /// The size of an access descriptor is not the one that this version tells.
+    /// The access descriptor size field is not 16, or not 0 in the compact form.
     AccessSize,
-    /// The access descriptors don't begin at a multiple of 16.
+    /// The offset of the access descriptors is not a multiple of 16.
     ArrayUnaligned,
     /// The access descriptors begin inside the header.
     ArrayInHeader,
-    /// The access descriptors don't end inside the descriptor.
+    /// The access descriptors end outside the descriptor.
     ArrayOutside,
-    /// Reserved bytes at the header's end are not 0.
+    /// Reserved bytes at the end of the header are not 0.
     Reserved,
 }
 
-/// What is wrong with the header of a send.
+/// A condition of the header of a send, by what is wrong if the bytes break it.
 #[derive(Clone, Copy)]
 pub enum SendFlaw {
-    /// The memory attributes are not those of a send of this kind to so many receivers.
+    /// The memory attributes are wrong for this call and this number of receivers.
     Attributes,
-    /// A flag is set that this kind doesn't have.
+    /// A flag is set that this call does not allow.
     Flags,
     /// The handle is not 0.
     Handle,
     /// There is no receiver.
     NoReceiver,
-    /// There are more receivers than this kind may have.
+    /// There are more receivers than this call allows.
     ManyReceivers,
 }
 
-/// What is wrong with an access descriptor of a send.
+/// A condition of an access descriptor of a send, by what is wrong if the bytes break it.
 #[derive(Clone, Copy)]
 pub enum AccessFlaw {
-    /// The permissions are none that this kind grants.
+    /// The call does not allow the permissions of the access descriptor.
     Permissions,
-    /// The flags are not 0.
+    /// The flags of the access descriptor are not 0.
     Flags,
-    /// It tells another composite than the first one does.
+    /// The access descriptor refers to a different composite than the first one.
     OtherComposite,
-    /// Its reserved bytes are not 0.
+    /// Reserved bytes of the access descriptor are not 0.
     Reserved,
-    /// It names the sender.
+    /// The access descriptor names the sender.
     ReceiverIsSender,
-    /// It names a receiver that an earlier one names.
+    /// The access descriptor names the same receiver as an earlier one.
     ReceiverTwice,
 }
 
-/// What is wrong with the composite of a send.
+/// A condition of the composite of a send, by what is wrong if the bytes break it.
 #[derive(Clone, Copy)]
 pub enum CompositeFlaw {
-    /// It doesn't end, without its ranges, inside the descriptor.
+    /// The composite ends outside the descriptor, even without its ranges.
     Outside,
-    /// The composite does not begin at a multiple of 16.
+    /// The offset of the composite is not a multiple of 16.
     Unaligned,
     /// The composite begins before the access descriptors end.
     InArray,
-    /// It has no range.
+    /// The composite has no ranges.
     NoRange,
     /// The composite has more ranges than a transaction may have.
     ManyRanges,
-    /// The composite's reserved bytes are not 0.
+    /// Reserved bytes of the composite are not 0.
     Reserved,
-    /// Its ranges don't end inside the descriptor.
+    /// The ranges end outside the descriptor.
     RangesOutside,
-    /// Its count of pages is not the sum of its ranges'.
+    /// The page count of the composite is not the sum of the page counts of its ranges.
     // No reason reports the correct sum. With a wrong total the bytes are no descriptor, so the sum would need its own
     // reader.
     Total,
 }
 
-/// What is wrong with a range of a send.
+/// A condition of a range of a send, by what is wrong if the bytes break it.
 #[derive(Clone, Copy)]
 pub enum RangeFlaw {
-    /// It has no page.
+    /// The range has no pages.
     Empty,
-    /// It begins inside a page.
+    /// The range is not page-aligned.
     Unaligned,
-    /// It ends above 2^48.
+    /// The range ends above 2^48.
     TooHigh,
-    /// Its reserved bytes are not 0.
+    /// Reserved bytes of the range are not 0.
     Reserved,
-    /// It has a page of an earlier one.
+    /// The range overlaps an earlier range.
     Overlap,
 }
 
-/// What is wrong with a retrieve, behind the conditions of a header.
+/// A condition of a retrieve descriptor after its header, by what is wrong if the bytes break it.
 #[derive(Clone, Copy)]
 pub enum RetrieveFlaw {
-    /// The memory attributes are neither 0 nor those of normal memory.
+    /// The memory attributes are neither 0 nor normal memory.
     Attributes,
-    /// A flag is set beside the transaction type.
+    /// A flag other than the transaction type is set.
     Flags,
-    /// The count of access descriptors is not 1.
+    /// The number of access descriptors is not 1.
     AccessCount,
-    /// The access descriptor doesn't name the caller.
+    /// The access descriptor does not name the caller.
     ReceiverIsAnother,
-    /// The data permission is reserved.
+    /// The data permission has a reserved value.
     DataPermission,
-    /// The instruction permission is reserved.
+    /// The instruction permission has a reserved value.
     InstructionPermission,
     /// Reserved bits of the permissions are not 0.
     PermissionsReserved,
     /// The flags of the access descriptor are not 0.
     AccessFlags,
-    /// A composite is told.
+    /// A composite is given.
     CompositeTold,
     /// Reserved bytes of the access descriptor are not 0.
     AccessReserved,
 }
 
-/// What is wrong with a relinquish.
+/// A condition of a relinquish descriptor, by what is wrong if the bytes break it.
 #[derive(Clone, Copy)]
 pub enum RelinquishFlaw {
     /// The descriptor is shorter than 18 bytes.
     Short,
     /// A flag other than bit 0 is set.
     Flags,
-    /// There is not one endpoint.
+    /// The number of endpoints is not 1.
     EndpointCount,
 }
 
-/// Where a field stands in a descriptor.
+/// The place of a field in a descriptor.
 #[derive(Clone, Copy)]
 pub struct FieldPlace {
-    /// The place of its first byte, counted from 0.
+    /// The offset of the field's first byte in the descriptor, counted from 0.
     pub first: u64,
-    /// How many bytes it has.
+    /// The size of the field in bytes.
     pub size: u64,
 }

@@ -1,172 +1,172 @@
 // SPDX-License-Identifier: MIT OR Apache-2.0
-//! Why a call is refused: the checks of the calls.
+//! The checks of the calls: which one refuses a call, its words, and its error code.
 ghost use Rattle.std.specs.Prelude.{◌≡◌};
 ghost use Rattle.ffa_model.specs.RefusalCodes.{code_of};
 
 use crate::operation::ErrorCode;
 
-/// The check of a call that fails: one for each check of each call, where calls that check the same share it.
+/// A check of a call, by what is wrong if the check fails. Calls that check the same share a variant.
 #[derive(Clone, Copy, PartialEq, Eq)]
 pub enum Refusal {
     // Any call.
-    /// The function, or the feature asked for, is not served.
+    /// The function of the call is not supported, or the one that FFA_FEATURES asks about.
     FunctionUnknown,
     /// The caller has no RX and TX.
     BuffersMissing,
-    /// A flag is set that has to be 0.
+    /// A flag is set that must be 0.
     FlagsReserved,
-    /// The sender that is named is not the caller.
+    /// The sender that the call names is not the caller.
     SenderIsAnother,
-    /// The receiver that is named is not the caller.
+    /// The receiver that the call names is not the caller.
     ReceiverIsAnother,
-    /// No endpoint has the identifier of the receiver.
+    /// No endpoint has the identifier of the receiver that the call names.
     ReceiverUnknown,
-    /// The receiver is the caller.
+    /// The receiver that the call names is the caller.
     ReceiverIsCaller,
-    /// The caller is not the normal world, to which alone the call is open.
+    /// The caller is not the normal world, and only the normal world may make this call.
     NotNormalWorld,
-    /// There is no execution context but context 0.
+    /// The execution context that the call names is not 0.
     ContextUnknown,
     /// The caller's RX is full.
     RxFull,
     // FFA_PARTITION_INFO_GET.
-    /// No partition has the UUID.
+    /// No partition has the UUID that FFA_PARTITION_INFO_GET names.
     UuidUnknown,
     // FFA_RXTX_MAP, FFA_RXTX_UNMAP and FFA_RX_RELEASE.
-    /// The caller has RX and TX already.
+    /// The caller of FFA_RXTX_MAP already has RX and TX.
     BuffersMapped,
-    /// A buffer has no page, or more than a buffer may have.
+    /// A buffer of FFA_RXTX_MAP has no pages, or more than a buffer may have.
     BufferPageCount,
-    /// TX does not begin at a page and lie in RAM.
+    /// The address of TX is not the start of a page, or TX is not entirely in RAM.
     TxMisplaced,
-    /// RX does not begin at a page and lie in RAM.
+    /// The address of RX is not the start of a page, or RX is not entirely in RAM.
     RxMisplaced,
     /// RX and TX have a page in common.
     BuffersOverlap,
-    /// A page of TX is not the caller's own to read and write, or an open transaction names it.
+    /// A page of TX does not belong to the caller, is not writable by its owner, or is in an open transaction.
     TxUnusable,
-    /// A page of RX is not the caller's own to read and write, or an open transaction names it.
+    /// A page of RX does not belong to the caller, is not writable by its owner, or is in an open transaction.
     RxUnusable,
-    /// The endpoint that is named is not 0.
+    /// The endpoint that FFA_RXTX_UNMAP names is not 0.
     EndpointNotZero,
-    /// The caller has no RX and TX, or its RX is not full.
+    /// The caller of FFA_RX_RELEASE has no RX and TX, or its RX is not full.
     RxEmpty,
     // FFA_RUN, FFA_MSG_WAIT, FFA_YIELD and direct messages.
-    /// The receiver of the request is the normal world.
+    /// The receiver of the direct request is the normal world.
     ReceiverIsNormalWorld,
-    /// The caller does not send direct requests.
+    /// The caller may not send direct requests: bit 1 of its properties is not set.
     RequestsUnsent,
-    /// The receiver does not receive direct requests.
+    /// The receiver does not accept direct requests: bit 0 of its properties is not set.
     RequestsUnreceived,
-    /// The receiver does not wait.
+    /// The receiver of the direct request is not waiting.
     ReceiverNotWaiting,
-    /// The caller works on no direct request.
+    /// The caller of FFA_MSG_SEND_DIRECT_RESP is not processing a direct request.
     NoRequest,
-    /// The response is not from the caller to the endpoint that asked.
+    /// The direct response does not go from the caller to the sender of the request.
     AnswerMisdirected,
-    /// No partition has the identifier of the target.
+    /// No partition has the identifier of the target of FFA_RUN.
     TargetUnknown,
-    /// The target neither waits nor has yielded.
+    /// The target is not waiting and has not yielded.
     TargetNotReady,
-    /// The caller does not run by cycles of the normal world.
+    /// The caller of FFA_MSG_WAIT is not processing an FFA_RUN: it has no work, or its work is a direct request.
     NotRun,
-    /// The caller works for none to whom it may yield.
+    /// The caller of FFA_YIELD works for no endpoint that it may yield to: it has no work, or the direct request of a partition.
     NobodyToYieldTo,
     // FFA_MSG_SEND2.
-    /// A reserved field of the header is not 0.
+    /// A reserved field of the message's header is not 0.
     HeaderReserved,
     /// The message begins inside its header.
     MessageInHeader,
-    /// The message has no byte.
+    /// The message is empty.
     MessageEmpty,
-    /// The message does not end inside TX.
+    /// The message ends outside TX.
     MessageTooLong,
-    /// The caller does not send indirect messages.
+    /// The caller may not send indirect messages: bit 2 of its properties is not set.
     MessagesUnsent,
-    /// The receiver does not receive indirect messages.
+    /// The receiver does not accept indirect messages: bit 2 of its properties is not set.
     MessagesUnreceived,
-    /// The receiver has no RX and TX.
+    /// The receiver of the indirect message has no RX and TX.
     ReceiverBuffersMissing,
     /// The receiver's RX is full.
     ReceiverRxFull,
     /// The message with its header is longer than the receiver's RX.
     ReceiverRxSmall,
     // Notifications.
-    /// The endpoint that is named is not the normal world.
+    /// The endpoint whose bitmaps the call creates or destroys is not the normal world.
     EndpointNotNormalWorld,
-    /// There is not one execution context.
+    /// The number of execution contexts that FFA_NOTIFICATION_BITMAP_CREATE names is not 1.
     ContextCount,
-    /// The normal world has bitmaps already.
+    /// The normal world already has notification bitmaps.
     BitmapsExist,
-    /// The endpoint has no bitmaps.
+    /// The endpoint whose notifications the call is about has no notification bitmaps.
     BitmapsMissing,
-    /// A bit of the normal world is pending.
+    /// A notification bit of the normal world is pending, so FFA_NOTIFICATION_BITMAP_DESTROY may not destroy its bitmaps.
     BitsPending,
-    /// No endpoint has the identifier of the sender.
+    /// No endpoint has the identifier of the sender that the call names.
     SenderUnknown,
-    /// The sender is the caller.
+    /// The sender that the call names is the caller.
     SenderIsCaller,
-    /// No bit is named.
+    /// The call selects no notification bit.
     BitsNone,
-    /// Another sender has one of the bits, or one is pending.
+    /// One of the bits to bind is bound to another sender, or is pending.
     BitsTaken,
-    /// The sender does not have one of the bits, or one is pending.
+    /// One of the bits to unbind is not bound to the sender, or is pending.
     BitsNotTheSenders,
-    /// The caller does not have one of the bits.
+    /// One of the bits to set is not bound to the caller.
     BitsNotTheCallers,
-    /// The flags ask for a class that is not one of four.
+    /// The flags of FFA_NOTIFICATION_GET select a class of notifications other than the four that bits 0 to 3 select.
     ClassesUnknown,
     // Memory transactions.
     /// The fragment is not the whole descriptor.
     Fragmented,
     /// The descriptor is longer than TX.
     DescriptorTooLong,
-    /// The address of a buffer is given where there is TX alone.
+    /// A memory call gives the address of a buffer, but only TX is supported.
     BufferAddressGiven,
-    /// The pages of a buffer are counted where there is TX alone.
+    /// A memory call gives the page count of a buffer, but only TX is supported.
     BufferPagesGiven,
-    /// The bytes in TX are no descriptor of this call.
+    /// The bytes in TX are not a descriptor of this call.
     DescriptorMalformed,
-    /// A range does not lie in RAM.
+    /// A range of the descriptor is not entirely in RAM.
     RangeOutside,
-    /// A page is not the caller's, an open transaction names it, or a buffer is in it.
+    /// A page to send does not belong to the caller, or is in an open transaction or in a buffer of an endpoint.
     PageUnsendable,
-    /// A grant is more than the right of the owner to a page.
+    /// A grant of the descriptor exceeds the owner's own right to a page.
     GrantTooMuch,
-    /// Zeros are asked of a page that the owner may not write to.
+    /// The call requests zeroing of a page that its owner may not write to.
     ZerosUnwritable,
-    /// The caller has as many open transactions as it may have.
+    /// The caller has reached its limit of open transactions.
     TransactionsFull,
     /// The caller has used up its handles.
     HandlesUsedUp,
     /// No open transaction has the handle.
     HandleUnknown,
-    /// The caller is not among the receivers of the transaction.
+    /// The caller is not a receiver of the transaction.
     NotReceiver,
-    /// The sender is not that of the transaction.
+    /// The sender that the retrieve names is not the sender of the transaction.
     TransactionSenderDiffers,
-    /// The tag is not that of the transaction.
+    /// The tag that the retrieve names is not the tag of the transaction.
     TagDiffers,
-    /// The kind is not that of the transaction.
+    /// The kind that the retrieve names is not the kind of the transaction.
     KindDiffers,
-    /// The caller holds the transaction already.
+    /// The caller already holds the transaction.
     AlreadyRetrieved,
-    /// The right that is asked is more than the caller may get.
+    /// The right that the retrieve requests exceeds the right that the caller may get.
     RightTooMuch,
-    /// The endpoint of the descriptor is not the caller.
+    /// The endpoint that the relinquish descriptor names is not the caller.
     EndpointIsAnother,
-    /// No open transaction with the handle has the caller among its receivers.
+    /// No open transaction with the handle has the caller as a receiver.
     NotOffered,
     /// The caller does not hold the transaction.
     NotHeld,
-    /// Zeros are asked of memory that is not lent to the caller to write to.
+    /// The relinquish requests zeroing, but the caller does not hold a lend with write access.
     ZerosNotAllowed,
-    /// No open transaction of the caller has the handle.
+    /// No open transaction from the caller has the handle.
     NotTheSenders,
-    /// A receiver holds the transaction.
+    /// A receiver still holds the transaction.
     StillHeld,
-    // Where worlds are told apart.
-    /// Secure pages are sent to the normal world, or together with non-secure ones.
+    // Of a machine that distinguishes secure from non-secure memory.
+    /// The call sends secure pages to the normal world, or together with non-secure pages.
     WorldsMixed,
 }
 
@@ -174,11 +174,11 @@ macro_rules! words {
     ($($refusal:ident $words:literal;)*) => { [$((Refusal::$refusal, $words)),*] };
 }
 
-/// What each check finds where it fails, in words, in the order of the variants.
+/// The words for each check that fails, in the order of the variants of `Refusal`.
 pub const WORDS: &[(Refusal, &str)] = &words![
-    FunctionUnknown "no such function is served";
+    FunctionUnknown "the function is not supported";
     BuffersMissing "the caller has no RX and TX";
-    FlagsReserved "a flag is set that has to be 0";
+    FlagsReserved "a flag is set that must be 0";
     SenderIsAnother "the sender is not the caller";
     ReceiverIsAnother "the receiver is not the caller";
     ReceiverUnknown "no endpoint has the receiver's identifier";
@@ -187,75 +187,75 @@ pub const WORDS: &[(Refusal, &str)] = &words![
     ContextUnknown "the execution context is not 0";
     RxFull "the caller's RX is full";
     UuidUnknown "no partition has the UUID";
-    BuffersMapped "the caller has RX and TX already";
-    BufferPageCount "a buffer has no page, or more than it may have";
-    TxMisplaced "TX does not begin at a page and lie in RAM";
-    RxMisplaced "RX does not begin at a page and lie in RAM";
-    BuffersOverlap "RX and TX have a page in common";
-    TxUnusable "a page of TX is not the caller's own to read and write, or is in an open transaction";
-    RxUnusable "a page of RX is not the caller's own to read and write, or is in an open transaction";
-    EndpointNotZero "the endpoint is not 0";
+    BuffersMapped "the caller already has RX and TX";
+    BufferPageCount "a buffer has no pages, or too many";
+    TxMisplaced "TX is not page-aligned, or not entirely in RAM";
+    RxMisplaced "RX is not page-aligned, or not entirely in RAM";
+    BuffersOverlap "RX and TX overlap";
+    TxUnusable "a page of TX does not belong to the caller, is not writable, or is in an open transaction";
+    RxUnusable "a page of RX does not belong to the caller, is not writable, or is in an open transaction";
+    EndpointNotZero "the endpoint's identifier is not 0";
     RxEmpty "the caller has no RX and TX, or its RX is not full";
     ReceiverIsNormalWorld "the receiver is the normal world";
-    RequestsUnsent "the caller does not send direct requests (bit 1 of its properties)";
-    RequestsUnreceived "the receiver does not receive direct requests (bit 0 of its properties)";
-    ReceiverNotWaiting "the receiver does not wait";
-    NoRequest "the caller works on no direct request";
-    AnswerMisdirected "the response is not from the caller to the endpoint that asked";
+    RequestsUnsent "the caller may not send direct requests (bit 1 of its properties is not set)";
+    RequestsUnreceived "the receiver does not accept direct requests (bit 0 of its properties is not set)";
+    ReceiverNotWaiting "the receiver is not waiting";
+    NoRequest "the caller is not processing a direct request";
+    AnswerMisdirected "the response does not go from the caller to the sender of the request";
     TargetUnknown "no partition has the target's identifier";
-    TargetNotReady "the target neither waits nor has yielded";
-    NotRun "the caller does not run by cycles of the normal world";
-    NobodyToYieldTo "the caller works for nobody to whom it may yield";
+    TargetNotReady "the target is not waiting and has not yielded";
+    NotRun "the caller is not processing an FFA_RUN";
+    NobodyToYieldTo "the caller works for no endpoint that it may yield to";
     HeaderReserved "a reserved field of the header is not 0";
     MessageInHeader "the message begins inside its header";
-    MessageEmpty "the message has no byte";
-    MessageTooLong "the message does not end inside TX";
-    MessagesUnsent "the caller does not send indirect messages (bit 2 of its properties)";
-    MessagesUnreceived "the receiver does not receive indirect messages (bit 2 of its properties)";
+    MessageEmpty "the message is empty";
+    MessageTooLong "the message ends outside TX";
+    MessagesUnsent "the caller may not send indirect messages (bit 2 of its properties is not set)";
+    MessagesUnreceived "the receiver does not accept indirect messages (bit 2 of its properties is not set)";
     ReceiverBuffersMissing "the receiver has no RX and TX";
     ReceiverRxFull "the receiver's RX is full";
     ReceiverRxSmall "the message with its header is longer than the receiver's RX";
     EndpointNotNormalWorld "the endpoint is not the normal world";
-    ContextCount "the count of execution contexts is not 1";
-    BitmapsExist "the normal world has bitmaps already";
-    BitmapsMissing "the endpoint has no bitmaps";
-    BitsPending "a bit of the normal world is pending";
+    ContextCount "the number of execution contexts is not 1";
+    BitmapsExist "the normal world already has notification bitmaps";
+    BitmapsMissing "the endpoint has no notification bitmaps";
+    BitsPending "a notification bit of the normal world is pending";
     SenderUnknown "no endpoint has the sender's identifier";
     SenderIsCaller "the sender is the caller";
-    BitsNone "no bit is named";
-    BitsTaken "another sender has one of the bits, or one is pending";
-    BitsNotTheSenders "one of the bits is not the sender's, or is pending";
-    BitsNotTheCallers "one of the bits is not the caller's";
-    ClassesUnknown "the flags ask for a class that is none of the four";
+    BitsNone "no bit is selected";
+    BitsTaken "one of the bits is bound to another sender, or is pending";
+    BitsNotTheSenders "one of the bits is not bound to the sender, or is pending";
+    BitsNotTheCallers "one of the bits is not bound to the caller";
+    ClassesUnknown "the flags select an unknown class of notifications";
     Fragmented "the fragment is not the whole descriptor";
     DescriptorTooLong "the descriptor is longer than TX";
-    BufferAddressGiven "the address of a buffer is given, and there is TX alone";
-    BufferPagesGiven "the pages of a buffer are counted, and there is TX alone";
-    DescriptorMalformed "the bytes in TX are no descriptor of this call";
-    RangeOutside "a range does not lie in RAM";
-    PageUnsendable "a page is not the caller's own, or is in an open transaction or a buffer";
-    GrantTooMuch "a grant is more than the owner's right to a page";
-    ZerosUnwritable "zeros are asked of a page that its owner may not write to";
-    TransactionsFull "the caller has as many open transactions as it may have";
+    BufferAddressGiven "a buffer address is given, but only TX is supported";
+    BufferPagesGiven "a page count of a buffer is given, but only TX is supported";
+    DescriptorMalformed "the bytes in TX are not a descriptor of this call";
+    RangeOutside "a range is not entirely in RAM";
+    PageUnsendable "a page does not belong to the caller, or is in an open transaction or a buffer";
+    GrantTooMuch "a grant exceeds the owner's right to a page";
+    ZerosUnwritable "zeroing is requested for a page that its owner may not write to";
+    TransactionsFull "the caller has reached its limit of open transactions";
     HandlesUsedUp "the caller has used up its handles";
     HandleUnknown "no open transaction has the handle";
-    NotReceiver "the caller is no receiver of the transaction";
-    TransactionSenderDiffers "the sender is not that of the transaction";
-    TagDiffers "the tag is not that of the transaction";
-    KindDiffers "the kind is not that of the transaction";
-    AlreadyRetrieved "the caller holds the transaction already";
-    RightTooMuch "the right that is asked for is more than the caller may get";
-    EndpointIsAnother "the endpoint of the descriptor is not the caller";
-    NotOffered "no open transaction with the handle has the caller among its receivers";
+    NotReceiver "the caller is not a receiver of the transaction";
+    TransactionSenderDiffers "the sender differs from the transaction's";
+    TagDiffers "the tag differs from the transaction's";
+    KindDiffers "the kind differs from the transaction's";
+    AlreadyRetrieved "the caller already holds the transaction";
+    RightTooMuch "the requested right exceeds the right that the caller may get";
+    EndpointIsAnother "the endpoint in the descriptor is not the caller";
+    NotOffered "no open transaction with the handle has the caller as a receiver";
     NotHeld "the caller does not hold the transaction";
-    ZerosNotAllowed "zeros are asked of memory that is not lent to the caller to write to";
-    NotTheSenders "no open transaction of the caller has the handle";
-    StillHeld "a receiver holds the transaction";
-    WorldsMixed "secure pages are sent to the normal world, or together with non-secure ones";
+    ZerosNotAllowed "zeroing is requested, but the caller does not hold a lend with write access";
+    NotTheSenders "no open transaction from the caller has the handle";
+    StillHeld "a receiver still holds the transaction";
+    WorldsMixed "secure pages are sent to the normal world, or together with non-secure pages";
 ];
 
 impl Refusal {
-    /// The error code that the call answers.
+    /// Returns the error code that a call answers if this check is the first that fails.
     pub fn code(self) -> ErrorCode
         ensures { result ≡ code_of self }
     {

@@ -49,10 +49,10 @@ unfolding end_text
 single_end flaw size end =
     let last = short_text (min end (2 ^ 64 - 1)) in
     let to = part_text flaw ++ last in
-    let of = to ++ codes " of " in
-    single_append (of ++ short_text size) (codes " bytes")
+    let of = to ++ codes ", but the descriptor has " in
+    single_append (of ++ short_text size) (codes " bytes)")
     (single_append of (short_text size)
-    (single_append to (codes " of ") (single_append (part_text flaw) last (single_part flaw) (single_short (min end (2 ^ 64 - 1)))) refl)
+    (single_append to (codes ", but the descriptor has ") (single_append (part_text flaw) last (single_part flaw) (single_short (min end (2 ^ 64 - 1)))) refl)
     (single_short size)) refl
 
 single_ends : (size : Option ℕ) (flaw : Flaw) (end : Option ℕ) → IsSingle (ends_text size flaw end)
@@ -90,7 +90,7 @@ single_uuid : (words : List ℕ) → IsSingle (uuid_text words)
 unfolding uuid_text
 single_uuid words =
     let at : ℕ → List ℕ = λ k. word_digits (slice_index words k) in
-    let one = codes ": w1 to w4 say " ++ at 0 in
+    let one = codes ": w1 to w4 hold " ++ at 0 in
     single_append (one ++ at 1 ++ at 2) (at 3)
     (single_append (one ++ at 1) (at 2) (single_append one (at 1) (single_digits (slice_index words 0)) (single_digits (slice_index words 1))) (single_digits (slice_index words 2)))
     (single_digits (slice_index words 3))

@@ -45,7 +45,7 @@ single_short n = single_hex (short_digits n) n
 single_span : (digits : ℕ) (joint : List ℕ) (a b : ℕ) → IsSingle joint → IsSingle (span_text digits joint a b)
 unfolding span_text
 single_span digits joint a b h =
-    single_append (codes ", and may be " ++ hex digits a) (joint ++ hex digits b) (single_hex digits a)
+    single_append (codes ", and must be " ++ hex digits a) (joint ++ hex digits b) (single_hex digits a)
     (single_append joint (hex digits b) h (single_hex digits b))
 
 single_one : (digits value : ℕ) → IsSingle (one_text digits value)
@@ -128,24 +128,24 @@ single_has endpoint right h =
 single_tag : (found wanted : ℕ) → IsSingle (tag_text found wanted)
 unfolding tag_text
 single_tag found wanted =
-    let tag = codes ", where the tag is " ++ hex 16 wanted in
-    let says = codes ", and the descriptor says " in
+    let tag = codes ", whose tag is " ++ hex 16 wanted in
+    let says = codes ", but the descriptor says " in
     single_append (tag ++ says) (hex 16 found) (single_append tag says (single_hex 16 wanted) refl) (single_hex 16 found)
 
 single_kinds : (found wanted : List ℕ) → IsSingle found → IsSingle wanted → IsSingle (kinds_text found wanted)
 unfolding kinds_text
 single_kinds found wanted f w =
-    single_append (codes ", where the kind is " ++ wanted) (codes ", and the descriptor says " ++ found) w f
+    single_append (codes ", whose kind is " ++ wanted) (codes ", but the descriptor says " ++ found) w f
 
 single_asked : (asked most : List ℕ) → IsSingle asked → IsSingle most → IsSingle (asked_text asked most)
 unfolding asked_text
 single_asked asked most a m =
-    let is_asked = codes " is asked for, and " ++ most in
-    single_append (codes ", where " ++ asked) (is_asked ++ codes " is the most") a (single_append is_asked (codes " is the most") m refl)
+    let is_asked = codes " is requested, and " ++ most in
+    single_append (codes ", where " ++ asked) (is_asked ++ codes " is the most allowed") a (single_append is_asked (codes " is the most allowed") m refl)
 
 single_room : (bytes : ℕ) → IsSingle (room_text bytes)
 unfolding room_text
-single_room bytes = single_append (codes ", where the buffer has " ++ address_text bytes) (codes " bytes") (single_address bytes) refl
+single_room bytes = single_append (codes ", and the buffer has " ++ address_text bytes) (codes " bytes") (single_address bytes) refl
 
 single_version : (version : Version) → IsSingle (version_text version)
 single_version Compact = refl
@@ -155,7 +155,7 @@ single_form : (caller : ℕ) (version : Version) → IsSingle (form_text caller 
 unfolding form_text
 single_form caller version =
     let size = told_access_size version in
-    let since = codes ", since " ++ hex 4 caller in
+    let since = codes ", because " ++ hex 4 caller in
     single_append (one_text 8 size ++ since) (version_text version) (single_append (one_text 8 size) since (single_one 8 size) (single_hex 4 caller)) (single_version version)
 
 single_bytes : (place : ℕ) → IsSingle (bytes_text place)
@@ -190,7 +190,7 @@ single_outside address = single_append (codes ": " ++ address_text address) (bey
 
 single_holder : (endpoint : ℕ) → IsSingle (holder_text endpoint)
 unfolding holder_text
-single_holder endpoint = single_append (codes ", where " ++ hex 4 endpoint) (codes " holds it") (single_hex 4 endpoint) refl
+single_holder endpoint = single_append (codes ", which " ++ hex 4 endpoint) (codes " holds") (single_hex 4 endpoint) refl
 
 single_work : (work : Work) → IsSingle (work_text work)
 single_work Run = refl

@@ -40,15 +40,15 @@ end_of (Header Short) place value = Some (place.first + place.size)
 end_of flaw place value = option_and_then (end_by flaw place) value
 
 abbrev pub part_text : Flaw → List ℕ
-part_text (Header Short) = codes ", where the header ends at "
-part_text (Header ArrayOutside) = codes ", where the access descriptors end at "
-part_text (Composite Outside) = codes ", where the composite ends at "
-part_text flaw = codes ", where the ranges end at "
+part_text (Header Short) = codes " (the header ends at "
+part_text (Header ArrayOutside) = codes " (the access descriptors end at "
+part_text (Composite Outside) = codes " (the composite ends at "
+part_text flaw = codes " (the ranges end at "
 
 -- in a descriptor of so many bytes; no number of 64 bits is greater than the last
 unfoldable pub end_text : Flaw → ℕ → ℕ → List ℕ
 end_text flaw size end =
-    part_text flaw ++ short_text (min end (2 ^ 64 - 1)) ++ codes " of " ++ short_text size ++ codes " bytes"
+    part_text flaw ++ short_text (min end (2 ^ 64 - 1)) ++ codes ", but the descriptor has " ++ short_text size ++ codes " bytes)"
 
 abbrev pub size_of : Call → Option ℕ
 size_of (calls.MemDonate transfer) = Some transfer.total
@@ -76,7 +76,7 @@ word_digits w =
 
 unfoldable pub uuid_text : List ℕ → List ℕ
 uuid_text words =
-    codes ": w1 to w4 say " ++ word_digits (slice_index words 0) ++ word_digits (slice_index words 1)
+    codes ": w1 to w4 hold " ++ word_digits (slice_index words 0) ++ word_digits (slice_index words 1)
     ++ word_digits (slice_index words 2) ++ word_digits (slice_index words 3)
 
 abbrev pub uuid_of : Call → Option (List ℕ)

@@ -42,12 +42,12 @@ unfoldable pub one_text : ℕ → ℕ → List ℕ
 one_text digits value = codes ", and must be " ++ hex digits value
 
 unfoldable pub span_text : ℕ → List ℕ → ℕ → ℕ → List ℕ
-span_text digits joint a b = (codes ", and may be " ++ hex digits a) ++ (joint ++ hex digits b)
+span_text digits joint a b = (codes ", and must be " ++ hex digits a) ++ (joint ++ hex digits b)
 
 -- why no buffer can begin at an address
 abbrev pub misplaced_text : ℕ → List ℕ
 misplaced_text address =
-    if address % 4096 == 0 then codes ", where the buffer does not lie in RAM" else codes ", which is not the address of a page"
+    if address % 4096 == 0 then codes ", and the buffer is not entirely in RAM" else codes ", which is not page-aligned"
 
 unfoldable pub steps_text : ℕ → Allowed → List ℕ
 steps_text digits its = span_text digits (codes " to ") its.least its.most ++ (codes " in steps of " ++ hex digits its.step)
@@ -69,8 +69,8 @@ wanted_text refusal value = []
 -- WHAT IS TO BE MENDED
 
 abbrev pub side_text : Side → List ℕ
-side_text Tx = codes " is TX of "
-side_text Rx = codes " is RX of "
+side_text Tx = codes " is in TX of "
+side_text Rx = codes " is in RX of "
 
 abbrev pub kind_text : Kind → List ℕ
 kind_text Share = codes "share"
@@ -78,18 +78,18 @@ kind_text Lend = codes "lend"
 kind_text Donate = codes "donate"
 
 abbrev pub cause_text : Cause → List ℕ
-cause_text BuffersMissing = codes ": it has none"
+cause_text BuffersMissing = codes ": it has no RX and TX"
 cause_text RxNotFull = codes ": its RX is not full"
 cause_text BitPending = codes ", which is pending"
-cause_text BitTaken = codes ", which another sender has"
+cause_text BitTaken = codes ", which is bound to another sender"
 cause_text BitUnbound = codes ", which is not bound to the sender"
 cause_text HandleUnknown = codes ", which no open transaction has"
-cause_text NotReceiver = codes ", which is open, and not offered to the caller"
+cause_text NotReceiver = codes ", which is open, but not offered to the caller"
 cause_text NotLent = codes ", which is not a lend"
-cause_text BitmapsUncreated = codes ": FFA_NOTIFICATION_BITMAP_CREATE makes them"
+cause_text BitmapsUncreated = codes ": FFA_NOTIFICATION_BITMAP_CREATE creates them"
 cause_text NotificationsUnreceived = codes ": bit 3 of its properties is not set"
-cause_text SecureToNormal = codes ", which is secure and goes to the normal world"
-cause_text PagesOfBothWorlds = codes ", which is secure, and another page is not"
+cause_text SecureToNormal = codes ", which is secure and is sent to the normal world"
+cause_text PagesOfBothWorlds = codes ", which is secure, but another page is not"
 
 unfoldable pub buffer_text : ℕ → Side → List ℕ
 buffer_text endpoint side = side_text side ++ hex 4 endpoint
@@ -98,25 +98,25 @@ unfoldable pub access_text : ℕ → List ℕ → List ℕ
 access_text endpoint right = codes ": " ++ hex 4 endpoint ++ codes " has " ++ right
 
 unfoldable pub tag_text : ℕ → ℕ → List ℕ
-tag_text found wanted = codes ", where the tag is " ++ hex 16 wanted ++ codes ", and the descriptor says " ++ hex 16 found
+tag_text found wanted = codes ", whose tag is " ++ hex 16 wanted ++ codes ", but the descriptor says " ++ hex 16 found
 
 unfoldable pub kinds_text : List ℕ → List ℕ → List ℕ
-kinds_text found wanted = (codes ", where the kind is " ++ wanted) ++ (codes ", and the descriptor says " ++ found)
+kinds_text found wanted = (codes ", whose kind is " ++ wanted) ++ (codes ", but the descriptor says " ++ found)
 
 unfoldable pub asked_text : List ℕ → List ℕ → List ℕ
-asked_text asked most = (codes ", where " ++ asked) ++ ((codes " is asked for, and " ++ most) ++ codes " is the most")
+asked_text asked most = (codes ", where " ++ asked) ++ ((codes " is requested, and " ++ most) ++ codes " is the most allowed")
 
 unfoldable pub room_text : ℕ → List ℕ
-room_text bytes = codes ", where the buffer has " ++ address_text bytes ++ codes " bytes"
+room_text bytes = codes ", and the buffer has " ++ address_text bytes ++ codes " bytes"
 
 -- what stands in a header where its form is told, in the caller's version
 abbrev pub version_text : Version → List ℕ
-version_text Compact = codes " is compact"
-version_text V1_1 = codes " has version 1.1"
+version_text Compact = codes " uses the compact form"
+version_text V1_1 = codes " uses version 1.1"
 
 unfoldable pub form_text : ℕ → Version → List ℕ
 form_text caller version =
-    one_text 8 (told_access_size version) ++ (codes ", since " ++ hex 4 caller) ++ version_text version
+    one_text 8 (told_access_size version) ++ (codes ", because " ++ hex 4 caller) ++ version_text version
 
 -- the four bytes of a word, and the number in them
 unfoldable pub bytes_text : ℕ → List ℕ
@@ -139,22 +139,22 @@ unfoldable pub outside_text : ℕ → List ℕ
 outside_text address = codes ": " ++ address_text address ++ beyond_text address
 
 unfoldable pub holder_text : ℕ → List ℕ
-holder_text endpoint = codes ", where " ++ hex 4 endpoint ++ codes " holds it"
+holder_text endpoint = codes ", which " ++ hex 4 endpoint ++ codes " holds"
 
 abbrev pub work_text : Work → List ℕ
-work_text Run = codes ": it runs by FFA_RUN"
-work_text (Request by) = codes ": it works on a direct request of " ++ hex 4 by.0
+work_text Run = codes ": it is processing an FFA_RUN"
+work_text (Request by) = codes ": it is processing a direct request from " ++ hex 4 by.0
 
 unfoldable pub pending_text : ℕ → List ℕ
 pending_text bit = codes ": bit " ++ short_text bit
 
 abbrev pub mend_text : Mend → List ℕ
 mend_text (mends.Buffer endpoint side) = buffer_text endpoint.0 side
-mend_text (mends.OwnRight right) = codes ", to which the owner's own right is " ++ rights_text (Some right)
-mend_text (mends.Granted right) = codes ", where rw- is granted, and the owner's own right is " ++ rights_text (Some right)
+mend_text (mends.OwnRight right) = codes ", and the owner's own right is " ++ rights_text (Some right)
+mend_text (mends.Granted right) = codes ", where rw- is granted, but the owner's own right is " ++ rights_text (Some right)
 mend_text (mends.Access endpoint right) = access_text endpoint.0 (rights_text (Some right))
-mend_text (mends.Caller endpoint) = codes ", where the caller is " ++ hex 4 endpoint.0
-mend_text (mends.Sender endpoint) = codes ", where the sender is " ++ hex 4 endpoint.0
+mend_text (mends.Caller endpoint) = codes ", and the caller is " ++ hex 4 endpoint.0
+mend_text (mends.Sender endpoint) = codes ", and the transaction's sender is " ++ hex 4 endpoint.0
 mend_text (mends.Tag found wanted) = tag_text found wanted
 mend_text (mends.Kind found wanted) = kinds_text (kind_text found) (kind_text wanted)
 mend_text (mends.Asked asked most) = asked_text (rights_text (Some asked)) (rights_text (Some most))

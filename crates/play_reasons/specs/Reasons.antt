@@ -77,7 +77,7 @@ right_text (Fetch address) = codes " may not be executed"
 abbrev pub fault_text : Op → FaultKind → Option Obstacle → List ℕ
 fault_text op Translation obstacle = obstacle_text obstacle
 fault_text op Permission obstacle = right_text op
-fault_text op Alignment obstacle = codes " is no multiple of " ++ hex 1 (bytes_moved op)
+fault_text op Alignment obstacle = codes " is not a multiple of " ++ hex 1 (bytes_moved op)
 fault_text op AccessFlag obstacle = codes " has no access flag"
 fault_text op OutsideRam obstacle = codes " leads out of RAM"
 

@@ -1,6 +1,6 @@
 // SPDX-License-Identifier: MIT OR Apache-2.0
-//! What stands in the line of a reason of an operation's registers behind what the check is about: where that ends which does not
-//! lie in the descriptor, which UUID is named, and which call has no 64-bit form.
+//! The end of the line of a reason: where a part of a descriptor ends that is not inside it, which UUID no partition has, or which
+//! call has no 64-bit form.
 ghost use Rattle.std.specs.Prelude.{◌≡◌, ◌-◌, ◌<◌, ◌^◌, [], min, option_map};
 ghost use Rattle.std.specs.Option.{option_map_or};
 ghost use Rattle.ffa_mend.specs.Mend.{call_of};
@@ -13,7 +13,7 @@ use ffa_model::function::WIDE;
 use ffa_model::{About, Call, CompositeFlaw, FieldPlace, Flaw, HeaderFlaw, Op, Refusal};
 use std::alloc::Allocator;
 
-/// Puts what the registers of an operation tell of the check that fails.
+/// Puts what the registers of an operation say about the check that fails: the end of a part of a descriptor, a UUID, or a call.
 pub(crate) fn put_closer<A: Allocator>(
     text: &mut Draft<A>,
     op: Op,
@@ -32,7 +32,7 @@ pub(crate) fn put_closer<A: Allocator>(
     }
 }
 
-// Puts where that ends which does not lie in the descriptor.
+// Puts where a part of the descriptor ends that is not inside it.
 fn put_ends<A: Allocator>(text: &mut Draft<A>, size: Option<u64>, flaw: Flaw, end: Option<u128>)
     ensures { Puts text.old text.new (ends_text size flaw end) }
 {
@@ -49,12 +49,12 @@ fn put_end<A: Allocator>(text: &mut Draft<A>, flaw: Flaw, size: u64, end: u128)
 {
     text.put(part(flaw));
     text.put_short(capped(end));
-    text.put(" of ");
+    text.put(", but the descriptor has ");
     text.put_short(size);
-    text.put(" bytes");
+    text.put(" bytes)");
 }
 
-// A number, or the last one of 64 bits.
+// Returns a number, or the greatest one of 64 bits if the number is greater.
 fn capped(number: u128) -> u64
     ensures { result ≡ min number (2 ^ 64 - 1) }
 {
@@ -65,19 +65,19 @@ fn capped(number: u128) -> u64
     }
 }
 
-// What does not lie in the descriptor.
+// The part of the descriptor that is not inside it.
 fn part(flaw: Flaw) -> &'static str
     ensures { result.now ≡ part_text flaw }
 {
     match flaw {
-        Flaw::Header(HeaderFlaw::Short) => ", where the header ends at ",
-        Flaw::Header(HeaderFlaw::ArrayOutside) => ", where the access descriptors end at ",
-        Flaw::Composite(CompositeFlaw::Outside) => ", where the composite ends at ",
-        _ => ", where the ranges end at ",
+        Flaw::Header(HeaderFlaw::Short) => " (the header ends at ",
+        Flaw::Header(HeaderFlaw::ArrayOutside) => " (the access descriptors end at ",
+        Flaw::Composite(CompositeFlaw::Outside) => " (the composite ends at ",
+        _ => " (the ranges end at ",
     }
 }
 
-// Where that ends, as far as a field and the number in it tell it.
+// The end of the part, if the field and its number determine it.
 fn end_of(flaw: Flaw, place: FieldPlace, value: Option<u64>) -> Option<u128>
     ensures { result ≡ end_of flaw place value }
 {
@@ -100,7 +100,7 @@ fn end_by(flaw: Flaw, place: FieldPlace, value: u64) -> Option<u128>
     }
 }
 
-// Where the access descriptors end, by a field of so many bytes.
+// The end of the access descriptors, from a field of this size.
 fn array_end(size: u64, value: u64) -> u128
     ensures { result ≡ array_end_by size value }
 {
@@ -111,7 +111,7 @@ fn array_end(size: u64, value: u64) -> u128
     }
 }
 
-// How many bytes the descriptor of a call has.
+// The size of the descriptor of a call, in bytes.
 fn size_of(call: Call) -> Option<u64>
     ensures { result ≡ size_of call }
 {
@@ -124,7 +124,7 @@ fn size_of(call: Call) -> Option<u64>
     }
 }
 
-// Puts which call has no 64-bit form, where a function would be that.
+// Puts the call that has no 64-bit form, if the function would be that form.
 fn put_form<A: Allocator>(text: &mut Draft<A>, narrow: Option<u32>)
     ensures { Puts text.old text.new (form_text narrow) }
 {
@@ -161,7 +161,7 @@ fn name_of_call(function: u32) -> Option<&'static str>
     }
 }
 
-// Of which function an unknown one would be the 64-bit form.
+// The function of which an unknown one would be the 64-bit form.
 fn unknown_form(refusal: Refusal, function: u64) -> Option<u32>
     ensures { result ≡ unknown_form refusal function }
 {
@@ -200,7 +200,7 @@ fn uuid_of(call: Call) -> Option<[u32; 4]>
     }
 }
 
-// Puts a UUID, where there is one.
+// Puts a UUID, if there is one.
 fn put_named_uuid<A: Allocator>(text: &mut Draft<A>, uuid: Option<[u32; 4]>)
     ensures { Puts text.old text.new (option_map_or uuid_text uuid []) }
 {
@@ -213,14 +213,14 @@ fn put_named_uuid<A: Allocator>(text: &mut Draft<A>, uuid: Option<[u32; 4]>)
 fn put_uuid<A: Allocator>(text: &mut Draft<A>, uuid: [u32; 4])
     ensures { Puts text.old text.new (uuid_text uuid) }
 {
-    text.put(": w1 to w4 say ");
+    text.put(": w1 to w4 hold ");
     put_word(text, uuid[0]);
     put_word(text, uuid[1]);
     put_word(text, uuid[2]);
     put_word(text, uuid[3]);
 }
 
-// Puts the digits of the bytes of a word, the lowest first.
+// Puts the digits of the bytes of a word, the lowest byte first.
 #[tactic(auto, unfolding(crate::specs::Closer::word_digits))]
 fn put_word<A: Allocator>(text: &mut Draft<A>, word: u32)
     ensures { Puts text.old text.new (word_digits word) }

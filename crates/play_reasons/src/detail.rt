@@ -1,6 +1,5 @@
 // SPDX-License-Identifier: MIT OR Apache-2.0
-//! What stands in the line of a reason behind what the check is about: what is to be mended, how that stands, or which values may
-//! be there.
+//! The detail at the end of the line of a reason: a hint how to correct the operation, a run state, or the values that are allowed.
 ghost use Rattle.std.specs.Prelude.{◌≡◌, ◌≤◌};
 ghost use Rattle.play_reasons.specs.Details.{awaited_text, detail_text, detailed_text, run_state_text, standing_text, status_text};
 ghost use Rattle.play_reasons.specs.Drafts.{Puts};
@@ -11,7 +10,7 @@ use ffa_model::{EndpointId, Status};
 use ffa_playable::{Detail, Standing};
 use std::alloc::Allocator;
 
-/// Puts what is to be mended, how things stand, or which values may be there, each in so many digits, where that is known.
+/// Puts the detail of a reason, if it has one: a hint, a run state, or the allowed values, each with this number of digits.
 pub(crate) fn put_detailed<A: Allocator>(text: &mut Draft<A>, digits: u32, detail: Option<Detail>)
     requires { digits ≤ 16 }
     ensures { Puts text.old text.new (detailed_text digits detail) }
@@ -48,7 +47,7 @@ fn put_run_state<A: Allocator>(text: &mut Draft<A>, status: Status, awaits: Opti
     put_awaited(text, awaits);
 }
 
-// Puts whose answer an endpoint awaits.
+// Puts the endpoint whose response a blocked endpoint awaits.
 fn put_awaited<A: Allocator>(text: &mut Draft<A>, awaits: Option<EndpointId>)
     ensures { Puts text.old text.new (awaited_text awaits) }
 {

@@ -1,5 +1,5 @@
 // SPDX-License-Identifier: MIT OR Apache-2.0
-//! Numbers in the line of a reason. All are hexadecimal.
+//! The hexadecimal numbers in the line of a reason.
 ghost use Rattle.std.specs.Prelude.{◌≡◌, ◌++◌, ◌≤◌};
 ghost use Rattle.play_syntax.specs.TraceText.{hex};
 ghost use Rattle.play_reasons.specs.Drafts.{Puts};
@@ -10,7 +10,7 @@ use play_syntax::text::{self, Text};
 use std::alloc::Allocator;
 
 impl<A: Allocator> Draft<A> {
-    /// Puts the lowest hexadecimal digits of a number.
+    /// Puts this number of hexadecimal digits of a value, the lowest ones.
     pub(crate) fn put_digits(&mut self, digits: u32, value: u64)
         requires { digits ≤ 16 }
         ensures { Puts self.old self.new (hex digits value) }
@@ -20,7 +20,7 @@ impl<A: Allocator> Draft<A> {
         self.put_bytes(word.as_slice());
     }
 
-    /// Puts them behind a word.
+    /// Puts a word, and then this number of hexadecimal digits of a value, the lowest ones.
     pub(crate) fn put_behind(&mut self, word: &str, digits: u32, value: u64)
         requires { digits ≤ 16 }
         ensures { Puts self.old self.new (word.now ++ hex digits value) }
@@ -29,14 +29,14 @@ impl<A: Allocator> Draft<A> {
         self.put_digits(digits, value);
     }
 
-    /// Puts an address, a register or a count of bytes, in 16 digits where 8 are too few.
+    /// Puts an address, a register or a number of bytes: in 8 digits, or in 16 if 8 are too few.
     pub(crate) fn put_address(&mut self, value: u64)
         ensures { Puts self.old self.new (address_text value) }
     {
         self.put_digits(address_digits(value), value);
     }
 
-    /// Puts a bit, an index or a place in a descriptor, in two digits where they are enough.
+    /// Puts a bit, an index or an offset in a descriptor: in 2 digits, in 4, or as an address, whichever is enough.
     pub(crate) fn put_short(&mut self, value: u64)
         ensures { Puts self.old self.new (short_text value) }
     {

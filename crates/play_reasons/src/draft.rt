@@ -1,5 +1,5 @@
 // SPDX-License-Identifier: MIT OR Apache-2.0
-//! A text that is being made, and remembers where there was no memory for it.
+//! A text that grows piece by piece, and that remembers whether memory was short.
 ghost use Rattle.std.specs.Prelude.{◌≡◌, ℕ, List, [], Option, None, Some, IfErr, IfOk, IfSome, if◌then◌else◌};
 ghost use Rattle.play_reasons.specs.Drafts.{Puts};
 
@@ -10,8 +10,8 @@ use std::io::Write;
 use std::marker::Model;
 use std::mem;
 
-/// A text that is being made. Where there is no memory for what is put behind it, it is short, and stays so: that is asked
-/// once, at the end. In clauses it is the text, or `None` where it is short.
+/// A text that grows piece by piece. If there is no memory for a piece, the text is short until it is cleared. Only `bytes` and
+/// `end` report that. In clauses a draft is its text, or `None` if it is short.
 #[derive(Drop)]
 pub struct Draft<A: Allocator> {
     text: Vec<u8, A>,
@@ -25,7 +25,7 @@ impl<A: Allocator> Model for Draft<A> {
 }
 
 impl<A: Allocator> Draft<A> {
-    /// Goes on behind a text.
+    /// Returns a draft that continues this text.
     pub fn of(text: Vec<u8, A>) -> Draft<A>
         ensures { result ≡ Some text.items }
     {
@@ -35,14 +35,14 @@ impl<A: Allocator> Draft<A> {
         }
     }
 
-    /// No text yet.
+    /// Returns an empty draft that takes its memory from this allocator.
     pub fn new(alloc: A) -> Draft<A>
         ensures { result ≡ Some [] }
     {
         Draft::of(Vec::new(alloc))
     }
 
-    /// Begins anew, in the same room.
+    /// Removes the text, and keeps its memory for the next one. The draft is then not short.
     pub fn clear(&mut self)
         ensures { self.new ≡ Some [] }
     {
@@ -50,7 +50,7 @@ impl<A: Allocator> Draft<A> {
         self.is_short = false;
     }
 
-    /// Puts bytes behind the text.
+    /// Appends bytes to the text.
     pub fn put_bytes(&mut self, bytes: &[u8])
         ensures { Puts self.old self.new bytes.now }
     {
@@ -59,14 +59,14 @@ impl<A: Allocator> Draft<A> {
         }
     }
 
-    /// Puts a word behind the text.
+    /// Appends a word to the text.
     pub fn put(&mut self, word: &str)
         ensures { Puts self.old self.new word.now }
     {
         self.put_bytes(word.as_bytes());
     }
 
-    /// Puts behind the text what a value prints.
+    /// Appends what a value prints to the text.
     pub fn put_shown<T: Display>(&mut self, value: &T)
         ensures { IfSome (T.output value.now) (λ words. Puts self.old self.new words) }
     {
@@ -75,7 +75,7 @@ impl<A: Allocator> Draft<A> {
         }
     }
 
-    /// The bytes of the text.
+    /// Returns the bytes of the text, or `NoMemory` if it is short.
     pub fn bytes(&self) -> Result<&[u8], PlayError>
         ensures whole { IfOk result (λ bytes. self.now ≡ Some bytes.now) }
         ensures short { IfErr result (λ e. (e ≡ PlayError.NoMemory) × (self.now ≡ None)) }
@@ -87,7 +87,7 @@ impl<A: Allocator> Draft<A> {
         }
     }
 
-    /// The text.
+    /// Returns the text, or `NoMemory` if it is short.
     pub fn end(self) -> Result<Vec<u8, A>, PlayError>
         ensures whole { IfOk result (λ text. self ≡ Some text.items) }
         ensures short { IfErr result (λ e. (e ≡ PlayError.NoMemory) × (self ≡ None)) }
@@ -101,7 +101,7 @@ impl<A: Allocator> Draft<A> {
 }
 
 impl<A: Allocator + Copy> Draft<A> {
-    /// No text yet, in the room of another, which is empty then.
+    /// Returns an empty draft that takes the memory of another text. That text is then empty.
     pub fn over(text: &mut Vec<u8, A>) -> Draft<A>
         ensures { result ≡ Some [] }
     {

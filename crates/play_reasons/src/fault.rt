@@ -1,64 +1,63 @@
 // SPDX-License-Identifier: MIT OR Apache-2.0
-//! Why the bytes of a line are none of the format.
+//! Why the bytes of a line are not a line of a trace.
 ghost use Rattle.std.specs.Prelude.{IsNone, ◌↔◌};
 ghost use Rattle.play_reasons.specs.Whole.{IsWhole};
 
 use play_syntax::{Line, line};
 use std::fmt;
 
-/// What is wrong first with a line of a trace. It prints as one line.
+/// The first thing that is wrong with a line of a trace. It prints as one line.
 #[derive(Clone, Copy, Debug, PartialEq, Eq)]
 pub enum LineFault {
-    /// No LF ends the line.
+    /// The line does not end in LF.
     NoEnd,
-    /// A CR stands before the LF.
+    /// The line ends in CR LF.
     CarriageReturn,
-    /// The words at this column are wrong, where the first byte of the line has column 1. A word that is missing would
-    /// stand behind the line's last byte.
+    /// The words are wrong at this column. The first byte of the line has column 1. If a word is missing, the column is the one
+    /// after the line's last byte.
     Words { column: usize, cause: WordFault },
     /// The line is wrong as a whole.
     Whole,
 }
 
-/// What is wrong with the words of a line.
+/// The cause for which the words of a line are wrong.
 #[derive(Clone, Copy, Debug, PartialEq, Eq)]
 pub enum WordFault {
-    /// Two spaces follow one another, or a space begins or ends the line.
+    /// A word is empty: the line has two spaces in a row, or a space at its start or end.
     Empty,
-    /// The first word is no command.
+    /// The first word is not a command.
     UnknownCommand,
-    /// The first word asks for help, in a trace of one processor.
+    /// The first word is `help`, in a trace of one processor.
     Help,
-    /// The first word asks for help, in a trace of several.
+    /// The first word is `help`, in a trace of several processors.
     HelpOnSeveral,
-    /// The first word asks that the play end.
+    /// The first word is `quit` or `exit`.
     Quit,
-    /// The first register of a call is the name of one, which stands in a trace in words.
+    /// The first register of a call is a word that begins with `FFA_`, as in a trace with named arguments.
     Name,
-    /// A number is wanted, and a byte of the word is no hexadecimal digit.
+    /// The word must be a number, and a byte of it is not a hexadecimal digit.
     NoNumber,
-    /// A number is wanted, and the word has `0x` in front of its digits, as it may have in a trace in words. Nothing else is wrong
-    /// with the line.
+    /// A number begins with `0x`, as it may only in a trace with named arguments. Nothing else is wrong with the line.
     Prefix,
-    /// The number has so many digits, which are more than 16.
+    /// The number has this number of digits, which is more than 16.
     LongNumber(usize),
-    /// The bytes to load are none of 1, 2, 4 and 8.
+    /// The number of bytes to load is not 1, 2, 4 or 8.
     Size,
-    /// So many digits write the value to store, which are none of 2, 4, 8 and 16.
+    /// The value to store has this number of digits, which is not 2, 4, 8 or 16.
     Digits(usize),
-    /// A call has so many registers, which are none of 1 to 8.
+    /// The call has this number of registers, which is 0 or more than 8.
     Registers(usize),
-    /// The number is of no processor, of which there are so many, from 0 on.
+    /// The number is not less than this number of processors.
     Processor(usize),
-    /// The command wants a word more.
+    /// The command needs one more word.
     Missing,
-    /// The command wants no such word.
+    /// The command takes no word here.
     TooMany,
 }
 
-/// Says what is wrong first with a line as it stands in a trace of so many processors, or of one alone, with the LF that
-/// ends it where there is one. Words are read from the left, and that some are missing, or are too many registers, comes
-/// behind what is wrong with one of them, and last that `0x` stands before a number.
+/// Returns the first thing that is wrong with a line of a trace, or `None` if nothing is wrong. `bytes` includes the LF that ends the
+/// line, if it has one. `processors` is the number of processors of the trace, or `None` if the trace cannot name processors. A wrong
+/// word comes first, from the left. Then come missing words or too many registers, and last a number that begins with `0x`.
 pub fn line_fault(processors: Option<usize>, bytes: &[u8]) -> Option<LineFault>
     ensures { IsNone result ↔ IsWhole processors bytes.now }
 {
@@ -80,11 +79,11 @@ enum Command {
     Fetch,
     // `show` or `audit`, or `interrupt` in a trace of several processors.
     Bare,
-    // `on`, in a trace of so many processors.
+    // `on`, in a trace of this number of processors.
     On(usize),
 }
 
-// What is wrong with the words of a line that isn't taken.
+// What is wrong with the words of a line that is not accepted.
 fn words_fault(processors: Option<usize>, line: &[u8]) -> LineFault {
     let mut words = line.split(|b| *b == b' ');
     let name = words.next().unwrap_or(line);
@@ -129,7 +128,7 @@ fn command_named(processors: Option<usize>, name: &[u8]) -> Option<Command> {
     }
 }
 
-// A command of a trace of so many processors, that one of one processor doesn't have.
+// A command that only a trace of several processors has.
 fn act_named(count: usize, name: &[u8]) -> Option<Command> {
     match name {
         b"on" => Some(Command::On(count)),
@@ -148,7 +147,7 @@ fn name_fault(processors: Option<usize>, name: &[u8]) -> WordFault {
     }
 }
 
-// What is wrong with the word at this place behind a command, where the first has place 1.
+// What is wrong with the word at this place after a command. The first has place 1.
 fn word_fault(command: Command, place: usize, word: &[u8]) -> Option<WordFault> {
     if word.is_empty() {
         return Some(WordFault::Empty);
@@ -166,7 +165,7 @@ fn word_fault(command: Command, place: usize, word: &[u8]) -> Option<WordFault> 
     }
 }
 
-// Whether `0x` stands in front of a word, and something behind that.
+// Whether a word begins with `0x` and goes on.
 fn has_prefix(word: &[u8]) -> bool {
     without_prefix(word).len() < word.len()
 }
@@ -205,7 +204,7 @@ fn value_fault(word: &[u8]) -> Option<WordFault> {
     }
 }
 
-// What is wrong with the number of one of so many processors.
+// What is wrong with the number of a processor, of which there are this many.
 fn processor_fault(count: usize, word: &[u8]) -> Option<WordFault> {
     match line::processor(word) {
         Some(processor) if processor < count as u64 => None,
@@ -214,8 +213,8 @@ fn processor_fault(count: usize, word: &[u8]) -> Option<WordFault> {
     }
 }
 
-// What is wrong with how many words a line of so many bytes has behind the command, of which each is as it should be. The ninth
-// stands at this column.
+// What is wrong with the number of words after the command, each of which is right. The line has this number of bytes, and the ninth
+// word is at this column.
 fn count_fault(command: Command, count: usize, ninth: usize, bytes: usize) -> Option<LineFault> {
     let end = usize::saturating_add(bytes, 1);
     let (column, cause) = match (command, count) {
@@ -237,10 +236,10 @@ impl fmt::Display for LineFault {
 
     fn fmt<W: fmt::Write>(&self, f: &mut fmt::Formatter<W>) -> fmt::Result {
         match self {
-            LineFault::NoEnd => write!(f, "no line end"),
-            LineFault::CarriageReturn => write!(f, "a CR before the line's end"),
+            LineFault::NoEnd => write!(f, "the line does not end in LF"),
+            LineFault::CarriageReturn => write!(f, "the line ends in CR LF; it must end in LF"),
             LineFault::Words { column, cause } => write!(f, "column {column}: {cause}"),
-            LineFault::Whole => write!(f, "no line of a trace"),
+            LineFault::Whole => write!(f, "not a line of a trace"),
         }
     }
 }
@@ -253,8 +252,8 @@ impl fmt::Display for WordFault {
 
     fn fmt<W: fmt::Write>(&self, f: &mut fmt::Formatter<W>) -> fmt::Result {
         match self {
-            WordFault::Empty => write!(f, "an empty word"),
-            WordFault::UnknownCommand => write!(f, "an unknown command"),
+            WordFault::Empty => write!(f, "empty word"),
+            WordFault::UnknownCommand => write!(f, "unknown command"),
             WordFault::Help => write!(
                 f,
                 "a line is call X0 .. X7, load A N, store A V, fetch A, show or audit, in hexadecimal; with --words also call NAME ARGUMENT=N .., as call FFA_RUN partition=8001, whose names docs/PYTHON.md lists; quit ends a session"
@@ -263,31 +262,31 @@ impl fmt::Display for WordFault {
                 f,
                 "a line is call X0 .. X7, load A N, store A V, fetch A, show, audit, on N or interrupt, in hexadecimal; with --words also call NAME ARGUMENT=N .., as call FFA_RUN partition=8001, whose names docs/PYTHON.md lists; quit ends a session"
             ),
-            WordFault::Quit => write!(f, "the end of the input ends a session, as Ctrl+D does"),
-            WordFault::Name => write!(f, "the name of a call, which is read with --words"),
-            WordFault::NoNumber => write!(f, "no hexadecimal number"),
-            WordFault::Prefix => write!(f, "a number is written without 0x"),
+            WordFault::Quit => write!(f, "to end a session, end the input, as Ctrl+D does"),
+            WordFault::Name => write!(f, "the name of a call is read only with --words"),
+            WordFault::NoNumber => write!(f, "not a hexadecimal number"),
+            WordFault::Prefix => write!(f, "a number must not begin with 0x"),
             WordFault::LongNumber(digits) => {
-                write!(f, "a number of {digits} digits, where 16 are the most")
+                write!(f, "the number has {digits} digits; it must have at most 16")
             }
-            WordFault::Size => write!(f, "a size that is none of 1, 2, 4 and 8"),
+            WordFault::Size => write!(f, "the size must be 1, 2, 4 or 8"),
             WordFault::Digits(1) => {
-                write!(f, "a value of 1 digit, which is none of 2, 4, 8 and 16")
+                write!(f, "the value has 1 digit; it must have 2, 4, 8 or 16")
             }
             WordFault::Digits(digits) => {
                 write!(
                     f,
-                    "a value of {digits} digits, which are none of 2, 4, 8 and 16"
+                    "the value has {digits} digits; it must have 2, 4, 8 or 16"
                 )
             }
             WordFault::Registers(count) => {
-                write!(f, "{count} registers, where a call has 1 to 8")
+                write!(f, "a call needs 1 to 8 registers, found {count}")
             }
             WordFault::Processor(count) => {
-                write!(f, "no processor of {count}, which count from 0")
+                write!(f, "the processor's number must be less than {count}")
             }
-            WordFault::Missing => write!(f, "a word is missing"),
-            WordFault::TooMany => write!(f, "a word too many"),
+            WordFault::Missing => write!(f, "missing word"),
+            WordFault::TooMany => write!(f, "unexpected word"),
         }
     }
 }

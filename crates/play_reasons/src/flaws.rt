@@ -1,5 +1,5 @@
 // SPDX-License-Identifier: MIT OR Apache-2.0
-//! The words of each condition of a descriptor.
+//! The words for each condition of a descriptor.
 ghost use Rattle.std.specs.Prelude.{◌≡◌};
 ghost use Rattle.ffa_model.specs.declared.flaw.Flaw.TheVariants.{Header, Send, Access, Composite, Range, Retrieve, Relinquish};
 ghost use Rattle.play_reasons.specs.FlawWords.{flaw_words_of};
@@ -15,11 +15,11 @@ const HEADER: &[(HeaderFlaw, &str)] = &[
     ),
     (
         HeaderFlaw::AccessSize,
-        "the size of an access descriptor is not told as 16, or as 0 in the compact form",
+        "the access descriptor size field is not 16, or not 0 in the compact form",
     ),
     (
         HeaderFlaw::ArrayUnaligned,
-        "the access descriptors do not begin at a multiple of 16",
+        "the offset of the access descriptors is not a multiple of 16",
     ),
     (
         HeaderFlaw::ArrayInHeader,
@@ -27,103 +27,112 @@ const HEADER: &[(HeaderFlaw, &str)] = &[
     ),
     (
         HeaderFlaw::ArrayOutside,
-        "the access descriptors do not end inside the descriptor",
+        "the access descriptors end outside the descriptor",
     ),
     (
         HeaderFlaw::Reserved,
-        "reserved bytes at the header's end are not 0",
+        "reserved bytes at the end of the header are not 0",
     ),
 ];
 
 const SEND: &[(SendFlaw, &str)] = &[
     (
         SendFlaw::Attributes,
-        "the memory attributes are not those of this call to so many receivers",
+        "the memory attributes are wrong for this call and this number of receivers",
     ),
     (
         SendFlaw::Flags,
-        "a flag is set that this call does not have",
+        "a flag is set that this call does not allow",
     ),
     (SendFlaw::Handle, "the handle is not 0"),
     (SendFlaw::NoReceiver, "there is no receiver"),
     (
         SendFlaw::ManyReceivers,
-        "there are more receivers than this call may have",
+        "there are more receivers than this call allows",
     ),
 ];
 
-// Behind the index of the access descriptor.
+// After the index of the access descriptor.
 const ACCESS: &[(AccessFlaw, &str)] = &[
     (
         AccessFlaw::Permissions,
-        "the permissions are none that this call may grant",
+        "this call does not allow these permissions",
     ),
-    (AccessFlaw::Flags, "the flags are not 0"),
+    (
+        AccessFlaw::Flags,
+        "the flags of the access descriptor are not 0",
+    ),
     (
         AccessFlaw::OtherComposite,
-        "it tells another composite than the first one does",
+        "the access descriptor refers to a different composite than the first one",
     ),
-    (AccessFlaw::Reserved, "its reserved bytes are not 0"),
-    (AccessFlaw::ReceiverIsSender, "it names the sender"),
+    (
+        AccessFlaw::Reserved,
+        "reserved bytes of the access descriptor are not 0",
+    ),
+    (
+        AccessFlaw::ReceiverIsSender,
+        "the access descriptor names the sender",
+    ),
     (
         AccessFlaw::ReceiverTwice,
-        "it names a receiver that an earlier one names",
+        "the access descriptor names the same receiver as an earlier one",
     ),
 ];
 
 const COMPOSITE: &[(CompositeFlaw, &str)] = &[
     (
         CompositeFlaw::Outside,
-        "the composite without its ranges does not end inside the descriptor",
+        "the composite ends outside the descriptor, even without its ranges",
     ),
     (
         CompositeFlaw::Unaligned,
-        "the composite does not begin at a multiple of 16",
+        "the offset of the composite is not a multiple of 16",
     ),
     (
         CompositeFlaw::InArray,
         "the composite begins before the access descriptors end",
     ),
-    (CompositeFlaw::NoRange, "the composite has no range"),
+    (CompositeFlaw::NoRange, "the composite has no ranges"),
     (
         CompositeFlaw::ManyRanges,
         "the composite has more ranges than a transaction may have",
     ),
     (
         CompositeFlaw::Reserved,
-        "the composite's reserved bytes are not 0",
+        "reserved bytes of the composite are not 0",
     ),
     (
         CompositeFlaw::RangesOutside,
-        "the ranges do not end inside the descriptor",
+        "the ranges end outside the descriptor",
     ),
     (
         CompositeFlaw::Total,
-        "the composite's count of pages is not the sum of its ranges'",
+        "the page count of the composite is not the sum of the page counts of its ranges",
     ),
 ];
 
-// Behind the index of the range.
+// After the index of the range.
 const RANGE: &[(RangeFlaw, &str)] = &[
-    (RangeFlaw::Empty, "it has no page"),
-    (RangeFlaw::Unaligned, "it begins inside a page"),
-    (RangeFlaw::TooHigh, "it ends above 2^48"),
-    (RangeFlaw::Reserved, "its reserved bytes are not 0"),
-    (RangeFlaw::Overlap, "it has a page of an earlier one"),
+    (RangeFlaw::Empty, "the range has no pages"),
+    (RangeFlaw::Unaligned, "the range is not page-aligned"),
+    (RangeFlaw::TooHigh, "the range ends above 2^48"),
+    (RangeFlaw::Reserved, "reserved bytes of the range are not 0"),
+    (RangeFlaw::Overlap, "the range overlaps an earlier range"),
 ];
 
 const RETRIEVE: &[(RetrieveFlaw, &str)] = &[
     (
         RetrieveFlaw::Attributes,
-        "the memory attributes are neither 0 nor those of normal memory",
+        "the memory attributes are neither 0 nor normal memory",
     ),
     (
         RetrieveFlaw::Flags,
-        "a flag is set beside the transaction type",
+        "a flag other than the transaction type is set",
     ),
     (
         RetrieveFlaw::AccessCount,
-        "the count of access descriptors is not 1",
+        "the number of access descriptors is not 1",
     ),
     (
         RetrieveFlaw::ReceiverIsAnother,
@@ -131,11 +140,11 @@ const RETRIEVE: &[(RetrieveFlaw, &str)] = &[
     ),
     (
         RetrieveFlaw::DataPermission,
-        "the data permission is reserved",
+        "the data permission has a reserved value",
     ),
     (
         RetrieveFlaw::InstructionPermission,
-        "the instruction permission is reserved",
+        "the instruction permission has a reserved value",
     ),
     (
         RetrieveFlaw::PermissionsReserved,
@@ -145,7 +154,7 @@ const RETRIEVE: &[(RetrieveFlaw, &str)] = &[
         RetrieveFlaw::AccessFlags,
         "the flags of the access descriptor are not 0",
     ),
-    (RetrieveFlaw::CompositeTold, "a composite is told"),
+    (RetrieveFlaw::CompositeTold, "a composite is given"),
     (
         RetrieveFlaw::AccessReserved,
         "reserved bytes of the access descriptor are not 0",
@@ -160,7 +169,7 @@ const RELINQUISH: &[(RelinquishFlaw, &str)] = &[
     (RelinquishFlaw::Flags, "a flag other than bit 0 is set"),
     (
         RelinquishFlaw::EndpointCount,
-        "the count of endpoints is not 1",
+        "the number of endpoints is not 1",
     ),
 ];
 
@@ -207,8 +216,8 @@ fn relinquish_words(flaw: RelinquishFlaw) -> &'static str
     RELINQUISH[flaw as usize].1
 }
 
-/// What is wrong with the bytes that break a condition of a descriptor, in words. Of an access descriptor and of a
-/// range they go on from its index, which stands in front of them.
+/// Returns the words for a condition that the bytes of a descriptor break. The index of an access descriptor or of a range is not in
+/// them: the caller puts it in front.
 pub fn flaw_words(flaw: Flaw) -> &'static str
     ensures { result.now ≡ flaw_words_of flaw }
 {

@@ -1,5 +1,5 @@
 // SPDX-License-Identifier: MIT OR Apache-2.0
-//! What is put into the text of a line beside its own words: the line's number, and the names of what registers hold.
+//! The additions of `--number` and `--names` to the text of a line: its number, and the names of what registers hold.
 ghost use Rattle.std.specs.Prelude.{[]};
 ghost use Rattle.std.specs.Option.{option_map_or};
 ghost use Rattle.ffa_abi.specs.Names.{error_name_of};
@@ -11,7 +11,7 @@ use crate::draft::Draft;
 use ffa_abi::{call_name, error_name};
 use std::alloc::Allocator;
 
-/// Puts the number of a line, with which its text begins.
+/// Puts the number of a line, a colon and a space.
 pub fn put_number<A: Allocator>(text: &mut Draft<A>, number: u64)
     ensures { Puts text.old text.new (number_mark number) }
 {
@@ -19,7 +19,7 @@ pub fn put_number<A: Allocator>(text: &mut Draft<A>, number: u64)
     text.put(": ");
 }
 
-/// Puts the name of the call that registers are, and of their error, where they are one.
+/// Puts ` # ` and the name of the call that registers hold, then the name of their error. Puts nothing if the call has no name.
 pub fn put_names<A: Allocator>(text: &mut Draft<A>, x: &[u64; 8])
     ensures { Puts text.old text.new (names_mark x.now) }
 {
@@ -30,7 +30,7 @@ pub fn put_names<A: Allocator>(text: &mut Draft<A>, x: &[u64; 8])
     }
 }
 
-/// Puts a space and the name of the error that registers are, where they are one.
+/// Puts a space and the name of the error that registers hold. Puts nothing if they hold no error.
 pub fn put_error<A: Allocator>(text: &mut Draft<A>, x: &[u64; 8])
     ensures { Puts text.old text.new (option_map_or spaced (error_name_of x.now) []) }
 {

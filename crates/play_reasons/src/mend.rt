@@ -1,5 +1,5 @@
 // SPDX-License-Identifier: MIT OR Apache-2.0
-//! What stands in the line of a reason behind what the check is about: a value that is wanted, and what is to be mended.
+//! Hints in the line of a reason, after what the check is about: the values that are allowed, and what to correct.
 ghost use Rattle.std.specs.Prelude.{◌≡◌, ◌++◌, ◌^◌, ◌<◌, ◌≤◌, Some, codes};
 ghost use Rattle.play_syntax.specs.TraceText.{hex, rights_text};
 ghost use Rattle.ffa_model.specs.DescriptorPlaces.{told_access_size};
@@ -11,9 +11,9 @@ use ffa_mend::{Allowed, Cause, Mend, Side};
 use ffa_model::{Data, EndpointId, Kind, Refusal, Rights, Version, Work};
 use std::alloc::Allocator;
 
-const GRANTED: &str = ", where rw- is granted, and the owner's own right is ";
+const GRANTED: &str = ", where rw- is granted, but the owner's own right is ";
 
-/// Puts why a register with this value can't be the address of a buffer, where the check says so.
+/// Puts why a register with this value cannot be the address of a buffer, if that is what the check says.
 pub(crate) fn put_wanted<A: Allocator>(text: &mut Draft<A>, refusal: Refusal, value: u64)
     ensures { Puts text.old text.new (wanted_text refusal value) }
 {
@@ -23,7 +23,7 @@ pub(crate) fn put_wanted<A: Allocator>(text: &mut Draft<A>, refusal: Refusal, va
     }
 }
 
-/// Puts which values may be there, each in so many digits.
+/// Puts the values that are allowed in a register or a field, each with this number of digits.
 pub(crate) fn put_allowed<A: Allocator>(text: &mut Draft<A>, digits: u32, allowed: Allowed)
     requires { digits ≤ 16 }
     ensures { Puts text.old text.new (allowed_text digits allowed) }
@@ -49,14 +49,14 @@ fn put_steps<A: Allocator>(text: &mut Draft<A>, digits: u32, allowed: Allowed)
     text.put_behind(" in steps of ", digits, allowed.step);
 }
 
-// Why no buffer can begin at an address.
+// Why a buffer cannot begin at an address.
 fn misplaced(address: u64) -> &'static str
     ensures { result.now ≡ misplaced_text address }
 {
     if address % 4096 == 0 {
-        ", where the buffer does not lie in RAM"
+        ", and the buffer is not entirely in RAM"
     } else {
-        ", which is not the address of a page"
+        ", which is not page-aligned"
     }
 }
 
@@ -73,21 +73,25 @@ fn put_span<A: Allocator>(text: &mut Draft<A>, digits: u32, joint: &str, a: u64,
     requires { digits ≤ 16 }
     ensures { Puts text.old text.new (span_text digits joint.now a b) }
 {
-    text.put_behind(", and may be ", digits, a);
+    text.put_behind(", and must be ", digits, a);
     text.put_behind(joint, digits, b);
 }
 
-/// Puts what is to be mended.
+/// Puts what to correct so that the operation is not refused for this reason.
 pub(crate) fn put_mend<A: Allocator>(text: &mut Draft<A>, mend: Mend)
     ensures { Puts text.old text.new (mend_text mend) }
 {
     match mend {
         Mend::Buffer { endpoint, side } => put_buffer(text, endpoint, side),
-        Mend::OwnRight(right) => put_right(text, ", to which the owner's own right is ", right),
+        Mend::OwnRight(right) => put_right(text, ", and the owner's own right is ", right),
         Mend::Granted(right) => put_right(text, GRANTED, right),
         Mend::Access { endpoint, right } => put_access(text, endpoint, right),
-        Mend::Caller(endpoint) => put_endpoint(text, ", where the caller is ", endpoint),
-        Mend::Sender(endpoint) => put_endpoint(text, ", where the sender is ", endpoint),
+        Mend::Caller(endpoint) => put_endpoint(text, ", and the caller is ", endpoint),
+        Mend::Sender(endpoint) => put_endpoint(
+            text,
+            ", and the transaction's sender is ",
+            endpoint,
+        ),
         Mend::Tag { found, wanted } => put_tags(text, found, wanted),
         Mend::Kind { found, wanted } => put_kinds(text, found, wanted),
         Mend::Asked { asked, most } => put_asked(text, asked, most),
@@ -114,21 +118,21 @@ fn put_buffer<A: Allocator>(text: &mut Draft<A>, endpoint: EndpointId, side: Sid
     put_endpoint(text, side_words(side), endpoint);
 }
 
-/// Puts an endpoint by its identifier behind a word.
+/// Puts a word, and then the identifier of an endpoint.
 pub(crate) fn put_endpoint<A: Allocator>(text: &mut Draft<A>, word: &str, endpoint: EndpointId)
     ensures { Puts text.old text.new (word.now ++ hex 4 endpoint.0) }
 {
     text.put_behind(word, 4, u64::from(endpoint.0));
 }
 
-// Puts the letters of a right behind a word.
+// Puts a word, and then the letters of a right.
 fn put_right<A: Allocator>(text: &mut Draft<A>, word: &str, right: Rights)
     ensures { Puts text.old text.new (word.now ++ rights_text (Some right)) }
 {
     put_pair(text, word, letters(right));
 }
 
-// Puts one word behind another.
+// Puts one word after another.
 fn put_pair<A: Allocator>(text: &mut Draft<A>, first: &str, second: &str)
     ensures { Puts text.old text.new (first.now ++ second.now) }
 {
@@ -148,16 +152,16 @@ fn put_access<A: Allocator>(text: &mut Draft<A>, endpoint: EndpointId, right: Ri
 fn put_tags<A: Allocator>(text: &mut Draft<A>, found: u64, wanted: u64)
     ensures { Puts text.old text.new (tag_text found wanted) }
 {
-    text.put_behind(", where the tag is ", 16, wanted);
-    text.put_behind(", and the descriptor says ", 16, found);
+    text.put_behind(", whose tag is ", 16, wanted);
+    text.put_behind(", but the descriptor says ", 16, found);
 }
 
 #[tactic(auto, using(crate::proofs::Together::together), unfolding(crate::specs::Mends::kinds_text))]
 fn put_kinds<A: Allocator>(text: &mut Draft<A>, found: Kind, wanted: Kind)
     ensures { Puts text.old text.new (kinds_text (kind_text found) (kind_text wanted)) }
 {
-    put_kind(text, ", where the kind is ", wanted);
-    put_kind(text, ", and the descriptor says ", found);
+    put_kind(text, ", whose kind is ", wanted);
+    put_kind(text, ", but the descriptor says ", found);
 }
 
 fn put_kind<A: Allocator>(text: &mut Draft<A>, word: &str, kind: Kind)
@@ -171,30 +175,30 @@ fn put_asked<A: Allocator>(text: &mut Draft<A>, asked: Rights, most: Rights)
     ensures { let told = asked_text (rights_text (Some asked)) (rights_text (Some most)) in Puts text.old text.new told }
 {
     put_right(text, ", where ", asked);
-    put_right(text, " is asked for, and ", most);
-    text.put(" is the most");
+    put_right(text, " is requested, and ", most);
+    text.put(" is the most allowed");
 }
 
 #[tactic(auto, unfolding(crate::specs::Mends::room_text))]
 fn put_room<A: Allocator>(text: &mut Draft<A>, bytes: u64)
     ensures { Puts text.old text.new (room_text bytes) }
 {
-    text.put(", where the buffer has ");
+    text.put(", and the buffer has ");
     text.put_address(bytes);
     text.put(" bytes");
 }
 
-// Puts what a header has to have where its form is told, in the caller's version.
+// Puts the access descriptor size that a header must have in the caller's version.
 #[tactic(auto, unfolding(crate::specs::Mends::form_text))]
 fn put_form<A: Allocator>(text: &mut Draft<A>, caller: EndpointId, version: Version)
     ensures { Puts text.old text.new (form_text caller.0 version) }
 {
     put_one(text, 8, told_access_size(version));
-    put_endpoint(text, ", since ", caller);
+    put_endpoint(text, ", because ", caller);
     text.put(version_words(version));
 }
 
-// Puts the four bytes of a word, by the place of the first one.
+// Puts the four bytes of a word of a header, by the offset of the first one.
 #[tactic(auto, unfolding(crate::specs::Mends::bytes_text))]
 fn put_bytes_from<A: Allocator>(text: &mut Draft<A>, place: u64)
     requires { place < 2 ^ 32 }
@@ -206,7 +210,7 @@ fn put_bytes_from<A: Allocator>(text: &mut Draft<A>, place: u64)
     text.put_short(place + 3);
 }
 
-// Puts them with the number in them.
+// Puts the four bytes of a word of a header, and the number in them.
 #[tactic(auto, unfolding(crate::specs::Mends::word_text))]
 fn put_word<A: Allocator>(text: &mut Draft<A>, place: u64, value: u64)
     requires { place < 2 ^ 32 }
@@ -235,7 +239,7 @@ fn put_ends<A: Allocator>(text: &mut Draft<A>, offset: u64, size: u64)
     put_word(text, 16, size);
 }
 
-// Puts them, and how many bytes the buffer has in which the message doesn't end.
+// Puts the offset and the size of a message, and the size of the buffer that it does not fit in.
 #[tactic(auto, unfolding(crate::specs::Mends::message_text))]
 fn put_message<A: Allocator>(text: &mut Draft<A>, offset: u64, size: u64, room: u64)
     ensures { Puts text.old text.new (message_text offset size room) }
@@ -245,7 +249,7 @@ fn put_message<A: Allocator>(text: &mut Draft<A>, offset: u64, size: u64, room: 
     put_room(text, room);
 }
 
-// Puts an address that isn't in RAM.
+// Puts an address that is not in RAM.
 #[tactic(auto, unfolding(crate::specs::Mends::outside_text))]
 fn put_outside<A: Allocator>(text: &mut Draft<A>, address: u64)
     ensures { Puts text.old text.new (outside_text address) }
@@ -255,22 +259,22 @@ fn put_outside<A: Allocator>(text: &mut Draft<A>, address: u64)
     text.put(beyond(address));
 }
 
-// Puts who holds a transaction.
+// Puts the endpoint that holds a transaction.
 #[tactic(auto, using(crate::proofs::Together::together), unfolding(crate::specs::Mends::holder_text))]
 fn put_holder<A: Allocator>(text: &mut Draft<A>, endpoint: EndpointId)
     ensures { Puts text.old text.new (holder_text endpoint.0) }
 {
-    put_endpoint(text, ", where ", endpoint);
-    text.put(" holds it");
+    put_endpoint(text, ", which ", endpoint);
+    text.put(" holds");
 }
 
-// Puts what the caller works on.
+// Puts what the caller is processing.
 fn put_work<A: Allocator>(text: &mut Draft<A>, work: Work)
     ensures { Puts text.old text.new (work_text work) }
 {
     match work {
-        Work::Run => text.put(": it runs by FFA_RUN"),
-        Work::Request(by) => put_endpoint(text, ": it works on a direct request of ", by),
+        Work::Run => text.put(": it is processing an FFA_RUN"),
+        Work::Request(by) => put_endpoint(text, ": it is processing a direct request from ", by),
     }
 }
 
@@ -293,7 +297,7 @@ fn beyond(address: u64) -> &'static str
     }
 }
 
-// What stands in a header where its form is told.
+// The access descriptor size that a header must have in a version.
 fn told_access_size(version: Version) -> u64
     ensures { result ≡ told_access_size version }
 {
@@ -307,8 +311,8 @@ fn version_words(version: Version) -> &'static str
     ensures { result.now ≡ version_text version }
 {
     match version {
-        Version::Compact => " is compact",
-        Version::V1_1 => " has version 1.1",
+        Version::Compact => " uses the compact form",
+        Version::V1_1 => " uses version 1.1",
     }
 }
 
@@ -328,8 +332,8 @@ fn side_words(side: Side) -> &'static str
     ensures { result.now ≡ side_text side }
 {
     match side {
-        Side::Tx => " is TX of ",
-        Side::Rx => " is RX of ",
+        Side::Tx => " is in TX of ",
+        Side::Rx => " is in RX of ",
     }
 }
 
@@ -347,17 +351,17 @@ fn cause_words(cause: Cause) -> &'static str
     ensures { result.now ≡ cause_text cause }
 {
     match cause {
-        Cause::BuffersMissing => ": it has none",
+        Cause::BuffersMissing => ": it has no RX and TX",
         Cause::RxNotFull => ": its RX is not full",
         Cause::BitPending => ", which is pending",
-        Cause::BitTaken => ", which another sender has",
+        Cause::BitTaken => ", which is bound to another sender",
         Cause::BitUnbound => ", which is not bound to the sender",
         Cause::HandleUnknown => ", which no open transaction has",
-        Cause::NotReceiver => ", which is open, and not offered to the caller",
+        Cause::NotReceiver => ", which is open, but not offered to the caller",
         Cause::NotLent => ", which is not a lend",
-        Cause::BitmapsUncreated => ": FFA_NOTIFICATION_BITMAP_CREATE makes them",
+        Cause::BitmapsUncreated => ": FFA_NOTIFICATION_BITMAP_CREATE creates them",
         Cause::NotificationsUnreceived => ": bit 3 of its properties is not set",
-        Cause::SecureToNormal => ", which is secure and goes to the normal world",
-        Cause::PagesOfBothWorlds => ", which is secure, and another page is not",
+        Cause::SecureToNormal => ", which is secure and is sent to the normal world",
+        Cause::PagesOfBothWorlds => ", which is secure, but another page is not",
     }
 }

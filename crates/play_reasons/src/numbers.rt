@@ -1,5 +1,5 @@
 // SPDX-License-Identifier: MIT OR Apache-2.0
-//! The checks of each call, and their numbers.
+//! The checks of each call and their numbers.
 ghost use Rattle.std.specs.Prelude.{◌≡◌, ℕ, ◌==◌, List, Some, is_some, position, slice_index, true};
 ghost use Rattle.ffa_model.specs.Calls.{first_refusal};
 ghost use Rattle.ffa_model.specs.Checks.{AreListed, checks_of};
@@ -12,7 +12,7 @@ ghost use Rattle.play_reasons.specs.Checks.{number_of, place_number};
 use ffa_abi::call_row;
 use ffa_model::Refusal;
 
-/// The checks of the call that a number identifies, in the order in which they are made.
+/// Returns the checks of the call with this function identifier, in the order in which the call makes them.
 pub fn checks(function: u32) -> &'static [Refusal]
     ensures listed { result.now ≡ checks_of function }
     ensures guards { (s : State) (x : List ℕ) → low (slice_index x 0) ≡ function → AreListed s (decode x) result.now }
@@ -29,8 +29,8 @@ fn check_list(function: u32) -> &'static [Refusal]
     }
 }
 
-/// The number of a check in the list of the call that a number identifies, counted from 1, if it is one of the call's. A
-/// check that is the first to fail is.
+/// Returns the number of a check in the list of the call with this function identifier, counted from 1, or `None` if the check is not
+/// in the list. The first check that fails always has a number.
 pub fn check_number(function: u32, refusal: Refusal) -> Option<usize>
     ensures number { result ≡ number_of function refusal }
     ensures numbered { (s : State) (x : List ℕ) → low (slice_index x 0) ≡ function

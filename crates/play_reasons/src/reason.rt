@@ -1,5 +1,5 @@
 // SPDX-License-Identifier: MIT OR Apache-2.0
-//! Why an operation is refused, as a line under its text.
+//! The line that says why an operation is refused.
 ghost use Rattle.std.specs.Prelude.{◌≡◌, ◌++◌, ◌≤◌, None, Some, codes, option_map};
 ghost use Rattle.ffa_model.specs.Memory.{size_of};
 ghost use Rattle.play_syntax.specs.TraceText.{bytes_moved};
@@ -23,18 +23,20 @@ use ffa_model::{
 use ffa_playable::Detail;
 use std::alloc::Allocator;
 
-/// An operation that is refused, and why.
+/// A refused operation, and why it is refused.
 #[derive(Clone, Copy)]
 pub struct Reason {
-    /// Where RAM begins.
+    /// The address at which RAM begins.
     pub base: Address,
+    /// The operation.
     pub op: Op,
+    /// Why the operation is refused.
     pub why: Why,
-    /// What is to be mended, how things stand, or which values may be there, where that is known.
+    /// A hint how to correct the operation, the run state of an endpoint, or the allowed values, if one of them is known.
     pub detail: Option<Detail>,
 }
 
-/// Puts the line that says so behind a text, where there is a reason.
+/// Puts the line `# refused: ..` that says why an operation is refused. Puts nothing if there is no reason.
 pub fn put_reason<A: Allocator>(text: &mut Draft<A>, reason: Option<Reason>)
     ensures { Puts text.old text.new (told_line reason) }
 {
@@ -108,7 +110,7 @@ fn put_faulted<A: Allocator>(
     put_fault(text, op, kind, obstacle);
 }
 
-// Which check of which call fails.
+// Puts the call and the number of its check that fails.
 fn put_call<A: Allocator>(text: &mut Draft<A>, op: Op, refusal: Refusal)
     ensures { Puts text.old text.new (call_text op refusal) }
 {
@@ -145,7 +147,7 @@ fn put_number<A: Allocator>(text: &mut Draft<A>, number: Option<usize>)
     }
 }
 
-// What the check is about, where that is told.
+// Puts what the check is about, if that is known.
 fn put_about<A: Allocator>(
     text: &mut Draft<A>,
     base: Address,
@@ -195,7 +197,7 @@ fn put_page<A: Allocator>(
     }
 }
 
-// Puts a register with its value, and why that is no place of a buffer.
+// Puts a register with its value, and why no buffer can begin there.
 fn put_named_by<A: Allocator>(
     text: &mut Draft<A>,
     op: Op,
@@ -219,7 +221,7 @@ fn put_register<A: Allocator>(text: &mut Draft<A>, op: Op, register: u32, value:
     text.put_address(value);
 }
 
-// What stands before the number of a register: x where the call reads it whole, and else w.
+// The letter before the number of a register: x if the call reads all of it, and else w.
 fn letter(op: Op, register: u32) -> &'static str
     ensures { result.now ≡ letter_text op register }
 {
@@ -236,7 +238,7 @@ fn put_bit<A: Allocator>(text: &mut Draft<A>, number: u32)
     text.put_short(u64::from(number));
 }
 
-// Puts the condition that a descriptor breaks, the field of which it speaks, and the number in that.
+// Puts the condition that a descriptor breaks, the field that the condition is about, and the number in the field.
 #[tactic(auto, unfolding(crate::specs::Reasons::field_text))]
 fn put_field<A: Allocator>(text: &mut Draft<A>, flaw: Flaw, place: FieldPlace, value: Option<u64>)
     ensures { Puts text.old text.new (field_text flaw place value) }
@@ -249,7 +251,7 @@ fn put_field<A: Allocator>(text: &mut Draft<A>, flaw: Flaw, place: FieldPlace, v
     put_value(text, size, told_value(flaw, value));
 }
 
-// How many bytes of a field are told.
+// How many bytes of a field are printed.
 fn told_size(flaw: Flaw, size: u64) -> u64
     ensures { result ≡ told_size flaw size }
 {
@@ -270,7 +272,7 @@ fn told_value(flaw: Flaw, value: Option<u64>) -> Option<u64>
     }
 }
 
-// Which access descriptor it is, or which range.
+// Puts the index of the access descriptor or of the range.
 fn put_index<A: Allocator>(text: &mut Draft<A>, flaw: Flaw)
     ensures { Puts text.old text.new (index_text flaw) }
 {
@@ -329,7 +331,7 @@ fn verb(size: u64) -> &'static str
     if size <= 1 { " is " } else { " are " }
 }
 
-// How many digits a field's number is written in.
+// How many digits the number in a field has.
 fn field_digits(size: u64) -> u32
     ensures digits { result ≡ field_digits size }
     ensures few { result ≤ 16 }
@@ -337,7 +339,7 @@ fn field_digits(size: u64) -> u32
     if size <= 8 { 2 * size as u32 } else { 16 }
 }
 
-// In how many digits a value is told that may be in the register or in the field.
+// How many digits an allowed value of the register or the field has.
 fn value_digits(why: Why) -> u32
     ensures digits { result ≡ value_digits why }
     ensures few { result ≤ 16 }
@@ -358,20 +360,20 @@ fn subject_digits(about: Option<About>) -> u32
     }
 }
 
-// What is so of the address of an access that faults.
+// Puts what is wrong with the address of an access that faults.
 fn put_fault<A: Allocator>(text: &mut Draft<A>, op: Op, kind: FaultKind, obstacle: Option<Obstacle>)
     ensures { Puts text.old text.new (fault_text op kind obstacle) }
 {
     match kind {
         FaultKind::Translation => put_obstacle(text, obstacle),
         FaultKind::Permission => text.put(right_words(op)),
-        FaultKind::Alignment => text.put_behind(" is no multiple of ", 1, bytes_moved(op)),
+        FaultKind::Alignment => text.put_behind(" is not a multiple of ", 1, bytes_moved(op)),
         FaultKind::AccessFlag => text.put(" has no access flag"),
         FaultKind::OutsideRam => text.put(" leads out of RAM"),
     }
 }
 
-// What stands in the way of the address.
+// Puts why the runner's tables do not map the address.
 #[tactic(auto, unfolding(crate::specs::Reasons::transaction_text))]
 fn put_obstacle<A: Allocator>(text: &mut Draft<A>, obstacle: Option<Obstacle>)
     ensures { Puts text.old text.new (obstacle_text obstacle) }
@@ -389,7 +391,7 @@ fn put_obstacle<A: Allocator>(text: &mut Draft<A>, obstacle: Option<Obstacle>)
     }
 }
 
-// What the runner has no right to do there.
+// What the runner may not do at the address.
 fn right_words(op: Op) -> &'static str
     ensures { result.now ≡ right_text op }
 {

@@ -1,11 +1,11 @@
 // SPDX-License-Identifier: MIT OR Apache-2.0
-//! The words of each check.
+//! The words for each check.
 ghost use Rattle.std.specs.Prelude.{◌≡◌};
 ghost use Rattle.ffa_model.specs.Words.{words_of};
 
 use ffa_model::{Refusal, WORDS};
 
-/// What a check finds where it fails, in words.
+/// Returns what is wrong if a check fails, in words.
 pub fn words(refusal: Refusal) -> &'static str
     ensures { result.now ≡ words_of refusal }
 {

@@ -18,7 +18,7 @@ fn brief_line(line: &str) -> String {
     }
     let parts = if line.contains("check ") { 3 } else { 2 };
     let brief = line.split(": ").take(parts).collect::<Vec<_>>().join(": ");
-    [", where ", ", which "].iter().fold(brief, |brief, mend| brief.split(mend).next().unwrap().to_owned())
+    brief.split(", and the caller is ").next().unwrap().to_owned()
 }
 
 /// What the program prints of a trace, with reasons, but for what is to be mended.
@@ -84,7 +84,7 @@ fn access_reason(reason: AccessReason, address: u64, bytes: u64, done: &str) -> 
         (Fault::Translation, Some(obstacle)) => obstacle.to_string(),
         (Fault::Translation, None) => "is above FFFFFFFF".into(),
         (Fault::Permission, None) => format!("may not be {done}"),
-        (Fault::Alignment, None) => format!("is no multiple of {bytes}"),
+        (Fault::Alignment, None) => format!("is not a multiple of {bytes}"),
         other => panic!("{other:?} doesn't come"),
     };
     digits(address) + " " + &what

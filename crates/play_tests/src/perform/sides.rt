@@ -130,6 +130,6 @@ fn ends_a_session_where_it_cannot_read(rt: HostRuntime) {
     };
     let program = program(rt.alloc(), rt.alloc());
     let status = program.perform(&SESSION, files, &mut out, &mut err);
-    let told = "ffaplay: line 1, column 6: a word is missing\nffaplay: cannot read row.trace\n";
+    let told = "ffaplay: line 1, column 6: missing word\nffaplay: cannot read row.trace\n";
     check_end(&rt, &Ended { status, out, err }, (3, b"data 00\n", told));
 }

@@ -10,7 +10,7 @@ unfolding uuid_text
 returns g c =
     let old = c.args.text.now in
     let word : ℕ → List ℕ = λ k. word_digits (slice_index c.args.uuid k) in
-    let said = codes ": w1 to w4 say " in
+    let said = codes ": w1 to w4 hold " in
     let one = together old c.put.new.self c.put_word.new.text said (word 0) c.put.ensures c.put_word.ensures in
     let two = together old c.put_word.new.text c.put_word-2.new.text (said ++ word 0) (word 1) one c.put_word-2.ensures in
     let three = together old c.put_word-2.new.text c.put_word-3.new.text (said ++ word 0 ++ word 1) (word 2) two c.put_word-3.ensures in
