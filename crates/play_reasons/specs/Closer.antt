@@ -48,7 +48,7 @@ part_text flaw = codes " (the ranges end at "
 -- in a descriptor of so many bytes; no number of 64 bits is greater than the last
 unfoldable pub end_text : Flaw → ℕ → ℕ → List ℕ
 end_text flaw size end =
-    part_text flaw ++ short_text (min end (2 ^ 64 - 1)) ++ codes ", but the descriptor has " ++ short_text size ++ codes " bytes)"
+    (((part_text flaw ++ short_text (min end (2 ^ 64 - 1))) ++ codes ", but the descriptor has ") ++ short_text size) ++ codes " bytes)"
 
 abbrev pub size_of : Call → Option ℕ
 size_of (calls.MemDonate transfer) = Some transfer.total

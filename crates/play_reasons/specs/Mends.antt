@@ -98,7 +98,7 @@ unfoldable pub access_text : ℕ → List ℕ → List ℕ
 access_text endpoint right = codes ": " ++ hex 4 endpoint ++ codes " has " ++ right
 
 unfoldable pub tag_text : ℕ → ℕ → List ℕ
-tag_text found wanted = codes ", whose tag is " ++ hex 16 wanted ++ codes ", but the descriptor says " ++ hex 16 found
+tag_text found wanted = (codes ", whose tag is " ++ hex 16 wanted) ++ (codes ", but the descriptor says " ++ hex 16 found)
 
 unfoldable pub kinds_text : List ℕ → List ℕ → List ℕ
 kinds_text found wanted = (codes ", whose kind is " ++ wanted) ++ (codes ", but the descriptor says " ++ found)
@@ -107,7 +107,7 @@ unfoldable pub asked_text : List ℕ → List ℕ → List ℕ
 asked_text asked most = (codes ", where " ++ asked) ++ ((codes " is requested, and " ++ most) ++ codes " is the most allowed")
 
 unfoldable pub room_text : ℕ → List ℕ
-room_text bytes = codes ", and the buffer has " ++ address_text bytes ++ codes " bytes"
+room_text bytes = (codes ", and the buffer has " ++ address_text bytes) ++ codes " bytes"
 
 -- what stands in a header where its form is told, in the caller's version
 abbrev pub version_text : Version → List ℕ

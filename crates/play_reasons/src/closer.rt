@@ -43,7 +43,6 @@ fn put_ends<A: Allocator>(text: &mut Draft<A>, size: Option<u64>, flaw: Flaw, en
     }
 }
 
-#[tactic(auto, unfolding(crate::specs::Closer::end_text))]
 fn put_end<A: Allocator>(text: &mut Draft<A>, flaw: Flaw, size: u64, end: u128)
     ensures { Puts text.old text.new (end_text flaw size end) }
 {

@@ -148,7 +148,7 @@ fn put_access<A: Allocator>(text: &mut Draft<A>, endpoint: EndpointId, right: Ri
     put_right(text, " has ", right);
 }
 
-#[tactic(auto, unfolding(crate::specs::Mends::tag_text))]
+#[tactic(auto, using(crate::proofs::Together::together), unfolding(crate::specs::Mends::tag_text))]
 fn put_tags<A: Allocator>(text: &mut Draft<A>, found: u64, wanted: u64)
     ensures { Puts text.old text.new (tag_text found wanted) }
 {
@@ -179,7 +179,7 @@ fn put_asked<A: Allocator>(text: &mut Draft<A>, asked: Rights, most: Rights)
     text.put(" is the most allowed");
 }
 
-#[tactic(auto, unfolding(crate::specs::Mends::room_text))]
+#[tactic(auto, using(crate::proofs::Together::together), unfolding(crate::specs::Mends::room_text))]
 fn put_room<A: Allocator>(text: &mut Draft<A>, bytes: u64)
     ensures { Puts text.old text.new (room_text bytes) }
 {
