@@ -1,7 +1,6 @@
 -- SPDX-License-Identifier: MIT OR Apache-2.0
 -- What C is told of a manifest that is refused: why, and where.
-use Rattle.std.specs.Prelude.{◌≡◌, ℕ, suc, Bool, ◌&&◌, ◌<◌, nat_le, length, List, [], ◌∷◌, take, Option, Some, None, Result, Ok, Err, is_ok, is_some, IsOk, IsUtf8, if◌then◌else◌}
-use Rattle.std.specs.Option.{option_map_or}
+use Rattle.std.specs.Prelude.{◌≡◌, ℕ, suc, ◌&&◌, nat_le, List, [], ◌∷◌, take, Option, Some, None, Result, Ok, Err, is_ok, is_some, IsOk, IsUtf8, if◌then◌else◌}
 use Rattle.ffa_model.specs.declared.endpoint.Endpoint.{Endpoint}
 use Rattle.ffa_model.specs.declared.endpoint.EndpointId.{EndpointId}
 use Rattle.ffa_model.specs.declared.limits.TheConstants.{MOST_ENDPOINTS, MOST_REGIONS}

@@ -14,6 +14,7 @@ ghost use Rattle.ffa_model.specs.Refusals.{is_refusal};
 ghost use Rattle.ffa_model.specs.Step.{step};
 ghost use Rattle.ffa_model.specs.Why.{granted, why};
 ghost use Rattle.ffa_manifest.specs.Document.{parts_of};
+ghost use Rattle.ffa_spmc.specs.Booted.{IsBootedBy};
 ghost use Rattle.ffa_spmc.specs.Storages.{IsRoomFor};
 ghost use Rattle.ffa_notify.specs.Notices.{is_due, still_told};
 ghost use Rattle.ffa_mend.specs.Allowed.{allowed};
@@ -39,7 +40,7 @@ use ffa_model::{
 use ffa_notify::Told;
 use ffa_physmem::{FlatRam, PhysMem};
 use ffa_playable::Standing;
-use ffa_spmc::{Cluster, Fill, Given, Machine, Ready, Storage};
+use ffa_spmc::{Cluster, Fill, Given, Machine, Ready, Storage, Store};
 use ffa_tlb::NoTlb;
 use std::alloc::Global;
 use std::marker::Model;
@@ -94,6 +95,24 @@ impl Model for Board {
     ghost view = { λ b. boarded b.kind b.notices };
 }
 
+// The machine of a manifest in its first state, in RAM of any kind and with no cache.
+fn boot_cluster<M: PhysMem + Drop, S: Store>(
+    storage: Storage<S>,
+    manifest: &Manifest,
+    ram: M,
+    fill: Fill,
+) -> Cluster<M, NoTlb, S>
+    requires storage { IsRoomFor manifest.now storage }
+    requires base { (M.ram ram).base ≡ manifest.now.ram_base.0 }
+    requires size { length (M.ram ram).pages ≡ 512 * manifest.now.ram_blocks }
+    requires zeros { fill ≡ Fill.AlreadyZero → M.ram ram ≡ zero_ram manifest.now.ram_base.0 (512 * manifest.now.ram_blocks) }
+    ensures booted { IsBootedBy fill manifest.now (M.ram ram) result.machine.state result.machine.ram }
+    ensures told { result.machine.told ≡ None }
+    ensures processors { result.processors ≡ first_processors }
+{
+    Cluster::of(Machine::boot_in(storage, manifest, ram, NoTlb, fill))
+}
+
 impl Board {
     /// The machine of a manifest in its first state, in RAM that is zeros.
     pub fn boot(manifest: &Manifest, ram: FlatRam, storage: Storage<Given<Global>>) -> Board
@@ -105,15 +124,9 @@ impl Board {
         ensures notices { result.notices ≡ finite_set.empty }
         ensures kind { result.is_lent ≡ false }
     {
-        let kind = BoardMachine::Heap(Cluster::of(Machine::boot_in(
-            storage,
-            manifest,
-            ram,
-            NoTlb,
-            Fill::AlreadyZero,
-        )));
+        let cluster = boot_cluster(storage, manifest, ram, Fill::AlreadyZero);
         Board {
-            kind,
+            kind: BoardMachine::Heap(cluster),
             notices: Told::nothing(),
         }
     }
@@ -134,12 +147,12 @@ impl Board {
         ensures notices { result.notices ≡ finite_set.empty }
         ensures kind { result.is_lent ≡ true }
     {
-        let machine = match bytes {
-            FirstBytes::Cleared => Machine::boot_in(storage, manifest, ram, NoTlb, Fill::Clear),
-            FirstBytes::Kept => Machine::boot_in(storage, manifest, ram, NoTlb, Fill::KeepRegions),
+        let cluster = match bytes {
+            FirstBytes::Cleared => boot_cluster(storage, manifest, ram, Fill::Clear),
+            FirstBytes::Kept => boot_cluster(storage, manifest, ram, Fill::KeepRegions),
         };
         Board {
-            kind: BoardMachine::Lent(Cluster::of(machine)),
+            kind: BoardMachine::Lent(cluster),
             notices: Told::nothing(),
         }
     }

@@ -16,21 +16,21 @@ returns-clause-first c =
       | in-Cleared w ↦
           subst (λ (b : FirstBytes). IsFirstBy b pages parts c.match-bytes.cluster.machine) (sym w.in-Cleared.is)
           (subst (λ (x : Clustered). IsFirst parts x.machine) (sym w.cluster-is) (record {
-            state = w.boot_in-machine.ensures.booted.state;
-            agrees = w.boot_in-machine.ensures.booted.agrees;
-            words = w.boot_in-machine.ensures.booted.words;
-            cleared = w.boot_in-machine.ensures.booted.cleared;
-            sound = w.boot_in-machine.ensures.booted.sound;
-            told = w.boot_in-machine.ensures.told;
+            state = w.boot_cluster-cluster.ensures.booted.state;
+            agrees = w.boot_cluster-cluster.ensures.booted.agrees;
+            words = w.boot_cluster-cluster.ensures.booted.words;
+            cleared = w.boot_cluster-cluster.ensures.booted.cleared;
+            sound = w.boot_cluster-cluster.ensures.booted.sound;
+            told = w.boot_cluster-cluster.ensures.told;
           }))
       | in-Kept w ↦
           subst (λ (b : FirstBytes). IsFirstBy b pages parts c.match-bytes.cluster.machine) (sym w.in-Kept.is)
           (subst (λ (x : Clustered). IsFirstHeld pages parts x.machine) (sym w.cluster-is) (record {
-            state = w.boot_in-in-Kept-machine.ensures.booted.state;
-            agrees = w.boot_in-in-Kept-machine.ensures.booted.agrees;
-            words = w.boot_in-in-Kept-machine.ensures.booted.words;
-            cleared = w.boot_in-in-Kept-machine.ensures.booted.cleared;
-            sound = w.boot_in-in-Kept-machine.ensures.booted.sound;
-            told = w.boot_in-in-Kept-machine.ensures.told;
+            state = w.boot_cluster-cluster-in-Kept.ensures.booted.state;
+            agrees = w.boot_cluster-cluster-in-Kept.ensures.booted.agrees;
+            words = w.boot_cluster-cluster-in-Kept.ensures.booted.words;
+            cleared = w.boot_cluster-cluster-in-Kept.ensures.booted.cleared;
+            sound = w.boot_cluster-cluster-in-Kept.ensures.booted.sound;
+            told = w.boot_cluster-cluster-in-Kept.ensures.told;
           }))
     ]

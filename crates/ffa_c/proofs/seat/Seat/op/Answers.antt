@@ -1,5 +1,5 @@
 -- SPDX-License-Identifier: MIT OR Apache-2.0
-use Rattle.std.proofs.Common.{◌≡◌, ◌∙◌, Some, ap, sym}
+use Rattle.std.proofs.Common.{◌≡◌, ◌∙◌, Some, sym}
 use Rattle.ffa_c.proofs.Boards.{kept-apart}
 use Rattle.ffa_c.proofs.seat.Seat.op.Goals as goal
 
