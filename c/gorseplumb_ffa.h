@@ -55,7 +55,8 @@
 #define GORSEPLUMB_FFA_MSG_SEND2 UINT32_C(0x84000086)
 
 /* Error codes, which FFA_ERROR has in w2 as a number of 32 bits (DEN0077A, 11.2), and a struct gorseplumb_reason as
- * `error`. INTERRUPTED, RETRY, ABORTED and NO_DATA are never answered. gorseplumb_error_name has them as text. */
+ * `error`. INTERRUPTED, RETRY and ABORTED are never answered, and NO_DATA only to FFA_NOTIFICATION_INFO_GET.
+ * gorseplumb_error_name has them as text. */
 enum gorseplumb_error {
     GORSEPLUMB_ERROR_NOT_SUPPORTED = -1,
     GORSEPLUMB_ERROR_INVALID_PARAMETERS = -2,

@@ -243,7 +243,7 @@ class Aborted(CallRefused):
 
 
 class NoData(CallRefused):
-    """The standard has this code; the machine never answers it."""
+    """No endpoint has a notification to report. Only FFA_NOTIFICATION_INFO_GET is answered so."""
 
 
 _FAULTS: dict[Fault, type[AccessFault]] = {

@@ -1,5 +1,5 @@
 # SPDX-License-Identifier: MIT OR Apache-2.0
-"""A session with a machine: a line is an operation of the runner, or a question. A mistake changes nothing."""
+"""A session with a machine: a line is an operation of the runner, or a question. A line with a mistake changes nothing."""
 from __future__ import annotations
 
 import os

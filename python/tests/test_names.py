@@ -50,7 +50,7 @@ def test_words_of_faults_rights_and_versions_are_those_of_the_manual() -> None:
     for fault in Fault:
         assert f"`fault {fault.text}`" in traces
     for right in Right:
-        assert f"`{right.text}`" in manifest
+        assert f"`{right.text}`" in traces
     assert all(f'`"{form.text}"`' in manifest for form in Form)
 
 

@@ -63,8 +63,8 @@ impl fmt::Display for Fault {
 }
 
 codes! {
-    /// What FFA_ERROR tells in w2 (DEN0077A, 11.2). The library answers NOT_SUPPORTED, INVALID_PARAMETERS, NO_MEMORY,
-    /// BUSY and DENIED.
+    /// The code in w2 of FFA_ERROR (DEN0077A, 11.2). The library answers NOT_SUPPORTED, INVALID_PARAMETERS, NO_MEMORY,
+    /// BUSY and DENIED, and NO_DATA only to FFA_NOTIFICATION_INFO_GET.
     pub enum ErrorCode: i32 {
         -1 NotSupported "NOT_SUPPORTED",
         -2 InvalidParameters "INVALID_PARAMETERS",
