@@ -136,8 +136,8 @@ impl<R: Ram> Machine<R> {
     /// let refused = machine.send(&lend, TX, Version::V1_1).unwrap_err();
     /// assert_eq!(
     ///     refused.to_string(),
-    ///     "FFA_MEM_LEND is refused: DENIED: check 10: a page is not the caller's own, or is in an open transaction or \
-    ///      a buffer: 40010000 is in the open transaction 0000000000000001",
+    ///     "FFA_MEM_LEND is refused: DENIED: check 10: a page does not belong to the caller, or is in an open transaction \
+    ///      or a buffer: 40010000 is in the open transaction 0000000000000001",
     /// );
     /// # Ok::<(), Box<dyn std::error::Error>>(())
     /// ```
