@@ -28,7 +28,7 @@ def test_a_partition_is_preempted_and_goes_on_elsewhere(partitions: Machine) -> 
     assert partitions.store_on(0, 0x40028000, 4, 0x12345678) == Done()
     assert partitions.interrupt(0) == told(0, Function.FFA_INTERRUPT, 0x80010000)
     assert partitions.call(*RUN_8001) == BUSY
-    with pytest.raises(Busy, match="neither waits nor has yielded: endpoint 8001, which is preempted"):
+    with pytest.raises(Busy, match="not waiting and has not yielded: endpoint 8001, which is preempted"):
         partitions.do(Function.FFA_RUN, partition=0x8001)
     resumed = partitions.call_on(1, *RUN_8001)
     assert resumed == Resumed(0x8001) and str(resumed) == "resumed 8001" and repr(resumed) == "Resumed(runner=0x8001)"

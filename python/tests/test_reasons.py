@@ -119,9 +119,9 @@ def test_says_which_numbers_may_be_there(partitions: Machine) -> None:
         assert reason is not None
         return reason.subject.allowed, str(reason).rpartition(", and ")[2]
 
-    assert allowed(Function.FFA_RXTX_MAP, 0, 0, 5) == (range(1, 5), "may be 00000001 to 00000004")
-    assert allowed(Function.FFA_MEM_RECLAIM, 1, 0, 2) == (range(2), "may be 00000000 to 00000001")
-    assert allowed(Function.FFA_NOTIFICATION_SET, 0x8001, 1) == (range(0, 3, 2), "may be 00000000 or 00000002")
+    assert allowed(Function.FFA_RXTX_MAP, 0, 0, 5) == (range(1, 5), "must be 00000001 to 00000004")
+    assert allowed(Function.FFA_MEM_RECLAIM, 1, 0, 2) == (range(2), "must be 00000000 to 00000001")
+    assert allowed(Function.FFA_NOTIFICATION_SET, 0x8001, 1) == (range(0, 3, 2), "must be 00000000 or 00000002")
     assert allowed(Function.FFA_RUN, 0x80010001) == (range(0x80010000, 0x80010001), "must be 80010000")
     assert allowed(Function.FFA_NOTIFICATION_BITMAP_CREATE, 0, 2) == (range(1, 2), "must be 00000001")
     assert allowed(Function.FFA_RUN, 0x90000000)[0] is None

@@ -60,7 +60,7 @@ def test_does_operations_and_calls_by_name(session: Session) -> None:
     [
         ("lod 1", "no such command: lod"),
         ("load 40010000", "missing word"),
-        ("load 40010000 x", "a size that is none"),
+        ("load 40010000 x", "the size must be 1, 2, 4 or 8"),
         ("FFA_RUN endpoint=8001", "FFA_RUN has no argument 'endpoint'"),
         ("FFA_RUN", "FFA_RUN lacks the argument partition: it has partition, [context]"),
         ("FFA_RUN 8001", "an argument is NAME=NUMBER"),
