@@ -9,8 +9,8 @@ use ffa_reasons::Explained;
 use ffa_recorded::Recorded;
 use ffa_spmc::Machine;
 
-// For how many steps there is room from the beginning.
-const ROOM: usize = 512;
+// For how many steps there is room from the beginning: a boot clears 512 pages, which are the first ones.
+const ROOM: usize = 1024;
 
 // The first partition lends the page at 40021000 to the second, with zeros.
 const LEND: &str = "\
