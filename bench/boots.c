@@ -41,7 +41,7 @@ static double boot(const uint8_t *text, size_t size, uint32_t count) {
     uint32_t answer = gorseplumb_boot_lent(&machine, &lent, text, size);
     double ended = now();
     if (answer != GORSEPLUMB_OK) stop("the manifest is refused");
-    if (gorseplumb_free(&machine, &lent) != GORSEPLUMB_OK || !gorseplumb_take_all_back(&lent, pages, count)) stop("pages stayed lent");
+    if (gorseplumb_end(&machine, &lent) != GORSEPLUMB_OK || !gorseplumb_take_all_back(&lent, pages, count)) stop("pages stayed lent");
     return ended - began;
 }
 

@@ -275,8 +275,8 @@ int main(int word_count, char **words) {
     if (word_count != 2) stop("calls ROUNDS", "ROUNDS is missing");
     long rounds = strtol(words[1], NULL, 10);
     if (gorseplumb_lend_all(&lent, pages, RAM_PAGES) != GORSEPLUMB_OK) stop("gorseplumb_lend_all", "no pages were lent");
-    if (gorseplumb_boot_held(&machine, &lent, (const uint8_t *)manifest, sizeof manifest - 1) != GORSEPLUMB_OK)
-        stop("gorseplumb_boot_held", "the manifest is refused");
+    if (gorseplumb_boot_preloaded(&machine, &lent, (const uint8_t *)manifest, sizeof manifest - 1) != GORSEPLUMB_OK)
+        stop("gorseplumb_boot_preloaded", "the manifest is refused");
     calls("FFA_RXTX_MAP", FFA_RXTX_MAP, TX, TX + GORSEPLUMB_PAGE_SIZE, 1);
     run_partition();
     calls("FFA_RXTX_MAP", FFA_RXTX_MAP, TX_OF_PARTITION, TX_OF_PARTITION + GORSEPLUMB_PAGE_SIZE, 1);

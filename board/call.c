@@ -35,10 +35,15 @@ static void take_outcome(struct board *board, const struct gorseplumb_outcome *o
     for (unsigned i = 0; i < 8; i++) running(board)->context.x[i] = outcome->x[i];
 }
 
+/* What the core is asked next is of whoever runs on this processor. */
+static void select_processor(struct board *board) {
+    if (SEVERAL && !gorseplumb_select(&board->machine, this_processor())) stop("the core has no such processor");
+}
+
 static struct gorseplumb_outcome ask_core(struct board *board, const struct gorseplumb_registers *registers) {
-    if (!SEVERAL) return gorseplumb_call(&board->machine, registers);
-    DO("dsb ish"); /* the caller may have written its TX on another processor */
-    return gorseplumb_call_on(&board->machine, this_processor(), registers);
+    select_processor(board);
+    if (SEVERAL) DO("dsb ish"); /* the caller may have written its TX on another processor */
+    return gorseplumb_call(&board->machine, registers);
 }
 
 void serve_call(struct board *board) {
@@ -52,7 +57,8 @@ void serve_call(struct board *board) {
 
 #if SEVERAL
 static struct gorseplumb_outcome tell_core(struct board *board) {
-    if (TELL_INTERRUPTS) return gorseplumb_interrupt(&board->machine, this_processor());
+    select_processor(board);
+    if (TELL_INTERRUPTS) return gorseplumb_interrupt(&board->machine);
     return (struct gorseplumb_outcome){.x = {FFA_INTERRUPT, (uint64_t)running(board)->identifier << 16}};
 }
 

@@ -104,16 +104,16 @@ build_several() {
 # both print the same. What the program printed is in $to/expected. So nobody writes outcomes down. Of tables, their effect is compared,
 # and not their words.
 play() {
-    local devices memory=256M processors=1 machine=virt,virtualization=on judge=("$player" run)
+    local devices memory=256M processors=1 machine=virt,virtualization=on judges=1
     if [[ $1 == high ]]; then memory=3G; fi
     if is_watched "$4"; then processors=2; fi
     if is_several "$4"; then
         processors=$(sed -n 's/^processors //p' "$4") machine+=,gic-version=3
-        judge+=(--processors "$processors")
+        judges=$processors
     fi
     mapfile -t devices < <(loader "$3" 48000000 && loader "$4" 49000000)
     emulate -kernel "$to/$1.elf" -machine $machine -accel tcg,thread=multi -smp "$processors" -cpu "$2" -m $memory "${devices[@]}"
-    "${judge[@]}" "$3" "$to/trace" >"$to/expected" || fail "the program does not play what $(basename "$4") did"
+    "$player" run --processors "$judges" "$3" "$to/trace" >"$to/expected" || fail "the program does not play what $(basename "$4") did"
     if [[ $keep ]]; then keep_scene "$1-$2-$(basename "$4")"; fi
     has_end && ! grep -q '^!' "$to/uart" && cmp -s "$to/expected" "$to/found"
 }
@@ -198,7 +198,7 @@ generated() {
     grep -v '# its program' "$1" >"$to/plain.toml"
     "$player" generate --seed "$seed" --lines "$operations" "$to/plain.toml" | sed 's/^audit$/show/' >"$to/lines"
     sed -E -e '/^fetch/{s/[1-3]$/0/;s/[5-7]$/4/;s/[9AB]$/8/;s/[D-F]$/C/}' "$to/lines" >"$to/aligned"
-    "$player" run --number "$1" "$to/aligned" >"$to/outcomes"
+    "$player" run --processors 1 --number "$1" "$to/aligned" >"$to/outcomes"
     awk 'NR == FNR { if (/^[0-9]+: fault/) faults[$1 + 0]; next } !(FNR in faults && /^fetch .*[^048C]$/)' "$to/outcomes" "$to/lines"
 }
 

@@ -154,6 +154,6 @@ int main(void) {
         printf("%s %s %lu, %lu and %lu", i == 0 ? "" : ",", texts[i].name, to_read, to_boot, to_ask);
     }
     printf("\n");
-    CHECK(gorseplumb_free(&machine, &none) == GORSEPLUMB_OK);
+    CHECK(gorseplumb_end(&machine, &none) == GORSEPLUMB_OK);
     return 0;
 }

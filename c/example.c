@@ -21,5 +21,5 @@ int main(void) {
     struct gorseplumb_registers other = GORSEPLUMB_REGISTERS(GORSEPLUMB_FFA_RUN, gorseplumb_pair(0x8002, 0));
     char reason[256];
     if (gorseplumb_explain_call(&machine, &other, reason, sizeof reason) != 0) printf("refused: %s\n", reason);
-    return gorseplumb_end(&machine) == GORSEPLUMB_OK ? 0 : 1;
+    return gorseplumb_end_heap(&machine) == GORSEPLUMB_OK ? 0 : 1;
 }

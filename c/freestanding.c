@@ -27,7 +27,7 @@ static int run(void) {
     if (gorseplumb_boot_lent_manifest(&machine, &list, &manifest) != GORSEPLUMB_OK) return 2;
     if (gorseplumb_store(&machine, 0x40010000, 1, 0x2A).kind != GORSEPLUMB_KIND_DONE) return 3;
     if (gorseplumb_load(&machine, 0x40010000, 1).value != 0x2A || pages[16].bytes[0] != 0x2A) return 4;
-    if (gorseplumb_free(&machine, &list) != GORSEPLUMB_OK || !gorseplumb_take_all_back(&list, pages, 512)) return 5;
+    if (gorseplumb_end(&machine, &list) != GORSEPLUMB_OK || !gorseplumb_take_all_back(&list, pages, 512)) return 5;
     return 0;
 }
 

@@ -129,9 +129,8 @@ enum gorseplumb_kind {
     GORSEPLUMB_KIND_NO_MACHINE = 4, /* there is no machine, and nothing was done */
     GORSEPLUMB_KIND_BAD_SIZE = 5,   /* the size is none of 1, 2, 4 and 8, or of gorseplumb_run the kind is unknown, with a
                                      * machine or without one, and nothing was done */
-    GORSEPLUMB_KIND_RESUMED = 7,    /* `runner` runs next and goes on where an interrupt stopped it, with its own registers: `x`
+    GORSEPLUMB_KIND_RESUMED = 7     /* `runner` runs next and goes on where an interrupt stopped it, with its own registers: `x`
                                      * is zeros, and isn't for it */
-    GORSEPLUMB_KIND_NO_PROCESSOR = 8 /* there is no such processor, and nothing was done */
 };
 
 enum gorseplumb_fault {
@@ -192,13 +191,13 @@ struct gorseplumb_manifest {
     uint32_t ram_blocks;     /* of 2 MiB each, from 1 to GORSEPLUMB_MOST_BLOCKS, all in one GiB (no multiple of 2^30 inside) */
     uint32_t endpoint_count; /* of `endpoints`, from the first on; what stands behind is not read */
     struct gorseplumb_endpoint endpoints[GORSEPLUMB_MOST_ENDPOINTS];
-    uint32_t worlds; /* 0: all memory is alike. 1: that of the first endpoint's regions is non-secure, all other secure
-                      * (docs/MEMORY.md); no text says it */
+    uint32_t has_security_states; /* 0: all memory is alike. 1: that of the first endpoint's regions is non-secure, all other
+                                   * secure (docs/MEMORY.md); no text says it */
     uint32_t tables; /* the first page of the endpoints' tables, counted from RAM's first, which is 0: they are in a row from there, 2 +
                       * ram_blocks pages for each endpoint, and regions may lie before them and behind; no text says it */
 };
 
-/* What boots, copies, gorseplumb_free and functions of lists answer. None is an error code of FF-A, which a call answers in its
+/* What boots, copies, gorseplumb_end and functions of lists answer. None is an error code of FF-A, which a call answers in its
  * registers. */
 enum gorseplumb_answer {
     GORSEPLUMB_OK = 0,
@@ -208,7 +207,7 @@ enum gorseplumb_answer {
     GORSEPLUMB_MANIFEST_TOML = 2,            /* the text is no TOML, or no UTF-8 */
     GORSEPLUMB_MANIFEST_UNKNOWN_KEY = 3,     /* a key that its table doesn't have */
     GORSEPLUMB_MANIFEST_MISSING_KEY = 4,     /* a table lacks one of its keys */
-    GORSEPLUMB_MANIFEST_WRONG_KIND = 5,      /* a value of another kind, unknown rights, or unknown worlds */
+    GORSEPLUMB_MANIFEST_WRONG_KIND = 5,      /* a value of another kind, unknown rights, or `has_security_states` that is neither 0 nor 1 */
     GORSEPLUMB_MANIFEST_RAM_BASE = 6,        /* 0, or no multiple of 0x200000; in a text, of GORSEPLUMB_MOST_RAM, or with no room for that many bytes below 4 GiB */
     GORSEPLUMB_MANIFEST_RAM_BLOCKS = 7,      /* not from 1 to GORSEPLUMB_MOST_BLOCKS, or not in one GiB */
     GORSEPLUMB_MANIFEST_ENDPOINT_COUNT = 8,  /* not from 1 to 8 */
@@ -226,7 +225,7 @@ enum gorseplumb_answer {
     GORSEPLUMB_NO_MACHINE = 19, /* there is no machine */
     GORSEPLUMB_WRONG_COUNT = 20, /* the list has more pages than the machine's RAM, or fewer */
     GORSEPLUMB_NOT_CERTIFIED = 21, /* the tables don't give what the runs say */
-    GORSEPLUMB_LENT = 22,          /* the machine's RAM is lent: gorseplumb_free gives it back */
+    GORSEPLUMB_LENT = 22,          /* the machine's RAM is lent: gorseplumb_end gives it back */
     GORSEPLUMB_BAD_BASE = 23,      /* RAM of so many pages can't stand at the address */
     GORSEPLUMB_BAD_ROOTS = 24,     /* there are more than endpoints of a machine, or one is at no page of RAM */
 
@@ -245,7 +244,7 @@ enum gorseplumb_answer gorseplumb_boot(struct gorseplumb_machine *machine, const
 
 /* The same of a manifest as numbers, for which no memory is needed but the machine's own and its RAM. Refused first, in
  * this order: more endpoints than places; then for each endpoint an unknown version, more regions than places, unknown
- * rights; then `worlds` that is neither 0 nor 1 (GORSEPLUMB_MANIFEST_WRONG_KIND). After that come the causes of a text, in the order in which it would be read,
+ * rights; then `has_security_states` that is neither 0 nor 1 (GORSEPLUMB_MANIFEST_WRONG_KIND). After that come the causes of a text, in the order in which it would be read,
  * with GORSEPLUMB_MANIFEST_TABLES_OUTSIDE behind the count of endpoints. */
 enum gorseplumb_answer gorseplumb_boot_manifest(struct gorseplumb_machine *machine,
                                                 const struct gorseplumb_manifest *manifest);
@@ -265,14 +264,14 @@ enum gorseplumb_answer gorseplumb_boot_lent_manifest(struct gorseplumb_machine *
  * kernel that was put there is there before the first operation, and a region that nobody may write to can have any
  * bytes. All others but the tables' are zeros, and whatever stood where the tables are built is gone. A boot
  * that is refused changes no byte. */
-enum gorseplumb_answer gorseplumb_boot_held(struct gorseplumb_machine *machine, struct gorseplumb_lent *lent,
+enum gorseplumb_answer gorseplumb_boot_preloaded(struct gorseplumb_machine *machine, struct gorseplumb_lent *lent,
                                             const uint8_t *text, size_t size);
-enum gorseplumb_answer gorseplumb_boot_held_manifest(struct gorseplumb_machine *machine, struct gorseplumb_lent *lent,
+enum gorseplumb_answer gorseplumb_boot_preloaded_manifest(struct gorseplumb_machine *machine, struct gorseplumb_lent *lent,
                                                      const struct gorseplumb_manifest *manifest);
 
 /* Makes the same machine as `original` once more, with RAM from the heap, whichever RAM that one has: for a test that
  * tries several operations from one state, or a checkpoint. GORSEPLUMB_OK: there was none, and now each operation gives
- * what it gives in `original`, since all is the same: the state, every byte of RAM, who runs on each processor, what is to
+ * what it gives in `original`, since all is the same: the state, every byte of RAM, who runs on each processor and which one is selected, what is to
  * be told of access that changed and what the normal world has been told of. From then on neither changes the other. Else
  * nothing has changed, the first that applies: GORSEPLUMB_OCCUPIED; GORSEPLUMB_NO_MACHINE, where there is none to copy; or
  * GORSEPLUMB_NO_MEMORY. To `original` it is a question. Where its RAM is lent, nobody may write there meanwhile: what
@@ -283,14 +282,14 @@ enum gorseplumb_answer gorseplumb_copy(struct gorseplumb_machine *machine, const
  * settles as a boot does. The first that applies: GORSEPLUMB_OCCUPIED, GORSEPLUMB_NO_LIST, GORSEPLUMB_NO_MACHINE,
  * GORSEPLUMB_WRONG_COUNT, where the pages aren't as many as the RAM of `original` has (512 for each block, of which
  * gorseplumb_ram_blocks tells the number), or GORSEPLUMB_NO_MEMORY, which comes only where a boot from numbers in the list
- * may be answered it. Back to where it came from a machine gets by a copy of the copy, in the pages that gorseplumb_free
+ * may be answered it. Back to where it came from a machine gets by a copy of the copy, in the pages that gorseplumb_end
  * has given back. A copy's tables have the addresses of its RAM, as those of `original` have: no processor walks them
  * where its pages stand elsewhere. */
 enum gorseplumb_answer gorseplumb_copy_lent(struct gorseplumb_machine *machine, struct gorseplumb_lent *lent,
                                             const struct gorseplumb_machine *original);
 
 /* Reads a manifest's text of `size` bytes into numbers, which a boot would go by, so that RAM can be lent that has the
- * size which the text describes. GORSEPLUMB_OK: `manifest` gives what the text describes, `worlds` and `tables` are 0, and what stands
+ * size which the text describes. GORSEPLUMB_OK: `manifest` gives what the text describes, `has_security_states` and `tables` are 0, and what stands
  * behind the endpoints and regions that it counts is zeros. Else `manifest` stays: GORSEPLUMB_NO_MEMORY, since reading takes
  * memory, all of which it gives back, or the cause for which gorseplumb_boot would refuse the text. */
 enum gorseplumb_answer gorseplumb_read_manifest(const uint8_t *text, size_t size, struct gorseplumb_manifest *manifest);
@@ -316,10 +315,11 @@ enum gorseplumb_answer gorseplumb_why_text(const uint8_t *text, size_t size, str
  * `refusal` stays. */
 enum gorseplumb_answer gorseplumb_why_manifest(const struct gorseplumb_manifest *manifest, struct gorseplumb_refusal *refusal);
 
-/* One operation of the endpoint that runs: a call with eight registers, a load of 1, 2, 4 or 8 bytes, a store of the
- * value's lowest bytes, as many as `size` says, and a fetch of one instruction. The outcome and the machine's next
- * state are those of the definition of the machine, and with them goes every promise that the machine's own operations
- * make, but what these say of a cache and `reads_no_more` (docs/THEOREMS.md). A load and a store of another size answer
+/* One operation of the endpoint that runs on the selected processor: a call with eight registers, a load of 1, 2, 4 or 8
+ * bytes, a store of the value's lowest bytes, as many as `size` says, and a fetch of one instruction. The outcome and the
+ * machine's next state are those of the definition of the machine, and with them goes every promise that the machine's
+ * own operations make, but what these say of a cache and `reads_no_more` (docs/THEOREMS.md). FFA_RUN of a partition that an
+ * interrupt had stopped lets it go on, and answers GORSEPLUMB_KIND_RESUMED. A load and a store of another size answer
  * GORSEPLUMB_KIND_BAD_SIZE, with a machine or without one; every other operation answers GORSEPLUMB_KIND_NO_MACHINE
  * where there is none. With either nothing was done. */
 struct gorseplumb_outcome gorseplumb_call(struct gorseplumb_machine *machine, const struct gorseplumb_registers *registers);
@@ -343,7 +343,7 @@ struct gorseplumb_operation {
     uint64_t x[8];    /* of a call */
 };
 
-/* Operations one after another, each of the endpoint that runs then: as many as both lists have places, which it
+/* Operations one after another, each of the endpoint that runs then on the selected processor: as many as both lists have places, which it
  * answers. Each has the outcome of its own call above, and does what that does, so nothing of what is promised of these
  * is lost; an unknown kind is answered as an unknown size, by GORSEPLUMB_KIND_BAD_SIZE, and the next operation is done.
  * Places of `outcomes` behind those stay. */
@@ -353,29 +353,20 @@ size_t gorseplumb_run(struct gorseplumb_machine *machine, const struct gorseplum
 /* How many processors may run endpoints of a machine: 0 to 7. */
 #define GORSEPLUMB_MOST_PROCESSORS 8
 
-/* The four operations above of whoever runs on a processor, where several run endpoints of a machine at once: on each runs the
- * normal world or a partition, and each partition on one at most. They are done in the machine as that processor sees it,
- * in which a partition that another one runs is busy, and the normal world, which is on each, may call. When a machine has
- * booted the normal world runs on all. One thing is as above no more: FFA_RUN of a partition that an interrupt had stopped
- * lets it go on, on this processor, and answers GORSEPLUMB_KIND_RESUMED; above that partition is busy. Where there is no
- * such processor the answer is GORSEPLUMB_KIND_NO_PROCESSOR. Everything that names no processor is of the one that did
- * the last operation or took the last interrupt, at first of 0: so who has one processor needs none of these.
+/* Selects a processor: operations, interrupts and questions are of whoever runs there, until another one is selected. True:
+ * it is selected. False, and nothing has changed: there is no such processor, or no machine. Processor 0 is selected when a
+ * machine has booted, and the normal world runs on all. So who has one processor needs no call of this.
  *
- * Three calls of the normal world are served here alone: FFA_NOTIFICATION_INFO_GET (84000083, C4000083), with FFA_FEATURES
- * of it; FFA_NOTIFICATION_BITMAP_CREATE for up to GORSEPLUMB_MOST_PROCESSORS contexts; and FFA_NOTIFICATION_GET in any of
- * as many. */
-struct gorseplumb_outcome gorseplumb_call_on(struct gorseplumb_machine *machine, uint32_t processor,
-                                             const struct gorseplumb_registers *registers);
-struct gorseplumb_outcome gorseplumb_load_on(struct gorseplumb_machine *machine, uint32_t processor, uint64_t address, uint32_t size);
-struct gorseplumb_outcome gorseplumb_store_on(struct gorseplumb_machine *machine, uint32_t processor, uint64_t address, uint32_t size,
-                                              uint64_t value);
-struct gorseplumb_outcome gorseplumb_fetch_on(struct gorseplumb_machine *machine, uint32_t processor, uint64_t address);
+ * On each processor runs the normal world or a partition, and each partition on one at most. An operation is done in the
+ * machine as the selected processor sees it, in which a partition that another one runs is busy, and the normal world,
+ * which is on each, may call. */
+bool gorseplumb_select(struct gorseplumb_machine *machine, uint32_t processor);
 
-/* An interrupt that a processor takes and that the normal world is to handle. GORSEPLUMB_KIND_REGISTERS: a partition ran
- * there, and stops where it is, preempted; the normal world runs there and sees FFA_INTERRUPT, which names the partition,
- * whose registers firmware keeps until it goes on. GORSEPLUMB_KIND_DONE: the normal world runs there and takes the interrupt
- * by itself, and nothing changes. Else GORSEPLUMB_KIND_NO_MACHINE or GORSEPLUMB_KIND_NO_PROCESSOR, and nothing was done. */
-struct gorseplumb_outcome gorseplumb_interrupt(struct gorseplumb_machine *machine, uint32_t processor);
+/* An interrupt that the selected processor takes and that the normal world is to handle. GORSEPLUMB_KIND_REGISTERS: a
+ * partition ran there, and stops where it is, preempted; the normal world runs there and sees FFA_INTERRUPT, which names the
+ * partition, whose registers firmware keeps until it goes on. GORSEPLUMB_KIND_DONE: the normal world runs there and takes the
+ * interrupt by itself, and nothing changes. Else GORSEPLUMB_KIND_NO_MACHINE, and nothing was done. */
+struct gorseplumb_outcome gorseplumb_interrupt(struct gorseplumb_machine *machine);
 
 /* Pages in a row. */
 struct gorseplumb_range {
@@ -396,17 +387,14 @@ struct gorseplumb_change {
  * `change` stays: that call changed nobody's access, as a share, or was told before, or there was none, or there is no
  * machine. Asked behind each operation it tells all that this one changed, for an SMMU's tables, say: no other access
  * changed; what the access is now, gorseplumb_access answers. */
-bool gorseplumb_changed(struct gorseplumb_machine *machine, struct gorseplumb_change *change);
+bool gorseplumb_take_change(struct gorseplumb_machine *machine, struct gorseplumb_change *change);
 
 /* Questions, which change nothing and write nothing to the machine. Those that answer a number answer
  * GORSEPLUMB_NOTHING where there is no machine.
  *
- * The endpoint that runs, and how many there are. */
+ * The endpoint that runs on the selected processor, and how many endpoints there are. */
 uint32_t gorseplumb_runner(const struct gorseplumb_machine *machine);
 uint32_t gorseplumb_endpoints(const struct gorseplumb_machine *machine);
-
-/* The endpoint that runs on a processor. GORSEPLUMB_NOTHING also where there is no such processor. */
-uint32_t gorseplumb_runner_on(const struct gorseplumb_machine *machine, uint32_t processor);
 
 /* The address of RAM's first byte, and how many blocks of 2 MiB RAM has. */
 uint32_t gorseplumb_ram_base(const struct gorseplumb_machine *machine);
@@ -458,11 +446,11 @@ bool gorseplumb_cert_run(const struct gorseplumb_machine *machine, uint32_t page
 /* Whether an endpoint has a notification pending, which its next FFA_NOTIFICATION_GET of all classes would give it:
  * what its processor's interrupt is to be sent for, without a look at each call. False: there is none, no such
  * endpoint, or no machine. */
-bool gorseplumb_pending(const struct gorseplumb_machine *machine, uint16_t endpoint);
+bool gorseplumb_npi_pending(const struct gorseplumb_machine *machine, uint16_t endpoint);
 
 /* Whether the normal world's schedule receiver interrupt is to be pending: a notification is pending of an endpoint that
  * no FFA_NOTIFICATION_INFO_GET has told it of since. False too: there is no machine. */
-bool gorseplumb_schedule_due(const struct gorseplumb_machine *machine);
+bool gorseplumb_sri_pending(const struct gorseplumb_machine *machine);
 
 /* Copies the bytes of a page of RAM: true. False: there is no machine, or a machine without such a page, which the
  * answer doesn't tell apart, and `bytes` stays. */
@@ -717,11 +705,11 @@ enum gorseplumb_answer gorseplumb_audit_tables(struct gorseplumb_lent *lent, uin
  * lent goes whole to `lent`, an empty list: every page, in order, with the bytes that it has; and so does the machine's
  * memory, so the next boot in these pages takes none, whichever endpoints it has, but for what a text takes while it is
  * read. GORSEPLUMB_OK: there is no machine any more. Else nothing has changed: GORSEPLUMB_NO_MACHINE, and where RAM was lent GORSEPLUMB_NO_LIST or GORSEPLUMB_HAS_PAGES. */
-enum gorseplumb_answer gorseplumb_free(struct gorseplumb_machine *machine, struct gorseplumb_lent *lent);
+enum gorseplumb_answer gorseplumb_end(struct gorseplumb_machine *machine, struct gorseplumb_lent *lent);
 
 /* The same of a machine whose RAM is of the heap, without a list. GORSEPLUMB_OK: there is no machine any more. Else
- * nothing has changed: GORSEPLUMB_NO_MACHINE, or GORSEPLUMB_LENT, where RAM was lent and gorseplumb_free ends it. */
-enum gorseplumb_answer gorseplumb_end(struct gorseplumb_machine *machine);
+ * nothing has changed: GORSEPLUMB_NO_MACHINE, or GORSEPLUMB_LENT, where RAM was lent and gorseplumb_end ends it. */
+enum gorseplumb_answer gorseplumb_end_heap(struct gorseplumb_machine *machine);
 
 /* Makes an empty list with room for so many pages, in seven pieces of memory: the list, its pages' addresses, and of
  * the machine that is booted in it its place, its records, four bytes for each page, 78 KiB of slots for open

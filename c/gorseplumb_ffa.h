@@ -110,15 +110,6 @@ static inline struct gorseplumb_outcome gorseplumb_make_call(struct gorseplumb_m
  */
 #define GORSEPLUMB_CALL(machine, ...) gorseplumb_make_call(machine, GORSEPLUMB_REGISTERS(__VA_ARGS__))
 
-/* The same of whoever runs on a processor. */
-static inline struct gorseplumb_outcome gorseplumb_make_call_on(struct gorseplumb_machine *machine, uint32_t processor,
-                                                                struct gorseplumb_registers registers) {
-    return gorseplumb_call_on(machine, processor, &registers);
-}
-
-#define GORSEPLUMB_CALL_ON(machine, processor, ...) \
-    gorseplumb_make_call_on(machine, processor, GORSEPLUMB_REGISTERS(__VA_ARGS__))
-
 /* Bits 31:16 and bits 15:0 of w1, which name two endpoints, or an endpoint and its execution context: as one number,
  * and apart. */
 static inline uint32_t gorseplumb_pair(uint16_t first, uint16_t second) { return (uint32_t)first << 16 | second; }

@@ -248,7 +248,7 @@ static const char answer_names[] =
     "there is no machine\0"
     "the list has more pages than the machine's RAM, or fewer\0"
     "the tables don't give what the runs say\0"
-    "the machine's RAM is lent: gorseplumb_free gives it back\0"
+    "the machine's RAM is lent: gorseplumb_end gives it back\0"
     "RAM of so many pages can't stand at the address\0"
     "there are more than endpoints of a machine, or one is at no page of RAM\0"
     "M25 TablesOutside\0";

@@ -1,8 +1,8 @@
 /* SPDX-License-Identifier: MIT OR Apache-2.0 */
-/* Plays a trace through the border, and prints what the program prints: play heap|lent|explain|worlds|several MANIFEST TRACE. With `lent` the
- * machine stands in pages of this program, and with `explain` a reason follows each operation that is refused; with `worlds` too, of a machine
- * that tells non-secure memory from secure memory. With `several` a line `on N` says which
- * processor does what follows, 0 at first, and `interrupt` that it takes one; a partition that goes on is printed as `resumed E`. Whether the tables agree with gorseplumb_access is found by a walk of their bytes. */
+/* Plays a trace through the border, and prints what the program prints with --processors 8: play heap|lent|explain|worlds MANIFEST TRACE.
+ * With `lent` the machine stands in pages of this program, and with `explain` a reason follows each operation that is refused; with `worlds`
+ * too, of a machine that tells non-secure memory from secure memory. Whether the tables agree with gorseplumb_access is found by a walk of
+ * their bytes. */
 #include <inttypes.h>
 #include <stdio.h>
 #include <stdlib.h>
@@ -44,10 +44,6 @@ static char *text_of(const char *path, size_t *size) {
     fclose(file);
     return text;
 }
-
-/* Whether several processors run endpoints, and which one does what comes next. */
-static bool is_several;
-static uint32_t processor;
 
 static void print_value(uint64_t value, unsigned size) {
     printf("data %0*" PRIX64 "\n", (int)(2 * size), value);
@@ -116,7 +112,7 @@ static const char *const rights[] = {"---", "r--", "", "rw-", "", "r-x", "", "rw
 
 static void show(void) {
     uint32_t endpoints = gorseplumb_endpoints(&machine);
-    printf("runner %04" PRIX32 "\n", is_several ? gorseplumb_runner_on(&machine, processor) : gorseplumb_runner(&machine));
+    printf("runner %04" PRIX32 "\n", gorseplumb_runner(&machine));
     uint32_t first = 0;
     while (gorseplumb_owner(&machine, first) != GORSEPLUMB_NOTHING) {
         uint32_t behind = first + 1;
@@ -181,32 +177,13 @@ static void audit(void) {
     printf(all_agree ? "agrees\n" : "differs\n");
 }
 
-static struct gorseplumb_outcome call(const struct gorseplumb_registers *registers) {
-    return is_several ? gorseplumb_call_on(&machine, processor, registers) : gorseplumb_call(&machine, registers);
+static void select_processor(uint64_t processor) {
+    if (processor > UINT32_MAX || !gorseplumb_select(&machine, (uint32_t)processor)) stop("no such processor");
 }
 
-static struct gorseplumb_outcome load(uint64_t address, uint32_t size) {
-    return is_several ? gorseplumb_load_on(&machine, processor, address, size) : gorseplumb_load(&machine, address, size);
-}
-
-static struct gorseplumb_outcome store(uint64_t address, uint32_t size, uint64_t value) {
-    return is_several ? gorseplumb_store_on(&machine, processor, address, size, value) : gorseplumb_store(&machine, address, size, value);
-}
-
-static struct gorseplumb_outcome fetch(uint64_t address) {
-    return is_several ? gorseplumb_fetch_on(&machine, processor, address) : gorseplumb_fetch(&machine, address);
-}
-
-/* A line that is none of a trace of one processor: whether it is one of several. */
-static bool play_several(const char *word, uint64_t number) {
-    if (!is_several) return false;
-    if (strcmp(word, "on") == 0 && number < GORSEPLUMB_MOST_PROCESSORS) {
-        processor = (uint32_t)number;
-        return true;
-    }
-    if (strcmp(word, "interrupt") != 0) return false;
-    print_outcome(gorseplumb_interrupt(&machine, processor), 0);
-    return true;
+static void interrupt(void) {
+    reason[0] = '\0';
+    print_outcome(gorseplumb_interrupt(&machine), 0);
 }
 
 static void play(char *line) {
@@ -223,21 +200,25 @@ static void play(char *line) {
         struct gorseplumb_registers registers;
         memcpy(registers.x, numbers, sizeof registers.x);
         EXPLAIN(call, &registers);
-        print_outcome(call(&registers), 0);
+        print_outcome(gorseplumb_call(&machine, &registers), 0);
     } else if (strcmp(word, "load") == 0) {
         EXPLAIN(load, numbers[0], (uint32_t)numbers[1]);
-        print_outcome(load(numbers[0], (uint32_t)numbers[1]), (unsigned)numbers[1]);
+        print_outcome(gorseplumb_load(&machine, numbers[0], (uint32_t)numbers[1]), (unsigned)numbers[1]);
     } else if (strcmp(word, "store") == 0) {
         EXPLAIN(store, numbers[0], (uint32_t)(digits / 2));
-        print_outcome(store(numbers[0], (uint32_t)(digits / 2), numbers[1]), 0);
+        print_outcome(gorseplumb_store(&machine, numbers[0], (uint32_t)(digits / 2), numbers[1]), 0);
     } else if (strcmp(word, "fetch") == 0) {
         EXPLAIN(fetch, numbers[0]);
-        print_outcome(fetch(numbers[0]), 4);
+        print_outcome(gorseplumb_fetch(&machine, numbers[0]), 4);
     } else if (strcmp(word, "show") == 0) {
         show();
     } else if (strcmp(word, "audit") == 0) {
         audit();
-    } else if (!play_several(word, numbers[0])) {
+    } else if (strcmp(word, "on") == 0) {
+        select_processor(numbers[0]);
+    } else if (strcmp(word, "interrupt") == 0) {
+        interrupt();
+    } else {
         stop("a line that isn't known");
     }
 }
@@ -246,7 +227,7 @@ static void play(char *line) {
 static void boot_with_worlds(const char *text, size_t size) {
     static struct gorseplumb_manifest manifest;
     if (gorseplumb_read_manifest((const uint8_t *)text, size, &manifest) != GORSEPLUMB_OK) stop("the manifest is refused");
-    manifest.worlds = 1;
+    manifest.has_security_states = 1;
     if (gorseplumb_boot_manifest(&machine, &manifest) != GORSEPLUMB_OK) stop("no boot of a manifest that was read");
 }
 
@@ -258,7 +239,7 @@ static void boot_on_heap(const char *text, size_t size) {
 static uint32_t boot_in(struct gorseplumb_page *pages, struct gorseplumb_lent *lent, const char *text, size_t size) {
     boot_on_heap(text, size);
     uint32_t count = pages_of_ram();
-    if (gorseplumb_free(&machine, lent) != GORSEPLUMB_OK) stop("the machine wasn't freed");
+    if (gorseplumb_end(&machine, lent) != GORSEPLUMB_OK) stop("the machine wasn't freed");
     if (gorseplumb_lend_all(lent, pages, count) != GORSEPLUMB_OK) stop("no pages were lent");
     if (gorseplumb_boot_lent(&machine, lent, (const uint8_t *)text, size) != GORSEPLUMB_OK) stop("no boot in lent pages");
     return count;
@@ -267,8 +248,7 @@ static uint32_t boot_in(struct gorseplumb_page *pages, struct gorseplumb_lent *l
 int main(int count, char **words) {
     static struct gorseplumb_page pages[MOST_PAGES];
     struct gorseplumb_lent lent = {0};
-    if (count != 4) stop("play heap|lent|explain|worlds|several MANIFEST TRACE");
-    is_several = strcmp(words[1], "several") == 0;
+    if (count != 4) stop("play heap|lent|explain|worlds MANIFEST TRACE");
     bool tells_worlds = strcmp(words[1], "worlds") == 0;
     explains = tells_worlds || strcmp(words[1], "explain") == 0;
     bool is_lent = strcmp(words[1], "lent") == 0;
@@ -285,7 +265,7 @@ int main(int count, char **words) {
         *end = '\0';
         play(line);
     }
-    if (gorseplumb_free(&machine, &lent) != GORSEPLUMB_OK) stop("the machine wasn't freed");
+    if (gorseplumb_end(&machine, &lent) != GORSEPLUMB_OK) stop("the machine wasn't freed");
     if (is_lent && !gorseplumb_take_all_back(&lent, pages, lent_pages)) stop("pages weren't given back");
     free(text);
     free(trace);

@@ -106,14 +106,14 @@ static void boot_lent(void) { check(gorseplumb_boot_lent_manifest(&machine, &lis
 
 static void boot_heap(void) { check(gorseplumb_boot_manifest(&machine, &manifest) == GORSEPLUMB_OK, "no boot on RAM of the heap"); }
 
-static void end(void) { check(gorseplumb_free(&machine, &list) == GORSEPLUMB_OK, "the machine doesn't end"); }
+static void end(void) { check(gorseplumb_end(&machine, &list) == GORSEPLUMB_OK, "the machine doesn't end"); }
 
 static void copy_to_heap(void) { check(gorseplumb_copy(&saved, &machine) == GORSEPLUMB_OK, "no copy on RAM of the heap"); }
 
 static void copy_to_lent(void) {
     check(gorseplumb_copy_lent(&machine, &list, &saved) == GORSEPLUMB_OK, "no copy in lent pages");
     check(gorseplumb_load(&machine, 0x40010000, 8).value == 0x2A, "a copy has other bytes");
-    check(gorseplumb_end(&saved) == GORSEPLUMB_OK, "the copy doesn't end");
+    check(gorseplumb_end_heap(&saved) == GORSEPLUMB_OK, "the copy doesn't end");
 }
 
 static void take_pages_back(void) { check(gorseplumb_take_all_back(&list, pages, 512), "pages stay lent"); }
@@ -169,7 +169,7 @@ static void operate(void) {
     lend();
     call(0, FFA_RUN, 0x80010000, 0, 0, FFA_RUN);
     borrow();
-    check(gorseplumb_changed(&machine, &change) && change.endpoint == 0x8001, "no change is told");
+    check(gorseplumb_take_change(&machine, &change) && change.endpoint == 0x8001, "no change is told");
     check(gorseplumb_fetch(&machine, 0x40020000).kind == GORSEPLUMB_KIND_DATA, "a fetch isn't done");
     call(0x8001, FFA_MSG_WAIT, 0, 0, 0, FFA_MSG_WAIT);
     call(0, FFA_MEM_RECLAIM, 1, 0, 0, FFA_SUCCESS);

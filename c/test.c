@@ -66,14 +66,14 @@ static void faults(struct gorseplumb_outcome told, uint64_t fault) { CHECK(told.
 static void nothing_changed(void) {
     static struct gorseplumb_change change;
     memset(&change, 0x5A, sizeof change);
-    CHECK(!gorseplumb_changed(&machine, &change) && change.endpoint == 0x5A5A5A5A && change.ranges[63].size == 0x5A5A5A5A5A5A5A5A);
+    CHECK(!gorseplumb_take_change(&machine, &change) && change.endpoint == 0x5A5A5A5A && change.ranges[63].size == 0x5A5A5A5A5A5A5A5A);
 }
 
 /* The last operation has changed the access of this endpoint to this page, and to no other, which is told once. */
 static void changed(uint32_t endpoint, uint64_t address) {
     static struct gorseplumb_change change;
     memset(&change, 0x5A, sizeof change);
-    CHECK(gorseplumb_changed(&machine, &change) && change.endpoint == endpoint && change.range_count == 1);
+    CHECK(gorseplumb_take_change(&machine, &change) && change.endpoint == endpoint && change.range_count == 1);
     CHECK(change.ranges[0].address == address && change.ranges[0].size == GORSEPLUMB_PAGE_SIZE);
     for (int place = 1; place < GORSEPLUMB_MOST_RANGES; place++) CHECK(change.ranges[place].address == 0 && change.ranges[place].size == 0);
     nothing_changed();
@@ -165,7 +165,7 @@ static void lend(void) {
 /* Notifications are pending for these endpoints, and for nobody else. */
 static void pending_for(bool first, bool second) {
     for (uint32_t endpoint = 0; endpoint <= UINT16_MAX; endpoint++) {
-        CHECK(gorseplumb_pending(&machine, (uint16_t)endpoint) == ((endpoint == 0x8001 && first) || (endpoint == 0x8002 && second)));
+        CHECK(gorseplumb_npi_pending(&machine, (uint16_t)endpoint) == ((endpoint == 0x8001 && first) || (endpoint == 0x8002 && second)));
     }
 }
 
@@ -202,7 +202,7 @@ static void out_of_order(void) {
     struct gorseplumb_registers none = {{0}};
     static struct gorseplumb_page bytes;
     struct gorseplumb_lent untouched = {0};
-    CHECK(gorseplumb_free(&machine, &untouched) == GORSEPLUMB_OK && gorseplumb_free(&machine, &untouched) == GORSEPLUMB_NO_MACHINE);
+    CHECK(gorseplumb_end(&machine, &untouched) == GORSEPLUMB_OK && gorseplumb_end(&machine, &untouched) == GORSEPLUMB_NO_MACHINE);
     CHECK(!machine.live && machine.at == NULL && !untouched.live);
     CHECK(gorseplumb_call(&machine, &none).kind == GORSEPLUMB_KIND_NO_MACHINE &&
           gorseplumb_fetch(&machine, 0).kind == GORSEPLUMB_KIND_NO_MACHINE);
@@ -214,7 +214,7 @@ static void out_of_order(void) {
     CHECK(gorseplumb_owner(&machine, 0) == GORSEPLUMB_NOTHING);
     nothing_changed();
     CHECK(gorseplumb_access(&machine, 0, 0) == GORSEPLUMB_NOTHING && !gorseplumb_read_page(&machine, 0, &bytes) &&
-          !gorseplumb_pending(&machine, 0));
+          !gorseplumb_npi_pending(&machine, 0));
     CHECK(gorseplumb_boot(&machine, (const uint8_t *)"", 0) == 4 && !machine.live);
     CHECK(gorseplumb_boot(&machine, (const uint8_t *)"\xFF", 1) == 2 && gorseplumb_boot(&machine, (const uint8_t *)"a = ", 4) == 2);
     CHECK(gorseplumb_boot(&machine, text, text_size) == GORSEPLUMB_OK);
@@ -229,7 +229,7 @@ static void out_of_order(void) {
     /* A machine is moved with its struct. */
     struct gorseplumb_machine moved = machine;
     machine = (struct gorseplumb_machine){0};
-    CHECK(gorseplumb_runner(&moved) == 0 && gorseplumb_free(&moved, &untouched) == GORSEPLUMB_OK);
+    CHECK(gorseplumb_runner(&moved) == 0 && gorseplumb_end(&moved, &untouched) == GORSEPLUMB_OK);
 }
 
 static struct gorseplumb_lent list;
@@ -249,7 +249,7 @@ static void lists(void) {
     CHECK(gorseplumb_lend(&list, &full) == GORSEPLUMB_NO_LIST && full.live && gorseplumb_take_back(&list, &slot) == GORSEPLUMB_NO_LIST);
     CHECK(gorseplumb_end_lending(&list) == GORSEPLUMB_NO_LIST && gorseplumb_lent_pages(&list) == 0);
     CHECK(gorseplumb_boot_lent(&machine, &list, text, text_size) == GORSEPLUMB_NO_LIST);
-    CHECK(gorseplumb_free(&machine, &list) == GORSEPLUMB_NO_MACHINE);
+    CHECK(gorseplumb_end(&machine, &list) == GORSEPLUMB_NO_MACHINE);
     CHECK(gorseplumb_begin_lending(&list, 4) == GORSEPLUMB_OK && gorseplumb_begin_lending(&list, 4) == GORSEPLUMB_OCCUPIED);
     CHECK(gorseplumb_lend(&list, &slot) == GORSEPLUMB_NO_PAGE && gorseplumb_take_back(&list, &slot) == GORSEPLUMB_NO_PAGE);
     CHECK(gorseplumb_lend(&list, &full) == GORSEPLUMB_OK && !full.live && gorseplumb_lend(&list, &full) == GORSEPLUMB_NO_PAGE);
@@ -316,7 +316,7 @@ static struct gorseplumb_manifest row_manifest(void) {
 static uint32_t refusal(const struct gorseplumb_manifest *manifest) {
     struct gorseplumb_lent untouched = {0};
     uint32_t answer = gorseplumb_boot_manifest(&machine, manifest);
-    if (answer == GORSEPLUMB_OK) CHECK(gorseplumb_free(&machine, &untouched) == GORSEPLUMB_OK);
+    if (answer == GORSEPLUMB_OK) CHECK(gorseplumb_end(&machine, &untouched) == GORSEPLUMB_OK);
     CHECK(!machine.live && pieces == 0);
     return answer;
 }
@@ -328,7 +328,7 @@ static void numbers(void) {
     first_row();
     pending();
     lend();
-    CHECK(gorseplumb_free(&machine, &untouched) == GORSEPLUMB_OK);
+    CHECK(gorseplumb_end(&machine, &untouched) == GORSEPLUMB_OK);
 #define REFUSED(answer_, ...) \
     do { \
         manifest = right; \
@@ -393,7 +393,7 @@ static void in_two_spans(void) {
           gorseplumb_lend_span(&list, &first) == GORSEPLUMB_OK);
     CHECK(gorseplumb_boot_lent_manifest(&machine, &list, &manifest) == GORSEPLUMB_OK);
     CHECK(gorseplumb_store(&machine, 0x40010000, 1, 0x2A).kind == GORSEPLUMB_KIND_DONE && pages[256 + 16].bytes[0] == 0x2A);
-    CHECK(gorseplumb_free(&machine, &list) == GORSEPLUMB_OK && gorseplumb_lent_pages(&list) == 512);
+    CHECK(gorseplumb_end(&machine, &list) == GORSEPLUMB_OK && gorseplumb_lent_pages(&list) == 512);
     for (int i = 0; i < 512; i++) {
         struct gorseplumb_slot slot = {0};
         CHECK(gorseplumb_take_back(&list, &slot) == GORSEPLUMB_OK && slot.at == &pages[(255 - i) & 511]);
@@ -416,7 +416,7 @@ static void zeros_first(void) {
     CALL(0x8001, 0x84000061, 0, 0, 0, 0x84000077, 2, 0x8001, 1);
     CHECK(waits == 1 && waited_at == 0x40021000 && waited_over == 0);
     loads(0x40021000, 1, 0);
-    CHECK(gorseplumb_free(&machine, &list) == GORSEPLUMB_OK && gorseplumb_take_all_back(&list, pages, 512) && pieces == 0);
+    CHECK(gorseplumb_end(&machine, &list) == GORSEPLUMB_OK && gorseplumb_take_all_back(&list, pages, 512) && pieces == 0);
 }
 
 /* What a machine leaves is room for any other in the same pages: one of more endpoints takes no memory behind it. */
@@ -430,7 +430,7 @@ static void larger_machines(void) {
         CHECK(gorseplumb_boot_lent_manifest(&machine, &list, &manifest) == GORSEPLUMB_OK);
         CHECK(gorseplumb_endpoints(&machine) == manifest.endpoint_count && (asked == 0 || manifest.endpoint_count == 1));
         asked = 0;
-        CHECK(gorseplumb_free(&machine, &list) == GORSEPLUMB_OK && asked == 0 && gorseplumb_lent_pages(&list) == 512);
+        CHECK(gorseplumb_end(&machine, &list) == GORSEPLUMB_OK && asked == 0 && gorseplumb_lent_pages(&list) == 512);
     }
     CHECK(gorseplumb_take_all_back(&list, pages, 512) && pieces == 0);
 }
@@ -444,7 +444,7 @@ static void at_odd_addresses(void) {
     first_row();
     lend();
     CHECK(memory[1 + 16 * GORSEPLUMB_PAGE_SIZE] == 0x2A && memory[1 + 33 * GORSEPLUMB_PAGE_SIZE] == 0x5A);
-    CHECK(gorseplumb_free(&machine, &list) == GORSEPLUMB_OK && gorseplumb_take_all_back(&list, odd, 512) && pieces == 0);
+    CHECK(gorseplumb_end(&machine, &list) == GORSEPLUMB_OK && gorseplumb_take_all_back(&list, odd, 512) && pieces == 0);
 }
 
 static void lent_machine(void) {
@@ -473,11 +473,11 @@ static void lent_machine(void) {
     /* A machine ends only where there is an empty list for its pages. */
     struct gorseplumb_lent other = {0};
     struct gorseplumb_slot slot = {true, &pages[512]};
-    CHECK(gorseplumb_free(&machine, &other) == GORSEPLUMB_NO_LIST && machine.live);
-    CHECK(gorseplumb_lend(&list, &slot) == GORSEPLUMB_OK && gorseplumb_free(&machine, &list) == GORSEPLUMB_HAS_PAGES && machine.live);
+    CHECK(gorseplumb_end(&machine, &other) == GORSEPLUMB_NO_LIST && machine.live);
+    CHECK(gorseplumb_lend(&list, &slot) == GORSEPLUMB_OK && gorseplumb_end(&machine, &list) == GORSEPLUMB_HAS_PAGES && machine.live);
     CHECK(gorseplumb_take_back(&list, &slot) == GORSEPLUMB_OK && slot.at == &pages[512]);
     CHECK(gorseplumb_load(&machine, 0x40021000, 1).kind != GORSEPLUMB_KIND_NO_MACHINE);
-    CHECK(gorseplumb_free(&machine, &list) == GORSEPLUMB_OK && !machine.live && gorseplumb_lent_pages(&list) == 512);
+    CHECK(gorseplumb_end(&machine, &list) == GORSEPLUMB_OK && !machine.live && gorseplumb_lent_pages(&list) == 512);
     CHECK(pages[33].bytes[0] == 0x5A && pieces == LIST_PIECES);
     /* Nor does the next boot take any, and that of a text gives all back that it takes. */
     manifest.ram_blocks = 0;
@@ -485,14 +485,14 @@ static void lent_machine(void) {
     manifest.ram_blocks = 1;
     asked = 0;
     CHECK(gorseplumb_boot_lent_manifest(&machine, &list, &manifest) == GORSEPLUMB_OK && pages[33].bytes[0] == 0);
-    CHECK(gorseplumb_free(&machine, &list) == GORSEPLUMB_OK && asked == 0 && pieces == LIST_PIECES);
+    CHECK(gorseplumb_end(&machine, &list) == GORSEPLUMB_OK && asked == 0 && pieces == LIST_PIECES);
     CHECK(gorseplumb_boot_lent(&machine, &list, text, text_size) == GORSEPLUMB_OK && asked > 0 && pieces == LIST_PIECES);
-    CHECK(gorseplumb_free(&machine, &list) == GORSEPLUMB_OK && pieces == LIST_PIECES);
+    CHECK(gorseplumb_end(&machine, &list) == GORSEPLUMB_OK && pieces == LIST_PIECES);
     CHECK(gorseplumb_take_all_back(&list, pages, 512) && pieces == 0);
     in_two_spans();
     /* A machine over the heap's RAM gives no pages back. */
     CHECK(gorseplumb_begin_lending(&list, 0) == GORSEPLUMB_OK && gorseplumb_boot(&machine, text, text_size) == GORSEPLUMB_OK);
-    CHECK(gorseplumb_free(&machine, &list) == GORSEPLUMB_OK && gorseplumb_lent_pages(&list) == 0);
+    CHECK(gorseplumb_end(&machine, &list) == GORSEPLUMB_OK && gorseplumb_lent_pages(&list) == 0);
     CHECK(gorseplumb_end_lending(&list) == GORSEPLUMB_OK && pieces == 0);
     /* A manifest that is refused leaves the pages lent. */
     manifest.ram_blocks = 2;
@@ -538,24 +538,24 @@ static void held_machine(void) {
     struct gorseplumb_manifest manifest = row_manifest();
     manifest.endpoints[1].regions[0].rights = GORSEPLUMB_READ | GORSEPLUMB_EXECUTE;
     manifest.endpoints[2].regions[0].rights = GORSEPLUMB_READ;
-    CHECK(gorseplumb_boot_held_manifest(&machine, &list, &manifest) == GORSEPLUMB_NO_LIST &&
-          gorseplumb_boot_held(&machine, &list, text, text_size) == GORSEPLUMB_NO_LIST);
+    CHECK(gorseplumb_boot_preloaded_manifest(&machine, &list, &manifest) == GORSEPLUMB_NO_LIST &&
+          gorseplumb_boot_preloaded(&machine, &list, text, text_size) == GORSEPLUMB_NO_LIST);
     CHECK(gorseplumb_lend_all(&list, pages, 512) == GORSEPLUMB_OK &&
           gorseplumb_boot_lent_manifest(&machine, &list, &manifest) == GORSEPLUMB_OK);
     memcpy(tables, pages, sizeof tables);
-    CHECK(gorseplumb_free(&machine, &list) == GORSEPLUMB_OK);
+    CHECK(gorseplumb_end(&machine, &list) == GORSEPLUMB_OK);
     mark_pages();
     /* What is refused leaves all bytes. */
     manifest.ram_blocks = 0;
-    CHECK(gorseplumb_boot_held_manifest(&machine, &list, &manifest) == GORSEPLUMB_MANIFEST_RAM_BLOCKS);
+    CHECK(gorseplumb_boot_preloaded_manifest(&machine, &list, &manifest) == GORSEPLUMB_MANIFEST_RAM_BLOCKS);
     manifest.ram_blocks = 2;
-    CHECK(gorseplumb_boot_held_manifest(&machine, &list, &manifest) == GORSEPLUMB_WRONG_COUNT &&
-          gorseplumb_boot_held(&machine, &list, text, 4) == 2);
+    CHECK(gorseplumb_boot_preloaded_manifest(&machine, &list, &manifest) == GORSEPLUMB_WRONG_COUNT &&
+          gorseplumb_boot_preloaded(&machine, &list, text, 4) == 2);
     for (int i = 0; i < 512; i++) CHECK(is_filled(&pages[i], mark(i)));
     CHECK(!machine.live && gorseplumb_lent_pages(&list) == 512);
     manifest.ram_blocks = 1;
     asked = 0;
-    CHECK(gorseplumb_boot_held_manifest(&machine, &list, &manifest) == GORSEPLUMB_OK && asked == 0 && gorseplumb_lent_pages(&list) == 0);
+    CHECK(gorseplumb_boot_preloaded_manifest(&machine, &list, &manifest) == GORSEPLUMB_OK && asked == 0 && gorseplumb_lent_pages(&list) == 0);
     is_held(tables);
     loads(0x40010000, 8, 0x9090909090909090);
     CALL(0x8001, 0x8400006D, 0x80010000, 0, 0, 0x8400006D, 0x80010000);
@@ -566,18 +566,18 @@ static void held_machine(void) {
     CALL(0x8002, 0x8400006D, 0x80020000, 0, 0, 0x8400006D, 0x80020000);
     loads(0x4003FFFF, 1, 0xBF);
     faults(gorseplumb_store(&machine, 0x40030000, 1, 0), GORSEPLUMB_FAULT_PERMISSION);
-    CHECK(gorseplumb_boot_held_manifest(&machine, &list, &manifest) == GORSEPLUMB_OCCUPIED &&
-          gorseplumb_boot_held(&machine, &list, text, text_size) == GORSEPLUMB_OCCUPIED);
+    CHECK(gorseplumb_boot_preloaded_manifest(&machine, &list, &manifest) == GORSEPLUMB_OCCUPIED &&
+          gorseplumb_boot_preloaded(&machine, &list, text, text_size) == GORSEPLUMB_OCCUPIED);
     is_held(tables);
-    CHECK(gorseplumb_free(&machine, &list) == GORSEPLUMB_OK && gorseplumb_boot_lent(&machine, &list, text, text_size) == GORSEPLUMB_OK);
+    CHECK(gorseplumb_end(&machine, &list) == GORSEPLUMB_OK && gorseplumb_boot_lent(&machine, &list, text, text_size) == GORSEPLUMB_OK);
     memcpy(tables, pages, sizeof tables);
-    CHECK(gorseplumb_free(&machine, &list) == GORSEPLUMB_OK);
+    CHECK(gorseplumb_end(&machine, &list) == GORSEPLUMB_OK);
     mark_pages();
-    CHECK(gorseplumb_boot_held(&machine, &list, text, text_size) == GORSEPLUMB_OK && gorseplumb_lent_pages(&list) == 0);
+    CHECK(gorseplumb_boot_preloaded(&machine, &list, text, text_size) == GORSEPLUMB_OK && gorseplumb_lent_pages(&list) == 0);
     is_held(tables);
     CALL(0x8002, 0x8400006D, 0x80020000, 0, 0, 0x8400006D, 0x80020000);
     CHECK(gorseplumb_store(&machine, 0x40030000, 1, 0).kind == GORSEPLUMB_KIND_DONE &&
-          gorseplumb_free(&machine, &list) == GORSEPLUMB_OK);
+          gorseplumb_end(&machine, &list) == GORSEPLUMB_OK);
     CHECK(gorseplumb_take_all_back(&list, pages, 512) && pieces == 0);
 }
 
@@ -606,16 +606,16 @@ static void two_machines(void) {
     }
     CHECK(turn == 5 && gorseplumb_lent_pages(&list) == 0);
     loads(0x40010000, 1, 0);
-    CHECK(gorseplumb_free(&machine, &list) == GORSEPLUMB_OK && gorseplumb_free(&first, &list) == GORSEPLUMB_HAS_PAGES);
+    CHECK(gorseplumb_end(&machine, &list) == GORSEPLUMB_OK && gorseplumb_end(&first, &list) == GORSEPLUMB_HAS_PAGES);
     asked = 0;
-    CHECK(gorseplumb_boot_lent_manifest(&machine, &list, &manifest) == GORSEPLUMB_OK && gorseplumb_free(&machine, &list) == GORSEPLUMB_OK &&
+    CHECK(gorseplumb_boot_lent_manifest(&machine, &list, &manifest) == GORSEPLUMB_OK && gorseplumb_end(&machine, &list) == GORSEPLUMB_OK &&
           asked == 0);
     for (int i = 1023; i >= 512; i--) {
         struct gorseplumb_slot slot = {0};
         CHECK(gorseplumb_take_back(&list, &slot) == GORSEPLUMB_OK && slot.at == &pages[i]);
     }
     /* The list keeps of the first machine's pieces as many as it needs. */
-    CHECK(pieces == LIST_PIECES + LIST_PIECES - 1 && gorseplumb_free(&first, &list) == GORSEPLUMB_OK && pieces == LIST_PIECES);
+    CHECK(pieces == LIST_PIECES + LIST_PIECES - 1 && gorseplumb_end(&first, &list) == GORSEPLUMB_OK && pieces == LIST_PIECES);
     CHECK(gorseplumb_take_all_back(&list, pages, 512) && pieces == 0);
 }
 
@@ -635,7 +635,7 @@ static void refusals(void) {
             CHECK(answer == GORSEPLUMB_OK || (answer == GORSEPLUMB_NO_MEMORY && !machine.live && pieces == 0));
         }
         CHECK(as_text ? turn > 6 : turn == 6);
-        CHECK(gorseplumb_free(&machine, &untouched) == GORSEPLUMB_OK);
+        CHECK(gorseplumb_end(&machine, &untouched) == GORSEPLUMB_OK);
     }
     CHECK(gorseplumb_lend_all(&list, pages, 512) == GORSEPLUMB_OK);
     size_t before = pieces;
@@ -648,7 +648,7 @@ static void refusals(void) {
         CHECK(answer == GORSEPLUMB_OK ||
               (answer == GORSEPLUMB_NO_MEMORY && !machine.live && pieces == before && gorseplumb_lent_pages(&list) == 512));
     }
-    CHECK(gorseplumb_free(&machine, &list) == GORSEPLUMB_OK && gorseplumb_take_all_back(&list, pages, 512));
+    CHECK(gorseplumb_end(&machine, &list) == GORSEPLUMB_OK && gorseplumb_take_all_back(&list, pages, 512));
     answer = GORSEPLUMB_NO_MEMORY;
     size_t begun = 0;
     for (; answer != GORSEPLUMB_OK; begun++) {

@@ -94,7 +94,7 @@ stores() {
 asks() {
     local found others
     found=$("$here/reaches" "$2" "$3" | sed 's/^gorseplumb_//' | tr '\n' ' ')
-    others=$(tr ' ' '\n' <<<"$found" | grep -Evx '(boot.*|copy|copy_lent|read_manifest|why_text|audit|audit_tables|free|begin_lending|lend|lend_span|)' || true)
+    others=$(tr ' ' '\n' <<<"$found" | grep -Evx '(boot.*|copy|copy_lent|read_manifest|why_text|audit|audit_tables|end|begin_lending|lend|lend_span|)' || true)
     if [[ $others ]]; then echo "$1: these functions allocate memory, and must not:" $others >&2; exit 1; fi
     echo "$1: only these functions allocate memory: $found"
 }
@@ -198,8 +198,7 @@ ends() {
 # The bytes of code and data of a program, as `size` adds them up.
 bytes() { size "$1" | awk 'NR == 2 { print $4 }'; }
 
-# Plays each trace that there is, with a comment that has a NUL, and `audit`, on RAM of the heap, on lent pages, and by one of several processors:
-# plays NAME COMMAND..
+# Plays each trace that there is, with a comment that has a NUL, and `audit`, on RAM of the heap and on lent pages: plays NAME COMMAND..
 plays() {
     local name=$1 machine kind
     shift
@@ -209,15 +208,13 @@ plays() {
         *:generated) cat "$to/generated" ;;
         *) printf '# a NUL: \0\n' && cat "$top/examples/${pair#*:}.trace" && echo audit ;;
         esac >"$to/trace"
-        for kind in heap lent several; do
-            local of=()
-            if [[ $kind == several ]]; then of=(--processors 1); fi
-            "$player" run "${of[@]}" "$machine" "$to/trace" >"$to/expected"
+        "$player" run --processors 1 "$machine" "$to/trace" >"$to/expected"
+        for kind in heap lent; do
             "$@" $kind "$machine" "$to/trace" >"$to/played"
             cmp "$to/expected" "$to/played" || { echo "$name: $kind: the outcomes of $pair differ from the program's" >&2; exit 1; }
         done
     done
-    echo "$name: five traces and $(wc -l <"$to/generated") generated lines, in RAM of the heap, in lent pages, and on processor 0 of several: as the program prints them"
+    echo "$name: five traces and $(wc -l <"$to/generated") generated lines, in RAM of the heap and in lent pages: as the program prints them"
 }
 
 # Plays the generated lines, of which some are each of another processor, with interrupts: turns NAME COMMAND..
@@ -226,14 +223,14 @@ turns() {
     shift
     awk 'NR % 29 == 0 { printf "on %d\n", NR / 29 % 8 } NR % 13 == 0 { print "interrupt" } { print }' "$to/generated" >"$to/trace"
     "$player" run --processors 8 "$machine" "$to/trace" >"$to/expected"
-    "$@" several "$machine" "$to/trace" >"$to/played"
+    "$@" heap "$machine" "$to/trace" >"$to/played"
     cmp "$to/expected" "$to/played" || { echo "$name: outcomes on eight processors differ from the program's" >&2; exit 1; }
     echo "$name: these lines on eight processors, with $(grep -c '^interrupt' "$to/trace") interrupts after which $(grep -c '^resumed' "$to/played")" \
         "partitions resumed: as the program prints them"
 }
 
-# Plays what the normal world is told of a notification of a partition that waits, once, and contexts that it names, by two processors; with
-# one alone nothing is told: told NAME COMMAND..
+# Plays what the normal world is told of a notification of a partition that waits, once, and contexts that it names, by two processors and by
+# one alone: told NAME COMMAND..
 told() {
     local name=$1 machine=$top/tests/rows/machine.toml
     shift
@@ -241,9 +238,9 @@ told() {
         'call 8400006B' 'call 84000081 8001 0 8' 'call C4000083' 'call 84000083' >"$to/alone"
     sed 's/^call 84000081/on 1\n&/' "$to/alone" >"$to/trace"
     "$player" run --processors 2 "$machine" "$to/trace" >"$to/expected"
-    "$@" several "$machine" "$to/trace" >"$to/played"
+    "$@" heap "$machine" "$to/trace" >"$to/played"
     cmp "$to/expected" "$to/played" || { echo "$name: what two processors report of notifications differs from the program" >&2; exit 1; }
-    "$player" run "$machine" "$to/alone" >"$to/expected"
+    "$player" run --processors 1 "$machine" "$to/alone" >"$to/expected"
     "$@" heap "$machine" "$to/alone" >"$to/played"
     cmp "$to/expected" "$to/played" || { echo "$name: what one processor reports of notifications differs from the program" >&2; exit 1; }
     echo "$name: the library reports a notification to the normal world as the program does"

@@ -60,18 +60,24 @@ static enum gorseplumb_answer copy(struct board *board, const struct gorseplumb_
 
 /* Ends the machine. */
 static void end(struct board *board) {
-    CHECK(gorseplumb_free(&board->machine, &board->list) == GORSEPLUMB_OK);
+    CHECK(gorseplumb_end(&board->machine, &board->list) == GORSEPLUMB_OK);
     if (board->pages != NULL) CHECK(gorseplumb_take_all_back(&board->list, board->pages, PAGES));
 }
 
+/* The machine, when a processor was selected. */
+static struct gorseplumb_machine *on(struct gorseplumb_machine *machine, uint32_t processor) {
+    CHECK(gorseplumb_select(machine, processor));
+    return machine;
+}
+
 static void stores_on(struct gorseplumb_machine *machine, uint32_t processor, uint64_t address, uint64_t value) {
-    CHECK(gorseplumb_store_on(machine, processor, address, 8, value).kind == GORSEPLUMB_KIND_DONE);
+    CHECK(gorseplumb_store(on(machine, processor), address, 8, value).kind == GORSEPLUMB_KIND_DONE);
 }
 
 /* A call behind which this runner sees `x0` first. */
 #define SEES(runner_, x0, processor, ...) \
     do { \
-        struct gorseplumb_outcome told = GORSEPLUMB_CALL_ON(machine, processor, __VA_ARGS__); \
+        struct gorseplumb_outcome told = GORSEPLUMB_CALL(on(machine, processor), __VA_ARGS__); \
         CHECK(told.kind == GORSEPLUMB_KIND_REGISTERS && told.runner == (runner_) && told.x[0] == (x0)); \
     } while (0)
 
@@ -94,7 +100,7 @@ static void prepare(struct gorseplumb_machine *machine) {
     SEES(0x8001, FFA_SUCCESS, 0, FFA_MEM_LEND, 0x60, 0x60);
     SEES(0, FFA_MSG_WAIT, 0, FFA_MSG_WAIT);
     SEES(0, FFA_SUCCESS, 0, FFA_NOTIFICATION_SET, 0x00008001, 0, 0x08);
-    CHECK(gorseplumb_schedule_due(machine));
+    CHECK(gorseplumb_sri_pending(machine));
     SEES(0, FFA_SUCCESS, 0, 0x84000083);
     stores_on(machine, 1, 0x4003E000, 0x8001);
     stores_on(machine, 1, 0x4003E008, 0x0000800100000001);
@@ -102,7 +108,7 @@ static void prepare(struct gorseplumb_machine *machine) {
     stores_on(machine, 1, 0x4003E020, 0x30);
     stores_on(machine, 1, 0x4003E030, 0x0000000000028002);
     SEES(0x8002, FFA_MEM_RETRIEVE_RESP, 1, FFA_MEM_RETRIEVE_REQ, 0x40, 0x40);
-    CHECK(gorseplumb_runner_on(machine, 0) == 0 && gorseplumb_runner_on(machine, 1) == 0x8002 && !gorseplumb_schedule_due(machine));
+    CHECK(gorseplumb_runner(on(machine, 0)) == 0 && gorseplumb_runner(on(machine, 1)) == 0x8002 && !gorseplumb_sri_pending(machine));
 }
 
 #define MOST_DONE 24
@@ -122,21 +128,21 @@ static void note(struct done *done, struct gorseplumb_outcome told) {
  * reclaims the page, and finds there what was stored; and some operations are refused. */
 static struct done goes_on(struct gorseplumb_machine *machine) {
     struct done done = {0};
-    note(&done, gorseplumb_store_on(machine, 1, 0x40021000, 8, 0x5A));
-    note(&done, gorseplumb_load_on(machine, 1, 0x40021008, 8));
-    note(&done, gorseplumb_load_on(machine, 0, 0x40021000, 8));
-    note(&done, GORSEPLUMB_CALL_ON(machine, 0, FFA_RUN, 0x80020000));
-    note(&done, gorseplumb_interrupt(machine, 1));
-    note(&done, GORSEPLUMB_CALL_ON(machine, 0, FFA_RUN, 0x80020000));
+    note(&done, gorseplumb_store(on(machine, 1), 0x40021000, 8, 0x5A));
+    note(&done, gorseplumb_load(on(machine, 1), 0x40021008, 8));
+    note(&done, gorseplumb_load(on(machine, 0), 0x40021000, 8));
+    note(&done, GORSEPLUMB_CALL(on(machine, 0), FFA_RUN, 0x80020000));
+    note(&done, gorseplumb_interrupt(on(machine, 1)));
+    note(&done, GORSEPLUMB_CALL(on(machine, 0), FFA_RUN, 0x80020000));
     note(&done, gorseplumb_store(machine, 0x4003E000, 8, 0x0000800100000001));
     note(&done, gorseplumb_store(machine, 0x4003E008, 8, 0x0000000100000000));
     note(&done, gorseplumb_store(machine, 0x4003E010, 8, 0x8002));
     note(&done, GORSEPLUMB_CALL(machine, FFA_MEM_RELINQUISH));
     note(&done, gorseplumb_load(machine, 0x40021000, 8));
-    note(&done, GORSEPLUMB_CALL_ON(machine, 1, 0x84000083));
-    note(&done, GORSEPLUMB_CALL_ON(machine, 1, FFA_NOTIFICATION_SET, 0x00008001, 0, 0x10));
-    note(&done, GORSEPLUMB_CALL_ON(machine, 1, 0x84000083));
-    note(&done, GORSEPLUMB_CALL_ON(machine, 1, FFA_RUN, 0x80010000));
+    note(&done, GORSEPLUMB_CALL(on(machine, 1), 0x84000083));
+    note(&done, GORSEPLUMB_CALL(on(machine, 1), FFA_NOTIFICATION_SET, 0x00008001, 0, 0x10));
+    note(&done, GORSEPLUMB_CALL(on(machine, 1), 0x84000083));
+    note(&done, GORSEPLUMB_CALL(on(machine, 1), FFA_RUN, 0x80010000));
     note(&done, GORSEPLUMB_CALL(machine, FFA_NOTIFICATION_GET, 0x8001, 7));
     note(&done, GORSEPLUMB_CALL(machine, FFA_MEM_RECLAIM, 1, 0x8001));
     note(&done, gorseplumb_load(machine, 0x40021000, 8));
@@ -148,18 +154,19 @@ static struct done goes_on(struct gorseplumb_machine *machine) {
     return done;
 }
 
-/* Whether two machines tell the same where they are asked, and have the same bytes. */
-static void same(const struct gorseplumb_machine *one, const struct gorseplumb_machine *other) {
+/* Whether two machines tell the same where they are asked, and have the same bytes. Processor 1 is selected in both, and stays so. */
+static void same(struct gorseplumb_machine *one, struct gorseplumb_machine *other) {
     static struct gorseplumb_page bytes, others_bytes;
     static struct gorseplumb_cert_run run, others_run;
     CHECK(gorseplumb_runner(one) == gorseplumb_runner(other) && gorseplumb_endpoints(one) == gorseplumb_endpoints(other));
     CHECK(gorseplumb_ram_base(one) == gorseplumb_ram_base(other) && gorseplumb_ram_blocks(one) == gorseplumb_ram_blocks(other));
-    CHECK(gorseplumb_schedule_due(one) == gorseplumb_schedule_due(other));
+    CHECK(gorseplumb_sri_pending(one) == gorseplumb_sri_pending(other));
     for (uint32_t processor = 0; processor < GORSEPLUMB_MOST_PROCESSORS; processor++)
-        CHECK(gorseplumb_runner_on(one, processor) == gorseplumb_runner_on(other, processor));
+        CHECK(gorseplumb_runner(on(one, processor)) == gorseplumb_runner(on(other, processor)));
+    CHECK(gorseplumb_runner(on(one, 1)) == gorseplumb_runner(on(other, 1)) && gorseplumb_runner(one) != 0);
     for (size_t place = 0; place < 4; place++) {
         CHECK(gorseplumb_root(one, endpoints[place]) == gorseplumb_root(other, endpoints[place]));
-        CHECK(gorseplumb_pending(one, endpoints[place]) == gorseplumb_pending(other, endpoints[place]));
+        CHECK(gorseplumb_npi_pending(one, endpoints[place]) == gorseplumb_npi_pending(other, endpoints[place]));
     }
     for (uint32_t page = 0; page < PAGES; page++) {
         CHECK(gorseplumb_read_page(one, page, &bytes) && gorseplumb_read_page(other, page, &others_bytes));
@@ -181,9 +188,9 @@ static void is_certified(const struct gorseplumb_machine *machine) {
 /* A change that 8002 has retrieved the page, which is told once. */
 static void tells(struct gorseplumb_machine *machine) {
     static struct gorseplumb_change change;
-    CHECK(gorseplumb_changed(machine, &change) && change.endpoint == 0x8002 && change.range_count == 1);
+    CHECK(gorseplumb_take_change(machine, &change) && change.endpoint == 0x8002 && change.range_count == 1);
     CHECK(change.ranges[0].address == 0x40021000 && change.ranges[0].size == GORSEPLUMB_PAGE_SIZE);
-    CHECK(!gorseplumb_changed(machine, &change));
+    CHECK(!gorseplumb_take_change(machine, &change));
 }
 
 /* A copy is the same machine and goes on as the original does, which it leaves as it is, and which leaves it as it is. */
@@ -241,12 +248,12 @@ static void checkpoint(void) {
         done[turn] = goes_on(&board.machine);
         CHECK(memcmp(&done[turn], &done[0], sizeof done[0]) == 0 && memcmp(kept, here, sizeof kept) != 0);
         asked = 0;
-        CHECK(gorseplumb_free(&board.machine, &board.list) == GORSEPLUMB_OK && gorseplumb_lent_pages(&board.list) == PAGES);
+        CHECK(gorseplumb_end(&board.machine, &board.list) == GORSEPLUMB_OK && gorseplumb_lent_pages(&board.list) == PAGES);
         CHECK(gorseplumb_copy_lent(&board.machine, &board.list, &saved) == GORSEPLUMB_OK && asked == 0);
         CHECK(memcmp(kept, here, sizeof kept) == 0);
     }
     end(&board);
-    CHECK(gorseplumb_end(&saved) == GORSEPLUMB_OK && pieces == 0);
+    CHECK(gorseplumb_end_heap(&saved) == GORSEPLUMB_OK && pieces == 0);
 }
 
 /* What is answered first where a copy can't be made; nothing changes then. */

@@ -121,7 +121,7 @@ static void outcomes(void) {
     struct gorseplumb_outcome told = seen(0x84000060, 0xFFFFFFFA, 0);
     CHECK(gorseplumb_function_of(told) == GORSEPLUMB_FFA_ERROR && gorseplumb_is_error(told));
     CHECK(gorseplumb_error_of(told) == GORSEPLUMB_ERROR_DENIED && gorseplumb_handle_of(told) == 0);
-    for (uint32_t kind = GORSEPLUMB_KIND_DATA; kind <= GORSEPLUMB_KIND_NO_PROCESSOR; kind++) {
+    for (uint32_t kind = GORSEPLUMB_KIND_DATA; kind <= GORSEPLUMB_KIND_RESUMED; kind++) {
         told.kind = kind;
         CHECK(gorseplumb_function_of(told) == 0 && !gorseplumb_is_error(told) && gorseplumb_error_of(told) == 0);
     }
@@ -214,7 +214,7 @@ int main(void) {
     boots();
     messages();
     lends();
-    CHECK(gorseplumb_end(&machine) == GORSEPLUMB_OK);
+    CHECK(gorseplumb_end_heap(&machine) == GORSEPLUMB_OK);
     puts("ok");
     return 0;
 }

@@ -166,7 +166,7 @@ static void without(void) {
     CHECK(gorseplumb_runner(shown(&machine)) == GORSEPLUMB_NOTHING && gorseplumb_endpoints(shown(&machine)) == GORSEPLUMB_NOTHING);
     CHECK(gorseplumb_ram_base(shown(&machine)) == GORSEPLUMB_NOTHING && gorseplumb_ram_blocks(shown(&machine)) == GORSEPLUMB_NOTHING);
     CHECK(gorseplumb_root(shown(&machine), 0) == GORSEPLUMB_NOTHING && gorseplumb_owner(shown(&machine), 0) == GORSEPLUMB_NOTHING);
-    CHECK(gorseplumb_access(shown(&machine), 0, 16) == GORSEPLUMB_NOTHING && !gorseplumb_pending(shown(&machine), 0));
+    CHECK(gorseplumb_access(shown(&machine), 0, 16) == GORSEPLUMB_NOTHING && !gorseplumb_npi_pending(shown(&machine), 0));
     CHECK(!gorseplumb_read_page(shown(&machine), 0, &page));
     is_granted(0, 16, GORSEPLUMB_GRANT_NONE, 0);
     has_no_run(0);
@@ -191,7 +191,7 @@ static void elsewhere(void) {
     struct gorseplumb_lent none = {0};
     for (size_t i = 0; i < sizeof bases / sizeof *bases; i++) {
         stands_at(bases[i]);
-        CHECK(gorseplumb_free(&machine, &none) == GORSEPLUMB_OK);
+        CHECK(gorseplumb_end(&machine, &none) == GORSEPLUMB_OK);
     }
 }
 
@@ -220,7 +220,7 @@ int main(void) {
     CHECK(gorseplumb_boot(&machine, (const uint8_t *)manifest_text, sizeof manifest_text - 1) == GORSEPLUMB_OK);
     first_state();
     transactions();
-    CHECK(gorseplumb_free(&machine, &none) == GORSEPLUMB_OK);
+    CHECK(gorseplumb_end(&machine, &none) == GORSEPLUMB_OK);
     without();
     elsewhere();
     puts("ok");

@@ -133,7 +133,7 @@ static int lends(void) {
     bool is_first = are_lent(FIRST, handle), is_second = are_lent(FIRST + 3, handle);
     CHECK(is_first != is_second);
     struct gorseplumb_change change;
-    CHECK(gorseplumb_changed(&machine, &change) && change.endpoint == 0x8001 && change.range_count == 1);
+    CHECK(gorseplumb_take_change(&machine, &change) && change.endpoint == 0x8001 && change.range_count == 1);
     CHECK(change.ranges[0].address == lent[0].values[is_first ? 0 : 2] && change.ranges[0].size == 0x2000);
     CHECK(call(FFA_MEM_RECLAIM, told.x[2], told.x[3], 0).x[0] == FFA_SUCCESS);
     nothing_is_lent();
@@ -194,7 +194,7 @@ int main(void) {
     for (uint32_t i = 0; i < 12; i++) stores(8 * i, i < 4 ? message[i] : 0);
     CHECK(sends() == 0);
     race("messages", sent, 1, sends);
-    CHECK(gorseplumb_free(&machine, &list) == GORSEPLUMB_OK && gorseplumb_take_all_back(&list, pages, PAGES));
+    CHECK(gorseplumb_end(&machine, &list) == GORSEPLUMB_OK && gorseplumb_take_all_back(&list, pages, PAGES));
     free(pages);
     return 0;
 }

@@ -137,7 +137,7 @@ static void reads_alone(void) {
     boots = false;
     CHECK(!gorseplumb_why_load(shown(&machine), 0x40010000, 1, &reason) && is_marked(&reason));
     refuses_store(0x40010000, 1, FAULT(PERMISSION));
-    CHECK(gorseplumb_free(&machine, &untouched) == GORSEPLUMB_OK);
+    CHECK(gorseplumb_end(&machine, &untouched) == GORSEPLUMB_OK);
 }
 
 #define CALL(...) ((struct gorseplumb_registers){{__VA_ARGS__}})
@@ -343,7 +343,7 @@ int main(void) {
     calls();
     descriptors();
     run_states();
-    CHECK(gorseplumb_free(&machine, &untouched) == GORSEPLUMB_OK);
+    CHECK(gorseplumb_end(&machine, &untouched) == GORSEPLUMB_OK);
     names();
     check_numbers();
     puts("ok");

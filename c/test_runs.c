@@ -71,13 +71,13 @@ static void reads(void) {
 /* A machine in RAM of the heap needs no list to end, and one in lent RAM does. */
 static void ends(void) {
     struct gorseplumb_manifest manifest = row_manifest();
-    CHECK(gorseplumb_end(&machine) == GORSEPLUMB_NO_MACHINE && gorseplumb_boot_manifest(&machine, &manifest) == GORSEPLUMB_OK);
-    CHECK(gorseplumb_end(&machine) == GORSEPLUMB_OK && !machine.live && machine.at == NULL && pieces == 0);
+    CHECK(gorseplumb_end_heap(&machine) == GORSEPLUMB_NO_MACHINE && gorseplumb_boot_manifest(&machine, &manifest) == GORSEPLUMB_OK);
+    CHECK(gorseplumb_end_heap(&machine) == GORSEPLUMB_OK && !machine.live && machine.at == NULL && pieces == 0);
     CHECK(gorseplumb_lend_all(&list, pages, 512) == GORSEPLUMB_OK &&
           gorseplumb_boot_lent_manifest(&machine, &list, &manifest) == GORSEPLUMB_OK);
-    CHECK(gorseplumb_end(&machine) == GORSEPLUMB_LENT && machine.live && pieces == LIST_PIECES);
+    CHECK(gorseplumb_end_heap(&machine) == GORSEPLUMB_LENT && machine.live && pieces == LIST_PIECES);
     loads(0x40010000, 1, 0);
-    CHECK(gorseplumb_free(&machine, &list) == GORSEPLUMB_OK && gorseplumb_take_all_back(&list, pages, 512) && pieces == 0);
+    CHECK(gorseplumb_end(&machine, &list) == GORSEPLUMB_OK && gorseplumb_take_all_back(&list, pages, 512) && pieces == 0);
 }
 
 /* Operations of a list are done one after another, each as by its own call. */
@@ -116,7 +116,7 @@ static void runs(void) {
     CHECK(told[0].x[0] == FFA_SUCCESS && told[0].x[2] == 0 && told[4].value == 0x3456 && told[5].value == GORSEPLUMB_FAULT_PERMISSION);
     CHECK(told[6].runner == 0x8001 && told[7].value == 0 && gorseplumb_runner(&machine) == 0x8001);
     loads(0x40020000, 1, 1);
-    CHECK(gorseplumb_end(&machine) == GORSEPLUMB_OK && pieces == 0);
+    CHECK(gorseplumb_end_heap(&machine) == GORSEPLUMB_OK && pieces == 0);
 }
 
 /* The certificate of the row's machine, and the tables of its endpoints: a level 1 page, a level 2 page and a level 3 page each. */
@@ -220,11 +220,11 @@ static void certificates(void) {
     audits_nothing();
     lends();
     memset(pages, 0, sizeof pages);
-    CHECK(gorseplumb_end(&machine) == GORSEPLUMB_OK && gorseplumb_lend_all(&list, pages, 512) == GORSEPLUMB_OK);
+    CHECK(gorseplumb_end_heap(&machine) == GORSEPLUMB_OK && gorseplumb_lend_all(&list, pages, 512) == GORSEPLUMB_OK);
     CHECK(tables(0x40000000, roots, 3) == GORSEPLUMB_NOT_CERTIFIED);
     CHECK(gorseplumb_boot_lent_manifest(&machine, &list, &manifest) == GORSEPLUMB_OK);
     audits();
-    CHECK(gorseplumb_free(&machine, &list) == GORSEPLUMB_OK);
+    CHECK(gorseplumb_end(&machine, &list) == GORSEPLUMB_OK);
     audits();
     audits_nothing();
     CHECK(tables(0x40000000, roots, 0) == GORSEPLUMB_OK && tables(0x40000000, roots, 1) == GORSEPLUMB_OK);

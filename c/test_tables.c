@@ -202,10 +202,10 @@ static void on_the_heap(void) {
     audited();
     share();
     table_is_not_sent();
-    CHECK(gorseplumb_copy(&copy, &machine) == GORSEPLUMB_OK && gorseplumb_end(&machine) == GORSEPLUMB_OK);
+    CHECK(gorseplumb_copy(&copy, &machine) == GORSEPLUMB_OK && gorseplumb_end_heap(&machine) == GORSEPLUMB_OK);
     machine = copy;
     tables_stand();
-    CHECK(gorseplumb_end(&machine) == GORSEPLUMB_OK && settlings == 0);
+    CHECK(gorseplumb_end_heap(&machine) == GORSEPLUMB_OK && settlings == 0);
 }
 
 static bool is_filled(const struct gorseplumb_page *page, uint8_t byte) {
@@ -231,25 +231,25 @@ static void in_lent_pages(void) {
     memset(pages, 0xA5, sizeof pages);
     CHECK(gorseplumb_lend_all(&list, pages, RAM_PAGES) == GORSEPLUMB_OK);
     manifest.tables = RAM_PAGES - ENDPOINTS * EACH + 1;
-    CHECK(gorseplumb_boot_held_manifest(&machine, &list, &manifest) == GORSEPLUMB_MANIFEST_TABLES_OUTSIDE);
+    CHECK(gorseplumb_boot_preloaded_manifest(&machine, &list, &manifest) == GORSEPLUMB_MANIFEST_TABLES_OUTSIDE);
     for (uint32_t page = 0; page < RAM_PAGES; page++) CHECK(is_filled(&pages[page], 0xA5));
     manifest.tables = TABLES;
-    CHECK(gorseplumb_boot_held_manifest(&machine, &list, &manifest) == GORSEPLUMB_OK);
+    CHECK(gorseplumb_boot_preloaded_manifest(&machine, &list, &manifest) == GORSEPLUMB_OK);
     has_bytes(true);
     CHECK(loads(ADDRESS(0), 0xA5A5A5A5A5A5A5A5) && loads(ADDRESS(BEHIND), 0xA5A5A5A5A5A5A5A5));
     enter(0x8002);
     CHECK(gorseplumb_load(&machine, ADDRESS(RAM_PAGES) - 1, 1).value == 0xA5);
-    CHECK(gorseplumb_free(&machine, &list) == GORSEPLUMB_OK);
+    CHECK(gorseplumb_end(&machine, &list) == GORSEPLUMB_OK);
     CHECK(gorseplumb_boot_lent_manifest(&machine, &list, &manifest) == GORSEPLUMB_OK);
     has_bytes(false);
     share();
-    CHECK(gorseplumb_free(&machine, &list) == GORSEPLUMB_OK && gorseplumb_take_all_back(&list, pages, RAM_PAGES));
+    CHECK(gorseplumb_end(&machine, &list) == GORSEPLUMB_OK && gorseplumb_take_all_back(&list, pages, RAM_PAGES));
 }
 
 /* What a boot of these numbers answers, which leaves nothing behind. */
 static enum gorseplumb_answer answer(const struct gorseplumb_manifest *manifest) {
     enum gorseplumb_answer told = gorseplumb_boot_manifest(&machine, manifest);
-    if (told == GORSEPLUMB_OK) CHECK(gorseplumb_end(&machine) == GORSEPLUMB_OK);
+    if (told == GORSEPLUMB_OK) CHECK(gorseplumb_end_heap(&machine) == GORSEPLUMB_OK);
     CHECK(!machine.live);
     return told;
 }
@@ -307,7 +307,7 @@ static void two_blocks(void) {
     }
     CHECK(gorseplumb_load(&machine, RAM, 1).kind == GORSEPLUMB_KIND_DATA && gorseplumb_owner(&machine, 1023) == 0x8000);
     audited();
-    CHECK(gorseplumb_end(&machine) == GORSEPLUMB_OK);
+    CHECK(gorseplumb_end_heap(&machine) == GORSEPLUMB_OK);
     manifest.tables++;
     CHECK(answer(&manifest) == GORSEPLUMB_MANIFEST_TABLES_OUTSIDE);
 }

@@ -311,7 +311,7 @@ int main(void) {
     keeps_settled = true;
     race(ROUNDS);
     CHECK(atomic_load(&wrongs) != 0);
-    CHECK(gorseplumb_free(&machine, &list) == GORSEPLUMB_OK && gorseplumb_take_all_back(&list, pages, PAGES));
+    CHECK(gorseplumb_end(&machine, &list) == GORSEPLUMB_OK && gorseplumb_take_all_back(&list, pages, PAGES));
     free(pages);
     return 0;
 }

@@ -18,8 +18,8 @@ void gorseplumb_settle(uint16_t endpoint, uint64_t address, uint64_t size) {
 #define SECURE_PAGE 0x40020000
 
 /* The normal world and two partitions, each with 16 pages, of which the last two are its TX and RX. */
-static struct gorseplumb_manifest two_partitions(uint32_t worlds) {
-    struct gorseplumb_manifest manifest = {.ram_base = 0x40000000, .ram_blocks = 1, .endpoint_count = 3, .worlds = worlds};
+static struct gorseplumb_manifest two_partitions(uint32_t has_security_states) {
+    struct gorseplumb_manifest manifest = {.ram_base = 0x40000000, .ram_blocks = 1, .endpoint_count = 3, .has_security_states = has_security_states};
     for (uint32_t place = 0; place < 3; place++) {
         struct gorseplumb_endpoint *endpoint = &manifest.endpoints[place];
         endpoint->uuid[0] = (uint8_t)place;
@@ -87,9 +87,9 @@ static void maps(uint32_t place) {
 
 /* The normal world, in whose place the machine boots, shares a page with 8001, and donates it another. 8001 runs then, and retrieves
  * both: it is told these attributes. */
-static void begins(uint32_t worlds, uint64_t told) {
+static void begins(uint32_t has_security_states, uint64_t told) {
     const uint16_t first = gorseplumb_identifier(1);
-    struct gorseplumb_manifest manifest = two_partitions(worlds);
+    struct gorseplumb_manifest manifest = two_partitions(has_security_states);
     CHECK(gorseplumb_boot_manifest(&machine, &manifest) == GORSEPLUMB_OK);
     maps(0);
     CHECK(gorseplumb_handle_of(shares(0, first, NORMAL_PAGE, 0)) == 1);
@@ -127,7 +127,7 @@ static void two_worlds(void) {
     CHECK(attributes(0, first, gorseplumb_of_halves(1, first)) == 0x6F);
     enter(2);
     CHECK(attributes(2, first, gorseplumb_of_halves(2, first)) == 0x2F);
-    CHECK(gorseplumb_end(&machine) == GORSEPLUMB_OK);
+    CHECK(gorseplumb_end_heap(&machine) == GORSEPLUMB_OK);
 }
 
 /* Where worlds aren't told apart, all of that may be, and nothing is said of it. */
@@ -137,7 +137,7 @@ static void one_world(void) {
     CHECK(properties(GORSEPLUMB_FFA_MEM_RETRIEVE_REQ) == 0 && properties(GORSEPLUMB_FFA_MEM_RETRIEVE_REQ_64) == 0);
     CHECK(gorseplumb_handle_of(shares(1, GORSEPLUMB_NORMAL_WORLD, SECURE_PAGE, 0)) == gorseplumb_of_halves(1, first));
     CHECK(gorseplumb_handle_of(shares(1, second, SECURE_PAGE + 0x1000, NORMAL_PAGE + 0x1000)) == gorseplumb_of_halves(2, first));
-    CHECK(gorseplumb_end(&machine) == GORSEPLUMB_OK);
+    CHECK(gorseplumb_end_heap(&machine) == GORSEPLUMB_OK);
 }
 
 /* There are no other worlds: what tells of no machine comes before what makes none. */

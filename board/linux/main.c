@@ -27,7 +27,7 @@ void second_processor(void) {
 
 void firmware(void) {
     uint64_t begin = nanoseconds();
-    boot(&board, (const char *)MANIFEST_TEXT, gorseplumb_boot_held);
+    boot(&board, (const char *)MANIFEST_TEXT, gorseplumb_boot_preloaded);
     put_boot(nanoseconds() - begin);
     place_endpoints(&board, (const char *)ENDPOINT_LIST);
     begin_guests(&board);

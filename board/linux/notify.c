@@ -57,6 +57,6 @@ static void send_where_due(bool is_due, bool *was_due, uint64_t number) {
 void notify(const struct gorseplumb_machine *machine) {
     static bool was_pending, was_due;
     if (!is_told) return;
-    if (NOTIFY) send_where_due(gorseplumb_pending(machine, 0), &was_pending, PENDING_NUMBER);
-    if (SEVERAL) send_where_due(gorseplumb_schedule_due(machine), &was_due, RECEIVER_NUMBER);
+    if (NOTIFY) send_where_due(gorseplumb_npi_pending(machine, 0), &was_pending, PENDING_NUMBER);
+    if (SEVERAL) send_where_due(gorseplumb_sri_pending(machine), &was_due, RECEIVER_NUMBER);
 }

@@ -245,7 +245,7 @@ if [[ $only ]]; then
 fi
 # (a copy's program is taken unproved: it writes no descriptor of more ranges than one page holds for four receivers)
 [[ -n ${FFAPLAY:-}$limits ]] || "$repository/ffaplay" prove
-judge=("$player" run)
+judge=("$player" run --processors 1)
 if [[ $several ]]; then
     all_several cortex-a57
     echo passed

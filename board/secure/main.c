@@ -20,7 +20,7 @@ static void read_manifest(void) {
     while (manifest_text[size] != '\0') size++;
     if (gorseplumb_read_manifest((const uint8_t *)manifest_text, size, &manifest) != GORSEPLUMB_OK) stop("the manifest is refused");
     uint32_t by = (uint32_t)RAM_BASE - manifest.ram_base;
-    manifest.worlds = 1;
+    manifest.has_security_states = 1;
     manifest.ram_base += by;
     manifest.tables = (uint32_t)(TABLES_AT - RAM_BASE) / GORSEPLUMB_PAGE_SIZE;
     for (uint32_t i = 0; i < manifest.endpoint_count; i++) {
@@ -32,7 +32,7 @@ static void read_manifest(void) {
 static enum gorseplumb_answer boot_manifest(struct gorseplumb_machine *machine, struct gorseplumb_lent *lent, const uint8_t *text, size_t size) {
     (void)text;
     (void)size;
-    return gorseplumb_boot_held_manifest(machine, lent, &manifest);
+    return gorseplumb_boot_preloaded_manifest(machine, lent, &manifest);
 }
 
 /* The partitions' program, where it stands in the image since QEMU can't put it into RAM: to the beginning of each one's first region. */

@@ -49,8 +49,8 @@ from .errors import (
 from .machine import Machine, Watcher
 from .manifest import Endpoint, Manifest, Region
 from .messages import IndirectMessage, PartitionInfo, read_partitions
-from .outcomes import Act, Call, Data, Done, Effect, Faulted, Fetch, Interrupt, Load, Operation, Outcome, Registers
-from .outcomes import Resumed, Store
+from .outcomes import Act, Call, Data, Done, Faulted, Fetch, Interrupt, Load, Operation, Outcome, Registers, Resumed
+from .outcomes import Store
 from .questions import Change, Grant
 from .ram import Ram
 from .reasons import Hindrance, Reason, Subject
@@ -82,7 +82,6 @@ __all__ = [
     "Denied",
     "Difference",
     "Done",
-    "Effect",
     "Endpoint",
     "ErrorCode",
     "Fault",

@@ -24,7 +24,7 @@ MOST_RANGES = 64
 NOTHING = 0xFFFFFFFF
 
 KIND_REGISTERS, KIND_DATA, KIND_DONE, KIND_FAULT, KIND_NO_MACHINE, KIND_BAD_SIZE = range(6)
-KIND_RESUMED, KIND_NO_PROCESSOR = 7, 8
+KIND_RESUMED = 7
 OPERATION_CALL, OPERATION_LOAD, OPERATION_STORE, OPERATION_FETCH = range(4)
 
 REGISTERS = struct.Struct("<8Q")
@@ -69,7 +69,7 @@ class Manifest(Structure):
         ("ram_blocks", c_uint32),
         ("endpoint_count", c_uint32),
         ("endpoints", Endpoint * MOST_ENDPOINTS),
-        ("worlds", c_uint32),
+        ("has_security_states", c_uint32),
         ("tables", c_uint32),
     ]
 
@@ -146,33 +146,29 @@ _DECLARED: dict[str, tuple[Any, ...]] = {
     "boot_manifest": (c_uint32, _MACHINE, POINTER(Manifest)),
     "boot_lent": (c_uint32, _MACHINE, _LENT, c_char_p, c_size_t),
     "boot_lent_manifest": (c_uint32, _MACHINE, _LENT, POINTER(Manifest)),
-    "boot_held": (c_uint32, _MACHINE, _LENT, c_char_p, c_size_t),
-    "boot_held_manifest": (c_uint32, _MACHINE, _LENT, POINTER(Manifest)),
+    "boot_preloaded": (c_uint32, _MACHINE, _LENT, c_char_p, c_size_t),
+    "boot_preloaded_manifest": (c_uint32, _MACHINE, _LENT, POINTER(Manifest)),
     "read_manifest": (c_uint32, c_char_p, c_size_t, POINTER(Manifest)),
     "why_text": (c_uint32, c_char_p, c_size_t, POINTER(Refusal), c_void_p, c_size_t),
     "why_manifest": (c_uint32, POINTER(Manifest), POINTER(Refusal)),
     "copy": (c_uint32, _MACHINE, _MACHINE),
     "copy_lent": (c_uint32, _MACHINE, _LENT, _MACHINE),
-    "free": (c_uint32, _MACHINE, _LENT),
-    "end": (c_uint32, _MACHINE),
+    "end": (c_uint32, _MACHINE, _LENT),
+    "end_heap": (c_uint32, _MACHINE),
     "call": (Outcome, _MACHINE, _REGISTERS),
     "load": (Outcome, _MACHINE, c_uint64, c_uint32),
     "store": (Outcome, _MACHINE, c_uint64, c_uint32, c_uint64),
     "fetch": (Outcome, _MACHINE, c_uint64),
-    "call_on": (Outcome, _MACHINE, c_uint32, _REGISTERS),
-    "load_on": (Outcome, _MACHINE, c_uint32, c_uint64, c_uint32),
-    "store_on": (Outcome, _MACHINE, c_uint32, c_uint64, c_uint32, c_uint64),
-    "fetch_on": (Outcome, _MACHINE, c_uint32, c_uint64),
-    "interrupt": (Outcome, _MACHINE, c_uint32),
+    "select": (c_bool, _MACHINE, c_uint32),
+    "interrupt": (Outcome, _MACHINE),
     "run": (c_size_t, _MACHINE, c_char_p, c_size_t, c_void_p, c_size_t),
-    "changed": (c_bool, _MACHINE, POINTER(Change)),
+    "take_change": (c_bool, _MACHINE, POINTER(Change)),
     "runner": (c_uint32, _MACHINE),
-    "runner_on": (c_uint32, _MACHINE, c_uint32),
     "endpoints": (c_uint32, _MACHINE),
     "owner": (c_uint32, _MACHINE, c_uint32),
     "access": (c_uint32, _MACHINE, c_uint16, c_uint32),
-    "pending": (c_bool, _MACHINE, c_uint16),
-    "schedule_due": (c_bool, _MACHINE),
+    "npi_pending": (c_bool, _MACHINE, c_uint16),
+    "sri_pending": (c_bool, _MACHINE),
     "read_page": (c_bool, _MACHINE, c_uint32, c_void_p),
     "ram_base": (c_uint32, _MACHINE),
     "ram_blocks": (c_uint32, _MACHINE),

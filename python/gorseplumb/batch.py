@@ -10,7 +10,7 @@ from . import _library as c
 from .codes import Fault
 from .hexadecimal import shown
 from .misuse import refuse
-from .outcomes import DONE, FAULTED, KINDS, Call, Data, Fetch, Load, Operation, Outcome, Registers, Store
+from .outcomes import DONE, FAULTED, KINDS, Call, Data, Fetch, Load, Operation, Outcome, Registers, Resumed, Store
 
 _NO_REGISTERS = (0,) * 8
 
@@ -80,4 +80,6 @@ def _outcome(told: tuple[int, ...], size: int) -> Outcome:
         return Registers(told[1], told[3:])
     if kind == c.KIND_DATA:
         return Data(told[2], size)
+    if kind == c.KIND_RESUMED:
+        return Resumed(told[1])
     return DONE if kind == c.KIND_DONE else FAULTED[Fault(told[2])]

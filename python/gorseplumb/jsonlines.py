@@ -7,20 +7,20 @@ from typing import Any, NamedTuple
 
 from .codes import Fault
 from .outcomes import DONE, FAULTED, INTERRUPT
-from .outcomes import Act, Call, Data, Done, Effect, Fetch, Interrupt, Load, Registers, Resumed, Store
+from .outcomes import Act, Call, Data, Done, Fetch, Interrupt, Load, Outcome, Registers, Resumed, Store
 
 
 class Entry(NamedTuple):
-    """An operation or an interrupt, what came of it, and the processor that was asked for, where one was."""
+    """An operation or an interrupt, what came of it, and the processor that did it."""
 
     operation: Act
-    outcome: Effect
-    processor: int | None = None
+    outcome: Outcome
+    processor: int = 0
 
 
-def dumps(operation: Act, outcome: Effect, processor: int | None = None) -> str:
-    """The line, without its end."""
-    told: dict[str, Any] = {"on": processor} if processor is not None else {}
+def dumps(operation: Act, outcome: Outcome, processor: int = 0) -> str:
+    """The line, without its end. It names each processor but 0."""
+    told: dict[str, Any] = {"on": processor} if processor else {}
     return json.dumps({**told, **_operation(operation), "outcome": _outcome(outcome)})
 
 
@@ -28,8 +28,7 @@ def loads(line: str) -> Entry:
     """What a line says."""
     try:
         told = json.loads(line)
-        processor = int(told["on"]) if "on" in told else None
-        return Entry(_read_operation(told), _read_outcome(told["outcome"]), processor)
+        return Entry(_read_operation(told), _read_outcome(told["outcome"]), int(told.get("on", 0)))
     except (KeyError, TypeError, AttributeError, ValueError) as wrong:
         raise ValueError(f"no operation with its outcome: {line.strip()[:80]!r}: {wrong!r}") from None
 
@@ -47,7 +46,7 @@ def _operation(operation: Act) -> dict[str, Any]:
     return {"fetch": address}
 
 
-def _outcome(outcome: Effect) -> dict[str, Any]:
+def _outcome(outcome: Outcome) -> dict[str, Any]:
     if isinstance(outcome, Resumed):
         return {"resumed": f"{outcome.runner:04X}"}
     if isinstance(outcome, Registers):
@@ -69,7 +68,7 @@ def _read_operation(told: dict[str, Any]) -> Act:
     return Fetch(int(told["fetch"], 16))
 
 
-def _read_outcome(told: dict[str, Any]) -> Effect:
+def _read_outcome(told: dict[str, Any]) -> Outcome:
     if "resumed" in told:
         return Resumed(int(told["resumed"], 16))
     if "regs" in told:

@@ -10,8 +10,8 @@ from typing import Callable, Iterable, Iterator, Mapping
 from .codes import NORMAL_WORLD, Fault
 from .errors import BadLine
 from .machine import Machine
-from .outcomes import DONE, FAULTED, Call, Data, Faulted, Operation, Outcome, Registers
-from .trace import Command, Difference, Trace, lines, parse
+from .outcomes import DONE, FAULTED, Act, Call, Data, Faulted, Interrupt, Outcome, Registers, Resumed
+from .trace import Command, Difference, Select, Trace, lines, parse
 
 Behaviour = Callable[[Machine, Registers], Registers]
 """What a partition does while it runs: from the registers that it sees, to the answer of the call by which it stops."""
@@ -120,6 +120,8 @@ def _read_outcome(words: str) -> Expected:
         return Expected(FAULTED[_FAULTS[rest]])
     if kind == "data" and len(rest) in (2, 4, 8, 16) and _NUMBERS.fullmatch(rest):
         return Expected(Data(int(rest, 16), len(rest) // 2))
+    if kind == "resumed" and re.fullmatch("[0-9A-Fa-f]{4}", rest):
+        return Expected(Resumed(int(rest, 16)))
     if kind == "regs":
         words = f"{rest[:4]}:{rest[4:]}"
     return _read_registers(words)
@@ -184,6 +186,9 @@ def play(
     partition did, `partitions` says it: it is asked until the endpoint runs that the log expects."""
     others = partitions or {}
     for entry in entries:
+        if isinstance(entry.command, Select):
+            machine.select(entry.command.processor)
+            continue
         runner = machine.runner
         if entry.by is not None and entry.by != runner:
             return Difference(entry.number, entry.line, f"runner {entry.by:04X}", f"runner {runner:04X}")
@@ -206,16 +211,16 @@ def _compare_lines(machine: Machine, entry: Entry) -> Difference | None:
 
 
 def _compare_outcome(
-    machine: Machine, entry: Entry, operation: Operation, others: Mapping[int, Behaviour], explain: bool
+    machine: Machine, entry: Entry, act: Act, others: Mapping[int, Behaviour], explain: bool
 ) -> Difference | None:
-    outcome = machine.perform(operation)
+    outcome = machine.perform(act)
     if entry.expected is None:
         return None
     found = _run_on(machine, outcome, entry.expected.runner, others)
     expected = entry.expected.beside(found)
     if found == expected:
         return None
-    reason = _reason(machine, operation, found) if explain else None
+    reason = _reason(machine, act, found) if explain else None
     return Difference(entry.number, entry.line, str(expected), str(found), reason)
 
 
@@ -228,8 +233,9 @@ def _run_on(machine: Machine, found: Outcome, wanted: int | None, others: Mappin
     raise RuntimeError(f"partitions ran on {MOST_TURNS} times, and {wanted or 0:04X} didn't run")
 
 
-def _reason(machine: Machine, operation: Operation, found: Outcome) -> str | None:
-    if isinstance(found, Faulted) or isinstance(found, Registers) and found.is_error:
-        reason = machine.why(operation)
-        return str(reason) if reason is not None else None
-    return None
+def _reason(machine: Machine, act: Act, found: Outcome) -> str | None:
+    is_refused = isinstance(found, Faulted) or isinstance(found, Registers) and found.is_error
+    if not is_refused or isinstance(act, Interrupt):
+        return None
+    reason = machine.why(act)
+    return str(reason) if reason is not None else None

@@ -19,8 +19,8 @@ from .manifest import Manifest, checked_boot, text_of
 from .messages import IndirectMessage
 from .misuse import check_number, refuse
 from .outcomes import DONE, FAULTED, INTERRUPT, KINDS, SIZES
-from .outcomes import Act, Call, Data, Done, Effect, Faulted, Fetch, Interrupt, Load, Operation, Outcome, Registers
-from .outcomes import Resumed, Store
+from .outcomes import Act, Call, Data, Done, Faulted, Fetch, Interrupt, Load, Operation, Outcome, Registers, Resumed
+from .outcomes import Store
 from .questions import Questions
 from .ram import Ram
 from .registers import Argument, encode
@@ -30,25 +30,16 @@ if TYPE_CHECKING:
 
 
 class Watcher:
-    """Who is told of each operation of a machine."""
+    """Who is told of each operation of a machine, and of each interrupt."""
 
-    def after(self, machine: Machine, operation: Operation, outcome: Outcome) -> None:
-        """An operation of the endpoint that runs was done, or refused."""
-
-    def before_on(self, machine: Machine, processor: int, act: Act) -> None:
-        """An operation or an interrupt of a processor is about to be done. An exception stops it."""
-
-    def after_on(self, machine: Machine, processor: int, act: Act, effect: Effect) -> None:
-        """One was done, or refused."""
+    def after(self, machine: Machine, act: Act, outcome: Outcome) -> None:
+        """An operation or an interrupt was done by `machine.processor`, or an operation was refused."""
 
 
 class _First(Watcher):
     """Sees that a machine isn't as it booted any more."""
 
-    def after(self, machine: Machine, operation: Operation, outcome: Outcome) -> None:
-        machine.unwatch(self)
-
-    def after_on(self, machine: Machine, processor: int, act: Act, effect: Effect) -> None:
+    def after(self, machine: Machine, act: Act, outcome: Outcome) -> None:
         machine.unwatch(self)
 
 
@@ -74,7 +65,7 @@ class Machine(Questions):
     heap, or a Ram, of which all is zeros then but the tables; with `keep` the pages of regions keep the bytes that they
     have. `fork` makes the same machine once more, as `copy` does; it isn't pickled."""
 
-    __slots__ = ("_at", "_ram", "_manifest", "_values", "_watchers", "__weakref__")
+    __slots__ = ("_at", "_ram", "_manifest", "_values", "_processor", "_watchers", "__weakref__")
 
     def __init__(
         self, manifest: str | bytes | os.PathLike[str] | Manifest, ram: Ram | None = None, *, keep: bool = False
@@ -90,7 +81,7 @@ class Machine(Questions):
         self._watchers: list[Watcher] = [_FIRST]
 
     def _boot(self, manifest: str | bytes | Manifest, ram: Ram | None, keep: bool) -> None:
-        kind = "boot" if ram is None else "boot_held" if keep else "boot_lent"
+        kind = "boot" if ram is None else "boot_preloaded" if keep else "boot_lent"
         told: tuple[object, ...]
         if isinstance(manifest, Manifest):
             kind, told = f"{kind}_manifest", (manifest.raw(),)
@@ -111,6 +102,7 @@ class Machine(Questions):
             except BaseException:
                 ram.take_back()
                 raise
+        self._processor = 0
         self._end = weakref.finalize(self, _end, self._raw, ram)
         self._at = ctypes.byref(self._raw)
         self._endpoints = tuple(place and 0x8000 + place for place in range(library.endpoints(self._raw)))
@@ -123,6 +115,7 @@ class Machine(Questions):
         other = _new(Machine)
         other._manifest, other._values = self._manifest, self._values
         other._begin(library.copy if ram is None else library.copy_lent, ram, self._raw)
+        other._processor = self._processor
         other._watchers = [_FIRST] if self.is_fresh else []
         return other
 
@@ -168,22 +161,23 @@ class Machine(Questions):
         self._check_endpoint(endpoint)
         return self.manifest.endpoints[self._endpoints.index(endpoint)].form
 
-    # OPERATIONS of the endpoint that runs. One that is refused is an outcome, and no exception.
+    # OPERATIONS of the endpoint that runs on the selected processor. One that is refused is an outcome, and no exception.
 
     def call(
         self, x0: int, x1: int = 0, x2: int = 0, x3: int = 0, x4: int = 0, x5: int = 0, x6: int = 0, x7: int = 0
     ) -> Registers:
-        """A call with these registers."""
+        """A call with these registers. Of a partition that an interrupt had stopped, and that goes on, the answer is Resumed."""
         try:
             told = _call(self._at, _pack(x0, x1, x2, x3, x4, x5, x6, x7))
         except struct.error:
             Call((x0, x1, x2, x3, x4, x5, x6, x7))  # says which has no room
             raise
         if told.kind:
-            self._refuse_kind(told.kind)
-        answer = _new(Registers)
-        _set_runner(answer, told.runner)
-        _set_x(answer, _unpack(told))
+            answer = self._resumed(told)
+        else:
+            answer = _new(Registers)
+            _set_runner(answer, told.runner)
+            _set_x(answer, _unpack(told))
         if self._watchers:
             self._tell(Call((x0, x1, x2, x3, x4, x5, x6, x7)), answer)
         return answer
@@ -227,54 +221,26 @@ class Machine(Questions):
             self._tell(Fetch(address), found)
         return found
 
-    # THE SAME of whoever runs on a processor, where several run endpoints of a machine at once, and interrupts
+    # SEVERAL PROCESSORS and interrupts
 
-    def call_on(self, processor: int, *x: int) -> Registers | Resumed:
-        """A call of whoever runs on a processor, in the machine as that one sees it. A partition that another processor
-        runs is busy, and FFA_RUN of one that an interrupt stopped lets it go on."""
-        call = Call(x)
-        self._warn_on(processor, call)
-        told = library.call_on(self._raw, processor, _pack(*call.x))
-        effect: Registers | Resumed
-        if told.kind == c.KIND_RESUMED:
-            effect = Resumed(told.runner)
-        elif told.kind == c.KIND_REGISTERS:
-            effect = Registers(told.runner, tuple(told.x))
-        else:
-            self._refuse_kind(told.kind)
-        self._tell_on(processor, call, effect)
-        return effect
+    @property
+    def processor(self) -> int:
+        """The selected processor: operations, interrupts and questions are of whoever runs there."""
+        return self._processor
 
-    def load_on(self, processor: int, address: int, size: int) -> Data | Faulted:
-        """A load of whoever runs on a processor."""
-        operation = Load(address, size)
-        self._warn_on(processor, operation)
-        found = self._accessed(library.load_on(self._raw, processor, address, size), size)
-        self._tell_on(processor, operation, found)
-        return found
+    def select(self, processor: int) -> None:
+        """Selects a processor, from 0 to 7. It is 0 at first. A partition that another processor runs is busy."""
+        self._check_processor(processor)
+        self._check_alive()
+        if not library.select(self._raw, processor):
+            raise LibraryError(f"the library doesn't select processor {processor}")
+        self._processor = processor
 
-    def store_on(self, processor: int, address: int, size: int, value: int) -> Done | Faulted:
-        """A store of whoever runs on a processor."""
-        operation = Store(address, size, value)
-        self._warn_on(processor, operation)
-        found = self._stored(library.store_on(self._raw, processor, address, size, value))
-        self._tell_on(processor, operation, found)
-        return found
-
-    def fetch_on(self, processor: int, address: int) -> Data | Faulted:
-        """A fetch of whoever runs on a processor."""
-        operation = Fetch(address)
-        self._warn_on(processor, operation)
-        found = self._accessed(library.fetch_on(self._raw, processor, address), 4)
-        self._tell_on(processor, operation, found)
-        return found
-
-    def interrupt(self, processor: int = 0) -> Registers | Done:
-        """An interrupt that a processor takes, and that the normal world is to handle: a partition that runs there stops
-        where it is, and the normal world sees FFA_INTERRUPT, which names it. Done: the normal world runs there already,
-        and takes it by itself."""
-        self._warn_on(processor, INTERRUPT)
-        told = library.interrupt(self._raw, processor)
+    def interrupt(self) -> Registers | Done:
+        """An interrupt that the selected processor takes, and that the normal world is to handle: a partition that runs there
+        stops where it is, and the normal world sees FFA_INTERRUPT, which names it. Done: the normal world runs there
+        already, and takes it by itself."""
+        told = library.interrupt(self._raw)
         found: Registers | Done
         if told.kind == c.KIND_REGISTERS:
             found = Registers(told.runner, tuple(told.x))
@@ -282,36 +248,25 @@ class Machine(Questions):
             found = DONE
         else:
             self._refuse_kind(told.kind)
-        self._tell_on(processor, INTERRUPT, found)
+        if self._watchers:
+            self._tell(INTERRUPT, found)
         return found
-
-    def perform_on(self, processor: int, act: Act) -> Effect:
-        """One operation of whoever runs on a processor, or an interrupt that it takes."""
-        if isinstance(act, Interrupt):
-            return self.interrupt(processor)
-        if isinstance(act, Call):
-            return self.call_on(processor, *act.x)
-        if isinstance(act, Load):
-            return self.load_on(processor, act.address, act.size)
-        if isinstance(act, Store):
-            return self.store_on(processor, act.address, act.size, act.value)
-        if isinstance(act, Fetch):
-            return self.fetch_on(processor, act.address)
-        refuse("an act", f"an Interrupt, {KINDS}", act)
 
     # MANY OPERATIONS, and operations that raise where they are refused
 
-    def perform(self, operation: Operation) -> Outcome:
-        """One operation of the endpoint that runs."""
-        if isinstance(operation, Call):
-            return self.call(*operation.x)
-        if isinstance(operation, Load):
-            return self.load(operation.address, operation.size)
-        if isinstance(operation, Store):
-            return self.store(operation.address, operation.size, operation.value)
-        if isinstance(operation, Fetch):
-            return self.fetch(operation.address)
-        refuse("an operation", KINDS, operation)
+    def perform(self, act: Act) -> Outcome:
+        """One operation of the endpoint that runs, or an interrupt."""
+        if isinstance(act, Call):
+            return self.call(*act.x)
+        if isinstance(act, Load):
+            return self.load(act.address, act.size)
+        if isinstance(act, Store):
+            return self.store(act.address, act.size, act.value)
+        if isinstance(act, Fetch):
+            return self.fetch(act.address)
+        if isinstance(act, Interrupt):
+            return self.interrupt()
+        refuse("an operation", KINDS, act)
 
     def run(self, operations: Batch | Iterable[Operation]) -> Outcomes:
         """Operations one behind the other, by one call of the library."""
@@ -360,8 +315,7 @@ class Machine(Questions):
         What stands in brackets may be left out, and is 0 then, but for `fragment`, which is `length`. A call with a
         star has a 64-bit form too, whose name ends in `_64`. A `uuid` is a `uuid.UUID`, or a str of 32 hexadecimal
         digits, with hyphens or without; a number is the one that these digits write, as in `UUID.int`. A `feature` may
-        be the name of a call. FFA_NOTIFICATION_INFO_GET is served by `call_on` alone. Descriptors and messages go by
-        `send`, and registers as they are by `call`."""
+        be the name of a call. Descriptors and messages go by `send`, and registers as they are by `call`."""
         return self.require(Call(encode(function, **arguments)))
 
     def require(self, call: Call) -> Registers:
@@ -440,18 +394,14 @@ class Machine(Questions):
 
         return JsonRecording(self, path)
 
-    def _tell(self, operation: Operation, outcome: Outcome) -> None:
+    def _tell(self, act: Act, outcome: Outcome) -> None:
         for watcher in tuple(self._watchers):
-            watcher.after(self, operation, outcome)
+            watcher.after(self, act, outcome)
 
-    def _warn_on(self, processor: int, act: Act) -> None:
-        self._check_processor(processor)
-        for watcher in self._watchers:
-            watcher.before_on(self, processor, act)
-
-    def _tell_on(self, processor: int, act: Act, effect: Effect) -> None:
-        for watcher in tuple(self._watchers):
-            watcher.after_on(self, processor, act, effect)
+    def _resumed(self, told: c.Outcome) -> Registers:
+        if told.kind != c.KIND_RESUMED:
+            self._refuse_kind(told.kind)
+        return Resumed(told.runner)
 
     def _accessed(self, told: c.Outcome, size: int) -> Data | Faulted:
         if told.kind == c.KIND_DATA:
@@ -482,7 +432,7 @@ def _check_ram(ram: object) -> None:
 
 
 def _end(raw: c.Held, ram: Ram | None) -> None:
-    answer = library.end(raw) if ram is None else library.free(raw, ram.lent)
+    answer = library.end_heap(raw) if ram is None else library.end(raw, ram.lent)
     if answer != Answer.OK:
         raise LibraryError(f"the end of a machine answers {answer}")
     if ram is not None:

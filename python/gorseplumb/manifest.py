@@ -56,15 +56,15 @@ class Endpoint:
 
 @dataclass(frozen=True)
 class Manifest:
-    """RAM, from `ram_base` on in blocks of 2 MiB, and the endpoints in their order. Where `worlds` is set, the machine tells
-    memory of the normal world's regions, which is non-secure, from all other, which is secure. The endpoints' tables stand in
-    a row from the page `tables` of RAM on, 2 pages and one for each block for each endpoint, and regions before them or
-    behind. No text says either."""
+    """RAM, from `ram_base` on in blocks of 2 MiB, and the endpoints in their order. Where `has_security_states` is set, the
+    machine tells memory of the normal world's regions, which is non-secure, from all other, which is secure. The
+    endpoints' tables stand in a row from the page `tables` of RAM on, 2 pages and one for each block for each endpoint,
+    and regions before them or behind. No text says either."""
 
     ram_base: int
     ram_blocks: int
     endpoints: Sequence[Endpoint]
-    worlds: bool = False
+    has_security_states: bool = False
     tables: int = 0
 
     __repr__ = by_fields
@@ -72,8 +72,8 @@ class Manifest:
     def __post_init__(self) -> None:
         check_numbers(self, "ram_base", "ram_blocks", "tables")
         check_each("endpoints", self.endpoints, Endpoint)
-        if not isinstance(self.worlds, bool):
-            refuse("worlds", "True or False", self.worlds)
+        if not isinstance(self.has_security_states, bool):
+            refuse("has_security_states", "True or False", self.has_security_states)
 
     @classmethod
     def read(cls, text: str | bytes | os.PathLike[str]) -> Manifest:
@@ -83,10 +83,10 @@ class Manifest:
         raw = c.Manifest()
         checked_boot(library.read_manifest(data, len(data), raw), text, data)
         endpoints = [_endpoint(it, place) for place, it in enumerate(raw.endpoints[: raw.endpoint_count])]
-        return cls(raw.ram_base, raw.ram_blocks, endpoints, bool(raw.worlds), raw.tables)
+        return cls(raw.ram_base, raw.ram_blocks, endpoints, bool(raw.has_security_states), raw.tables)
 
     def text(self) -> str:
-        """The same as the text of a manifest, but for `worlds` and `tables`."""
+        """The same as the text of a manifest, but for `has_security_states` and `tables`."""
         lines = [f"ram_base = 0x{self.ram_base:08X}", f"ram_blocks = {self.ram_blocks}"]
         for endpoint in self.endpoints:
             lines += ["", "[[endpoint]]", f'version = "{endpoint.form.text}"']
@@ -110,7 +110,7 @@ class Manifest:
         )
         for number, (place, endpoint) in enumerate(zip(raw.endpoints, self.endpoints)):
             _put_endpoint(place, endpoint, MANAGER + number if number else NORMAL_WORLD)
-        raw.worlds = int(self.worlds)
+        raw.has_security_states = int(self.has_security_states)
         raw.tables = _fit("tables", self.tables, Cause.TABLES_OUTSIDE)
         return raw
 

@@ -9,7 +9,7 @@ from typing import Any, Sequence, Union, overload
 
 from .codes import ErrorCode, Fault, Function
 from .errors import call_refused
-from .hexadecimal import by_fields
+from .hexadecimal import by_fields, shown
 from .misuse import check_number, check_registers, is_number
 
 SIZES = (1, 2, 4, 8)
@@ -122,7 +122,7 @@ class Fetch:
 
 @dataclass(frozen=True, slots=True)
 class Interrupt:
-    """An interrupt that a processor takes, and that the normal world is to handle."""
+    """An interrupt that the selected processor takes, and that the normal world is to handle."""
 
     def __str__(self) -> str:
         return "interrupt"
@@ -190,6 +190,22 @@ class Registers:
         return self
 
 
+@dataclass(frozen=True, slots=True, init=False)
+class Resumed(Registers):
+    """The partition `runner`, which an interrupt had stopped, runs next and goes on where it was, with its own registers: `x`
+    is zeros, and isn't for it."""
+
+    def __init__(self, runner: int) -> None:
+        object.__setattr__(self, "runner", runner)
+        object.__setattr__(self, "x", (0,) * 8)
+
+    def __repr__(self) -> str:
+        return f"Resumed(runner={shown(self.runner)})"
+
+    def __str__(self) -> str:
+        return f"resumed {self.runner:04X}"
+
+
 @dataclass(frozen=True, slots=True)
 class Data:
     """What a load or a fetch gives: `size` bytes, the lowest first."""
@@ -226,23 +242,8 @@ class Faulted:
         return f"fault {self.fault.text}"
 
 
-@dataclass(frozen=True, slots=True)
-class Resumed:
-    """The partition `runner`, which an interrupt had stopped, runs next and goes on where it was: it sees no registers but
-    its own."""
-
-    runner: int
-
-    __repr__ = by_fields
-
-    def __str__(self) -> str:
-        return f"resumed {self.runner:04X}"
-
-
 Outcome = Union[Registers, Data, Done, Faulted]
-"""What comes of an operation."""
-Effect = Union[Registers, Data, Done, Faulted, Resumed]
-"""What comes of an operation or an interrupt of a processor."""
+"""What comes of an operation or an interrupt."""
 DONE = Done()
 INTERRUPT = Interrupt()
 FAULTED = {fault: Faulted(fault) for fault in Fault}

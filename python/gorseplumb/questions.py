@@ -61,13 +61,8 @@ class Questions:
 
     @property
     def runner(self) -> int:
-        """The endpoint that runs."""
+        """The endpoint that runs on the selected processor."""
         return self._some(library.runner(self._raw))
-
-    def runner_on(self, processor: int) -> int:
-        """The endpoint that runs on a processor."""
-        self._check_processor(processor)
-        return self._some(library.runner_on(self._raw, processor))
 
     @property
     def endpoints(self) -> tuple[int, ...]:
@@ -118,17 +113,17 @@ class Questions:
         kind = GrantKind(told.kind)
         return Grant(kind, told.handle if kind in (GrantKind.SHARED, GrantKind.HELD) else None)
 
-    def pending(self, endpoint: int) -> bool:
+    def npi_pending(self, endpoint: int) -> bool:
         """Whether an endpoint has a notification pending."""
         self._check_alive()
         self._check_endpoint(endpoint)
-        return bool(library.pending(self._raw, endpoint))
+        return bool(library.npi_pending(self._raw, endpoint))
 
-    def schedule_due(self) -> bool:
+    def sri_pending(self) -> bool:
         """Whether the normal world's schedule receiver interrupt is to be pending: a notification is pending of an endpoint that no
         FFA_NOTIFICATION_INFO_GET has told it of since."""
         self._check_alive()
-        return bool(library.schedule_due(self._raw))
+        return bool(library.sri_pending(self._raw))
 
     def root(self, endpoint: int) -> int:
         """The address of an endpoint's level 1 table."""
@@ -195,11 +190,11 @@ class Questions:
         lines += [f"root {endpoint:04X} {self.root(endpoint):08X}" for endpoint in self._endpoints]
         return [*lines, *shown.certificate(), "agrees" if self.audit(shown.runs) else "differs"]
 
-    def changed(self) -> Change | None:
+    def take_change(self) -> Change | None:
         """What the last call on memory that was done has changed of access. It is told once."""
         self._check_alive()
         raw = c.Change()
-        if not library.changed(self._raw, raw):
+        if not library.take_change(self._raw, raw):
             return None
         return Change(raw.endpoint, tuple((it.address, it.size) for it in raw.ranges[: raw.range_count]))
 

@@ -8,9 +8,10 @@ from pathlib import Path
 from typing import Self, TextIO
 
 from . import jsonlines
+from .codes import NORMAL_WORLD
 from .errors import NotRecordable
 from .machine import Machine, Watcher
-from .outcomes import Act, Effect, Operation, Outcome, Registers
+from .outcomes import Act, Outcome, Registers
 
 
 class Recording(Watcher):
@@ -54,28 +55,33 @@ def _opened(path: os.PathLike[str] | str | None) -> TextIO:
 
 
 class TraceRecording(Recording):
-    """A trace in which each answer is a guard: `ffaplay run --strict` plays it where it answers the same."""
+    """A trace in which each answer is a guard: `ffaplay run --strict --processors 8` plays it where it answers the same."""
 
     def __init__(self, machine: Machine, path: os.PathLike[str] | str | None = None) -> None:
         if not machine.is_fresh:
             raise NotRecordable("a trace begins at the boot, and this machine has done something already")
         super().__init__(machine, path)
         self._told: int | None = None
-        self._runner = machine.runner
+        self._processor = 0
+        self._runners: dict[int, int] = {}
 
-    def after(self, machine: Machine, operation: Operation, outcome: Outcome) -> None:
-        """Writes the operation, with its outcome as a guard."""
-        if self._told != self._runner:
-            self._put(f"#@ {self._runner:04X}")
-            self._told = self._runner
-        self._put(str(operation))
+    def after(self, machine: Machine, act: Act, outcome: Outcome) -> None:
+        """Writes the operation or the interrupt, with its outcome as a guard."""
+        self._turn()
+        runner = self._runners.get(machine.processor, NORMAL_WORLD)
+        if self._told != runner:
+            self._put(f"#@ {runner:04X}")
+            self._told = runner
+        self._put(str(act))
         self._put(f"#= {outcome}")
         if isinstance(outcome, Registers):
-            self._runner = outcome.runner
+            self._runners[machine.processor] = outcome.runner
 
-    def before_on(self, machine: Machine, processor: int, act: Act) -> None:
-        """Refuses what names a processor, which no trace can have."""
-        raise NotRecordable("a trace has operations of one processor, and none of a processor that is named")
+    def _turn(self) -> None:
+        """Writes which processor is selected, where that is another than before."""
+        if self._processor != self.machine.processor:
+            self._processor = self.machine.processor
+            self._put(f"on {self._processor}")
 
     def note(self, words: str) -> None:
         """A comment."""
@@ -91,6 +97,7 @@ class TraceRecording(Recording):
         return self._ask("audit", self.machine.certificate())
 
     def _ask(self, question: str, told: list[str]) -> list[str]:
+        self._turn()
         self._put(question)
         for line in told:
             self._put(f"#= {line}")
@@ -98,14 +105,10 @@ class TraceRecording(Recording):
 
 
 class JsonRecording(Recording):
-    """Lines of JSON, one for each operation and its outcome."""
+    """Lines of JSON, one for each operation or interrupt and its outcome."""
 
-    def after(self, machine: Machine, operation: Operation, outcome: Outcome) -> None:
+    def after(self, machine: Machine, act: Act, outcome: Outcome) -> None:
         """Writes a line."""
-        self._put(jsonlines.dumps(operation, outcome))
-
-    def after_on(self, machine: Machine, processor: int, act: Act, effect: Effect) -> None:
-        """Writes a line."""
-        self._put(jsonlines.dumps(act, effect, processor))
+        self._put(jsonlines.dumps(act, outcome, machine.processor))
 
 

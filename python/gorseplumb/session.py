@@ -11,10 +11,10 @@ from .codes import ErrorCode, Function, Kind
 from .descriptors import DataAccess, InstructionAccess, Offer, PageRange, Receiver, Relinquish, Retrieve
 from .errors import GorseplumbError
 from .machine import Machine, Watcher
-from .outcomes import Call, Faulted, Operation, Outcome, Registers
+from .outcomes import Act, Call, Faulted, Fetch, Interrupt, Load, Operation, Outcome, Registers, Store
 from .recording import TraceRecording
 from .registers import Argument, decode, encode, places, signature
-from .trace import Player, parse
+from .trace import Player, Select, parse
 
 _CALLS = {function.name: function for function in Function}
 _GRANTS = {
@@ -26,7 +26,7 @@ _GRANTS = {
     "x": (DataAccess.UNSPECIFIED, InstructionAccess.X),
 }
 _HELP = 26  # where lines of `help` say what a command does
-_TRACE_WORDS = ("call", "load", "store", "fetch", "show", "audit")
+_TRACE_WORDS = ("call", "load", "store", "fetch", "on", "interrupt", "show", "audit")
 
 
 class Session:
@@ -35,7 +35,7 @@ class Session:
     def __init__(self, manifest: Path) -> None:
         self._manifest = manifest.read_bytes()
         self.machine = Machine(self._manifest)
-        self._done: list[Operation] = []
+        self._done: list[tuple[int, Act]] = []  # with the processor that did it
         self._lines: list[tuple[str, int]] = []  # those that did something, and how much was done before
         self._commands: dict[str, Callable[[list[str]], Iterable[str]]] = {
             "help": self._help,
@@ -84,20 +84,28 @@ class Session:
             return self.machine.show()
         if command == "audit":
             return self.machine.certificate()
+        if isinstance(command, Select):
+            self.machine.select(command.processor)
+            return []
         assert command is not None and not isinstance(command, str)
         return self._perform(command)
 
-    def _perform(self, operation: Operation) -> list[str]:
-        outcome = self.machine.perform(operation)
-        self._done.append(operation)
+    def _perform(self, act: Act) -> list[str]:
+        outcome = self.machine.perform(act)
+        self._done.append((self.machine.processor, act))
         told = [str(outcome)]
         if isinstance(outcome, Registers):
-            named = decode(outcome.x, operation.x[0] if isinstance(operation, Call) else None)
+            named = decode(outcome.x, act.x[0] if isinstance(act, Call) else None)
             told += [f"# {outcome.runner:04X} sees {named}"] if named is not None else []
         is_refused = isinstance(outcome, Faulted) or isinstance(outcome, Registers) and outcome.is_error
-        if is_refused:
-            told.append(f"# refused: {self.machine.why(operation)}")
-        return told
+        reason = self.machine.why(act) if is_refused and not isinstance(act, Interrupt) else None
+        return told if reason is None else [*told, f"# refused: {reason}"]
+
+    def _repeat(self, machine: Machine) -> None:
+        """Does on a machine what was done."""
+        for processor, act in self._done:
+            machine.select(processor)
+            machine.perform(act)
 
     # COMMANDS
 
@@ -107,6 +115,7 @@ class Session:
             "call X0 .. X7             a call, by its registers",
             "load A N, store A V       a load of N bytes, a store",
             "fetch A, show, audit      as in a trace",
+            "on N, interrupt           another processor is selected; it takes an interrupt",
             "FFA_NAME NAME=N ..        a call, by the names of its arguments: `help FFA_RUN` says which",
         ]
         told += [command.__doc__ for command in self._commands.values() if command.__doc__]
@@ -202,7 +211,7 @@ class Session:
             operation: Operation = Call(_encoded(_CALLS[words[0]], words[1:]))
         else:
             command = parse(" ".join(words))
-            if command is None or isinstance(command, str):
+            if not isinstance(command, (Call, Load, Store, Fetch)):
                 raise ValueError("why takes a call, a load, a store or a fetch")
             operation = command
         reason = self.machine.why(operation)
@@ -215,8 +224,8 @@ class Session:
             raise ValueError(f"{len(self._lines):X} lines did something")
         undone, machine = self._lines[-count:], Machine(self._manifest)
         self._done, self._lines = self._done[: undone[0][1]], self._lines[:-count]
-        for operation in self._done:
-            machine.perform(operation)
+        self._repeat(machine)
+        machine.select(self.machine.processor)
         self.machine.close()
         self.machine = machine
         return [f"undone: {line}" for line, _ in undone]
@@ -241,8 +250,7 @@ class Session:
         """save FILE                 writes what was done as a trace with guards"""
         (path,) = _exactly(words, "a file")
         with Machine(self._manifest) as machine, TraceRecording(machine, path):
-            for operation in self._done:
-                machine.perform(operation)
+            self._repeat(machine)
         return [f"{len(self._done)} operations"]
 
     # COMPLETION
@@ -273,10 +281,10 @@ class _Operations(Watcher):
     """Keeps what is done."""
 
     def __init__(self) -> None:
-        self.operations: list[Operation] = []
+        self.operations: list[tuple[int, Act]] = []
 
-    def after(self, machine: Machine, operation: Operation, outcome: Outcome) -> None:
-        self.operations.append(operation)
+    def after(self, machine: Machine, act: Act, outcome: Outcome) -> None:
+        self.operations.append((machine.processor, act))
 
 
 def _exactly(words: list[str], *names: str) -> list[str]:

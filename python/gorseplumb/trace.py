@@ -8,14 +8,27 @@ from dataclasses import dataclass
 from pathlib import Path
 from typing import Iterable, Iterator, Literal, Union
 
+from . import _library as c
 from .codes import Function
 from .errors import BadLine, GuardUnmet
 from .machine import Machine
 from .misuse import file_hint
-from .outcomes import Call, Faulted, Fetch, Load, Operation, Registers, Store
+from .outcomes import INTERRUPT, Act, Call, Faulted, Fetch, Interrupt, Load, Registers, Store
+
+
+
+@dataclass(frozen=True, slots=True)
+class Select:
+    """The line of a trace that selects a processor."""
+
+    processor: int
+
+    def __str__(self) -> str:
+        return f"on {self.processor}"
+
 
 Question = Literal["show", "audit"]
-Command = Union[Operation, Question]
+Command = Union[Act, Select, Question]
 Trace = Union[str, bytes, "os.PathLike[str]", Iterable[str]]
 """A whole trace as a text, its path, or lines, such as a file's."""
 
@@ -25,16 +38,18 @@ _WORDS = re.compile(
     f"|load ({_HEX}{{1,16}}) ([1248])"
     f"|store ({_HEX}{{1,16}}) ({_HEX}{{2}}|{_HEX}{{4}}|{_HEX}{{8}}|{_HEX}{{16}})"
     f"|fetch ({_HEX}{{1,16}})"
+    "|on (0{0,15}[0-7])"
 )
 _NUMBER = re.compile(f"{_HEX}+")
 _PREFIXED = re.compile(f"0[xX]{_HEX}+")
 _OF_SESSIONS = {
-    "help": "a line is call X0 .. X7, load A N, store A V, fetch A, show or audit, in hexadecimal; quit ends a session",
+    "help": "a line is call X0 .. X7, load A N, store A V, fetch A, show, audit, on N or interrupt, in hexadecimal; quit ends "
+    "a session",
     "quit": "to end a session, end the input, as Ctrl+D does",
 }
 _RUNNER = re.compile("[0-9A-F]{4}")
 _CHECK = re.compile(r"\.\.|[1-9][0-9]*")
-_OPENINGS = frozenset({"regs", "data", "done", "fault", "runner", "pages", "cert", "root", "agrees", "differs"})
+_OPENINGS = frozenset({"regs", "resumed", "data", "done", "fault", "runner", "pages", "cert", "root", "agrees", "differs"})
 _REGISTERS = ("regs", "runner", *(f"x{place}" for place in range(8)))
 
 
@@ -60,12 +75,14 @@ def parse(line: str) -> Command | None:
         return Load(int(match[2], 16), int(match[3]))
     if kind == 5:
         return Store(int(match[4], 16), len(match[5]) // 2, int(match[5], 16))
-    return Fetch(int(match[6], 16))
+    return Fetch(int(match[6], 16)) if kind == 6 else Select(int(match[7], 16))
 
 
-def _parse_other(line: str) -> Question | None:
+def _parse_other(line: str) -> Question | Interrupt | None:
     if not line or line.startswith("#"):
         return None
+    if line == "interrupt":
+        return INTERRUPT
     if line == "show" or line == "audit":
         return "show" if line == "show" else "audit"
     raise _fault(line)
@@ -76,7 +93,7 @@ def _fault(line: str) -> BadLine:
     if line.endswith("\r"):
         return BadLine("the line ends in CR LF; it must end in LF")
     command, *words = line.split(" ")
-    if command not in ("call", "load", "store", "fetch", "show", "audit"):
+    if command not in ("call", "load", "store", "fetch", "show", "audit", "on", "interrupt"):
         return BadLine(_OF_SESSIONS.get(command, "unknown command") if command else "empty word", 1)
     column = len(command) + 2
     for place, word in enumerate(words, 1):
@@ -91,7 +108,7 @@ def _fault(line: str) -> BadLine:
 
 
 def _word_fault(command: str, place: int, word: str) -> str | None:
-    most = {"call": len(word) + 8, "load": 2, "store": 2, "fetch": 1}.get(command, 0)
+    most = {"call": len(word) + 8, "load": 2, "store": 2, "fetch": 1, "on": 1}.get(command, 0)
     if not word:
         return "empty word"
     if place > most and command != "call":
@@ -103,7 +120,10 @@ def _word_fault(command: str, place: int, word: str) -> str | None:
         return "a number must not begin with 0x" if prefixed else "not a hexadecimal number"
     if command == "store" and place == 2:
         return None if len(word) in (2, 4, 8, 16) else _digits_fault(len(word))
-    return f"the number has {len(word)} digits; it must have at most 16" if len(word) > 16 else None
+    if len(word) > 16:
+        return f"the number has {len(word)} digits; it must have at most 16"
+    is_processor = command != "on" or int(word, 16) < c.MOST_PROCESSORS
+    return None if is_processor else f"the processor's number must be less than {c.MOST_PROCESSORS}"
 
 
 def _digits_fault(digits: int) -> str:
@@ -160,14 +180,16 @@ class Player:
                 command = parse(line)
             except BadLine as wrong:
                 raise BadLine(wrong.why, wrong.column, number) from None
-            if command is not None:
+            if isinstance(command, Select):
+                self.machine.select(command.processor)
+            elif command is not None:
                 printed = self._do(number, line, command)
                 self._unasked, self._printed = list(printed.text), True
                 yield printed
             elif self.strict:
                 self._guard(number, line)
 
-    def _do(self, number: int, line: str, command: Command) -> Printed:
+    def _do(self, number: int, line: str, command: Act | Question) -> Printed:
         machine = self.machine
         if command == "show":
             return Printed(number, line, command, machine.show())
@@ -177,7 +199,8 @@ class Player:
         outcome = machine.perform(command)
         answer = outcome if isinstance(outcome, Registers) else None
         refused = isinstance(outcome, Faulted) or answer is not None and answer.is_error
-        reason = machine.why(command) if self.explain and refused else None
+        explained = self.explain and refused and not isinstance(command, Interrupt)
+        reason = machine.why(command) if explained else None
         return Printed(number, line, command, [str(outcome)], answer, str(reason) if reason is not None else None)
 
     def _guard(self, number: int, line: str) -> None:
@@ -210,7 +233,7 @@ def play(
     names: bool = False,
     numbers: bool = False,
 ) -> Iterator[str]:
-    """The lines that the program prints of a trace, with the same flags."""
+    """The lines that the program prints of a trace with `--processors 8`, and with the same flags."""
     for printed in Player(machine, strict=strict, explain=explain).play(trace):
         first, *others = printed.text
         if names and printed.answer is not None and printed.answer.names:

@@ -25,9 +25,16 @@ PLACE = RAM + 0x10000
 
 def told(machine: Machine) -> list[object]:
     """What a machine tells where it is asked, and each byte of its RAM."""
-    running = [machine.runner_on(processor) for processor in range(8)]
+    selected, runner = machine.processor, machine.runner
     bytes_of = [machine.page(page) for page in range(machine.pages)]
-    return [machine.runner, running, machine.endpoints, list(machine.runs()), bytes_of, machine.manifest]
+    running = [runner_of(machine, processor) for processor in range(8)]
+    machine.select(selected)
+    return [selected, runner, running, machine.endpoints, list(machine.runs()), bytes_of, machine.manifest]
+
+
+def runner_of(machine: Machine, processor: int) -> int:
+    machine.select(processor)
+    return machine.runner
 
 
 @pytest.mark.parametrize("copied", COPIES)
@@ -39,7 +46,7 @@ def test_are_the_machine_in_each_state(partitions: Machine, copied: Callable[[Ma
         forks.append(copied(partitions))
         outcomes.append(partitions.perform(operation))
         with copied(partitions) as fork:
-            assert fork.changed() == partitions.changed() and fork.changed() is None
+            assert fork.take_change() == partitions.take_change() and fork.take_change() is None
     last = told(partitions)
     for place, fork in enumerate(forks):
         assert list(fork.run(operations[place:])) == outcomes[place:]
@@ -63,16 +70,25 @@ def test_have_their_own(copied: Callable[[Machine], Machine]) -> None:
 
 def test_keep_what_the_normal_world_was_told(partitions: Machine) -> None:
     with Machine(EXAMPLES / "machine.toml") as machine:
-        machine.call_on(0, Function.FFA_RUN, 0x80010000)
-        machine.call_on(0, Function.FFA_NOTIFICATION_BIND, 0x00008001, 0, 8)
-        machine.call_on(0, Function.FFA_MSG_WAIT)
-        machine.call_on(0, Function.FFA_NOTIFICATION_SET, 0x00008001, 0, 8)
+        machine.call(Function.FFA_RUN, 0x80010000)
+        machine.call(Function.FFA_NOTIFICATION_BIND, 0x00008001, 0, 8)
+        machine.call(Function.FFA_MSG_WAIT)
+        machine.call(Function.FFA_NOTIFICATION_SET, 0x00008001, 0, 8)
         with machine.fork() as untold:
-            assert machine.schedule_due() and untold.schedule_due()
-            machine.call_on(0, 0x84000083)
+            assert machine.sri_pending() and untold.sri_pending()
+            machine.call(0x84000083)
             with machine.fork() as fork:
-                assert untold.schedule_due() and not machine.schedule_due() and not fork.schedule_due()
-                assert fork.pending(0x8001)
+                assert untold.sri_pending() and not machine.sri_pending() and not fork.sri_pending()
+                assert fork.npi_pending(0x8001)
+
+
+def test_keep_which_processor_is_selected(partitions: Machine) -> None:
+    partitions.select(5)
+    partitions.call(Function.FFA_RUN, 0x80010000)
+    with partitions.fork() as fork:
+        assert fork.processor == 5 and fork.runner == 0x8001
+        fork.select(0)
+        assert fork.runner == 0 and partitions.processor == 5 and partitions.runner == 0x8001
 
 
 def test_go_back_into_a_ram() -> None:

@@ -11,7 +11,7 @@ from typing import Any, Callable
 import pytest
 from conftest import EXAMPLES
 
-from gorseplumb import AccessFault, AlignmentFault, Busy, Call, CallRefused, Cause, Change, Data, DataAccess, Denied
+from gorseplumb import AccessFault, Act, AlignmentFault, Busy, Call, CallRefused, Cause, Change, Data, DataAccess, Denied
 from gorseplumb import Done, Endpoint, ErrorCode, Fault, Faulted, Fetch, Function, InstructionAccess
 from gorseplumb import InvalidParameters, Kind, Load, Machine, MachineEnded, Manifest, ManifestRefused, NoSuchEndpoint
 from gorseplumb import NoSuchPage, NotSupported, Offer, Operation, Outcome, PageRange, PermissionFault, Properties
@@ -94,16 +94,16 @@ def test_reads_and_writes_any_bytes(partitions: Machine) -> None:
 
 
 def test_tells_of_changes_and_notifications(partitions: Machine) -> None:
-    assert partitions.changed() is None
-    assert not any(partitions.pending(endpoint) for endpoint in partitions.endpoints)
+    assert partitions.take_change() is None
+    assert not any(partitions.npi_pending(endpoint) for endpoint in partitions.endpoints)
     partitions.do(Function.FFA_RUN, partition=0x8001)
     partitions.do(Function.FFA_RXTX_MAP, tx=0x4002E000, rx=0x4002F000, pages=1)
     ranges = (PageRange(0x40028000, 2), PageRange(0x4002C000, 1))
     offer = Offer(Kind.LEND, 0x8001, (Receiver(0x8002, DataAccess.RW),), ranges)
     answer = partitions.send(offer, 0x4002E000)
     assert answer.handle == 0x0000800100000001
-    assert partitions.changed() == Change(0x8001, ((0x40028000, 8192), (0x4002C000, 4096)))
-    assert partitions.changed() is None
+    assert partitions.take_change() == Change(0x8001, ((0x40028000, 8192), (0x4002C000, 4096)))
+    assert partitions.take_change() is None
     partitions.do(Function.FFA_MSG_WAIT)
     partitions.do(Function.FFA_RUN, partition=0x8002)
     partitions.do(Function.FFA_RXTX_MAP, tx=0x40206000, rx=0x40207000, pages=1)
@@ -122,7 +122,7 @@ def test_refuses_numbers_that_have_no_room() -> None:
     with Machine(MANIFEST) as machine:
         for count in (0, 9):
             with pytest.raises(ValueError, match=f"one to eight registers, and not {count}"):
-                machine.call_on(0, *[1] * count)
+                machine.perform(Call(*[1] * count))
             with pytest.raises(TypeError):
                 machine.call(*[1] * count)
         with pytest.raises(ValueError, match="x1 has 64 bits, and is -0x1"):
@@ -169,7 +169,7 @@ def test_says_what_is_no_number_and_no_operation() -> None:
     with Machine(MANIFEST) as machine:
         asks: list[tuple[Callable[[], object], str]] = [
             (lambda: machine.call(text), f"x0 is {number}"),
-            (lambda: machine.call_on(0, 1, text), f"x1 is {number}"),
+            (lambda: machine.call(1, text), f"x1 is {number}"),
             (lambda: machine.load(text, 1), f"an address is {number}"),
             (lambda: machine.fetch(text), f"an address is {number}"),
             (lambda: machine.fetch(half), "an address is a number, and not the float 1.5"),
@@ -225,7 +225,7 @@ def test_refuses_pages_and_endpoints_that_are_not_there() -> None:
         with pytest.raises(NoSuchEndpoint):
             machine.access(0x8002, 0)
         with pytest.raises(NoSuchEndpoint):
-            machine.pending(0x8000)
+            machine.npi_pending(0x8000)
 
 
 CAUSES = [
@@ -306,8 +306,8 @@ def test_ends_once() -> None:
         lambda: machine.runner,
         lambda: machine.owner(0),
         lambda: machine.page(0),
-        lambda: machine.pending(0),
-        lambda: machine.changed(),
+        lambda: machine.npi_pending(0),
+        lambda: machine.take_change(),
         lambda: machine.access(0, 0),
         lambda: machine.why(Load(RAM, 1)),
         lambda: machine.run([]),
@@ -328,10 +328,10 @@ def test_is_not_pickled() -> None:
 def test_tells_its_watchers(partitions: Machine) -> None:
     class Keeper(Watcher):
         def __init__(self) -> None:
-            self.told: list[tuple[Operation, Outcome]] = []
+            self.told: list[tuple[Act, Outcome]] = []
 
-        def after(self, machine: Machine, operation: Operation, outcome: Outcome) -> None:
-            self.told.append((operation, outcome))
+        def after(self, machine: Machine, act: Act, outcome: Outcome) -> None:
+            self.told.append((act, outcome))
 
     keeper = Keeper()
     partitions.watch(keeper)

@@ -67,7 +67,7 @@ def test_names_the_member_that_is_meant() -> None:
         ),
         (lambda: Endpoint([region], uuid=odd[5]), f"uuid is a UUID, and not the str '{odd[5]}': give UUID('{odd[5]}')"),
         (lambda: Region(odd[6], 16), "base is a number, and not the str '40010000': give 0x40010000"),
-        (lambda: Manifest(0x40000000, 1, [], odd[4]), "worlds is True or False, and not the str 'all'"),
+        (lambda: Manifest(0x40000000, 1, [], odd[4]), "has_security_states is True or False, and not the str 'all'"),
         (lambda: Manifest(odd[6], 1, []), "ram_base is a number, and not the str '40010000': give 0x40010000"),
         (lambda: Endpoint([odd[7]]), "regions[0] is a Region, and not the tuple (0x40010000, 0x10)"),
         (lambda: Manifest(0x40000000, 1, [odd[7]]), "endpoints[0] is an Endpoint, and not the tuple (0x40010000, 0x10)"),

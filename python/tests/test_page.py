@@ -61,7 +61,8 @@ def test_the_lines_of_json_are_read() -> None:
         for line in block("Recordings", 1).splitlines():
             entry = jsonlines.loads(line)
             assert jsonlines.dumps(*entry) == line
-            assert machine.perform_on(entry.processor or 0, entry.operation) == entry.outcome
+            machine.select(entry.processor)
+            assert machine.perform(entry.operation) == entry.outcome
 
 
 def test_the_logs_are_read() -> None:

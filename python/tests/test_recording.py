@@ -11,6 +11,7 @@ from gorseplumb import Call, DataAccess, Fault, Faulted, Function, IndirectMessa
 from gorseplumb import Interrupt, Offer, PageRange, Receiver, jsonlines, play
 
 MANIFEST = EXAMPLES / "partitions.toml"
+STRICT = ("run", "--strict", "--processors", 1)
 
 
 def bench(machine: Machine) -> None:
@@ -35,9 +36,9 @@ def test_is_played_by_the_program_to_the_same_answers(program: Program, tmp_path
         bench(machine)
     text = path.read_text()
     assert text.count("#= ") > 25 and "#@ 8002" in text
-    assert program("run", "--strict", MANIFEST, path).returncode == 0
+    assert program(*STRICT, MANIFEST, path).returncode == 0
     changed = text.replace("#= fault translation", "#= data 00", 1)
-    done = program("run", "--strict", MANIFEST, "-", text=changed.encode())
+    done = program(*STRICT, MANIFEST, "-", text=changed.encode())
     assert done.returncode == 5 and b'expected "data 00", found "fault translation"' in done.stderr
 
 
@@ -46,9 +47,9 @@ def test_has_what_show_and_audit_print(program: Program) -> None:
         bench(machine)
         shown, audited = recording.show(), recording.audit()
     assert shown[0] == "runner 8001" and audited[-1] == "agrees"
-    assert program("run", "--strict", MANIFEST, "-", text=recording.text.encode()).returncode == 0
+    assert program(*STRICT, MANIFEST, "-", text=recording.text.encode()).returncode == 0
     changed = recording.text.replace("#= agrees", "#= differs").encode()
-    assert program("run", "--strict", MANIFEST, "-", text=changed).returncode == 5
+    assert program(*STRICT, MANIFEST, "-", text=changed).returncode == 5
 
 
 def test_is_played_by_the_package_to_the_same_answers(partitions: Machine) -> None:
@@ -78,7 +79,7 @@ def test_lines_of_json_are_read_as_they_were_written(partitions: Machine, tmp_pa
     assert [str(it.outcome) for it in entries] == [
         line[3:] for line in trace.text.splitlines() if line.startswith("#= ")
     ]
-    assert {it.processor for it in entries} == {None}
+    assert {it.processor for it in entries} == {0}
     with Machine(MANIFEST) as machine:
         for entry in entries:
             assert not isinstance(entry.operation, Interrupt)

@@ -42,6 +42,12 @@ BAD = [
     ("store 1 123", "the value has 3 digits; it must have 2, 4, 8 or 16"),
     ("fetch 1 2", "unexpected word"),
     ("show 1", "unexpected word"),
+    ("on", "missing word"),
+    ("on 8", "the processor's number must be less than 8"),
+    ("on 00000000000000000", "the number has 17 digits; it must have at most 16"),
+    ("on 0x1", "a number must not begin with 0x"),
+    ("on 1 1", "unexpected word"),
+    ("interrupt 1", "unexpected word"),
     ("show\r", "the line ends in CR LF; it must end in LF"),
 ]
 
@@ -55,7 +61,7 @@ def test_says_what_is_wrong_with_a_line(line: str, why: str) -> None:
 
 @pytest.mark.parametrize("line, why", BAD[1:])
 def test_says_it_as_the_program_does(program: Program, line: str, why: str) -> None:
-    done = program("demo", "--verbose", "-", text=f"show\n{line}\n".encode())
+    done = program("demo", "--processors", 8, "--verbose", "-", text=f"show\n{line}\n".encode())
     assert done.returncode == 2
     told = [row for row in done.stderr.decode().splitlines() if row.startswith("ffaplay: ")][-1].removeprefix("ffaplay: ")
     with pytest.raises(BadLine) as wrong:

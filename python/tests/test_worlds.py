@@ -11,7 +11,7 @@ from gorseplumb import Check, DataAccess, Denied, Function, Kind, Machine, Manif
 from gorseplumb import Retrieve, RetrieveResponse
 
 ONE = Manifest.read(EXAMPLES / "machine.toml")
-TWO = replace(ONE, worlds=True)
+TWO = replace(ONE, has_security_states=True)
 NORMAL, SECURE = PageRange(0x40010000, 1), PageRange(0x40020000, 1)
 TX, TX_1 = 0x4001E000, 0x4002E000
 
@@ -40,7 +40,7 @@ def run_first(manifest: Manifest) -> tuple[Machine, RetrieveResponse]:
 def test_tells_worlds_apart() -> None:
     machine, response = run_first(TWO)
     with machine:
-        assert response.non_secure and machine.manifest.worlds
+        assert response.non_secure and machine.manifest.has_security_states
         for function in (Function.FFA_MEM_RETRIEVE_REQ, Function.FFA_MEM_RETRIEVE_REQ_64):
             assert machine.call(Function.FFA_FEATURES, function).x[:3] == (Function.FFA_SUCCESS, 0, 2)
         with pytest.raises(Denied) as denied:
@@ -53,12 +53,12 @@ def test_tells_worlds_apart() -> None:
 def test_tells_nothing_unasked() -> None:
     machine, response = run_first(ONE)
     with machine:
-        assert not response.non_secure and not machine.manifest.worlds
+        assert not response.non_secure and not machine.manifest.has_security_states
         told = machine.call(Function.FFA_FEATURES, Function.FFA_MEM_RETRIEVE_REQ)
         assert told.x[:3] == (Function.FFA_SUCCESS, 0, 0)
         assert machine.send(shares(0x8001, 0, SECURE), TX_1).handle == 0x0000800100000001
 
 
 def test_no_text_says_it() -> None:
-    assert TWO.text() == ONE.text() and not Manifest.read(TWO.text()).worlds
-    assert TWO != ONE and repr(TWO).endswith("worlds=True, tables=0)")
+    assert TWO.text() == ONE.text() and not Manifest.read(TWO.text()).has_security_states
+    assert TWO != ONE and repr(TWO).endswith("has_security_states=True, tables=0)")

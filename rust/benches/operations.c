@@ -55,7 +55,7 @@ static void boot(void) {
     struct gorseplumb_machine other = {0};
     struct gorseplumb_lent none = {0};
     must(gorseplumb_boot_manifest(&other, &manifest) == GORSEPLUMB_OK && gorseplumb_runner(&other) == 0);
-    must(gorseplumb_free(&other, &none) == GORSEPLUMB_OK);
+    must(gorseplumb_end(&other, &none) == GORSEPLUMB_OK);
 }
 
 static inline void measure(const char *name, uint32_t count, void (*operation)(void)) {

@@ -40,7 +40,7 @@ fn measure(name: &str, count: u32, mut operation: impl FnMut()) {
 fn main() {
     let mut machine = Machine::boot(&MANIFEST).expect("a machine");
     let id_get = registers([0x8400_0069]);
-    measure("call", 1_000_000, || assert_eq!(machine.call(&id_get).registers()[0], 0x8400_0061));
+    measure("call", 1_000_000, || assert_eq!(machine.call(&id_get).registers().unwrap()[0], 0x8400_0061));
     measure("load", 1_000_000, || assert_eq!(machine.load(PLACE, Size::B8), Ok(0)));
     measure("store", 1_000_000, || assert_eq!(machine.store(PLACE + 8, Size::B8, 42), Ok(())));
     measure("fetch", 1_000_000, || assert_eq!(machine.fetch(PLACE), Ok(0)));

@@ -453,7 +453,8 @@ pub struct RetrieveResponse {
     pub zeroed: bool,
     /// The offer's tag.
     pub tag: u64,
-    /// Whether the pages are told to be non-secure, as only a machine that tells [worlds](crate::Worlds) apart does.
+    /// Whether the pages are told to be non-secure, as only a machine [with security
+    /// states](crate::Manifest::with_security_states) tells it.
     pub non_secure: bool,
     count: usize,
     ranges: [PageRange; MOST_RANGES],

@@ -131,6 +131,6 @@ impl Answer {
     /// What w0 of the answer names. None: where the next runner goes on from no answer, it is whatever it had there.
     #[must_use]
     pub fn function(&self) -> Option<Function> {
-        Function::of(self.registers()[0] as u32)
+        self.registers().and_then(|registers| Function::of(registers[0] as u32))
     }
 }

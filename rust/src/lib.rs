@@ -161,13 +161,12 @@ pub use layout::DescriptorBytes;
 pub use lists::{Operation, Outcome, Told};
 pub use machine::{Change, Description, Machine, Range};
 pub use manifest::{
-    CountError, Endpoint, Manifest, Properties, Region, Rights, Version, Worlds, MOST_BLOCKS, MOST_ENDPOINTS,
-    MOST_REGIONS,
+    CountError, Endpoint, Manifest, Properties, Region, Rights, Version, MOST_BLOCKS, MOST_ENDPOINTS, MOST_REGIONS,
 };
 pub use named::{decode, encode, encode_words, ArgumentError, Named};
 pub use names::{call_name, declarations, version};
 pub use operation::{registers, Answer, Registers, Size};
-pub use processors::{Effect, Processor};
+pub use processors::Processor;
 pub use ram::{Heap, Lent, Page, Ram, PAGE_SIZE};
 pub use reasons::{About, AccessReason, CallReason, Obstacle, RunState};
 pub use refusal::Refusal;

@@ -97,7 +97,7 @@ impl Outcome {
     #[must_use]
     pub fn told(&self) -> Told {
         match self.0.kind {
-            raw::KIND_REGISTERS => Told::Answer(Answer::of(self.0)),
+            raw::KIND_REGISTERS | raw::KIND_RESUMED => Told::Answer(Answer::of(self.0)),
             raw::KIND_DONE => Told::Done,
             _ => accessed(&self.0).map_or_else(Told::Fault, Told::Data),
         }

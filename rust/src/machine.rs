@@ -20,7 +20,7 @@ mod sealed {
     pub trait Description {
         unsafe fn boot(&self, machine: *mut raw::Machine) -> u32;
         unsafe fn boot_lent(&self, machine: *mut raw::Machine, lent: *mut raw::Lent) -> u32;
-        unsafe fn boot_held(&self, machine: *mut raw::Machine, lent: *mut raw::Lent) -> u32;
+        unsafe fn boot_preloaded(&self, machine: *mut raw::Machine, lent: *mut raw::Lent) -> u32;
         unsafe fn why(&self, refusal: *mut raw::Refusal) -> u32;
     }
 }
@@ -41,8 +41,8 @@ impl sealed::Description for [u8] {
         unsafe { raw::gorseplumb_boot_lent(machine, lent, self.as_ptr(), self.len()) }
     }
 
-    unsafe fn boot_held(&self, machine: *mut raw::Machine, lent: *mut raw::Lent) -> u32 {
-        unsafe { raw::gorseplumb_boot_held(machine, lent, self.as_ptr(), self.len()) }
+    unsafe fn boot_preloaded(&self, machine: *mut raw::Machine, lent: *mut raw::Lent) -> u32 {
+        unsafe { raw::gorseplumb_boot_preloaded(machine, lent, self.as_ptr(), self.len()) }
     }
 
     unsafe fn why(&self, refusal: *mut raw::Refusal) -> u32 {
@@ -60,8 +60,8 @@ impl sealed::Description for str {
         unsafe { self.as_bytes().boot_lent(machine, lent) }
     }
 
-    unsafe fn boot_held(&self, machine: *mut raw::Machine, lent: *mut raw::Lent) -> u32 {
-        unsafe { self.as_bytes().boot_held(machine, lent) }
+    unsafe fn boot_preloaded(&self, machine: *mut raw::Machine, lent: *mut raw::Lent) -> u32 {
+        unsafe { self.as_bytes().boot_preloaded(machine, lent) }
     }
 
     unsafe fn why(&self, refusal: *mut raw::Refusal) -> u32 {
@@ -78,8 +78,8 @@ impl sealed::Description for Manifest {
         unsafe { raw::gorseplumb_boot_lent_manifest(machine, lent, self.raw()) }
     }
 
-    unsafe fn boot_held(&self, machine: *mut raw::Machine, lent: *mut raw::Lent) -> u32 {
-        unsafe { raw::gorseplumb_boot_held_manifest(machine, lent, self.raw()) }
+    unsafe fn boot_preloaded(&self, machine: *mut raw::Machine, lent: *mut raw::Lent) -> u32 {
+        unsafe { raw::gorseplumb_boot_preloaded_manifest(machine, lent, self.raw()) }
     }
 
     unsafe fn why(&self, refusal: *mut raw::Refusal) -> u32 {
@@ -155,11 +155,11 @@ impl<'ram> Machine<Lent<'ram>> {
     ///
     /// # Errors
     /// As [`Machine::boot_lent`].
-    pub fn boot_held<D>(description: &D, pages: &'ram mut [Page]) -> Result<Machine<Lent<'ram>>, BootError>
+    pub fn boot_preloaded<D>(description: &D, pages: &'ram mut [Page]) -> Result<Machine<Lent<'ram>>, BootError>
     where
         D: Description + ?Sized,
     {
-        Machine::boot_held_in(description, Lent::new(pages)?)
+        Machine::boot_preloaded_in(description, Lent::new(pages)?)
     }
 }
 
@@ -174,13 +174,13 @@ impl<R: Ram> Machine<R> {
         Ok(Machine { at, ram })
     }
 
-    pub(crate) fn boot_held_in<D>(description: &D, mut ram: R) -> Result<Machine<R>, BootError>
+    pub(crate) fn boot_preloaded_in<D>(description: &D, mut ram: R) -> Result<Machine<R>, BootError>
     where
         D: Description + ?Sized,
     {
         let mut at = raw::Machine::NONE;
         // SAFETY: as above.
-        booted(unsafe { description.boot_held(&mut at, ram.list()) }, description)?;
+        booted(unsafe { description.boot_preloaded(&mut at, ram.list()) }, description)?;
         Ok(Machine { at, ram })
     }
 
@@ -211,7 +211,7 @@ impl<R: Ram> Machine<R> {
         Ok(Machine { at, ram })
     }
 
-    /// A call of the endpoint that runs.
+    /// A call of the endpoint that runs on the [selected processor](Machine::select), as all that follows.
     #[inline]
     pub fn call(&mut self, registers: &Registers) -> Answer {
         // SAFETY: the machine is borrowed for this one call, and eight registers are what C has in a struct.
@@ -249,10 +249,10 @@ impl<R: Ram> Machine<R> {
     }
 
     /// What the last call on memory that was done has changed of access, told once.
-    pub fn changed(&mut self) -> Option<Change> {
+    pub fn take_change(&mut self) -> Option<Change> {
         let mut change = Change::NONE;
         // SAFETY: as above, and the change is live.
-        unsafe { raw::gorseplumb_changed(&mut self.at, &mut change.0) }.then_some(change)
+        unsafe { raw::gorseplumb_take_change(&mut self.at, &mut change.0) }.then_some(change)
     }
 
     /// Ends the machine, and gives back where its RAM is: of [`Lent`] pages the list, which has them all again.
@@ -265,7 +265,7 @@ impl<R: Ram> Machine<R> {
 
     fn free(&mut self) {
         // SAFETY: the machine is there and nobody else's, and the list is the one that its pages came from.
-        let answer = unsafe { raw::gorseplumb_free(&mut self.at, self.ram.list()) };
+        let answer = unsafe { raw::gorseplumb_end(&mut self.at, self.ram.list()) };
         debug_assert_eq!(answer, raw::OK);
     }
 

@@ -231,17 +231,6 @@ impl Endpoint {
     }
 }
 
-/// Whether a machine tells non-secure memory from secure memory.
-#[derive(Clone, Copy, Debug, PartialEq, Eq, Hash, Default)]
-pub enum Worlds {
-    /// All memory is alike, and no answer says whose it is.
-    #[default]
-    One = 0,
-    /// Memory of the normal world's regions is non-secure, and so told to who retrieves it. All other memory is secure, and
-    /// can't be sent to the normal world.
-    Two = 1,
-}
-
 /// A manifest as numbers. Its counts are those that there may be; whether it describes a machine, a boot says.
 #[derive(Clone, Copy, PartialEq, Eq)]
 #[repr(transparent)]
@@ -255,7 +244,7 @@ impl fmt::Debug for Manifest {
             .field("ram_base", &Hexadecimal(ram_base))
             .field("ram_blocks", &ram_blocks)
             .field("endpoints", &First(endpoints, endpoint_count, Endpoint))
-            .field("worlds", &self.worlds())
+            .field("has_security_states", &self.has_security_states())
             .field("tables", &self.tables())
             .finish()
     }
@@ -267,7 +256,7 @@ impl Manifest {
         ram_blocks: 0,
         endpoint_count: 0,
         endpoints: [Endpoint::NONE.0; MOST_ENDPOINTS],
-        worlds: Worlds::One as u32,
+        has_security_states: 0,
         tables: 0,
     });
 
@@ -312,22 +301,20 @@ impl Manifest {
         Ok(Manifest(manifest))
     }
 
-    /// The same, whose machine tells the worlds' memory apart, or doesn't. The text of a manifest can't say it, and
-    /// one that [was read](Manifest::read) doesn't.
+    /// The same, whose machine has security states, or doesn't. With them, memory of the normal world's regions is non-secure,
+    /// and so told to who retrieves it. All other memory is secure, and can't be sent to the normal world. Without them, all
+    /// memory is alike. The text of a manifest can't say it, and one that [was read](Manifest::read) has none.
     #[must_use]
-    pub const fn with_worlds(self, worlds: Worlds) -> Manifest {
+    pub const fn with_security_states(self, has_security_states: bool) -> Manifest {
         let mut manifest = self.0;
-        manifest.worlds = worlds as u32;
+        manifest.has_security_states = has_security_states as u32;
         Manifest(manifest)
     }
 
-    /// Whether its machine tells the worlds' memory apart.
+    /// Whether its machine tells non-secure memory from secure memory.
     #[must_use]
-    pub const fn worlds(&self) -> Worlds {
-        match self.0.worlds {
-            0 => Worlds::One,
-            _ => Worlds::Two,
-        }
+    pub const fn has_security_states(&self) -> bool {
+        self.0.has_security_states != 0
     }
 
     /// The same, whose endpoints' tables begin at this page of RAM, and not at its first, which is 0: 2 pages and one for each

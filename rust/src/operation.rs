@@ -60,7 +60,8 @@ impl Size {
     }
 }
 
-/// What a call gives: who runs next, and the registers that it sees.
+/// What a call gives: who runs next, and the registers that it sees. Of a partition that goes on where an interrupt stopped
+/// it these are its own, and none are told.
 #[derive(Clone, Copy, PartialEq, Eq)]
 #[repr(transparent)]
 pub struct Answer(raw::Outcome);
@@ -76,11 +77,11 @@ impl Answer {
         Id(self.0.runner as u16)
     }
 
-    /// The registers that it sees.
+    /// The registers that it sees. None: a partition that an interrupt had stopped goes on where it was, with its own.
     #[inline]
     #[must_use]
-    pub fn registers(&self) -> &Registers {
-        &self.0.x
+    pub fn registers(&self) -> Option<&Registers> {
+        (self.0.kind == raw::KIND_REGISTERS).then_some(&self.0.x)
     }
 
     /// What FFA_ERROR tells, where the call is refused.
@@ -110,23 +111,27 @@ impl Answer {
 
     #[inline]
     pub(crate) fn of(outcome: raw::Outcome) -> Answer {
-        debug_assert_eq!(outcome.kind, raw::KIND_REGISTERS);
+        debug_assert!(matches!(outcome.kind, raw::KIND_REGISTERS | raw::KIND_RESUMED));
         Answer(outcome)
     }
 }
 
 impl fmt::Debug for Answer {
     fn fmt(&self, to: &mut fmt::Formatter<'_>) -> fmt::Result {
-        let registers = All(self.registers());
+        let registers = self.registers().map(|registers| All(registers));
         to.debug_struct("Answer").field("runner", &self.runner()).field("registers", &registers).finish()
     }
 }
 
-/// The answer as a trace prints it, behind `regs`: the runner in four digits, and each register in sixteen.
+/// The answer as a trace prints it: `regs`, the runner in four digits and each register in sixteen, or `resumed` and the
+/// partition that goes on.
 impl fmt::Display for Answer {
     fn fmt(&self, to: &mut fmt::Formatter<'_>) -> fmt::Result {
-        self.runner().fmt(to)?;
-        self.registers().iter().try_for_each(|register| write!(to, " {register:016X}"))
+        let Some(registers) = self.registers() else {
+            return write!(to, "resumed {}", self.runner());
+        };
+        write!(to, "regs {}", self.runner())?;
+        registers.iter().try_for_each(|register| write!(to, " {register:016X}"))
     }
 }
 

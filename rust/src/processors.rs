@@ -1,10 +1,9 @@
 // SPDX-License-Identifier: MIT OR Apache-2.0
-//! Operations of several processors, and interrupts.
-use crate::codes::Fault;
-use crate::machine::{of, Machine};
-use crate::operation::{accessed, Answer, Registers, Size};
+//! Several processors, and interrupts.
+use crate::machine::Machine;
+use crate::operation::Answer;
 use crate::ram::Ram;
-use crate::{raw, Id};
+use crate::raw;
 use core::fmt;
 
 /// One of the processors that may run endpoints of a machine.
@@ -26,7 +25,7 @@ use core::fmt;
 pub struct Processor(u32);
 
 impl Processor {
-    /// The one of operations that name none, until another does one that does.
+    /// The one that is selected when a machine has booted.
     pub const FIRST: Processor = Processor(0);
 
     /// The processor of this number, from 0.
@@ -76,105 +75,39 @@ impl fmt::Display for Processor {
     }
 }
 
-/// What a call of whoever runs on a processor gives.
-#[derive(Clone, Copy, Debug, PartialEq, Eq)]
-pub enum Effect {
-    /// Registers of whoever runs there next.
-    Answer(Answer),
-    /// The partition that an interrupt had stopped runs there next, and goes on where it was, with its own registers.
-    Resumed(Id),
-}
-
-impl Effect {
-    /// Who runs there next.
-    #[inline]
-    #[must_use]
-    pub fn runner(&self) -> Id {
-        match self {
-            Effect::Answer(answer) => answer.runner(),
-            Effect::Resumed(partition) => *partition,
-        }
-    }
-
-    /// The answer. None: a partition goes on that sees none.
-    #[inline]
-    #[must_use]
-    pub fn answer(&self) -> Option<&Answer> {
-        match self {
-            Effect::Answer(answer) => Some(answer),
-            Effect::Resumed(_) => None,
-        }
-    }
-
-    #[inline]
-    fn of(outcome: raw::Outcome) -> Effect {
-        match outcome.kind {
-            raw::KIND_RESUMED => Effect::Resumed(Id(outcome.runner as u16)),
-            _ => Effect::Answer(Answer::of(outcome)),
-        }
-    }
-}
-
-/// The effect as a trace's outcome is printed: `regs` with the answer, or `resumed` with the partition.
-impl fmt::Display for Effect {
-    fn fmt(&self, to: &mut fmt::Formatter<'_>) -> fmt::Result {
-        match self {
-            Effect::Answer(answer) => write!(to, "regs {answer}"),
-            Effect::Resumed(partition) => write!(to, "resumed {partition}"),
-        }
-    }
-}
-
-// SAFETY, of each: the machine is borrowed for this one call.
 impl<R: Ram> Machine<R> {
-    /// A call of whoever runs on a processor, in the machine as that one sees it: a partition that another processor
-    /// runs is busy, and FFA_RUN of one that an interrupt stopped lets it go on.
-    #[inline]
-    pub fn call_on(&mut self, processor: Processor, registers: &Registers) -> Effect {
-        Effect::of(unsafe { raw::gorseplumb_call_on(self.place(), processor.0, of(registers)) })
-    }
-
-    /// A load of whoever runs on a processor.
+    /// Selects a processor: operations, interrupts and questions are of whoever runs there, until another one is selected. At
+    /// first it is [`Processor::FIRST`]. A partition that another processor runs is busy.
     ///
-    /// # Errors
-    /// As [`Machine::load`].
+    /// ```
+    /// # use gorseplumb::*;
+    /// # const RAM: u32 = 0x4000_0000;
+    /// # const WORLD: Endpoint =
+    /// #     Endpoint::normal_world(Version::V1_1, Properties::NONE, &[Region::new(RAM + 0x10000, 16, Rights::Rw)]);
+    /// # const FIRST: Endpoint =
+    /// #     Endpoint::partition([1; 16], Version::V1_1, Properties::NONE, &[Region::new(RAM + 0x20000, 16, Rights::Rw)]);
+    /// # let mut machine = Machine::boot(&Manifest::new(RAM, 1, &[WORLD, FIRST]))?;
+    /// machine.select(Processor::new(1));
+    /// machine.call(&Function::Run.with([0x8001_0000]));
+    /// assert_eq!(machine.runner(), Id(0x8001));
+    /// machine.select(Processor::FIRST);
+    /// assert_eq!(machine.runner(), Id::NORMAL_WORLD);
+    /// # Ok::<(), BootError>(())
+    /// ```
     #[inline]
-    pub fn load_on(&mut self, processor: Processor, address: u64, size: Size) -> Result<u64, Fault> {
-        accessed(&unsafe { raw::gorseplumb_load_on(self.place(), processor.0, address, size as u32) })
+    pub fn select(&mut self, processor: Processor) {
+        // SAFETY: the machine is borrowed for this one call.
+        let is_selected = unsafe { raw::gorseplumb_select(self.place(), processor.0) };
+        debug_assert!(is_selected);
     }
 
-    /// A store of whoever runs on a processor.
-    ///
-    /// # Errors
-    /// As [`Machine::load`].
-    #[inline]
-    pub fn store_on(&mut self, processor: Processor, address: u64, size: Size, value: u64) -> Result<(), Fault> {
-        let outcome = unsafe { raw::gorseplumb_store_on(self.place(), processor.0, address, size as u32, value) };
-        accessed(&outcome).map(drop)
-    }
-
-    /// A fetch of whoever runs on a processor.
-    ///
-    /// # Errors
-    /// As [`Machine::load`].
-    #[inline]
-    pub fn fetch_on(&mut self, processor: Processor, address: u64) -> Result<u32, Fault> {
-        accessed(&unsafe { raw::gorseplumb_fetch_on(self.place(), processor.0, address) }).map(|word| word as u32)
-    }
-
-    /// An interrupt that a processor takes, and that the normal world is to handle: a partition that runs there stops
-    /// where it is, and the normal world sees FFA_INTERRUPT, which names it. None: the normal world runs there already,
+    /// An interrupt that the selected processor takes, and that the normal world is to handle: a partition that runs there
+    /// stops where it is, and the normal world sees FFA_INTERRUPT, which names it. None: the normal world runs there already,
     /// and takes it by itself.
     #[inline]
-    pub fn interrupt(&mut self, processor: Processor) -> Option<Answer> {
-        let outcome = unsafe { raw::gorseplumb_interrupt(self.place(), processor.0) };
+    pub fn interrupt(&mut self) -> Option<Answer> {
+        // SAFETY: as above.
+        let outcome = unsafe { raw::gorseplumb_interrupt(self.place()) };
         (outcome.kind == raw::KIND_REGISTERS).then(|| Answer::of(outcome))
-    }
-
-    /// The endpoint that runs on a processor.
-    #[inline]
-    #[must_use]
-    pub fn runner_on(&self, processor: Processor) -> Id {
-        Id(unsafe { raw::gorseplumb_runner_on(self.asked(), processor.0) } as u16)
     }
 }

@@ -8,7 +8,7 @@ use crate::{raw, Id};
 // SAFETY, of each question: the machine is live, no other call on it is on its way, since no other thread has it and
 // nothing is called back, and what is written to is borrowed for that.
 impl<R: Ram> Machine<R> {
-    /// The endpoint that runs.
+    /// The endpoint that runs on the selected processor.
     #[inline]
     #[must_use]
     pub fn runner(&self) -> Id {
@@ -40,16 +40,16 @@ impl<R: Ram> Machine<R> {
     /// it.
     #[inline]
     #[must_use]
-    pub fn pending(&self, endpoint: Id) -> bool {
-        unsafe { raw::gorseplumb_pending(self.asked(), endpoint.0) }
+    pub fn npi_pending(&self, endpoint: Id) -> bool {
+        unsafe { raw::gorseplumb_npi_pending(self.asked(), endpoint.0) }
     }
 
     /// Whether the normal world's schedule receiver interrupt is to be pending: a notification is pending of an endpoint
     /// that no FFA_NOTIFICATION_INFO_GET has told it of since.
     #[inline]
     #[must_use]
-    pub fn schedule_due(&self) -> bool {
-        unsafe { raw::gorseplumb_schedule_due(self.asked()) }
+    pub fn sri_pending(&self) -> bool {
+        unsafe { raw::gorseplumb_sri_pending(self.asked()) }
     }
 
     /// Copies the bytes of a page of RAM, whoever may reach it: whether there is such a page. Else `bytes` stay.

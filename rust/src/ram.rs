@@ -103,11 +103,11 @@ impl<'ram> Lent<'ram> {
     ///
     /// # Errors
     /// As [`Lent::boot`].
-    pub fn boot_held<D>(&mut self, description: &D) -> Result<Machine<&mut Lent<'ram>>, BootError>
+    pub fn boot_preloaded<D>(&mut self, description: &D) -> Result<Machine<&mut Lent<'ram>>, BootError>
     where
         D: Description + ?Sized,
     {
-        Machine::boot_held_in(description, self)
+        Machine::boot_preloaded_in(description, self)
     }
 
     /// Copies a machine into these pages, as [`Machine::try_clone_lent`] does: so one gets back to where it was by a copy

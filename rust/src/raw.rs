@@ -76,7 +76,6 @@ pub const KIND_FAULT: u32 = 3;
 pub const KIND_NO_MACHINE: u32 = 4;
 pub const KIND_BAD_SIZE: u32 = 5;
 pub const KIND_RESUMED: u32 = 7;
-pub const KIND_NO_PROCESSOR: u32 = 8;
 
 pub const MOST_REGIONS: usize = 16;
 pub const MOST_ENDPOINTS: usize = 8;
@@ -109,7 +108,7 @@ pub struct Manifest {
     pub ram_blocks: u32,
     pub endpoint_count: u32,
     pub endpoints: [Endpoint; MOST_ENDPOINTS],
-    pub worlds: u32,
+    pub has_security_states: u32,
     pub tables: u32,
 }
 
@@ -248,30 +247,27 @@ extern "C" {
     pub fn gorseplumb_boot_manifest(machine: *mut Machine, manifest: *const Manifest) -> u32;
     pub fn gorseplumb_boot_lent(machine: *mut Machine, lent: *mut Lent, text: *const u8, size: usize) -> u32;
     pub fn gorseplumb_boot_lent_manifest(machine: *mut Machine, lent: *mut Lent, manifest: *const Manifest) -> u32;
-    pub fn gorseplumb_boot_held(machine: *mut Machine, lent: *mut Lent, text: *const u8, size: usize) -> u32;
-    pub fn gorseplumb_boot_held_manifest(machine: *mut Machine, lent: *mut Lent, manifest: *const Manifest) -> u32;
+    pub fn gorseplumb_boot_preloaded(machine: *mut Machine, lent: *mut Lent, text: *const u8, size: usize) -> u32;
+    pub fn gorseplumb_boot_preloaded_manifest(machine: *mut Machine, lent: *mut Lent, manifest: *const Manifest)
+        -> u32;
 
     pub fn gorseplumb_call(machine: *mut Machine, registers: *const Registers) -> Outcome;
     pub fn gorseplumb_load(machine: *mut Machine, address: u64, size: u32) -> Outcome;
     pub fn gorseplumb_store(machine: *mut Machine, address: u64, size: u32, value: u64) -> Outcome;
     pub fn gorseplumb_fetch(machine: *mut Machine, address: u64) -> Outcome;
-    pub fn gorseplumb_call_on(machine: *mut Machine, processor: u32, registers: *const Registers) -> Outcome;
-    pub fn gorseplumb_load_on(machine: *mut Machine, processor: u32, address: u64, size: u32) -> Outcome;
-    pub fn gorseplumb_store_on(machine: *mut Machine, processor: u32, address: u64, size: u32, value: u64) -> Outcome;
-    pub fn gorseplumb_fetch_on(machine: *mut Machine, processor: u32, address: u64) -> Outcome;
-    pub fn gorseplumb_interrupt(machine: *mut Machine, processor: u32) -> Outcome;
-    pub fn gorseplumb_changed(machine: *mut Machine, change: *mut Change) -> bool;
+    pub fn gorseplumb_select(machine: *mut Machine, processor: u32) -> bool;
+    pub fn gorseplumb_interrupt(machine: *mut Machine) -> Outcome;
+    pub fn gorseplumb_take_change(machine: *mut Machine, change: *mut Change) -> bool;
 
     pub fn gorseplumb_runner(machine: *const Machine) -> u32;
-    pub fn gorseplumb_runner_on(machine: *const Machine, processor: u32) -> u32;
     pub fn gorseplumb_endpoints(machine: *const Machine) -> u32;
     pub fn gorseplumb_owner(machine: *const Machine, page: u32) -> u32;
     pub fn gorseplumb_access(machine: *const Machine, endpoint: u16, page: u32) -> u32;
-    pub fn gorseplumb_pending(machine: *const Machine, endpoint: u16) -> bool;
-    pub fn gorseplumb_schedule_due(machine: *const Machine) -> bool;
+    pub fn gorseplumb_npi_pending(machine: *const Machine, endpoint: u16) -> bool;
+    pub fn gorseplumb_sri_pending(machine: *const Machine) -> bool;
     pub fn gorseplumb_read_page(machine: *const Machine, page: u32, bytes: *mut crate::Page) -> bool;
 
-    pub fn gorseplumb_free(machine: *mut Machine, lent: *mut Lent) -> u32;
+    pub fn gorseplumb_end(machine: *mut Machine, lent: *mut Lent) -> u32;
     pub fn gorseplumb_begin_lending(lent: *mut Lent, pages: u32) -> u32;
     pub fn gorseplumb_lend(lent: *mut Lent, slot: *mut Slot) -> u32;
     pub fn gorseplumb_lend_span(lent: *mut Lent, span: *mut Span) -> u32;
@@ -303,7 +299,7 @@ extern "C" {
     pub fn gorseplumb_why_text(text: *const u8, size: usize, refusal: *mut Refusal, words: *mut u8, room: usize)
         -> u32;
     pub fn gorseplumb_why_manifest(manifest: *const Manifest, refusal: *mut Refusal) -> u32;
-    pub fn gorseplumb_end(machine: *mut Machine) -> u32;
+    pub fn gorseplumb_end_heap(machine: *mut Machine) -> u32;
     pub fn gorseplumb_copy(machine: *mut Machine, original: *const Machine) -> u32;
     pub fn gorseplumb_copy_lent(machine: *mut Machine, lent: *mut Lent, original: *const Machine) -> u32;
     pub fn gorseplumb_run(

@@ -51,10 +51,10 @@ fn refuses<D: gorseplumb::Description + ?Sized>(description: &D, cause: Cause) {
     let mut pages = ram(1);
     pages.iter_mut().for_each(|page| page.0.fill(0x5A));
     assert_eq!(Machine::boot_lent(description, &mut pages).err(), Some(refused));
-    assert_eq!(Machine::boot_held(description, &mut pages).err(), Some(refused));
+    assert_eq!(Machine::boot_preloaded(description, &mut pages).err(), Some(refused));
     let mut lent = Lent::new(&mut pages).unwrap();
     assert_eq!(lent.boot(description).err(), Some(refused));
-    assert_eq!(lent.boot_held(description).err(), Some(refused));
+    assert_eq!(lent.boot_preloaded(description).err(), Some(refused));
     assert!(lent.boot(&MACHINE).is_ok(), "the list has its pages still");
     drop(lent);
     pages.iter_mut().for_each(|page| page.0.fill(0x5A));
@@ -205,7 +205,7 @@ fn more_or_fewer_pages_than_ram_has() {
     for count in [0, 1, 511, 513, 1024] {
         let pages = &mut pages[..count];
         assert_eq!(Machine::boot_lent(&MACHINE, pages).err(), Some(BootError::WrongCount));
-        assert_eq!(Machine::boot_held(&*example("machine.toml"), pages).err(), Some(BootError::WrongCount));
+        assert_eq!(Machine::boot_preloaded(&*example("machine.toml"), pages).err(), Some(BootError::WrongCount));
     }
     assert!(Machine::boot_lent(&MACHINE, &mut pages[512..]).is_ok());
 }

@@ -49,12 +49,12 @@ fn follow<R: Ram>(machine: &mut Machine<R>, step: &str) -> Option<Reported> {
     let before = accesses(machine);
     take_steps(machine, step);
     let now = accesses(machine);
-    let change = machine.changed().as_ref().map(reported);
+    let change = machine.take_change().as_ref().map(reported);
     for (place, (endpoint, page)) in endpoints_and_pages().enumerate() {
         let differs = before[place] != now[place];
         assert_eq!(names(&change, endpoint, page), differs, "{endpoint} and page {page:X} after {step}");
     }
-    assert_eq!(machine.changed(), None, "{step}");
+    assert_eq!(machine.take_change(), None, "{step}");
     change
 }
 
@@ -179,5 +179,5 @@ fn the_last_change_is_told() {
     let mut machine = Machine::boot(&MACHINE).unwrap();
     let steps = [MAPPED, LEND, TO_SECOND, RETRIEVE, RETRIEVED, TO_FIRST].concat();
     take_steps(&mut machine, &steps);
-    assert_eq!(machine.changed().as_ref().map(reported), Some((SECOND, vec![pages(0x4002_1000, 1)])));
+    assert_eq!(machine.take_change().as_ref().map(reported), Some((SECOND, vec![pages(0x4002_1000, 1)])));
 }

@@ -8,14 +8,23 @@ use gorseplumb::{BootError, Id, Lent, Machine, Page, PageRun, Processor, Ram, Si
 
 const PLACE: u64 = 0x4001_0000;
 
+/// Who runs on a processor, which stays the one that is selected.
+fn runner<R: Ram>(machine: &mut Machine<R>, processor: Processor) -> Id {
+    machine.select(processor);
+    machine.runner()
+}
+
 /// What a machine tells where it is asked, and each byte of its RAM.
-fn told<R: Ram>(machine: &Machine<R>) -> (Vec<Id>, Vec<PageRun>, Vec<Page>) {
+fn told<R: Ram>(machine: &mut Machine<R>) -> (Vec<Id>, Vec<PageRun>, Vec<Page>) {
     let pages = (0..512 * machine.ram_blocks()).map(|page| {
         let mut bytes = Page::ZERO;
         assert!(machine.read_page(page, &mut bytes));
         bytes
     });
-    (Processor::all().map(|it| machine.runner_on(it)).collect(), machine.certificate().collect(), pages.collect())
+    let (pages, runs) = (pages.collect(), machine.certificate().collect());
+    let runners = Processor::all().map(|it| runner(machine, it)).collect();
+    machine.select(Processor::FIRST);
+    (runners, runs, pages)
 }
 
 /// Copies behind each line of a trace of a shared page are the machine, tell the change that it has to tell, and play the rest as it does.
@@ -29,8 +38,8 @@ fn copies_of_each_state<R: Ram>(machine: &mut Machine<R>, pages: &mut [Page]) {
         copies.push(machine.try_clone().unwrap());
         outcomes.push(play_line(machine, line));
         let mut copied = lent.copy(machine).unwrap();
-        assert_eq!(told(&copied), told(machine));
-        assert_eq!(copied.changed(), machine.changed());
+        assert_eq!(told(&mut copied), told(machine));
+        assert_eq!(copied.take_change(), machine.take_change());
         assert_eq!(copied.audit(&machine.certificate().collect::<Vec<_>>()), Ok(()));
     }
     for (place, copied) in copies.iter_mut().enumerate() {
@@ -87,7 +96,7 @@ fn a_checkpoint() {
 fn more_or_fewer_pages_than_its_ram_has() {
     let mut pages = ram(2);
     pages.iter_mut().for_each(|page| page.0.fill(0x5A));
-    let machine = Machine::boot(&MACHINE).unwrap();
+    let mut machine = Machine::boot(&MACHINE).unwrap();
     for count in [0, 1, 511, 513, 1024] {
         assert_eq!(machine.try_clone_lent(&mut pages[..count]).err(), Some(BootError::WrongCount));
     }
@@ -95,5 +104,5 @@ fn more_or_fewer_pages_than_its_ram_has() {
     let mut lent = Lent::new(&mut pages[..512]).unwrap();
     let larger = Machine::boot(&PARTITIONS).unwrap();
     assert_eq!(lent.copy(&larger).err(), Some(BootError::WrongCount));
-    assert_eq!(told(&lent.copy(&machine).unwrap()), told(&machine), "the list has its pages still");
+    assert_eq!(told(&mut lent.copy(&machine).unwrap()), told(&mut machine), "the list has its pages still");
 }

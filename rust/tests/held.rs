@@ -52,7 +52,7 @@ fn marked_ram() -> Vec<Page> {
 fn keeps_the_pages_of_regions() {
     let (mut pages, mut cleared) = (marked_ram(), ram(1));
     Machine::boot_lent(MANIFEST, &mut cleared).unwrap().end();
-    let machine = Machine::boot_held(MANIFEST, &mut pages).unwrap();
+    let machine = Machine::boot_preloaded(MANIFEST, &mut pages).unwrap();
     let owners: Vec<Id> = (0..512).map(|page| machine.owner(page).unwrap()).collect();
     let runs: Vec<PageRun> = machine.certificate().collect();
     assert_eq!(machine.audit(&runs), Ok(()));
@@ -73,7 +73,7 @@ fn keeps_the_pages_of_regions() {
 #[test]
 fn loads_what_came_with_ram() {
     let mut pages = marked_ram();
-    let mut machine = Machine::boot_held(MANIFEST, &mut pages).unwrap();
+    let mut machine = Machine::boot_preloaded(MANIFEST, &mut pages).unwrap();
     let steps = "\
 load 40010000 8 -> data 9090909090909090
 load 4001FFF8 8 -> data 9F9F9F9F9F9F9F9F

@@ -29,7 +29,7 @@ fn pages_come_back_with_their_bytes() {
 fn held_regions_keep_their_bytes() {
     let mut pages = ram(2);
     pages.iter_mut().for_each(|page| page.0.fill(0x5A));
-    let mut machine = Machine::boot_held(&PARTITIONS, &mut pages).unwrap();
+    let mut machine = Machine::boot_preloaded(&PARTITIONS, &mut pages).unwrap();
     assert_eq!(machine.load(PLACE, Size::B4), Ok(0x5A5A_5A5A));
     machine.call(&registers([0x8400_006D, 0x8001_0000])).done().unwrap();
     assert_eq!(machine.fetch(0x4002_0000), Ok(0x5A5A_5A5A)); // read and execute, and nobody may write there
@@ -46,7 +46,7 @@ fn a_list_boots_one_machine_after_another() {
     let mut machine = lent.boot(&MACHINE).unwrap();
     machine.store(PLACE, Size::B1, 42).unwrap();
     drop(machine);
-    let mut machine = lent.boot_held(&MACHINE).unwrap();
+    let mut machine = lent.boot_preloaded(&MACHINE).unwrap();
     assert_eq!(machine.load(PLACE, Size::B1), Ok(42));
     machine.end();
     assert_eq!(lent.boot(&*example("partitions.toml")).err(), Some(BootError::WrongCount));
@@ -74,7 +74,7 @@ fn a_forgotten_machine_reaches_nothing() {
     assert_eq!(lent.boot(&MACHINE).err(), Some(BootError::WrongCount)); // its pages are gone from the list
     drop(lent);
     pages[16].0[0] = 7;
-    assert_eq!(Machine::boot_held(&MACHINE, &mut pages).unwrap().load(PLACE, Size::B1), Ok(7));
+    assert_eq!(Machine::boot_preloaded(&MACHINE, &mut pages).unwrap().load(PLACE, Size::B1), Ok(7));
 }
 
 #[test]
@@ -100,10 +100,10 @@ fn what_a_shared_page_changes() {
     let page = Range { address: 0x4002_8000, size: 4096 };
     for line in example("sharing.trace").lines() {
         play_line(&mut machine, line);
-        let change = machine.changed().map(|change| (change.endpoint(), change.ranges().collect::<Vec<_>>()));
+        let change = machine.take_change().map(|change| (change.endpoint(), change.ranges().collect::<Vec<_>>()));
         let changes = line.starts_with("call 84000074") || line.starts_with("call 84000076");
         assert_eq!(change, changes.then(|| (SECOND, vec![page])), "{line}");
-        assert_eq!(machine.changed(), None);
+        assert_eq!(machine.take_change(), None);
     }
     drop(machine);
     assert_eq!(pages[40].0[0], 0x2B);
@@ -117,7 +117,7 @@ fn what_is_pending() {
     let mut pending = |line: &str| {
         let told = play_line(&mut machine, line);
         assert!(!told.contains(" 0000000084000060 "), "{line}: {told}");
-        [Id(0), FIRST, SECOND, Id::MANAGER].map(|endpoint| machine.pending(endpoint))
+        [Id(0), FIRST, SECOND, Id::MANAGER].map(|endpoint| machine.npi_pending(endpoint))
     };
     let none = [false; 4];
     assert_eq!(pending("call 8400006D 80010000"), none);

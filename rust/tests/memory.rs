@@ -119,7 +119,7 @@ fn each_piece_of_memory() {
 fn refuses_each_in(lent: &mut Lent<'_>, machine: &Machine) -> usize {
     let (_, copied) = with_refused(1, || assert!(lent.copy(machine).is_ok()));
     let (_, first) = with_refused(1, || assert!(lent.boot(&MACHINE).is_ok()));
-    let (_, next) = with_refused(1, || assert!(lent.boot_held(&MACHINE).is_ok()));
+    let (_, next) = with_refused(1, || assert!(lent.boot_preloaded(&MACHINE).is_ok()));
     copied + first + next
 }
 

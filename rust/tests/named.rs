@@ -105,7 +105,7 @@ fn a_uuid_is_read_and_told_as_it_is_written() {
     let mut machine = Machine::boot(&MACHINE).unwrap();
     let given = [("uuid", number), ("count_only", 1)];
     let answer = machine.call(&encode(Function::PartitionInfoGet, &given).unwrap()).done().unwrap();
-    assert_eq!(answer.registers()[2], 1);
+    assert_eq!(answer.registers().unwrap()[2], 1);
 }
 
 /// The call of a line that was decoded.

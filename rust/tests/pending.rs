@@ -69,7 +69,7 @@ fn are_pending<R: Ram>(machine: &mut Machine<R>) {
     for (steps, pending) in STEPS {
         take_steps(machine, steps);
         for endpoint in (0..=u16::MAX).map(Id) {
-            assert_eq!(machine.pending(endpoint), pending.contains(&endpoint), "{endpoint} after\n{steps}");
+            assert_eq!(machine.npi_pending(endpoint), pending.contains(&endpoint), "{endpoint} after\n{steps}");
         }
     }
 }

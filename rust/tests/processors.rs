@@ -4,7 +4,9 @@ mod common;
 
 use common::machines::MACHINE;
 use common::ram;
-use gorseplumb::{Answer, Effect, ErrorCode, Fault, Function, Id, Machine, Processor, Ram, Registers, Size};
+use gorseplumb::{
+    Answer, ErrorCode, Fault, Function, Id, Machine, Operation, Outcome, Processor, Ram, Registers, Size,
+};
 
 const P0: Processor = Processor::FIRST;
 const P1: Processor = Processor::new(1);
@@ -19,57 +21,69 @@ fn run(partition: Id) -> Registers {
 /// An answer to this runner whose w1 names a partition.
 fn names(answer: &Answer, runner: Id, function: Function, partition: Id) {
     assert_eq!((answer.runner(), answer.function()), (runner, Some(function)));
-    assert_eq!(answer.registers()[1..], Function::Run.with([u64::from(partition.0) << 16])[1..]);
+    assert_eq!(answer.registers().unwrap()[1..], Function::Run.with([u64::from(partition.0) << 16])[1..]);
 }
 
-fn is_busy(effect: Effect, runner: Id) {
-    assert_eq!(effect.runner(), runner);
-    assert_eq!(effect.answer().and_then(|it| it.error()), Some(ErrorCode::Busy));
+fn is_busy(answer: Answer, runner: Id) {
+    assert_eq!((answer.runner(), answer.error()), (runner, Some(ErrorCode::Busy)));
+}
+
+/// The machine, when a processor was selected.
+fn on<R: Ram>(machine: &mut Machine<R>, processor: Processor) -> &mut Machine<R> {
+    machine.select(processor);
+    machine
+}
+
+fn runners<R: Ram>(machine: &mut Machine<R>) -> Vec<Id> {
+    Processor::all().map(|it| on(machine, it).runner()).collect()
 }
 
 fn is_preempted_and_goes_on_elsewhere<R: Ram>(machine: &mut Machine<R>) {
-    assert_eq!(machine.interrupt(P0), None);
-    names(machine.call_on(P0, &run(FIRST)).answer().unwrap(), FIRST, Function::Run, FIRST);
-    assert_eq!(machine.store_on(P0, DATA, Size::B4, 0x1234_5678), Ok(()));
-    names(&machine.interrupt(P0).unwrap(), Id::NORMAL_WORLD, Function::Interrupt, FIRST);
-    assert_eq!(machine.call(&run(FIRST)).error(), Some(ErrorCode::Busy));
-    let resumed = machine.call_on(P1, &run(FIRST));
-    assert_eq!((resumed, resumed.runner(), resumed.answer()), (Effect::Resumed(FIRST), FIRST, None));
+    assert_eq!(machine.interrupt(), None);
+    names(&machine.call(&run(FIRST)), FIRST, Function::Run, FIRST);
+    assert_eq!(machine.store(DATA, Size::B4, 0x1234_5678), Ok(()));
+    names(&machine.interrupt().unwrap(), Id::NORMAL_WORLD, Function::Interrupt, FIRST);
+    is_busy(machine.call(&Function::MsgSendDirectReq.with([0x8001])), Id::NORMAL_WORLD);
+    assert_eq!(machine.why_call(&run(FIRST)), None);
+    let resumed = on(machine, P1).call(&run(FIRST));
+    assert_eq!((resumed.runner(), resumed.registers(), resumed.error()), (FIRST, None, None));
+    assert_eq!((resumed.function(), resumed.handle(), resumed.done()), (None, None, Ok(resumed)));
     assert_eq!(resumed.to_string(), "resumed 8001");
-    assert_eq!((machine.runner_on(P0), machine.runner_on(P1), machine.runner()), (Id::NORMAL_WORLD, FIRST, FIRST));
-    is_busy(machine.call_on(P0, &run(FIRST)), Id::NORMAL_WORLD);
-    assert_eq!(machine.load_on(P1, DATA, Size::B4), Ok(0x1234_5678));
-    assert_eq!(machine.fetch_on(P1, DATA), Ok(0x1234_5678));
-    assert_eq!(machine.load_on(P0, DATA, Size::B4), Err(Fault::Translation));
+    assert_eq!(format!("{resumed:?}"), "Answer { runner: Id(0x8001), registers: None }");
+    assert_eq!(machine.runner(), FIRST);
+    assert_eq!(on(machine, P0).runner(), Id::NORMAL_WORLD);
+    is_busy(machine.call(&run(FIRST)), Id::NORMAL_WORLD);
+    assert_eq!(on(machine, P1).load(DATA, Size::B4), Ok(0x1234_5678));
+    assert_eq!(machine.fetch(DATA), Ok(0x1234_5678));
+    assert_eq!(on(machine, P0).load(DATA, Size::B4), Err(Fault::Translation));
 }
 
 fn each_processor_runs_a_partition<R: Ram>(machine: &mut Machine<R>) {
-    names(machine.call_on(P0, &run(SECOND)).answer().unwrap(), SECOND, Function::Run, SECOND);
-    let running: Vec<Id> = Processor::all().map(|it| machine.runner_on(it)).collect();
-    assert_eq!(running[..3], [SECOND, FIRST, Id::NORMAL_WORLD]);
-    is_busy(machine.call_on(Processor::new(2), &run(SECOND)), Id::NORMAL_WORLD);
-    names(&machine.interrupt(P1).unwrap(), Id::NORMAL_WORLD, Function::Interrupt, FIRST);
-    let waits = machine.call_on(P0, &Function::MsgWait.with([]));
-    names(waits.answer().unwrap(), Id::NORMAL_WORLD, Function::MsgWait, SECOND);
-    assert_eq!(machine.call_on(P0, &run(FIRST)), Effect::Resumed(FIRST));
-    let waits = machine.call_on(P0, &Function::MsgWait.with([]));
-    names(waits.answer().unwrap(), Id::NORMAL_WORLD, Function::MsgWait, FIRST);
-    assert!(Processor::all().all(|it| machine.runner_on(it) == Id::NORMAL_WORLD));
+    names(&on(machine, P0).call(&run(SECOND)), SECOND, Function::Run, SECOND);
+    assert_eq!(runners(machine)[..3], [SECOND, FIRST, Id::NORMAL_WORLD]);
+    is_busy(on(machine, Processor::new(2)).call(&run(SECOND)), Id::NORMAL_WORLD);
+    names(&on(machine, P1).interrupt().unwrap(), Id::NORMAL_WORLD, Function::Interrupt, FIRST);
+    names(&on(machine, P0).call(&Function::MsgWait.with([])), Id::NORMAL_WORLD, Function::MsgWait, SECOND);
+    let mut outcomes = [Outcome::NONE];
+    assert_eq!(machine.run(&[Operation::call(run(FIRST))], &mut outcomes), 1);
+    assert_eq!(format!("{:?}", outcomes[0]), "Answer(Answer { runner: Id(0x8001), registers: None })");
+    names(&machine.call(&Function::MsgWait.with([])), Id::NORMAL_WORLD, Function::MsgWait, FIRST);
+    assert_eq!(runners(machine), [Id::NORMAL_WORLD; 8]);
 }
 
 fn the_normal_world_is_told_whom_to_run<R: Ram>(machine: &mut Machine<R>) {
     let info_get: Registers = [0x8400_0083, 0, 0, 0, 0, 0, 0, 0];
     let bit_of_the_normal_world = [0x8001_0000, 0, 1];
-    let is_done = |effect: Effect| assert_eq!(effect.answer().unwrap().function(), Some(Function::Success));
-    is_done(machine.call_on(P1, &Function::NotificationBitmapCreate.with([0, 8])));
-    is_done(machine.call_on(P1, &Function::NotificationBind.with(bit_of_the_normal_world)));
-    machine.call_on(P0, &run(FIRST));
-    assert!(!machine.schedule_due());
-    is_done(machine.call_on(P0, &Function::NotificationSet.with(bit_of_the_normal_world)));
-    assert!(machine.schedule_due());
-    let told = machine.call_on(P1, &info_get);
-    assert_eq!(told.answer().unwrap().registers()[..], Function::Success.with([0, 0x80])[..]);
-    assert!(!machine.schedule_due());
+    let is_done = |answer: Answer| assert_eq!(answer.function(), Some(Function::Success));
+    is_done(on(machine, P1).call(&Function::NotificationBitmapCreate.with([0, 8])));
+    is_done(machine.call(&Function::NotificationBind.with(bit_of_the_normal_world)));
+    on(machine, P0).call(&run(FIRST));
+    assert!(!machine.sri_pending());
+    is_done(machine.call(&Function::NotificationSet.with(bit_of_the_normal_world)));
+    assert!(machine.sri_pending());
+    let told = on(machine, P1).call(&info_get);
+    assert_eq!(told.registers(), Some(&Function::Success.with([0, 0x80])));
+    assert!(!machine.sri_pending());
 }
 
 #[test]

@@ -56,7 +56,7 @@ fn reclaim(machine: &mut Machine, handle: Handle) -> Answer {
 /// What stands in 8001's RX behind a retrieve.
 fn response(machine: &mut Machine, answer: Answer, form: Version) -> RetrieveResponse {
     assert_eq!(answer.function(), Some(Function::MemRetrieveResp));
-    let mut bytes = vec![0; answer.registers()[1] as usize];
+    let mut bytes = vec![0; answer.registers().unwrap()[1] as usize];
     machine.load_bytes(TX_1 + RX, &mut bytes).unwrap();
     machine.call(&Function::RxRelease.with([])).done().unwrap();
     RetrieveResponse::read(&bytes, form).unwrap()
@@ -183,7 +183,7 @@ fn ranges_of_the_longest_offer() {
     let tx = 0x4010_0000;
     map(&mut machine, tx);
     let answer = machine.send(&Retrieve::new(WORLD, handle, Receiver::new(FIRST)), tx, V1_1).unwrap();
-    assert_eq!(answer.registers()[1], 1104);
+    assert_eq!(answer.registers().unwrap()[1], 1104);
     let mut page = Page::ZERO;
     machine.load_bytes(tx + RX, &mut page.0).unwrap();
     assert_eq!(RetrieveResponse::read(&page.0, V1_1).unwrap().ranges(), ranges);
@@ -206,7 +206,7 @@ fn what_is_not_sent_changes_nothing() {
     assert_eq!(misplaced.to_string(), said);
     assert!(matches!(misplaced, SendError::Store(AccessReason { address: 0x4002_0000, .. })));
     assert!(ram(&machine) == before);
-    assert_eq!(machine.changed(), None);
+    assert_eq!(machine.take_change(), None);
 }
 
 #[test]

@@ -49,7 +49,7 @@ fn what_is_told_of_pages() {
                   store 4001E050 0000000040010000\nstore 4001E058 0000000000000001\n";
     play(&mut machine, lend);
     machine.call(&registers([0x8400_0072, 0x60, 0x60])).done().unwrap();
-    let change = machine.changed().unwrap();
+    let change = machine.take_change().unwrap();
     shows(&change, "Change { endpoint: Id(0x0), ranges: [Range { address: 0x40010000, size: 0x1000 }] }");
     let run = machine.run_from(48).unwrap();
     let shown = "PageRun { first: 0x30, last: 0x3F, owner: Id(0x8002), transaction: None, \
@@ -74,7 +74,7 @@ fn manifests() {
         Manifest::new(0x4000_0000, 1, &[world]),
         "Manifest { ram_base: 0x40000000, ram_blocks: 1, endpoints: [Endpoint { version: V1_1, \
          properties: Properties(2), uuid: 0x0, \
-         regions: [Region { base: 0x40010000, pages: 16, rights: Rw }] }], worlds: One, tables: 0 }",
+         regions: [Region { base: 0x40010000, pages: 16, rights: Rw }] }], has_security_states: false, tables: 0 }",
     );
     let manifest = format!("{MACHINE:?}");
     assert!(manifest.contains("uuid: 0x112233445566778899AABBCCDDEEFF,"), "{manifest}");

@@ -50,7 +50,7 @@ fn stand_amid_ram() {
 fn keep_bytes_on_both_sides() {
     let mut pages = ram(1);
     pages.iter_mut().for_each(|page| page.0.fill(0x5A));
-    let mut machine = Machine::boot_held(&AROUND, &mut pages).unwrap();
+    let mut machine = Machine::boot_preloaded(&AROUND, &mut pages).unwrap();
     assert_eq!(machine.load(at(0), Size::B1), Ok(0x5A));
     drop(machine);
     for (page, byte) in [(15, 0x5A), (16, 0), (TABLES - 1, 0x5A), (BEHIND, 0x5A), (BEHIND + 1, 0), (511, 0x5A)] {

@@ -59,7 +59,7 @@ parts-in-room : (p : CManifest) → InRoom (parts_given p)
 parts-in-room p =
     then-in-room (counted endpoint_given MOST_ENDPOINTS EndpointCount p.endpoint_count p.endpoints) _
     (counted-in-room endpoint_given MOST_ENDPOINTS p.endpoint_count EndpointCount p.endpoints (λ same. cc) endpoint-in-room) (λ endpoints.
-    then-in-room (or_cause WrongKind (worlds_given p.worlds)) _ (or-in-room WrongKind (worlds_given p.worlds) (λ same. cc)) (λ worlds. tt))
+    then-in-room (or_cause WrongKind (worlds_given p.has_security_states)) _ (or-in-room WrongKind (worlds_given p.has_security_states) (λ same. cc)) (λ worlds. tt))
 
 -- ---- what makes a machine of them
 
@@ -128,12 +128,12 @@ refused-in-room p (Err cause) refused = refusal-in-room p cause refused
 
 -- ---- numbers that tell parts
 
-pub parts_told : (given : CManifest) (es : List Endpoint) (worlds : Worlds) → endpoints_given given ≡ Ok es → Some worlds ≡ worlds_given given.worlds
+pub parts_told : (given : CManifest) (es : List Endpoint) (worlds : Worlds) → endpoints_given given ≡ Ok es → Some worlds ≡ worlds_given given.has_security_states
     → parts_given given ≡ Ok (record { ram_base = given.ram_base; ram_blocks = given.ram_blocks; tables = given.tables; endpoints = es; worlds = worlds })
 parts_told given es worlds told is =
     let with_worlds : List Endpoint → Worlds → Result Parts ManifestError = λ es worlds.
     Ok (record { ram_base = given.ram_base; ram_blocks = given.ram_blocks; tables = given.tables; endpoints = es; worlds = worlds }) in
-    ap (λ r. r >>= λ es. or_cause WrongKind (worlds_given given.worlds) >>= λ worlds. with_worlds es worlds) told
+    ap (λ r. r >>= λ es. or_cause WrongKind (worlds_given given.has_security_states) >>= λ worlds. with_worlds es worlds) told
     ∙ ap (λ o. or_cause WrongKind o >>= λ worlds. with_worlds es worlds) (sym is)
 
 -- no test of parts looks at worlds

@@ -1,13 +1,12 @@
 -- SPDX-License-Identifier: MIT OR Apache-2.0
--- What a contract sees of a machine that C holds: the machine as the processor of the last operation sees it, who runs on each
+-- What a contract sees of a machine that C holds: the machine as the selected processor sees it, who runs on each
 -- other one, whether its RAM is lent, and which notifications the normal world has been told of.
 use Rattle.std.specs.Prelude.{Bool, true, false, List, ℕ, Option, Some, refl}
 use Rattle.std.specs.Option.{option_map}
 use Rattle.std.specs.Coded.{Coded, code_by, coded_bool, coded×}
 use Rattle.ffa_model.specs.Codes.{coded_bits}
-use Rattle.ffa_model.specs.Notifications.{notifications_of}
 use Rattle.ffa_model.specs.Processors.{Processors}
-use Rattle.ffa_notify.specs.Notices.{Told, still_told}
+use Rattle.ffa_notify.specs.Notices.{Told}
 use Rattle.ffa_spmc.specs.Clustered.{Clustered, coded_clustered}
 use Rattle.ffa_spmc.specs.Snapshot.{Snapshot}
 use Rattle.ffa_c.specs.declared.kind.BoardMachine.{BoardMachine}
@@ -35,10 +34,6 @@ coded_boarded =
 abbrev pub boarded : BoardMachine → Told → Boarded
 boarded (Heap cluster) notices = boarded_by cluster false notices
 boarded (Lent cluster) notices = boarded_by cluster true notices
-
--- another machine there, behind an operation: what is pending no more the normal world has not been told of
-abbrev pub followed : Boarded → Snapshot → Boarded
-followed b s = record b { machine = s; notices = still_told b.notices (notifications_of s.state) }
 
 -- what lies behind a pointer that holds a machine, or none: a seat with the machine in it, or nothing
 abbrev pub seated : Option Boarded → Option (Option Boarded)

@@ -4,10 +4,10 @@ use Rattle.std.specs.Prelude.{◌≡◌, ℕ, ◌+◌, Bool, true, false, replic
 use Rattle.ffa_model.specs.Agreement.{Agrees, root}
 use Rattle.ffa_model.specs.Identifiers.{place}
 use Rattle.ffa_model.specs.Notifications.{has_pending, notifications_of}
-use Rattle.ffa_model.specs.Refusals.{is_refusal}
 use Rattle.ffa_model.specs.SoundState.{IsSoundState}
 use Rattle.ffa_model.specs.State.{State, is_known, owner_of}
-use Rattle.ffa_model.specs.Step.{step}
+use Rattle.ffa_model.specs.declared.operation.Effect.{Effect}
+use Rattle.ffa_model.specs.declared.operation.Effect.TheVariants as effects
 use Rattle.ffa_model.specs.declared.operation.FaultKind.{FaultKind}
 use Rattle.ffa_model.specs.declared.operation.FaultKind.TheVariants.{Translation, Permission, Alignment, AccessFlag, OutsideRam}
 use Rattle.ffa_model.specs.declared.operation.Op.{Op}
@@ -18,21 +18,14 @@ use Rattle.ffa_model.specs.declared.operation.Size.TheVariants.{B1, B2, B4, B8}
 use Rattle.ffa_model.specs.declared.rights.Rights.{Rights}
 use Rattle.ffa_model.specs.declared.rights.Data as rights
 use Rattle.ffa_model.specs.declared.rights.Data.TheVariants.{Ro, Rw}
-use Rattle.ffa_laws.specs.Isolation.{Integrity, NeverGrow, OneStep}
-use Rattle.ffa_laws.specs.Loans.{OfferSaysNothing}
-use Rattle.ffa_laws.specs.OwnAccess.{OwnAccess}
-use Rattle.ffa_laws.specs.Readable.{Confidential}
-use Rattle.ffa_laws.specs.Silence.{Silence}
-use Rattle.ffa_laws.specs.Writers.{OnlyWriters}
-use Rattle.ffa_notify.specs.Notices.{is_due}
-use Rattle.ffa_spmc.specs.AccessChange.{IsTelling}
-use Rattle.ffa_spmc.specs.Among.{IsDoneAlone, IsDoneReading, pages_read}
-use Rattle.ffa_spmc.specs.Mixtures.{StayMixed}
-use Rattle.ffa_spmc.specs.Moments.{AreMoments}
+use Rattle.ffa_notify.specs.Noticed.{in_one_context, notice_asked, noticed, told_after}
+use Rattle.ffa_notify.specs.Notices.{Told, is_due}
+use Rattle.ffa_notify.specs.declared.notices.Notice.{Notice}
+use Rattle.ffa_spmc.specs.Clustered.{Clustered, IsEffected, IsEffectedAlone}
 use Rattle.ffa_spmc.specs.Snapshot.{Snapshot}
 use Rattle.ffa_spmc.specs.Unowned.{KeepsUnowned}
 use Rattle.ffa_c.specs.declared.outcome.COutcome.{COutcome}
-use Rattle.ffa_c.specs.Boarded.{Boarded, followed}
+use Rattle.ffa_c.specs.Boarded.{Boarded, boarded_by, cluster_of}
 
 abbrev pub fault_number : FaultKind → ℕ
 fault_number Translation = 1
@@ -67,49 +60,38 @@ abbrev pub access_code : Option Rights → ℕ
 access_code None = 0
 access_code (Some rights) = level_code rights.level + exec_code rights.exec
 
--- an operation was done as the machine's own call promises it, and C was told the outcome
-pub record HasDone (old new : Snapshot) (op : Op) (told : COutcome) : Type 0 where
-  pub outcome : told ≡ packed (step old.state op).outcome
-  pub state : new.state ≡ (step old.state op).state
-  pub agrees : Agrees new.ram new.state
-  pub refused : is_refusal (step old.state op).outcome ≡ true → new ≡ old
-  pub unowned : KeepsUnowned old.state old.ram new.ram
-  pub moments : AreMoments old.state old.ram new.ram old.past new.past
-  pub mixtures : StayMixed old.state old.ram new.ram old.past new.past
-  pub telling : IsTelling op old.state new.state old.told new.told
-  pub sound : IsSoundState new.state
-  pub alone : OneStep old.state op
-  pub whole : Integrity old.state op
-  pub silence : Silence old.state op
-  pub confidential : Confidential old.state op
-  pub never_grow : NeverGrow old.state new.state
-  pub own_access : OwnAccess old.state op
-  pub only_writers : OnlyWriters old.state op
-  pub silent_offers : OfferSaysNothing old.state op
+-- what C is told of an operation: of a partition that goes on where it was only which it is
+abbrev pub packed_effect : Effect → COutcome
+packed_effect (effects.Outcome outcome) = packed outcome
+packed_effect (effects.Resumed e) = record (plain_outcome 7 0) { runner = e.0 }
 
--- so it was while others may have written to the runner's TX: what it read of that it read once, as the machine's own call
--- promises it
-pub record HasDoneAmong (old new : Snapshot) (op : Op) (told : COutcome) : Type 0 where
-  pub outcome : Outcome
-  pub is_told : told ≡ packed outcome
-  pub done : IsDoneReading (pages_read old.state op) old op outcome new
+-- what whoever runs on the selected processor asks about notices by an operation, if it does
+abbrev pub asked_by : Clustered → Op → Option Notice
+asked_by old op = notice_asked old.machine.state.runner op
+
+-- and what the normal world has been told of after it
+abbrev pub notices_after : Told → Clustered → Op → Clustered → Told
+notices_after notices old op new = told_after notices (notifications_of new.machine.state) (asked_by old op)
+
+-- An operation of whoever runs on the selected processor was done, in one context, as the machine's own call promises it, and C was
+-- told the effect, or the notice. If the RAM is lent, others may write to the runner's TX meanwhile.
+pub record HasDone (is_lent : Bool) (notices : Told) (old new : Clustered) (op : Op) (told : COutcome) : Type 0 where
+  pub effect : Effect
+  pub is_told : told ≡ packed_effect (noticed notices (notifications_of new.machine.state) (asked_by old op) effect)
+  pub done : IsEffected is_lent old.machine (in_one_context op) effect new.machine
   -- as far as contracts see nobody else wrote meanwhile, so it was done by what stood in memory
-  pub alone : IsDoneAlone old.state op outcome new.state
-  pub agrees : Agrees new.ram new.state
-  pub unowned : KeepsUnowned old.state old.ram new.ram
-  pub sound : IsSoundState new.state
+  pub alone : IsEffectedAlone old.machine.state (in_one_context op) effect new.machine.state
+  pub processors : new.processors ≡ old.processors
+  pub agrees : Agrees new.machine.ram new.machine.state
+  pub unowned : KeepsUnowned old.machine.state old.machine.ram new.machine.ram
+  pub sound : IsSoundState new.machine.state
 
--- by whose the RAM is: others may write to RAM that is lent
-abbrev pub HasDoneIn : Bool → Snapshot → Snapshot → Op → COutcome → Type 0
-HasDoneIn false old new op told = HasDone old new op told
-HasDoneIn true old new op told = HasDoneAmong old new op told
-
--- the same of what C holds, which may be no machine; whose the RAM is stays, and who runs on other processors
+-- the same of what C holds, which may be no machine
 abbrev pub Operated : Option Boarded → Option Boarded → Op → COutcome → Type 0
 Operated None new op told = (new ≡ None) × (told ≡ nothing_done 4)
 Operated (Some old) new op told =
-    (s : Snapshot) × (new ≡ Some (followed old s))
-    × HasDoneIn old.is_lent old.machine s op told
+    (c : Clustered) × (new ≡ Some (boarded_by c old.is_lent (notices_after old.notices (cluster_of old) op c)))
+    × HasDone old.is_lent old.notices (cluster_of old) c op told
 
 -- the size of so many bytes
 abbrev pub size_at : ℕ → Option Size

@@ -70,7 +70,7 @@ endpoints_given m = counted endpoint_given MOST_ENDPOINTS EndpointCount m.endpoi
 abbrev pub parts_given : CManifest → Result Parts ManifestError
 parts_given m = do
   endpoints ← endpoints_given m
-  worlds ← or_cause WrongKind (worlds_given m.worlds)
+  worlds ← or_cause WrongKind (worlds_given m.has_security_states)
   Ok (record { ram_base = m.ram_base; ram_blocks = m.ram_blocks; tables = m.tables; endpoints = endpoints; worlds = worlds })
 
 -- C's numbers tell these parts, and they make a machine

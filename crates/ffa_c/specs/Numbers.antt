@@ -46,6 +46,6 @@ numbers parts = record {
   ram_blocks = parts.ram_blocks;
   endpoint_count = length parts.endpoints;
   endpoints = padded MOST_ENDPOINTS no_endpoint (map endpoint_numbers parts.endpoints);
-  worlds = worlds_number parts.worlds;
+  has_security_states = worlds_number parts.worlds;
   tables = parts.tables;
 }

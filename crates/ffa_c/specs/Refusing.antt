@@ -85,7 +85,7 @@ untold_place m =
 abbrev pub place_among : CManifest → Result (List Endpoint) ManifestError → PartsPlace
 place_among m (Err cause) = untold_place m
 place_among m (Ok es) =
-    if is_some (worlds_given m.worlds) then place_of (parts_from m.ram_base m.tables m.ram_blocks es) else nowhere
+    if is_some (worlds_given m.has_security_states) then place_of (parts_from m.ram_base m.tables m.ram_blocks es) else nowhere
 
 abbrev pub given_place : CManifest → PartsPlace
 given_place m = place_among m (endpoints_given m)

@@ -8,7 +8,7 @@ ghost use Rattle.ffa_model.specs.Access.{access};
 ghost use Rattle.ffa_model.specs.Agreement.{Agrees, blocks_of, roots_of};
 ghost use Rattle.ffa_model.specs.Certified.{IsCertified};
 ghost use Rattle.ffa_model.specs.Notifications.{has_pending, notifications_of};
-ghost use Rattle.ffa_model.specs.Processors.{first_processors, on};
+ghost use Rattle.ffa_model.specs.Processors.{first_processors};
 ghost use Rattle.ffa_model.specs.Ram.{page_of, zero_ram};
 ghost use Rattle.ffa_model.specs.Refusals.{is_refusal};
 ghost use Rattle.ffa_model.specs.Step.{step};
@@ -16,28 +16,26 @@ ghost use Rattle.ffa_model.specs.Why.{granted, why};
 ghost use Rattle.ffa_manifest.specs.Document.{parts_of};
 ghost use Rattle.ffa_spmc.specs.Booted.{IsBootedBy};
 ghost use Rattle.ffa_spmc.specs.Storages.{IsRoomFor};
-ghost use Rattle.ffa_notify.specs.Notices.{is_due, still_told};
+ghost use Rattle.ffa_notify.specs.Notices.{is_due};
 ghost use Rattle.ffa_mend.specs.Allowed.{allowed};
 ghost use Rattle.ffa_playable.specs.Standing.{standing};
 ghost use Rattle.ffa_c.specs.Boarded.{cluster_of};
 ghost use Rattle.ffa_c.specs.Booting.{IsFirst, IsFirstBy};
-ghost use Rattle.ffa_c.specs.Border.{HasDoneIn, access_code, owner_number, root_number};
+ghost use Rattle.ffa_c.specs.Border.{HasDone, access_code, notices_after, owner_number, root_number};
 ghost use Rattle.ffa_c.specs.Changes.{with_all_told};
-ghost use Rattle.ffa_c.specs.Processors.{HasDoneInOn, HasInterrupted, notices_after};
+ghost use Rattle.ffa_c.specs.Processors.{HasInterrupted, selected};
 ghost use Rattle.ffa_c.specs.Runs.{run_at};
 
-use crate::kind::{
-    BoardMachine, audited_by, code_of, done_among, done_among_on, done_by, done_on, interrupted_by,
-    owner_by, root_by, run_by,
-};
+use crate::kind::{BoardMachine, audited_by, code_of, owner_by, root_by, run_by};
 use crate::outcome::COutcome;
 use ffa_lent::{Frames, LentRam};
 use ffa_memshare::Changed;
 use ffa_mend::Allowed;
 use ffa_model::{
-    CertRun, EndpointId, Grant, MOST_ENDPOINTS, MOST_PROCESSORS, Manifest, Op, PageNo, Why,
+    CertRun, Effect, EndpointId, Grant, MOST_ENDPOINTS, MOST_PROCESSORS, Manifest, Op, Outcome,
+    PageNo, Why,
 };
-use ffa_notify::Told;
+use ffa_notify::{Told, in_one_context, notice_asked};
 use ffa_physmem::{FlatRam, PhysMem};
 use ffa_playable::Standing;
 use ffa_spmc::{Cluster, Fill, Given, Machine, Ready, Storage, Store};
@@ -76,8 +74,8 @@ pub enum FirstBytes {
     Kept,
 }
 
-/// A machine with no cache, and with RAM of the heap or RAM that is lent. Contracts see the machine as the processor of
-/// the last operation does, who runs on each other one, and which RAM it has.
+/// A machine with no cache, and with RAM of the heap or RAM that is lent. Contracts see the machine as the selected
+/// processor does, who runs on each other one, and which RAM it has.
 #[derive(Drop)]
 pub struct Board {
     kind: BoardMachine,
@@ -174,68 +172,53 @@ impl Board {
     {
         match self.kind {
             BoardMachine::Lent(cluster) => {
-                let (ram, storage) = cluster.into_parts();
+                let (ram, storage) = cluster.into_machine().into_parts();
                 (ram.into_frames(), storage)
             }
             BoardMachine::Heap(_) => unreachable!(),
         }
     }
 
-    /// Does one operation of the runner, to whose TX others may write at the same time where the RAM is lent. The processor
-    /// is the one that did the last operation. The outcome is filled in where it stands.
+    /// Does one operation of whoever runs on the selected processor, to whose TX others may write at the same time where the RAM is
+    /// lent. The outcome is filled in where it stands.
     pub fn op(&mut self, op: &Op, outcome: &mut COutcome)
-        ensures done { HasDoneIn self.old.is_lent self.old.machine self.new.machine op.now outcome.new }
-        ensures notices { self.new.notices ≡ still_told self.old.notices (notifications_of self.new.machine.state) }
-        ensures processors { self.new.processors ≡ self.old.processors }
+        ensures done { HasDone self.old.is_lent self.old.notices (cluster_of self.old) (cluster_of self.new) op.now outcome.new }
+        ensures notices { self.new.notices ≡ notices_after self.old.notices (cluster_of self.old) op.now (cluster_of self.new) }
         ensures kind { self.new.is_lent ≡ self.old.is_lent }
     {
-        match &mut self.kind {
-            BoardMachine::Heap(cluster) => done_by(cluster, &mut self.notices, op, outcome),
-            BoardMachine::Lent(cluster) => done_among(cluster, &mut self.notices, op, outcome),
-        }
+        either!(&mut self.kind, cluster => {
+            let asked = notice_asked(cluster.machine().runner(), op);
+            let mut effect = Effect::Outcome(Outcome::Done);
+            cluster.op(&in_one_context(op), &mut effect);
+            self.notices.answer(asked, cluster.machine().bitmaps(), &mut effect);
+            outcome.tell(&effect);
+        })
     }
 
     /// Whether the normal world is to be told that an endpoint has notifications pending.
     pub fn is_due(&self) -> bool
         ensures { result ≡ is_due self.now.notices (notifications_of self.now.machine.state) }
     {
-        either!(&self.kind, cluster => cluster.is_due(&self.notices))
+        asked!(&self.kind, machine => self.notices.is_due(machine.bitmaps()))
     }
 
-    /// Does one operation of whoever runs on a processor, to whose TX others may write at the same time where the RAM is
-    /// lent.
-    pub fn op_on(&mut self, processor: usize, op: &Op) -> COutcome
+    /// Selects a processor.
+    pub fn select(&mut self, processor: usize)
         requires { processor < MOST_PROCESSORS }
-        ensures done { HasDoneInOn self.old.is_lent self.old.notices processor (cluster_of self.old) (cluster_of self.new)
-            op.now result }
-        ensures notices { let old = cluster_of self.old in let new = cluster_of self.new in
-            self.new.notices ≡ notices_after self.old.notices old processor op.now new }
-        ensures kind { self.new.is_lent ≡ self.old.is_lent }
-    {
-        match &mut self.kind {
-            BoardMachine::Heap(cluster) => done_on(cluster, &mut self.notices, processor, op),
-            BoardMachine::Lent(cluster) => {
-                done_among_on(cluster, &mut self.notices, processor, op)
-            }
-        }
-    }
-
-    /// An interrupt that a processor takes while it runs whoever it runs.
-    pub fn interrupt(&mut self, processor: usize) -> COutcome
-        requires { processor < MOST_PROCESSORS }
-        ensures done { HasInterrupted processor (cluster_of self.old) (cluster_of self.new) result }
+        ensures cluster { cluster_of self.new ≡ selected processor (cluster_of self.old) }
         ensures notices { self.new.notices ≡ self.old.notices }
         ensures kind { self.new.is_lent ≡ self.old.is_lent }
     {
-        either!(&mut self.kind, cluster => interrupted_by(cluster, processor))
+        either!(&mut self.kind, cluster => cluster.select(processor))
     }
 
-    /// The endpoint that runs on a processor.
-    pub fn runner_on(&self, processor: usize) -> u32
-        requires { processor < MOST_PROCESSORS }
-        ensures { result ≡ (on self.now.processors processor self.now.machine.state).runner }
+    /// An interrupt that the selected processor takes while it runs whoever it runs.
+    pub fn interrupt(&mut self) -> COutcome
+        ensures done { HasInterrupted (cluster_of self.old) (cluster_of self.new) result }
+        ensures notices { self.new.notices ≡ self.old.notices }
+        ensures kind { self.new.is_lent ≡ self.old.is_lent }
     {
-        either!(&self.kind, cluster => u32::from(cluster.runner_of(processor).0))
+        either!(&mut self.kind, cluster => COutcome::of(&cluster.interrupt()))
     }
 
     /// Whose access to which pages the last call on memory that was done has changed: told once.

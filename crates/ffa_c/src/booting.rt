@@ -136,7 +136,7 @@ pub extern "C" fn gorseplumb_boot_lent_manifest(
 /// there, as images of partitions or of a kernel, is there before the first operation. All others but the tables' are
 /// zeros.
 #[unsafe(no_mangle)]
-pub extern "C" fn gorseplumb_boot_held(
+pub extern "C" fn gorseplumb_boot_preloaded(
     alloc: Global,
     machine: &mut CMachine,
     lent: &mut CLent,
@@ -150,7 +150,7 @@ pub extern "C" fn gorseplumb_boot_held(
 /// The same for a manifest that is given as numbers, for which memory is taken as `gorseplumb_boot_lent_manifest` takes
 /// it.
 #[unsafe(no_mangle)]
-pub extern "C" fn gorseplumb_boot_held_manifest(
+pub extern "C" fn gorseplumb_boot_preloaded_manifest(
     alloc: Global,
     machine: &mut CMachine,
     lent: &mut CLent,

@@ -52,7 +52,7 @@ pub struct CChange {
 /// Whose access to which pages the last call on memory that was done has changed, told once: true, and `change` says
 /// it; or false, and it stays, where there is nothing to tell, or nobody's access has changed.
 #[unsafe(no_mangle)]
-pub extern "C" fn gorseplumb_changed(machine: &mut CMachine, change: &mut CChange) -> bool
+pub extern "C" fn gorseplumb_take_change(machine: &mut CMachine, change: &mut CChange) -> bool
     ensures rest { machine.new.held.value ≡ option_map with_all_told machine.old.held.value }
     ensures there { result ≡ is_some (somebodys (told_by machine.old.held.value)) }
     ensures told { IfSome (somebodys (told_by machine.old.held.value)) (λ its. Says change.new its.0 its.1) }

@@ -107,9 +107,6 @@ pub const KIND_BAD_SIZE: u32 = 5;
 /// Of an outcome: a partition that an interrupt had stopped runs next, and goes on where it was.
 pub const KIND_RESUMED: u32 = 7;
 
-/// Of an outcome: there is no such processor, and nothing was done.
-pub const KIND_NO_PROCESSOR: u32 = 8;
-
 /// An operation is a call, with registers.
 pub const OPERATION_CALL: u32 = 0;
 

@@ -8,9 +8,9 @@ use crate::machine::{CMachine, take};
 use std::alloc::Global;
 
 /// Ends a machine in RAM of the heap, to which that and the machine's memory go back. 0 is that the machine has ended.
-/// Else nothing has changed: `NO_MACHINE`, or `LENT`, where `gorseplumb_free` gives the RAM back to a list.
+/// Else nothing has changed: `NO_MACHINE`, or `LENT`, where `gorseplumb_end` gives the RAM back to a list.
 #[unsafe(no_mangle)]
-pub extern "C" fn gorseplumb_end(alloc: Global, machine: &mut CMachine) -> u32
+pub extern "C" fn gorseplumb_end_heap(alloc: Global, machine: &mut CMachine) -> u32
     ensures answer { result ≡ ended_answer machine.old.held.value }
     ensures ended { result ≡ 0 → machine.new.held.value ≡ None }
     ensures refused { result ≢ 0 → machine.new.held.value ≡ machine.old.held.value }

@@ -1,22 +1,14 @@
 // SPDX-License-Identifier: MIT OR Apache-2.0
 //! A machine by where its RAM comes from, and what C asks of any machine.
-ghost use Rattle.std.specs.Prelude.{◌≡◌, ◌<◌, ◌≤◌, ◌↔◌, IsTrue, length};
-ghost use Rattle.ffa_model.specs.declared.limits.TheConstants.{MOST_PROCESSORS};
+ghost use Rattle.std.specs.Prelude.{◌≡◌, ◌≤◌, ◌↔◌, IsTrue, length};
 ghost use Rattle.ffa_model.specs.Agreement.{Agrees, roots_of};
 ghost use Rattle.ffa_model.specs.Certified.{IsCertified};
-ghost use Rattle.ffa_model.specs.Notifications.{notifications_of};
-ghost use Rattle.ffa_notify.specs.Notices.{still_told};
-ghost use Rattle.ffa_c.specs.Border.{HasDone, HasDoneAmong, access_code, exec_code, level_code, owner_number, root_number};
-ghost use Rattle.ffa_c.specs.Processors.{HasDoneAmongOn, HasDoneOn, HasInterrupted, notices_after};
+ghost use Rattle.ffa_c.specs.Border.{access_code, exec_code, level_code, owner_number, root_number};
 ghost use Rattle.ffa_c.specs.Runs.{run_at};
 
 use crate::codes::{EXECUTE, NOTHING, READ, WRITE};
-use crate::outcome::COutcome;
 use ffa_lent::LentRam;
-use ffa_model::{
-    CertRun, Data, EndpointId, MOST_ENDPOINTS, MOST_PROCESSORS, Op, Outcome, PageNo, Rights,
-};
-use ffa_notify::Told;
+use ffa_model::{CertRun, Data, EndpointId, MOST_ENDPOINTS, PageNo, Rights};
 use ffa_physmem::{FlatRam, PhysMem};
 use ffa_spmc::{Cluster, Given, Machine, Ready, Store};
 use ffa_tlb::NoTlb;
@@ -29,84 +21,6 @@ pub enum BoardMachine {
     Heap(Cluster<FlatRam, NoTlb, Given<Global>>),
     /// The RAM is lent, page by page.
     Lent(Cluster<LentRam, NoTlb, Ready<Global>>),
-}
-
-/// An operation of the processor that did the last one, with the outcome for C, which is filled in where it stands.
-#[inline]
-pub(crate) fn done_by<M: PhysMem + Drop, S: Store>(
-    cluster: &mut Cluster<M, NoTlb, S>,
-    notices: &mut Told,
-    op: &Op,
-    outcome: &mut COutcome,
-)
-    ensures done { HasDone cluster.old.machine cluster.new.machine op.now outcome.new }
-    ensures processors { cluster.new.processors ≡ cluster.old.processors }
-    ensures notices { notices.new ≡ still_told notices.old (notifications_of cluster.new.machine.state) }
-{
-    let mut done = Outcome::Done;
-    cluster.op_here(op, &mut done);
-    cluster.follow(notices);
-    outcome.tell(&done);
-}
-
-/// The same over RAM that is lent, while others may write to the runner's TX.
-#[inline]
-pub(crate) fn done_among<S: Store>(
-    cluster: &mut Cluster<LentRam, NoTlb, S>,
-    notices: &mut Told,
-    op: &Op,
-    outcome: &mut COutcome,
-)
-    ensures done { HasDoneAmong cluster.old.machine cluster.new.machine op.now outcome.new }
-    ensures processors { cluster.new.processors ≡ cluster.old.processors }
-    ensures notices { notices.new ≡ still_told notices.old (notifications_of cluster.new.machine.state) }
-{
-    let mut done = Outcome::Done;
-    cluster.op_here_among_others(op, &mut done);
-    cluster.follow(notices);
-    outcome.tell(&done);
-}
-
-/// An operation of a processor, with what C is told of it.
-#[inline]
-pub(crate) fn done_on<M: PhysMem + Drop, S: Store>(
-    cluster: &mut Cluster<M, NoTlb, S>,
-    notices: &mut Told,
-    processor: usize,
-    op: &Op,
-) -> COutcome
-    requires { processor < MOST_PROCESSORS }
-    ensures done { HasDoneOn notices.old processor cluster.old cluster.new op.now result }
-    ensures notices { notices.new ≡ notices_after notices.old cluster.old processor op.now cluster.new }
-{
-    COutcome::of_effect(&cluster.op_noticing(notices, processor, op))
-}
-
-/// The same over RAM that is lent, while others may write to the TX of whoever runs there.
-#[inline]
-pub(crate) fn done_among_on<S: Store>(
-    cluster: &mut Cluster<LentRam, NoTlb, S>,
-    notices: &mut Told,
-    processor: usize,
-    op: &Op,
-) -> COutcome
-    requires { processor < MOST_PROCESSORS }
-    ensures done { HasDoneAmongOn notices.old processor cluster.old cluster.new op.now result }
-    ensures notices { notices.new ≡ notices_after notices.old cluster.old processor op.now cluster.new }
-{
-    COutcome::of_effect(&cluster.op_noticing_among_others(notices, processor, op))
-}
-
-/// An interrupt that a processor takes, with what C is told of it.
-#[inline]
-pub(crate) fn interrupted_by<M: PhysMem + Drop, S: Store>(
-    cluster: &mut Cluster<M, NoTlb, S>,
-    processor: usize,
-) -> COutcome
-    requires { processor < MOST_PROCESSORS }
-    ensures { HasInterrupted processor cluster.old cluster.new result }
-{
-    COutcome::of(&cluster.interrupt(processor))
 }
 
 /// The address of an endpoint's level 1 table, or `NOTHING` where there is no such endpoint.

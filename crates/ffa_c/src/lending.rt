@@ -253,7 +253,7 @@ fn answer_for(lent: &mut CLent) -> u32
 /// the next boot in these pages takes none, whichever endpoints it has. 0 is that the machine has ended. Else nothing has
 /// changed: `NO_MACHINE`, and for RAM that was lent `NO_LIST` or `HAS_PAGES`.
 #[unsafe(no_mangle)]
-pub extern "C" fn gorseplumb_free(alloc: Global, machine: &mut CMachine, lent: &mut CLent) -> u32
+pub extern "C" fn gorseplumb_end(alloc: Global, machine: &mut CMachine, lent: &mut CLent) -> u32
     ensures answer { result ≡ freed_answer machine.old.held.value (pages_of lent.old.held.value) }
     ensures ended { result ≡ 0 → machine.new.held.value ≡ None }
     ensures given_back { let list = pages_of lent.old.held.value in

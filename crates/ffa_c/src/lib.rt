@@ -1,6 +1,5 @@
 // SPDX-License-Identifier: MIT OR Apache-2.0
-//! The static library for C: the functions that c/gorseplumb.h declares. Its four operations say again what `Machine::op` promises, but for what that
-//! says of a cache, since there is none. Boots say that the machine is in its first state; questions, changes and lists
+//! The static library for C: the functions that c/gorseplumb.h declares. Its operations promise what `Cluster::op` promises. Boots say that the machine is in its first state; questions, changes and lists
 //! have promises of their own. A function has the name that it has in C; what is `struct gorseplumb_machine` there is
 //! `CMachine` here, and so on.
 #![tactic(auto)]

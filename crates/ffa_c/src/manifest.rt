@@ -52,7 +52,7 @@ pub struct CManifest {
     pub endpoint_count: u32,
     pub endpoints: [CEndpoint; MOST_ENDPOINTS],
     /// Whether the machine tells non-secure memory from secure memory: 0 where it doesn't, 1 where it does.
-    pub worlds: u32,
+    pub has_security_states: u32,
     /// The first page of the tables, counted from RAM's first, which is 0.
     pub tables: u32,
 }
@@ -175,7 +175,7 @@ pub(crate) fn manifest_of_numbers(given: &CManifest) -> Result<Manifest, Manifes
     ensures refused { IfErr result (λ e. refusal_of (parts_given given.now) ≡ Some e) }
 {
     let endpoints = counted_endpoints(given)?;
-    let Some(worlds) = worlds_of(given.worlds) else {
+    let Some(worlds) = worlds_of(given.has_security_states) else {
         return Err(ManifestError::WrongKind);
     };
     let manifest = ffa_manifest::of_parts(

@@ -1,8 +1,7 @@
 // SPDX-License-Identifier: MIT OR Apache-2.0
 //! Outcomes as C sees them.
 ghost use Rattle.std.specs.Prelude.{◌≡◌, replicate};
-ghost use Rattle.ffa_c.specs.Border.{packed, nothing_done, fault_number};
-ghost use Rattle.ffa_c.specs.Processors.{packed_effect};
+ghost use Rattle.ffa_c.specs.Border.{packed, packed_effect, nothing_done, fault_number};
 
 use crate::codes::{
     FAULT_ACCESS_FLAG, FAULT_ALIGNMENT, FAULT_OUTSIDE_RAM, FAULT_PERMISSION, FAULT_TRANSLATION,
@@ -14,7 +13,7 @@ use ffa_model::{Effect, FaultKind, Outcome};
 #[repr(C)]
 #[derive(Clone, Copy)]
 pub struct COutcome {
-    /// What it is, as one of `KIND_REGISTERS` to `KIND_NO_PROCESSOR`.
+    /// What it is, as one of `KIND_REGISTERS` to `KIND_RESUMED`.
     pub kind: u32,
     /// The endpoint that runs next, with registers or where it was.
     pub runner: u32,
@@ -30,13 +29,31 @@ impl COutcome {
         ensures { result ≡ packed outcome.now }
     {
         let mut told = COutcome::nothing(KIND_DONE);
-        told.tell(outcome);
+        told.tell_outcome(outcome);
         told
     }
 
-    /// The same, filled in where it stands.
+    /// What an operation gives, filled in where it stands.
     #[inline]
-    pub fn tell(&mut self, outcome: &Outcome)
+    pub fn tell(&mut self, effect: &Effect)
+        ensures { self.new ≡ packed_effect effect.now }
+    {
+        match effect {
+            Effect::Outcome(outcome) => self.tell_outcome(outcome),
+            Effect::Resumed(partition) => {
+                *self = COutcome {
+                    kind: KIND_RESUMED,
+                    runner: u32::from(partition.0),
+                    value: 0,
+                    x: [0; 8],
+                }
+            }
+        }
+    }
+
+    // The outcome of an operation that no partition goes on by.
+    #[inline]
+    fn tell_outcome(&mut self, outcome: &Outcome)
         ensures { self.new ≡ packed outcome.now }
     {
         match outcome {
@@ -51,22 +68,6 @@ impl COutcome {
             Outcome::Data(value) => *self = plain(KIND_DATA, *value),
             Outcome::Done => *self = plain(KIND_DONE, 0),
             Outcome::Fault(fault) => *self = plain(KIND_FAULT, u64::from(fault_code(*fault))),
-        }
-    }
-
-    /// What an operation of a processor gives, for C.
-    #[inline]
-    pub fn of_effect(effect: &Effect) -> COutcome
-        ensures { result ≡ packed_effect effect.now }
-    {
-        match effect {
-            Effect::Outcome(outcome) => COutcome::of(outcome),
-            Effect::Resumed(partition) => COutcome {
-                kind: KIND_RESUMED,
-                runner: u32::from(partition.0),
-                value: 0,
-                x: [0; 8],
-            },
         }
     }
 

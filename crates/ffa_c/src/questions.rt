@@ -109,7 +109,7 @@ pub extern "C" fn gorseplumb_access(machine: &mut CMachine, endpoint: u16, page:
 
 /// Whether an endpoint has a notification pending.
 #[unsafe(no_mangle)]
-pub extern "C" fn gorseplumb_pending(machine: &mut CMachine, endpoint: u16) -> bool
+pub extern "C" fn gorseplumb_npi_pending(machine: &mut CMachine, endpoint: u16) -> bool
     ensures same { machine.new.held.value ≡ machine.old.held.value }
     ensures value { result ≡ is_pending_for endpoint machine.old.held.value }
 {
@@ -123,7 +123,7 @@ pub extern "C" fn gorseplumb_pending(machine: &mut CMachine, endpoint: u16) -> b
 /// Whether the normal world is to be told that an endpoint has notifications pending: whether its interrupt that schedules
 /// receivers is to be pending.
 #[unsafe(no_mangle)]
-pub extern "C" fn gorseplumb_schedule_due(machine: &mut CMachine) -> bool
+pub extern "C" fn gorseplumb_sri_pending(machine: &mut CMachine) -> bool
     ensures same { machine.new.held.value ≡ machine.old.held.value }
     ensures value { result ≡ is_due_in machine.old.held.value }
 {

@@ -46,7 +46,7 @@ fn numbers_of(manifest: &Manifest) -> CManifest
         ram_blocks: manifest.ram_blocks,
         endpoint_count: manifest.endpoints.len() as u32,
         endpoints: endpoint_places(manifest.endpoints.as_slice()),
-        worlds: worlds_number(manifest.worlds),
+        has_security_states: worlds_number(manifest.worlds),
         tables: manifest.tables.0,
     }
 }

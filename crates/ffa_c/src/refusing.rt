@@ -160,7 +160,7 @@ fn place_of_numbers(given: &CManifest) -> PartsPlace
     let Ok(endpoints) = counted_endpoints(given) else {
         return untold_place(given);
     };
-    if worlds_of(given.worlds).is_none() {
+    if worlds_of(given.has_security_states).is_none() {
         return PartsPlace::nowhere();
     }
     place_of_parts(

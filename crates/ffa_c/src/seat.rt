@@ -7,7 +7,7 @@ ghost use Rattle.ffa_model.specs.declared.limits.TheConstants.{MOST_PROCESSORS};
 ghost use Rattle.ffa_c.specs.Boarded.{Boarded, coded_boarded, lends, ram_pages};
 ghost use Rattle.ffa_c.specs.Border.{Operated};
 ghost use Rattle.ffa_c.specs.Changes.{told_by, with_all_told};
-ghost use Rattle.ffa_c.specs.Processors.{Interrupted, OperatedOn};
+ghost use Rattle.ffa_c.specs.Processors.{Interrupted, with_selected};
 
 use crate::board::Board;
 use crate::outcome::COutcome;
@@ -71,7 +71,7 @@ impl Seat {
         self.board.as_ref().unwrap()
     }
 
-    /// Does one operation of the runner. The outcome is filled in where it stands.
+    /// Does one operation of whoever runs on the selected processor. The outcome is filled in where it stands.
     #[inline]
     pub fn op(&mut self, op: &Op, outcome: &mut COutcome)
         requires { IsSome self.old }
@@ -84,30 +84,29 @@ impl Seat {
         board.op(op, outcome)
     }
 
-    /// Does one operation of whoever runs on a processor.
-    pub fn op_on(&mut self, processor: usize, op: &Op) -> COutcome
+    /// Selects a processor.
+    pub fn select(&mut self, processor: usize)
         requires there { IsSome self.old }
         requires processor { processor < MOST_PROCESSORS }
-        ensures done { OperatedOn self.old self.new processor op.now result }
+        ensures selected { self.new ≡ option_map (with_selected processor) self.old }
         ensures there { IsSome self.new }
     {
         let Some(board) = &mut self.board else {
             unreachable!()
         };
-        board.op_on(processor, op)
+        board.select(processor)
     }
 
-    /// An interrupt that a processor takes.
-    pub fn interrupt(&mut self, processor: usize) -> COutcome
-        requires there { IsSome self.old }
-        requires processor { processor < MOST_PROCESSORS }
-        ensures done { Interrupted self.old self.new processor result }
+    /// An interrupt that the selected processor takes.
+    pub fn interrupt(&mut self) -> COutcome
+        requires { IsSome self.old }
+        ensures done { Interrupted self.old self.new result }
         ensures there { IsSome self.new }
     {
         let Some(board) = &mut self.board else {
             unreachable!()
         };
-        board.interrupt(processor)
+        board.interrupt()
     }
 
     /// Whose access to which pages the last call on memory that was done has changed: told once.

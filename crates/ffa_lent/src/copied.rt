@@ -210,7 +210,14 @@ impl Observed for CopiedRam {
 
     ghost is_copied = { true };
 
+    ghost is_shared = { true };
+
     ghost beneath_kept = { λ m page bytes p _. frame-kept m page bytes p };
+
+    #[inline(always)]
+    fn is_shared(&self) -> bool {
+        true
+    }
 
     fn rest(&mut self) {
         self.write_back();

@@ -150,7 +150,14 @@ impl<E: Effects> Observed for LentRam<E> {
 
     ghost is_copied = { true };
 
+    ghost is_shared = { true };
+
     ghost beneath_kept = { λ m page bytes p _. frame-kept m.ram page bytes p };
+
+    #[inline(always)]
+    fn is_shared(&self) -> bool {
+        true
+    }
 
     fn rest(&mut self) {
         self.ram.rest();

@@ -1,13 +1,17 @@
 // SPDX-License-Identifier: MIT OR Apache-2.0
 //! Calls about notices, which a machine of several processors serves beside those of any machine.
 ghost use Rattle.std.specs.Prelude.{◌≡◌, ◌==◌, ◌&&◌, nat_lt};
+ghost use Rattle.ffa_model.specs.declared.operation.Effect.{Effect};
+ghost use Rattle.ffa_model.specs.declared.operation.Outcome.{Outcome};
 ghost use Rattle.ffa_model.specs.declared.limits.TheConstants.{MOST_PROCESSORS};
 ghost use Rattle.ffa_model.specs.Bits.{high_half, low_half};
-ghost use Rattle.ffa_notify.specs.Noticed.{in_one_context, is_info_get, notice_asked, notice_in, with_one_context};
+ghost use Rattle.ffa_notify.specs.Noticed.{in_one_context, is_info_get, notice_asked, notice_in, noticed, told_after, with_one_context};
 
 use ffa_abi::{FFA_NOTIFICATION_INFO_GET, FFA_NOTIFICATION_INFO_GET_64, low};
 use ffa_model::function::{FFA_FEATURES, FFA_NOTIFICATION_BITMAP_CREATE, FFA_NOTIFICATION_GET};
-use ffa_model::{EndpointId, MOST_PROCESSORS, Op};
+use crate::bitmaps::Bitmaps;
+use crate::told::{Told, info_registers};
+use ffa_model::{Effect, EndpointId, MOST_PROCESSORS, Op, Outcome, Reply};
 
 /// What the normal world asks about notices.
 #[derive(Clone, Copy)]
@@ -83,4 +87,35 @@ fn is_normal_world_in_a_context(word: u32) -> bool
     ensures { result ≡ (low_half word == 0 && nat_lt (high_half word) MOST_PROCESSORS) }
 {
     word % 0x1_0000 == 0 && ((word / 0x1_0000) as usize) < MOST_PROCESSORS
+}
+
+impl Told {
+    /// Answers what an operation asked about notices, in place of what the operation came to in the machine, and notes what the
+    /// normal world has been told of then. The bitmaps are those after the operation.
+    pub fn answer(&mut self, asked: Option<Notice>, bitmaps: &Bitmaps, effect: &mut Effect)
+        ensures effect { effect.new ≡ noticed self.old bitmaps.now asked effect.old }
+        ensures told { self.new ≡ told_after self.old bitmaps.now asked }
+    {
+        match asked {
+            Some(Notice::Info { is_wide }) => {
+                *effect = to_normal_world(info_registers(is_wide, &self.untold(bitmaps)));
+                self.tell(bitmaps);
+            }
+            Some(Notice::Features) => {
+                *effect = to_normal_world(ffa_abi::encode(&Reply::Success([0; 6])));
+                self.follow(bitmaps);
+            }
+            None => self.follow(bitmaps),
+        }
+    }
+}
+
+// The normal world sees these registers.
+fn to_normal_world(x: [u64; 8]) -> Effect
+    ensures { result ≡ Effect.Outcome (Outcome.Regs (record { 0 = 0 }) x) }
+{
+    Effect::Outcome(Outcome::Regs {
+        runner: EndpointId::NORMAL_WORLD,
+        x,
+    })
 }

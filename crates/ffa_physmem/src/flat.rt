@@ -3,7 +3,7 @@
 ghost use Rattle.std.specs.Prelude.{◌≡◌, ℕ, ◌+◌, ◌*◌, ◌%◌, ◌^◌, ◌<◌, ◌≤◌, length, replicate, IfOk, vec_len};
 
 use crate::memory::{PAGE_SIZE, PhysMem, put_word};
-use crate::observed::Observed;
+use crate::observed::{Observed, Unshared};
 use ffa_model::{Address, PageNo};
 use std::alloc::{AllocError, Allocator, Global};
 use std::fmt;
@@ -138,11 +138,24 @@ impl<A: Allocator> Observed for FlatRam<A> {
 
     ghost is_copied = { false };
 
+    ghost is_shared = { false };
+
     ghost beneath_kept = { λ _ _ _ _. no_copy };
+
+    #[inline(always)]
+    fn is_shared(&self) -> bool {
+        false
+    }
 
     fn rest(&mut self) {}
 
     fn observe(&mut self, _first: PageNo, _count: u32, _bytes: usize) {}
 
     fn release(&mut self, _first: PageNo, _count: u32) {}
+}
+
+impl<A: Allocator> Unshared for FlatRam<A> {
+    ghost use Rattle.std.specs.Prelude.{refl};
+
+    ghost unshared = { refl };
 }

@@ -13,4 +13,4 @@ pub use descriptor::{Descriptor, Level};
 pub use flat::{FlatRam, NoMemory};
 pub use frames::FrameRam;
 pub use memory::{PAGE_SIZE, PhysMem, put_front, put_word};
-pub use observed::Observed;
+pub use observed::{Observed, Unshared};

@@ -27,6 +27,13 @@ pub trait Observed: PhysMem {
     /// Whether a page that is held is read and written in a copy, beside what stands in memory.
     ghost is_copied: { Bool };
 
+    /// Whether a call observes what it reads, because others may write to it at the same time.
+    ghost is_shared: { Bool };
+
+    /// Whether a call observes what it reads.
+    fn is_shared(&self) -> bool
+        ensures { result ≡ is_shared };
+
     /// Ends all that is observed, and what was seen of it then stands in memory. No byte that is seen changes.
     fn rest(&mut self)
         ensures ram { Self.ram self.new ≡ Self.ram self.old }
@@ -63,4 +70,10 @@ pub trait Observed: PhysMem {
     /// What is written to the copy of a page that is held isn't written to memory.
     ghost beneath_kept: { (m : Self) (page : ℕ) (bytes : List ℕ) (p : ℕ) → is_copied ≡ true → is_held m page ≡ true
         → beneath (Self.with_bytes m page bytes) p ≡ beneath m p };
+}
+
+/// RAM to which nobody else writes while a call is served, so that a call reads it where it stands.
+pub trait Unshared: Observed {
+    /// No call observes what it reads.
+    ghost unshared: { Self.is_shared ≡ false };
 }

@@ -9,7 +9,7 @@ use ffa_model::{
     Address, CertRun, Effect, EndpointId, MOST_PROCESSORS, Op, Outcome, PageNo, Rights, Why,
 };
 use ffa_notify::{Told, in_one_context, notice_asked};
-use ffa_physmem::PhysMem;
+use ffa_physmem::{PhysMem, Unshared};
 use ffa_playable::{Detail, Playable, Readable};
 use ffa_spmc::{Cluster, Inline, Store};
 use ffa_tlb::{NoTlb, Translations};
@@ -61,12 +61,16 @@ impl<M: PhysMem + Drop, T: Translations + Drop, S: Store> ExplainedCluster<M, T,
     }
 }
 
-impl<M: PhysMem + Drop, T: Translations + Drop, S: Store> Playable for ExplainedCluster<M, T, S> {
+impl<M: Unshared + Drop, T: Translations + Drop, S: Store> Playable for ExplainedCluster<M, T, S> {
     ghost bench = { λ machine. machine };
 
     fn op(&mut self, op: &Op) -> Effect {
-        let processor = self.cluster.processor();
-        self.cluster.op_noticing(&mut self.told, processor, op)
+        let asked = notice_asked(self.cluster.machine().runner(), op);
+        let mut effect = Effect::Outcome(Outcome::Done);
+        self.cluster.op(&in_one_context(op), &mut effect);
+        self.told
+            .answer(asked, self.cluster.machine().bitmaps(), &mut effect);
+        effect
     }
 
     fn processors(&self) -> Option<usize> {
@@ -75,13 +79,12 @@ impl<M: PhysMem + Drop, T: Translations + Drop, S: Store> Playable for Explained
 
     fn turn(&mut self, processor: usize) {
         if processor < self.count {
-            self.cluster.turn_to(processor);
+            self.cluster.select(processor);
         }
     }
 
     fn interrupt(&mut self) -> Outcome {
-        let processor = self.cluster.processor();
-        self.cluster.interrupt(processor)
+        self.cluster.interrupt()
     }
 
     fn why(&self, op: &Op) -> Option<Why> {
@@ -139,7 +142,7 @@ impl<M: PhysMem + Drop, T: Translations + Drop, S: Store> Playable for Explained
     }
 }
 
-impl<M: PhysMem + Drop, T: Translations + Drop, S: Store> Readable for ExplainedCluster<M, T, S> {
+impl<M: Unshared + Drop, T: Translations + Drop, S: Store> Readable for ExplainedCluster<M, T, S> {
     fn word_at(&self, page: PageNo, index: usize) -> u64 {
         self.cluster.machine().ram().read_word(page, index)
     }

@@ -200,7 +200,14 @@ impl Observed for Recorded {
 
     ghost is_copied = { false };
 
+    ghost is_shared = { true };
+
     ghost beneath_kept = { λ _ _ _ _. no_copy };
+
+    #[inline(always)]
+    fn is_shared(&self) -> bool {
+        true
+    }
 
     fn rest(&mut self) {}
 

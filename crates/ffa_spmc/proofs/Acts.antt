@@ -1,6 +1,6 @@
 -- SPDX-License-Identifier: MIT OR Apache-2.0
 -- Acts of several processors that are done one after another.
-use Rattle.std.proofs.Common.{◌≡◌, ◌∙◌, ℕ, true, List, [], ◌∷◌, sym, ap, subst}
+use Rattle.std.proofs.Common.{◌≡◌, ◌∙◌, ℕ, true, false, List, [], ◌∷◌, sym, ap, subst}
 use Rattle.std.specs.Prelude.{nat_lt}
 use Rattle.std.specs.List.{list_all}
 use Rattle.ffa_model.specs.declared.operation.Act.{Act}
@@ -16,7 +16,7 @@ use Rattle.ffa_spmc.specs.Clustered.{AreActed, Clustered, IsActedOn, IsEffected,
 use Rattle.ffa_spmc.specs.Snapshot.{Snapshot}
 
 -- an operation has the effect of the small machine, and leaves its state
-pub effected-is : (old : Snapshot) (op : Op) (effect : Effect) (new : Snapshot) → IsEffected old op effect new
+pub effected-is : (old : Snapshot) (op : Op) (effect : Effect) (new : Snapshot) → IsEffected false old op effect new
     → (effect ≡ (step_resuming old.state op).effect) × (new.state ≡ (step_resuming old.state op).state)
 effected-is old op (effects.Outcome outcome) new (none, done) = (
   ap effects.Outcome done.outcome ∙ ap (λ o. (effected old.state op o).effect) (sym none),
@@ -28,7 +28,7 @@ effected-is old op (effects.Resumed e) new (some, is) = (
 )
 
 -- so has an act
-pub acted-is : (old : Clustered) (p : ℕ) (act : Act) (effect : Effect) (new : Clustered) → IsActedOn IsEffected old p act effect new
+pub acted-is : (old : Clustered) (p : ℕ) (act : Act) (effect : Effect) (new : Clustered) → IsActedOn old p act effect new
     → (effect ≡ (acted_on (shared_by old) (p, act)).effect) × (shared_by new ≡ shared_after (shared_by old) (p, act))
 acted-is old p (Operate op) effect new its =
     let (told, is) = effected-is (seen_by p old) op effect new.machine its.acted in
@@ -37,7 +37,7 @@ acted-is old p Interrupt effect new its =
     (its.acted.0, λ i. record { processors = its.processors i; state = ap (λ (x : Snapshot). x.state) its.acted.1 i })
 
 -- and a list of them
-pub acted-all : (old : Clustered) (acts : List (ℕ × Act)) (told : List Effect) (new : Clustered) → AreActed IsEffected old acts told new
+pub acted-all : (old : Clustered) (acts : List (ℕ × Act)) (told : List Effect) (new : Clustered) → AreActed old acts told new
     → (told ≡ effects_on (shared_by old) acts) × (shared_by new ≡ shared_after_all (shared_by old) acts)
 acted-all old [] told new (none, same) = (none, ap shared_by same)
 acted-all old (x ∷ xs) told new (next, effect, rest, is, done, later) =
@@ -53,7 +53,7 @@ there-all c acts placed within = ap (λ (n : ℕ). list_all (λ (x : ℕ × Act)
 
 -- so a list has the laws of lists
 pub acted-run : (old : Clustered) (acts : List (ℕ × Act)) (told : List Effect) (new : Clustered) → IsSoundState old.machine.state → ArePlaced old.processors old.machine.state
-    → are_processors acts ≡ true → AreActed IsEffected old acts told new → IsRunOfActs old acts told new
+    → are_processors acts ≡ true → AreActed old acts told new → IsRunOfActs old acts told new
 acted-run old acts told new sound placed within acted =
     let (effects, state) = acted-all old acts told new acted in
     let there = there-all old acts placed within in

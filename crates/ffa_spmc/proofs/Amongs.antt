@@ -1,6 +1,6 @@
 -- SPDX-License-Identifier: MIT OR Apache-2.0
 -- An operation between the reading of its pages and the end of that.
-use Rattle.std.proofs.Common.{◌≡◌, ◌∙◌, ℕ, ◌+◌, ◌≤◌, true, false, length, Option, sym, ap, subst, arith}
+use Rattle.std.proofs.Common.{◌≡◌, ◌∙◌, ℕ, ◌+◌, ◌≤◌, Bool, true, false, length, Option, Some, None, sym, ap, subst, arith}
 use Rattle.std.specs.Prelude.{IsSome}
 use Rattle.std.proofs.lemmas.Bool.{false_from_ne_true, false≢true}
 use Rattle.ffa_model.specs.declared.operation.Op.{Op}
@@ -8,7 +8,8 @@ use Rattle.ffa_model.specs.Agreement.{Agrees}
 use Rattle.ffa_model.specs.State.{State, Page, page_at}
 use Rattle.ffa_model.specs.Step.{step}
 use Rattle.ffa_spmc.specs.declared.run.Run.{Run}
-use Rattle.ffa_spmc.specs.Among.{IsRead, is_in}
+use Rattle.ffa_spmc.specs.Among.{IsRead, is_in, pages_read}
+use Rattle.ffa_spmc.specs.Clustered.{pages_observed}
 use Rattle.ffa_spmc.specs.Snapshot.{Snapshot}
 use Rattle.ffa_spmc.specs.Unowned.{IsNoTable, KeepsUnowned}
 use Rattle.ffa_spmc.proofs.Besides.{beside-page, beside-tables}
@@ -36,3 +37,11 @@ module _ (run : Run) (old seen left : Snapshot) (op : Op) (read : IsRead run tru
       ended.ram.pages p off
       ∙ unowned p (beside-tables old.state seen.state (is_in run) read.state p aside) (beside-page old.state seen.state (is_in run) read.state p off ∙ none)
       ∙ read.ram.pages p off
+
+-- pages that are observed are those that are read
+pub observed-read : (shared : Bool) (s : State) (op : Op) (run : Run) → pages_observed shared s op ≡ Some run → pages_read s op ≡ Some run
+observed-read true s op run is = is
+observed-read false s op run is = absurd (none≢some run is)
+  where
+    none≢some : (r : Run) → None ≡ Some r → ⊥
+    none≢some r h = cc

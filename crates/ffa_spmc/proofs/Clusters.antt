@@ -28,13 +28,14 @@ use Rattle.ffa_model.proofs.Processors.{moved-goes, placed-still, turned-placed}
 use Rattle.ffa_laws.specs.Isolation.{NeverGrow}
 use Rattle.ffa_laws.specs.OwnAccess.{AreApart}
 use Rattle.ffa_laws.specs.Processors.{ConfidentialOn, IntegrityOn, OneOperation, OnlyWritersOn, OwnAccessOn, SilenceOn}
-use Rattle.ffa_laws.proofs.ProcessorLaws.{effect-elsewhere, has-runner, interrupt-placed, on-sound-state, one_operation, operation-placed, operation_never_grows}
+use Rattle.ffa_laws.proofs.ProcessorLaws.{effect-elsewhere, interrupt-elsewhere}
 use Rattle.ffa_laws.proofs.ProcessorRights.{confidential-on, integrity-on, only-writers-on, own-access-on, silence-on}
 use Rattle.ffa_laws.proofs.SoundOperations.{elsewhere-step}
 use Rattle.ffa_laws.proofs.SoundSteady.{sound-steady}
 use Rattle.ffa_spmc.specs.declared.run.Run.{Run}
-use Rattle.ffa_spmc.specs.Among.{IsDone, IsDoneReading, IsRead, pages_read}
-use Rattle.ffa_spmc.specs.Clustered.{Clustered, IsEffectedAmong, in_state, seen_by}
+use Rattle.ffa_spmc.specs.Among.{IsDoneReading, IsRead}
+use Rattle.ffa_spmc.specs.Operated.{IsDone}
+use Rattle.ffa_spmc.specs.Clustered.{IsEffected, in_state, pages_observed}
 use Rattle.ffa_spmc.specs.Snapshot.{Snapshot}
 use Rattle.ffa_spmc.specs.Unowned.{KeepsUnowned}
 
@@ -171,89 +172,18 @@ reading-elsewhere (Some run) old new op outcome sound done =
     (elsewhere-through (schedule_of done.seen.state) (schedule_of done.left.state) (schedule_of new.state)
     (done-elsewhere done.seen done.left op outcome done.read.sound done.done) (read-elsewhere run false done.left new done.ended))
 
--- as the processor of the last operation sees it
-module _ (processors : Processors) (old : Snapshot) (sound : IsSoundState old.state) (placed : ArePlaced processors old.state) where
-  pub placed-here : (op : Op) (new : State) → new ≡ (step old.state op).state → ArePlaced processors new
-  placed-here op new is = subst (ArePlaced processors) (sym is) (placed-still processors old.state (step old.state op).state (elsewhere-step old.state sound op) placed)
-
-  pub placed-reading : (o : Option Run) (op : Op) (outcome : Outcome) (new : Snapshot) → IsDoneReading o old op outcome new → ArePlaced processors new.state
-  placed-reading o op outcome new done = placed-still processors old.state new.state (reading-elsewhere o old new op outcome sound done) placed
-
--- pages that nobody owns are those of the machine
-pub unowned-on : (processors : Processors) (p : ℕ) (s : State) (old new : Ram) → KeepsUnowned (on processors p s) old new → KeepsUnowned s old new
-unowned-on processors p s old new = from (processors.current == p)
-  where
-    from : (b : Bool) → KeepsUnowned (cond b s (moved_to s (runner_on processors p))) old new → KeepsUnowned s old new
-    from true its = its
-    from false its = λ q behind none. its q behind none
-
-among-elsewhere : (old new : Snapshot) (op : Op) (effect : Effect) → IsSoundState old.state → IsEffectedAmong old op effect new → SameElsewhere (schedule_of old.state) (schedule_of new.state)
-among-elsewhere old new op (effects.Outcome outcome) sound done = reading-elsewhere (pages_read old.state op) old new op outcome sound done.1
-among-elsewhere old new op (effects.Resumed e) sound done =
+effected-elsewhere : (shared : Bool) (old new : Snapshot) (op : Op) (effect : Effect) → IsSoundState old.state → IsEffected shared old op effect new → SameElsewhere (schedule_of old.state) (schedule_of new.state)
+effected-elsewhere shared old new op (effects.Outcome outcome) sound done = reading-elsewhere (pages_observed shared old.state op) old new op outcome sound done.1
+effected-elsewhere shared old new op (effects.Resumed e) sound done =
     subst (λ (t : State). SameElsewhere (schedule_of old.state) (schedule_of t)) (sym (ap (λ (x : Snapshot). x.state) done.1))
     (subst (λ (o : Option ℕ). SameElsewhere (schedule_of old.state) (schedule_of (effected old.state op o).state)) done.0 (effect-elsewhere old.state sound op))
 
--- behind an operation of a processor
-module _ (now turned_to : Clustered) (p : ℕ) (placed : ArePlaced now.processors now.machine.state) (sound : IsSoundState now.machine.state) (low : p < MOST_PROCESSORS)
-    (machine : turned_to.machine ≡ seen_by p now) (processors : turned_to.processors ≡ turned now.processors p now.machine.state)
-    (inside : Clustered) (view : inside ≡ turned_to) where
-  in-range : p < length now.processors.runners
-  in-range = let count = placed.count in omega (arith, count, low)
+-- behind an operation of the selected processor
+pub placed-effected : (processors : Processors) (shared : Bool) (old new : Snapshot) (op : Op) (effect : Effect) → IsSoundState old.state → ArePlaced processors old.state
+    → IsEffected shared old op effect new → ArePlaced processors new.state
+placed-effected processors shared old new op effect sound placed done =
+    placed-still processors old.state new.state (effected-elsewhere shared old new op effect sound done) placed
 
-  some-works : 1 ≤ length now.machine.state.works
-  some-works =
-      let least = sound.sized.some in
-      let works = sound.sized.works in
-      omega (arith, least, works)
-
-  pub state-there : inside.machine.state ≡ on now.processors p now.machine.state
-  state-there = ap (λ (x : Clustered). x.machine.state) view ∙ ap (λ (x : Snapshot). x.state) machine
-
-  pub processors-there : inside.processors ≡ turned now.processors p now.machine.state
-  processors-there = ap (λ (x : Clustered). x.processors) view ∙ processors
-
-  pub placed-behind : (op : Op) (new : State) → new ≡ (step_resuming inside.machine.state op).state → ArePlaced inside.processors new
-  placed-behind op new is =
-      subst₂ ArePlaced (sym processors-there) (sym (is ∙ ap (λ (t : State). (step_resuming t op).state) state-there))
-      (operation-placed now.processors p now.machine.state op in-range placed sound)
-
-  pub placed-among : (op : Op) (effect : Effect) (new : Snapshot) → IsEffectedAmong inside.machine op effect new → ArePlaced inside.processors new.state
-  placed-among op effect new done =
-      placed-still inside.processors inside.machine.state new.state
-      (among-elsewhere inside.machine new op effect (subst IsSoundState (sym state-there) (on-sound-state now.machine.state sound now.processors placed p in-range)) done)
-      (subst₂ ArePlaced (sym processors-there) (sym state-there) (turned-placed now.processors now.machine.state sound.schedule some-works placed p in-range))
-
-  pub placed-interrupted : (new : State) → new ≡ (interrupt inside.machine.state).state → ArePlaced inside.processors new
-  placed-interrupted new is =
-      subst₂ ArePlaced (sym processors-there) (sym (is ∙ ap (λ (t : State). (interrupt t).state) state-there))
-      (interrupt-placed now.processors p now.machine.state in-range placed sound)
-
-  pub grown-behind : (op : Op) (new : State) → new ≡ (step_resuming inside.machine.state op).state → NeverGrow now.machine.state new
-  grown-behind op new is =
-      subst (NeverGrow now.machine.state) (sym (is ∙ ap (λ (t : State). (step_resuming t op).state) state-there))
-      (operation_never_grows now.processors p op now.machine.state (sound-steady now.machine.state sound) (has-runner now.processors p now.machine.state in-range placed sound))
-
--- what others learn of it
-pub operation-now : (now : Clustered) (p : ℕ) (op : Op) → ArePlaced now.processors now.machine.state → IsSoundState now.machine.state → p < MOST_PROCESSORS → OneOperation now.processors p now.machine.state op
-operation-now now p op placed sound low =
-    let count = placed.count in
-    one_operation now.processors p op now.machine.state (sound-steady now.machine.state sound) (has-runner now.processors p now.machine.state (omega (arith, count, low)) placed sound)
-
-module _ (now : Clustered) (p : ℕ) (op : Op) (placed : ArePlaced now.processors now.machine.state) (sound : IsSoundState now.machine.state) (low : p < MOST_PROCESSORS) where
-  within-range : p < length now.processors.runners
-  within-range = let count = placed.count in omega (arith, count, low)
-
-  pub integrity-there : IntegrityOn now.processors p now.machine.state op
-  integrity-there = integrity-on now.processors p now.machine.state op within-range placed sound
-
-  pub silence-there : SilenceOn now.processors p now.machine.state op
-  silence-there = silence-on now.processors p now.machine.state op within-range placed sound
-
-  pub writers-there : OnlyWritersOn now.processors p now.machine.state op
-  writers-there = only-writers-on now.processors p now.machine.state op within-range placed sound
-
-  pub access-there : AreApart now.machine.state → OwnAccessOn now.processors p now.machine.state op
-  access-there = own-access-on now.processors p now.machine.state op within-range placed sound
-
-  pub confidential-there : AreApart now.machine.state → ConfidentialOn now.processors p now.machine.state op
-  confidential-there = confidential-on now.processors p now.machine.state op within-range placed sound
+-- and behind an interrupt that it takes
+pub placed-interrupted : (processors : Processors) (s : State) (new : State) → IsSoundState s → ArePlaced processors s → new ≡ (interrupt s).state → ArePlaced processors new
+placed-interrupted processors s new sound placed is = subst (ArePlaced processors) (sym is) (placed-still processors s (interrupt s).state (interrupt-elsewhere s sound) placed)

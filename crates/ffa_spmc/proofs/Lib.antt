@@ -15,6 +15,7 @@ pub mod Readings
 pub mod Readers
 pub mod Besides
 pub mod Amongs
+pub mod Observing
 pub mod Machines
 pub mod Moves
 pub mod Closes

@@ -15,18 +15,12 @@ use Rattle.ffa_model.specs.Registers.{decode, wide_of}
 use Rattle.ffa_model.specs.SoundState.{IsSoundState}
 use Rattle.ffa_model.specs.State.{State, Buffers, buffers_of}
 use Rattle.ffa_model.specs.Step.{step}
-use Rattle.ffa_laws.specs.Isolation.{Integrity, NeverGrow, OneStep}
-use Rattle.ffa_laws.specs.Loans.{OfferSaysNothing}
-use Rattle.ffa_laws.specs.OwnAccess.{OwnAccess}
-use Rattle.ffa_laws.specs.Readable.{Confidential}
-use Rattle.ffa_laws.specs.Reads.{AreBeside, ReadsNoMore, tx_bytes_read, tx_pages_read}
-use Rattle.ffa_laws.specs.Silence.{Silence}
-use Rattle.ffa_laws.specs.Writers.{OnlyWriters}
+use Rattle.ffa_laws.specs.Reads.{AreBeside, tx_bytes_read, tx_pages_read}
 use Rattle.ffa_physmem.specs.Moments.{AgreeInFirst, IsBeside, IsReading, One}
 use Rattle.ffa_spmc.specs.declared.run.Run.{Run}
 use Rattle.ffa_spmc.specs.Cached.{AreWalks}
 use Rattle.ffa_spmc.specs.Mixtures.{StayMixed}
-use Rattle.ffa_spmc.specs.Operated.{IsOperated}
+use Rattle.ffa_spmc.specs.Operated.{IsDone}
 use Rattle.ffa_spmc.specs.Snapshot.{Snapshot}
 
 -- the first pages of a TX, if it is some
@@ -71,24 +65,6 @@ pub record IsRead (run : Run) (begins : Bool) (old new : Snapshot) : Type 0 wher
   pub agrees : Agrees new.ram new.state
   pub sound : IsSoundState new.state
   pub walks : AreWalks new
-
--- what is promised of each operation besides its outcome and the state that it leaves
-pub record HasLaws (s : State) (op : Op) : Type 0 where
-  pub alone : OneStep s op
-  pub whole : Integrity s op
-  pub silence : Silence s op
-  pub confidential : Confidential s op
-  pub never_grow : NeverGrow s (step s op).state
-  pub own_access : OwnAccess s op
-  pub only_writers : OnlyWriters s op
-  pub silent_offers : OfferSaysNothing s op
-  pub reads_no_more : ReadsNoMore s op
-
--- an operation was done, with this outcome
-pub record IsDone (old : Snapshot) (op : Op) (told : Outcome) (new : Snapshot) : Type 0 where
-  pub outcome : told ≡ (step old.state op).outcome
-  pub operated : IsOperated old op new
-  pub laws : HasLaws old.state op
 
 -- so was one that reads pages to which others may write: they were read at once, the operation was done in what was seen
 -- then, and only behind it they are what others wrote

@@ -1,6 +1,6 @@
 -- SPDX-License-Identifier: MIT OR Apache-2.0
 -- What a contract sees of a machine that several processors run, and what an operation of one of them comes to.
-use Rattle.std.specs.Prelude.{◌≡◌, ℕ, Bool, true, nat_lt, List, [], ◌∷◌, Some, None, refl}
+use Rattle.std.specs.Prelude.{◌≡◌, ℕ, Bool, true, false, nat_lt, List, [], ◌∷◌, Option, Some, None, refl, if◌then◌else◌}
 use Rattle.std.specs.List.{list_all}
 use Rattle.std.specs.Coded.{Coded, code_by, coded×, coded_ℕ, coded_list}
 use Rattle.ffa_model.specs.declared.limits.TheConstants.{MOST_PROCESSORS}
@@ -14,8 +14,9 @@ use Rattle.ffa_model.specs.Processors.{Processors, Shared, effects_on, interrupt
 use Rattle.ffa_model.specs.State.{State}
 use Rattle.ffa_laws.specs.Isolation.{NeverGrow}
 use Rattle.ffa_laws.specs.ProcessorRuns.{IsolatedOn}
-use Rattle.ffa_spmc.specs.Among.{IsDone, IsDoneAlone, IsDoneReading, pages_read}
+use Rattle.ffa_spmc.specs.Among.{IsDoneAlone, IsDoneReading, pages_read}
 use Rattle.ffa_spmc.specs.Snapshot.{Snapshot, coded_snapshot}
+use Rattle.ffa_spmc.specs.declared.run.Run.{Run}
 
 -- the machine as the processor of the last operation sees it, and who runs on each other one
 pub record Clustered : Type 0 where
@@ -36,45 +37,41 @@ in_state x s = record x { state = s }
 abbrev pub seen_by : ℕ → Clustered → Snapshot
 seen_by p c = in_state c.machine (on c.processors p c.machine.state)
 
--- An operation of the runner where partitions may be preempted is done as any operation, or lets a preempted partition go on:
--- then all but the run states is as it was.
-abbrev pub IsEffected : Snapshot → Op → Effect → Snapshot → Type 0
-IsEffected old op (Outcome outcome) new = (resumed_by old.state op ≡ None) × IsDone old op outcome new
-IsEffected old op (Resumed e) new = (resumed_by old.state op ≡ Some e.0) × (new ≡ in_state old (with_switch old.state Blocked e.0))
+-- the pages of the runner's TX that are observed at once for an operation, where others may write to them
+abbrev pub pages_observed : Bool → State → Op → Option Run
+pages_observed shared s op = if shared then pages_read s op else None
 
--- the same while others may write to the runner's TX
-abbrev pub IsEffectedAmong : Snapshot → Op → Effect → Snapshot → Type 0
-IsEffectedAmong old op (Outcome outcome) new =
-    (resumed_by old.state op ≡ None) × IsDoneReading (pages_read old.state op) old op outcome new
-IsEffectedAmong old op (Resumed e) new = (resumed_by old.state op ≡ Some e.0) × (new ≡ in_state old (with_switch old.state Blocked e.0))
+-- An operation of the runner where partitions may be preempted is done as any operation, with pages of TX as they were observed; or
+-- it lets a preempted partition go on: then all but the run states is as it was.
+abbrev pub IsEffected : Bool → Snapshot → Op → Effect → Snapshot → Type 0
+IsEffected shared old op (Outcome outcome) new =
+    (resumed_by old.state op ≡ None) × IsDoneReading (pages_observed shared old.state op) old op outcome new
+IsEffected shared old op (Resumed e) new =
+    (resumed_by old.state op ≡ Some e.0) × (new ≡ in_state old (with_switch old.state Blocked e.0))
 
 -- while nobody else wrote: by what stood in memory
 abbrev pub IsEffectedAlone : State → Op → Effect → State → Type 0
 IsEffectedAlone old op (Outcome outcome) new = IsDoneAlone old op outcome new
 IsEffectedAlone old op (Resumed e) new = new ≡ with_switch old Blocked e.0
 
--- both, where it is known whether anybody else writes
-abbrev pub IsEffectedReading : Bool → Snapshot → Op → Effect → Snapshot → Type 0
-IsEffectedReading alone old op effect new =
-    IsEffectedAmong old op effect new × (alone ≡ true → IsEffectedAlone old.state op effect new.state)
-
--- An act in the machine as its processor sees it: an operation is done so, and an interrupt changes the run states alone.
-abbrev pub IsActed : (Snapshot → Op → Effect → Snapshot → Type 0) → Snapshot → Act → Effect → Snapshot → Type 0
-IsActed IsDoneSo old (Operate op) effect new = IsDoneSo old op effect new
-IsActed IsDoneSo old Interrupt effect new =
+-- An act in the machine as its processor sees it, where nobody else writes to TX: an operation is done so, and an interrupt changes
+-- the run states alone.
+abbrev pub IsActed : Snapshot → Act → Effect → Snapshot → Type 0
+IsActed old (Operate op) effect new = IsEffected false old op effect new
+IsActed old Interrupt effect new =
     (effect ≡ Outcome (interrupt old.state).outcome) × (new ≡ in_state old (interrupt old.state).state)
 
--- an act of processor p
-pub record IsActedOn (IsDoneSo : Snapshot → Op → Effect → Snapshot → Type 0) (old : Clustered) (p : ℕ) (act : Act) (effect : Effect) (new : Clustered) : Type 0 where
-  pub acted : IsActed IsDoneSo (seen_by p old) act effect new.machine
+-- an act of processor p, which is selected first
+pub record IsActedOn (old : Clustered) (p : ℕ) (act : Act) (effect : Effect) (new : Clustered) : Type 0 where
+  pub acted : IsActed (seen_by p old) act effect new.machine
   pub processors : new.processors ≡ turned old.processors p old.machine.state
 
 -- acts that are done one after another, each of the processor beside it, and nothing between them
-abbrev pub AreActed : (Snapshot → Op → Effect → Snapshot → Type 0) → Clustered → List (ℕ × Act) → List Effect → Clustered → Type 0
-AreActed IsDoneSo old [] told new = (told ≡ []) × (new ≡ old)
-AreActed IsDoneSo old (x ∷ xs) told new =
+abbrev pub AreActed : Clustered → List (ℕ × Act) → List Effect → Clustered → Type 0
+AreActed old [] told new = (told ≡ []) × (new ≡ old)
+AreActed old (x ∷ xs) told new =
     (next : Clustered) × (effect : Effect) × (rest : List Effect)
-    × (told ≡ effect ∷ rest) × IsActedOn IsDoneSo old x.0 x.1 effect next × AreActed IsDoneSo next xs rest new
+    × (told ≡ effect ∷ rest) × IsActedOn old x.0 x.1 effect next × AreActed next xs rest new
 
 -- there are these processors
 abbrev pub are_processors : List (ℕ × Act) → Bool

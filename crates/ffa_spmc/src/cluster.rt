@@ -1,27 +1,23 @@
 // SPDX-License-Identifier: MIT OR Apache-2.0
 //! A machine that several processors run.
-ghost use Rattle.std.specs.Prelude.{◌≡◌, ◌<◌, length, map, slice_set};
+ghost use Rattle.std.specs.Prelude.{◌≡◌, ◌<◌, None, true, length, map, slice_set};
 ghost use Rattle.ffa_model.specs.declared.endpoint.EndpointId.{EndpointId};
 ghost use Rattle.ffa_model.specs.declared.limits.TheConstants.{MOST_PROCESSORS};
 ghost use Rattle.ffa_model.specs.Agreement.{Agrees};
-ghost use Rattle.ffa_model.specs.Processors.{ArePlaced, IsHere, first_processors, interrupt_on, left_status, on, step_on, turned};
+ghost use Rattle.ffa_model.specs.Processors.{ArePlaced, IsHere, first_processors, interrupt, left_status, on, turned};
 ghost use Rattle.ffa_model.specs.SoundState.{IsSoundState};
-ghost use Rattle.ffa_laws.specs.Isolation.{NeverGrow};
-ghost use Rattle.ffa_laws.specs.OwnAccess.{AreApart};
-ghost use Rattle.ffa_laws.specs.Processors.{ConfidentialInterrupt, ConfidentialOn, IntegrityOn, OneInterrupt, OneOperation, OnlyWritersOn, OwnAccessOn, SilenceOn};
 ghost use Rattle.ffa_spmc.specs.Cached.{AreWalks};
-ghost use Rattle.ffa_spmc.specs.Clustered.{IsEffected, in_state, seen_by};
+ghost use Rattle.ffa_spmc.specs.Clustered.{IsEffected, IsEffectedAlone, in_state, seen_by};
+ghost use Rattle.ffa_spmc.specs.Unowned.{KeepsUnowned};
 
-mod among;
 mod copy;
-mod here;
-mod noticing;
 
 use crate::machine::Machine;
 use crate::storage::{Inline, Store};
 use arrayvec::ArrayVec;
+use ffa_memshare::Changed;
 use ffa_model::{Effect, EndpointId, MOST_PROCESSORS, Op, Outcome, Status};
-use ffa_physmem::PhysMem;
+use ffa_physmem::{Observed, PhysMem};
 use ffa_tlb::{NoTlb, Translations};
 use std::marker::Model;
 
@@ -101,74 +97,9 @@ impl<M: PhysMem + Drop, T: Translations + Drop, S: Store> Cluster<M, T, S> {
         }
     }
 
-    /// Does one operation of whoever runs on a processor: it is an operation of the machine as that processor sees it. FFA_RUN of
-    /// a preempted partition lets that go on where it was, and a partition that runs on another processor is BUSY.
-    pub fn op(&mut self, processor: usize, op: &Op) -> Effect
-        requires { processor < MOST_PROCESSORS }
-        // The effect and the next state are those of the small machine.
-        ensures effect { result ≡ (step_on self.old.processors processor self.old.machine.state op.now).effect }
-        ensures state { self.new.machine.state
-            ≡ (step_on self.old.processors processor self.old.machine.state op.now).state }
-        ensures processors { self.new.processors ≡ turned self.old.processors processor self.old.machine.state }
-
-        // All that `Machine::op` promises holds of it; or a preempted partition goes on, and all but the run states is as it was.
-        ensures done { IsEffected (seen_by processor self.old) op.now result self.new.machine }
-        ensures agrees { Agrees self.new.machine.ram self.new.machine.state }
-        ensures sound { IsSoundState self.new.machine.state }
-        ensures walks { AreWalks self.new.machine }
-
-        // What another endpoint learns than the one that the processor runs is in its events, and what that one sees depends on
-        // its view and on who runs there alone. Bytes, access, what is told and what can be read are from the state before what
-        // they are of a step, and rights don't grow.
-        ensures step { OneOperation self.old.processors processor self.old.machine.state op.now }
-        ensures integrity { IntegrityOn self.old.processors processor self.old.machine.state op.now }
-        ensures silence { SilenceOn self.old.processors processor self.old.machine.state op.now }
-        ensures confidential { ConfidentialOn self.old.processors processor self.old.machine.state op.now }
-        ensures own_access { OwnAccessOn self.old.processors processor self.old.machine.state op.now }
-        ensures only_writers { OnlyWritersOn self.old.processors processor self.old.machine.state op.now }
-        ensures never_grow { NeverGrow self.old.machine.state self.new.machine.state }
-    {
-        // Proof step: processors and state fit together.
-        self.holds();
-        self.turn_to(processor);
-        self.machine.op_resuming(op)
-    }
-
-    /// An interrupt that a processor takes while it runs whoever it runs.
-    pub fn interrupt(&mut self, processor: usize) -> Outcome
-        requires { processor < MOST_PROCESSORS }
-        ensures outcome { result ≡ (interrupt_on self.old.processors processor self.old.machine.state).outcome }
-        ensures machine { self.new.machine
-            ≡ in_state self.old.machine (interrupt_on self.old.processors processor self.old.machine.state).state }
-        ensures processors { self.new.processors ≡ turned self.old.processors processor self.old.machine.state }
-        ensures agrees { Agrees self.new.machine.ram self.new.machine.state }
-        ensures sound { IsSoundState self.new.machine.state }
-        ensures walks { AreWalks self.new.machine }
-
-        // What an endpoint learns of it is in its events, and what the normal world sees depends on who runs there alone.
-        ensures step { OneInterrupt (on self.old.processors processor self.old.machine.state) }
-        ensures confidential { ConfidentialInterrupt self.old.processors processor self.old.machine.state }
-    {
-        // Proof step: processors and state fit together.
-        self.holds();
-        self.turn_to(processor);
-        self.machine.interrupt()
-    }
-
-    // What holds of every machine that processors run.
-    #[inline(always)]
-    fn holds(&self)
-        ensures placed { ArePlaced self.now.processors self.now.machine.state }
-        ensures agrees { Agrees self.now.machine.ram self.now.machine.state }
-        ensures sound { IsSoundState self.now.machine.state }
-        ensures apart { AreApart self.now.machine.state }
-        ensures walks { AreWalks self.now.machine }
-    {
-        self.machine.holds();
-    }
-
-    /// A processor is to do an operation: the machine is as that one sees it.
-    pub fn turn_to(&mut self, processor: usize)
+    /// Selects a processor: from then on the machine is as that one sees it, and operations are of whoever runs there. A partition
+    /// that runs on another processor is BUSY.
+    pub fn select(&mut self, processor: usize)
         requires { processor < MOST_PROCESSORS }
         ensures machine { self.new.machine ≡ seen_by processor self.old }
         ensures processors { self.new.processors ≡ turned self.old.processors processor self.old.machine.state }
@@ -183,6 +114,89 @@ impl<M: PhysMem + Drop, T: Translations + Drop, S: Store> Cluster<M, T, S> {
         self.machine.switch(left_status(runner), next);
         note(&mut self.runners, self.current, runner);
         self.current = processor;
+    }
+
+    /// Takes an interrupt on the selected processor: a partition that runs there is preempted, and the normal world runs.
+    pub fn interrupt(&mut self) -> Outcome
+        ensures outcome { result ≡ (interrupt self.old.machine.state).outcome }
+        ensures machine { self.new.machine ≡ in_state self.old.machine (interrupt self.old.machine.state).state }
+        ensures processors { self.new.processors ≡ self.old.processors }
+        ensures agrees { Agrees self.new.machine.ram self.new.machine.state }
+        ensures sound { IsSoundState self.new.machine.state }
+        ensures walks { AreWalks self.new.machine }
+    {
+        // Proof step: processors and state fit together.
+        self.holds();
+        self.machine.interrupt()
+    }
+
+    /// Whose access to which pages the last call on memory that was done has changed: reported once.
+    pub fn take_change(&mut self) -> Option<Changed>
+        ensures told { result ≡ self.old.machine.told }
+        ensures rest { self.new ≡ record self.old { machine = record self.old.machine { told = None } } }
+    {
+        self.machine.take_change()
+    }
+
+    /// Gives back the machine, as the selected processor sees it.
+    pub fn into_machine(self) -> Machine<M, T, S>
+        ensures { result ≡ self.machine }
+    {
+        self.machine
+    }
+
+    // What holds of every machine that processors run.
+    #[inline(always)]
+    fn holds(&self)
+        ensures placed { ArePlaced self.now.processors self.now.machine.state }
+        ensures agrees { Agrees self.now.machine.ram self.now.machine.state }
+        ensures sound { IsSoundState self.now.machine.state }
+        ensures walks { AreWalks self.now.machine }
+    {
+        self.machine.holds();
+    }
+}
+
+impl<M: Observed + Drop, T: Translations + Drop, S: Store> Cluster<M, T, S> {
+    /// Does one operation of whoever runs on the selected processor, and fills in its effect. FFA_RUN of a preempted partition lets
+    /// that go on where it was.
+    ///
+    /// Where others may write to the caller's TX, the call observes the bytes that it reads there, all at once.
+    pub fn op(&mut self, op: &Op, effect: &mut Effect)
+        // All that `Machine::op` promises of an operation holds of it, with pages of TX as they were observed; or a preempted
+        // partition goes on, and all but the run states is as it was.
+        ensures done { IsEffected M.is_shared self.old.machine op.now effect.new self.new.machine }
+        // Where nobody else writes, it is done by what stands in memory.
+        ensures alone { M.is_alone ≡ true → IsEffectedAlone self.old.machine.state op.now effect.new self.new.machine.state }
+        ensures processors { self.new.processors ≡ self.old.processors }
+
+        // Whatever others wrote: walks give the access of the state, which is sound, and nothing that the cache holds is stale.
+        ensures agrees { Agrees self.new.machine.ram self.new.machine.state }
+        ensures sound { IsSoundState self.new.machine.state }
+        ensures walks { AreWalks self.new.machine }
+        ensures unowned { KeepsUnowned self.old.machine.state self.old.machine.ram self.new.machine.ram }
+    {
+        // Proof step: processors and state fit together, so that who was preempted may go on.
+        self.holds();
+        if let Some(target) = self.machine.resumed_by(op) {
+            *effect = Effect::Resumed(target);
+            self.machine.resume(target);
+            // Proof step: the tables give the access of the state, which is sound.
+            self.machine.holds();
+            return;
+        }
+        *effect = Effect::Outcome(Outcome::Done);
+        let Effect::Outcome(outcome) = effect else {
+            unreachable!()
+        };
+        match self.machine.front_observed(op) {
+            None => self.machine.do_op(op, outcome),
+            Some(front) => {
+                self.machine.begin_reading(front);
+                self.machine.do_op(op, outcome);
+                self.machine.end_reading(front.pages);
+            }
+        }
     }
 }
 

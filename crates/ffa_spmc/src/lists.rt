@@ -11,7 +11,7 @@ ghost use Rattle.ffa_model.specs.Processors.{ArePlaced};
 ghost use Rattle.ffa_model.specs.SoundState.{IsSoundState};
 ghost use Rattle.ffa_laws.specs.Isolation.{NeverGrow};
 ghost use Rattle.ffa_spmc.specs.Among.{AreDoneReading};
-ghost use Rattle.ffa_spmc.specs.Clustered.{AreActed, Clustered, IsEffected, IsRunOfActs, are_processors};
+ghost use Rattle.ffa_spmc.specs.Clustered.{AreActed, Clustered, IsRunOfActs, are_processors};
 ghost use Rattle.ffa_spmc.specs.Interleaved.{AreDoneBetween, IsInterleaved, IsRunOfAll};
 ghost use Rattle.ffa_spmc.specs.Meanwhile.{AreDoneAmid, LeavesAmid};
 ghost use Rattle.ffa_spmc.specs.Operated.{IsOperated};
@@ -37,12 +37,12 @@ pub fn left_among_others()
         → AreDoneBetween old ops told new → IsRunOfAll old.state ops told new.state }
 {}
 
-/// Operations and interrupts of several processors are done one after another, each as `Cluster::op` and `Cluster::interrupt`
-/// promise it. They have the effects and leave the state that the definitions give for the list. What an endpoint sees, and its
+/// Operations and interrupts of several processors are done one after another, each as `Cluster::select`, and then `Cluster::op` or
+/// `Cluster::interrupt` promise it, in RAM to which nobody else writes. They have the effects and leave the state that the definitions give for the list. What an endpoint sees, and its
 /// view afterwards, are the same from every state that it sees alike, with every list in which it does the same and learns the
 /// same. Rights never grow.
 pub fn act_in_turn()
     ensures { (old : Clustered) (acts : List (ℕ × Act)) (told : List Effect) (new : Clustered) → IsSoundState old.machine.state
-        → ArePlaced old.processors old.machine.state → are_processors acts ≡ true → AreActed IsEffected old acts told new
+        → ArePlaced old.processors old.machine.state → are_processors acts ≡ true → AreActed old acts told new
         → IsRunOfActs old acts told new }
 {}

@@ -9,35 +9,30 @@ ghost use Rattle.ffa_model.specs.Processors.{IsHere};
 ghost use Rattle.ffa_model.specs.Ram.{zero_ram};
 ghost use Rattle.ffa_model.specs.SoundState.{IsSoundState};
 ghost use Rattle.ffa_laws.specs.Events.{seen};
-ghost use Rattle.ffa_laws.specs.Isolation.{Integrity, Isolated, NeverGrow, OneStep, shown_to};
-ghost use Rattle.ffa_laws.specs.Loans.{OfferSaysNothing, ZeroedIsForgotten};
-ghost use Rattle.ffa_laws.specs.OwnAccess.{OwnAccess};
-ghost use Rattle.ffa_laws.specs.Readable.{Confidential, RunConfidential};
-ghost use Rattle.ffa_laws.specs.Reads.{ReadsNoMore};
+ghost use Rattle.ffa_laws.specs.Isolation.{Isolated, NeverGrow, shown_to};
+ghost use Rattle.ffa_laws.specs.Loans.{ZeroedIsForgotten};
+ghost use Rattle.ffa_laws.specs.Readable.{RunConfidential};
 ghost use Rattle.ffa_laws.specs.Replay.{Replays};
 ghost use Rattle.ffa_laws.specs.RunIntegrity.{RunIntegrity};
-ghost use Rattle.ffa_laws.specs.Silence.{Silence};
-ghost use Rattle.ffa_laws.specs.Writers.{OnlyWriters};
 ghost use Rattle.ffa_model.specs.Refusals.{is_refusal};
 ghost use Rattle.ffa_model.specs.Registers.{decode};
 ghost use Rattle.ffa_model.specs.State.{owner_of};
 ghost use Rattle.ffa_model.specs.Step.{serve, step, outcomes, state_after};
 ghost use Rattle.ffa_spmc.specs.AccessChange.{IsTelling};
-ghost use Rattle.ffa_spmc.specs.Among.{IsDone};
 ghost use Rattle.ffa_spmc.specs.Cached.{AreSameOrGone, AreForgotten, AreKept, AreWalks, is_accessed, is_miss};
-ghost use Rattle.ffa_spmc.specs.Operated.{AreOperated};
+ghost use Rattle.ffa_spmc.specs.Operated.{AreOperated, IsDone};
 ghost use Rattle.ffa_spmc.specs.Booted.{IsBooted, IsBootedBy, IsBootedHeld};
-ghost use Rattle.ffa_spmc.specs.Mixtures.{TablesRest, StayMixed};
+ghost use Rattle.ffa_spmc.specs.Mixtures.{TablesRest};
 ghost use Rattle.ffa_spmc.specs.Moments.{AreMoments};
 ghost use Rattle.ffa_spmc.specs.Readied.{IsReadyFor};
 ghost use Rattle.ffa_spmc.specs.Storages.{IsRoomFor};
 ghost use Rattle.ffa_spmc.specs.Unowned.{KeepsUnowned};
 
 mod accesses;
-mod among;
 mod certificates;
 mod copy;
 mod interrupts;
+mod observing;
 mod parts;
 
 use crate::fill::Fill;
@@ -255,69 +250,7 @@ impl<M: PhysMem + Drop, T: Translations + Drop, S: Store> Machine<M, T, S> {
     /// Does one operation of the runner. A refusal, which is FFA_ERROR or a fault, changes nothing.
     #[inline(always)]
     pub fn op(&mut self, op: &Op) -> Outcome
-        // The outcome and the next state are those of the small machine.
-        ensures outcome { result ≡ (step self.old.state op.now).outcome }
-        ensures state { self.new.state ≡ (step self.old.state op.now).state }
-
-        // Every walk of the new RAM gives exactly the access of the new state, whose bytes it holds. Pages behind the
-        // tables that nobody owns keep their bytes.
-        ensures agrees { Agrees self.new.ram self.new.state }
-        ensures refused { is_refusal result ≡ true → self.new ≡ self.old }
-        ensures unowned { KeepsUnowned self.old.state self.old.ram self.new.ram }
-
-        // At each step, and at every address, the walks of all endpoints give what they gave before it or nothing, or all
-        // give what they give behind it or nothing. A descriptor goes by way of nothing where it has to, and a page changes
-        // only while nobody reaches it but who does both before and behind.
-        ensures moments { AreMoments self.old.state self.old.ram self.new.ram self.old.past self.new.past }
-
-        // So it is of walks in mixtures, whose words are of different moments, are kept until the page is settled, or are seen
-        // out of order; and behind it the tables are at rest.
-        ensures mixtures { StayMixed self.old.state self.old.ram self.new.ram self.old.past self.new.past }
-
-        // What the cache answers is the walk's answer over the bytes of the new RAM. It holds nothing for a page to which
-        // an endpoint's access has changed. All else stays, but for an access that misses: it may take the place of others,
-        // and only the runner's page is new.
-        ensures walks { AreWalks self.new }
-        ensures forgotten { AreForgotten self.old self.new }
-        ensures kept { is_miss self.old op.now ≡ false → AreKept self.old self.new }
-        ensures others { AreSameOrGone self.old self.new (is_accessed self.old.state op.now) }
-
-        // Whose access to which pages it changed is told from then on; or nobody's has changed, and what was told stays, as it
-        // does of all but calls on memory.
-        ensures telling { IsTelling op.now self.old.state self.new.state self.old.told self.new.told }
-
-        // The state stays sound. What another endpoint learns is in its events, what the runner sees depends on its view
-        // alone, and a page that its owner has alone is safe from others.
-        ensures sound { IsSoundState self.new.state }
-        ensures step { OneStep self.old.state op.now }
-        ensures integrity { Integrity self.old.state op.now }
-
-        // An operation gives only the events of its row, and only some calls change the public part. What is told to
-        // another endpoint changes its view, but for messages, and for bytes, zeros and pending bits, which may be told
-        // again: these are about a page, a transaction, or buffers or bitmaps of its own that stand in its view. All that
-        // an event says, but for a message, goes into the view.
-        ensures silence { Silence self.old.state op.now }
-
-        // From another state in which the runner can read the same, the operation has the same outcome, and the runner
-        // can read the same after it, if the same is revealed to it; or if the operation neither retrieves nor reclaims.
-        // What another endpoint can read changes by what it is told readably alone. Events tell more: bytes too that it
-        // can't read.
-        ensures confidential { Confidential self.old.state op.now }
-
-        // Rights don't grow, and nobody's access changes but the runner's. A page's bytes change only where the runner
-        // may write to it before, or reclaims it and may write to it then, or where an indirect message fills its
-        // receiver's RX.
-        ensures never_grow { NeverGrow self.old.state self.new.state }
-        ensures own_access { OwnAccess self.old.state op.now }
-        ensures only_writers { OnlyWriters self.old.state op.now }
-
-        // Where it opens a transaction, the bytes of the pages make no difference to a receiver while the transaction is open
-        // and the receiver doesn't hold it.
-        ensures silent_offers { OfferSaysNothing self.old.state op.now }
-
-        // From another sound state, with other bytes that it doesn't read, it has the same outcome, and leaves a state with
-        // other bytes in the same pages at most.
-        ensures reads_no_more { ReadsNoMore self.old.state op.now }
+        ensures done { IsDone self.old op.now result self.new }
     {
         let mut outcome = Outcome::Done;
         self.do_op(op, &mut outcome);
@@ -325,10 +258,9 @@ impl<M: PhysMem + Drop, T: Translations + Drop, S: Store> Machine<M, T, S> {
     }
 
     // The same, whose outcome is filled in where it stands: handed back by value it would be copied at each step of its way.
-    #[inline(always)]
-    fn do_op(&mut self, op: &Op, outcome: &mut Outcome)
+    #[inline]
+    pub(crate) fn do_op(&mut self, op: &Op, outcome: &mut Outcome)
         ensures done { IsDone self.old op.now outcome.new self.new }
-        ensures sound { IsSoundState self.new.state }
     {
         // Proof step: the state is sound, and the tables give its access.
         self.manager.holds();

@@ -7,7 +7,7 @@ ghost use Rattle.play_tasks.specs.Starts.{start_of};
 
 use crate::playing::boot_for;
 use ffa_model::Manifest;
-use ffa_physmem::PhysMem;
+use ffa_physmem::Unshared;
 use ffa_reasons::Explained;
 use ffa_spmc::{Fill, Machine, Storage};
 use ffa_tlb::NoTlb;
@@ -20,7 +20,7 @@ use std::io::Read;
 
 /// Plays on a machine that boots in this RAM, which is all zeros, and that one processor runs or several do, and counts what
 /// comes of each operation.
-pub(crate) fn count_in<M: PhysMem + Drop, A: Allocator + Copy, R: Read + Drop>(
+pub(crate) fn count_in<M: Unshared + Drop, A: Allocator + Copy, R: Read + Drop>(
     alloc: A,
     manifest: &Manifest,
     ram: M,

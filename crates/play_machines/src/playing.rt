@@ -9,7 +9,7 @@ ghost use Rattle.play_tasks.specs.Purposes.{known};
 ghost use Rattle.play_tasks.specs.Starts.{processors_for, start_of};
 
 use ffa_model::{MOST_PROCESSORS, Manifest};
-use ffa_physmem::PhysMem;
+use ffa_physmem::Unshared;
 use ffa_reasons::{Explained, ExplainedCluster};
 use ffa_spmc::{Cluster, Fill, Machine, Storage, Store};
 use ffa_tlb::{InTurn, NoTlb, Tlb, Translations};
@@ -25,7 +25,7 @@ const ENTRIES: usize = 4;
 /// Plays on a machine that boots in this RAM, which is all zeros, with a cache of translations or none.
 pub(crate) fn play_in<
     'a,
-    M: PhysMem + Drop,
+    M: Unshared + Drop,
     A: Allocator + Copy,
     R: Read + Drop,
     W: Write,
@@ -54,7 +54,7 @@ pub(crate) fn play_in<
 // Plays on a machine that boots in this RAM, which is all zeros, with this cache, and that one processor runs or several do.
 fn play_with<
     'a,
-    M: PhysMem + Drop,
+    M: Unshared + Drop,
     T: Translations + Drop,
     A: Allocator + Copy,
     R: Read + Drop,
@@ -90,7 +90,7 @@ fn play_with<
 }
 
 /// The machine that boots so, of which a trace may name so many processors.
-pub(crate) fn boot_for<M: PhysMem + Drop, T: Translations + Drop, S: Store>(
+pub(crate) fn boot_for<M: Unshared + Drop, T: Translations + Drop, S: Store>(
     count: usize,
     storage: Storage<S>,
     manifest: &Manifest,

@@ -48,7 +48,7 @@ pub fn generated(manifest: &str, seed: &str, flags: &[&str]) -> (String, String)
     assert!(operations >= 100_000, "{operations} operations");
     let path = env::temp_dir().join(format!("gorseplumb-{}-{seed}.trace", process::id()));
     fs::write(&path, &trace).unwrap();
-    let expected = run(&[&["run"], flags, &[manifest, path.to_str().unwrap()]].concat());
+    let expected = run(&[&["run", "--processors", "1"], flags, &[manifest, path.to_str().unwrap()]].concat());
     fs::remove_file(&path).unwrap();
     (trace, expected)
 }
@@ -74,7 +74,7 @@ pub fn play_line<R: Ram>(machine: &mut Machine<R>, line: &str) -> String {
         "call" => {
             let mut given = registers([]);
             (1..words.len()).for_each(|place| given[place - 1] = number(place));
-            format!("regs {}\n", machine.call(&given))
+            format!("{}\n", machine.call(&given))
         }
         "load" => data(machine.load(number(1), size(number(2) as usize)), number(2) as usize),
         "store" => match machine.store(number(1), size(words[2].len() / 2), number(2)) {

@@ -2,7 +2,7 @@
 //! Each check of each call, with the smallest operation that fails it and what is done before. docs/CALLS.md and
 //! docs/MEMORY.md list the checks; three of them nothing fails.
 use gorseplumb::Check::{self, *};
-use gorseplumb::{Endpoint, Manifest, Properties, Region, Rights, Version, Worlds};
+use gorseplumb::{Endpoint, Manifest, Properties, Region, Rights, Version};
 
 /// A check that fails.
 pub struct Row {
@@ -38,7 +38,7 @@ pub const MACHINE: Manifest = Manifest::new(
         ),
     ],
 )
-.with_worlds(Worlds::Two);
+.with_security_states(true);
 
 /// Checks that nothing fails: no partition is blocked while the normal world runs, a donate grants no right, and a
 /// share that asks for zeros is no descriptor.
@@ -264,7 +264,7 @@ fn notifications() -> Vec<Row> {
         row(set, 5, BitsNone, &[], "call 84000081 8001"),
         row(set, 6, BitsNotTheCallers, &[], "call 84000081 8001 0 1"),
         row(get, 1, ReceiverIsAnother, &[], "call 84000082 1"),
-        row(get, 2, ContextUnknown, &[], "call 84000082 10000"),
+        row(get, 2, ContextUnknown, &[], "call 84000082 80000"),
         row(get, 3, ClassesUnknown, &[], "call 84000082 0 10"),
         row(get, 4, BitmapsMissing, &[], "call 84000082"),
     ];

@@ -147,7 +147,7 @@ impl<'ram> Stage<'ram> {
     #[track_caller]
     pub fn expect(&mut self, x: Registers, want: Registers, case: impl Display) {
         let answer = self.call(x);
-        let found = (answer.runner(), *answer.registers());
+        let found = (answer.runner(), *answer.registers().unwrap());
         let caller = Id(self.scene.caller as u16);
         assert_eq!(found, (caller, want), "{case}: {x:X?} gives {:X?}, not {want:X?}", found.1);
     }

@@ -11,9 +11,9 @@ ghost use Rattle.ffa_physmem.specs.Moments.{IsBeside};
 use super::*;
 use crate::checks::{alike, same};
 use ffa_manifest::{ManifestError, of_parts};
-use ffa_model::{Address, Op, Outcome, PageNo, Size};
+use ffa_model::{Address, Effect, Op, Outcome, PageNo, Size};
 use ffa_physmem::{FlatRam, Observed, PhysMem};
-use ffa_spmc::Machine;
+use ffa_spmc::{Cluster, Fill, Machine, Storage};
 use fixtures::{FIRST, partition, word, writable};
 
 // The machine of the rows with a third partition.
@@ -145,7 +145,14 @@ impl Observed for Shifting {
 
     ghost is_copied = { false };
 
+    ghost is_shared = { true };
+
     ghost beneath_kept = { λ _ _ _ _. no_copy };
+
+    #[inline(always)]
+    fn is_shared(&self) -> bool {
+        true
+    }
 
     fn rest(&mut self) {}
 
@@ -185,27 +192,39 @@ fn store(addr: u64, value: u64) -> Op {
     }
 }
 
+// Does one operation, which lets no partition go on.
+fn act(machine: &mut Cluster<Shifting>, op: &Op) -> Outcome {
+    let mut effect = Effect::Outcome(Outcome::Done);
+    machine.op(op, &mut effect);
+    match effect {
+        Effect::Outcome(outcome) => outcome,
+        Effect::Resumed(_) => Outcome::Done,
+    }
+}
+
 // Each partition maps its buffers, and the first one runs in the end.
-fn begin(machine: &mut Machine<Shifting>) {
+fn begin(machine: &mut Cluster<Shifting>) {
     for (target, tx) in [
         (0x8003_0000, 0x4004_E000),
         (0x8002_0000, 0x4003_E000),
         (0x8001_0000, 0x4002_E000),
     ] {
         // FFA_MSG_WAIT of the partition that runs, and FFA_RUN of the next.
-        let _ = machine.op(&call(0x8400_006B, 0, 0));
-        let _ = machine.op(&call(0x8400_006D, target, 0));
-        let _ = machine.op(&map(tx));
+        let _ = act(machine, &call(0x8400_006B, 0, 0));
+        let _ = act(machine, &call(0x8400_006D, target, 0));
+        let _ = act(machine, &map(tx));
     }
 }
 
 // A machine whose first partition runs, and where all partitions have buffers.
-fn shifting_machine(alloc: Global, word: usize, next: [u64; 2]) -> Result<Machine<Shifting>, Fail>
+fn shifting_machine(alloc: Global, word: usize, next: [u64; 2]) -> Result<Cluster<Shifting>, Fail>
     requires { word < 512 }
 {
     let manifest = three_partitions()?;
     let ram = Shifting::new(alloc, &manifest, word, next)?;
-    let mut machine = Machine::boot_with(&manifest, ram, NoTlb);
+    let storage = Storage::inline(&manifest);
+    let machine = Machine::boot_in(storage, &manifest, ram, NoTlb, Fill::AlreadyZero);
+    let mut machine = Cluster::of(machine);
     begin(&mut machine);
     Ok(machine)
 }
@@ -219,7 +238,7 @@ fn registers(outcome: &Outcome) -> [u64; 8] {
 }
 
 // A lend of the page at 40021000 to the second partition, but for the word that names the page.
-fn write_lend(machine: &mut Machine<Shifting>) {
+fn write_lend(machine: &mut Cluster<Shifting>) {
     let words = [
         (0x00, 0x8001),
         (0x18, 0x1_0000_0010),
@@ -229,7 +248,7 @@ fn write_lend(machine: &mut Machine<Shifting>) {
         (0x58, 1),
     ];
     for (place, value) in words {
-        let _ = machine.op(&store(u64::wrapping_add(0x4002_E000, place), value));
+        let _ = act(machine, &store(u64::wrapping_add(0x4002_E000, place), value));
     }
 }
 
@@ -238,11 +257,11 @@ fn write_lend(machine: &mut Machine<Shifting>) {
 fn a_descriptor_is_read_once(rt: HostRuntime) -> Result<(), Fail> {
     let mut machine = shifting_machine(rt.alloc(), NAMED, [0x4002_1000, 0x4002_2000])?;
     write_lend(&mut machine);
-    let outcome = machine.op_among_others(&call(0x8400_0072, 0x60, 0x60));
+    let outcome = act(&mut machine, &call(0x8400_0072, 0x60, 0x60));
     same(&rt, registers(&outcome)[0], 0x8400_0061);
-    same(&rt, word(machine.ram(), TX.0, NAMED), Some(0x4002_2000));
-    alike(&rt, machine.access(FIRST, PageNo(0x21)).is_some(), false);
-    alike(&rt, machine.access(FIRST, PageNo(0x22)).is_some(), true);
+    same(&rt, word(machine.machine().ram(), TX.0, NAMED), Some(0x4002_2000));
+    alike(&rt, machine.machine().access(FIRST, PageNo(0x21)).is_some(), false);
+    alike(&rt, machine.machine().access(FIRST, PageNo(0x22)).is_some(), true);
     Ok(())
 }
 
@@ -251,9 +270,9 @@ fn a_descriptor_is_read_once(rt: HostRuntime) -> Result<(), Fail> {
 fn a_bad_descriptor_is_read_once(rt: HostRuntime) -> Result<(), Fail> {
     let mut machine = shifting_machine(rt.alloc(), NAMED, [0x4003_1000, 0x4002_1000])?;
     write_lend(&mut machine);
-    let outcome = machine.op_among_others(&call(0x8400_0072, 0x60, 0x60));
+    let outcome = act(&mut machine, &call(0x8400_0072, 0x60, 0x60));
     same(&rt, registers(&outcome)[0], 0x8400_0060);
-    alike(&rt, machine.access(FIRST, PageNo(0x21)).is_some(), true);
+    alike(&rt, machine.machine().access(FIRST, PageNo(0x21)).is_some(), true);
     Ok(())
 }
 
@@ -262,21 +281,21 @@ fn a_bad_descriptor_is_read_once(rt: HostRuntime) -> Result<(), Fail> {
 fn a_message_is_read_once(rt: HostRuntime) -> Result<(), Fail> {
     let next = [0x8001_8002_0000_0018, 0x8001_8003_0000_0018];
     let mut machine = shifting_machine(rt.alloc(), RECEIVER, next)?;
-    let _ = machine.op(&store(0x4002_E010, 2));
-    let _ = machine.op(&store(0x4002_E018, 0x0707));
-    let outcome = machine.op_among_others(&call(0x8400_0086, 0, 0));
+    let _ = act(&mut machine, &store(0x4002_E010, 2));
+    let _ = act(&mut machine, &store(0x4002_E018, 0x0707));
+    let outcome = act(&mut machine, &call(0x8400_0086, 0, 0));
     same(&rt, registers(&outcome)[0], 0x8400_0061);
     same(
         &rt,
-        word(machine.ram(), TX.0, RECEIVER),
+        word(machine.machine().ram(), TX.0, RECEIVER),
         Some(0x8001_8003_0000_0018),
     );
     same(
         &rt,
-        word(machine.ram(), 0x3F, RECEIVER),
+        word(machine.machine().ram(), 0x3F, RECEIVER),
         Some(0x8001_8002_0000_0018),
     );
-    same(&rt, word(machine.ram(), 0x3F, 3), Some(0x0707));
-    same(&rt, word(machine.ram(), 0x4F, RECEIVER), Some(0));
+    same(&rt, word(machine.machine().ram(), 0x3F, 3), Some(0x0707));
+    same(&rt, word(machine.machine().ram(), 0x4F, RECEIVER), Some(0));
     Ok(())
 }

@@ -1,8 +1,10 @@
 // SPDX-License-Identifier: MIT OR Apache-2.0
 //! Interrupts: one may preempt the partition that runs, and FFA_RUN lets that go on where it was.
-ghost use Rattle.std.specs.Prelude.{◌≡◌, true};
+ghost use Rattle.std.specs.Option.{option_map};
+ghost use Rattle.std.specs.Prelude.{◌≡◌};
 ghost use Rattle.ffa_model.specs.Agreement.{Agrees};
-ghost use Rattle.ffa_model.specs.Processors.{interrupt, step_resuming, with_switch};
+ghost use Rattle.ffa_model.specs.declared.endpoint.EndpointId.{EndpointId};
+ghost use Rattle.ffa_model.specs.Processors.{interrupt, resumed_by, with_switch};
 ghost use Rattle.ffa_model.specs.Calls.{encode};
 ghost use Rattle.ffa_model.specs.declared.function.TheConstants.{FFA_INTERRUPT};
 ghost use Rattle.ffa_model.specs.declared.schedule.Status.TheVariants.{Blocked};
@@ -11,14 +13,13 @@ ghost use Rattle.ffa_model.specs.Sound.{MayGoOn, MayStop};
 ghost use Rattle.ffa_model.specs.SoundState.{IsSoundState};
 ghost use Rattle.ffa_laws.specs.OwnAccess.{AreApart};
 ghost use Rattle.ffa_spmc.specs.Cached.{AreWalks};
-ghost use Rattle.ffa_spmc.specs.Clustered.{IsEffected, IsEffectedAlone, IsEffectedAmong, in_state};
-ghost use Rattle.ffa_spmc.specs.Unowned.{KeepsUnowned};
+ghost use Rattle.ffa_spmc.specs.Clustered.{in_state};
 
 use super::Machine;
 use crate::storage::Store;
 use ffa_model::function::FFA_INTERRUPT;
-use ffa_model::{Effect, EndpointId, Op, Outcome, Reply, Status};
-use ffa_physmem::{Observed, PhysMem};
+use ffa_model::{EndpointId, Op, Outcome, Reply, Status};
+use ffa_physmem::PhysMem;
 use ffa_tlb::Translations;
 
 impl<M: PhysMem + Drop, T: Translations + Drop, S: Store> Machine<M, T, S> {
@@ -44,50 +45,21 @@ impl<M: PhysMem + Drop, T: Translations + Drop, S: Store> Machine<M, T, S> {
         interrupted(runner)
     }
 
-    /// Does one operation of the runner where partitions may be preempted: FFA_RUN of one that was lets it go on where it was,
-    /// and all else is `op`.
-    pub fn op_resuming(&mut self, op: &Op) -> Effect
-        ensures effect { result ≡ (step_resuming self.old.state op.now).effect }
-        ensures state { self.new.state ≡ (step_resuming self.old.state op.now).state }
-        // What `op` promises of an operation holds; or all but the run states is as it was.
-        ensures done { IsEffected self.old op.now result self.new }
-        ensures agrees { Agrees self.new.ram self.new.state }
-        ensures sound { IsSoundState self.new.state }
-        ensures walks { AreWalks self.new }
+    // The preempted partition that an operation of the runner lets go on, if it does.
+    #[inline(always)]
+    pub(crate) fn resumed_by(&self, op: &Op) -> Option<EndpointId>
+        ensures { option_map (λ (e : EndpointId). e.0) result ≡ resumed_by self.now.state op.now }
     {
-        let effect = self.operate_resuming(op);
-        // Proof step: the state is sound, and the tables give its access.
-        self.manager.holds();
-        effect
-    }
-
-    // The operation itself.
-    fn operate_resuming(&mut self, op: &Op) -> Effect
-        ensures effect { result ≡ (step_resuming self.old.state op.now).effect }
-        ensures state { self.new.state ≡ (step_resuming self.old.state op.now).state }
-        ensures done { IsEffected self.old op.now result self.new }
-    {
-        // Proof step: the state is sound, so that who was preempted may go on.
-        self.manager.holds();
-        match self.manager.resumed_by(op) {
-            Some(target) => self.resume(target),
-            None => {
-                let mut outcome = Outcome::Done;
-                self.op_apart(op, &mut outcome);
-                Effect::Outcome(outcome)
-            }
-        }
+        self.manager.resumed_by(op)
     }
 
     // The normal world is blocked, and a preempted partition goes on.
-    fn resume(&mut self, partition: EndpointId) -> Effect
+    pub(crate) fn resume(&mut self, partition: EndpointId)
         requires normal { self.old.state.runner ≡ 0 }
         requires goes { MayGoOn (schedule_of self.old.state) partition.0 }
-        ensures machine { self.new ≡ in_state self.old (with_switch self.old.state Blocked partition.0) }
-        ensures effect { result ≡ Effect.Resumed partition }
+        ensures { self.new ≡ in_state self.old (with_switch self.old.state Blocked partition.0) }
     {
         self.switch(Status::Blocked, partition);
-        Effect::Resumed(partition)
     }
 
     // What holds of every machine: the tables give the access of the state, which is sound, and no translation is stale.
@@ -108,38 +80,6 @@ impl<M: PhysMem + Drop, T: Translations + Drop, S: Store> Machine<M, T, S> {
         ensures { self.new ≡ in_state self.old (with_switch self.old.state status endpoint.0) }
     {
         self.manager.switch(status, endpoint);
-    }
-}
-
-impl<M: Observed + Drop, T: Translations + Drop, S: Store> Machine<M, T, S> {
-    /// The same while other processors of the runner may write to its TX, as `op_among_others` does it.
-    pub fn op_resuming_among_others(&mut self, op: &Op) -> Effect
-        ensures done { IsEffectedAmong self.old op.now result self.new }
-        // Where nobody else writes, it is done by what stands in memory.
-        ensures alone { M.is_alone ≡ true → IsEffectedAlone self.old.state op.now result self.new.state }
-        ensures unowned { KeepsUnowned self.old.state self.old.ram self.new.ram }
-        ensures agrees { Agrees self.new.ram self.new.state }
-        ensures sound { IsSoundState self.new.state }
-        ensures walks { AreWalks self.new }
-    {
-        let effect = self.operate_resuming_among_others(op);
-        // Proof step: the state is sound, and the tables give its access.
-        self.manager.holds();
-        effect
-    }
-
-    // The operation itself.
-    fn operate_resuming_among_others(&mut self, op: &Op) -> Effect
-        ensures done { IsEffectedAmong self.old op.now result self.new }
-        ensures alone { M.is_alone ≡ true → IsEffectedAlone self.old.state op.now result self.new.state }
-        ensures unowned { KeepsUnowned self.old.state self.old.ram self.new.ram }
-    {
-        // Proof step: the state is sound, so that who was preempted may go on.
-        self.manager.holds();
-        match self.manager.resumed_by(op) {
-            Some(target) => self.resume(target),
-            None => Effect::Outcome(self.op_among_others(op)),
-        }
     }
 }
 

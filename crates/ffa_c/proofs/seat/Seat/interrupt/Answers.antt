@@ -1,5 +1,5 @@
 -- SPDX-License-Identifier: MIT OR Apache-2.0
-use Rattle.std.proofs.Common.{◌≡◌, ◌∙◌, Some, arith, sym}
+use Rattle.std.proofs.Common.{◌≡◌, ◌∙◌, Some, sym}
 use Rattle.ffa_c.specs.Boarded.{cluster_of}
 use Rattle.ffa_c.proofs.Boards.{kept-kind}
 use Rattle.ffa_c.proofs.seat.Seat.interrupt.Goals as goal
@@ -8,7 +8,4 @@ pub returns-clause-done : goal.returns-clause-done
 returns-clause-done c =
     let new = c.interrupt.new.self in
     let was : c.args.self.now ≡ Some c.in-Some.board = sym c.self.view_is ∙ c.in-Some.is in
-    rw was (
-      λ past. absurd (omega (arith, past, c.requires.processor)),
-      λ within. (cluster_of new, kept-kind c.in-Some.board new c.in-Some.board.notices c.interrupt.ensures.kind c.interrupt.ensures.notices, c.interrupt.ensures.done),
-    )
+    rw was (cluster_of new, kept-kind c.in-Some.board new c.in-Some.board.notices c.interrupt.ensures.kind c.interrupt.ensures.notices, c.interrupt.ensures.done)

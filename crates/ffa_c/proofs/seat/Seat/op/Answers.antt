@@ -1,10 +1,11 @@
 -- SPDX-License-Identifier: MIT OR Apache-2.0
 use Rattle.std.proofs.Common.{◌≡◌, ◌∙◌, Some, sym}
-use Rattle.ffa_c.proofs.Boards.{kept-apart}
+use Rattle.ffa_c.specs.Boarded.{cluster_of}
+use Rattle.ffa_c.proofs.Boards.{kept-kind}
 use Rattle.ffa_c.proofs.seat.Seat.op.Goals as goal
 
 pub returns-clause-done : goal.returns-clause-done
 returns-clause-done c =
     let new = c.op.new.self in
     let was : c.args.self.now ≡ Some c.in-Some.board = sym c.self.view_is ∙ c.in-Some.is in
-    rw was (new.machine, kept-apart c.in-Some.board new c.op.ensures.processors c.op.ensures.kind c.op.ensures.notices, c.op.ensures.done)
+    rw was (cluster_of new, kept-kind c.in-Some.board new _ c.op.ensures.kind c.op.ensures.notices, c.op.ensures.done)

@@ -1,46 +1,38 @@
 -- SPDX-License-Identifier: MIT OR Apache-2.0
-use Rattle.std.proofs.Common.{◌≡◌, ◌∙◌, Some, ap}
-use Rattle.ffa_model.specs.declared.operation.Effect.{Effect}
+use Rattle.std.proofs.Common.{◌≡◌, ◌∙◌, ℕ, Bool, Some, ap, subst}
 use Rattle.ffa_model.specs.Notifications.{notifications_of}
-use Rattle.ffa_model.specs.Processors.{on, step_resuming}
-use Rattle.ffa_model.specs.State.{State}
-use Rattle.ffa_notify.specs.Noticed.{in_one_context, notice_asked, noticed, told_after}
+use Rattle.ffa_notify.specs.Noticed.{notice_asked}
 use Rattle.ffa_playable.specs.Bench.{Bench, after_op, effect_of}
-use Rattle.ffa_reasons.proofs.OnTurn.{on-turn, still-on-turn}
+use Rattle.ffa_spmc.specs.Clustered.{IsEffected}
+use Rattle.ffa_spmc.specs.Snapshot.{Snapshot}
+use Rattle.ffa_reasons.proofs.Answered.{effect-shown, state-left, told-then}
 use Rattle.ffa_reasons.proofs.several.ExplainedClusterPlayable.op.Goals as goal
 
 pub returns-clause-effect : goal.returns-clause-effect
 returns-clause-effect g c =
-    let own = c.self.inside.cluster in
-    let told = c.self.inside.told in
-    let op = c.args.op.now in
-    let one = in_one_context op in
-    let p = c.processor-processor.result in
-    let here = on own.processors p own.machine.state in
-    c.op_noticing.ensures.effect
-    ∙ ap (λ (s : State). noticed told (notifications_of s) (notice_asked here.runner op) (step_resuming here one).effect) c.op_noticing.ensures.state
-    ∙ ap (λ (s : State). noticed told (notifications_of (step_resuming s one).state) (notice_asked s.runner op) (step_resuming s one).effect)
-    (on-turn own.processors p own.machine.state c.processor-processor.ensures.number)
-    ∙ ap (λ (b : Bench). effect_of b op) c.self.view_is
+    let own = c.self.inside.cluster.machine in
+    let new = c.op.new.self.machine in
+    let done = subst (λ (shared : Bool). IsEffected shared own c.in_one_context.result c.op.new.effect new) g.met.M.Unshared.unshared c.op.ensures.done in
+    let asks = c.notice_asked-asked.ensures ∙ ap (λ (e : ℕ). notice_asked e c.args.op.now) (c.runner.ensures ∙ ap (λ (m : Snapshot). m.state.runner) c.machine.ensures) in
+    let pending = c.bitmaps.ensures ∙ ap (λ (m : Snapshot). notifications_of m.state) c.machine-2.ensures in
+    c.answer.ensures.effect
+    ∙ effect-shown own new c.self.inside.told c.args.op.now c.in_one_context.result c.notice_asked-asked.result c.bitmaps.result.now c.op.new.effect c.in_one_context.ensures asks pending done
+    ∙ ap (λ (b : Bench). effect_of b c.args.op.now) c.self.view_is
 
 pub returns-clause-bench : goal.returns-clause-bench
 returns-clause-bench g c =
-    let own = c.self.inside.cluster in
+    let own = c.self.inside.cluster.machine in
     let its = c.self.inside in
-    let op = c.args.op.now in
-    let one = in_one_context op in
-    let p = c.processor-processor.result in
-    let is = c.processor-processor.ensures.number in
-    let here = on own.processors p own.machine.state in
-    let same = on-turn own.processors p own.machine.state is in
-    let state = c.op_noticing.ensures.state ∙ ap (λ (s : State). (step_resuming s one).state) same in
-    let processors = c.op_noticing.ensures.processors ∙ still-on-turn own.processors p own.machine.state is in
-    let told = c.op_noticing.ensures.told
-    ∙ ap (λ (s : State). told_after its.told (notifications_of s) (notice_asked here.runner op)) c.op_noticing.ensures.state
-    ∙ ap (λ (s : State). told_after its.told (notifications_of (step_resuming s one).state) (notice_asked s.runner op)) same in
-    let begun : Bench = record { state = own.machine.state; several = Some (record { count = its.count; processors = own.processors; told = its.told }) } in
-    let new = c.op_noticing.new in
-    let ended : Bench = record { state = new.self.machine.state; several = Some (record { count = its.count; processors = new.self.processors; told = new.told }) } in
-    let done : ended ≡ after_op begun op =
+    let new = c.op.new.self.machine in
+    let done = subst (λ (shared : Bool). IsEffected shared own c.in_one_context.result c.op.new.effect new) g.met.M.Unshared.unshared c.op.ensures.done in
+    let asks = c.notice_asked-asked.ensures ∙ ap (λ (e : ℕ). notice_asked e c.args.op.now) (c.runner.ensures ∙ ap (λ (m : Snapshot). m.state.runner) c.machine.ensures) in
+    let pending = c.bitmaps.ensures ∙ ap (λ (m : Snapshot). notifications_of m.state) c.machine-2.ensures in
+    let state = state-left own new its.told c.args.op.now c.in_one_context.result c.notice_asked-asked.result c.bitmaps.result.now c.op.new.effect c.in_one_context.ensures asks pending done in
+    let told = c.answer.ensures.told
+    ∙ told-then own new its.told c.args.op.now c.in_one_context.result c.notice_asked-asked.result c.bitmaps.result.now c.op.new.effect c.in_one_context.ensures asks pending done in
+    let processors = c.op.ensures.processors in
+    let begun : Bench = record { state = own.state; several = Some (record { count = its.count; processors = its.cluster.processors; told = its.told }) } in
+    let ended : Bench = record { state = new.state; several = Some (record { count = its.count; processors = c.op.new.self.processors; told = c.answer.new.self }) } in
+    let done : ended ≡ after_op begun c.args.op.now =
     λ i. record { state = state i; several = Some (record { count = its.count; processors = processors i; told = told i }) } in
-    done ∙ ap (λ (b : Bench). after_op b op) c.self.view_is
+    done ∙ ap (λ (b : Bench). after_op b c.args.op.now) c.self.view_is

@@ -15,8 +15,8 @@ use Rattle.ffa_spmc.proofs.Laws.{access-now, confidential-now, integrity-now, no
 use Rattle.ffa_spmc.proofs.Mixtures.{op-mixed}
 use Rattle.ffa_spmc.proofs.machine.Machine.do_op.Goals as goal
 
-pub returns-clause-done : goal.returns-clause-done
-returns-clause-done g c =
+pub returns : goal.returns
+returns g c =
     let old = c.args.self.now in
     let op = c.args.op.now in
     let done = c.operate.ensures in
@@ -24,7 +24,7 @@ returns-clause-done g c =
     let apart = subst (λ (seen : Snapshot). AreApart seen.state) c.self.view_is c.holds.ensures.apart in
     let access = access-now old.state sound apart op in
     let agrees = subst (λ (seen : Snapshot). Agrees seen.ram seen.state) c.self-2.view_is c.holds-2.ensures.agrees in
-    record {
+    record { done = record {
       outcome = done.outcome;
       operated = record {
         state = done.state;
@@ -46,9 +46,10 @@ returns-clause-done g c =
         others = done.others;
         telling = done.telling;
       };
+      sound = subst (λ (seen : Snapshot). IsSoundState seen.state) c.self-2.view_is c.holds-2.ensures.sound;
       laws = record {
-        alone = step-now old.state sound op;
-        whole = integrity-now old.state sound op;
+        one_step = step-now old.state sound op;
+        integrity = integrity-now old.state sound op;
         silence = silence-now old.state sound op;
         confidential = confidential-now old.state sound apart op;
         never_grow =
@@ -59,4 +60,4 @@ returns-clause-done g c =
         silent_offers = open-now old.state sound apart op;
         reads_no_more = reads-now old.state sound op;
       };
-    }
+    } }

@@ -3,7 +3,7 @@ use Rattle.std.proofs.Common.{◌∙◌, ap}
 use Rattle.ffa_model.specs.Processors.{turned}
 use Rattle.ffa_spmc.specs.Clustered.{Clustered}
 use Rattle.ffa_spmc.proofs.Clusters.{goes-next, kept-next, placed-next}
-use Rattle.ffa_spmc.proofs.cluster.Cluster.turn_to.Goals as goal
+use Rattle.ffa_spmc.proofs.cluster.Cluster.select.Goals as goal
 
 pub switch-requires-clause-goes : goal.switch-requires-clause-goes
 switch-requires-clause-goes g c =
