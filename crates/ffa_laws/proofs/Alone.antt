@@ -1,7 +1,6 @@
 -- SPDX-License-Identifier: MIT OR Apache-2.0
 -- What an endpoint has alone stays its own, alone and whole, over an operation of another and over a run.
-use Rattle.std.proofs.Common.{◌≡◌, ◌≢◌, ◌∙◌, ℕ, Bool, true, false, cond, List, [], ◌∷◌, ◌++◌, map, Option, Some, None, refl, sym, ap, inl, inr}
-use Rattle.std.specs.Prelude.{◌==◌, ◌&&◌, is_none}
+use Rattle.std.proofs.Common.{◌≡◌, ◌≢◌, ◌∙◌, ℕ, Bool, true, false, cond, List, [], ◌∷◌, ◌++◌, map, Option, Some, None, refl, sym, ap, inl, inr, ◌==◌, ◌&&◌, is_none}
 use Rattle.std.specs.List.{list_all}
 use Rattle.std.specs.FinMap as finite
 use Rattle.std.specs.Option.{option_map_or}
@@ -71,9 +70,8 @@ module _ (s : State) (steady : IsSteady s) (e p : ℕ) (owned : owner_of s p ≡
       held = handle_at-reheld s steady its.asked.handle its.of its.is.there (retrieve.holders s x its) p ∙ unnamed
 
       of : (kind : Kind) → handle_at (retrieve.taken_as s x its kind) p ≡ None
-      of Share = held
-      of Lend = held
       of Donate = unnamed-still s steady its.asked.handle p unnamed
+      of _ = held
 
   unnamed-relinquished : (o : Option RelinquishDesc) → handle_at (relinquished s o) p ≡ None
   unnamed-relinquished None = unnamed
@@ -140,9 +138,7 @@ not_filled e s p rx (Call x) its quiet = elim (cases_Bool (is_send2 (decode x) &
       absurd (true≢false (sym quiet ∙ ap (λ b. are_quiet_events b (call_events e s (decode x))) (its known of) ∙ told-filled e s p (decode x) is fills))
   | inr not ↦ not
 ]
-not_filled e s p rx (Load address size) its quiet = refl
-not_filled e s p rx (Store address size value) its quiet = refl
-not_filled e s p rx (Fetch address) its quiet = refl
+not_filled e s p rx _ its quiet = refl
 
 -- ---- over a run
 quiet-parts : (rx : Bool) (xs ys : List Item) → list_all (is_quiet rx) (xs ++ ys) ≡ true → (list_all (is_quiet rx) xs ≡ true) × (list_all (is_quiet rx) ys ≡ true)

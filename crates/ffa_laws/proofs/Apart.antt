@@ -1,11 +1,10 @@
 -- SPDX-License-Identifier: MIT OR Apache-2.0
 -- Nobody is offered what it has sent itself: no send descriptor says so, and each operation keeps it so.
-use Rattle.std.proofs.Common.{◌≡◌, ◌∙◌, ℕ, zero, suc, Bool, true, false, cond, not, List, Option, Some, None, refl, sym, subst}
-use Rattle.std.specs.Prelude.{◌==◌, ◌&&◌, ◌||◌}
+use Rattle.std.proofs.Common.{◌≡◌, ◌∙◌, ℕ, zero, suc, Bool, true, false, cond, List, Option, Some, None, refl, sym, subst, ◌==◌, ◌&&◌, ◌||◌}
 use Rattle.std.specs.List.{list_any}
 use Rattle.std.specs.FinMap as finite
 use Rattle.std.specs.Ordering.{nat_cmp}
-use Rattle.std.proofs.lemmas.Bool.{and_parts}
+use Rattle.std.proofs.lemmas.Bool.{and_parts, not-true}
 use Rattle.std.proofs.lemmas.Option.{none-some, same_Some}
 use Rattle.ffa_model.specs.declared.descriptor.RelinquishDesc.{RelinquishDesc}
 use Rattle.ffa_model.specs.declared.endpoint.Endpoint.{Endpoint}
@@ -51,16 +50,12 @@ nobody sender (suc n) test f each all =
     let (here, rest) = and_parts (test 0) _ all in
     (λ i. each 0 here i || nobody sender n (λ j. test (suc j)) (λ j. f (suc j)) (λ j. each (suc j)) rest i)
 
-negated : (b : Bool) → not b ≡ true → b ≡ false
-negated true is = sym is
-negated false is = refl
-
 body-apart : (kind : Kind) (b : Versioned) → is_send_body kind b ≡ true → list_any (λ (r : Receiver). r.endpoint.0 == sender_field b) (receivers_in b (receiver_count b)) ≡ false
 unfolding is_send_body
 body-apart kind b is =
     let (lists, total) = and_parts _ _ is in
     let (accesses, ranges) = and_parts _ _ lists in
-    nobody (sender_field b) (receiver_count b) (is_access_beside kind b) (receiver_in b) (λ i access. (let (one, distinct) = and_parts _ _ access in negated _ (and_parts _ _ one).1)) accesses
+    nobody (sender_field b) (receiver_count b) (is_access_beside kind b) (receiver_in b) (λ i access. (let (one, distinct) = and_parts _ _ access in not-true _ (and_parts _ _ one).1)) accesses
 
 pub descriptor-apart : (kind : Kind) (b : Versioned) (r : SendRecord) → send_of kind b ≡ Some r → list_any (λ (x : Receiver). x.endpoint.0 == r.sender) r.receivers ≡ false
 unfolding send_of
@@ -107,9 +102,8 @@ module _ (s : State) (apart : AreApart s) where
       held = with-one s.transactions its.asked.handle (holding its.of s.runner (retrieve.right s x its)) apart (apart its.asked.handle its.of its.is.there)
 
       of : (kind : Kind) → AreApart (retrieve.taken_as s x its kind)
-      of Share = held
-      of Lend = held
       of Donate = without-one s.transactions its.asked.handle apart
+      of _ = held
 
   apart-relinquished : (o : Option RelinquishDesc) → AreApart (relinquished s o)
   apart-relinquished None = apart

@@ -1,16 +1,14 @@
 -- SPDX-License-Identifier: MIT OR Apache-2.0
 -- All that an event says, but for a message, goes into the view.
-use Rattle.std.proofs.Common.{◌≡◌, ◌≢◌, ◌∙◌, ℕ, ◌+◌, ◌-◌, ◌/◌, ◌%◌, ◌^◌, ◌≤◌, ◌<◌, suc, length, get_or, Bool, true, false, cond, List, [], ◌∷◌, ◌++◌, map, take, Option, Some, None, is_some, refl, sym, ap, subst, arith, inl, inr}
-use Rattle.std.specs.Prelude.{◌==◌, ◌&&◌, nat_le, nat_lt, not}
+use Rattle.std.proofs.Common.{◌≡◌, ◌≢◌, ◌∙◌, ℕ, ◌+◌, ◌-◌, ◌/◌, ◌%◌, ◌^◌, ◌≤◌, ◌<◌, suc, length, get_or, Bool, true, false, cond, List, [], ◌∷◌, ◌++◌, map, take, Option, Some, None, is_some, refl, sym, ap, subst, arith, inl, inr, ◌==◌, ◌&&◌, nat_le, nat_lt, not, length-take}
 use Rattle.std.specs.List.{list_all}
 use Rattle.std.specs.Option.{option_and_then}
 use Rattle.byteorder.specs.Endian.{little_bytes}
 use Rattle.std.proofs.lemmas.Bool.{and_parts, cases_Bool, eq-eqb, eqb-true, false≢true, leb-true, true≢false}
-use Rattle.std.proofs.lemmas.List.{length-take}
 use Rattle.ffa_model.specs.declared.operation.Op.{Op}
-use Rattle.ffa_model.specs.declared.operation.Op.TheVariants.{Call, Load, Store, Fetch}
+use Rattle.ffa_model.specs.declared.operation.Op.TheVariants.{Call, Store}
 use Rattle.ffa_model.specs.declared.operation.Size.{Size}
-use Rattle.ffa_model.specs.declared.operation.Size.TheVariants.{B1, B2, B4, B8}
+use Rattle.ffa_model.specs.declared.operation.Size.TheVariants.{B1}
 use Rattle.ffa_model.specs.declared.rights.Kind.{Kind}
 use Rattle.ffa_model.specs.declared.rights.Kind.TheVariants.{Share, Lend, Donate}
 use Rattle.ffa_model.specs.declared.call.Call as calls
@@ -91,9 +89,7 @@ some≢nothing same = cc
 -- ---- a write
 some-bytes : (size : Size) (value : ℕ) → little_bytes (size_of size) value ≡ [] → ⊥
 some-bytes B1 value none = some≢nothing none
-some-bytes B2 value none = some≢nothing none
-some-bytes B4 value none = some≢nothing none
-some-bytes B8 value none = some≢nothing none
+some-bytes _ value none = some≢nothing none
 
 -- an endpoint reaches no address below RAM
 above-base : (e : ℕ) (s : State) (address : ℕ) → is_some (access_at s e address) ≡ true → s.ram_base ≤ address
@@ -232,6 +228,5 @@ module _ (e : ℕ) (s : State) where
 
     pub are-bare : (op : Op) → AreBare e v (events e s op)
     are-bare (Call x) = bare-call (decode x) (decode-fits x)
-    are-bare (Load address size) = tt
     are-bare (Store address size value) = bare-store address size value
-    are-bare (Fetch address) = tt
+    are-bare _ = tt

@@ -1,7 +1,6 @@
 -- SPDX-License-Identifier: MIT OR Apache-2.0
 -- Pages without bytes: what doesn't ask for these bytes is as before, and an operation of who can't read them is alike.
-use Rattle.std.proofs.Common.{◌≡◌, ◌∙◌, ℕ, zero, suc, ◌+◌, ◌-◌, ◌/◌, ◌%◌, ◌^◌, Bool, true, false, cond, List, [], length, get_or, set, take, drop, Option, Some, None, is_some, refl, sym, ap, subst}
-use Rattle.std.specs.Prelude.{◌==◌, ◌&&◌, nat_le, nat_lt}
+use Rattle.std.proofs.Common.{◌≡◌, ◌∙◌, ℕ, zero, suc, ◌+◌, ◌-◌, ◌/◌, ◌%◌, ◌^◌, Bool, true, false, cond, List, [], length, get_or, set, take, drop, Option, Some, None, is_some, refl, sym, ap, subst, ◌==◌, ◌&&◌, nat_le, nat_lt}
 use Rattle.std.specs.Option.{option_and_then, option_map, option_map_or}
 use Rattle.std.proofs.Math.Path.{fun_ext}
 use Rattle.std.proofs.lemmas.Bool.{eq-eqb, false≢true}
@@ -171,9 +170,7 @@ IsReadAlike op tx other = Unit {0}
 
 op-read-same : (op : Op) (tx other : List ℕ) → tx ≡ other → IsReadAlike op tx other
 op-read-same (Call x) tx other same = read-same (decode x) tx other same
-op-read-same (Load address size) tx other same = tt
-op-read-same (Store address size value) tx other same = tt
-op-read-same (Fetch address) tx other same = tt
+op-read-same _ tx other same = tt
 
 -- ---- a state, and one with other bytes in pages that are hidden
 module _ (s : State) (hides : ℕ → Bool) where
@@ -391,10 +388,9 @@ module _ (s : State) (hides : ℕ → Bool) where
     IsSameAt address n = is_some (access_at s s.runner address) ≡ true → number_at o address n ≡ number_at s address n
 
     abbrev pub IsSameTo : Op → Type 0
-    IsSameTo (Call x) = Unit {0}
     IsSameTo (Load address size) = IsSameAt address (size_of size)
-    IsSameTo (Store address size value) = Unit {0}
     IsSameTo (Fetch address) = IsSameAt address 4
+    IsSameTo _ = Unit {0}
 
     accessed-o : (f g : Option FaultKind) (new next : State) (told said : Outcome) → f ≡ g → (g ≡ None → told ≡ said) → blank hides new ≡ blank hides next
         → Steps (accessed f o new told) (accessed g s next said)
@@ -491,10 +487,9 @@ module _ (s : State) (hides : ℕ → Bool) where
               ]
 
       shown-to : (op : Op) → IsSameTo s hides b.pages (blanked-twice hides s.pages) op
-      shown-to (Call x) = tt
       shown-to (Load address size) = shown-at address (size_of size)
-      shown-to (Store address size value) = tt
       shown-to (Fetch address) = shown-at address 4
+      shown-to _ = tt
 
       pub outcome-b : (op : Op) → Steps s hides (step b op) (step s op)
       outcome-b op = outcome-o s hides b.pages (blanked-twice hides s.pages) op (op-read-same op _ _ tx-b) (shown-to op)

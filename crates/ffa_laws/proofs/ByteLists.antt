@@ -1,11 +1,9 @@
 -- SPDX-License-Identifier: MIT OR Apache-2.0
 -- Lists of bytes, and what is written with them.
-use Rattle.std.proofs.Common.{◌≡◌, ◌∙◌, ℕ, zero, suc, ◌+◌, ◌*◌, ◌<◌, ◌≤◌, Bool, true, false, cond, List, [], ◌∷◌, ◌++◌, take, drop, length, refl, arith, length-append, length-drop}
-use Rattle.std.specs.Prelude.{filter, nat_lt}
+use Rattle.std.proofs.Common.{◌≡◌, ◌∙◌, ℕ, zero, suc, ◌+◌, ◌<◌, ◌≤◌, Bool, true, false, cond, List, [], ◌∷◌, ◌++◌, take, drop, length, refl, arith, length-append, length-drop, filter, nat_lt, length-take-le}
 use Rattle.std.specs.Int.{byte_at, bytes_low_first}
 use Rattle.std.specs.List.{enumerate_from, flat_map, list_all}
 use Rattle.std.proofs.lemmas.Bool.{and_from, and_parts, lt-ltb}
-use Rattle.std.proofs.lemmas.List.{length-take-le}
 use Rattle.std.proofs.lemmas.List.Folds.{list_all-append}
 use Rattle.ffa_model.specs.Ram.{with_bytes}
 use Rattle.ffa_model.specs.SoundState.{are_bytes}
@@ -42,12 +40,6 @@ pub all-enumerated : {X : Type 0} (test : X → Bool) (k : ℕ) (xs : List X) �
 all-enumerated test k [] all = refl
 all-enumerated test k (x ∷ xs) all = let (here, rest) = and_parts (test x) (list_all test xs) all in and_from (test x) _ here (all-enumerated test (k + 1) xs rest)
 
-pub length-filter-le : {X : Type 0} (keep : X → Bool) (xs : List X) → length (filter keep xs) ≤ length xs
-length-filter-le keep [] = omega arith
-length-filter-le keep (x ∷ xs) =
-    let later = length-filter-le keep xs in
-    elim (keep x) as (λ b. length (cond b (x ∷ filter keep xs) (filter keep xs)) ≤ suc (length xs)) [ true ↦ omega (arith, later) | false ↦ omega (arith, later) ]
-
 -- the bytes of a number
 pub number-bytes : (i n x : ℕ) → are_bytes (bytes_low_first i n x)
 number-bytes i zero x = refl
@@ -75,15 +67,6 @@ module _ (page : List ℕ) (at : ℕ) (bytes : List ℕ) where
 
 -- pieces of elements that pass a test, at most of this length each, or of bytes
 module _ {X : Type 0} (piece : X → List ℕ) (test : X → Bool) where
-  pub length-pieces : (size : ℕ) (xs : List X) → list_all test xs ≡ true → ((x : X) → test x ≡ true → length (piece x) ≤ size) → length (flat_map piece xs) ≤ length xs * size
-  length-pieces size [] all each = omega arith
-  length-pieces size (x ∷ xs) all each =
-      let (passes, rest) = and_parts (test x) (list_all test xs) all in
-      let here = each x passes in
-      let later = length-pieces size xs rest each in
-      let both = length-append (piece x) (flat_map piece xs) in
-      omega arith
-
   pub bytes-pieces : (xs : List X) → list_all test xs ≡ true → ((x : X) → test x ≡ true → are_bytes (piece x)) → are_bytes (flat_map piece xs)
   bytes-pieces [] all each = refl
   bytes-pieces (x ∷ xs) all each =

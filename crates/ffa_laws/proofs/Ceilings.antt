@@ -1,7 +1,6 @@
 -- SPDX-License-Identifier: MIT OR Apache-2.0
 -- Own rights and ceilings of a transaction that the viewer sent or is offered: a view has them.
-use Rattle.std.proofs.Common.{◌≡◌, ◌∙◌, ℕ, Bool, true, false, length, Option, Some, refl, ap}
-use Rattle.std.specs.Prelude.{◌==◌, ◌||◌, filter}
+use Rattle.std.proofs.Common.{◌≡◌, ◌∙◌, ℕ, Bool, true, length, Option, Some, refl, ap, ◌==◌, ◌||◌, filter}
 use Rattle.std.specs.List.{list_all}
 use Rattle.std.specs.Option.{option_and_then, option_map}
 use Rattle.ffa_model.specs.declared.rights.Rights.{Rights}
@@ -15,12 +14,8 @@ use Rattle.ffa_laws.specs.View.{view, involves, is_near, kept, seen_by}
 use Rattle.ffa_model.proofs.KeptDonate.{same-tests}
 use Rattle.ffa_model.proofs.Accesses.{length-map_at}
 use Rattle.ffa_laws.proofs.Maps.{first_one}
-use Rattle.ffa_laws.proofs.Views.{view-page}
+use Rattle.ffa_laws.proofs.Views.{view-page, or_true}
 use Rattle.ffa_model.proofs.Kept.{ceiling-held}
-
-pub or_true : (b : Bool) → (b || true) ≡ true
-or_true true = refl
-or_true false = refl
 
 -- an open transaction is the one at its pages
 pub at-named : (s : State) → IsSteady s → (h : ℕ) (t : Transaction) → transaction_of s h ≡ Some t → (p : ℕ) → names s t.ranges p ≡ true → transaction_at s p ≡ Some t

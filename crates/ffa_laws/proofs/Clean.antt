@@ -1,15 +1,13 @@
 -- SPDX-License-Identifier: MIT OR Apache-2.0
 -- What is told readably brings no bytes into pages that an endpoint can't read.
-use Rattle.std.proofs.Common.{arith, ◌+◌, ◌*◌, ◌≡◌, ◌∙◌, ℕ, zero, suc, ◌-◌, ◌/◌, ◌%◌, Bool, true, false, cond, List, [], ◌∷◌, ◌++◌, take, drop, length, get_or, set, Option, Some, None, is_some, refl, sym, ap, subst}
-use Rattle.std.specs.Prelude.{◌==◌, ◌&&◌, is_none, not}
+use Rattle.std.proofs.Common.{arith, ◌+◌, ◌*◌, ◌≡◌, ◌∙◌, ℕ, zero, suc, ◌-◌, ◌/◌, ◌%◌, Bool, true, false, cond, List, [], ◌∷◌, ◌++◌, take, drop, length, get_or, set, Option, Some, None, is_some, refl, sym, ap, subst, ◌==◌, ◌&&◌, is_none, not, append_assoc}
 use Rattle.std.specs.List.{list_all}
 use Rattle.std.specs.Option.{option_and_then, option_map_or}
 use Rattle.std.proofs.lemmas.Bool.{and_parts, eq-eqb, false≢true, true≢false}
 use Rattle.std.proofs.lemmas.Bool.Decides.{nat_tests}
-use Rattle.std.proofs.lemmas.List.{append_assoc}
 use Rattle.byteorder.specs.Endian.{little_bytes}
 use Rattle.ffa_model.specs.declared.operation.Op.{Op}
-use Rattle.ffa_model.specs.declared.operation.Op.TheVariants.{Call, Load, Store, Fetch}
+use Rattle.ffa_model.specs.declared.operation.Op.TheVariants.{Call, Store}
 use Rattle.ffa_model.specs.declared.call.Call as calls
 use Rattle.ffa_model.specs.declared.call.Call.TheVariants.{MemRelinquish, MsgSend2}
 use Rattle.ffa_model.specs.declared.descriptor.RelinquishDesc.{RelinquishDesc}
@@ -275,7 +273,6 @@ module _ (e : ℕ) (s : State) where
 
     clean-op : (op : Op) → AreClean v (all_readably e s (events e s op))
     clean-op (Call x) = clean-call (decode x)
-    clean-op (Load address size) = tt
     clean-op (Store address size value) = passed (store_fault s address (size_of size)) (writes e s address (little_bytes (size_of size) value)) (of (is_near e s ((address - s.ram_base) / 4096)))
       where
         of : (near : Bool) → AreClean v (all_readably e s (where_true near (Wrote address (little_bytes (size_of size) value) ∷ [])))
@@ -285,7 +282,7 @@ module _ (e : ℕ) (s : State) where
             by : (c : Bool) → hidden ((address - s.ram_base) / 4096) ≡ c → AreClean v (where_true (not c) (Wrote address (little_bytes (size_of size) value) ∷ []) ++ [])
             by true is = tt
             by false is = (is, tt)
-    clean-op (Fetch address) = tt
+    clean-op _ = tt
 
     -- so the view without the bytes that e can't read stays without them
     pub heard-blank : (op : Op) → blank hidden (apply_all e v (all_readably e s (events e s op))) ≡ apply_all e v (all_readably e s (events e s op))

@@ -1,15 +1,12 @@
 -- SPDX-License-Identifier: MIT OR Apache-2.0
 -- The laws of an operation of any endpoint: the runner's are those of a step, and another's access is a step where it runs.
-use Rattle.std.proofs.Common.{◌≡◌, ◌≢◌, ◌∙◌, ℕ, ◌-◌, ◌/◌, ◌%◌, Bool, true, false, cond, List, [], ◌∷◌, ◌++◌, Option, Some, None, refl, sym, ap, subst, inr}
-use Rattle.std.specs.Prelude.{◌==◌, ◌&&◌, not}
+use Rattle.std.proofs.Common.{◌≡◌, ◌≢◌, ◌∙◌, ℕ, ◌-◌, ◌/◌, ◌%◌, Bool, true, false, cond, List, [], ◌∷◌, ◌++◌, Option, Some, None, refl, sym, ap, subst, inr, ◌==◌, ◌&&◌, not, eq-eqb, eqb-true, ne_eqb, true≢false}
 use Rattle.std.specs.List.{list_all}
-use Rattle.std.proofs.lemmas.Bool.{eq-eqb, eqb-true, ne_eqb, true≢false}
 use Rattle.byteorder.specs.Endian.{little_bytes}
 use Rattle.ffa_model.specs.declared.operation.FaultKind.{FaultKind}
 use Rattle.ffa_model.specs.declared.operation.Op.{Op}
 use Rattle.ffa_model.specs.declared.operation.Op.TheVariants.{Call, Load, Store, Fetch}
 use Rattle.ffa_model.specs.declared.operation.Outcome.TheVariants.{Data, Done}
-use Rattle.ffa_model.specs.declared.rights.Rights.{Rights}
 use Rattle.ffa_model.specs.Rights.{is_within, may_store}
 use Rattle.ffa_model.specs.SoundState.{IsSoundState}
 use Rattle.ffa_model.specs.State.{State, owner_of, is_known}
@@ -38,12 +35,11 @@ use Rattle.ffa_laws.proofs.Laws.{one_step, other-step, own-step, steady-step}
 use Rattle.ffa_laws.proofs.Meets.{met-store}
 use Rattle.ffa_laws.proofs.MemoryLaws.{other-fetch, other-load, other-store}
 use Rattle.ffa_laws.proofs.News.{news-store, silence}
-use Rattle.ffa_laws.proofs.OwnAccesses.{own_access}
+use Rattle.ffa_laws.proofs.OwnAccesses.{own_access, same-within}
 use Rattle.ffa_laws.proofs.Readings.{confidential, other-reading}
 use Rattle.ffa_laws.proofs.Rows.{public-step, rows}
 use Rattle.ffa_laws.proofs.SoundOperations.{step-sound, store-sound}
 use Rattle.ffa_laws.proofs.SoundPages.{store-aligned}
-use Rattle.ffa_laws.proofs.Within.{within-same}
 use Rattle.ffa_laws.proofs.Writers.{only-store, only_writers}
 
 -- the runner's operation is a step, and another's isn't
@@ -114,9 +110,6 @@ heard-alike f s e w None true address bytes = of (not (is_unreadable s f ((addre
 heard-alike f s e w None false address bytes = refl
 heard-alike f s e w (Some fault) near address bytes = refl
 
-same-within : (a b : Option Rights) → a ≡ b → is_within a b ≡ true
-same-within a b same = ap (is_within a) (sym same) ∙ within-same a
-
 -- AN ENDPOINT THAT DOESN'T RUN
 module _ (s : State) (e : ℕ) where
   abbrev there : State
@@ -150,31 +143,23 @@ module _ (s : State) (e : ℕ) where
   others-elsewhere (Fetch address) f = ap (as_run_by s.runner) (other-fetch f there address)
 
   rows-elsewhere : (op : Op) (f : ℕ) → list_all (may_be_told op) (events_elsewhere f s e op) ≡ true
-  rows-elsewhere (Call x) f = refl
-  rows-elsewhere (Load address size) f = refl
   rows-elsewhere (Store address size value) f = rows f there (Store address size value)
-  rows-elsewhere (Fetch address) f = refl
+  rows-elsewhere _ f = refl
 
   news-elsewhere : (op : Op) (f : ℕ) → AreNews f (view f s) (events_elsewhere f s e op)
-  news-elsewhere (Call x) f = tt
-  news-elsewhere (Load address size) f = tt
   news-elsewhere (Store address size value) f = news-store f (view f s) there address (size_of size) (little_bytes (size_of size) value)
-  news-elsewhere (Fetch address) f = tt
+  news-elsewhere _ f = tt
 
   met-elsewhere : (op : Op) (f : ℕ) → AreMet f (view f s) (events_elsewhere f s e op)
-  met-elsewhere (Call x) f = tt
-  met-elsewhere (Load address size) f = tt
   met-elsewhere (Store address size value) f =
       met-alike f (view f there) s.runner (store_fault there address (size_of size)) _ address (little_bytes (size_of size) value)
       (met-store f there address (size_of size) (little_bytes (size_of size) value))
-  met-elsewhere (Fetch address) f = tt
+  met-elsewhere _ f = tt
 
   bare-elsewhere : (op : Op) (f : ℕ) → AreBare f (view f s) (events_elsewhere f s e op)
-  bare-elsewhere (Call x) f = tt
-  bare-elsewhere (Load address size) f = tt
   bare-elsewhere (Store address size value) f =
       bare-alike f (view f there) s.runner (store_fault there address (size_of size)) _ address (little_bytes (size_of size) value) (bare-store f there address size value)
-  bare-elsewhere (Fetch address) f = tt
+  bare-elsewhere _ f = tt
 
   -- the public part and the endpoints stay
   public-elsewhere : (op : Op) → public_part (step_elsewhere s e op).state ≡ public_part s

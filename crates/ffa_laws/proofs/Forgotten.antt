@@ -1,7 +1,6 @@
 -- SPDX-License-Identifier: MIT OR Apache-2.0
 -- What a borrower writes into a loan that it zeroes as it gives it up: nothing depends on it, and nobody else is told of it.
-use Rattle.std.proofs.Common.{◌≡◌, ◌≢◌, ◌∙◌, ℕ, ◌-◌, ◌/◌, ◌%◌, ◌^◌, Bool, true, false, cond, List, [], ◌∷◌, ◌++◌, map, Option, Some, None, refl, sym, ap}
-use Rattle.std.specs.Prelude.{◌==◌, ◌&&◌, ◌||◌, nat_le, nat_lt, not}
+use Rattle.std.proofs.Common.{◌≡◌, ◌≢◌, ◌∙◌, ℕ, ◌-◌, ◌/◌, ◌%◌, ◌^◌, Bool, true, false, cond, List, [], ◌∷◌, ◌++◌, map, Option, Some, None, refl, sym, ap, ◌==◌, ◌&&◌, ◌||◌, nat_le, nat_lt, not}
 use Rattle.std.specs.List.{list_all}
 use Rattle.std.specs.Option.{option_map_or}
 use Rattle.std.proofs.lemmas.Bool.{and_parts, false≢true, ne_eqb}
@@ -76,7 +75,6 @@ module _ (s : State) (h : ℕ) where
 
     untold : (v : State) → blank hides v ≡ blank hides s → (op : Op) → is_in_loan s h op ≡ true → all_readably e v (events e v op) ≡ []
     untold v same (Call x) is = absurd (false≢true is)
-    untold v same (Load address size) is = refl
     untold v same (Store address size value) is = passed (store_fault v address (size_of size)) (is_near e v (target v address))
       where
         bytes : List ℕ
@@ -86,7 +84,7 @@ module _ (s : State) (h : ℕ) where
         passed None true = ap (λ c. where_true (not c) (Wrote address bytes ∷ []) ++ []) (away-second hides s v same clear e away (target v address) (in-loan v same address is))
         passed None false = refl
         passed (Some fault) near = refl
-    untold v same (Fetch address) is = refl
+    untold v same _ is = refl
 
     unseen : (v : State) → blank hides v ≡ blank hides s → (op : Op) → is_in_loan s h op ≡ true → messages e (events e v op) ≡ []
     unseen v same op is = sym (heard-messages e v (events e v op)) ∙ ap (messages e) (untold v same op is)

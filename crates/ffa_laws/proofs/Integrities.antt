@@ -1,7 +1,6 @@
 -- SPDX-License-Identifier: MIT OR Apache-2.0
 -- A page that its owner has alone stays as it is, whatever another endpoint does, but for a message into RX.
-use Rattle.std.proofs.Common.{◌≡◌, ◌≢◌, ◌∙◌, ℕ, ◌-◌, ◌/◌, ◌%◌, true, false, cond, List, [], get_or, Option, Some, None, is_some, refl, sym, ap, inl, inr}
-use Rattle.std.specs.Prelude.{Bool, is_none, ◌==◌, ◌&&◌, nat_le, nat_lt, ◌^◌}
+use Rattle.std.proofs.Common.{◌≡◌, ◌≢◌, ◌∙◌, ℕ, ◌-◌, ◌/◌, ◌%◌, true, false, cond, List, [], get_or, Option, Some, None, is_some, refl, sym, ap, inl, inr, Bool, is_none, ◌==◌, ◌&&◌, nat_le, nat_lt, ◌^◌}
 use Rattle.std.specs.Option.{option_and_then, option_map_or}
 use Rattle.std.proofs.lemmas.Bool.{and_from, cases_Bool, cases_eq, eq-eqb, eqb-true, false≢true, true≢false}
 use Rattle.byteorder.specs.Endian.{little_bytes}
@@ -164,7 +163,7 @@ module _ (s : State) (steady : IsSteady s) (e p : ℕ) (owned : owner_of s p ≡
       (delivered_elsewhere (is_indirect_message op) not_bound)
       (λ x. memory-page (decode x))
 
-abbrev bytes_of : Option Page → List ℕ
+abbrev pub bytes_of : Option Page → List ℕ
 bytes_of page = option_map_or (λ (q : Page). q.bytes) page []
 
 pub integrity : (s : State) (op : Op) → IsSteady s → Integrity s op

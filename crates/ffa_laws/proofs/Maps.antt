@@ -1,9 +1,7 @@
 -- SPDX-License-Identifier: MIT OR Apache-2.0
 -- Lists and finite maps that are read by their keys.
-use Rattle.std.proofs.Common.{◌≡◌, ◌∙◌, ℕ, suc, zero, ◌<◌, Bool, true, false, cond, List, [], ◌∷◌, length, map, get_or, set, Option, Some, None, is_some, refl, sym, ap, arith}
-use Rattle.std.specs.Prelude.{◌||◌}
+use Rattle.std.proofs.Common.{◌≡◌, ◌∙◌, ℕ, suc, zero, ◌<◌, Bool, true, false, cond, List, [], ◌∷◌, length, map, get_or, set, Option, Some, None, is_some, refl, sym, ap, arith, ◌||◌}
 use Rattle.std.proofs.Math.Path.{fun_ext}
-use Rattle.std.proofs.lemmas.Bool.{cases_Bool}
 use Rattle.std.proofs.lemmas.Bool.Decides.{nat_tests}
 use Rattle.std.specs.List.{find, list_any}
 use Rattle.std.specs.Option.{option_map}
@@ -14,6 +12,7 @@ use Rattle.ffa_model.specs.State.{Transaction}
 use Rattle.ffa_model.specs.Lists.{map_at}
 use Rattle.ffa_laws.specs.View.{map_values}
 use Rattle.ffa_model.specs.Access.{first_handle}
+use Rattle.ffa_model.proofs.Handles.{find-misses, find-passes}
 
 pub get_or-map_at : {X Y : Type 0} (f : ℕ → X → Y) (xs : List X) (i : ℕ) (d : X) (e : Y) → i < length xs → get_or (map_at f xs) i e ≡ f i (get_or xs i d)
 get_or-map_at f [] i d e lt = absurd (omega arith)
@@ -47,10 +46,9 @@ map_at-twice f g (x ∷ xs) = λ i. f 0 (g 0 x) ∷ map_at-twice (λ j. f (suc j
 pub map_at-alike : {X Y Z : Type 0} (f : ℕ → X → Z) (g : ℕ → Y → Z) (xs : List X) (ys : List Y) (d : X) (e : Y) → length xs ≡ length ys
     → ((i : ℕ) → f i (get_or xs i d) ≡ g i (get_or ys i e)) → map_at f xs ≡ map_at g ys
 map_at-alike f g [] [] d e each same = refl
-map_at-alike f g [] (y ∷ ys) d e each same = absurd (omega arith)
-map_at-alike f g (x ∷ xs) [] d e each same = absurd (omega arith)
 map_at-alike f g (x ∷ xs) (y ∷ ys) d e each same =
     λ i. same 0 i ∷ map_at-alike (λ j. f (suc j)) (λ j. g (suc j)) xs ys d e (omega arith) (λ j. same (suc j)) i
+map_at-alike f g _ _ d e each same = absurd (omega arith)
 
 -- a list that a function leaves as it is at each index
 pub map_at-id : {X : Type 0} (f : ℕ → X → X) (xs : List X) (d : X) → ((i : ℕ) → f i (get_or xs i d) ≡ get_or xs i d) → map_at f xs ≡ xs
@@ -76,14 +74,6 @@ find_no : (p : ℕ → Bool) (xs : List ℕ) → ((y : ℕ) → p y ≡ false) �
 find_no p [] never = refl
 find_no p (y ∷ xs) never = grind (arith, never y, find_no p xs never)
 
-find_some : (p : ℕ → Bool) (xs : List ℕ) (x : ℕ) → find p xs ≡ Some x → p x ≡ true
-find_some p [] x e = grind arith
-find_some p (y ∷ xs) x e = grind (arith, cases_Bool (p y), find_some p xs x)
-
-find_none : (p : ℕ → Bool) (xs : List ℕ) (x : ℕ) → find p xs ≡ None → list_any (eq_by_cmp nat_cmp x) xs ≡ true → p x ≡ false
-find_none p [] x e here = grind arith
-find_none p (y ∷ xs) x e here = grind (arith, nat_tests, cases_Bool (p y), find_none p xs x)
-
 module _ (test : Option Transaction → Bool) (m : finite.FinMap nat_cmp Transaction) where
   some_where : test None ≡ false → (h : ℕ) → test (finite.get m h) ≡ true → is_some (finite.get m h) ≡ true
   some_where none h is = grind (arith)
@@ -95,13 +85,13 @@ module _ (test : Option Transaction → Bool) (m : finite.FinMap nat_cmp Transac
   first_no never = find_no (λ k. test (finite.get m k)) (finite.keys m) never
 
   pub first_some : (h : ℕ) → first_handle test m ≡ Some h → test (finite.get m h) ≡ true
-  first_some h e = find_some (λ k. test (finite.get m k)) (finite.keys m) h e
+  first_some h e = find-passes (λ k. test (finite.get m k)) (finite.keys m) h e
 
   pub first_none : test None ≡ false → first_handle test m ≡ None → (k : ℕ) → test (finite.get m k) ≡ false
   first_none none e k =
       elim (finite.get m k) as (λ o. finite.get m k ≡ o → test (finite.get m k) ≡ false) [
         | None ↦ λ is. rw is none
-        | Some t ↦ λ is. find_none (λ k. test (finite.get m k)) (finite.keys m) k e (sym (finite.contains_key-keys m k) ∙ ap is_some is)
+        | Some t ↦ λ is. find-misses (λ k. test (finite.get m k)) (finite.keys m) k e (sym (finite.contains_key-keys m k) ∙ ap is_some is)
       ] refl
 
 -- ---- a map whose values are changed

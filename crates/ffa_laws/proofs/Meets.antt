@@ -1,14 +1,13 @@
 -- SPDX-License-Identifier: MIT OR Apache-2.0
 -- Each event that is told is about something that stands in the view which it meets.
-use Rattle.std.proofs.Common.{◌≡◌, ◌∙◌, ℕ, zero, suc, length, ◌+◌, ◌-◌, ◌/◌, ◌%◌, ◌^◌, ◌<◌, Bool, true, false, cond, List, [], ◌∷◌, ◌++◌, Option, Some, None, is_some, refl, sym, ap, arith, inl, inr}
-use Rattle.std.specs.Prelude.{◌==◌, ◌&&◌, filter, nat_le, nat_lt, not, slice_index}
+use Rattle.std.proofs.Common.{◌≡◌, ◌∙◌, ℕ, zero, suc, length, ◌+◌, ◌-◌, ◌/◌, ◌%◌, ◌^◌, ◌<◌, Bool, true, false, cond, List, [], ◌∷◌, ◌++◌, Option, Some, None, is_some, refl, sym, ap, arith, inl, inr, ◌==◌, ◌&&◌, filter, nat_le, nat_lt, not, slice_index}
 use Rattle.std.specs.List.{list_all}
 use Rattle.std.specs.Option.{option_and_then, option_map}
 use Rattle.byteorder.specs.Endian.{little_bytes}
 use Rattle.std.proofs.lemmas.Bool.{and_parts, cases_Bool, eq-eqb, eqb-true, false≢true, true≢false}
 use Rattle.ffa_model.specs.declared.descriptor.RelinquishDesc.{RelinquishDesc}
 use Rattle.ffa_model.specs.declared.operation.Op.{Op}
-use Rattle.ffa_model.specs.declared.operation.Op.TheVariants.{Call, Load, Store, Fetch}
+use Rattle.ffa_model.specs.declared.operation.Op.TheVariants.{Call, Store}
 use Rattle.ffa_model.specs.declared.call.Call as calls
 use Rattle.ffa_model.specs.declared.call.Call.TheVariants.{MemRelinquish, NotificationSet, MsgSend2}
 use Rattle.ffa_model.specs.declared.call.NotificationBits.{NotificationBits}
@@ -221,6 +220,5 @@ module _ (e : ℕ) (s : State) (sound : IsSoundState s) (known : is_known s e �
 
   pub are-met : (op : Op) → AreMet e v (events e s op)
   are-met (Call x) = met-call (decode x) (decode-fits x)
-  are-met (Load address size) = tt
   are-met (Store address size value) = met-store e s address (size_of size) (little_bytes (size_of size) value)
-  are-met (Fetch address) = tt
+  are-met _ = tt

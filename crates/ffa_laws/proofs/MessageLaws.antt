@@ -1,9 +1,7 @@
 -- SPDX-License-Identifier: MIT OR Apache-2.0
 -- Indirect messages: in the sender's view, and to others.
-use Rattle.std.proofs.Common.{◌≡◌, ◌≢◌, ◌∙◌, ℕ, ◌+◌, true, false, List, [], ◌∷◌, ◌++◌, length, Option, Some, None, is_some, refl, sym, ap, arith, length-set}
-use Rattle.std.specs.Prelude.{◌==◌, not, nat_le}
+use Rattle.std.proofs.Common.{◌≡◌, ◌≢◌, ◌∙◌, ℕ, ◌+◌, true, false, List, [], ◌∷◌, ◌++◌, length, Option, Some, None, is_some, refl, sym, ap, arith, length-set, ◌==◌, not, nat_le, eq-eqb, eqb-true, true≢false}
 use Rattle.std.specs.Option.{option_map_or}
-use Rattle.std.proofs.lemmas.Bool.{eq-eqb, eqb-true, true≢false}
 use Rattle.std.proofs.lemmas.Bool.Decides.{nat_tests}
 use Rattle.ffa_model.proofs.Runs.{flat-run-same}
 use Rattle.ffa_model.specs.declared.refusal.Refusal.TheVariants.{BuffersMissing, FlagsReserved, HeaderReserved, SenderIsAnother, ReceiverUnknown, ReceiverIsCaller, MessageInHeader, MessageEmpty, MessageTooLong, MessagesUnsent, MessagesUnreceived, ReceiverBuffersMissing, ReceiverRxFull, ReceiverRxSmall}
@@ -30,7 +28,7 @@ use Rattle.ffa_laws.proofs.Told.{IsTold}
 use Rattle.ffa_laws.proofs.Raised.{own-bitmaps, pending-applied, raised, raised-absent, raised-hidden, raised-own}
 use Rattle.ffa_laws.proofs.BufferLaws.{far-repaged, own-buffers, seen-full, seen-room, seen-some, steady-filled, view-buffers, view-filled_other}
 
-not-same : (a b : ℕ) → not (a == b) ≡ true → a ≢ b
+pub not-same : (a b : ℕ) → not (a == b) ≡ true → a ≢ b
 not-same a b is same = grind (arith, nat_tests)
 
 module _ (s : State) (steady : IsSteady s) where

@@ -1,20 +1,19 @@
 -- SPDX-License-Identifier: MIT OR Apache-2.0
 -- Each event that is told changes the view, but for messages, and for bytes and pending bits that are told again.
-use Rattle.std.proofs.Common.{◌≡◌, ◌≢◌, ◌∙◌, ℕ, zero, suc, ◌+◌, ◌≤◌, ◌<◌, inl, inr, Bool, true, false, cond, List, [], ◌∷◌, ◌++◌, map, Option, Some, None, is_some, refl, sym, ap, subst, arith}
+use Rattle.std.proofs.Common.{◌≡◌, ◌≢◌, ◌∙◌, ℕ, zero, suc, ◌+◌, ◌≤◌, ◌<◌, inl, inr, Bool, true, false, cond, List, [], ◌∷◌, ◌++◌, map, Option, Some, None, is_some, refl, sym, ap, subst, arith, ◌==◌, ◌&&◌, ◌||◌, filter, is_none, not, slice_index}
 use Rattle.byteorder.specs.Endian.{little_bytes}
-use Rattle.std.specs.Prelude.{◌==◌, ◌&&◌, ◌||◌, filter, is_none, not, slice_index}
 use Rattle.std.specs.List.{list_all}
 use Rattle.std.specs.Option.{option_map}
 use Rattle.std.specs.Ordering.{eq_by_cmp, nat_cmp}
 use Rattle.std.specs.Cmp.Lexicographic.{nat_list_cmp_total, slice_cmp}
 use Rattle.std.specs.FinSet as finite_set
-use Rattle.std.proofs.lemmas.Bool.{and_parts, cases_Bool, eq-eqb, false≢true, true≢false}
+use Rattle.std.proofs.lemmas.Bool.{and_parts, cases_Bool, eq-eqb, false≢true, true≢false, not-true}
 use Rattle.std.proofs.lemmas.Option.{none-some, same_Some}
 use Rattle.ffa_model.specs.declared.descriptor.RelinquishDesc.{RelinquishDesc}
 use Rattle.ffa_model.specs.declared.operation.ErrorCode.{ErrorCode}
 use Rattle.ffa_model.specs.declared.operation.FaultKind.{FaultKind}
 use Rattle.ffa_model.specs.declared.operation.Op.{Op}
-use Rattle.ffa_model.specs.declared.operation.Op.TheVariants.{Call, Load, Store, Fetch}
+use Rattle.ffa_model.specs.declared.operation.Op.TheVariants.{Call, Store}
 use Rattle.ffa_model.specs.declared.rights.Rights.{Rights}
 use Rattle.ffa_model.specs.declared.rights.Kind.{Kind}
 use Rattle.ffa_model.specs.declared.rights.Kind.TheVariants.{Share, Lend, Donate}
@@ -173,15 +172,11 @@ public-applied e v (Held h f right) not = elim (transaction_of v h) as (λ o. pu
 public-applied e v (Public values) not = absurd (true≢false not)
 public-applied e v event not = refl
 
-negated : (b : Bool) → not b ≡ true → b ≡ false
-negated true is = sym is
-negated false is = refl
-
 public-told : (e : ℕ) (es : List Event) (v : State) → list_all (λ event. not (is_public event)) es ≡ true → public_part (apply_all e v es) ≡ public_part v
 public-told e [] v all = refl
 public-told e (x ∷ es) v all =
     let (here, rest) = and_parts (not (is_public x)) (list_all (λ event. not (is_public event)) es) all in
-    public-told e es (apply e v x) rest ∙ public-applied e v x (negated (is_public x) here)
+    public-told e es (apply e v x) rest ∙ public-applied e v x (not-true (is_public x) here)
 
 pub news-public : (e : ℕ) (s next : State) (told : List Event) → list_all (λ event. not (is_public event)) told ≡ true
     → view e next ≡ apply_all e (view e s) (told ++ public_change s next) → AreNews e (apply_all e (view e s) told) (public_change s next)
@@ -256,9 +251,8 @@ module _ (e : ℕ) (s : State) (steady : IsSteady s) where
           some≢none (sym (held-itself its.of s.runner (retrieve.right s x its)) ∙ same ∙ unheld (held_by its.of s.runner) its.is.unheld))
 
       of : (kind : Kind) → transaction_of v its.asked.handle ≡ Some its.of → AreNews e v (taking kind its.asked.handle s.runner (retrieve.right s x its) ∷ [])
-      of Share there = held there
-      of Lend there = held there
       of Donate there = news-closed its.asked.handle its.of there
+      of _ there = held there
 
   news-released : first_failure (memory_relinquish s).guards ≡ None → AreNews e v (releases e s (relinquish_read s))
   news-released none = read (relinquish_read s) none
@@ -308,7 +302,7 @@ module _ (e : ℕ) (s : State) (steady : IsSteady s) where
       (are-filter e receiver (class_of e) false v.bound new ks (λ k is. seen-bound receiver k ∙ unbound k is)))
 
   news-binds : (receiver sender : ℕ) (ks : List ℕ) → Rising 0 ks → AreNews e v (binds e s receiver sender ks)
-  news-binds receiver sender ks = news-new receiver sender ks _ (λ k is. negated (is_bound (notifications_of s) receiver (class_of e) k e) is)
+  news-binds receiver sender ks = news-new receiver sender ks _ (λ k is. not-true (is_bound (notifications_of s) receiver (class_of e) k e) is)
 
   news-unbinds : (receiver sender : ℕ) (ks : List ℕ) → Rising 0 ks
       → AreNews e v (where_true (sender == e) (map (λ k. Unbound receiver (class_of e) k) (filter (λ k. is_bound (notifications_of s) receiver (class_of e) k e) ks)))
@@ -361,9 +355,8 @@ module _ (e : ℕ) (s : State) (steady : IsSteady s) where
 
   news-op : is_known s e ≡ true → s.runner ≢ e → (op : Op) → AreNews e v (events e s op)
   news-op known other (Call x) = news-call known other (decode x)
-  news-op known other (Load address size) = tt
   news-op known other (Store address size value) = news-store e v s address (size_of size) (little_bytes (size_of size) value)
-  news-op known other (Fetch address) = tt
+  news-op known other _ = tt
 
 pub silence : (s : State) (op : Op) → IsSteady s → Silence s op
 silence s op steady =

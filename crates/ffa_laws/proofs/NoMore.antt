@@ -1,7 +1,6 @@
 -- SPDX-License-Identifier: MIT OR Apache-2.0
 -- An operation reads no more than the bytes that it is said to read.
-use Rattle.std.proofs.Common.{◌≡◌, ◌∙◌, ℕ, zero, suc, ◌+◌, ◌-◌, ◌*◌, ◌/◌, ◌<◌, ◌≤◌, Bool, true, false, List, [], ◌++◌, length, take, Option, Some, None, is_some, refl, sym, ap, subst, arith, inl, inr, ◌⊎◌, length-take}
-use Rattle.std.specs.Prelude.{nat_le}
+use Rattle.std.proofs.Common.{◌≡◌, ◌∙◌, ℕ, zero, suc, ◌+◌, ◌-◌, ◌*◌, ◌/◌, ◌<◌, ◌≤◌, Bool, true, false, List, [], ◌++◌, length, take, Option, Some, None, is_some, refl, sym, ap, subst, arith, inl, inr, ◌⊎◌, length-take, nat_le}
 use Rattle.std.specs.List.{flat_map}
 use Rattle.std.specs.Option.{option_map, option_map_or}
 use Rattle.std.proofs.Math.Seq.{take-append-add}
@@ -12,7 +11,7 @@ use Rattle.byteorder.specs.Numbers.{little_from-take}
 use Rattle.ffa_model.specs.declared.call.Call as calls
 use Rattle.ffa_model.specs.declared.call.Call.TheVariants.{MemDonate, MemLend, MemShare, MemRetrieve, MemRelinquish, MsgSend2}
 use Rattle.ffa_model.specs.declared.operation.Op.{Op}
-use Rattle.ffa_model.specs.declared.operation.Op.TheVariants.{Call, Load, Store, Fetch}
+use Rattle.ffa_model.specs.declared.operation.Op.TheVariants.{Call, Load, Fetch}
 use Rattle.ffa_model.specs.DescriptorPlaces.{u16_at, u32_at, u64_at}
 use Rattle.ffa_model.specs.Lists.{is_in_run, listed, run}
 use Rattle.ffa_model.specs.Memory.{page_bytes, run_bytes}
@@ -175,15 +174,12 @@ module _ (s t : State) (named : ℕ → Bool) (beside : AreBeside s t named) whe
 
     op-read : (op : Op) → AreReadSame s o op → IsReadAlike op (tx_bytes o s.runner) (tx_bytes s s.runner)
     op-read (Call x) read = call-read (decode x) read
-    op-read (Load address size) read = tt
-    op-read (Store address size value) read = tt
-    op-read (Fetch address) read = tt
+    op-read _ read = tt
 
   same-to : (op : Op) → AreReadSame s o op → IsSameTo s named t.pages pages-beside op
-  same-to (Call x) read = tt
   same-to (Load address size) read = λ some. read
-  same-to (Store address size value) read = tt
   same-to (Fetch address) read = λ some. read
+  same-to _ read = tt
 
   -- an operation is alike
   steps-alike : IsSoundState s → IsSoundState t → (op : Op) → AreReadSame s t op → Steps s named (step t op) (step s op)

@@ -1,14 +1,12 @@
 -- SPDX-License-Identifier: MIT OR Apache-2.0
 -- Notifications: in the runner's view, and to others.
-use Rattle.std.proofs.Common.{◌≡◌, ◌≢◌, ◌∙◌, ℕ, zero, suc, ◌<◌, Bool, true, false, cond, List, [], ◌∷◌, ◌++◌, map, length, set, refl, sym, ap, subst, arith}
-use Rattle.std.specs.Prelude.{◌==◌, ◌||◌, ◌&&◌, filter, nat_le, not}
+use Rattle.std.proofs.Common.{◌≡◌, ◌≢◌, ◌∙◌, ℕ, zero, suc, ◌<◌, Bool, true, false, cond, List, [], ◌∷◌, ◌++◌, map, length, set, refl, sym, ap, subst, arith, ◌==◌, ◌||◌, ◌&&◌, filter, nat_le, not}
 use Rattle.std.specs.List.{list_all, list_any}
 use Rattle.std.specs.Ordering.{eq_by_cmp, nat_cmp}
 use Rattle.std.specs.Cmp.Lexicographic.{slice_cmp}
 use Rattle.std.specs.FinSet as finite_set
 use Rattle.std.proofs.Math.Path.{fun_ext}
-use Rattle.std.proofs.lemmas.Bool.{cases_Bool, and_parts, eq-eqb, eqb-true, false≢true, ne_eqb, true≢false}
-use Rattle.std.proofs.lemmas.Bool.Decides.{nat_tests}
+use Rattle.std.proofs.lemmas.Bool.{cases_Bool, and_parts, eq-eqb, eqb-true, false≢true, ne_eqb, true≢false, or_left, or_right}
 use Rattle.std.proofs.lemmas.List.{set-get_or}
 use Rattle.ffa_model.specs.declared.call.Reply.{Reply}
 use Rattle.ffa_model.specs.declared.call.Reply.TheVariants as replies
@@ -32,9 +30,7 @@ use Rattle.ffa_model.proofs.Sets.{Bits, among, contains-less, contains-more, con
 use Rattle.ffa_model.proofs.Accesses.{length-map_at}
 use Rattle.ffa_laws.proofs.Bitmaps.{among-each, bound-all, retained-both, retained-commute, retained-within, seen-less, seen-more, unbound-all, unseen-less, unseen-more}
 use Rattle.ffa_laws.proofs.Raised.{bitmaps-seen, own-bitmaps, raised, raised-absent, raised-hidden, raised-own}
-
-not-same : (a b : ℕ) → not (a == b) ≡ true → a ≢ b
-not-same a b is same = grind (arith, nat_tests)
+use Rattle.ffa_laws.proofs.MessageLaws.{not-same}
 
 -- what e sees of bindings and of pending bits
 abbrev bound_to : ℕ → List ℕ → Bool
@@ -42,14 +38,6 @@ bound_to e x = receiver_of_entry x == e || sender_of_entry x == e
 
 abbrev pending_to : ℕ → List ℕ → Bool
 pending_to e x = receiver_of_entry x == e
-
-or_first : (a b : Bool) → a ≡ true → (a || b) ≡ true
-or_first true b is = refl
-or_first false b is = absurd (false≢true is)
-
-or_second : (a b : Bool) → b ≡ true → (a || b) ≡ true
-or_second true b is = refl
-or_second false b is = is
 
 and_second : (a b : Bool) → b ≡ true → (a && b) ≡ a
 and_second true b is = is
@@ -92,10 +80,10 @@ module _ (s : State) (steady : IsSteady s) where
       contains-retained s.bound (bound_to s.runner) (binding f class bit g) ∙ and_second (finite_set.contains s.bound (binding f class bit g)) (bound_to s.runner (binding f class bit g)) mine
 
   received-seen : (class bit g : ℕ) → is_bound nv s.runner class bit g ≡ is_bound n s.runner class bit g
-  received-seen class bit g = bound-seen s.runner class bit g (or_first (s.runner == s.runner) (g == s.runner) (eq-eqb s.runner s.runner refl))
+  received-seen class bit g = bound-seen s.runner class bit g (or_left (s.runner == s.runner) (g == s.runner) (eq-eqb s.runner s.runner refl))
 
   sent-seen : (f class bit : ℕ) → is_bound nv f class bit s.runner ≡ is_bound n f class bit s.runner
-  sent-seen f class bit = bound-seen f class bit s.runner (or_second (f == s.runner) (s.runner == s.runner) (eq-eqb s.runner s.runner refl))
+  sent-seen f class bit = bound-seen f class bit s.runner (or_right (f == s.runner) (s.runner == s.runner) (eq-eqb s.runner s.runner refl))
 
   pending-seen : (class bit : ℕ) → is_pending nv s.runner class bit ≡ is_pending n s.runner class bit
   pending-seen class bit =
@@ -164,7 +152,7 @@ module _ (s : State) (steady : IsSteady s) where
     entry k = binding s.runner (class_of sender) k sender
 
     mine : (x : List ℕ) → among x (map entry ks) ≡ true → bound_to s.runner x ≡ true
-    mine x is = among-each (λ y. bound_to s.runner y ≡ true) entry ks x (λ k. or_first (s.runner == s.runner) (sender == s.runner) (eq-eqb s.runner s.runner refl)) is
+    mine x is = among-each (λ y. bound_to s.runner y ≡ true) entry ks x (λ k. or_left (s.runner == s.runner) (sender == s.runner) (eq-eqb s.runner s.runner refl)) is
 
     pub own-bind : IsOwn s (notification_bind v its) (notification_bind s its)
     own-bind = (
@@ -336,11 +324,11 @@ module _ (e : ℕ) (s : State) where
       unseen g differs x is = among-each (λ y. bound_to e y ≡ false) (bound_as g) its_bits x (λ k. (let away : (s.runner == e) ≡ false = ne_eqb s.runner e other in λ i. away i || differs i)) is
 
       seen-own : (x : List ℕ) → among x (map (bound_as e) its_bits) ≡ true → bound_to e x ≡ true
-      seen-own x is = among-each (λ y. bound_to e y ≡ true) (bound_as e) its_bits x (λ k. or_second (s.runner == e) (e == e) (eq-eqb e e refl)) is
+      seen-own x is = among-each (λ y. bound_to e y ≡ true) (bound_as e) its_bits x (λ k. or_right (s.runner == e) (e == e) (eq-eqb e e refl)) is
 
       -- what is bound to e, e sees
       seen-bound : (k : ℕ) → finite_set.contains (view e s).bound (bound_as e k) ≡ is_bound (notifications_of s) s.runner (class_of e) k e
-      seen-bound k = contains-retained s.bound (bound_to e) (bound_as e k) ∙ and_second (finite_set.contains s.bound (bound_as e k)) _ (or_second (s.runner == e) (e == e) (eq-eqb e e refl))
+      seen-bound k = contains-retained s.bound (bound_to e) (bound_as e k) ∙ and_second (finite_set.contains s.bound (bound_as e k)) _ (or_right (s.runner == e) (e == e) (eq-eqb e e refl))
 
       abbrev is_old : ℕ → Bool
       is_old k = is_bound (notifications_of s) s.runner (class_of e) k e
@@ -410,11 +398,11 @@ module _ (e : ℕ) (s : State) where
     -- all bindings of the normal world to e go
     listed-among : (test : ℕ → Bool) (m : ℕ) (g : ℕ → ℕ) (f : ℕ → List ℕ) (k : ℕ) → k < m → test (g k) ≡ true → among (f (g k)) (map f (filter test (listed m g))) ≡ true
     listed-among test zero g f k lt is = absurd (omega arith)
-    listed-among test (suc m) g f zero lt is = ap (λ b. among (f (g 0)) (map f (cond b (g 0 ∷ filter test (listed m (λ i. g (suc i)))) (filter test (listed m (λ i. g (suc i))))))) is ∙ or_first _ _ (same-itself (f (g 0)))
+    listed-among test (suc m) g f zero lt is = ap (λ b. among (f (g 0)) (map f (cond b (g 0 ∷ filter test (listed m (λ i. g (suc i)))) (filter test (listed m (λ i. g (suc i))))))) is ∙ or_left _ _ (same-itself (f (g 0)))
     listed-among test (suc m) g f (suc k) lt is =
         let later = listed-among test m (λ i. g (suc i)) f k (omega arith) is in
         elim (test (g 0)) as (λ b. among (f (g (suc k))) (map f (cond b (g 0 ∷ filter test (listed m (λ i. g (suc i)))) (filter test (listed m (λ i. g (suc i)))))) ≡ true) [
-          | true ↦ or_second (eq_by_cmp (slice_cmp nat_cmp) (f (g (suc k))) (f (g 0))) _ later
+          | true ↦ or_right (eq_by_cmp (slice_cmp nat_cmp) (f (g (suc k))) (f (g 0))) _ later
           | false ↦ later
         ]
 

@@ -1,7 +1,6 @@
 -- SPDX-License-Identifier: MIT OR Apache-2.0
 -- Nobody's access changes but the runner's, and the runner's grows and shrinks only by certain calls.
-use Rattle.std.proofs.Common.{◌≡◌, ◌≢◌, ◌∙◌, ℕ, ◌-◌, ◌/◌, ◌%◌, Bool, true, false, cond, Option, Some, None, refl, sym, ap, subst, inl, inr}
-use Rattle.std.specs.Prelude.{◌==◌, ◌&&◌, is_none}
+use Rattle.std.proofs.Common.{◌≡◌, ◌≢◌, ◌∙◌, ℕ, ◌-◌, ◌/◌, ◌%◌, Bool, true, false, cond, Option, Some, None, refl, sym, ap, subst, inl, inr, ◌==◌, ◌&&◌, is_none}
 use Rattle.std.specs.Option.{option_and_then, option_map_or}
 use Rattle.std.specs.FinMap as finite
 use Rattle.std.specs.Ordering.{nat_cmp}
@@ -60,7 +59,7 @@ record Own (s t : State) (gives takes : Bool) : Type 0 where
   pub shrinks : IsApart s.runner s → (p : ℕ) → takes ≡ false → is_within (access s s.runner p) (access t s.runner p) ≡ true
   pub keeps : IsApart s.runner s → (p : ℕ) → IsSameOrNone (access s s.runner p) (access t s.runner p)
 
-same-within : (a b : Option Rights) → a ≡ b → is_within a b ≡ true
+pub same-within : (a b : Option Rights) → a ≡ b → is_within a b ≡ true
 same-within a b same = ap (is_within a) (sym same) ∙ within-same a
 
 none-within : (a b : Option Rights) → a ≡ None → is_within a b ≡ true
@@ -325,9 +324,8 @@ module _ (s : State) (steady : IsSteady s) where
     before-own = of u.kind refl
       where
         of : (kind : Kind) → u.kind ≡ kind → Own s (retrieve.taken_as s x its kind) true false
-        of Share is = held-own
-        of Lend is = held-own
         of Donate is = given-own is
+        of _ is = held-own
 
     retrieved-own : Own s (memory_retrieve s x).state true false
     retrieved-own =

@@ -1,17 +1,16 @@
 -- SPDX-License-Identifier: MIT OR Apache-2.0
 -- The laws of interrupts and of operations of several processors: who runs is public, and nothing else changes beside a step.
-use Rattle.std.proofs.Common.{◌≡◌, ◌≢◌, ◌∙◌, ℕ, ◌<◌, ◌≤◌, Bool, true, false, cond, [], ◌++◌, length, Option, Some, None, refl, sym, ap, subst, arith, inl, inr}
-use Rattle.std.specs.Prelude.{◌==◌}
+use Rattle.std.proofs.Common.{◌≡◌, ◌≢◌, ◌∙◌, ℕ, ◌<◌, ◌≤◌, Bool, true, false, cond, [], ◌++◌, length, Option, Some, None, refl, sym, ap, subst, arith, inl, inr, ◌==◌}
 use Rattle.std.proofs.lemmas.Bool.{and_parts, cases_eq, eq-eqb, eqb-true, false≢true, ne_eqb}
 use Rattle.std.proofs.lemmas.Option.{none-some, same_Some}
 use Rattle.ffa_model.specs.declared.call.Call.TheVariants.{Run}
 use Rattle.ffa_model.specs.declared.call.Call as calls
 use Rattle.ffa_model.specs.declared.operation.Effect.TheVariants as effects
 use Rattle.ffa_model.specs.declared.operation.Op.{Op}
-use Rattle.ffa_model.specs.declared.operation.Op.TheVariants.{Call, Load, Store, Fetch}
+use Rattle.ffa_model.specs.declared.operation.Op.TheVariants.{Call}
 use Rattle.ffa_model.specs.declared.operation.Outcome.{Outcome}
 use Rattle.ffa_model.specs.declared.schedule.Status.{Status}
-use Rattle.ffa_model.specs.declared.schedule.Status.TheVariants.{Running, Waiting, Yielded, Blocked, Preempted, RunsElsewhere}
+use Rattle.ffa_model.specs.declared.schedule.Status.TheVariants.{Running, Blocked, Preempted, RunsElsewhere}
 use Rattle.ffa_model.specs.Registers.{decode}
 use Rattle.ffa_model.specs.Calls.{Stepped, replied}
 use Rattle.ffa_model.specs.declared.function.TheConstants.{FFA_INTERRUPT}
@@ -73,9 +72,7 @@ one_interrupt s = record {
 -- ---- a preempted partition goes on
 pub resumed-view : (e : ℕ) (s : State) (op : Op) → resumed_by (view e s) op ≡ resumed_by s op
 resumed-view e s (Call x) = refl
-resumed-view e s (Load address size) = refl
-resumed-view e s (Store address size value) = refl
-resumed-view e s (Fetch address) = refl
+resumed-view e s _ = refl
 
 resumed-alike : (e : ℕ) (s t : State) (op : Op) → view e t ≡ view e s → resumed_by t op ≡ resumed_by s op
 resumed-alike e s t op same = sym (resumed-view e t op) ∙ ap (λ (v : State). resumed_by v op) same ∙ resumed-view e s op
@@ -180,12 +177,8 @@ interrupt_never_grows s steady = of (s.runner == 0)
 
 -- ---- sound states
 is-preempted : (status : Status) → is_preempted status ≡ true → status ≡ Preempted
-is-preempted Running is = absurd (false≢true is)
-is-preempted Waiting is = absurd (false≢true is)
-is-preempted Yielded is = absurd (false≢true is)
-is-preempted Blocked is = absurd (false≢true is)
 is-preempted Preempted is = refl
-is-preempted RunsElsewhere is = absurd (false≢true is)
+is-preempted _ is = absurd (false≢true is)
 
 module _ (s : State) (sound : IsSoundState s) where
   some-works : 1 ≤ length s.works
@@ -202,9 +195,6 @@ module _ (s : State) (sound : IsSoundState s) where
 
   -- who is resumed was preempted, and the normal world runs
   pub resumed-fits : (op : Op) (f : ℕ) → resumed_by s op ≡ Some f → (s.runner ≡ 0) × (HasStopped (schedule_of s) f) × (status_in (schedule_of s) f ≡ Preempted)
-  resumed-fits (Load address size) f is = absurd (none-some f is)
-  resumed-fits (Store address size value) f is = absurd (none-some f is)
-  resumed-fits (Fetch address) f is = absurd (none-some f is)
   resumed-fits (Call x) f is = of (decode x) is
     where
       at : (e context : ℕ) (b : Bool) → may_resume (length s.parties) (schedule_of s) e context ≡ b → cond b (Some e) None ≡ Some f
@@ -227,6 +217,7 @@ module _ (s : State) (sound : IsSoundState s) where
       of : (call : calls.Call) → resumed_by_call s call ≡ Some f → (s.runner ≡ 0) × (HasStopped (schedule_of s) f) × (status_in (schedule_of s) f ≡ Preempted)
       of (Run target context) is = at target.0 context (may_resume (length s.parties) (schedule_of s) target.0 context) refl is
       of call is = absurd (none-some f is)
+  resumed-fits _ f is = absurd (none-some f is)
 
   pub effect-sound : (op : Op) → IsSoundState (step_resuming s op).state
   effect-sound op = of (resumed_by s op) refl
@@ -272,10 +263,6 @@ module _ (s : State) (sound : IsSoundState s) where
 
   -- as another processor sees it
   module _ (processors : Processors) (placed : ArePlaced processors s) (p : ℕ) (within : p < length processors.runners) where
-    on-works : (b : Bool) → length (cond b s (moved_to s (runner_on processors p))).works ≡ length s.parties
-    on-works true = sound.sized.works
-    on-works false = sound.sized.works
-
     pub on-sound-state : IsSoundState (on processors p s)
     on-sound-state = of (processors.current == p) (on-sound processors s sound.schedule some-works placed p within)
       where
@@ -329,9 +316,7 @@ effect-simple s op works simple = ap (effected s op) (none op)
 
     none : (op : Op) → resumed_by s op ≡ None
     none (Call x) = of (decode x)
-    none (Load address size) = refl
-    none (Store address size value) = refl
-    none (Fetch address) = refl
+    none _ = refl
 
 pub operation-current : (processors : Processors) (s : State) (op : Op) → step_on processors processors.current s op ≡ step_resuming s op
 operation-current processors s op =

@@ -1,16 +1,14 @@
 -- SPDX-License-Identifier: MIT OR Apache-2.0
 -- Bytes, access and what is told by an operation or an interrupt of a processor, from the state before: but for who runs all is as
 -- it is in the state that the processor sees.
-use Rattle.std.proofs.Common.{◌≡◌, ◌≢◌, ◌∙◌, ℕ, ◌<◌, true, false, cond, List, [], ◌∷◌, ◌++◌, length, get_or, Option, Some, None, refl, sym, ap, subst, inr}
-use Rattle.std.specs.Prelude.{◌==◌, ◌&&◌}
+use Rattle.std.proofs.Common.{◌≡◌, ◌≢◌, ◌∙◌, ℕ, ◌<◌, true, false, cond, List, [], ◌∷◌, ◌++◌, length, get_or, Option, Some, None, refl, sym, ap, subst, inr, ◌==◌, ◌&&◌, true≢false}
 use Rattle.std.specs.List.{list_all}
-use Rattle.std.proofs.lemmas.Bool.{true≢false}
 use Rattle.std.proofs.lemmas.Option.{none-some}
 use Rattle.ffa_model.specs.declared.call.Call as calls
 use Rattle.ffa_model.specs.declared.call.Call.TheVariants.{Run}
 use Rattle.ffa_model.specs.declared.operation.Effect.TheVariants as effects
 use Rattle.ffa_model.specs.declared.operation.Op.{Op}
-use Rattle.ffa_model.specs.declared.operation.Op.TheVariants.{Call, Load, Store, Fetch}
+use Rattle.ffa_model.specs.declared.operation.Op.TheVariants.{Call}
 use Rattle.ffa_model.specs.declared.operation.Outcome.{Outcome}
 use Rattle.ffa_model.specs.declared.schedule.Status.{Status}
 use Rattle.ffa_model.specs.declared.schedule.Status.TheVariants.{Blocked, Preempted}
@@ -68,20 +66,16 @@ switched-readably e s status f =
 
 -- ---- an operation where partitions may be preempted
 resumed-by-run : (s : State) (op : Op) (f : ℕ) → resumed_by s op ≡ Some f → is_call may_change_public op ≡ true
-resumed-by-run s (Load address size) f is = absurd (none-some f is)
-resumed-by-run s (Store address size value) f is = absurd (none-some f is)
-resumed-by-run s (Fetch address) f is = absurd (none-some f is)
 resumed-by-run s (Call x) f is = of (decode x) is
   where
     of : (call : calls.Call) → resumed_by_call s call ≡ Some f → may_change_public call ≡ true
     of (Run target context) is = refl
     of call is = absurd (none-some f is)
+resumed-by-run s _ f is = absurd (none-some f is)
 
 public-told : (op : Op) (values : PublicPart) → is_call may_change_public op ≡ true → may_be_told op (Public values) ≡ true
 public-told (Call x) values may = may
-public-told (Load address size) values may = absurd (true≢false (sym may))
-public-told (Store address size value) values may = absurd (true≢false (sym may))
-public-told (Fetch address) values may = absurd (true≢false (sym may))
+public-told _ values may = absurd (true≢false (sym may))
 
 module _ (s : State) (op : Op) (sound : IsSoundState s) where
   steady : IsSteady s
@@ -181,9 +175,7 @@ module _ (s : State) (op : Op) (sound : IsSoundState s) where
         where
           resumed-readable : (e : ℕ) (u : State) (op : Op) → resumed_by (readable e u) op ≡ resumed_by u op
           resumed-readable e u (Call x) = refl
-          resumed-readable e u (Load address size) = refl
-          resumed-readable e u (Store address size value) = refl
-          resumed-readable e u (Fetch address) = refl
+          resumed-readable e u _ = refl
 
       effect-alike : (step_resuming t op).effect ≡ (step_resuming s op).effect
       effect-alike = ap (λ o. (effected t op o).effect) resumed-readably ∙ of (resumed_by s op)

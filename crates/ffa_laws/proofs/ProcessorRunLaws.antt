@@ -1,7 +1,6 @@
 -- SPDX-License-Identifier: MIT OR Apache-2.0
 -- The laws of a list of operations and interrupts of several processors, by induction.
-use Rattle.std.proofs.Common.{◌≡◌, ◌≢◌, ◌∙◌, ℕ, ◌<◌, true, false, cond, List, [], ◌∷◌, ◌++◌, length, Option, Some, None, refl, sym, ap, subst, length-set}
-use Rattle.std.specs.Prelude.{◌==◌, nat_lt}
+use Rattle.std.proofs.Common.{◌≡◌, ◌≢◌, ◌∙◌, ℕ, ◌<◌, true, false, cond, List, [], ◌∷◌, ◌++◌, length, Option, Some, None, refl, sym, ap, subst, length-set, ◌==◌, nat_lt}
 use Rattle.std.specs.List.{list_all}
 use Rattle.std.proofs.lemmas.Bool.{and_parts, eq-eqb, eqb-true, ltb-true, true≢false}
 use Rattle.std.proofs.lemmas.List.{append_assoc, map-append}
@@ -26,8 +25,8 @@ use Rattle.ffa_laws.proofs.Growth.{never_grow}
 use Rattle.ffa_laws.proofs.Kept.{step-fixed}
 use Rattle.ffa_laws.proofs.Laws.{own-step}
 use Rattle.ffa_laws.proofs.ProcessorLaws.{has-runner, interrupt-placed, interrupt-sound, interrupt_never_grows, on-grows, on-sound-state, on-told, one_effect, one_interrupt, operation-placed, operation-sound, operation_never_grows, resumed-view, taken}
-use Rattle.ffa_laws.proofs.Publics.{either-public}
 use Rattle.ffa_laws.proofs.SoundSteady.{sound-steady}
+use Rattle.ffa_laws.proofs.Shows.{messages-public}
 
 -- what an endpoint lives through
 record Lived : Type 0 where
@@ -56,10 +55,6 @@ told-on e v (event ∷ es) rest =
       seen = (sym (append_assoc (outcomes_of (message e event)) (outcomes_of (messages e es)) later.seen)
           ∙ ap (λ (os : List Effect). os ++ later.seen) (sym (map-append (λ (outcome : Outcome). effects.Outcome outcome) (message e event) (messages e es)))) i;
     })
-
--- who runs is told without a message
-public-silent : (e : ℕ) (s t : State) → messages e (public_change s t) ≡ []
-public-silent e s t = either-public (λ es. messages e es ≡ []) s t refl refl
 
 -- an operation of whoever runs, on its view
 viewed_effect : ℕ → Effected → Effected
@@ -149,7 +144,7 @@ lived-is e (x ∷ xs) m sound known all =
     ap (seeing (seen_of e t x.1)) later
     ∙ sym (act-replayed e t steady known_t x.1 later_items)
     ∙ ap (λ v. replay e v (items_of e t x.1 ++ later_items)) (on-told m.processors x.0 e m.state)
-    ∙ ap (λ os. seeing (outcomes_of os) (replay e (apply_all e (view e m.state) (public_change m.state t)) (items_of e t x.1 ++ later_items))) (sym (public-silent e m.state t))
+    ∙ ap (λ os. seeing (outcomes_of os) (replay e (apply_all e (view e m.state) (public_change m.state t)) (items_of e t x.1 ++ later_items))) (sym (messages-public e m.state t))
     ∙ sym (told-on e (view e m.state) (public_change m.state t) (items_of e t x.1 ++ later_items))
 
 pub isolated_on : (m : Shared) (xs : List (ℕ × Act)) → IsSoundShared m → are_there m xs ≡ true → IsolatedOn m xs

@@ -1,7 +1,6 @@
 -- SPDX-License-Identifier: MIT OR Apache-2.0
 -- What is told of the public part: nothing, or all of it.
-use Rattle.std.proofs.Common.{◌≡◌, ◌≢◌, List, [], ◌∷◌, inl, inr}
-use Rattle.std.specs.Prelude.{◌⊎◌}
+use Rattle.std.proofs.Common.{◌≡◌, ◌≢◌, List, [], ◌∷◌, inl, inr, ◌⊎◌}
 use Rattle.ffa_model.specs.State.{State}
 use Rattle.ffa_laws.specs.Public.{PublicPart, public_part, same_public}
 use Rattle.ffa_laws.specs.Events.{Event, Public, public_change}

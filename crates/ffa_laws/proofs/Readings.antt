@@ -1,7 +1,6 @@
 -- SPDX-License-Identifier: MIT OR Apache-2.0
 -- What an endpoint can read: its own operations, and those of others.
-use Rattle.std.proofs.Common.{arith, ◌+◌, ◌*◌, ◌≡◌, ◌≢◌, ◌∙◌, ℕ, ◌-◌, ◌/◌, ◌%◌, Bool, true, false, cond, List, [], ◌∷◌, length, get_or, set, Option, Some, None, is_some, refl, sym, ap, subst, ◌++◌, option_map}
-use Rattle.std.specs.Prelude.{◌&&◌, is_none, not, ◌||◌}
+use Rattle.std.proofs.Common.{arith, ◌+◌, ◌*◌, ◌≡◌, ◌≢◌, ◌∙◌, ℕ, ◌-◌, ◌/◌, ◌%◌, Bool, true, false, cond, List, [], ◌∷◌, length, get_or, set, Option, Some, None, is_some, refl, sym, ap, subst, ◌++◌, option_map, ◌&&◌, is_none, not, ◌||◌}
 use Rattle.std.specs.List.{list_all}
 use Rattle.std.proofs.Math.Path.{fun_ext}
 use Rattle.std.proofs.lemmas.Bool.{cases_Bool, false≢true, true≢false, and_parts, eq-eqb}
@@ -12,11 +11,11 @@ use Rattle.ffa_model.specs.declared.operation.Op.{Op}
 use Rattle.ffa_model.specs.declared.rights.Rights.{Rights}
 use Rattle.ffa_model.specs.declared.descriptor.RelinquishDesc.{RelinquishDesc}
 use Rattle.ffa_model.specs.declared.operation.ErrorCode.{ErrorCode}
-use Rattle.ffa_model.specs.declared.operation.Op.TheVariants.{Call, Load, Store, Fetch}
+use Rattle.ffa_model.specs.declared.operation.Op.TheVariants.{Call, Store}
 use Rattle.ffa_model.specs.declared.call.Call as calls
 use Rattle.ffa_model.specs.declared.call.Call.TheVariants.{MemRelinquish}
 use Rattle.ffa_model.specs.declared.rights.Kind.{Kind}
-use Rattle.ffa_model.specs.declared.rights.Kind.TheVariants.{Share, Lend, Donate}
+use Rattle.ffa_model.specs.declared.rights.Kind.TheVariants.{Share}
 use Rattle.ffa_model.specs.Lists.{map_at}
 use Rattle.ffa_model.specs.Rights.{is_within, is_lend, is_share}
 use Rattle.ffa_model.specs.State.{State, Page, Transaction, buffers_of, is_known, page_at, transaction_of}
@@ -411,8 +410,7 @@ module _ (e : ℕ) (s : State) where
 
         no-share : (kind : Kind) → is_lend kind ≡ true → is_share kind ≡ false
         no-share Share is = absurd (false≢true is)
-        no-share Lend is = refl
-        no-share Donate is = refl
+        no-share _ is = refl
 
     asks : (zero zeroable : Bool) → (not zero || zeroable) ≡ true → zero ≡ true → zeroable ≡ true
     asks true zeroable is asked = is
@@ -473,13 +471,12 @@ module _ (e : ℕ) (s : State) where
 
     fit-op : (op : Op) → AreFit (readable e s) (events e s op)
     fit-op (Call x) = fit-call (decode x)
-    fit-op (Load address size) = tt
     fit-op (Store address size value) = fit-others (events e s (Store address size value)) (readable e s) (passed-row (λ x. not (may_zero x)) (store_fault s address (size_of size)) (writes e s address (little_bytes (size_of size) value)) (wrote _))
       where
         wrote : (b : Bool) → list_all (λ x. not (may_zero x)) (where_true b (Wrote address (little_bytes (size_of size) value) ∷ [])) ≡ true
         wrote true = refl
         wrote false = refl
-    fit-op (Fetch address) = tt
+    fit-op _ = tt
 
   pub other-reading : IsSteady s → is_known s e ≡ true → s.runner ≢ e → (op : Op)
       → readable e (step s op).state ≡ apply_all e (readable e s) (all_readably e s (events e s op))

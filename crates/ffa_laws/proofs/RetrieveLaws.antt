@@ -1,7 +1,6 @@
 -- SPDX-License-Identifier: MIT OR Apache-2.0
 -- FFA_MEM_RETRIEVE_REQ, in the runner's view, and to others.
-use Rattle.std.proofs.Common.{◌≡◌, ◌≢◌, ◌∙◌, ℕ, Bool, true, false, cond, List, [], ◌∷◌, ◌++◌, length, take, Option, Some, None, refl, sym, ap, inl, inr, arith, length-set}
-use Rattle.std.specs.Prelude.{◌==◌, ◌||◌, not, is_none, nat_le}
+use Rattle.std.proofs.Common.{◌≡◌, ◌≢◌, ◌∙◌, ℕ, Bool, true, false, cond, List, [], ◌∷◌, ◌++◌, length, take, Option, Some, None, refl, sym, ap, inl, inr, arith, length-set, ◌==◌, ◌||◌, not, is_none, nat_le}
 use Rattle.std.specs.Option.{option_map, option_map_or}
 use Rattle.std.specs.FinMap as finite
 use Rattle.std.proofs.lemmas.Bool.{cases_Bool, false≢true}
@@ -209,9 +208,8 @@ module _ (s : State) (steady : IsSteady s) (x : Transfer) (its : Taken s x) wher
     told-before = of t.kind refl
       where
         of : (kind : Kind) → t.kind ≡ kind → view e (taken_as kind) ≡ apply_all e (view e s) (told kind)
-        of Share is = held-told
-        of Lend is = held-told
         of Donate is = given-told is
+        of _ is = held-told
 
     abbrev new_buffers : List (Option Buffers)
     new_buffers = buffers_with_rx s.buffers s.runner true

@@ -1,7 +1,6 @@
 -- SPDX-License-Identifier: MIT OR Apache-2.0
 -- FFA_MEM_RELINQUISH in the runner's view, and to others; and what memory that is given back leaves of a steady state.
-use Rattle.std.proofs.Common.{◌≡◌, ◌≢◌, ◌∙◌, ℕ, Bool, true, false, cond, List, [], ◌∷◌, ◌++◌, Option, Some, None, refl, sym, ap, inl, inr, arith}
-use Rattle.std.specs.Prelude.{◌==◌, ◌||◌, ◌&&◌, is_some, not}
+use Rattle.std.proofs.Common.{◌≡◌, ◌≢◌, ◌∙◌, ℕ, Bool, true, false, cond, List, [], ◌∷◌, ◌++◌, Option, Some, None, refl, sym, ap, inl, inr, arith, ◌==◌, ◌||◌, ◌&&◌, is_some, not}
 use Rattle.std.specs.FinMap as finite
 use Rattle.std.specs.Option.{option_map}
 use Rattle.std.proofs.lemmas.Bool.{cases_Bool, cases_eq, false≢true, true≢false}
@@ -26,14 +25,13 @@ use Rattle.ffa_model.proofs.Accesses.{length-map_at, named-in, released-beside, 
 use Rattle.ffa_model.proofs.Guards.{guard-passes, invalid, denied}
 use Rattle.ffa_model.proofs.Handles.{get-put}
 use Rattle.ffa_laws.proofs.Maps.{first_no, first_none, map_at-id}
-use Rattle.ffa_laws.proofs.Views.{held-seen, shown, view-transaction}
+use Rattle.ffa_laws.proofs.Views.{held-seen, shown, view-transaction, or_true}
 use Rattle.ffa_laws.proofs.Form.{IsOwn, same-first}
 use Rattle.ffa_laws.proofs.Told.{IsTold}
 use Rattle.ffa_laws.proofs.Changes.{AreRewritten, other-told, own-same, unwritten}
 use Rattle.ffa_laws.proofs.BufferLaws.{own-buffers}
 use Rattle.ffa_laws.proofs.MessageLaws.{tx-seen}
 use Rattle.ffa_laws.proofs.Closed.{closed, get-remove, rewritten-zeroed_if}
-use Rattle.ffa_laws.proofs.Ceilings.{or_true}
 use Rattle.ffa_laws.proofs.Holders.{reheld, seen-released, seen-unheld, steady-reheld, view-reheld, view-untold}
 use Rattle.ffa_laws.proofs.ReclaimLaws.{second-fails, zeroed-far, zeroed_if-seen}
 use Rattle.ffa_laws.proofs.Steadies.{steady-changed}

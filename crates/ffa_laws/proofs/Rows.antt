@@ -1,7 +1,6 @@
 -- SPDX-License-Identifier: MIT OR Apache-2.0
 -- Which calls give which events, and which change the public part.
-use Rattle.std.proofs.Common.{◌≡◌, ◌∙◌, ℕ, Bool, true, false, List, [], ◌∷◌, ◌++◌, map, Option, Some, None, refl, inl, inr, sym}
-use Rattle.std.specs.Prelude.{◌==◌, ◌&&◌, filter, not, ◌⊎◌, ◌≢◌}
+use Rattle.std.proofs.Common.{◌≡◌, ◌∙◌, ℕ, Bool, true, false, List, [], ◌∷◌, ◌++◌, map, Option, Some, None, refl, inl, inr, sym, ◌==◌, ◌&&◌, filter, not, ◌⊎◌, ◌≢◌}
 use Rattle.std.specs.List.{list_all}
 use Rattle.std.proofs.lemmas.Bool.{and_from, and_parts, true≢false}
 use Rattle.ffa_model.specs.declared.call.Transfer.{Transfer}
@@ -187,8 +186,7 @@ rows e s (Call x) =
     all-both (may_tell (decode x)) (where_passed (first_failure (service s (decode x)).guards) (told_by e s (decode x))) (public_change s (serve s (decode x)).state)
     (passed-row (may_tell (decode x)) (first_failure (service s (decode x)).guards) (told_by e s (decode x)) (all-weaker (told_row (decode x)) (may_tell (decode x)) (told_by e s (decode x)) (λ event is. (and_parts (may_tell (decode x) event) _ is).0) (row-of e s (decode x))))
     (public-row s (decode x))
-rows e s (Load address size) = refl
 rows e s (Store address size value) =
     passed-row (may_be_told (Store address size value)) (store_fault s address (size_of size)) (writes e s address (little_bytes (size_of size) value))
     (all-one (may_be_told (Store address size value)) _ (Wrote address (little_bytes (size_of size) value)) refl)
-rows e s (Fetch address) = refl
+rows e s _ = refl

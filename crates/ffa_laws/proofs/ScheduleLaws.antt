@@ -1,11 +1,10 @@
 -- SPDX-License-Identifier: MIT OR Apache-2.0
 -- Run states: run, wait, yield and direct messages, in the runner's view, and to others.
-use Rattle.std.proofs.Common.{◌≡◌, ◌∙◌, ℕ, suc, zero, true, false, List, [], ◌∷◌, length, get_or, set, Option, Some, None, refl, sym, ap, length-set}
-use Rattle.std.specs.Prelude.{◌==◌, ◌++◌}
+use Rattle.std.proofs.Common.{◌≡◌, ◌∙◌, ℕ, suc, zero, true, false, List, [], ◌∷◌, length, get_or, set, Option, Some, None, refl, sym, ap, length-set, ◌==◌, ◌++◌}
 use Rattle.std.proofs.lemmas.Bool.{and_parts, eqb-true, false≢true}
 use Rattle.ffa_model.specs.declared.call.DirectMessage.{DirectMessage}
 use Rattle.ffa_model.specs.declared.schedule.Status.{Status}
-use Rattle.ffa_model.specs.declared.schedule.Status.TheVariants.{Running, Waiting, Yielded, Blocked, Preempted, RunsElsewhere}
+use Rattle.ffa_model.specs.declared.schedule.Status.TheVariants.{Waiting, Yielded}
 use Rattle.ffa_model.specs.declared.schedule.Work.{Work}
 use Rattle.ffa_model.specs.declared.schedule.Work.TheVariants.{Run, Request}
 use Rattle.ffa_model.specs.Identifiers.{place}
@@ -84,10 +83,7 @@ module _ (s : State) (steady : IsSteady s) where
   given-known : (e : ℕ) (status : Status) → Known s e → AreKnown s (given_cycles (schedule_of s) e status)
   given-known e Waiting known = record { runner = known; requesters = requesters-set (Known s) s.works (place e) (Some Run) (λ by is. absurd (none_some is)) steady.requesters }
   given-known e Yielded known = record { runner = known; requesters = steady.requesters }
-  given-known e Running known = record { runner = steady.runner; requesters = steady.requesters }
-  given-known e Blocked known = record { runner = steady.runner; requesters = steady.requesters }
-  given-known e Preempted known = record { runner = steady.runner; requesters = steady.requesters }
-  given-known e RunsElsewhere known = record { runner = steady.runner; requesters = steady.requesters }
+  given-known e _ known = record { runner = steady.runner; requesters = steady.requesters }
 
   first-known : Known s 0
   first-known = refl

@@ -1,7 +1,6 @@
 -- SPDX-License-Identifier: MIT OR Apache-2.0
 -- FFA_MEM_DONATE, FFA_MEM_LEND and FFA_MEM_SHARE, in the sender's view, and to others.
-use Rattle.std.proofs.Common.{◌≡◌, ◌≢◌, ◌⊎◌, ◌∙◌, ℕ, ◌+◌, ◌<◌, ◌≤◌, Bool, true, false, cond, not, List, [], ◌∷◌, ◌++◌, length, get_or, take, Option, Some, None, is_some, refl, sym, ap, subst, inl, inr, arith, length-set}
-use Rattle.std.specs.Prelude.{◌==◌, ◌||◌, ◌&&◌, filter, nat_le, nat_lt}
+use Rattle.std.proofs.Common.{◌≡◌, ◌≢◌, ◌⊎◌, ◌∙◌, ℕ, ◌+◌, ◌<◌, ◌≤◌, Bool, true, false, cond, not, List, [], ◌∷◌, ◌++◌, length, get_or, take, Option, Some, None, is_some, refl, sym, ap, subst, inl, inr, arith, length-set, ◌==◌, ◌||◌, ◌&&◌, filter, nat_le, nat_lt}
 use Rattle.std.specs.List.{list_all}
 use Rattle.std.specs.Option.{option_map, option_map_or}
 use Rattle.std.specs.Ordering.{nat_cmp}
@@ -38,6 +37,7 @@ use Rattle.ffa_model.proofs.KeptSend.{any-at}
 use Rattle.ffa_model.proofs.NamedPages.{listed-each}
 use Rattle.ffa_model.proofs.Places.{known-named, known-place, place-identifier}
 use Rattle.ffa_model.proofs.Accesses.{length-map_at}
+use Rattle.ffa_model.proofs.FirstSound.{identifier-known}
 use Rattle.ffa_laws.proofs.Changes.{AreRewritten, buffers_seen-none, other-told, own-same, same_owner, unwritten, with_public_parts}
 use Rattle.ffa_laws.proofs.Closed.{rewritten-zeroed_if}
 use Rattle.ffa_laws.proofs.CountSeen.{count-seen}
@@ -51,7 +51,6 @@ use Rattle.ffa_laws.proofs.ReturnLaws.{steady-zeroed}
 use Rattle.ffa_laws.proofs.Sends.{counted}
 use Rattle.ffa_laws.proofs.Steadies.{alone-far, alone-near, own-alone}
 use Rattle.ffa_laws.proofs.Told.{IsTold}
-use Rattle.ffa_laws.proofs.SoundLaws.{identifier-known}
 use Rattle.ffa_laws.proofs.Views.{kept_none, or_true, view-named, view-page}
 use Rattle.ffa_model.specs.declared.refusal.Refusal.{Refusal}
 

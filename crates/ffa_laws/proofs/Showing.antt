@@ -1,11 +1,9 @@
 -- SPDX-License-Identifier: MIT OR Apache-2.0
 -- What a call shows to an endpoint, where nothing refuses it: messages, and who runs on.
-use Rattle.std.proofs.Common.{◌≡◌, ◌≢◌, ◌∙◌, ℕ, Bool, true, false, cond, List, [], ◌∷◌, ◌++◌, map, Option, Some, None, refl, sym, ap}
-use Rattle.std.specs.Prelude.{◌==◌}
-use Rattle.std.proofs.lemmas.Bool.{eqb-true, ne_eqb}
+use Rattle.std.proofs.Common.{◌≡◌, ◌≢◌, ◌∙◌, ℕ, Bool, true, false, cond, List, [], ◌∷◌, ◌++◌, map, Option, Some, None, refl, sym, ap, ◌==◌, eqb-true, ne_eqb}
 use Rattle.ffa_model.specs.declared.operation.Outcome.TheVariants.{Regs}
 use Rattle.ffa_model.specs.declared.rights.Kind.{Kind}
-use Rattle.ffa_model.specs.declared.rights.Kind.TheVariants.{Share, Lend, Donate}
+use Rattle.ffa_model.specs.declared.rights.Kind.TheVariants.{Donate}
 use Rattle.ffa_model.specs.declared.rights.Rights.{Rights}
 use Rattle.ffa_model.specs.declared.descriptor.RetrieveDesc.{RetrieveDesc}
 use Rattle.ffa_model.specs.declared.descriptor.RelinquishDesc.{RelinquishDesc}
@@ -47,8 +45,7 @@ no_opening e s kind (Some r) = no_message e (is_receiver e (transaction_sent s k
 
 no_taking : (e : ℕ) (kind : Kind) (h f : ℕ) (right : Rights) → message e (taking kind h f right) ≡ []
 no_taking e Donate h f right = refl
-no_taking e Lend h f right = refl
-no_taking e Share h f right = refl
+no_taking e _ h f right = refl
 
 pub no_takes : (e : ℕ) (s : State) (d : Option RetrieveDesc) → messages e (takes e s d) ≡ []
 no_takes e s None = refl

@@ -1,9 +1,6 @@
 -- SPDX-License-Identifier: MIT OR Apache-2.0
 -- What an endpoint sees of a run is in the outcomes of the run.
-use Rattle.std.proofs.Common.{◌≡◌, ◌≢◌, ◌∙◌, ℕ, Bool, true, false, cond, List, [], ◌∷◌, ◌++◌, Option, Some, None, refl, sym, ap, append-nil}
-use Rattle.std.specs.Prelude.{◌==◌}
-use Rattle.std.proofs.lemmas.Bool.{eq-eqb, ne_eqb, true≢false}
-use Rattle.std.proofs.lemmas.List.{append_assoc}
+use Rattle.std.proofs.Common.{◌≡◌, ◌≢◌, ◌∙◌, ℕ, Bool, true, false, cond, List, [], ◌∷◌, ◌++◌, Option, Some, None, refl, sym, ap, append-nil, ◌==◌, eq-eqb, ne_eqb, true≢false, append_assoc}
 use Rattle.byteorder.specs.Endian.{little_bytes}
 use Rattle.ffa_model.specs.declared.operation.Op.{Op}
 use Rattle.ffa_model.specs.declared.operation.Op.TheVariants.{Call, Load, Store, Fetch}
@@ -34,7 +31,7 @@ messages-append : (e : ℕ) (xs ys : List Event) → messages e (xs ++ ys) ≡ m
 messages-append e [] ys = refl
 messages-append e (x ∷ xs) ys = ap (λ zs. message e x ++ zs) (messages-append e xs ys) ∙ sym (append_assoc (message e x) (messages e xs) (messages e ys))
 
-messages-public : (e : ℕ) (s next : State) → messages e (public_change s next) ≡ []
+pub messages-public : (e : ℕ) (s next : State) → messages e (public_change s next) ≡ []
 messages-public e s next = either-public (λ es. messages e es ≡ []) s next refl refl
 
 -- who runs on isn't e

@@ -1,13 +1,12 @@
 -- SPDX-License-Identifier: MIT OR Apache-2.0
 -- Run states stay sound, and the same partitions run elsewhere.
-use Rattle.std.proofs.Common.{◌≡◌, ◌≢◌, ◌∙◌, ℕ, zero, suc, ◌<◌, ◌≤◌, true, length, get_or, List, Option, Some, None, refl, sym, ap, inl, inr, arith}
-use Rattle.std.specs.Prelude.{◌==◌, ◌||◌}
+use Rattle.std.proofs.Common.{◌≡◌, ◌≢◌, ◌∙◌, ℕ, zero, suc, ◌<◌, ◌≤◌, true, length, get_or, List, Option, Some, None, refl, sym, ap, inl, inr, arith, ◌==◌, ◌||◌}
 use Rattle.std.proofs.lemmas.Bool.{cases_lt, eq-eqb, eqb-true, false≢true, not_from_true, true≢false}
 use Rattle.std.proofs.lemmas.Bool.Decides.{nat_tests}
 use Rattle.std.proofs.lemmas.List.{get_or_past}
 use Rattle.std.proofs.lemmas.Option.{none-some}
 use Rattle.ffa_model.specs.declared.schedule.Status.{Status}
-use Rattle.ffa_model.specs.declared.schedule.Status.TheVariants.{Running, Waiting, Yielded, Blocked, Preempted, RunsElsewhere}
+use Rattle.ffa_model.specs.declared.schedule.Status.TheVariants.{Running, Waiting, Yielded, Blocked, RunsElsewhere}
 use Rattle.ffa_model.specs.declared.schedule.Work.{Work}
 use Rattle.ffa_model.specs.declared.schedule.Work.TheVariants.{Run, Request}
 use Rattle.ffa_model.specs.declared.call.DirectMessage.{DirectMessage}
@@ -21,10 +20,6 @@ use Rattle.ffa_model.proofs.Guards.{guard-passes}
 use Rattle.ffa_model.proofs.Places.{known-cases, partition-known, place-identifier}
 use Rattle.ffa_model.proofs.Processors.{elsewhere-begun, elsewhere-done, elsewhere-going}
 use Rattle.ffa_model.proofs.Sounds.{sound-begun, sound-done, sound-going, waits}
-
-pub identifier-known : (n p : ℕ) → p < n → is_known_among n (identifier p) ≡ true
-identifier-known n zero lt = refl
-identifier-known n (suc p) lt = grind (arith, nat_tests)
 
 pub same-elsewhere : (c : Schedule) → SameElsewhere c c
 same-elsewhere c e = ((λ its. its), (λ its. its))
@@ -91,20 +86,15 @@ module _ (c : Schedule) (is : IsSound c) (some : 1 ≤ length c.works) where
         sound = sound-going c is some Blocked target normal (on at);
         elsewhere = elsewhere-going c is some Blocked target normal (on at) blocked≢elsewhere (λ away. yielded≢elsewhere (sym at ∙ away));
       }
-      go Running at = same-next
-      go Blocked at = same-next
-      go Preempted at = same-next
-      go RunsElsewhere at = same-next
+      go _ at = same-next
 
   work-origin : (w : Option Work) (by : ℕ) → requester w ≡ Some by → origin w ≡ Some by
-  work-origin None by h = h
   work-origin (Some Run) by h = absurd (none-some by h)
-  work-origin (Some (Request x)) by h = h
+  work-origin _ by h = h
 
   run-origin : (w : Option Work) → is_run w ≡ true → origin w ≡ Some 0
-  run-origin None h = absurd (false≢true h)
   run-origin (Some Run) h = refl
-  run-origin (Some (Request x)) h = absurd (false≢true h)
+  run-origin _ h = absurd (false≢true h)
 
   yield-origin : (w : Option Work) → (is_run w || is_endpoint 0 (requester w)) ≡ true → origin w ≡ Some 0
   yield-origin None h = absurd (false≢true h)

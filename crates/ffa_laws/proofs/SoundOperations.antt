@@ -1,8 +1,7 @@
 -- SPDX-License-Identifier: MIT OR Apache-2.0
 -- Each operation keeps a state sound, and whoever runs on another processor.
-use Rattle.std.proofs.Common.{◌≡◌, ℕ, true}
+use Rattle.std.proofs.Common.{◌≡◌, ℕ, true, ◌==◌, ◌-◌, ◌/◌, ◌%◌}
 use Rattle.byteorder.specs.Endian.{little_bytes}
-use Rattle.std.specs.Prelude.{◌==◌, ◌-◌, ◌/◌, ◌%◌}
 use Rattle.ffa_model.specs.declared.operation.Op.{Op}
 use Rattle.ffa_model.specs.declared.operation.Op.TheVariants.{Call, Load, Store, Fetch}
 use Rattle.ffa_model.specs.declared.operation.Outcome.TheVariants.{Data, Done}

@@ -1,11 +1,9 @@
 -- SPDX-License-Identifier: MIT OR Apache-2.0
 -- Pages stay sound where bytes are written: by a store, and into RX.
-use Rattle.std.proofs.Common.{◌≡◌, ◌∙◌, ℕ, suc, ◌+◌, ◌≤◌, Bool, true, false, cond, List, [], ◌∷◌, ◌++◌, take, length, replicate, get_or, Option, Some, None, refl, sym, subst, arith, zero, drop}
-use Rattle.std.specs.Prelude.{◌==◌, ◌%◌, ◌&&◌, nat_lt, slice_get}
+use Rattle.std.proofs.Common.{◌≡◌, ◌∙◌, ℕ, suc, ◌+◌, ◌≤◌, Bool, true, false, cond, List, [], ◌∷◌, ◌++◌, take, length, replicate, get_or, Option, Some, None, refl, sym, subst, arith, zero, drop, ◌==◌, ◌%◌, ◌&&◌, nat_lt, slice_get, length-take}
 use Rattle.std.specs.List.{enumerate_from, list_all}
 use Rattle.std.specs.Option.{option_map_or}
 use Rattle.std.proofs.lemmas.Bool.{and_from, and_parts, eq-eqb, eqb-true}
-use Rattle.std.proofs.lemmas.List.{length-take}
 use Rattle.std.proofs.lemmas.Option.{none-some, same_Some}
 use Rattle.byteorder.specs.Endian.{little_bytes}
 use Rattle.byteorder.specs.Numbers.{length-bytes_low_first}

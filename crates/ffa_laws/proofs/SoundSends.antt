@@ -1,8 +1,7 @@
 -- SPDX-License-Identifier: MIT OR Apache-2.0
 -- A send of memory keeps a state sound.
 use Rattle.ffa_model.specs.Access.{ownership_of}
-use Rattle.std.proofs.Common.{◌≡◌, ◌<◌, true, Option, Some, None, refl, sym, subst}
-use Rattle.std.specs.Prelude.{nat_lt}
+use Rattle.std.proofs.Common.{◌≡◌, ◌<◌, true, Option, Some, None, refl, sym, subst, nat_lt}
 use Rattle.std.specs.List.{list_all}
 use Rattle.std.specs.Ordering.{nat_cmp}
 use Rattle.std.specs.FinMap as finite

@@ -2,7 +2,7 @@
 -- Each call that changes run states keeps them sound, and whoever runs elsewhere.
 use Rattle.std.proofs.Common.{◌≡◌, ◌∙◌, ℕ, ◌≤◌, length, Some, None, refl, sym, ap, subst, arith, length-set}
 use Rattle.ffa_model.specs.declared.schedule.Status.{Status}
-use Rattle.ffa_model.specs.declared.schedule.Status.TheVariants.{Running, Waiting, Yielded, Blocked, Preempted, RunsElsewhere}
+use Rattle.ffa_model.specs.declared.schedule.Status.TheVariants.{Waiting, Yielded}
 use Rattle.ffa_model.specs.declared.schedule.Work.TheVariants.{Run as WorkRun, Request}
 use Rattle.ffa_model.specs.declared.call.DirectMessage.{DirectMessage}
 use Rattle.ffa_model.specs.Identifiers.{place}
@@ -37,11 +37,7 @@ module _ (s : State) (is : IsScheduled s) where
 
   given-works : (e : ℕ) (status : Status) → length (given_cycles c e status).works ≡ length s.works
   given-works e Waiting = length-set s.works (place e) (Some WorkRun)
-  given-works e Yielded = refl
-  given-works e Running = refl
-  given-works e Blocked = refl
-  given-works e Preempted = refl
-  given-works e RunsElsewhere = refl
+  given-works e _ = refl
 
   finished-works : (e : ℕ) → length (finished c e).works ≡ n
   finished-works e = length-set s.works (place s.runner) None ∙ is.works

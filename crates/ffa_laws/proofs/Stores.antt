@@ -1,7 +1,6 @@
 -- SPDX-License-Identifier: MIT OR Apache-2.0
 -- Bytes of a page are stored one by one, by who may write there.
-use Rattle.std.proofs.Common.{◌≡◌, ◌∙◌, ℕ, zero, suc, ◌+◌, ◌-◌, ◌*◌, ◌/◌, ◌%◌, ◌^◌, ◌<◌, ◌≤◌, Bool, true, cond, List, [], ◌∷◌, ◌++◌, length, get_or, set, Option, Some, None, refl, sym, ap, subst, arith, inl, inr, length-set, get_or-set_other, get_or-set_same, set-set}
-use Rattle.std.specs.Prelude.{◌==◌, ◌||◌, nat_le, nat_lt}
+use Rattle.std.proofs.Common.{◌≡◌, ◌∙◌, ℕ, zero, suc, ◌+◌, ◌-◌, ◌*◌, ◌/◌, ◌%◌, ◌^◌, ◌<◌, ◌≤◌, Bool, true, cond, List, [], ◌∷◌, ◌++◌, length, get_or, set, Option, Some, None, refl, sym, ap, subst, arith, inl, inr, length-set, get_or-set_other, get_or-set_same, set-set, ◌==◌, ◌||◌, nat_le, nat_lt}
 use Rattle.std.specs.Option.{option_and_then, option_map, option_map_or}
 use Rattle.std.proofs.lemmas.Bool.{and_from, and_parts, cases_eq, cases_lt, eq-eqb, eqb-true, ne_eqb, false≢true, le-leb, lt-ltb, ltb-true}
 use Rattle.std.proofs.lemmas.Option.{none-some, same_Some}
@@ -43,16 +42,14 @@ one-more (x ∷ page) (suc at) b bs within = ap (λ ys. x ∷ ys) (one-more page
 -- nothing is written
 none-more : (page : List ℕ) (at : ℕ) → with_bytes page at [] ≡ page
 none-more [] zero = refl
-none-more [] (suc at) = refl
-none-more (x ∷ page) zero = refl
 none-more (x ∷ page) (suc at) = ap (λ ys. x ∷ ys) (none-more page at)
+none-more _ _ = refl
 
 -- all is written
 all-written : (page bytes : List ℕ) → length page ≡ length bytes → with_bytes page 0 bytes ≡ bytes
 all-written [] [] same = refl
-all-written (x ∷ page) [] same = absurd (omega (arith, same))
-all-written [] (b ∷ bytes) same = absurd (omega (arith, same))
 all-written (x ∷ page) (b ∷ bytes) same = ap (λ ys. b ∷ ys) (all-written page bytes (omega (arith, same)))
+all-written _ _ same = absurd (omega (arith, same))
 
 -- ---- one byte
 one-byte : (b : ℕ) → b < 256 → little_bytes 1 b ≡ b ∷ []

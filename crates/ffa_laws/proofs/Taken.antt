@@ -1,13 +1,12 @@
 -- SPDX-License-Identifier: MIT OR Apache-2.0
 -- A retrieve that nothing refuses: the state before RX is filled, and that a state stays steady.
-use Rattle.std.proofs.Common.{◌≡◌, ◌∙◌, ℕ, Bool, true, false, cond, List, ◌∷◌, length, Option, Some, None, is_some, refl, sym, ap, subst}
-use Rattle.std.specs.Prelude.{◌==◌, is_none, nat_le}
+use Rattle.std.proofs.Common.{◌≡◌, ◌∙◌, ℕ, Bool, true, false, cond, List, ◌∷◌, length, Option, Some, None, is_some, refl, sym, ap, subst, ◌==◌, is_none, nat_le}
 use Rattle.std.specs.FinMap as finite
 use Rattle.std.proofs.lemmas.Bool.{eqb-true, false≢true}
 use Rattle.std.proofs.lemmas.Option.{same_Some}
 use Rattle.ffa_model.specs.declared.descriptor.RetrieveDesc.{RetrieveDesc}
 use Rattle.ffa_model.specs.declared.rights.Kind.{Kind}
-use Rattle.ffa_model.specs.declared.rights.Kind.TheVariants.{Share, Lend, Donate}
+use Rattle.ffa_model.specs.declared.rights.Kind.TheVariants.{Donate}
 use Rattle.ffa_model.specs.declared.rights.Rights.{Rights}
 use Rattle.ffa_model.specs.Rights.{is_at_most, is_donate, is_within}
 use Rattle.ffa_model.specs.State.{State, Page, Transaction, page_at, transaction_of, version_of, own_right_of}
@@ -110,9 +109,8 @@ module _ (s : State) (x : Transfer) (its : Taken s x) where
     size-before = of t.kind
       where
         of : (kind : Kind) → length (taken_as kind).pages ≡ length s.pages
-        of Share = refl
-        of Lend = refl
         of Donate = size-given s steady h t its.is.there s.runner right
+        of _ = refl
 
     -- the right is within each page's own right
     right-within : (p : ℕ) → names s t.ranges p ≡ true → is_within (Some right) (own_right_of s p) ≡ true
@@ -139,9 +137,8 @@ module _ (s : State) (x : Transfer) (its : Taken s x) where
     steady-before = of t.kind
       where
         of : (kind : Kind) → IsSteady (taken_as kind)
-        of Share = steady-held
-        of Lend = steady-held
         of Donate = steady-given s steady h t its.is.there s.runner right
+        of _ = steady-held
 
     -- ---- pages: an own right is no more than before, the manager's pages stay, and so do those in no transaction
     pub right-before : (p : ℕ) → is_within (own_right_of before p) (own_right_of s p) ≡ true
@@ -152,33 +149,30 @@ module _ (s : State) (x : Transfer) (its : Taken s x) where
         given-within (Some q) at named = ap (λ page. is_within (Some right) (page_right page)) (sym at) ∙ right-within p named
 
         of : (kind : Kind) → is_within (own_right_of (taken_as kind) p) (own_right_of s p) ≡ true
-        of Share = within-same (own_right_of s p)
-        of Lend = within-same (own_right_of s p)
         of Donate =
             ap (λ page. is_within (page_right page) (own_right_of s p)) (page-given s steady h t its.is.there s.runner right p)
             ∙ elim (names s t.ranges p) as (λ b. names s t.ranges p ≡ b → is_within (page_right (cond b (donated_page s.runner right (page_at s p)) (page_at s p))) (own_right_of s p) ≡ true) [
               | true ↦ given-within (page_at s p) refl
               | false ↦ λ away. within-same (own_right_of s p)
             ] refl
+        of _ = within-same (own_right_of s p)
 
     pub manager-before : (p : ℕ) → page_at s p ≡ None → page_at before p ≡ None
     manager-before p none = of t.kind
       where
         of : (kind : Kind) → page_at (taken_as kind) p ≡ None
-        of Share = none
-        of Lend = none
         of Donate =
             page-given s steady h t its.is.there s.runner right p
             ∙ ap (λ page. cond (names s t.ranges p) (donated_page s.runner right page) page) none
             ∙ elim (names s t.ranges p) as (λ b. cond b (donated_page s.runner right None) None ≡ None) [ true ↦ refl | false ↦ refl ]
+        of _ = none
 
     pub unnamed-before : (p : ℕ) → handle_at s p ≡ None → page_at before p ≡ page_at s p
     unnamed-before p unnamed = of t.kind
       where
         of : (kind : Kind) → page_at (taken_as kind) p ≡ page_at s p
-        of Share = refl
-        of Lend = refl
         of Donate = page-same s steady h t its.is.there s.runner right p (unnamed-away s steady h t its.is.there s.runner right p unnamed)
+        of _ = refl
 
 pub steady-retrieve : (s : State) → IsSteady s → (x : Transfer) → first_failure (memory_retrieve s x).guards ≡ None → IsSteady (memory_retrieve s x).state
 steady-retrieve s steady x none =

@@ -1,14 +1,13 @@
 -- SPDX-License-Identifier: MIT OR Apache-2.0
 -- Bytes that an endpoint can't read: what it is told doesn't depend on them, whoever else can read them.
-use Rattle.std.proofs.Common.{◌≡◌, ◌∙◌, ℕ, ◌-◌, ◌/◌, Bool, true, false, List, [], ◌∷◌, ◌++◌, take, Option, Some, None, is_some, refl, sym, ap}
-use Rattle.std.specs.Prelude.{◌==◌, ◌%◌, ◌&&◌, ◌||◌, is_none, not}
+use Rattle.std.proofs.Common.{◌≡◌, ◌∙◌, ℕ, ◌-◌, ◌/◌, Bool, true, false, List, [], ◌∷◌, ◌++◌, take, Option, Some, None, is_some, refl, sym, ap, ◌==◌, ◌%◌, ◌&&◌, ◌||◌, is_none, not}
 use Rattle.std.specs.Option.{option_map_or}
 use Rattle.std.proofs.Math.Path.{fun_ext}
 use Rattle.std.proofs.lemmas.Bool.{false≢true, true≢false}
 use Rattle.byteorder.specs.Endian.{little_bytes}
 use Rattle.ffa_model.specs.declared.descriptor.RetrieveDesc.{RetrieveDesc}
 use Rattle.ffa_model.specs.declared.operation.Op.{Op}
-use Rattle.ffa_model.specs.declared.operation.Op.TheVariants.{Call, Load, Store, Fetch}
+use Rattle.ffa_model.specs.declared.operation.Op.TheVariants.{Call, Store}
 use Rattle.ffa_model.specs.declared.call.Call as calls
 use Rattle.ffa_model.specs.declared.call.Call.TheVariants.{MemDonate, MemLend, MemShare, MemRetrieve, MemRelinquish, MsgSend2}
 use Rattle.ffa_model.specs.declared.rights.Kind.{Kind}
@@ -148,11 +147,10 @@ module _ (e : ℕ) (s : State) (hides : ℕ → Bool) where
 
       events-b : (op : Op) → all_readably e s (events e b op) ≡ all_readably e s (events e s op)
       events-b (Call x) = calls-b (decode x)
-      events-b (Load address size) = refl
       events-b (Store address size value) =
           λ i. all_readably e s (where_passed (fault_of (address % size_of size == 0) (access_at-b s hides address i) may_store)
           (where_true (near-b ((address - s.ram_base) / 4096) i) (Wrote address (little_bytes (size_of size) value) ∷ [])))
-      events-b (Fetch address) = refl
+      events-b _ = refl
 
       tellings-b : (op : Op) → all_readably e b (events e b op) ≡ all_readably e s (events e s op)
       tellings-b op = all_readably-b (events e b op) ∙ events-b op

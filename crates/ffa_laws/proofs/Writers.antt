@@ -1,7 +1,6 @@
 -- SPDX-License-Identifier: MIT OR Apache-2.0
 -- A page's bytes change only where the runner may write, or where a message fills RX.
-use Rattle.std.proofs.Common.{◌≡◌, ◌≢◌, ◌∙◌, ℕ, ◌-◌, ◌/◌, ◌%◌, ◌^◌, Bool, true, false, cond, not, List, [], length, get_or, Option, Some, None, is_some, refl, sym, ap, inl, inr}
-use Rattle.std.specs.Prelude.{◌==◌, ◌&&◌, ◌||◌, is_none, nat_le, nat_lt}
+use Rattle.std.proofs.Common.{◌≡◌, ◌≢◌, ◌∙◌, ℕ, ◌-◌, ◌/◌, ◌%◌, ◌^◌, Bool, true, false, cond, not, List, [], length, get_or, Option, Some, None, is_some, refl, sym, ap, inl, inr, ◌==◌, ◌&&◌, ◌||◌, is_none, nat_le, nat_lt}
 use Rattle.std.specs.Option.{option_and_then, option_map, option_map_or}
 use Rattle.std.proofs.lemmas.Bool.{and_from, and_parts, cases_lt, eq-eqb, eqb-true, false≢true, true≢false}
 use Rattle.std.proofs.lemmas.List.{get_or_past}
@@ -50,10 +49,7 @@ use Rattle.ffa_laws.proofs.SoundSteady.{sound-steady}
 use Rattle.ffa_laws.proofs.Taken as retrieve
 use Rattle.ffa_laws.proofs.Taken.{Taken, state-taken, taken}
 use Rattle.ffa_laws.proofs.Written.{elsewhere, elsewhere-run}
-
--- ---- pages of lists
-abbrev bytes_of : Option Page → List ℕ
-bytes_of page = option_map_or (λ (q : Page). q.bytes) page []
+use Rattle.ffa_laws.proofs.Integrities.{bytes_of}
 
 abbrev bytes_in : List (Option Page) → ℕ → List ℕ
 bytes_in ps p = bytes_of (get_or ps p None)
@@ -166,9 +162,8 @@ module _ (s : State) (sound : IsSoundState s) (p : ℕ) (no_right : may_store (a
       given false page = refl
 
       of : (kind : Kind) → bytes_in (retrieve.taken_as s x its kind).pages p ≡ bytes_in s.pages p
-      of Share = refl
-      of Lend = refl
       of Donate = ap bytes_of (page-given s steady its.asked.handle its.of its.is.there s.runner (retrieve.right s x its) p) ∙ given (names s its.of.ranges p) (page_at s p)
+      of _ = refl
 
   relinquish-elsewhere : first_failure (memory_relinquish s).guards ≡ None → bytes_in (memory_relinquish s).state.pages p ≡ bytes_in s.pages p
   relinquish-elsewhere none = read (relinquish_read s) none

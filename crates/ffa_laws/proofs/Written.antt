@@ -119,18 +119,16 @@ hidden-filled e s bytes (Some b) =
 -- whether two indexes are the same, by recursion
 abbrev pub is_at : ℕ → ℕ → Bool
 is_at zero zero = true
-is_at zero (suc i) = false
-is_at (suc j) zero = false
 is_at (suc j) (suc i) = is_at j i
+is_at _ _ = false
 
 -- an element that is changed in its place
 pub at-changed : {X : Type 0} (f : Option X → Option X) (xs : List (Option X)) (j i : ℕ) → f None ≡ None
     → get_or (set xs j (f (get_or xs j None))) i None ≡ cond (is_at j i) (f (get_or xs i None)) (get_or xs i None)
 at-changed f [] j i none = elim (is_at j i) as (λ b. None ≡ cond b (f None) None) [ true ↦ sym none | false ↦ refl ]
 at-changed f (x ∷ xs) zero zero none = refl
-at-changed f (x ∷ xs) zero (suc i) none = refl
-at-changed f (x ∷ xs) (suc j) zero none = refl
 at-changed f (x ∷ xs) (suc j) (suc i) none = at-changed f xs j i none
+at-changed f _ _ _ none = refl
 
 abbrev pub with_rx_full : Bool → Option Buffers → Option Buffers
 with_rx_full full o = option_map (λ (b : Buffers). record b { full = full }) o

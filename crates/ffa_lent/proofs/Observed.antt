@@ -1,8 +1,7 @@
 -- SPDX-License-Identifier: MIT OR Apache-2.0
 -- Pages as they are seen: a copy in place of each frame that is observed.
-use Rattle.std.proofs.Common.{◌≡◌, ◌≢◌, ◌∙◌, ℕ, zero, suc, ◌+◌, ◌-◌, ◌<◌, ◌≤◌, true, false, cond, List, [], ◌∷◌, length, get_or, set, refl, ap, sym, arith, inl, inr}
+use Rattle.std.proofs.Common.{◌≡◌, ◌≢◌, ◌∙◌, ℕ, zero, suc, ◌+◌, ◌-◌, ◌<◌, ◌≤◌, true, false, cond, List, [], ◌∷◌, length, get_or, set, refl, ap, sym, arith, inl, inr, get_or-set_other, get_or-set_same, length-set}
 use Rattle.std.proofs.lemmas.Bool.{cases_Bool, cases_eq, false_from_ne_true, false≢true}
-use Rattle.std.proofs.lemmas.List.{get_or-set_other, get_or-set_same, length-set}
 use Rattle.ffa_model.specs.Lists.{is_in_run, map_at}
 use Rattle.ffa_model.proofs.Runs.{in-run, to-run}
 
@@ -15,10 +14,9 @@ seen_by copies first count p b = cond (is_in_run first count p) (get_or copies (
 pub alike : (xs ys : List (List ℕ)) (f g : ℕ → List ℕ → List ℕ) → length ys ≡ length xs
     → ((p : ℕ) → p < length xs → g p (get_or ys p []) ≡ f p (get_or xs p [])) → map_at g ys ≡ map_at f xs
 alike [] [] f g each same = refl
-alike [] (y ∷ ys) f g each same = absurd (omega arith)
-alike (x ∷ xs) [] f g each same = absurd (omega arith)
 alike (x ∷ xs) (y ∷ ys) f g each same =
     λ k. same 0 (omega arith) k ∷ alike xs ys (λ p. f (suc p)) (λ p. g (suc p)) (omega arith) (λ p lt. same (suc p) (omega arith)) k
+alike _ _ f g each same = absurd (omega arith)
 
 pub get_or-map_at : (f : ℕ → List ℕ → List ℕ) (xs : List (List ℕ)) (i : ℕ) → i < length xs → get_or (map_at f xs) i [] ≡ f i (get_or xs i [])
 get_or-map_at f [] i lt = absurd (omega arith)

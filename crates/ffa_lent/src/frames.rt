@@ -1,7 +1,6 @@
 // SPDX-License-Identifier: MIT OR Apache-2.0
 //! Pages that are lent.
-ghost use Rattle.std.specs.Prelude.{◌≡◌, ◌+◌, ◌<◌, ◌≤◌, ◌++◌, [], ◌∷◌, None, IfOk, IfErr, IfSome, max, is_ok, if◌then◌else◌, length, vec_len};
-ghost use Rattle.std.specs.Option.{option_map, option_to_list};
+ghost use Rattle.std.specs.Prelude.{◌≡◌, ◌+◌, ◌<◌, ◌≤◌, ◌++◌, [], ◌∷◌, None, IfOk, IfErr, IfSome, max, is_ok, if◌then◌else◌, length, vec_len, option_map, option_to_list};
 ghost use Rattle.ffa_lent.specs.Listed.{empty, nothing_listed};
 ghost use Rattle.ffa_model.specs.declared.limits.TheConstants.{MOST_BUFFER_PAGES};
 

@@ -9,5 +9,4 @@ pub mod RegionsRead
 pub mod Accepted
 pub mod FirstFailure
 pub mod AcceptedParts
-pub mod PartsPlaces
 pub mod TextPlaces

@@ -1,6 +1,6 @@
 // SPDX-License-Identifier: MIT OR Apache-2.0
 //! The top table of a manifest. Its tests stand once more over parts without a text, where it is said why (`of_parts`).
-ghost use Rattle.std.specs.Prelude.{◌≡◌, ◌≤◌, ◌-◌, ◌^◌, IfOk, length};
+ghost use Rattle.std.specs.Prelude.{◌≤◌, ◌-◌, ◌^◌, IfOk, length};
 ghost use Rattle.ffa_model.specs.declared.limits.TheConstants.{MOST_BLOCKS, MOST_RAM};
 ghost use Rattle.toml.specs.View.{table_view, items_view};
 ghost use Rattle.ffa_manifest.specs.Reading.{Exact};

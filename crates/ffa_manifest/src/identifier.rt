@@ -1,6 +1,5 @@
 // SPDX-License-Identifier: MIT OR Apache-2.0
 //! The identifier of a partition.
-ghost use Rattle.std.specs.Prelude.{◌≡◌};
 ghost use Rattle.ffa_manifest.specs.Reading.{Exact};
 ghost use Rattle.ffa_manifest.specs.Endpoints.{identifier as identifier_of};
 

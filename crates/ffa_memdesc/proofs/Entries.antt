@@ -1,7 +1,6 @@
 -- SPDX-License-Identifier: MIT OR Apache-2.0
 -- Lists of entries that are read one after another, each tested beside the ones before it.
-use Rattle.std.proofs.Common.{◌≡◌, ℕ, ◌+◌, ◌*◌, ◌%◌, ◌^◌, ◌<◌, Bool, true, not, cond, eqb, List, [], ◌∷◌, ◌++◌, Some, None, refl, sym, ap, ap₂, ◌∙◌, subst, add-one, arith}
-use Rattle.std.specs.Prelude.{nat_le}
+use Rattle.std.proofs.Common.{◌≡◌, ℕ, ◌+◌, ◌*◌, ◌%◌, ◌^◌, ◌<◌, Bool, true, not, cond, eqb, List, [], ◌∷◌, ◌++◌, Some, None, refl, sym, ap, ap₂, ◌∙◌, subst, add-one, arith, nat_le}
 use Rattle.std.specs.List.{list_all}
 use Rattle.std.proofs.lemmas.Bool.{and_parts}
 use Rattle.std.proofs.lemmas.Option.{cond_some}
@@ -21,9 +20,6 @@ use Rattle.ffa_memdesc.proofs.Listed.{listed-suc, holds_more, holds_told}
 pub record Passed {X : Type 0} (read : ℕ → X) (test : ℕ → Bool) (n : ℕ) (xs : List X) : Type 0 where
   pub tested : holds_at_each test n ≡ true
   pub items : xs ≡ listed n read
-
-pub no_entries : {X : Type 0} (read : ℕ → X) (test : ℕ → Bool) (xs : List X) → xs ≡ [] → Passed read test 0 xs
-no_entries read test xs e = record { tested = refl; items = e }
 
 one_more : {X : Type 0} (read : ℕ → X) (test : ℕ → Bool) (n : ℕ) (xs ys : List X) (x : X) (t : Bool) → Passed read test n xs → t ≡ test n → Some x ≡ cond t (Some (read n)) None → ys ≡ xs ++ x ∷ []
     → Passed read test (n + 1) ys

@@ -1,7 +1,7 @@
 -- SPDX-License-Identifier: MIT OR Apache-2.0
 -- The first condition that bytes break is one that they break.
-use Rattle.std.proofs.Common.{◌≡◌, ℕ, ◌<◌, Bool, true, false, not, Option, Some, eqb, inl, inr}
-use Rattle.std.proofs.lemmas.Bool.{not-false, or_parts, leb-false, eqb-true, eqb-false}
+use Rattle.std.proofs.Common.{◌≡◌, ℕ, ◌<◌, false, not, Option, Some, eqb, inl, inr}
+use Rattle.std.proofs.lemmas.Bool.{not-false, or_parts, leb-false, eqb-true, eqb-false, both_ways}
 use Rattle.ffa_model.specs.declared.flaw.Flaw.{Flaw}
 use Rattle.ffa_model.specs.declared.flaw.Flaw.TheVariants.{Header, Send as FlawOfSend, Access, Composite, Range as FlawOfRange, Retrieve as FlawOfRetrieve}
 use Rattle.ffa_model.specs.declared.flaw.HeaderFlaw.{HeaderFlaw}
@@ -27,9 +27,6 @@ use Rattle.std.specs.List.{list_all}
 use Rattle.ffa_memdesc.proofs.Firsts.{or_told, first_told, condition_told, nothing_told}
 use Rattle.ffa_memdesc.proofs.Listed.{some_told, some_not}
 use Rattle.ffa_memdesc.proofs.SendLaw.{grant_again, apart_again}
-
-lost : (x : Bool) → x ≡ false → x ≡ true → ⊥
-lost x e f = absurd cc
 
 header_told : (P : Flaw → Type 0) (b : Versioned) (flaw : Flaw) → ((f : HeaderFlaw) → HeaderBreaks b f → P (Header f)) → Some flaw ≡ header_flaw b → P flaw
 unfolding header_flaw
@@ -61,7 +58,7 @@ named_told b i endpoint e =
 access_told : (P : Flaw → Type 0) (kind : Kind) (b : Versioned) (i : ℕ) (flaw : Flaw) → ((f : AccessFlaw) → AccessBreaks kind b i f → P (Access i f)) → Some flaw ≡ access_flaw kind b i → P flaw
 unfolding access_flaw
 access_told P kind b i flaw lift e =
-    condition_told P _ _ _ flaw e (λ x. lift Permissions (λ h. lost _ x (grant_again kind _ h))) (λ e1.
+    condition_told P _ _ _ flaw e (λ x. lift Permissions (λ h. both_ways _ x (grant_again kind _ h))) (λ e1.
     condition_told P _ _ _ flaw e1 (λ x. lift AccessFlags (eqb-false _ _ x)) (λ e2.
     condition_told P _ _ _ flaw e2 (λ x. lift OtherComposite (eqb-false _ _ x)) (λ e3.
     condition_told P _ _ _ flaw e3 (λ x. lift AccessReserved (eqb-false _ _ x)) (λ e4.
@@ -84,7 +81,7 @@ composite_told P b flaw lift e =
 meets_told : (b : Versioned) (i : ℕ) → list_all (are_apart (range_in b i)) (ranges_in b i) ≡ false → (j : ℕ) × (j < i) × (AreApart (range_in b i) (range_in b j) → ⊥)
 meets_told b i e =
     let (j, before, meets) = some_not (are_apart (range_in b i)) (range_in b) i e in
-    (j, before, λ h. lost _ meets (apart_again (range_in b i) (range_in b j) h))
+    (j, before, λ h. both_ways _ meets (apart_again (range_in b i) (range_in b j) h))
 
 range_told : (P : Flaw → Type 0) (b : Versioned) (i : ℕ) (flaw : Flaw) → ((f : RangeFlaw) → RangeBreaks b i f → P (FlawOfRange i f)) → Some flaw ≡ range_flaw b i → P flaw
 unfolding range_flaw

@@ -1,6 +1,7 @@
 -- SPDX-License-Identifier: MIT OR Apache-2.0
 -- A condition that is broken: no record fits.
-use Rattle.std.proofs.Common.{◌≡◌, ℕ, Bool, true, false, List, inl, inr, arith}
+use Rattle.std.proofs.Common.{ℕ, List, inl, inr, arith}
+use Rattle.std.proofs.lemmas.Bool.{both_ways}
 use Rattle.ffa_model.specs.declared.flaw.Flaw.{Flaw}
 use Rattle.ffa_model.specs.declared.flaw.Flaw.TheVariants.{Header, Send as FlawOfSend, Access, Composite, Range as FlawOfRange, Retrieve as FlawOfRetrieve, Relinquish as FlawOfRelinquish}
 use Rattle.ffa_model.specs.declared.flaw.HeaderFlaw.{HeaderFlaw}
@@ -10,7 +11,7 @@ use Rattle.ffa_model.specs.declared.flaw.SendFlaw.TheVariants.{Attributes, Flags
 use Rattle.ffa_model.specs.declared.flaw.AccessFlaw.{AccessFlaw}
 use Rattle.ffa_model.specs.declared.flaw.AccessFlaw.TheVariants.{Permissions, Flags as AccessFlags, OtherComposite, Reserved as AccessReserved, ReceiverIsSender, ReceiverTwice}
 use Rattle.ffa_model.specs.declared.flaw.CompositeFlaw.{CompositeFlaw}
-use Rattle.ffa_model.specs.declared.flaw.CompositeFlaw.TheVariants.{Outside, Unaligned, InArray, NoRange, ManyRanges, Reserved as CompositeReserved, RangesOutside, Total}
+use Rattle.ffa_model.specs.declared.flaw.CompositeFlaw.TheVariants.{Unaligned, InArray, NoRange, ManyRanges, Reserved as CompositeReserved, Total}
 use Rattle.ffa_model.specs.declared.flaw.RangeFlaw.{RangeFlaw}
 use Rattle.ffa_model.specs.declared.flaw.RangeFlaw.TheVariants.{Empty, Unaligned as RangeUnaligned, TooHigh, Reserved as RangeReserved, Overlap}
 use Rattle.ffa_model.specs.declared.flaw.RetrieveFlaw.{RetrieveFlaw}
@@ -26,16 +27,13 @@ use Rattle.ffa_model.specs.RelinquishDescriptor.{Relinquish}
 use Rattle.ffa_model.specs.Flaws.{HeaderBreaks, SendHeaderBreaks, CompositeBreaks, SendBreaks, AskedBreaks, RetrieveBreaks, RelinquishBreaks}
 use Rattle.ffa_memdesc.proofs.RetrieveLaw.{flags_again, kind_code_few, not_reserved, data_code_few}
 
-unlike : (x : Bool) → x ≡ false → x ≡ true → ⊥
-unlike x e f = absurd cc
-
 header_breaks : (b : Versioned) (flaw : HeaderFlaw) → HeaderBreaks b flaw → IsHeader b → ⊥
 header_breaks b Short broken h = let whole = h.whole in omega arith
 header_breaks b AccessSize broken h = broken h.told
 header_breaks b ArrayUnaligned broken h = broken h.aligned
 header_breaks b ArrayInHeader broken h = let behind = h.behind in omega arith
 header_breaks b ArrayOutside broken h = let inside = h.inside in omega arith
-header_breaks b HeaderReserved broken h = unlike _ broken h.reserved
+header_breaks b HeaderReserved broken h = both_ways _ broken h.reserved
 
 send_header_breaks : (kind : Kind) (b : Versioned) (flaw : SendFlaw) (r : SendRecord) → SendHeaderBreaks kind b flaw → Send kind b r → ⊥
 send_header_breaks kind b Attributes r broken h = broken h.attributes
@@ -53,14 +51,13 @@ access_breaks kind b i ReceiverIsSender r (lt, broken) h = (h.accesses i lt).oth
 access_breaks kind b i ReceiverTwice r (lt, (j, before, same)) h = h.distinct i j before lt same
 
 composite_breaks : (kind : Kind) (b : Versioned) (flaw : CompositeFlaw) (r : SendRecord) → CompositeBreaks b flaw → Send kind b r → ⊥
-composite_breaks kind b Outside r broken h = let inside = h.composite.inside in omega arith
 composite_breaks kind b Unaligned r broken h = broken h.composite.aligned
 composite_breaks kind b InArray r broken h = let behind = h.composite.behind in omega arith
 composite_breaks kind b NoRange r broken h = let least = h.composite.least in omega arith
 composite_breaks kind b ManyRanges r broken h = let most = h.composite.most in omega arith
 composite_breaks kind b CompositeReserved r broken h = broken h.composite.reserved
-composite_breaks kind b RangesOutside r broken h = let inside = h.composite.inside in omega arith
 composite_breaks kind b Total r broken h = broken h.total
+composite_breaks kind b _ r broken h = let inside = h.composite.inside in omega arith
 
 range_breaks : (kind : Kind) (b : Versioned) (i : ℕ) (flaw : RangeFlaw) (r : SendRecord) → SendBreaks kind b (FlawOfRange i flaw) → Send kind b r → ⊥
 range_breaks kind b i Empty r (lt, broken) h = let least = (h.each i lt).least in omega arith
@@ -75,8 +72,7 @@ send_breaks kind b (FlawOfSend flaw) r broken h = send_header_breaks kind b flaw
 send_breaks kind b (Access i flaw) r broken h = access_breaks kind b i flaw r broken h
 send_breaks kind b (Composite flaw) r broken h = composite_breaks kind b flaw r broken h
 send_breaks kind b (FlawOfRange i flaw) r broken h = range_breaks kind b i flaw r broken h
-send_breaks kind b (FlawOfRetrieve flaw) r broken h = broken
-send_breaks kind b (FlawOfRelinquish flaw) r broken h = broken
+send_breaks kind b _ r broken h = broken
 
 asked_breaks : (e : ℕ) (b : Versioned) (flaw : RetrieveFlaw) (r : RetrieveDesc) → AskedBreaks e b flaw → Retrieve e b r → ⊥
 asked_breaks e b AskedAttributes r (none, normal) h = elim h.attributes [ inl a ↦ none a | inr a ↦ normal a ]
@@ -92,20 +88,11 @@ asked_breaks e b AskedAccessReserved r broken h = broken h.access_reserved
 
 pub retrieve_breaks : (e : ℕ) (b : Versioned) (flaw : Flaw) (r : RetrieveDesc) → RetrieveBreaks e b flaw → Retrieve e b r → ⊥
 retrieve_breaks e b (Header flaw) r broken h = header_breaks b flaw broken h.header
-retrieve_breaks e b (FlawOfSend flaw) r broken h = broken
-retrieve_breaks e b (Access i flaw) r broken h = broken
-retrieve_breaks e b (Composite flaw) r broken h = broken
-retrieve_breaks e b (FlawOfRange i flaw) r broken h = broken
 retrieve_breaks e b (FlawOfRetrieve flaw) r broken h = asked_breaks e b flaw r broken h
-retrieve_breaks e b (FlawOfRelinquish flaw) r broken h = broken
+retrieve_breaks e b _ r broken h = broken
 
 pub relinquish_breaks : (b : List ℕ) (flaw : Flaw) (r : RelinquishDesc) → RelinquishBreaks b flaw → Relinquish b r → ⊥
-relinquish_breaks b (Header flaw) r broken h = broken
-relinquish_breaks b (FlawOfSend flaw) r broken h = broken
-relinquish_breaks b (Access i flaw) r broken h = broken
-relinquish_breaks b (Composite flaw) r broken h = broken
-relinquish_breaks b (FlawOfRange i flaw) r broken h = broken
-relinquish_breaks b (FlawOfRetrieve flaw) r broken h = broken
 relinquish_breaks b (FlawOfRelinquish RelinquishShort) r broken h = let whole = h.whole in omega arith
 relinquish_breaks b (FlawOfRelinquish RelinquishFlags) r broken h = let flags = h.flags in omega arith
 relinquish_breaks b (FlawOfRelinquish EndpointCount) r broken h = broken h.one
+relinquish_breaks b _ r broken h = broken

@@ -1,14 +1,10 @@
 -- SPDX-License-Identifier: MIT OR Apache-2.0
 -- Tests over lists that are given index by index.
-use Rattle.std.proofs.Common.{◌≡◌, ℕ, zero, suc, ◌+◌, ◌<◌, Bool, true, false, ◌&&◌, ◌||◌, [], ◌∷◌, ◌++◌, length, refl, ap, subst, arith, inl, inr}
+use Rattle.std.proofs.Common.{◌≡◌, ℕ, zero, suc, ◌+◌, ◌<◌, Bool, true, false, ◌&&◌, ◌||◌, [], ◌∷◌, ◌++◌, refl, ap, subst, arith, inl, inr}
 use Rattle.std.specs.List.{list_any, list_all}
-use Rattle.std.proofs.lemmas.Bool.{cases_lt, cases_Bool, and_parts, and_from}
+use Rattle.std.proofs.lemmas.Bool.{cases_lt, cases_Bool, and_parts, and_from, or_parts, or_from}
 use Rattle.ffa_model.specs.Lists.{listed}
 use Rattle.ffa_model.specs.SendDescriptor.{holds_at_each}
-
-pub length-listed : {X : Type 0} (f : ℕ → X) (n : ℕ) → length (listed n f) ≡ n
-length-listed f zero = refl
-length-listed f (suc n) = ap suc (length-listed (λ i. f (suc i)) n)
 
 pub listed-suc : {X : Type 0} (f : ℕ → X) (n : ℕ) → listed (suc n) f ≡ listed n f ++ f n ∷ []
 listed-suc f zero = refl
@@ -23,21 +19,14 @@ pub all_again : {X : Type 0} (p : X → Bool) (f : ℕ → X) (n : ℕ) → ((i 
 all_again p f zero h = refl
 all_again p f (suc n) h = and_from _ _ (h 0 (omega arith)) (all_again p (λ k. f (suc k)) n (λ i lt. h (suc i) (omega arith)))
 
-neither : (x y : Bool) → (x || y) ≡ false → (x ≡ false) × (y ≡ false)
-neither true y e = absurd cc
-neither false y e = (refl, e)
-
-neither_again : (x y : Bool) → x ≡ false → y ≡ false → (x || y) ≡ false
-neither_again x y e f = rw e f
-
 pub none_told : {X : Type 0} (p : X → Bool) (f : ℕ → X) (n : ℕ) → list_any p (listed n f) ≡ false → (i : ℕ) → i < n → p (f i) ≡ false
 none_told p f zero h i lt = absurd (omega arith)
-none_told p f (suc n) h zero lt = (neither _ _ h).0
-none_told p f (suc n) h (suc i) lt = none_told p (λ k. f (suc k)) n ((neither _ _ h).1) i (omega arith)
+none_told p f (suc n) h zero lt = (or_parts _ _ h).0
+none_told p f (suc n) h (suc i) lt = none_told p (λ k. f (suc k)) n ((or_parts _ _ h).1) i (omega arith)
 
 pub none_again : {X : Type 0} (p : X → Bool) (f : ℕ → X) (n : ℕ) → ((i : ℕ) → i < n → p (f i) ≡ false) → list_any p (listed n f) ≡ false
 none_again p f zero h = refl
-none_again p f (suc n) h = neither_again _ _ (h 0 (omega arith)) (none_again p (λ k. f (suc k)) n (λ i lt. h (suc i) (omega arith)))
+none_again p f (suc n) h = or_from _ _ (h 0 (omega arith)) (none_again p (λ k. f (suc k)) n (λ i lt. h (suc i) (omega arith)))
 
 pub holds_told : (test : ℕ → Bool) (n : ℕ) → holds_at_each test n ≡ true → (i : ℕ) → i < n → test i ≡ true
 holds_told test n h i lt = all_told (λ t. t) test n h i lt
@@ -51,13 +40,6 @@ holds_more test n before here =
       | inl below ↦ holds_told test n before i below
       | inr le ↦ let same : n ≡ i = omega arith in subst (λ (k : ℕ). test k ≡ true) same here
     ])
-
-pub fails_at : (test : ℕ → Bool) (n i : ℕ) → i < n → test i ≡ false → holds_at_each test n ≡ false
-fails_at test n i lt h =
-    elim (cases_Bool (holds_at_each test n)) [
-      | inl t ↦ let told = holds_told test n t i lt in absurd cc
-      | inr f ↦ f
-    ]
 
 other : (x y : Bool) → x ≡ false → (x || y) ≡ true → y ≡ true
 other true y e h = absurd cc

@@ -2,11 +2,11 @@
 -- A retrieve: what is computed is what the relation says, both ways.
 use Rattle.std.proofs.Common.{◌≡◌, ◌≢◌, ℕ, zero, suc, ◌*◌, ◌<◌, Bool, true, Option, Some, None, refl, sym, ap, ◌∙◌, subst, arith}
 use Rattle.std.proofs.lemmas.Bool.{and_parts, and_from, eqb-true, eq-eqb}
-use Rattle.std.proofs.lemmas.Option.{cond_some, same_Some, none-some}
+use Rattle.std.proofs.lemmas.Option.{cond_some, same_Some}
 use Rattle.ffa_model.specs.declared.rights.Data.{Data}
 use Rattle.ffa_model.specs.declared.rights.Data.TheVariants.{Ro, Rw}
 use Rattle.ffa_model.specs.declared.rights.Kind.{Kind}
-use Rattle.ffa_model.specs.declared.rights.Kind.TheVariants.{Share, Lend, Donate}
+use Rattle.ffa_model.specs.declared.rights.Kind.TheVariants.{Share}
 use Rattle.ffa_model.specs.declared.descriptor.RetrieveDesc.{RetrieveDesc}
 use Rattle.ffa_model.specs.Bits.{bits}
 use Rattle.ffa_model.specs.DescriptorPlaces.{is_header, flags_field, data_code, data_of, kind_code, kind_of, Versioned}
@@ -15,32 +15,25 @@ use Rattle.ffa_memdesc.proofs.Decisions.{cond_true, differ, differ_again, either
 use Rattle.ffa_memdesc.proofs.HeaderLaw.{header_told, header_again}
 
 kind_code-kind_of : (n : ℕ) → n < 4 → kind_code (kind_of n) ≡ n
-kind_code-kind_of zero lt = refl
-kind_code-kind_of (suc zero) lt = refl
-kind_code-kind_of (suc (suc zero)) lt = refl
-kind_code-kind_of (suc (suc (suc zero))) lt = refl
 kind_code-kind_of (suc (suc (suc (suc n)))) lt = absurd (omega arith)
+kind_code-kind_of _ lt = refl
 
 kind_of-kind_code : (k : Option Kind) → kind_of (kind_code k) ≡ k
 kind_of-kind_code None = refl
 kind_of-kind_code (Some Share) = refl
-kind_of-kind_code (Some Lend) = refl
-kind_of-kind_code (Some Donate) = refl
+kind_of-kind_code _ = refl
 
 pub kind_code_few : (k : Option Kind) → kind_code k < 4
 kind_code_few None = omega arith
 kind_code_few (Some Share) = omega arith
-kind_code_few (Some Lend) = omega arith
-kind_code_few (Some Donate) = omega arith
+kind_code_few _ = omega arith
 
 data_code-data_of : (n : ℕ) → n < 4 → n ≢ 3 → data_code (data_of n) ≡ n
-data_code-data_of zero lt ne = refl
-data_code-data_of (suc zero) lt ne = refl
-data_code-data_of (suc (suc zero)) lt ne = refl
 data_code-data_of (suc (suc (suc zero))) lt ne = absurd (ne refl)
 data_code-data_of (suc (suc (suc (suc n)))) lt ne = absurd (omega arith)
+data_code-data_of _ lt ne = refl
 
-data_of-data_code : (d : Option Data) → data_of (data_code d) ≡ d
+pub data_of-data_code : (d : Option Data) → data_of (data_code d) ≡ d
 data_of-data_code None = refl
 data_of-data_code (Some Ro) = refl
 data_of-data_code (Some Rw) = refl
@@ -130,6 +123,3 @@ retrieve_again e b r h =
 -- a list of bytes fits at most one record
 pub one_retrieve : (e : ℕ) (b : Versioned) (r s : RetrieveDesc) → Retrieve e b r → Retrieve e b s → r ≡ s
 one_retrieve e b r s h k = same_Some r s (sym (retrieve_again e b r h) ∙ retrieve_again e b s k)
-
-pub no_retrieve : (e : ℕ) (b : Versioned) → None ≡ retrieve_of e b → (r : RetrieveDesc) → Retrieve e b r → ⊥
-no_retrieve e b n r h = none-some r (n ∙ retrieve_again e b r h)

@@ -1,10 +1,10 @@
 -- SPDX-License-Identifier: MIT OR Apache-2.0
 -- A send: what is computed is what the relation says, both ways.
-use Rattle.std.proofs.Common.{◌≡◌, ◌≢◌, ℕ, ◌<◌, ◌==◌, Bool, true, false, not, List, Some, None, refl, sym, ap, ◌∙◌, subst, inl, inr}
+use Rattle.std.proofs.Common.{◌≡◌, ◌≢◌, ℕ, ◌<◌, ◌==◌, Bool, true, false, not, List, Some, refl, sym, ap, ◌∙◌, subst, inl, inr}
 use Rattle.std.proofs.lemmas.Bool.{and_parts, and_from, or_cases, not-true, leb-true, eqb-true, eqb-false, le-leb, eq-eqb, ne_eqb}
-use Rattle.std.proofs.lemmas.Option.{cond_some, same_Some, none-some}
+use Rattle.std.proofs.lemmas.Option.{cond_some, same_Some}
 use Rattle.ffa_model.specs.declared.rights.Kind.{Kind}
-use Rattle.ffa_model.specs.declared.rights.Kind.TheVariants.{Share, Lend, Donate}
+use Rattle.ffa_model.specs.declared.rights.Kind.TheVariants.{Donate}
 use Rattle.ffa_model.specs.declared.transaction.Range.{Range}
 use Rattle.ffa_model.specs.declared.transaction.Receiver.{Receiver}
 use Rattle.ffa_model.specs.DescriptorPlaces.{is_header, flags_field, sender_field, tag_field, receiver_count, access_place, endpoint_field, range_count, range_place, Versioned}
@@ -14,14 +14,12 @@ use Rattle.ffa_memdesc.proofs.Decisions.{cond_true, differ, differ_again, either
 use Rattle.ffa_memdesc.proofs.HeaderLaw.{header_told, header_again}
 
 pub grant_told : (kind : Kind) (p : ℕ) → is_grant kind p ≡ true → IsGrant kind p
-grant_told Share p e = either_told p 1 2 e
-grant_told Lend p e = either_told p 1 2 e
 grant_told Donate p e = eqb-true _ _ e
+grant_told _ p e = either_told p 1 2 e
 
 pub grant_again : (kind : Kind) (p : ℕ) → IsGrant kind p → is_grant kind p ≡ true
-grant_again Share p e = either_again p 1 2 e
-grant_again Lend p e = either_again p 1 2 e
 grant_again Donate p e = eq-eqb _ _ e
+grant_again _ p e = either_again p 1 2 e
 
 access_told : (kind : Kind) (b : Versioned) (at : ℕ) → is_access kind b at ≡ true → IsAccess kind b at
 access_told kind b at e =
@@ -190,6 +188,3 @@ send_again kind b r h =
 -- a list of bytes fits at most one record
 pub one_send : (kind : Kind) (b : Versioned) (r s : SendRecord) → Send kind b r → Send kind b s → r ≡ s
 one_send kind b r s h k = same_Some r s (sym (send_again kind b r h) ∙ send_again kind b s k)
-
-pub no_send : (kind : Kind) (b : Versioned) → None ≡ send_of kind b → (r : SendRecord) → Send kind b r → ⊥
-no_send kind b e r h = none-some r (e ∙ send_again kind b r h)

@@ -1,7 +1,7 @@
 // SPDX-License-Identifier: MIT OR Apache-2.0
 //! The parts that descriptors have in common (DEN0077A, 5.11 and 16): what is asked of them, and how they are written.
 
-ghost use Rattle.std.specs.Prelude.{◌≡◌, ◌+◌, ◌*◌, ◌^◌, ◌<◌, ◌≤◌, List, ℕ, length, ◌++◌};
+ghost use Rattle.std.specs.Prelude.{◌+◌, ◌*◌, ◌^◌, ◌<◌, ◌≤◌, List, ℕ, length, ◌++◌};
 ghost use Rattle.std.specs.List.{flat_map};
 ghost use Rattle.ffa_model.specs.declared.limits.TheConstants.{MOST_RANGES};
 ghost use Rattle.ffa_model.specs.DescriptorPlaces.{header_size};

@@ -5,7 +5,7 @@ use Rattle.std.specs.List.{list_all}
 use Rattle.std.proofs.lemmas.Bool.{and_parts, leb-true, eqb-true}
 use Rattle.ffa_model.specs.declared.limits.TheConstants.{MOST_BLOCKS, MOST_ENDPOINTS}
 use Rattle.ffa_model.specs.declared.endpoint.Endpoint.{Endpoint}
-use Rattle.ffa_model.specs.Manifest.{has_tables, is_accepted, is_placed, table_pages, are_identified, are_counted, are_apart, regions_of}
+use Rattle.ffa_model.specs.Manifest.{is_accepted, is_placed, table_pages, are_identified, are_counted, are_apart, regions_of}
 
 pub record Accepted (base tables blocks : ℕ) (es : List Endpoint) : Type 0 where
   pub aligned : base % 0x200000 ≡ 0

@@ -1,7 +1,6 @@
 -- SPDX-License-Identifier: MIT OR Apache-2.0
 -- Access after each change of the open transactions: at the pages that the transaction names, and at all others.
-use Rattle.std.proofs.Common.{◌≡◌, ◌∙◌, ℕ, zero, suc, Bool, true, false, cond, List, [], ◌∷◌, length, get_or, replicate, Option, Some, None, refl, sym, ap, subst, inl, inr}
-use Rattle.std.specs.Prelude.{◌==◌, ◌&&◌, if◌then◌else◌}
+use Rattle.std.proofs.Common.{◌≡◌, ◌∙◌, ℕ, zero, suc, Bool, true, false, cond, List, [], ◌∷◌, length, get_or, replicate, Option, Some, None, refl, sym, ap, subst, inl, inr, ◌==◌, ◌&&◌, if◌then◌else◌}
 use Rattle.std.specs.Option.{option_and_then}
 use Rattle.std.specs.Cmp.{nat_cmp_total, unsigned_tied}
 use Rattle.std.specs.FinMap as finite
@@ -234,9 +233,6 @@ module _ (s : State) (h : ℕ) (t : Transaction) (was : transaction_of s h ≡ S
     | inl same ↦ absurd (false≢true (sym (ap (λ j. is_naming s p (transaction_of after_close j)) same ∙ ap (is_naming s p) (get-taken s.transactions h)) ∙ passes))
     | inr apart ↦ (apart, sym (ap (is_naming s p) (get-left s.transactions h k apart)) ∙ passes)
   ]
-
-  pub once-closed : IsNamedOnce after_close p
-  once-closed k j at_k at_j = once k j (left k at_k).1 (left j at_j).1
 
   -- a page that it named stands in none, so that it is its owner's again
   pub in-closed : names s t.ranges p ≡ true → transaction_at after_close p ≡ None

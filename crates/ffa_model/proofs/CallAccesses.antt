@@ -1,7 +1,6 @@
 -- SPDX-License-Identifier: MIT OR Apache-2.0
 -- Access after each call on memory, for each page and each endpoint.
-use Rattle.std.proofs.Common.{◌≡◌, ◌∙◌, ℕ, zero, suc, ◌+◌, ◌^◌, ◌<◌, ◌≤◌, Bool, true, false, cond, List, length, take, drop, Option, Some, None, refl, sym, ap, subst, arith, inl, inr}
-use Rattle.std.specs.Prelude.{◌==◌, ◌&&◌, if◌then◌else◌, slice_set}
+use Rattle.std.proofs.Common.{◌≡◌, ◌∙◌, ℕ, zero, suc, ◌+◌, ◌^◌, ◌<◌, ◌≤◌, Bool, true, false, cond, List, length, take, drop, Option, Some, None, refl, sym, ap, subst, arith, inl, inr, ◌==◌, ◌&&◌, if◌then◌else◌, slice_set}
 use Rattle.std.specs.List.{list_all}
 use Rattle.std.specs.Option.{option_and_then}
 use Rattle.std.specs.Ordering.{nat_cmp}
@@ -73,10 +72,6 @@ access-filled s f bytes e p = of (buffers_of s f)
 -- what nobody but the sender of a share has in a page whose transaction it doesn't hold
 abbrev pub unheld_right : Transaction → ℕ → Option Page → Option Rights
 unheld_right t e page = option_and_then (λ (q : Page). if is_share t.kind && t.sender == e then Some q.own_right else None) page
-
--- no page outside RAM gives a right
-right-past : (s : State) (e p : ℕ) (t : Option Transaction) → length s.pages ≤ p → right_of e (page_at s p) t ≡ None
-right-past s e p t past = ap (λ page. right_of e page t) (get_or_past s.pages p None past)
 
 -- A SEND
 -- a page that may be sent stands in no transaction

@@ -1,7 +1,6 @@
 -- SPDX-License-Identifier: MIT OR Apache-2.0
 -- The runs of a certificate are the longest, follow one another over all of RAM, and say the access to each of its pages.
-use Rattle.std.proofs.Common.{◌≡◌, ◌⊎◌, ◌∙◌, ℕ, zero, suc, ◌+◌, ◌-◌, ◌<◌, ◌≤◌, Bool, true, false, List, [], ◌∷◌, length, get_or, Option, Some, None, refl, sym, ap, ap₂, arith, inl, inr}
-use Rattle.std.specs.Prelude.{◌==◌, ◌&&◌, if◌then◌else◌}
+use Rattle.std.proofs.Common.{◌≡◌, ◌⊎◌, ◌∙◌, ℕ, zero, suc, ◌+◌, ◌-◌, ◌<◌, ◌≤◌, Bool, true, false, List, [], ◌∷◌, length, get_or, Option, Some, None, refl, sym, ap, ap₂, arith, inl, inr, ◌==◌, ◌&&◌, if◌then◌else◌}
 use Rattle.std.specs.List.{list_all}
 use Rattle.std.proofs.lemmas.Bool.{and_parts, cases_lt, eq-eqb, eqb-true, le-leb, le-ltb, lt-leb, lt-ltb}
 use Rattle.ffa_model.specs.declared.limits.TheConstants.{MOST_ENDPOINTS}
@@ -26,7 +25,7 @@ same-bool true false h = sym h
 same-bool false true h = h
 same-bool false false h = refl
 
-same-level : (a b : Data) → may_write a ≡ may_write b → a ≡ b
+pub same-level : (a b : Data) → may_write a ≡ may_write b → a ≡ b
 same-level a b e = sym (data_from-may_write a) ∙ ap data_from e ∙ data_from-may_write b
 
 same-right : (a b : Option Rights) → is_same_right a b ≡ true → a ≡ b
@@ -47,7 +46,7 @@ right-itself : (a : Option Rights) → is_same_right a a ≡ true
 right-itself None = refl
 right-itself (Some a) = ap₂ ◌&&◌ (bool-itself (may_write a.level)) (bool-itself a.exec)
 
-same-handle : (a b : Option ℕ) → is_same_handle a b ≡ true → a ≡ b
+pub same-handle : (a b : Option ℕ) → is_same_handle a b ≡ true → a ≡ b
 same-handle None None h = refl
 same-handle None (Some b) h = cc
 same-handle (Some a) None h = cc

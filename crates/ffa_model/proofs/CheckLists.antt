@@ -1,8 +1,7 @@
 -- SPDX-License-Identifier: MIT OR Apache-2.0
 -- The guards of calls on memory have the names that their rows list, whether or not there is what they ask about.
-use Rattle.std.proofs.Common.{◌≡◌, ℕ, Bool, List, [], map, Option, Some, None, refl}
+use Rattle.std.proofs.Common.{◌≡◌, ℕ, Bool, List, [], map, Option, Some, None, refl, ◌==◌, ◌++◌, find}
 use Rattle.std.specs.FinMap as map_get
-use Rattle.std.specs.Prelude.{◌==◌, ◌++◌, find}
 use Rattle.std.specs.Option.{option_map_or}
 use Rattle.ffa_model.specs.declared.call.Transfer.{Transfer}
 use Rattle.ffa_model.specs.declared.descriptor.RetrieveDesc.{RetrieveDesc}

@@ -1,13 +1,11 @@
 -- SPDX-License-Identifier: MIT OR Apache-2.0
 -- How many open transactions an endpoint has sent, after a change of one of them.
-use Rattle.std.proofs.Common.{◌≡◌, ◌∙◌, ℕ, ◌+◌, Bool, true, false, cond, List, [], ◌∷◌, length, map, Some, None, refl, sym, ap, arith}
-use Rattle.std.specs.Prelude.{◌==◌, filter}
+use Rattle.std.proofs.Common.{◌≡◌, ◌∙◌, ℕ, ◌+◌, Bool, true, false, cond, List, [], ◌∷◌, length, map, Some, None, refl, sym, ap, arith, ◌==◌, filter, eqb-true}
 use Rattle.std.specs.Ordering.{nat_cmp, eq_by_cmp, is_eq}
 use Rattle.std.specs.declared.cmp.Ordering.TheVariants.{Less, Equal, Greater}
 use Rattle.std.specs.Cmp.{nat_cmp_total, unsigned_tied}
 use Rattle.std.specs.FinMap as finite
 use Rattle.std.specs.FinMap.Entries.{by_order}
-use Rattle.std.proofs.lemmas.Bool.{eqb-true}
 use Rattle.std.proofs.lemmas.Option.{none-some}
 use Rattle.ffa_model.specs.State.{Transaction}
 use Rattle.ffa_model.specs.Transactions.{OpenTransactions, closed, open_count, opened, with_transaction}

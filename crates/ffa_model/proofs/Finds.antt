@@ -1,7 +1,6 @@
 -- SPDX-License-Identifier: MIT OR Apache-2.0
 -- The first element that passes a test.
-use Rattle.std.proofs.Common.{◌≡◌, ◌∙◌, ℕ, zero, suc, ◌<◌, Bool, true, false, cond, List, [], ◌∷◌, ◌+◌, ◌≤◌, filter, length, map, Option, Some, None, inl, inr, refl, ap, arith}
-use Rattle.std.specs.Prelude.{◌&&◌, nat_lt, not, find, position, if◌then◌else◌}
+use Rattle.std.proofs.Common.{◌≡◌, ◌∙◌, ℕ, zero, suc, ◌<◌, Bool, true, false, cond, List, [], ◌∷◌, ◌+◌, ◌≤◌, filter, length, map, Option, Some, None, inl, inr, refl, ap, arith, ◌&&◌, nat_lt, not, find, position, if◌then◌else◌}
 use Rattle.std.specs.List.{All, position_or_len}
 use Rattle.std.proofs.lemmas.Bool.{cases_Bool, ltb-false}
 use Rattle.std.specs.Option.{option_map, unwrap_or}

@@ -1,7 +1,6 @@
 -- SPDX-License-Identifier: MIT OR Apache-2.0
 -- The first state of an accepted manifest is sound, whatever bytes the pages of its regions have.
-use Rattle.std.proofs.Common.{◌≡◌, ◌≢◌, ◌∙◌, ℕ, zero, suc, ◌+◌, ◌*◌, ◌<◌, ◌≤◌, Bool, true, false, cond, List, [], ◌∷◌, length, get_or, map, replicate, Option, Some, None, refl, sym, ap, subst, arith, inl, inr}
-use Rattle.std.specs.Prelude.{◌==◌, find, filter, slice_get}
+use Rattle.std.proofs.Common.{◌≡◌, ◌≢◌, ◌∙◌, ℕ, zero, suc, ◌+◌, ◌*◌, ◌<◌, ◌≤◌, Bool, true, false, cond, List, [], ◌∷◌, length, get_or, map, replicate, Option, Some, None, refl, sym, ap, subst, arith, inl, inr, ◌==◌, find, filter, slice_get}
 use Rattle.std.specs.List.{enumerate_from, list_all}
 use Rattle.std.specs.Option.{option_map}
 use Rattle.std.specs.Ordering.{nat_cmp}
@@ -33,7 +32,7 @@ use Rattle.ffa_model.proofs.Listed.{get_or-listed, get_or-listed_past, length-li
 use Rattle.ffa_model.proofs.Owners.{found-owner, owned_from}
 
 -- each owner is an endpoint
-identifier-known : (n k : ℕ) → k < n → is_known_among n (identifier k) ≡ true
+pub identifier-known : (n k : ℕ) → k < n → is_known_among n (identifier k) ≡ true
 identifier-known n zero lt = refl
 identifier-known n (suc i) lt = grind (arith, nat_tests)
 

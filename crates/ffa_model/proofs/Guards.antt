@@ -1,9 +1,7 @@
 -- SPDX-License-Identifier: MIT OR Apache-2.0
 -- Guards in order.
-use Rattle.std.proofs.Common.{◌≡◌, ℕ, zero, suc, Bool, true, false, List, [], ◌∷◌, ◌++◌, get_or, map, Some, None, refl, ap, sym, ◌∙◌, Option}
-use Rattle.std.specs.Prelude.{◌&&◌, if◌then◌else◌}
+use Rattle.std.proofs.Common.{◌≡◌, ℕ, zero, suc, Bool, true, false, List, [], ◌∷◌, get_or, Some, None, refl, ap, sym, ◌∙◌, Option, Result, Ok, Err, IsErrAnd}
 use Rattle.std.specs.Option.{option_map}
-use Rattle.std.specs.Prelude.{Result, Ok, Err, IsErrAnd}
 use Rattle.std.specs.Result.{result_err}
 use Rattle.ffa_model.specs.declared.operation.ErrorCode.{ErrorCode}
 use Rattle.ffa_model.specs.declared.refusal.Refusal.{Refusal}
@@ -49,14 +47,3 @@ guard-passes ((false, one) ∷ guards) k none = absurd (none_some none)
   where
     none_some : None ≡ Some (code_of one) → ⊥
     none_some e = cc
-
--- guards in a row with one code are one guard
-abbrev pub each_passes : Bool → List Bool → Bool
-each_passes a [] = a
-each_passes a (b ∷ bs) = a && each_passes b bs
-
-pub one-code : (code : Refusal) (a : Bool) (bs : List Bool) (guards : List (Bool × Refusal))
-    → first_failure (map (λ (b : Bool). (b, code)) (a ∷ bs) ++ guards) ≡ (if each_passes a bs then first_failure guards else Some (code_of code))
-one-code code a [] guards = refl
-one-code code true (b ∷ bs) guards = one-code code b bs guards
-one-code code false (b ∷ bs) guards = refl

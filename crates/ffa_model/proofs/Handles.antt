@@ -1,7 +1,6 @@
 -- SPDX-License-Identifier: MIT OR Apache-2.0
 -- Which open transaction passes a test, and what a change of one transaction changes in that.
-use Rattle.std.proofs.Common.{◌≡◌, ◌∙◌, ℕ, Bool, true, false, cond, List, [], ◌∷◌, Option, Some, None, refl, sym, ap, subst}
-use Rattle.std.specs.Prelude.{◌||◌, find, is_some}
+use Rattle.std.proofs.Common.{◌≡◌, ◌∙◌, ℕ, Bool, true, false, cond, List, [], ◌∷◌, Option, Some, None, refl, sym, ap, subst, ◌||◌, find, is_some}
 use Rattle.std.specs.List.{list_any}
 use Rattle.std.specs.Option.{option_and_then}
 use Rattle.std.specs.Ordering.{nat_cmp, eq_by_cmp}
@@ -26,7 +25,7 @@ found_in test m = option_and_then (finite.get m) (first_handle test m)
 some-none : {A : Type 0} (x : A) → Some x ≡ None → ⊥
 some-none x e = none-some x (sym e)
 
-find-passes : (test : ℕ → Bool) (xs : List ℕ) (x : ℕ) → find test xs ≡ Some x → test x ≡ true
+pub find-passes : (test : ℕ → Bool) (xs : List ℕ) (x : ℕ) → find test xs ≡ Some x → test x ≡ true
 find-passes test [] x is = absurd (none-some x is)
 find-passes test (y ∷ ys) x is =
     elim (test y) as (λ b. test y ≡ b → cond b (Some y) (find test ys) ≡ Some x → test x ≡ true) [
@@ -34,7 +33,7 @@ find-passes test (y ∷ ys) x is =
       | false ↦ λ at found. find-passes test ys x found
     ] refl is
 
-find-misses : (test : ℕ → Bool) (xs : List ℕ) (x : ℕ) → find test xs ≡ None → list_any (eq_by_cmp nat_cmp x) xs ≡ true → test x ≡ false
+pub find-misses : (test : ℕ → Bool) (xs : List ℕ) (x : ℕ) → find test xs ≡ None → list_any (eq_by_cmp nat_cmp x) xs ≡ true → test x ≡ false
 find-misses test [] x is among = absurd (false≢true among)
 find-misses test (y ∷ ys) x is among =
     elim (test y) as (λ b. test y ≡ b → cond b (Some y) (find test ys) ≡ None → test x ≡ false) [
@@ -95,14 +94,6 @@ module _ (test : Option Transaction → Bool) (nothing : test None ≡ false) wh
 
   pub none-in : (m : Transactions) → ((h : ℕ) → test (finite.get m h) ≡ false) → found_in test m ≡ None
   none-in m never = ap (option_and_then (finite.get m)) (unpassed-none m never)
-
-  -- what is found is open, and passes
-  pub in-passes : (m : Transactions) (t : Transaction) → found_in test m ≡ Some t → test (Some t) ≡ true
-  in-passes m t is = of (first_handle test m) refl is
-    where
-      of : (o : Option ℕ) → first_handle test m ≡ o → option_and_then (finite.get m) o ≡ Some t → test (Some t) ≡ true
-      of None at none = absurd (none-some t none)
-      of (Some h) at some = subst (λ o. test o ≡ true) some (found-passes m h at)
 
   -- two maps in which the same handles pass, with the same transactions
   pub same-in : (m n : Transactions) → IsAlone test n

@@ -1,7 +1,6 @@
 -- SPDX-License-Identifier: MIT OR Apache-2.0
 -- Who holds a transaction.
-use Rattle.std.proofs.Common.{◌≡◌, ◌∙◌, ℕ, Bool, true, false, List, [], ◌∷◌, Option, Some, None, refl, sym, ap}
-use Rattle.std.specs.Prelude.{◌==◌, ◌||◌, is_none}
+use Rattle.std.proofs.Common.{◌≡◌, ◌∙◌, ℕ, Bool, true, false, List, [], ◌∷◌, Option, Some, None, refl, sym, ap, ◌==◌, ◌||◌, is_none}
 use Rattle.std.specs.List.{list_all, list_any}
 use Rattle.std.proofs.lemmas.Bool.{and_parts, eqb-true, false≢true}
 use Rattle.ffa_model.specs.Access.{held_by, is_receiver}

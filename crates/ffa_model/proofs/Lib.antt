@@ -32,4 +32,3 @@ pub mod Runs
 pub mod Reasons
 pub mod Finds
 pub mod CheckLists
-pub mod WordRows

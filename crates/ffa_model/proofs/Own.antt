@@ -1,7 +1,6 @@
 -- SPDX-License-Identifier: MIT OR Apache-2.0
 -- What the checks of pages say of a state.
-use Rattle.std.proofs.Common.{◌≡◌, ℕ, true, Option, Some, None, is_some, refl}
-use Rattle.std.specs.Prelude.{not}
+use Rattle.std.proofs.Common.{◌≡◌, ℕ, true, Option, Some, None, is_some, refl, not}
 use Rattle.ffa_model.specs.State.{State, owner_of}
 use Rattle.ffa_model.specs.Access.{Ownership, handle_at, ownership_of}
 use Rattle.ffa_model.specs.Buffers.{is_own, is_usable}

@@ -1,10 +1,9 @@
 -- SPDX-License-Identifier: MIT OR Apache-2.0
 -- Who owns a page of an accepted manifest: the endpoint with the one region that has it.
-use Rattle.std.proofs.Common.{◌≡◌, ◌≢◌, ◌∙◌, ℕ, suc, zero, ◌+◌, ◌*◌, ◌<◌, ◌≤◌, Bool, true, false, cond, List, [], ◌∷◌, ◌++◌, length, get_or, map, Option, Some, None, refl, sym, ap, subst, arith, inl, inr, ◌⊎◌}
-use Rattle.std.specs.Prelude.{◌==◌, ◌&&◌, ◌||◌, ◌%◌, nat_le, find, is_some}
+use Rattle.std.proofs.Common.{◌≡◌, ◌≢◌, ◌∙◌, ℕ, suc, zero, ◌+◌, ◌*◌, ◌<◌, ◌≤◌, Bool, true, false, cond, List, [], ◌∷◌, ◌++◌, length, get_or, map, Option, Some, None, refl, sym, ap, arith, inl, inr, ◌⊎◌, ◌==◌, ◌&&◌, ◌||◌, ◌%◌, nat_le, find, is_some}
 use Rattle.std.specs.Option.{option_map, option_map_or, option_or}
 use Rattle.std.specs.List.{All, list_all, flat_map, enumerate_from}
-use Rattle.std.proofs.lemmas.Bool.{cases_eq, true≢false, false≢true, and_parts, eq-eqb, eqb-true, leb-true, ne_eqb, or_cases}
+use Rattle.std.proofs.lemmas.Bool.{cases_eq, true≢false, false≢true, and_parts, eq-eqb, eqb-true, leb-true, or_cases}
 use Rattle.std.proofs.lemmas.Bool.Decides.{nat_tests}
 use Rattle.std.proofs.lemmas.Option.{none-some, same_Some}
 use Rattle.std.proofs.lemmas.List.Elements.{All-append, All-head, All-map, All-nil, All-tail}
@@ -261,18 +260,6 @@ all-named k (e ∷ es) =
     each : (rs : List Region) → list_all (λ (r : Region). identifier (place (identifier k)) == identifier k) rs ≡ true
     each [] = refl
     each (r ∷ rs) = rw (eq-eqb (identifier (place (identifier k))) (identifier k) (ap identifier (place-identifier k))) (each rs)
-
--- who is no endpoint has no page
-pub right-unnamed : (base : ℕ) (es : List Endpoint) (p e : ℕ) (bytes : List ℕ) → (identifier (place e) ≡ e → ⊥) → right_of e (page_with_bytes base es p bytes) None ≡ None
-right-unnamed base es p e bytes unnamed = of (find (has base p) (owned_regions es)) refl
-  where
-    of : (o : Option (ℕ × Region)) → find (has base p) (owned_regions es) ≡ o
-        → right_of e (option_map (λ (x : ℕ × Region). let q : Page = record { owner = x.0; own_right = x.1.rights; bytes = bytes } in q) o) None ≡ None
-    of None is = refl
-    of (Some x) is =
-        let named = (find-passes (has base p) (λ (y : ℕ × Region). identifier (place y.0) == y.0) (owned_regions es) x (all-named 0 es) is).1 in
-        let other : (x.0 == e) ≡ false = ne_eqb x.0 e (λ same. unnamed (subst (λ (n : ℕ). identifier (place n) ≡ n) same (eqb-true (identifier (place x.0)) x.0 named))) in
-        ap (λ b. cond b (Some x.1.rights) None) other
 
 -- the owner of a page is the endpoint at its place
 pub found-named : (base p : ℕ) (es : List Endpoint) (x : ℕ × Region) → find (has base p) (owned_regions es) ≡ Some x → identifier (place x.0) ≡ x.0

@@ -1,9 +1,7 @@
 -- SPDX-License-Identifier: MIT OR Apache-2.0
 -- Why an operation is refused: for a reason just where it is refused, and what comes of it is the reason's.
-use Rattle.std.proofs.Common.{◌≡◌, ◌∙◌, ℕ, true, false, cond, List, Option, Some, None, is_some, refl, sym, ap}
-use Rattle.std.specs.Prelude.{IfSome}
+use Rattle.std.proofs.Common.{◌≡◌, ◌∙◌, ℕ, true, false, List, Option, Some, None, is_some, refl, sym, ap, IfSome, true≢false}
 use Rattle.std.specs.Option.{option_map}
-use Rattle.std.proofs.lemmas.Bool.{true≢false}
 use Rattle.ffa_model.specs.declared.operation.ErrorCode.{ErrorCode}
 use Rattle.ffa_model.specs.declared.operation.FaultKind.{FaultKind}
 use Rattle.ffa_model.specs.declared.operation.Op.{Op}
@@ -12,7 +10,6 @@ use Rattle.ffa_model.specs.declared.operation.Outcome.{Outcome}
 use Rattle.ffa_model.specs.declared.operation.Outcome.TheVariants.{Data, Done}
 use Rattle.ffa_model.specs.declared.refusal.Refusal.{Refusal}
 use Rattle.ffa_model.specs.declared.why.Why.{Why}
-use Rattle.ffa_model.specs.Access.{access, handle_at, transaction_at}
 use Rattle.ffa_model.specs.Calls.{Service, answered, first_failure, first_refusal, served}
 use Rattle.ffa_model.specs.Memory.{accessed, fetch_fault, number_at, read_fault, size_of, store_fault, stored}
 use Rattle.ffa_model.specs.RefusalCodes.{code_of}
@@ -20,7 +17,7 @@ use Rattle.ffa_model.specs.Refusals.{is_error, is_refusal}
 use Rattle.ffa_model.specs.Registers.{decode}
 use Rattle.ffa_model.specs.State.{State}
 use Rattle.ffa_model.specs.Step.{service, step}
-use Rattle.ffa_model.specs.Why.{grant_by, granted, outcome_of, refused, why, why_fault}
+use Rattle.ffa_model.specs.Why.{outcome_of, refused, why, why_fault}
 use Rattle.ffa_model.proofs.Guards.{failure-code}
 use Rattle.ffa_model.proofs.Served.{done-no-error}
 use Rattle.byteorder.specs.Endian.{little_bytes}
@@ -95,18 +92,9 @@ refused-unchanged s (Store address size value) =
     unchanged-access s (stored s address (little_bytes (size_of size) value)) Done address refl (store_fault s address (size_of size))
 refused-unchanged s (Fetch address) = unchanged-access s s (Data (number_at s address 4)) address refl (fetch_fault s address)
 
--- so why it is refused can be asked of the state behind it, and there is no reason where it isn't
-pub why-behind : (s : State) (op : Op) → is_refusal (step s op).outcome ≡ true → why (step s op).state op ≡ why s op
-why-behind s op refused = ap (λ (state : State). why state op) (refused-unchanged s op refused)
-
 pub why-not : (s : State) (op : Op) → is_refusal (step s op).outcome ≡ false → why s op ≡ None
 why-not s op done = none-of (why s op) (why-refused s op ∙ done)
   where
     none-of : (o : Option Why) → is_some o ≡ false → o ≡ None
     none-of None none = refl
     none-of (Some reason) none = absurd (true≢false none)
-
--- an endpoint has access to a page by something just where it has access
-pub granted-access : (s : State) (e p : ℕ) → is_some (granted s e p) ≡ is_some (access s e p)
-granted-access s e p =
-    elim (is_some (access s e p)) as (λ b. is_some (cond b (Some (grant_by e (handle_at s p) (transaction_at s p))) None) ≡ b) [ true ↦ refl | false ↦ refl ]

@@ -17,11 +17,11 @@ length-access : (version : Version) (r : ResponseRecord) → length (access_byte
 unfolding le
 length-access version r = refl
 
-length-composite : (ranges : List Range) → length (composite_bytes ranges) ≡ 16
+pub length-composite : (ranges : List Range) → length (composite_bytes ranges) ≡ 16
 unfolding le
 length-composite ranges = refl
 
-length-range : (range : Range) → length (range_bytes range) ≡ 16
+pub length-range : (range : Range) → length (range_bytes range) ≡ 16
 unfolding le
 length-range range = refl
 

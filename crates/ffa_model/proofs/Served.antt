@@ -1,7 +1,6 @@
 -- SPDX-License-Identifier: MIT OR Apache-2.0
 -- What holds of each call that registers hold, by the rows of the definition's table and of the code's.
-use Rattle.std.proofs.Common.{◌≡◌, ℕ, ◌<◌, ◌^◌, Bool, true, false, cond, List, [], ◌∷◌, map, Option, Some, None, refl, sym, ap, arith}
-use Rattle.std.specs.Prelude.{◌==◌, ◌&&◌, ◌||◌, find, slice_index, if◌then◌else◌}
+use Rattle.std.proofs.Common.{◌≡◌, ℕ, ◌<◌, ◌^◌, Bool, true, false, cond, List, [], ◌∷◌, map, Option, Some, None, refl, sym, ap, arith, ◌==◌, ◌&&◌, ◌||◌, find, slice_index, if◌then◌else◌}
 use Rattle.std.specs.List.{list_any}
 use Rattle.std.specs.Option.{option_map_or}
 use Rattle.std.proofs.lemmas.Bool.{not-true}
@@ -15,7 +14,7 @@ use Rattle.ffa_model.specs.declared.operation.ErrorCode.TheVariants.{NotSupporte
 use Rattle.ffa_model.specs.declared.refusal.Refusal.TheVariants.{FunctionUnknown}
 use Rattle.ffa_model.specs.declared.rights.Kind.TheVariants.{Share, Lend, Donate}
 use Rattle.ffa_model.specs.declared.schedule.Status.{Status}
-use Rattle.ffa_model.specs.declared.schedule.Status.TheVariants.{Waiting, Running, Blocked, Yielded, Preempted, RunsElsewhere}
+use Rattle.ffa_model.specs.declared.schedule.Status.TheVariants.{Waiting}
 use Rattle.ffa_model.specs.Bits.{high_half, word_of_halves}
 use Rattle.ffa_model.specs.Calls.{Service, first_failure, success}
 use Rattle.ffa_model.specs.MemoryRetrieve.{retrieve_read}
@@ -33,11 +32,7 @@ use Rattle.ffa_model.proofs.CheckLists.{relinquish_listed, retrieve_listed, send
 
 run-no-error : (target : ℕ) (status : Status) → is_error (run_reply target status) ≡ false
 run-no-error target Waiting = refl
-run-no-error target Yielded = refl
-run-no-error target Running = refl
-run-no-error target Blocked = refl
-run-no-error target Preempted = refl
-run-no-error target RunsElsewhere = refl
+run-no-error target _ = refl
 
 version-no-error : (known : Bool) → is_error (cond known (replies.Version 0x10001) (replies.Version 0xFFFFFFFF)) ≡ false
 version-no-error true = refl

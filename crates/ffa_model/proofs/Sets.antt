@@ -1,10 +1,8 @@
 -- SPDX-License-Identifier: MIT OR Apache-2.0
 -- Sets of lists of numbers: what is in them after a change, and that two with the same elements are one.
-use Rattle.std.proofs.Common.{◌≡◌, ◌∙◌, ℕ, zero, suc, ◌<◌, arith, Bool, true, List, [], ◌∷◌, map, sym, ap, inl, inr}
-use Rattle.std.specs.Prelude.{◌||◌, ◌&&◌, not}
+use Rattle.std.proofs.Common.{◌≡◌, ◌∙◌, ℕ, zero, suc, ◌<◌, arith, Bool, true, List, [], ◌∷◌, map, sym, ap, inl, inr, ◌||◌, ◌&&◌, not, Ordering, Less, Equal, Greater, refl}
 use Rattle.std.specs.List.{flat_map, list_any}
 use Rattle.std.specs.Ordering.{eq_by_cmp, is_eq, nat_cmp}
-use Rattle.std.proofs.Common.{Ordering, Less, Equal, Greater, refl}
 use Rattle.std.specs.Cmp.Lexicographic.{nat_list_cmp_total, slice_cmp}
 use Rattle.std.specs.FinSet as finite_set
 use Rattle.std.proofs.lemmas.Bool.{false≢true, or_cases, or_left, or_right}

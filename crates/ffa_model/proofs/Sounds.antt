@@ -1,9 +1,7 @@
 -- SPDX-License-Identifier: MIT OR Apache-2.0
 -- Run states stay sound: where a partition begins to work, where one has done its work, and where one stops and another goes on.
-use Rattle.std.proofs.Common.{◌≡◌, ◌≢◌, ◌⊎◌, ◌∙◌, ◌↔◌, ℕ, suc, ◌<◌, ◌≤◌, true, false, cond, length, set, Some, None, refl, sym, ap, subst, inl, inr, arith, length-set}
-use Rattle.std.specs.Prelude.{◌==◌}
+use Rattle.std.proofs.Common.{◌≡◌, ◌≢◌, ◌⊎◌, ◌∙◌, ◌↔◌, ℕ, suc, ◌<◌, ◌≤◌, true, false, cond, length, set, Some, None, refl, sym, ap, subst, inl, inr, arith, length-set, ◌==◌, get_or-set_other, get_or-set_same}
 use Rattle.std.proofs.lemmas.Bool.{cases_eq, eq-eqb, false≢true, ne_eqb}
-use Rattle.std.proofs.lemmas.List.{get_or-set_other, get_or-set_same}
 use Rattle.std.proofs.lemmas.Option.{none-some, same_Some}
 use Rattle.ffa_model.specs.declared.schedule.Status.{Status}
 use Rattle.ffa_model.specs.declared.schedule.Status.TheVariants.{Running, Waiting, Yielded, Blocked, Preempted, RunsElsewhere}
@@ -47,30 +45,20 @@ pub not-stopped : (one other : Status) → is_stopped one ≡ true → is_stoppe
 not-stopped one other stopped going same = false≢true (sym going ∙ ap is_stopped (sym same) ∙ stopped)
 
 pub waits : (status : Status) → is_waiting status ≡ true → status ≡ Waiting
-waits Running is = absurd (false≢true is)
 waits Waiting is = refl
-waits Yielded is = absurd (false≢true is)
-waits Blocked is = absurd (false≢true is)
-waits Preempted is = absurd (false≢true is)
-waits RunsElsewhere is = absurd (false≢true is)
+waits _ is = absurd (false≢true is)
 
 -- how the runner stops, by the status in which it does
 module _ (c : Schedule) where
   stop-running : (status : Status) → MayStop c status → status ≢ Running
   stop-running Running may h = may
   stop-running Waiting may h = may
-  stop-running Yielded may h = cc
-  stop-running Blocked may h = cc
-  stop-running Preempted may h = cc
-  stop-running RunsElsewhere may h = cc
+  stop-running _ may h = cc
 
   stop-waiting : (status : Status) → MayStop c status → status ≢ Waiting
   stop-waiting Running may h = may
   stop-waiting Waiting may h = may
-  stop-waiting Yielded may h = cc
-  stop-waiting Blocked may h = cc
-  stop-waiting Preempted may h = cc
-  stop-waiting RunsElsewhere may h = cc
+  stop-waiting _ may h = cc
 
   stop-yielded : (status : Status) → MayStop c status → status ≡ Yielded → origin (work_in c c.runner) ≡ Some 0
   stop-yielded status may is = subst (MayStop c) is may

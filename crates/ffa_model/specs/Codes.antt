@@ -25,7 +25,6 @@ use Rattle.ffa_model.specs.declared.schedule.Work.TheVariants.{Run, Request}
 use Rattle.ffa_model.specs.Rights.{may_write}
 use Rattle.ffa_model.specs.State.{State, Party, Page, Transaction, Buffers}
 use Rattle.ffa_model.specs.RunStates.{Schedule}
-use Rattle.ffa_model.specs.Transactions.{OpenTransactions}
 use Rattle.ffa_model.specs.Notifications.{Notifications}
 
 abbrev pub data_from : Bool → Data
@@ -176,11 +175,6 @@ abbrev pub coded_schedule : Coded Schedule
 coded_schedule =
     code_by (ℕ × (List Status × List (Option Work))) (coded× coded_ℕ (coded× (coded_list coded_status) (coded_list (coded_option coded_work))))
     (λ c. (c.runner, (c.statuses, c.works))) (λ p. record { runner = p.0; statuses = p.1.0; works = p.1.1 }) (λ _. refl)
-
-abbrev pub coded_offers : Coded OpenTransactions
-coded_offers =
-    code_by (map.FinMap nat_cmp Transaction × List ℕ) (coded× (map.code coded_ℕ coded_transaction) (coded_list coded_ℕ))
-    (λ o. (o.transactions, o.sent)) (λ p. record { transactions = p.0; sent = p.1 }) (λ _. refl)
 
 abbrev pub coded_notifications : Coded Notifications
 coded_notifications =

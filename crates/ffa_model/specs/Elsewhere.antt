@@ -4,7 +4,6 @@ use Rattle.std.specs.Prelude.{ℕ, ◌==◌, List, [], ◌∷◌, if◌then◌el
 use Rattle.ffa_model.specs.declared.operation.Op.{Op}
 use Rattle.ffa_model.specs.declared.operation.Op.TheVariants.{Call, Load, Store, Fetch}
 use Rattle.ffa_model.specs.declared.operation.ErrorCode.TheVariants.{Busy}
-use Rattle.ffa_model.specs.declared.operation.Outcome.{Outcome}
 use Rattle.ffa_model.specs.declared.operation.Outcome.TheVariants.{Regs}
 use Rattle.ffa_model.specs.declared.call.Reply.TheVariants.{Error}
 use Rattle.ffa_model.specs.Numbers.{Identifier}
@@ -37,11 +36,6 @@ step_elsewhere s e (Fetch addr) = with_runner s.runner (fetch (as_run_by e s) ad
 -- one operation of e
 abbrev pub step_as : State → Identifier → Op → Stepped
 step_as s e op = if s.runner == e then step s op else step_elsewhere s e op
-
--- the outcomes of a list of operations, each of the endpoint beside it, and the state after them
-abbrev pub outcomes_as : State → List (ℕ × Op) → List Outcome
-outcomes_as s [] = []
-outcomes_as s (x ∷ xs) = (step_as s x.0 x.1).outcome ∷ outcomes_as (step_as s x.0 x.1).state xs
 
 abbrev pub state_after_as : State → List (ℕ × Op) → State
 state_after_as s [] = s

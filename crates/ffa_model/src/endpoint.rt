@@ -1,6 +1,6 @@
 // SPDX-License-Identifier: MIT OR Apache-2.0
 //! Endpoints, pages and regions.
-ghost use Rattle.std.specs.Prelude.{⊤, true, ◌≡◌, ◌↔◌, ℕ, ◌+◌, ◌*◌, ◌<◌, ◌≤◌, ◌^◌, [], ◌∷◌, All, codes};
+ghost use Rattle.std.specs.Prelude.{⊤, true, ◌≡◌, ◌↔◌, ℕ, ◌+◌, ◌*◌, ◌<◌, ◌≤◌, [], ◌∷◌, All, codes};
 ghost use Rattle.ffa_model.specs.Identifiers.{identifier, place};
 ghost use Rattle.ffa_model.specs.Regions.{has_page, right_in};
 ghost use Rattle.ffa_model.specs.State.{is_known_among, is_partition_among};

@@ -1,14 +1,12 @@
 -- SPDX-License-Identifier: MIT OR Apache-2.0
 -- What is kept of a page, as an entry.
-use Rattle.std.proofs.Common.{◌≡◌, ℕ, Bool, true, false, Option, Some, None, List, [], ◌∷◌, refl}
-use Rattle.std.specs.Prelude.{◌==◌, if◌then◌else◌}
-use Rattle.std.specs.Option.{option_map}
+use Rattle.std.proofs.Common.{◌≡◌, ℕ, Bool, true, false, Option, Some, None, [], ◌==◌, if◌then◌else◌, option_map}
 use Rattle.ffa_model.specs.declared.rights.Rights.{Rights}
 use Rattle.ffa_model.specs.Identifiers.{manager}
 use Rattle.ffa_pages.specs.declared.page.KeptPage.{KeptPage}
 use Rattle.ffa_pages.specs.declared.page.Standing.{Standing}
 use Rattle.ffa_pages.specs.Entry.{Entry}
-use Rattle.ffa_pages.specs.Stored.{own_right_in, slot_in, standing_of, entry_of, entries_of}
+use Rattle.ffa_pages.specs.Stored.{own_right_in, slot_in, standing_of, entry_of}
 
 -- the entry of a page that an endpoint owns
 pub entry_of-owned : (page : KeptPage) (right : Rights) (slot : Option ℕ) → (page.owner.0 == manager) ≡ false → own_right_in page.standing ≡ right → slot_in page.standing ≡ slot
@@ -27,8 +25,3 @@ entry_of-marked page before after slot is is_right is_slot = of (page.owner.0 ==
         → entry_if managers after ≡ option_map (λ (e : Entry). record e { slot = slot }) (entry_if managers page.standing)
     of true is = cc
     of false is = cc
-
--- a table with no entry keeps nothing
-pub entries_of-none : (pages : List KeptPage) → entries_of pages ≡ [] → pages ≡ []
-entries_of-none [] none = refl
-entries_of-none (page ∷ pages) none = cc

@@ -1,8 +1,7 @@
 -- SPDX-License-Identifier: MIT OR Apache-2.0
 -- Steps that follow one another.
-use Rattle.std.proofs.Common.{◌≡◌, ◌∙◌, ◌<◌, ◌≤◌, ℕ, Bool, true, false, List, [], ◌∷◌, length, Option, Some, refl, sym, ap, subst, inl, inr}
+use Rattle.std.proofs.Common.{◌≡◌, ◌∙◌, ◌<◌, ◌≤◌, ℕ, Bool, true, false, List, [], ◌∷◌, length, Option, Some, refl, sym, ap, subst, inl, inr, get_or-set_other, length-set}
 use Rattle.std.proofs.lemmas.Bool.{cases_Bool, false≢true}
-use Rattle.std.proofs.lemmas.List.{get_or-set_other, length-set}
 use Rattle.ffa_model.specs.Lists.{is_in_run}
 use Rattle.ffa_model.specs.Ram.{Ram, page_of, with_page}
 use Rattle.ffa_physmem.specs.Moments.{Step, IsInLoan, IsBeside, IsWriting, IsSettling, IsSettledBy, KeepsPages, Adds, One, Only}
@@ -129,10 +128,6 @@ page-beside old new page bytes named is wrote = record {
   size = ap (λ (r : Ram). length r.pages) wrote ∙ length-set old.pages page bytes;
   pages = λ p off. ap (λ (r : Ram). page_of r p) wrote ∙ get_or-set_other old.pages page p bytes [] (λ same. false≢true (sym off ∙ ap named same ∙ is));
 }
-
--- one that is lent
-pub loan-beside : (old : Ram) (page : ℕ) (s : Step) (named : ℕ → Bool) → named page ≡ true → IsInLoan old page s → IsBeside old s.after named
-loan-beside old page s named is loan = page-beside old s.after page loan.to named is loan.after
 
 pub loan-writing : (old : Ram) (page : ℕ) (s : Step) (named : ℕ → Bool) → named page ≡ true → IsInLoan old page s → IsWriting old named s
 loan-writing old page s named is loan = record {

@@ -4,13 +4,10 @@
 use Rattle.std.proofs.Common.{List, Option, None}
 use Rattle.std.proofs.lemmas.Option.{none-some}
 use Rattle.ffa_model.specs.Ram.{Ram}
-use Rattle.ffa_physmem.specs.Moments.{Step, One, Only, TurnsIn}
+use Rattle.ffa_physmem.specs.Moments.{Step, Only, TurnsIn}
 
 pub unrecorded : {old : Option (List Step)} {P : List Step → Step → Type 0} → Only old None P
 unrecorded = record { each = λ h none. absurd (none-some h none) }
-
-pub unrecorded_one : {old : Option (List Step)} {P : Step → Type 0} → One old None P
-unrecorded_one = record { each = λ h none. absurd (none-some h none) }
 
 pub unrecorded_turn : (ram : Ram) → TurnsIn ram None
 unrecorded_turn ram h none = absurd (none-some h none)

@@ -31,7 +31,7 @@ set-same (x ∷ xs) (suc i) d = ap (λ l. x ∷ l) (set-same xs i d)
 page-same : (ram : Ram) (p : ℕ) → with_page ram p (page_of ram p) ≡ ram
 page-same ram p = ap (λ pages. record ram { pages = pages }) (set-same ram.pages p [])
 
-abbrev kept_of : Option (List Step) → List Step
+abbrev pub kept_of : Option (List Step) → List Step
 kept_of None = []
 kept_of (Some h) = h
 

@@ -1,7 +1,6 @@
 -- SPDX-License-Identifier: MIT OR Apache-2.0
 -- Bytes of pages in a row: how many they are, which is at a place, and how others are written there.
-use Rattle.std.proofs.Common.{◌≡◌, ◌∙◌, ℕ, zero, suc, ◌+◌, ◌*◌, ◌/◌, ◌%◌, ◌<◌, ◌≤◌, List, [], ◌++◌, length, take, drop, get_or, refl, sym, ap, arith, length-append}
-use Rattle.std.specs.List.{flat_map}
+use Rattle.std.proofs.Common.{◌≡◌, ◌∙◌, ℕ, zero, suc, ◌+◌, ◌*◌, ◌/◌, ◌%◌, ◌<◌, ◌≤◌, List, [], ◌++◌, length, take, drop, get_or, refl, sym, ap, arith, length-append, flat_map}
 use Rattle.std.proofs.lemmas.List.{drop_all, get_or-drop, get_or-take, get_or_append_left, length-take, set-get_or, take-append-le, take_all}
 use Rattle.std.proofs.Math.Seq.{drop-append-add}
 use Rattle.ffa_model.specs.Lists.{listed, run}

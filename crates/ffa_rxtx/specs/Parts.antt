@@ -1,8 +1,7 @@
 -- SPDX-License-Identifier: MIT OR Apache-2.0
 -- What the checks of a mapping read, and the bytes of TX and RX, over the parts of the machine.
 use Rattle.ffa_model.specs.Access.{Ownership}
-use Rattle.std.specs.Prelude.{◌≡◌, ℕ, zero, suc, ◌+◌, ◌≤◌, Bool, false, ◌||◌, List, [], length, take, drop, is_some, Option, None, Some}
-use Rattle.std.specs.List.{flat_map}
+use Rattle.std.specs.Prelude.{◌≡◌, ℕ, zero, suc, ◌+◌, ◌≤◌, Bool, false, ◌||◌, List, [], length, take, drop, is_some, Option, None, Some, flat_map}
 use Rattle.std.specs.Option.{option_map_or}
 use Rattle.ffa_model.specs.Lists.{is_in_run, run}
 use Rattle.ffa_model.specs.Ram.{Ram, page_of, with_page, with_bytes}

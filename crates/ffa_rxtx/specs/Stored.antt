@@ -1,8 +1,7 @@
 -- SPDX-License-Identifier: MIT OR Apache-2.0
 -- FOR PROOFS ALONE
 -- What the code stores, as clauses see it.
-use Rattle.std.specs.Prelude.{List, map, Option}
-use Rattle.std.specs.Option.{option_map}
+use Rattle.std.specs.Prelude.{List, map, Option, option_map}
 use Rattle.ffa_model.specs.State.{Buffers}
 use Rattle.ffa_rxtx.specs.declared.buffers.Mapped.{Mapped}
 

@@ -1,12 +1,11 @@
 -- SPDX-License-Identifier: MIT OR Apache-2.0
 -- What is kept before and after a step, as run states.
-use Rattle.std.proofs.Common.{◌≡◌, ◌≢◌, ◌∙◌, ℕ, ◌≤◌, true, List, length, replicate, set, Option, Some, None, refl, sym, ap, subst, arith, length-set}
-use Rattle.std.specs.Prelude.{◌||◌}
+use Rattle.std.proofs.Common.{◌≡◌, ◌≢◌, ◌∙◌, ℕ, ◌≤◌, true, List, length, replicate, set, Option, Some, None, refl, sym, ap, subst, arith, length-set, ◌||◌}
 use Rattle.std.proofs.lemmas.Bool.{false≢true}
 use Rattle.std.proofs.lemmas.List.{length-replicate}
 use Rattle.ffa_model.specs.declared.limits.TheConstants.{MOST_ENDPOINTS}
 use Rattle.ffa_model.specs.declared.schedule.Status.{Status}
-use Rattle.ffa_model.specs.declared.schedule.Status.TheVariants.{Running, Waiting, Yielded, Blocked, Preempted, RunsElsewhere}
+use Rattle.ffa_model.specs.declared.schedule.Status.TheVariants.{Waiting, Yielded, Blocked}
 use Rattle.ffa_model.specs.declared.schedule.Work.{Work}
 use Rattle.ffa_model.specs.First.{first_status}
 use Rattle.ffa_model.specs.Identifiers.{place}
@@ -60,9 +59,6 @@ kept-done c d e kept works_for is =
 
 -- a target that doesn't wait, and is given cycles, has yielded
 pub has-yielded : (status : Status) → (is_waiting status || is_yielded status) ≡ true → status ≢ Waiting → status ≡ Yielded
-has-yielded Running idle other = absurd (false≢true idle)
 has-yielded Waiting idle other = absurd (other refl)
 has-yielded Yielded idle other = refl
-has-yielded Blocked idle other = absurd (false≢true idle)
-has-yielded Preempted idle other = absurd (false≢true idle)
-has-yielded RunsElsewhere idle other = absurd (false≢true idle)
+has-yielded _ idle other = absurd (false≢true idle)

@@ -1,10 +1,9 @@
 -- SPDX-License-Identifier: MIT OR Apache-2.0
 -- Memory to which others write: its tables are those of the RAM that the steps led to, and so are its walks.
-use Rattle.std.proofs.Common.{◌≡◌, ◌∙◌, ℕ, ◌+◌, ◌-◌, ◌*◌, ◌/◌, ◌%◌, ◌^◌, ◌<◌, ◌≤◌, true, false, refl, ap, sym, subst, arith, List, [], ◌∷◌, length, Option, Some, Ok, Err, inl, inr, ◌⊎◌, Bool}
-use Rattle.std.specs.Prelude.{◌==◌, ◌||◌, nat_lt, is_ok}
+use Rattle.std.proofs.Common.{◌≡◌, ◌∙◌, ℕ, ◌+◌, ◌-◌, ◌*◌, ◌/◌, ◌%◌, ◌^◌, ◌<◌, ◌≤◌, true, false, refl, ap, sym, subst, arith, List, [], ◌∷◌, length, Option, Some, Ok, Err, inl, inr, ◌⊎◌, Bool, ◌==◌, ◌||◌, nat_lt, is_ok}
 use Rattle.std.proofs.lemmas.Bool.{cases_lt, cases_eq, false_from_ne_true, false≢true, true≢false}
 use Rattle.std.proofs.lemmas.Bool.Decides.{nat_tests}
-use Rattle.std.proofs.lemmas.Option.{none-some, same_Some}
+use Rattle.std.proofs.lemmas.Option.{same_Some}
 use Rattle.ffa_model.specs.declared.limits.TheConstants.{MOST_BLOCKS}
 use Rattle.ffa_model.specs.declared.leaf.Leaf.{Leaf}
 use Rattle.ffa_model.specs.declared.rights.Rights.{Rights}
@@ -277,9 +276,6 @@ module _ (old new : Ram) (n tables b : ℕ) (g : List Step) (begun : (s : Step) 
       walk = led;
       lets = record { write = may.lets.write; page = their-page };
     }
-
-    unsettled : (e q : ℕ) → Settles e q x → ⊥
-    unsettled e q (its, is, _, _) = none-some its (sym others.none ∙ is)
 
     others-reads : (e q page i v : ℕ) → IsTablePage n tables b page → MayRead e q (x ∷ memory) x.after page i v → MayRead e q alone.history alone.ram page i v
     others-reads e q page i v low (inl is) =

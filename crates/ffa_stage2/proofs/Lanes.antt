@@ -1,8 +1,7 @@
 -- SPDX-License-Identifier: MIT OR Apache-2.0
 -- From the lanes of one load to the words of a page.
-use Rattle.std.proofs.Common.{◌≡◌, ◌∙◌, ℕ, zero, suc, ◌+◌, ◌-◌, ◌*◌, ◌/◌, drop, inl, inr, ◌%◌, ◌^◌, ◌<◌, ◌≤◌, ◌↔◌, Bool, true, false, not, cond, List, [], ◌∷◌, map, length, get_or, Fits, w8, w64, refl, ap, sym, subst, arith, eqb}
+use Rattle.std.proofs.Common.{◌≡◌, ◌∙◌, ℕ, suc, ◌+◌, ◌-◌, ◌*◌, ◌/◌, drop, inl, inr, ◌%◌, ◌^◌, ◌<◌, ◌≤◌, ◌↔◌, Bool, true, false, not, cond, List, [], ◌∷◌, map, length, get_or, Fits, w8, w64, refl, ap, sym, subst, arith, eqb, get_or-drop}
 use Rattle.std.proofs.lemmas.Bool.{eqb-true, eq-eqb, cases_eq, cases_lt, ne_eqb, both_ways}
-use Rattle.std.proofs.lemmas.List.{get_or-drop}
 use Rattle.std.proofs.lemmas.Simd.{tops_compared, mask_l-mod, bit_mask_l, get_or-zip2, length-zip2, get_or_wider, length-chunk, get_or-chunk, chunk-fits, below_from_Fits}
 use lib.Lanes.{chunk, zip2, mask_l, top, number_l, digits_l}
 use Rattle.byteorder.specs.Endian.{little_number}
@@ -49,15 +48,7 @@ masked xs ys hx hy =
 
 number-eight : (xs : List ℕ) → length xs ≡ 8 → number_l 256 xs ≡ little_number 8 xs
 number-eight (a ∷ b ∷ c ∷ d ∷ e ∷ f ∷ g ∷ h ∷ []) long = refl
-number-eight [] long = absurd (omega arith)
-number-eight (a ∷ []) long = absurd (omega arith)
-number-eight (a ∷ b ∷ []) long = absurd (omega arith)
-number-eight (a ∷ b ∷ c ∷ []) long = absurd (omega arith)
-number-eight (a ∷ b ∷ c ∷ d ∷ []) long = absurd (omega arith)
-number-eight (a ∷ b ∷ c ∷ d ∷ e ∷ []) long = absurd (omega arith)
-number-eight (a ∷ b ∷ c ∷ d ∷ e ∷ f ∷ []) long = absurd (omega arith)
-number-eight (a ∷ b ∷ c ∷ d ∷ e ∷ f ∷ g ∷ []) long = absurd (omega arith)
-number-eight (a ∷ b ∷ c ∷ d ∷ e ∷ f ∷ g ∷ h ∷ i ∷ xs) long = absurd (omega arith)
+number-eight _ long = absurd (omega arith)
 
 -- lane j of a load is a word of the page
 pub lane_word : (page : List ℕ) (at j : ℕ) → 8 * (at + 8) ≤ length page → ((k : ℕ) → Fits w8 (get_or page k 0)) → j < 8
@@ -80,15 +71,8 @@ wanted first =
     ∷ (first + 0x4000) % 2 ^ 64 ∷ (first + 0x5000) % 2 ^ 64 ∷ (first + 0x6000) % 2 ^ 64 ∷ (first + 0x7000) % 2 ^ 64 ∷ []
 
 wanted_lane : (first j : ℕ) → j < 8 → get_or (wanted first) j 0 ≡ (first + 4096 * j) % 2 ^ 64
-wanted_lane first zero hj = refl
-wanted_lane first (suc zero) hj = refl
-wanted_lane first (suc (suc zero)) hj = refl
-wanted_lane first (suc (suc (suc zero))) hj = refl
-wanted_lane first (suc (suc (suc (suc zero)))) hj = refl
-wanted_lane first (suc (suc (suc (suc (suc zero))))) hj = refl
-wanted_lane first (suc (suc (suc (suc (suc (suc zero)))))) hj = refl
-wanted_lane first (suc (suc (suc (suc (suc (suc (suc zero))))))) hj = refl
 wanted_lane first (suc (suc (suc (suc (suc (suc (suc (suc n)))))))) hj = absurd (omega arith)
+wanted_lane first _ hj = refl
 
 -- the lanes are as wanted exactly where the words are a run
 pub lanes_run : (page : List ℕ) (at first : ℕ) → 8 * (at + 8) ≤ length page → ((k : ℕ) → Fits w8 (get_or page k 0))

@@ -1,7 +1,6 @@
 -- SPDX-License-Identifier: MIT OR Apache-2.0
 -- What walks may have read while tables are written, and so what they give.
-use Rattle.std.proofs.Common.{◌≡◌, ◌≢◌, ◌∙◌, ℕ, ◌+◌, ◌-◌, ◌*◌, ◌/◌, ◌%◌, ◌^◌, ◌<◌, ◌≤◌, true, false, refl, ap, sym, subst, arith, List, [], ◌∷◌, length, Option, Some, None, Err, inl, inr, ◌⊎◌}
-use Rattle.std.specs.Prelude.{◌==◌, nat_lt, if◌then◌else◌}
+use Rattle.std.proofs.Common.{◌≡◌, ◌≢◌, ◌∙◌, ℕ, ◌+◌, ◌-◌, ◌*◌, ◌/◌, ◌%◌, ◌^◌, ◌<◌, ◌≤◌, true, false, refl, ap, sym, subst, arith, List, [], ◌∷◌, length, Option, Some, Err, inl, inr, ◌⊎◌, ◌==◌, nat_lt, if◌then◌else◌}
 use Rattle.std.proofs.lemmas.Bool.{cases_lt, cases_eq}
 use Rattle.std.proofs.lemmas.Bool.Decides.{nat_tests}
 use Rattle.std.proofs.Math.Nat.{mul-le-mul_right}
@@ -23,7 +22,8 @@ use Rattle.ffa_stage2.specs.Rest.{IsAsIn, Reads, ReadsBlock, ReadsTable}
 use Rattle.ffa_stage2.specs.Tables.{HasRoom, IsStanding, level1_place, level2_place, rights_of_block, table_link, table_page}
 use Rattle.ffa_stage2.proofs.Descriptors.{block_word-type, entry-page, from_level1-table, from_level1-zero, from_level2-block_word, from_level2-table, from_level2-zero, from_level3-page_word}
 use Rattle.ffa_stage2.proofs.Kept.{HasRoom-kept}
-use Rattle.ffa_stage2.proofs.Places.{table_page-address, table_page-below, table_page-below_end, table_page-there}
+use Rattle.ffa_stage2.proofs.Places.{table_page-address, table_page-below, table_page-there}
+use Rattle.ffa_stage2.proofs.Moments.{answer-none}
 
 -- ---- what may be read
 
@@ -264,10 +264,6 @@ module _ (old : Ram) (n tables b : ℕ) (h : List Step) (s : Step) (Is : ℕ →
 
 -- ---- the walk of a mixture
 
-nothing : (q : Option Rights) (a : ℕ) → q ≡ None → mapped_answer q a ≡ Err Translation
-unfolding mapped_answer
-nothing q a none = ap (λ (r : Option Rights). mapped_answer r a) none
-
 -- what stands on the way to page j of block k: nothing, a block, or the descriptors of a table and of the page
 abbrev IsWay : Ram → ℕ → ℕ → ℕ → ℕ → ℕ → (Option Rights → Type 0) → Type 0
 IsWay m tables b e k j Is =
@@ -473,10 +469,10 @@ mixed-between old new ram n tables b h room base base' reads e a m he ha mix =
           let low' : ram.base ≤ a = subst (λ (c : ℕ). c ≤ a) mix.base low in
           let at : ram.base + 4096 * page_at ram a + a % 4096 ≡ a = omega (arith, aligned, low') in
           elim its [
-            | inl (inl none) ↦ inr (inr (is ∙ nothing q a none))
+            | inl (inl none) ↦ inr (inr (is ∙ answer-none q a none))
             | inl (inr walked) ↦
                 inl (is ∙ subst (λ (x : ℕ). mapped_answer q x ≡ walk_at old tables b e x) (ap (λ (c : ℕ). c + 4096 * page_at ram a + a % 4096) (sym base) ∙ at) (walked (a % 4096) (omega arith)))
-            | inr (inl none) ↦ inr (inr (is ∙ nothing q a none))
+            | inr (inl none) ↦ inr (inr (is ∙ answer-none q a none))
             | inr (inr walked) ↦
                 inr (inl (is ∙ subst (λ (x : ℕ). mapped_answer q x ≡ walk_at new tables b e x) (ap (λ (c : ℕ). c + 4096 * page_at ram a + a % 4096) (base' ∙ sym base) ∙ at) (walked (a % 4096) (omega arith))))
           ]

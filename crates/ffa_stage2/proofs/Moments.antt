@@ -1,10 +1,8 @@
 -- SPDX-License-Identifier: MIT OR Apache-2.0
 -- On the way to other rights: what stands between two writes.
-use Rattle.std.proofs.Common.{◌≡◌, ◌≢◌, ◌∙◌, ℕ, ◌+◌, ◌-◌, ◌*◌, ◌/◌, ◌%◌, ◌^◌, ◌<◌, ◌≤◌, true, false, refl, ap, sym, subst, arith, List, length, Option, Some, None, Err, inl, inr, ◌⊎◌}
-use Rattle.std.specs.Prelude.{◌==◌, ◌&&◌, nat_le, nat_lt, if◌then◌else◌, Bool, is_some, is_ok}
+use Rattle.std.proofs.Common.{◌≡◌, ◌≢◌, ◌∙◌, ℕ, ◌+◌, ◌-◌, ◌*◌, ◌/◌, ◌%◌, ◌^◌, ◌<◌, ◌≤◌, true, false, refl, ap, sym, subst, arith, List, length, Option, Some, None, Err, inl, inr, ◌⊎◌, ◌==◌, ◌&&◌, nat_le, nat_lt, if◌then◌else◌, Bool, is_some, is_ok}
 use Rattle.std.proofs.lemmas.Bool.{cases_lt, cases_eq, cases_Bool, false_from_ne_true, true≢false}
 use Rattle.std.proofs.lemmas.Bool.Decides.{nat_tests}
-use Rattle.std.proofs.Math.Nat.{mul-le-mul_right}
 use Rattle.ffa_model.specs.Ram.{Ram, page_of, with_page, word_of, with_word}
 use Rattle.ffa_model.specs.Walk.{is_in_ram, mapped_answer}
 use Rattle.ffa_model.specs.Descriptor.{page_word}
@@ -377,11 +375,11 @@ walk-page ram n tables b rights e p base stands is he hp =
     ∙ ap (λ (t : Bool). mapped_answer (if t then rights e ((base + 4096 * p - ram.base) / 4096) else None) (base + 4096 * p)) inside
     ∙ ap (λ (q : ℕ). mapped_answer (rights e q) (base + 4096 * p)) page
 
-answer-none : (r : Option Rights) (a : ℕ) → r ≡ None → mapped_answer r a ≡ Err Translation
+pub answer-none : (r : Option Rights) (a : ℕ) → r ≡ None → mapped_answer r a ≡ Err Translation
 unfolding mapped_answer
 answer-none r a none = ap (λ (q : Option Rights). mapped_answer q a) none
 
-answer-some : (r : Option Rights) (a : ℕ) → is_some r ≡ is_ok (mapped_answer r a)
+pub answer-some : (r : Option Rights) (a : ℕ) → is_some r ≡ is_ok (mapped_answer r a)
 unfolding mapped_answer
 answer-some None a = refl
 answer-some (Some r) a = refl

@@ -1,7 +1,6 @@
 -- SPDX-License-Identifier: MIT OR Apache-2.0
 -- Steps on the way from one RAM to another: what walks in mixtures give at each, and that the tables are at rest behind the last.
-use Rattle.std.proofs.Common.{◌≡◌, ◌∙◌, ℕ, ◌+◌, ◌-◌, ◌*◌, ◌/◌, ◌^◌, ◌<◌, ◌≤◌, Bool, true, false, refl, ap, sym, subst, arith, List, [], ◌∷◌, length, Option, Some, None, Err, inl, inr, ◌⊎◌}
-use Rattle.std.specs.Prelude.{◌==◌, ◌&&◌, is_some, is_ok, if◌then◌else◌}
+use Rattle.std.proofs.Common.{◌≡◌, ◌∙◌, ℕ, ◌+◌, ◌-◌, ◌*◌, ◌/◌, ◌^◌, ◌<◌, ◌≤◌, Bool, true, false, refl, ap, sym, subst, arith, List, [], ◌∷◌, length, Option, Some, None, Err, inl, inr, ◌⊎◌, ◌==◌, ◌&&◌, is_some, is_ok, if◌then◌else◌}
 use Rattle.std.proofs.lemmas.Bool.{cases_Bool, true≢false}
 use Rattle.std.proofs.lemmas.Bool.Decides.{nat_tests}
 use Rattle.ffa_model.specs.declared.limits.TheConstants.{MOST_BLOCKS}
@@ -18,8 +17,8 @@ use Rattle.ffa_stage2.specs.Orders.{IsOrdered}
 use Rattle.ffa_stage2.specs.Rest.{AllSettled, AreAtRest, AreMixed, IsAsIn, IsWalked, Reads, ReadsBlock, ReadsTable, RestIn, WalksSameOrNone}
 use Rattle.ffa_stage2.specs.Tables.{HasRoom, IsBuilt, IsStanding, WalksChange, is_in_pages, level2_place, table_page}
 use Rattle.ffa_stage2.proofs.Mixtures.{IsAsInEither, OneDiffers, may-kept, mixed-between, reads-behind, walk-mixed, walk-words}
-use Rattle.ffa_stage2.proofs.Moments.{ordered-aside}
-use Rattle.ffa_stage2.proofs.Places.{IsTablePage, table_page-below_end, table_page-there}
+use Rattle.ffa_stage2.proofs.Moments.{ordered-aside, answer-none, answer-some}
+use Rattle.ffa_stage2.proofs.Places.{IsTablePage, table_page-there}
 use Rattle.ffa_stage2.proofs.Walks.{walk-built}
 
 -- ---- many steps
@@ -95,11 +94,6 @@ may-unchanged n tables b e p (s ∷ h) ram (at, placed, turn) (inr (kept, settle
       ∙ ap (λ (r : Ram). word_of (page_of r page) i) at
 ]
 
-some-answer : (r : Option Rights) (a : ℕ) → is_some r ≡ is_ok (mapped_answer r a)
-unfolding mapped_answer
-some-answer None a = refl
-some-answer (Some r) a = refl
-
 none-of : (r : Option Rights) → is_some r ≡ false → r ≡ None
 none-of None h = refl
 none-of (Some r) h = absurd (true≢false h)
@@ -130,18 +124,14 @@ some-walked : (ram : Ram) (n tables b : ℕ) (rights : ℕ → ℕ → Option Ri
     → is_ok (walk_at ram tables b e (ram.base + 4096 * p)) ≡ is_some (rights e p)
 some-walked ram n tables b rights e p built he hp =
     let zero : ram.base + 4096 * p + 0 ≡ ram.base + 4096 * p = omega arith in
-    ap (λ (y : ℕ). is_ok (walk_at ram tables b e y)) (sym zero) ∙ ap is_ok (walk-byte ram n tables b rights e p 0 built he hp (omega arith)) ∙ sym (some-answer (rights e p) (ram.base + 4096 * p + 0))
-
-none-answers : (q : Option Rights) (x : ℕ) → q ≡ None → mapped_answer q x ≡ Err Translation
-unfolding mapped_answer
-none-answers q x none = ap (λ (r : Option Rights). mapped_answer r x) none
+    ap (λ (y : ℕ). is_ok (walk_at ram tables b e y)) (sym zero) ∙ ap is_ok (walk-byte ram n tables b rights e p 0 built he hp (omega arith)) ∙ sym (answer-some (rights e p) (ram.base + 4096 * p + 0))
 
 -- a right that is none, or what walks give where there is none
 as-none : (ram : Ram) (n tables b : ℕ) (rights : ℕ → ℕ → Option Rights) (e p i x : ℕ) (q : Option Rights) → IsBuilt ram n tables b rights → e < n → p < 512 * b → i < 4096 → is_some (rights e p) ≡ false
     → x ≡ ram.base + 4096 * p + i → IsAsIn ram tables b e p q → mapped_answer q x ≡ Err Translation
-as-none ram n tables b rights e p i x q built he hp hi gone at (inl none) = none-answers q x none
+as-none ram n tables b rights e p i x q built he hp hi gone at (inl none) = answer-none q x none
 as-none ram n tables b rights e p i x q built he hp hi gone at (inr walked) =
-    ap (mapped_answer q) at ∙ walked i hi ∙ walk-byte ram n tables b rights e p i built he hp hi ∙ none-answers (rights e p) (ram.base + 4096 * p + i) (none-of (rights e p) gone)
+    ap (mapped_answer q) at ∙ walked i hi ∙ walk-byte ram n tables b rights e p i built he hp hi ∙ answer-none (rights e p) (ram.base + 4096 * p + i) (none-of (rights e p) gone)
 
 -- so the walk in a mixture gives nothing, where all that is read leads nowhere
 mixed-none : (ram m : Ram) (n tables b e p i : ℕ) (h : List Step) (Is : ℕ → ℕ → Option Rights → Type 0) → HasRoom ram n tables b → e < n → p < 512 * b → i < 4096 → Reads ram.base n tables b h ram Is
@@ -165,7 +155,7 @@ settled-none ram m n tables b e p i h rights stands turn settled none he hp hi m
     elim (walk-words ram m n tables b e a rights stands he (omega arith) mix.base mix.size
     (λ t j ht hj. may-unchanged n tables b e p h ram turn settled (table_page tables b e t) j _ (table_page-there n tables b e t he ht) (mix.words t j ht hj))) [
       | inl nothing ↦ nothing
-      | inr (q, its, low, is) ↦ is ∙ none-answers q a (its ∙ ap (rights e) at ∙ none)
+      | inr (q, its, low, is) ↦ is ∙ answer-none q a (its ∙ ap (rights e) at ∙ none)
     ]
 
 -- a mixture is one of what was before a step that changes no table
@@ -271,36 +261,37 @@ module _ (old new : Ram) (n tables b : ℕ) (past later : Option (List Step)) (r
 
 -- ---- at rest again
 
+-- a page of which nobody else reads anything
+settled-reads : (ram : Ram) (n tables b : ℕ) (access : ℕ → ℕ → Option Rights) → IsBuilt ram n tables b access → (h : List Step) → AreInTurn h ram
+    → (e k j : ℕ) → e < n → k < b → j < 512 → IsSettledBy tables (table_page tables b n 0) e (512 * k + j) h
+    → ReadsBlock ram.base tables b e k j h ram (IsAsIn ram tables b e (512 * k + j)) ⊎ ReadsTable ram.base tables b e k j h ram (IsAsIn ram tables b e (512 * k + j))
+settled-reads ram n tables b access built h turn e k j he hk hj its =
+    let hp : 512 * k + j < 512 * b = omega (arith, hk, hj) in
+    let second = table_page-there n tables b e 1 he (omega arith) in
+    let third = table_page-there n tables b e (2 + k) he (omega (arith, hk)) in
+    elim (built.each e k he hk) [
+      | inl it ↦ inl (record {
+        middle = λ v read. inr (
+          it.right,
+          inr (walked-of ram n tables b access e (512 * k + j) (Some it.right) built he hp (sym (it.one j hj))),
+          may-unchanged n tables b e (512 * k + j) h ram turn its (table_page tables b e 1) (level2_place ram.base + k) v second read ∙ it.is,
+        );
+      })
+      | inr (it, _) ↦ inr (record {
+        middle = λ v read. inr (may-unchanged n tables b e (512 * k + j) h ram turn its (table_page tables b e 1) (level2_place ram.base + k) v second read ∙ it.is);
+        leaf = λ v read. (
+          access e (512 * k + j),
+          inr (walked-of ram n tables b access e (512 * k + j) (access e (512 * k + j)) built he hp refl),
+          may-unchanged n tables b e (512 * k + j) h ram turn its (table_page tables b e (2 + k)) j v third read ∙ it.pages j hj,
+        );
+      })
+    ]
+
 module _ (old new : Ram) (n tables b : ℕ) (access after : ℕ → ℕ → Option Rights) (was : IsBuilt old n tables b access) (is : IsBuilt new n tables b after) (stays : new.base ≡ old.base) (h : List Step)
     (turn : AreInTurn h new)
     (ended : (e p : ℕ) → e < n → p < 512 * b → is_ok (walk_at old tables b e (old.base + 4096 * p)) ≡ true → is_ok (walk_at new tables b e (new.base + 4096 * p)) ≡ false
     → IsSettledBy tables (table_page tables b n 0) e p h)
     (steady : WalksSameOrNone old new n tables b) where
-  -- a page of which nobody else reads anything
-  each-settled : (e k j : ℕ) → e < n → k < b → j < 512 → IsSettledBy tables (table_page tables b n 0) e (512 * k + j) h
-      → ReadsBlock new.base tables b e k j h new (IsAsIn new tables b e (512 * k + j)) ⊎ ReadsTable new.base tables b e k j h new (IsAsIn new tables b e (512 * k + j))
-  each-settled e k j he hk hj settled =
-      let hp : 512 * k + j < 512 * b = omega (arith, hk, hj) in
-      let second = table_page-there n tables b e 1 he (omega arith) in
-      let third = table_page-there n tables b e (2 + k) he (omega (arith, hk)) in
-      elim (is.each e k he hk) [
-        | inl it ↦ inl (record {
-          middle = λ v read. inr (
-            it.right,
-            inr (walked-of new n tables b after e (512 * k + j) (Some it.right) is he hp (sym (it.one j hj))),
-            may-unchanged n tables b e (512 * k + j) h new turn settled (table_page tables b e 1) (level2_place new.base + k) v second read ∙ it.is,
-          );
-        })
-        | inr (it, _) ↦ inr (record {
-          middle = λ v read. inr (may-unchanged n tables b e (512 * k + j) h new turn settled (table_page tables b e 1) (level2_place new.base + k) v second read ∙ it.is);
-          leaf = λ v read. (
-            after e (512 * k + j),
-            inr (walked-of new n tables b after e (512 * k + j) (after e (512 * k + j)) is he hp refl),
-            may-unchanged n tables b e (512 * k + j) h new turn settled (table_page tables b e (2 + k)) j v third read ∙ it.pages j hj,
-          );
-        })
-      ]
-
   -- a right that is what it was
   as-new : (e p : ℕ) → e < n → p < 512 * b → ((is_some (access e p) ≡ false) ⊎ ((is_some (access e p) ≡ true) × (is_some (after e p) ≡ true)))
       → (r : Option Rights) → IsAsInEither old new tables b e p r → IsAsIn new tables b e p r
@@ -310,16 +301,16 @@ module _ (old new : Ram) (n tables b : ℕ) (access after : ℕ → ℕ → Opti
     | inl gone ↦
         let first = walked 0 (omega arith) in
         let same : is_some r ≡ is_some (access e p) =
-        some-answer r (old.base + 4096 * p + 0) ∙ ap is_ok (first ∙ walk-byte old n tables b access e p 0 was he hp (omega arith)) ∙ sym (some-answer (access e p) (old.base + 4096 * p + 0))
+        answer-some r (old.base + 4096 * p + 0) ∙ ap is_ok (first ∙ walk-byte old n tables b access e p 0 was he hp (omega arith)) ∙ sym (answer-some (access e p) (old.base + 4096 * p + 0))
         in
         inl (none-of r (same ∙ gone))
     | inr (there, here) ↦ inr (λ i hi.
         let within : old.base + 0x200000 * b ≤ 2 ^ 32 = was.fits.within in
         let x : ℕ = old.base + 4096 * p + i in
         let same : new.base + 4096 * p + i ≡ x = ap (λ (c : ℕ). c + 4096 * p + i) stays in
-        let ok : is_ok (walk_at old tables b e x) ≡ true = ap is_ok (walk-byte old n tables b access e p i was he hp hi) ∙ sym (some-answer (access e p) x) ∙ there in
+        let ok : is_ok (walk_at old tables b e x) ≡ true = ap is_ok (walk-byte old n tables b access e p i was he hp hi) ∙ sym (answer-some (access e p) x) ∙ there in
         let ok' : is_ok (walk_at new tables b e x) ≡ true =
-        ap (λ (y : ℕ). is_ok (walk_at new tables b e y)) (sym same) ∙ ap is_ok (walk-byte new n tables b after e p i is he hp hi) ∙ sym (some-answer (after e p) (new.base + 4096 * p + i)) ∙ here
+        ap (λ (y : ℕ). is_ok (walk_at new tables b e y)) (sym same) ∙ ap is_ok (walk-byte new n tables b after e p i is he hp hi) ∙ sym (answer-some (after e p) (new.base + 4096 * p + i)) ∙ here
         in
         subst (λ (y : ℕ). mapped_answer r y ≡ walk_at new tables b e y) (sym same) (walked i hi ∙ sym (steady e x he (omega arith) ok ok')))
   ]
@@ -334,7 +325,7 @@ module _ (old new : Ram) (n tables b : ℕ) (access after : ℕ → ℕ → Opti
           | inr gone ↦ more e k j he hk hj (inl gone) (reads.each e k j he hk hj)
           | inl there ↦ elim (cases_Bool (is_some (after e (512 * k + j)))) [
             | inl here ↦ more e k j he hk hj (inr (there, here)) (reads.each e k j he hk hj)
-            | inr over ↦ each-settled e k j he hk hj (ended e (512 * k + j) he hp (some-walked old n tables b access e (512 * k + j) was he hp ∙ there) (some-walked new n tables b after e (512 * k + j) is he hp ∙ over))
+            | inr over ↦ settled-reads new n tables b after is h turn e k j he hk hj (ended e (512 * k + j) he hp (some-walked old n tables b access e (512 * k + j) was he hp ∙ there) (some-walked new n tables b after e (512 * k + j) is he hp ∙ over))
           ]
         ];
   }
@@ -424,26 +415,7 @@ rest-of-settled ram n tables b access h built turn begun settled = record {
     each = λ e k j he hk hj.
         let few : b ≤ MOST_BLOCKS = built.fits.few in
         let hp : 512 * k + j < 512 * b = omega (arith, hk, hj) in
-        let its : IsSettledBy tables (table_page tables b n 0) e (512 * k + j) h = settled e (512 * k + j) he (omega (arith, hp, few)) in
-        let second = table_page-there n tables b e 1 he (omega arith) in
-        let third = table_page-there n tables b e (2 + k) he (omega (arith, hk)) in
-        elim (built.each e k he hk) [
-          | inl it ↦ inl (record {
-            middle = λ v read. inr (
-              it.right,
-              inr (walked-of ram n tables b access e (512 * k + j) (Some it.right) built he hp (sym (it.one j hj))),
-              may-unchanged n tables b e (512 * k + j) h ram turn its (table_page tables b e 1) (level2_place ram.base + k) v second read ∙ it.is,
-            );
-          })
-          | inr (it, _) ↦ inr (record {
-            middle = λ v read. inr (may-unchanged n tables b e (512 * k + j) h ram turn its (table_page tables b e 1) (level2_place ram.base + k) v second read ∙ it.is);
-            leaf = λ v read. (
-              access e (512 * k + j),
-              inr (walked-of ram n tables b access e (512 * k + j) (access e (512 * k + j)) built he hp refl),
-              may-unchanged n tables b e (512 * k + j) h ram turn its (table_page tables b e (2 + k)) j v third read ∙ it.pages j hj,
-            );
-          })
-        ];
+        settled-reads ram n tables b access built h turn e k j he hk hj (settled e (512 * k + j) he (omega (arith, hp, few)));
   };
 }
 

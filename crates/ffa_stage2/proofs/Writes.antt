@@ -1,10 +1,8 @@
 -- SPDX-License-Identifier: MIT OR Apache-2.0
 -- One write in the tables, for any words.
-use Rattle.std.proofs.Common.{◌≡◌, ◌≢◌, ◌∙◌, ℕ, ◌^◌, ◌<◌, true, false, refl, ap, sym, arith, List, [], length, inl, inr, ◌⊎◌}
-use Rattle.std.specs.Prelude.{◌==◌, ◌&&◌, if◌then◌else◌}
+use Rattle.std.proofs.Common.{◌≡◌, ◌≢◌, ◌∙◌, ℕ, ◌^◌, ◌<◌, true, false, refl, ap, sym, arith, List, [], length, inl, inr, ◌⊎◌, ◌==◌, ◌&&◌, if◌then◌else◌, get_or-set_other, get_or-set_same, length-set}
 use Rattle.std.proofs.lemmas.Bool.{cases_eq}
 use Rattle.std.proofs.lemmas.Bool.Decides.{nat_tests}
-use Rattle.std.proofs.lemmas.List.{get_or-set_other, get_or-set_same, length-set}
 use Rattle.std.proofs.lemmas.Nat.{same_from_place}
 use Rattle.ffa_model.specs.Ram.{Ram, page_of, with_page, word_of, with_word}
 use Rattle.ffa_model.specs.Manifest.{table_pages}

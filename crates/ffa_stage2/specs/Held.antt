@@ -1,7 +1,7 @@
 -- SPDX-License-Identifier: MIT OR Apache-2.0
 -- What a translation unit may hold for a page: the answer of any walk since the page was last settled, each in a mixture of its
 -- own time (DDI 0487, C5.5, TLBI IPAS2E1IS and TLBI VMALLE1IS).
-use Rattle.std.specs.Prelude.{◌≡◌, true, ℕ, ◌+◌, ◌*◌, ◌^◌, ◌<◌, ◌≤◌, ◌⊎◌, is_ok, List, [], ◌∷◌, Err}
+use Rattle.std.specs.Prelude.{◌≡◌, true, ℕ, ◌+◌, ◌*◌, ◌^◌, ◌<◌, ◌⊎◌, is_ok, List, [], ◌∷◌, Err}
 use Rattle.ffa_model.specs.Ram.{Ram, page_of}
 use Rattle.ffa_model.specs.Walk.{Answer}
 use Rattle.ffa_model.specs.declared.operation.FaultKind.TheVariants.{Translation}

@@ -1,7 +1,6 @@
 -- SPDX-License-Identifier: MIT OR Apache-2.0
 -- The slots of a cache.
-use Rattle.std.specs.Prelude.{ℕ, Bool, true, false, ◌&&◌, List, [], ◌∷◌, map, Option, None, Some, is_none, if◌then◌else◌}
-use Rattle.std.specs.List.{filter_map}
+use Rattle.std.specs.Prelude.{ℕ, Bool, true, false, ◌&&◌, List, [], ◌∷◌, map, Option, None, Some, is_none, if◌then◌else◌, filter_map}
 use Rattle.ffa_tlb.specs.declared.translations.Entry.{Entry}
 use Rattle.ffa_tlb.specs.Lookups.{is_pair, lookup}
 

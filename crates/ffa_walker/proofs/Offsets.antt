@@ -1,15 +1,14 @@
 -- SPDX-License-Identifier: MIT OR Apache-2.0
 -- The walk keeps the low 12 bits of an address, so that an aligned access stays in one page.
-use Rattle.std.proofs.Common.{◌≡◌, ℕ, ◌*◌, ◌%◌, ◌^◌, arith}
+use Rattle.std.proofs.Common.{◌≡◌, ℕ, ◌*◌, ◌%◌, ◌^◌, arith, ◌==◌, nat_lt}
 use Rattle.std.proofs.lemmas.Bool.{cond_both}
-use Rattle.std.specs.Prelude.{◌==◌, nat_lt}
 use Rattle.ffa_model.specs.Bits.{bits}
 use Rattle.ffa_model.specs.Ram.{Ram}
 use Rattle.ffa_model.specs.Walk.{Answer, is_page_address, entry, leaf_of, by_type, in_table, from_level3, from_level2, from_level1, walk}
 use Rattle.ffa_model.specs.Memory.{size_of}
 use Rattle.ffa_walker.specs.Offset.{KeepsOffset}
 use Rattle.ffa_model.specs.declared.operation.Size.{Size}
-use Rattle.ffa_model.specs.declared.operation.Size.TheVariants.{B1, B2, B4, B8}
+use Rattle.ffa_model.specs.declared.operation.Size.TheVariants.{B1}
 
 KeepsOffset-leaf_of : (word phys address : ℕ) → phys % 4096 ≡ address % 4096 → KeepsOffset address (leaf_of word phys)
 unfolding leaf_of
@@ -51,6 +50,4 @@ KeepsOffset-walk ram root address =
 -- addresses at one place of their pages are aligned alike
 pub same_alignment : (size : Size) (physical address : ℕ) → physical % 4096 ≡ address % 4096 → address % size_of size ≡ 0 → physical % size_of size ≡ 0
 same_alignment B1 physical address place aligned = omega arith
-same_alignment B2 physical address place aligned = omega arith
-same_alignment B4 physical address place aligned = omega arith
-same_alignment B8 physical address place aligned = omega arith
+same_alignment _ physical address place aligned = omega arith

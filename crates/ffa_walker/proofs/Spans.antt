@@ -1,24 +1,21 @@
 -- SPDX-License-Identifier: MIT OR Apache-2.0
 -- Spans of addresses that runs of pages certify: how they are joined, and what descriptors say of theirs.
-use Rattle.std.proofs.Common.{◌≡◌, ◌∙◌, ℕ, suc, ◌+◌, ◌-◌, ◌*◌, ◌/◌, ◌%◌, ◌^◌, ◌<◌, ◌≤◌, Bool, true, false, List, length, drop, get_or, Option, Some, None, Result, Ok, Err, refl, sym, ap, ap₂, arith, inl, inr}
-use Rattle.std.specs.Prelude.{◌==◌, ◌↔◌, ◌≢◌, ◌&&◌, IsTrue, if◌then◌else◌, max, min, is_some, not, nat_lt, slice_index_or}
+use Rattle.std.proofs.Common.{◌≡◌, ◌∙◌, ℕ, suc, ◌+◌, ◌-◌, ◌*◌, ◌/◌, ◌%◌, ◌^◌, ◌<◌, ◌≤◌, Bool, true, false, List, length, drop, get_or, Option, Some, None, Result, Ok, Err, refl, sym, ap, ap₂, arith, inl, inr, ◌==◌, ◌↔◌, ◌≢◌, ◌&&◌, IsTrue, if◌then◌else◌, max, min, is_some, not, nat_lt, slice_index_or}
 use Rattle.std.specs.Result.{result_ok}
 use Rattle.std.proofs.lemmas.Bool.{both_ways, cases_lt, eq-eqb, eqb-false, eqb-true, false≢true, le-leb, le-ltb, lt-leb, lt-ltb, ne_eqb}
 use Rattle.std.proofs.lemmas.List.{drop_all}
 use Rattle.std.proofs.Math.Seq.{drop-cons}
 use Rattle.ffa_model.specs.Bits.{bits, is_set}
 use Rattle.ffa_model.specs.Certified.{access_in, access_to, certified_answer}
-use Rattle.ffa_model.specs.Codes.{data_from, data_from-may_write}
 use Rattle.ffa_model.specs.Ram.{Ram}
-use Rattle.ffa_model.specs.Rights.{may_write}
 use Rattle.ffa_model.specs.Walk.{Answer, by_type, in_table, is_in_ram, is_page_address, leaf_of, mapped_answer}
 use Rattle.ffa_model.specs.declared.certificate.CertRun.{CertRun}
 use Rattle.ffa_model.specs.declared.leaf.Leaf.{Leaf}
 use Rattle.ffa_model.specs.declared.operation.FaultKind.{FaultKind}
 use Rattle.ffa_model.specs.declared.operation.FaultKind.TheVariants.{Translation, AccessFlag, OutsideRam}
-use Rattle.ffa_model.specs.declared.rights.Data.{Data}
 use Rattle.ffa_model.specs.declared.rights.Rights.{Rights}
 use Rattle.ffa_walker.specs.Spans.{AreCertified, HaveAccess, HavePages}
+use Rattle.ffa_model.proofs.Certificates.{same-level}
 
 -- one fact is another's, and that a third's
 pub through : {A B C : Type 0} → (A ↔ B) → (B ↔ C) → (A ↔ C)
@@ -30,9 +27,6 @@ leaf_in : Answer → Leaf
 leaf_in (Ok leaf) = leaf
 leaf_in (Err fault) = record { phys = 0; read = false; write = false; exec = false }
 
-same-level : (a b : Data) → may_write a ≡ may_write b → a ≡ b
-same-level a b e = sym (data_from-may_write a) ∙ ap data_from e ∙ data_from-may_write b
-
 same-leaf : (l m : Leaf) (a b : Answer) → a ≡ Ok l → b ≡ Ok m → a ≡ b → l ≡ m
 unfolding leaf_in
 same-leaf l m a b al bm e = ap leaf_in (sym al ∙ e ∙ bm)
@@ -41,12 +35,11 @@ same-leaf l m a b al bm e = ap leaf_in (sym al ∙ e ∙ bm)
 pub same-access : (a : ℕ) (o p : Option Rights) → mapped_answer o a ≡ mapped_answer p a → o ≡ p
 unfolding mapped_answer
 same-access a None None e = refl
-same-access a None (Some r) e = cc
-same-access a (Some r) None e = cc
 same-access a (Some r) (Some q) e =
     let same = same-leaf _ _ _ _ refl refl e in
     let level = same-level r.level q.level (ap (λ (l : Leaf). l.write) same) in
     λ i. Some (record { level = level i; exec = ap (λ (l : Leaf). l.exec) same i })
+same-access a _ _ e = cc
 
 -- no right lets a walk leave RAM
 pub never-outside : (o : Option Rights) (a : ℕ) → mapped_answer o a ≡ Err OutsideRam → ⊥

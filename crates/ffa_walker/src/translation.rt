@@ -1,6 +1,6 @@
 // SPDX-License-Identifier: MIT OR Apache-2.0
 //! The walk: one small function for each level.
-ghost use Rattle.std.specs.Prelude.{◌≡◌, ℕ, ◌*◌, ◌^◌, ◌<◌, if◌then◌else◌, IsTrue, IfOk, Ok, Err, true};
+ghost use Rattle.std.specs.Prelude.{◌≡◌, ◌*◌, ◌^◌, ◌<◌, if◌then◌else◌, IsTrue, IfOk, Ok, Err, true};
 ghost use Rattle.ffa_model.specs.Walk as walk;
 ghost use Rattle.ffa_model.specs.Bits.{bits};
 ghost use Rattle.ffa_model.specs.declared.operation.FaultKind.TheVariants.{OutsideRam};

@@ -1,18 +1,13 @@
 -- SPDX-License-Identifier: MIT OR Apache-2.0
 -- Numbers, as the library reads them.
-use Rattle.std.proofs.Common.{◌≡◌, ◌^◌, ℕ, Bool, true, false, List, [], ◌∷◌, Result, Ok, Err, None, Some, refl, ap, subst, sym, ◌∙◌, ◌<◌, ◌≤◌, ◌⊎◌, inl, inr, arith}
-use Rattle.std.proofs.lemmas.Bool.{eqb-true, false≢true, ltb-true, lt-ltb}
-use Rattle.std.specs.Prelude.{◌&&◌, ◌==◌, codes, length, nat_eq, nat_lt}
+use Rattle.std.proofs.Common.{◌≡◌, ◌^◌, ℕ, Bool, true, false, List, [], ◌∷◌, Result, Ok, Err, None, Some, refl, ap, subst, sym, ◌∙◌, ◌<◌, ◌≤◌, inl, inr, arith, ◌&&◌, ◌==◌, codes, length, nat_eq, nat_lt}
+use Rattle.std.proofs.lemmas.Bool.{eqb-true, false≢true, ltb-true, lt-ltb, cases_Bool}
 use Rattle.std.specs.Char.{digit_value}
 use Rattle.std.specs.List.{list_all, position_or_len, starts_with}
 use Rattle.std.specs.Result.{OkIff, result_ok}
 use Rattle.std.specs.Str.Parse.{AllDigits, IsNumeral, ParsesUnsigned, digits_value, without_leading_plus}
 use Rattle.clap.proofs.WalkLemmas.{both}
 use Rattle.play_arguments.specs.Commands.{are_digits, numeral_of}
-
-true_or_false : (b : Bool) → (b ≡ true) ⊎ (b ≡ false)
-true_or_false true = inl refl
-true_or_false false = inr refl
 
 digits_from : (base : ℕ) (ds : List ℕ) → list_all (λ d. nat_lt (digit_value d) base) ds ≡ true → AllDigits base ds
 digits_from base [] e = tt
@@ -38,7 +33,7 @@ with_plus (c ∷ text) = refl
 unsigned : (text : List ℕ) → has_sign text ≡ false → without_leading_plus text ≡ text
 unsigned [] e = refl
 unsigned (c ∷ text) e =
-    elim (true_or_false (c == 43)) [
+    elim (cases_Bool (c == 43)) [
       | inl plus ↦ absurd (false≢true (sym (subst (λ d. has_sign (d ∷ text) ≡ false) (eqb-true _ _ plus) e) ∙ with_plus text))
       | inr other ↦ without_plus c text other
     ]
@@ -50,7 +45,7 @@ read_number base text (Ok n) (numeral, is) =
     rw (lt-ltb 0 (length text) numeral.0.0, digits_back base text numeral.0.1, lt-ltb _ _ numeral.1) (ap Some is)
 read_number base text (Err e) never =
     let test = are_digits base text && nat_lt (digits_value base text) (2 ^ 64) in
-    elim (true_or_false test) [
+    elim (cases_Bool test) [
       | inl passes ↦
           let parts = both _ _ passes in
           let numeral = both _ _ parts.0 in

@@ -1,9 +1,8 @@
 -- SPDX-License-Identifier: MIT OR Apache-2.0
 -- The command line of the program, and what its words ask for.
-use Rattle.std.specs.Prelude.{◌≡◌, ◌⊎◌, ◌∷◌, ℕ, ◌^◌, List, [], drop, length, map, nat_eq, nat_lt, Bool, true, false, ◌||◌, ◌&&◌, not, Option, Some, None, codes, if◌then◌else◌, nat_le, option_and_then, option_map}
+use Rattle.std.specs.Prelude.{◌≡◌, ◌⊎◌, ◌∷◌, ℕ, ◌^◌, List, [], drop, length, map, nat_eq, nat_lt, Bool, true, false, ◌||◌, ◌&&◌, not, Option, Some, None, codes, if◌then◌else◌, nat_le, option_and_then, option_map, bytes_eq}
 use Rattle.std.specs.Char.{digit_value}
 use Rattle.std.specs.List.{count_by, list_all, starts_with}
-use Rattle.std.specs.Str.{bytes_eq}
 use Rattle.std.specs.Str.Parse.{digits_value}
 use Rattle.std.specs.Option.{option_map_or}
 use Rattle.ffa_model.specs.declared.limits.TheConstants.{MOST_PROCESSORS}

@@ -1,10 +1,9 @@
 -- SPDX-License-Identifier: MIT OR Apache-2.0
 -- Guards that are counted line by line.
-use Rattle.std.proofs.Common.{◌≡◌, ◌+◌, ◌≤◌, ℕ, Bool, true, Result, Ok, List, [], ◌∷◌, ◌++◌, length, Option, sym, ap, ◌∙◌, subst, refl, arith, length-append}
-use Rattle.std.specs.Prelude.{filter}
+use Rattle.std.proofs.Common.{◌≡◌, ◌+◌, ◌≤◌, ℕ, Bool, true, Result, Ok, List, [], ◌∷◌, ◌++◌, length, Option, sym, ap, ◌∙◌, subst, refl, arith, length-append, filter}
 use Rattle.std.specs.List.{list_all}
-use Rattle.std.specs.Io.KnownBytes.{Consumes, IsAtEnd}
-use Rattle.std.proofs.KnownBytes.{Consumes-nil, Consumes-trans}
+use Rattle.std.specs.Io.KnownBytes.{Consumes}
+use Rattle.std.proofs.KnownBytes.{Consumes-trans}
 use Rattle.std.proofs.lemmas.List.Elements.{filter-append}
 use Rattle.std.proofs.lemmas.List.Folds.{list_all-append}
 use Rattle.play_syntax.specs.TraceLines.{feed, has_no_feed, joined}
@@ -14,8 +13,6 @@ use Rattle.play_syntax.specs.declared.output.PlayError.{PlayError}
 use Rattle.play_forms.specs.Reading.{ReadsLine}
 use Rattle.play_forms.proofs.BadLines.{line_read}
 use Rattle.play_forms.proofs.Guarding.{few_guards}
-use Rattle.play_tasks.proofs.Plays.{all_consumed}
-use Rattle.play_commands.specs.Performed.{HasGuards}
 
 -- what was read are lines, of which so many are guards, and the next one has this number
 pub record Counted (had has : Option (List ℕ)) (number guards : ℕ) : Type 0 where
@@ -24,9 +21,6 @@ pub record Counted (had has : Option (List ℕ)) (number guards : ℕ) : Type 0 
   pub each : list_all has_no_feed lines ≡ true
   pub next : number ≡ 1 + length lines
   pub count : guards ≡ guards_among lines
-
-pub counted_none : (had : Option (List ℕ)) → Counted had had 1 0
-counted_none had = record { lines = []; read = Consumes-nil had; each = refl; next = refl; count = refl }
 
 -- a line more
 pub counted_more : (had has then : Option (List ℕ)) (number guards more : ℕ) (line : List ℕ) → Counted had has number guards
@@ -51,6 +45,3 @@ counted_line had has then number guards more line b r so read was is count =
 -- there are no more guards than lines
 pub fewer : (had has : Option (List ℕ)) (number guards : ℕ) → Counted had has number guards → guards + 1 ≤ number
 fewer had has number guards so = let few = few_guards so.lines in omega (arith, few, so.next, so.count)
-
-pub counted_all : (had has : Option (List ℕ)) (number guards : ℕ) → Counted had has number guards → IsAtEnd has → HasGuards had guards
-counted_all had has number guards so ended = (so.lines, all_consumed had has (joined so.lines) so.read ended, so.each, so.count)

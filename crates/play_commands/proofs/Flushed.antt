@@ -44,15 +44,12 @@ module _ (ran : Ran) (holds : Option (List ℕ)) (kept : Keeps ran.streams.holds
   wrote p = record { lines = p.lines; good = p.good; number = p.number; written = written _ p.written }
 
   done_by : (t : KnownTask) (start : Bench) → IsDoneBy t start ran.streams → IsDoneBy t start (with_holds ran holds).streams
-  done_by task.Plain start p = played p
-  done_by (task.Formed form) start p = played p
-  done_by (task.Guarded form) start p = played p
-  done_by (task.GuardedToEnd form) start p = played p
   done_by task.Recorded start p = record { lines = p.lines; each = p.each; all = p.all; written = written _ p.written; replays = p.replays }
   done_by (task.Session form) start p = record { lines = p.lines; rest = p.rest; each = p.each; ends = p.ends; all = p.all; written = written _ p.written }
   done_by (task.Compare expected form) start (p, still) = (p, quiet still)
   done_by (task.Drawn keep width) start (p, picture) = (p, record { front = picture.front; written = written _ picture.written })
   done_by task.Paged start (p, page) = (p, record { rest = page.rest; inert = page.inert; written = written _ page.written })
+  done_by _ start p = played p
 
   stops_by : (t : KnownTask) (start : Bench) (n : ℕ) → StopsBy t start ran.streams n → StopsBy t start (with_holds ran holds).streams n
   stops_by task.Plain start n (lines, ends, p, met) = (lines, ends, written _ p, met)
@@ -121,11 +118,9 @@ module _ (ran : Ran) (holds : Option (List ℕ)) (kept : Keeps ran.streams.holds
   pub fails : (request : Request) (it : Failure) → FailsFor request ran it → FailsFor request (with_holds ran holds) it
   fails request (failure.Manifest cause) (needs, is, still) = (needs, is, quiet still)
   fails request (failure.BadLine n fault) p = stops request n p
-  fails request (failure.Read path) p = p
-  fails request failure.Write p = p
-  fails request failure.NoMemory p = p
   fails request failure.Differs p = differs request p
   fails request (failure.Unmet n) p = breached request n p
   fails request (failure.Words fault) (p, still) = (unsaid request p, quiet still)
   fails request (failure.Unfit cause) (p, still) = (unsaid request p, quiet still)
   fails request (failure.TooManyRows most) (p, still) = (unsaid request p, quiet still)
+  fails request _ p = p

@@ -1,7 +1,6 @@
 -- SPDX-License-Identifier: MIT OR Apache-2.0
 -- What a command leaves, from what its parts do.
-use Rattle.std.proofs.Common.{◌≡◌, Bor, true, false, List, ℕ, Option, None, Some, Result, Ok, Err, inl, inr, refl, ap, arith}
-use Rattle.std.specs.Prelude.{IfErr, OnOk, is_some, option_map}
+use Rattle.std.proofs.Common.{◌≡◌, Bor, true, false, List, ℕ, Option, None, Some, Result, Ok, Err, inl, inr, refl, ap, arith, IfErr, OnOk, is_some, option_map}
 use Rattle.std.specs.Io.KnownBytes.{Keeps}
 use Rattle.ffa_manifest.specs.Document.{Parts}
 use Rattle.ffa_playable.specs.Bench.{Bench}

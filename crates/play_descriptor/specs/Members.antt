@@ -1,7 +1,6 @@
 -- SPDX-License-Identifier: MIT OR Apache-2.0
 -- What each word of a descriptor says by itself, where it can be read.
-use Rattle.std.specs.Prelude.{ℕ, ◌^◌, ◌%◌, ◌==◌, ◌&&◌, ◌||◌, Bool, false, nat_lt, List, [], ◌∷◌, drop, codes, Option, Some, None, if◌then◌else◌, option_map, option_and_then}
-use Rattle.std.specs.Str.{bytes_eq}
+use Rattle.std.specs.Prelude.{ℕ, ◌^◌, ◌%◌, ◌==◌, ◌&&◌, ◌||◌, Bool, false, nat_lt, List, [], ◌∷◌, drop, codes, Option, Some, None, if◌then◌else◌, option_map, option_and_then, bytes_eq}
 use Rattle.std.specs.List.{slice_split, starts_with}
 use Rattle.play_syntax.specs.TraceLines.{number_of}
 use Rattle.ffa_model.specs.declared.endpoint.Address.{Address}

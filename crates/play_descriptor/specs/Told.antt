@@ -1,8 +1,6 @@
 -- SPDX-License-Identifier: MIT OR Apache-2.0
 -- What the words of a descriptor say, and what is wrong first with them.
-use Rattle.std.specs.Prelude.{◌≡◌, ℕ, ◌%◌, ⊤, Bool, true, false, is_some, nat_le, length, List, codes, Option, Some, None, Result, Ok, Err, option_map, if◌then◌else◌}
-use Rattle.std.specs.Option.{ok_or}
-use Rattle.std.specs.Str.{bytes_eq}
+use Rattle.std.specs.Prelude.{◌≡◌, ℕ, ◌%◌, ⊤, Bool, true, false, is_some, nat_le, length, List, codes, Option, Some, None, Result, Ok, Err, option_map, if◌then◌else◌, ok_or, bytes_eq}
 use Rattle.play_arguments.specs.Commands.{Described}
 use Rattle.ffa_model.specs.declared.endpoint.EndpointId.{EndpointId}
 use Rattle.ffa_model.specs.declared.endpoint.Address.{Address}

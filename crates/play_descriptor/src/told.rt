@@ -2,7 +2,6 @@
 //! What the words of a descriptor say.
 ghost use Rattle.std.specs.Prelude.{◌≡◌, ◌%◌, IfOk, option_map, is_some};
 ghost use Rattle.play_arguments.specs.Commands.{words_of};
-ghost use Rattle.play_descriptor.specs.Forms.{form_of};
 ghost use Rattle.play_descriptor.specs.Told.{Exact, HasAlignedTx, asked, asker_in, at_most, endpoint_in, handle_in, only_rights, require, of_in, ranges_in, receivers_in, reclaim_told, relinquish_told, retrieve_told, send_told, sender_in, tag_in, told, tx_in, refuse, version_in};
 
 use crate::fault::{Form, Word, WordsFault};

@@ -1,7 +1,6 @@
 // SPDX-License-Identifier: MIT OR Apache-2.0
 //! In which form a descriptor is written by the manifest of a machine.
 ghost use Rattle.std.specs.Prelude.{◌≡◌};
-ghost use Rattle.std.specs.Option.{option_map_or};
 ghost use Rattle.play_arguments.specs.Commands.{words_of};
 ghost use Rattle.play_descriptor.specs.Versions.{caller_of, is_compact, versioned, writes_compact};
 

@@ -1,13 +1,9 @@
 -- SPDX-License-Identifier: MIT OR Apache-2.0
 -- Lines that leave the certificate as it was.
-use Rattle.std.proofs.Common.{◌≡◌, ◌∙◌, ℕ, zero, suc, ◌+◌, ◌-◌, Bool, true, false, cond, not, List, [], ◌∷◌, length, Option, Some, None, refl, sym, ap, inl, inr}
+use Rattle.std.proofs.Common.{◌≡◌, ◌∙◌, ℕ, zero, suc, ◌+◌, ◌-◌, Bool, true, false, cond, not, List, [], ◌∷◌, length, Option, Some, None, refl, sym, ap, ◌==◌, ◌&&◌, nat_le, nat_lt, slice_index, slice_set, if◌then◌else◌, eqb-true, true≢false, option_and_then}
 use Rattle.byteorder.specs.Endian.{little_bytes}
-use Rattle.std.specs.Prelude.{◌==◌, ◌&&◌, nat_le, nat_lt, slice_index, slice_set, if◌then◌else◌}
 use Rattle.std.specs.List.{list_all}
-use Rattle.std.specs.Option.{option_and_then}
-use Rattle.std.specs.Ordering.{nat_cmp}
 use Rattle.std.specs.FinMap as finite
-use Rattle.std.proofs.lemmas.Bool.{cases_Bool, eqb-true, true≢false}
 use Rattle.std.proofs.lemmas.Option.{none-some, same_Some}
 use Rattle.ffa_model.specs.declared.call.Call as calls
 use Rattle.ffa_model.specs.declared.call.Call.TheVariants.{PartitionInfoGet, MemDonate, MemLend, MemShare, MemRetrieve, MemRelinquish, MemReclaim, MsgSend2}
@@ -24,7 +20,7 @@ use Rattle.ffa_model.specs.declared.schedule.Status.TheVariants.{Blocked, Preemp
 use Rattle.ffa_model.specs.Access.{access, first_handle, handle_at, held_by, is_naming, right_by, right_of, transaction_at}
 use Rattle.ffa_model.specs.Alike.{is_alike, is_same_right}
 use Rattle.ffa_model.specs.Bits.{high_half, low_half}
-use Rattle.ffa_model.specs.Buffers.{filled, filled_pages}
+use Rattle.ffa_model.specs.Buffers.{filled}
 use Rattle.ffa_model.specs.Calls.{replied}
 use Rattle.ffa_model.specs.Certificate.{access_by_place, are_as_one, certificate, is_same_handle, last_from, run_from, runs_from}
 use Rattle.ffa_model.specs.Identifiers.{identifier}
@@ -38,7 +34,7 @@ use Rattle.ffa_model.specs.Registers.{decode, function_of, low}
 use Rattle.ffa_model.specs.Rights.{is_share}
 use Rattle.ffa_model.specs.RunStates.{scheduled}
 use Rattle.ffa_model.specs.Setup.{info_bytes, is_count_alone, uuid_bytes}
-use Rattle.ffa_model.specs.State.{State, Page, Party, Transaction, buffers_of, owner_of, page_at, version_of}
+use Rattle.ffa_model.specs.State.{State, Page, Transaction, buffers_of, owner_of, page_at, version_of}
 use Rattle.ffa_model.specs.Step.{serve, service, step}
 use Rattle.ffa_model.proofs.Reasons.{refused-unchanged}
 use Rattle.ffa_laws.proofs.Changes.{AreRewritten, same_owner, standing, unwritten}
@@ -50,9 +46,10 @@ use Rattle.ffa_notify.specs.declared.notices.Notice.{Notice}
 use Rattle.ffa_notify.specs.Noticed.{in_one_context, notice_asked, with_one_context}
 use Rattle.ffa_notify.specs.Notices.{Told}
 use Rattle.play_syntax.specs.Lines.{outcome_in, outcome_of}
-use Rattle.play_syntax.specs.TraceLines.{Line, operate, show, audit, skip, turn, interrupt}
+use Rattle.play_syntax.specs.TraceLines.{Line, operate, turn, interrupt}
 use Rattle.play_syntax.specs.TraceText.{line_after}
-use Rattle.play_drawing.specs.Effects.{gives_or_takes, is_memory_call}
+use Rattle.ffa_laws.specs.OwnAccess.{is_memory_call}
+use Rattle.play_drawing.specs.Effects.{gives_or_takes}
 
 -- A CALL IN ONE CONTEXT is one on memory transactions where it is one with its own registers
 first_set : (x : List ℕ) (k value : ℕ) → slice_index (slice_set x (suc k) value) 0 ≡ slice_index x 0
@@ -97,9 +94,7 @@ one_memory x = of (w 0 == FFA_NOTIFICATION_BITMAP_CREATE) (w 0 == FFA_NOTIFICATI
 one_gives : (op : Op) (outcome : Option Outcome) → gives_or_takes (operate (in_one_context op)) outcome ≡ gives_or_takes (operate op) outcome
 one_gives (Call x) None = refl
 one_gives (Call x) (Some outcome) = ap (λ (b : Bool). b && not (is_refusal outcome)) (one_memory x)
-one_gives (Load addr size) outcome = refl
-one_gives (Store addr size value) outcome = refl
-one_gives (Fetch addr) outcome = refl
+one_gives _ _ = refl
 
 -- TWO STATES that say the same of each page
 module _ (s t : State) (pages : length t.pages ≡ length s.pages) (parties : length t.parties ≡ length s.parties)
@@ -277,8 +272,6 @@ module _ (s : State) where
 -- a line that is no call on memory transactions, or is refused, leaves the certificate
 pub certificate-kept : (b : Bench) (line : Line) → gives_or_takes line (outcome_of b line) ≡ false → certificate (line_after b line).state ≡ certificate b.state
 certificate-kept b (operate op) none = operated-kept b.state b.several op none
-certificate-kept b show none = refl
-certificate-kept b audit none = refl
-certificate-kept b skip none = refl
 certificate-kept b (turn processor) none = turned-kept b.state b.several processor
 certificate-kept b interrupt none = interrupted-kept b.state b.several
+certificate-kept b _ none = refl

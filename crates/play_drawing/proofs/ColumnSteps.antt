@@ -1,8 +1,6 @@
 -- SPDX-License-Identifier: MIT OR Apache-2.0
 -- One row more, and what its run parts.
-use Rattle.std.proofs.Common.{◌≡◌, ◌≤◌, ◌∙◌, ℕ, List, [], ◌∷◌, ◌++◌, min, Some, inl, inr, refl, sym, subst, arith}
-use Rattle.std.specs.Prelude.{nat_le}
-use Rattle.std.specs.List.{All, Any}
+use Rattle.std.proofs.Common.{◌≡◌, ◌≤◌, ◌∙◌, ℕ, List, [], ◌∷◌, ◌++◌, min, Some, inl, inr, refl, sym, subst, arith, nat_le, All, Any}
 use Rattle.std.proofs.lemmas.Bool.{cases_Bool, cases_lt, leb-true}
 use Rattle.std.proofs.lemmas.List.{get_or_append_left, length_push}
 use Rattle.std.proofs.lemmas.List.Elements.{All-push, All-weaker}

@@ -1,10 +1,7 @@
 -- SPDX-License-Identifier: MIT OR Apache-2.0
 -- What is written of a byte by its number.
-use Rattle.std.proofs.Common.{◌≡◌, ℕ, ◌+◌, ◌-◌, ◌/◌, ◌%◌, ◌^◌, ◌<◌, ◌≤◌, ◌⊎◌, true, false, [], ◌∷◌, ◌++◌, List, Option, Some, inl, inr, ap, ◌∙◌, arith, refl}
-use Rattle.std.specs.Prelude.{codes}
-use Rattle.std.specs.Option.{option_map}
+use Rattle.std.proofs.Common.{◌≡◌, ℕ, ◌-◌, ◌/◌, ◌%◌, ◌^◌, ◌<◌, ◌≤◌, ◌⊎◌, true, false, [], ◌∷◌, ◌++◌, List, Option, Some, inl, inr, ap, ◌∙◌, arith, refl, codes, ne_eqb, option_map}
 use Rattle.std.specs.Fmt.{digits, format_spec, padded_integral}
-use Rattle.std.proofs.lemmas.Bool.{ne_eqb}
 use Rattle.std.proofs.lemmas.Bool.Decides.{nat_tests}
 use Rattle.std.proofs.lemmas.Fmt.{hex_byte}
 use Rattle.play_syntax.specs.TraceText.{digit, hex}

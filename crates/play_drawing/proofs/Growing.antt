@@ -1,7 +1,6 @@
 -- SPDX-License-Identifier: MIT OR Apache-2.0
 -- Writers that grow, write by write.
-use Rattle.std.proofs.Common.{ℕ, List, ◌++◌, Option, Result}
-use Rattle.std.specs.Prelude.{OnOk, codes}
+use Rattle.std.proofs.Common.{ℕ, List, ◌++◌, Option, Result, OnOk, codes}
 use Rattle.std.specs.Io.KnownBytes.{Appends}
 use Rattle.std.proofs.KnownBytes.{Appends-trans}
 use Rattle.std.proofs.lemmas.Result.{on_ok_weaker}

@@ -1,9 +1,8 @@
 -- SPDX-License-Identifier: MIT OR Apache-2.0
 -- What `==` says of runs: that they are the same.
-use Rattle.std.proofs.Common.{◌≡◌, Bool, true, false, Option, None, Some, Decides, refl, ap, sym}
+use Rattle.std.proofs.Common.{◌≡◌, Bool, true, false, Option, None, Some, Decides, refl, ap, sym, ◌==◌}
 use Rattle.std.specs.Option.{option_eq}
 use Rattle.std.specs.contracts.prelude.BoolPartialEq.TheImpl as bool_impl
-use Rattle.std.specs.Prelude.{◌==◌}
 use Rattle.std.proofs.lemmas.Bool.{false≢true, true≢false}
 use Rattle.std.proofs.lemmas.Bool.Decides.{Decides-and, Decides-eqb, Decides-like}
 use Rattle.std.proofs.lemmas.Option.{none-some, same_Some}
@@ -23,16 +22,14 @@ Decides-option E each (Some x) None = (λ e. absurd (false≢true e), λ e. absu
 Decides-option E each (Some x) (Some y) = (λ e. ap Some ((each x y).0 e), λ e. (each x y).1 (same_Some x y e))
 
 Decides-bool : (a b : Bool) → Decides ((bool_impl.ghosts).eq a b) (a ≡ b)
-Decides-bool true true = (λ e. refl, λ e. refl)
 Decides-bool true false = (λ e. absurd (false≢true e), λ e. absurd (true≢false e))
 Decides-bool false true = (λ e. absurd (false≢true e), λ e. absurd (false≢true e))
-Decides-bool false false = (λ e. refl, λ e. refl)
+Decides-bool _ _ = (λ e. refl, λ e. refl)
 
 Decides-level : (a b : Data) → Decides ((levels.eq-value).it a b) (a ≡ b)
-Decides-level Ro Ro = (λ e. refl, λ e. refl)
 Decides-level Ro Rw = (λ e. absurd (false≢true e), λ e. cc)
 Decides-level Rw Ro = (λ e. absurd (false≢true e), λ e. cc)
-Decides-level Rw Rw = (λ e. refl, λ e. refl)
+Decides-level _ _ = (λ e. refl, λ e. refl)
 
 Decides-right : (a b : Rights) → Decides ((rights.eq-value).it a b) (a ≡ b)
 Decides-right a b =

@@ -1,7 +1,6 @@
 -- SPDX-License-Identifier: MIT OR Apache-2.0
 -- The run of a certificate that has a page says of it what the state does.
-use Rattle.std.proofs.Common.{◌≡◌, ◌≤◌, ◌<◌, ◌∙◌, ℕ, zero, suc, ◌+◌, true, false, List, [], ◌∷◌, length, Option, None, Some, inl, inr, refl, sym, ap, subst, arith}
-use Rattle.std.specs.Prelude.{nat_le, slice_index_or, if◌then◌else◌}
+use Rattle.std.proofs.Common.{◌≡◌, ◌≤◌, ◌<◌, ◌∙◌, ℕ, zero, suc, ◌+◌, true, false, List, [], ◌∷◌, length, None, Some, inl, inr, refl, sym, ap, subst, arith, nat_le, slice_index_or, if◌then◌else◌}
 use Rattle.std.specs.Option.{option_map_or}
 use Rattle.std.proofs.lemmas.Bool.{and_parts, cases_Bool, cases_lt, eqb-true, leb-false, le-leb, lt-leb, lt-ltb, le-ltb}
 use Rattle.std.proofs.lemmas.Option.{same_Some, none-some}
@@ -9,10 +8,10 @@ use Rattle.ffa_model.specs.declared.certificate.CertRun.{CertRun}
 use Rattle.ffa_model.specs.declared.limits.TheConstants.{MOST_ENDPOINTS}
 use Rattle.ffa_model.specs.Access.{handle_at}
 use Rattle.ffa_model.specs.Alike.{is_alike}
-use Rattle.ffa_model.specs.Certificate.{IsRun, access_by_place, are_as_one, certificate, is_same_handle, run_from, runs_from}
+use Rattle.ffa_model.specs.Certificate.{IsRun, access_by_place, are_as_one, certificate, run_from, runs_from}
 use Rattle.ffa_model.specs.Certified.{access_in}
 use Rattle.ffa_model.specs.State.{State, owner_of}
-use Rattle.ffa_model.proofs.Certificates.{run-is, certificate-access}
+use Rattle.ffa_model.proofs.Certificates.{run-is, certificate-access, same-handle}
 use Rattle.play_drawing.specs.Columns.{run_in}
 use Rattle.play_drawing.proofs.ColumnSteps.{run_in-behind}
 
@@ -37,12 +36,6 @@ access_in-run_in (r ∷ runs) place p = elim (cases_Bool (nat_le p r.last.0)) [
   | inl here ↦ rw here refl
   | inr past ↦ rw past (access_in-run_in runs place p)
 ]
-
-same-handle : (a b : Option ℕ) → is_same_handle a b ≡ true → a ≡ b
-same-handle None None h = refl
-same-handle None (Some b) h = cc
-same-handle (Some a) None h = cc
-same-handle (Some a) (Some b) h = ap Some (eqb-true a b h)
 
 module _ (s : State) where
   -- the run that has a page is one of the longest, and the page is in it

@@ -1,7 +1,6 @@
 -- SPDX-License-Identifier: MIT OR Apache-2.0
 -- Cells: what holds of a column's pages in a row, and when that is so.
-use Rattle.std.specs.Prelude.{◌≡◌, ◌<◌, ℕ, Option, None, slice_index_or}
-use Rattle.std.specs.Option.{option_map}
+use Rattle.std.specs.Prelude.{◌≡◌, ◌<◌, ℕ, Option, None, slice_index_or, option_map}
 use Rattle.ffa_model.specs.declared.certificate.CertRun.{CertRun}
 use Rattle.ffa_model.specs.declared.limits.TheConstants.{MOST_ENDPOINTS}
 use Rattle.ffa_model.specs.Access.{handle_at}

@@ -1,7 +1,6 @@
 -- SPDX-License-Identifier: MIT OR Apache-2.0
 -- Columns: pages in a row that lie in one run of each row.
-use Rattle.std.specs.Prelude.{◌≡◌, ◌≤◌, ◌<◌, ◌⊎◌, ℕ, ◌+◌, nat_le, List, [], ◌∷◌, Option, None, Some, find}
-use Rattle.std.specs.List.{All, Any}
+use Rattle.std.specs.Prelude.{◌≡◌, ◌≤◌, ◌<◌, ◌⊎◌, ℕ, ◌+◌, nat_le, List, [], ◌∷◌, Option, None, Some, find, All, Any}
 use Rattle.ffa_model.specs.declared.certificate.CertRun.{CertRun}
 use Rattle.play_drawing.specs.declared.column.Column.{Column}
 use Rattle.play_drawing.specs.declared.row.Row.{Row}

@@ -1,7 +1,6 @@
 -- SPDX-License-Identifier: MIT OR Apache-2.0
 -- The picture of lines, and that what it says is so.
-use Rattle.std.specs.Prelude.{◌≡◌, ◌≤◌, ℕ, List, length}
-use Rattle.std.specs.List.{All, filter_map, flat_map}
+use Rattle.std.specs.Prelude.{◌≡◌, ◌≤◌, ℕ, List, length, All, filter_map, flat_map}
 use Rattle.ffa_model.specs.State.{State}
 use Rattle.ffa_playable.specs.Bench.{Bench}
 use Rattle.play_drawing.specs.declared.cell.Cell.{Cell}

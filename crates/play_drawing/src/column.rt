@@ -1,8 +1,6 @@
 // SPDX-License-Identifier: MIT OR Apache-2.0
 //! Columns of a picture: pages in a row that no row of the picture parts.
-ghost use Rattle.std.specs.Prelude.{◌≡◌, ◌<◌, IfOk};
-ghost use Rattle.std.specs.List.{Any};
-ghost use Rattle.std.specs.Option.{MatchOption};
+ghost use Rattle.std.specs.Prelude.{◌≡◌, ◌<◌, IfOk, Any, MatchOption};
 ghost use Rattle.play_drawing.specs.Columns.{AreColumns, IsColumn, IsUnsaid, run_in};
 
 use crate::row::Row;

@@ -5,7 +5,8 @@ ghost use Rattle.ffa_model.specs.Certificate.{certificate};
 ghost use Rattle.ffa_playable.specs.Bench.{Bench};
 ghost use Rattle.play_syntax.specs.Lines.{meant, outcome_of};
 ghost use Rattle.play_syntax.specs.TraceText.{line_after};
-ghost use Rattle.play_drawing.specs.Effects.{gives_or_takes, is_memory_call, is_refused_call};
+ghost use Rattle.ffa_laws.specs.OwnAccess.{is_memory_call};
+ghost use Rattle.play_drawing.specs.Effects.{gives_or_takes, is_refused_call};
 
 use ffa_abi::decode;
 use ffa_model::{Call, Op, Outcome};

@@ -1,7 +1,6 @@
 // SPDX-License-Identifier: MIT OR Apache-2.0
 //! The picture of a trace: rows, columns and cells.
-ghost use Rattle.std.specs.Prelude.{◌≡◌, IfOk};
-ghost use Rattle.std.specs.List.{filter_map, flat_map};
+ghost use Rattle.std.specs.Prelude.{◌≡◌, IfOk, filter_map, flat_map};
 ghost use Rattle.play_drawing.specs.Cells.{cell_of};
 
 use crate::cell::{Cell, cells};

@@ -1,17 +1,16 @@
 -- SPDX-License-Identifier: MIT OR Apache-2.0
 -- What a session tells of bad lines.
-use Rattle.std.proofs.Common.{◌≡◌, ℕ, ◌+◌, ◌<◌, ◌^◌, Bool, true, false, List, [], ◌∷◌, ◌++◌, length, Option, None, Some, Result, Ok, Err, inl, inr, sym, ap, ◌∙◌, subst, arith, append_assoc, append-nil, refl}
-use Rattle.std.specs.Prelude.{is_some, not}
-use Rattle.std.specs.Io.KnownBytes.{Appends, Consumes, IsAtEnd, Keeps}
+use Rattle.std.proofs.Common.{◌≡◌, ℕ, ◌+◌, ◌<◌, ◌^◌, Bool, true, false, List, [], ◌∷◌, ◌++◌, length, Option, None, Some, Result, Ok, Err, inl, inr, sym, ap, ◌∙◌, subst, arith, append_assoc, append-nil, refl, is_some, not}
+use Rattle.std.specs.Io.KnownBytes.{Appends, Consumes, Keeps}
 use Rattle.std.specs.List.{list_all}
 use Rattle.std.proofs.KnownBytes.{Appends-kept, Appends-nil, Appends-trans, Keeps-refl}
 use Rattle.std.proofs.lemmas.Bool.{and_from}
 use Rattle.play_syntax.specs.Output.{Writes}
 use Rattle.play_syntax.specs.TraceLines.{Line, feed, joined, line_in}
 use Rattle.play_syntax.specs.declared.output.PlayError.{PlayError}
-use Rattle.play_syntax.specs.declared.output.PlayError.TheVariants.{Read, Write, NoMemory, BadLine}
+use Rattle.play_syntax.specs.declared.output.PlayError.TheVariants.{Write, NoMemory, BadLine}
 use Rattle.play_forms.specs.Reading.{IsAll, ReadsLine}
-use Rattle.play_forms.specs.Sessions.{BeginsWithEnd, IsOver, TellsBadLines, TellsOf, asks_end, is_heard, ToldOfAll, ToldOfLine, ToldOfRest}
+use Rattle.play_forms.specs.Sessions.{BeginsWithEnd, TellsBadLines, TellsOf, asks_end, is_heard, ToldOfAll, ToldOfLine, ToldOfRest}
 use Rattle.play_forms.specs.SessionSteps.{AnswersTelling, HearsLine, HearsTelling, TellsBadLine, TellsOrLoses}
 
 -- ONE LINE
@@ -21,9 +20,7 @@ pub written_told : (processors : Option ℕ) (number : ℕ) (bytes text : List �
     → TellsBadLine processors number bytes held holds r
 written_told processors number bytes text held holds (Ok x) tells written = (text, tells, written)
 written_told processors number bytes text held holds (Err Write) tells began = (text, tells, began)
-written_told processors number bytes text held holds (Err Read) tells never = absurd never
-written_told processors number bytes text held holds (Err NoMemory) tells never = absurd never
-written_told processors number bytes text held holds (Err (BadLine n)) tells never = absurd never
+written_told processors number bytes text held holds _ tells never = absurd never
 
 -- what is told whole isn't lost
 pub whole_told : (processors : Option ℕ) (number : ℕ) (bytes : List ℕ) (held holds : Option (List ℕ)) → TellsBadLine {X = Unit {0}} processors number bytes held holds (Ok tt)
@@ -41,19 +38,7 @@ pub bad_told : (processors : Option ℕ) (bytes : List ℕ) (number : ℕ) (held
     → TellsOrLoses processors number (bytes ++ feed ∷ []) held holds r → AnswersTelling processors bytes number held holds r
 bad_told processors bytes number held holds none (Ok x) (said, told, written) = (said, inr (ap is_some (sym none), told), written)
 bad_told processors bytes number held holds none (Err NoMemory) kept = kept
-bad_told processors bytes number held holds none (Err Read) never = absurd never
-bad_told processors bytes number held holds none (Err Write) never = absurd never
-bad_told processors bytes number held holds none (Err (BadLine n)) never = absurd never
-
-no_rest : (left : Option (List ℕ)) → IsAtEnd left → IsAll left []
-no_rest None ended = tt
-no_rest (Some xs) ended = ended
-
--- nothing was told of what was read
-pub read_told : (processors : Option ℕ) (had has : Option (List ℕ)) (line : List ℕ) (number : ℕ) (held : Option (List ℕ)) (r : Result Bool PlayError) → ReadsLine had has line number r → HearsTelling processors had number held held r
-read_told processors had has line number held (Ok true) r = Keeps-refl held
-read_told processors had has line number held (Ok false) r = ([], [], no_rest had r, inl (refl, refl), Appends-nil held)
-read_told processors had has line number held (Err e) r = Keeps-refl held
+bad_told processors bytes number held holds none _ never = absurd never
 
 -- the rest was told
 pub rest_told : (processors : Option ℕ) (had has : Option (List ℕ)) (line : List ℕ) (number n : ℕ) (held holds : Option (List ℕ)) → ReadsLine had has line number (Err (BadLine n))
@@ -80,13 +65,6 @@ line_read had has line number false is r = absurd cc
 pub asked_told : (processors : Option ℕ) (had has : Option (List ℕ)) (line : List ℕ) (number : ℕ) (held : Option (List ℕ)) (asks : Bool) → asks ≡ asks_end line → ReadsLine had has line number (Ok true) → HearsTelling processors had number held held (Ok (not asks))
 asked_told processors had has line number held true is (read, single) = let r = asked_all had has line read (sym is) in (r.0, [], r.2, inr (inl (r.1, refl)), Appends-nil held)
 asked_told processors had has line number held false is r = Keeps-refl held
-
--- a reader at its end, or a rest that no LF ends, ends a session
-pub over_read : (had has : Option (List ℕ)) (line : List ℕ) (number : ℕ) → ReadsLine had has line number (Ok false) → IsOver had
-over_read had has line number r = ([], inl refl, no_rest had r)
-
-pub over_rest : (had has : Option (List ℕ)) (line : List ℕ) (number n : ℕ) → ReadsLine had has line number (Err (BadLine n)) → IsOver had
-over_rest had has line number n (is, all, single, some) = (line, inl single, all)
 
 -- there is a line
 pub heard_told : (processors : Option ℕ) (had : Option (List ℕ)) (number : ℕ) (held holds : Option (List ℕ)) (b : Bool) → b ≡ true → HearsTelling processors had number held holds (Ok b) → Keeps held holds
@@ -138,7 +116,6 @@ module _ (processors : Option ℕ) (had has : Option (List ℕ)) (lines : List (
 
   -- no more could be read or written
   pub cut_told : (e : PlayError) (holds : Option (List ℕ)) → Keeps mid holds → TellsBadLines {X = Unit {0}} processors had held holds (Err e)
-  cut_told Read holds kept = (lines, has, each, read, (said, told, Appends-kept held mid holds said written kept))
-  cut_told Write holds kept = (lines, has, each, read, (said, told, Appends-kept held mid holds said written kept))
   cut_told NoMemory holds kept = tt
   cut_told (BadLine n) holds kept = tt
+  cut_told _ holds kept = (lines, has, each, read, (said, told, Appends-kept held mid holds said written kept))

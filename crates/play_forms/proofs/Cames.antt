@@ -3,7 +3,7 @@
 use Rattle.std.proofs.Common.{◌≡◌, ℕ, List, true, false, Option, None, sym, ap, ◌∙◌, refl}
 use Rattle.std.specs.Option.{option_map_or}
 use Rattle.ffa_model.specs.declared.operation.Op.{Op}
-use Rattle.ffa_model.specs.declared.operation.Op.TheVariants.{Call, Load, Store, Fetch}
+use Rattle.ffa_model.specs.declared.operation.Op.TheVariants.{Call}
 use Rattle.ffa_model.specs.declared.operation.Outcome.{Outcome}
 use Rattle.ffa_model.specs.declared.why.Why.{Why}
 use Rattle.ffa_model.specs.Refusals.{is_refusal}
@@ -17,9 +17,7 @@ use Rattle.play_forms.proofs.Behind.{done-unexplained, why-behind}
 -- no operation that is done is refused by a check
 check_none : (s : Bench) (op : Op) → why_of s op ≡ None → None ≡ check_of s op
 check_none s (Call x) none = sym (ap (check_in x) none)
-check_none s (Load address size) none = refl
-check_none s (Store address size value) none = refl
-check_none s (Fetch address) none = refl
+check_none s _ none = refl
 
 pub done_unchecked : (now : Bench) (op : Op) (outcome : Option Outcome) → option_map_or is_refusal outcome false ≡ false → SaysCheck now op outcome None
 done_unchecked now op outcome done = λ start next comes. check_none start op (done-unexplained start op (ap (λ o. option_map_or is_refusal o false) (sym comes) ∙ done))
@@ -27,9 +25,7 @@ done_unchecked now op outcome done = λ start next comes. check_none start op (d
 -- by which check an operation is refused rests on its reason alone
 check-behind : (op : Op) (b : Bench) → option_map_or is_refusal (outcome_of b (operate op)) false ≡ true → check_of (after_op b op) op ≡ check_of b op
 check-behind (Call x) b refused = ap (check_in x) (why-behind (Call x) b refused)
-check-behind (Load address size) b refused = refl
-check-behind (Store address size value) b refused = refl
-check-behind (Fetch address) b refused = refl
+check-behind _ b refused = refl
 
 -- one that is refused leaves the state as it was found
 pub refused_checked : (now : Bench) (op : Op) (outcome : Option Outcome) (check : Option ℕ) → option_map_or is_refusal outcome false ≡ true → check ≡ check_of now op → SaysCheck now op outcome check

@@ -1,13 +1,12 @@
 -- SPDX-License-Identifier: MIT OR Apache-2.0
 -- What a reason says of the registers has no LF.
-use Rattle.std.proofs.Common.{◌≡◌, ℕ, ◌+◌, ◌-◌, ◌/◌, ◌%◌, ◌^◌, true, List, [], ◌++◌, Option, None, Some, min, inl, inr, arith, refl}
-use Rattle.std.specs.Prelude.{codes, nat_lt, slice_index}
+use Rattle.std.proofs.Common.{◌≡◌, ℕ, ◌+◌, ◌-◌, ◌/◌, ◌%◌, ◌^◌, true, List, [], ◌++◌, Option, None, Some, min, inl, inr, arith, refl, codes, nat_lt, slice_index}
 use Rattle.std.specs.Option.{option_map_or}
 use Rattle.std.proofs.lemmas.Bool.{and_from, cases_Bool}
-use Rattle.ffa_model.specs.declared.flaw.CompositeFlaw.TheVariants.{Outside, Unaligned, InArray, NoRange, ManyRanges, Reserved as CompositeReserved, RangesOutside, Total}
+use Rattle.ffa_model.specs.declared.flaw.CompositeFlaw.TheVariants.{Outside}
 use Rattle.ffa_model.specs.declared.flaw.Flaw.{Flaw}
-use Rattle.ffa_model.specs.declared.flaw.Flaw.TheVariants.{Header, Send, Access, Composite, Range, Retrieve, Relinquish}
-use Rattle.ffa_model.specs.declared.flaw.HeaderFlaw.TheVariants.{Short, AccessSize, ArrayUnaligned, ArrayInHeader, ArrayOutside, Reserved}
+use Rattle.ffa_model.specs.declared.flaw.Flaw.TheVariants.{Header, Composite}
+use Rattle.ffa_model.specs.declared.flaw.HeaderFlaw.TheVariants.{Short}
 use Rattle.ffa_model.specs.declared.operation.Op.{Op}
 use Rattle.ffa_model.specs.declared.refusal.Refusal.{Refusal}
 use Rattle.ffa_model.specs.declared.why.About.{About}
@@ -25,24 +24,8 @@ use Rattle.play_forms.proofs.Singles.{IsSingle, single_append}
 
 single_part : (flaw : Flaw) → IsSingle (part_text flaw)
 single_part (Header Short) = refl
-single_part (Header AccessSize) = refl
-single_part (Header ArrayUnaligned) = refl
-single_part (Header ArrayInHeader) = refl
-single_part (Header ArrayOutside) = refl
-single_part (Header Reserved) = refl
-single_part (Send flaw) = refl
-single_part (Access index flaw) = refl
 single_part (Composite Outside) = refl
-single_part (Composite Unaligned) = refl
-single_part (Composite InArray) = refl
-single_part (Composite NoRange) = refl
-single_part (Composite ManyRanges) = refl
-single_part (Composite CompositeReserved) = refl
-single_part (Composite RangesOutside) = refl
-single_part (Composite Total) = refl
-single_part (Range index flaw) = refl
-single_part (Retrieve flaw) = refl
-single_part (Relinquish flaw) = refl
+single_part _ = refl
 
 single_end : (flaw : Flaw) (size end : ℕ) → IsSingle (end_text flaw size end)
 unfolding end_text
@@ -113,10 +96,7 @@ single_form (Some function) = single_no_form (name_of_call function) (single_cal
 -- EACH
 pub single_closer : (op : Op) (refusal : Refusal) (about : Option About) → IsSingle (closer_text op refusal about)
 single_closer op refusal None = single_named_uuid (unknown_uuid refusal (call_of op))
-single_closer op refusal (Some (abouts.Page page obstacle)) = refl
-single_closer op refusal (Some (abouts.Endpoint endpoint)) = refl
-single_closer op refusal (Some (abouts.Handle handle)) = refl
 single_closer op refusal (Some (abouts.Register register value)) = single_form (unknown_form refusal value)
-single_closer op refusal (Some (abouts.Bit bit)) = refl
 single_closer op refusal (Some (abouts.Field flaw place value)) =
     single_ends (size_of (call_of op)) flaw (end_of flaw place value)
+single_closer op refusal _ = refl

@@ -1,7 +1,6 @@
 -- SPDX-License-Identifier: MIT OR Apache-2.0
 -- A comparison, line by line.
-use Rattle.std.proofs.Common.{◌≡◌, ℕ, ◌+◌, ◌≤◌, true, List, [], ◌∷◌, ◌++◌, length, Option, None, Some, Result, Ok, Err, inl, inr, sym, ap, ◌∙◌, subst, arith, append_assoc, append-nil, length-append, refl}
-use Rattle.std.specs.Prelude.{IfSome, is_some}
+use Rattle.std.proofs.Common.{◌≡◌, ℕ, ◌+◌, ◌≤◌, true, List, [], ◌∷◌, ◌++◌, length, Option, None, Some, Result, Ok, Err, inl, inr, sym, ap, ◌∙◌, subst, arith, append_assoc, append-nil, length-append, refl, IfSome, is_some}
 use Rattle.std.specs.Option.{option_map_or}
 use Rattle.std.specs.Io.KnownBytes.{Consumes, IsAtEnd}
 use Rattle.std.specs.List.{list_all}
@@ -101,9 +100,6 @@ module _ (form : Form) (start mid : Bench) (had has wants unread : Option (List 
     pub line_failed : (e : CompareError) (then_unread : Option (List ℕ)) (new : ℕ) (text wanted : List ℕ) → ComparesLine form mid now number meant unread then_unread read new text wanted (Err e)
         → Compared form start now had then wants then_unread line text wanted (Err e)
     line_failed (Play NoMemory) then_unread new text wanted r = tt
-    line_failed (Play Read) then_unread new text wanted r = absurd r
-    line_failed (Play Write) then_unread new text wanted r = absurd r
-    line_failed (Play (BadLine n)) then_unread new text wanted r = absurd r
     line_failed Expected then_unread new text wanted (next, (front, rest, more, makes, some, own_alike, unended)) = record {
       left = then;
       lines = lines ++ line ∷ [];
@@ -124,6 +120,7 @@ module _ (form : Form) (start mid : Bench) (had has wants unread : Option (List 
         whole = ap (λ l. l ++ front) f.said;
       });
     }
+    line_failed _ then_unread new text wanted r = absurd r
 
   -- no line is left
   module _ (then rests : Option (List ℕ)) (bytes text wanted : List ℕ) (at_end : IsAtEnd has) (none : text ≡ []) where
@@ -152,9 +149,6 @@ module _ (form : Form) (start mid : Bench) (had has wants unread : Option (List 
 
     pub end_failed : (e : CompareError) → ComparesEnd unread rests read number wanted (Err e) → Compared form start mid had then wants rests bytes text wanted (Err e)
     end_failed (Play NoMemory) r = tt
-    end_failed (Play Read) r = absurd r
-    end_failed (Play Write) r = absurd r
-    end_failed (Play (BadLine n)) r = absurd r
     end_failed Expected r = record {
       left = has;
       lines = lines;
@@ -166,6 +160,7 @@ module _ (form : Form) (start mid : Bench) (had has wants unread : Option (List 
       no_row = r;
       stops = inl (at_end, refl);
     }
+    end_failed _ r = absurd r
 
     pub end_any : (r : Result (Option Mismatch) CompareError) → ComparesEnd unread rests read number wanted r → Compared form start mid had then wants rests bytes text wanted r
     end_any (Ok mismatch) r = end_compared mismatch r

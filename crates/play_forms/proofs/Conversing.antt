@@ -1,7 +1,6 @@
 -- SPDX-License-Identifier: MIT OR Apache-2.0
 -- A session, line by line: a bad line prints nothing and changes nothing.
-use Rattle.std.proofs.Common.{◌≡◌, ℕ, ◌+◌, ◌<◌, ◌^◌, Bool, true, false, List, [], ◌∷◌, ◌++◌, length, Option, None, Some, Result, Ok, Err, inl, inr, sym, ap, ◌∙◌, subst, refl}
-use Rattle.std.specs.Prelude.{is_some}
+use Rattle.std.proofs.Common.{◌≡◌, ℕ, ◌+◌, ◌<◌, ◌^◌, Bool, true, false, List, [], ◌∷◌, ◌++◌, length, Option, None, Some, Result, Ok, Err, inl, inr, sym, ap, ◌∙◌, subst, refl, is_some}
 use Rattle.std.specs.Option.{option_map_or}
 use Rattle.std.specs.Io.KnownBytes.{Appends, Consumes}
 use Rattle.std.specs.List.{list_all}
@@ -13,7 +12,7 @@ use Rattle.play_syntax.specs.TraceLines.{Line, feed, is_good, joined, line_in}
 use Rattle.play_syntax.specs.TraceText.{after, after_all, line_after, line_text, text, text_of}
 use Rattle.play_syntax.specs.Output.{TookFront}
 use Rattle.play_syntax.specs.declared.output.PlayError.{PlayError}
-use Rattle.play_syntax.specs.declared.output.PlayError.TheVariants.{Read, Write, NoMemory, BadLine}
+use Rattle.play_syntax.specs.declared.output.PlayError.TheVariants.{Read, Write, NoMemory}
 use Rattle.play_player.proofs.Runs.{joined-append}
 use Rattle.play_forms.specs.Cut.{CutsTo}
 use Rattle.play_forms.specs.Forms.{line_text_in, text_in, text_of_in}
@@ -99,9 +98,8 @@ answers_good form start now number bytes line held holds is (Err Write) (next, b
   ap is_some (sym is),
   subst (TookFront held holds) (ap (λ l. option_map_or (line_text_in form number start) l []) is) began,
 )
-answers_good form start now number bytes line held holds is (Err Read) r = absurd r
 answers_good form start now number bytes line held holds is (Err NoMemory) r = tt
-answers_good form start now number bytes line held holds is (Err (BadLine n)) r = absurd r
+answers_good form start now number bytes line held holds is _ r = absurd r
 
 -- a bad line was told, or there is no memory for that
 pub answers_bad : (form : Form) (start : Bench) (number : ℕ) (bytes : List ℕ) (held : Option (List ℕ)) → None ≡ line_in (processors_of start) bytes
@@ -110,9 +108,7 @@ answers_bad form start number bytes held none before after (Ok x) told =
     let bad : is_good (processors_of start) bytes ≡ false = ap is_some (sym none) in
     (sym (bad_after start bytes bad), subst (Appends held held) (sym (bad_text_in form number start bytes bad)) (Appends-nil held))
 answers_bad form start number bytes held none before after (Err NoMemory) kept = tt
-answers_bad form start number bytes held none before after (Err Read) never = absurd never
-answers_bad form start number bytes held none before after (Err Write) never = absurd never
-answers_bad form start number bytes held none before after (Err (BadLine n)) never = absurd never
+answers_bad form start number bytes held none before after _ never = absurd never
 
 -- there is a line
 pub heard : (had has : Option (List ℕ)) (line : List ℕ) (number : ℕ) (b : Bool) → b ≡ true → HearsLine had has line number (Ok b)
@@ -144,8 +140,7 @@ module _ (form : Form) (start mid : Bench) (had has : Option (List ℕ)) (lines 
       → SessionIn {X = Unit {0}} form start mid held holds had then (Err e)
   unheard Read then bytes number held holds written r = (has, lines, printed, conversed, r, written)
   unheard NoMemory then bytes number held holds written r = tt
-  unheard Write then bytes number held holds written r = absurd r
-  unheard (BadLine n) then bytes number held holds written r = absurd r
+  unheard _ then bytes number held holds written r = absurd r
 
   -- one more
   module _ (now : Bench) (then : Option (List ℕ)) (line : List ℕ) (number : ℕ) (count : number ≡ 1 + length lines) (taken : Consumes has then (line ++ feed ∷ [])) (single : is_heard line ≡ true) where
@@ -194,5 +189,4 @@ module _ (form : Form) (start mid : Bench) (had has : Option (List ℕ)) (lines 
               cut = λ long. subst (CutsTo whole) (plain_text start all) (subst (λ t. CutsTo t (text start all)) (sym more_said) (cuts_text form long 1 start all));
             }
     unanswered NoMemory held between holds written r = tt
-    unanswered Read held between holds written r = absurd r
-    unanswered (BadLine n) held between holds written r = absurd r
+    unanswered _ held between holds written r = absurd r

@@ -1,7 +1,6 @@
 -- SPDX-License-Identifier: MIT OR Apache-2.0
 -- In each form that isn't short the plain text is what is left when numbers and names are cut off and reasons left out.
-use Rattle.std.proofs.Common.{◌≡◌, ◌≢◌, ℕ, ◌+◌, ◌*◌, ◌-◌, Bool, true, false, List, [], ◌∷◌, ◌++◌, length, take, Option, None, Some, inl, inr, sym, ap, ◌∙◌, subst, arith, append-nil, length-append, refl}
-use Rattle.std.specs.Prelude.{◌==◌, codes, slice_index, if◌then◌else◌}
+use Rattle.std.proofs.Common.{◌≡◌, ◌≢◌, ℕ, ◌+◌, ◌*◌, ◌-◌, Bool, true, false, List, [], ◌∷◌, ◌++◌, length, take, Option, None, Some, inl, inr, sym, ap, ◌∙◌, subst, arith, append-nil, length-append, refl, ◌==◌, codes, slice_index, if◌then◌else◌}
 use Rattle.std.specs.List.{flat_map, range_with_len}
 use Rattle.std.specs.Option.{option_map_or}
 use Rattle.std.proofs.lemmas.Bool.{and_from, cases_Bool}
@@ -15,7 +14,7 @@ use Rattle.ffa_model.specs.declared.operation.Op.TheVariants.{Call}
 use Rattle.ffa_model.specs.declared.operation.Outcome.{Outcome}
 use Rattle.ffa_model.specs.declared.operation.Outcome.TheVariants.{Regs, Data, Done, Fault}
 use Rattle.ffa_model.specs.declared.operation.FaultKind.{FaultKind}
-use Rattle.ffa_model.specs.declared.operation.FaultKind.TheVariants.{Translation, Permission, Alignment, AccessFlag, OutsideRam}
+use Rattle.ffa_model.specs.declared.operation.FaultKind.TheVariants.{Translation}
 use Rattle.ffa_model.specs.declared.function.TheConstants.{FFA_ERROR}
 use Rattle.ffa_model.specs.Registers.{low}
 use Rattle.ffa_model.specs.Rights.{may_write}
@@ -25,7 +24,7 @@ use Rattle.ffa_model.specs.Access.{access}
 use Rattle.ffa_model.specs.Agreement.{root}
 use Rattle.ffa_model.specs.Certificate.{certificate}
 use Rattle.ffa_model.specs.Identifiers.{identifier}
-use Rattle.play_syntax.specs.TraceLines.{Line, operate, show, audit, skip, turn, interrupt, feed, space, has_no_feed, line_in}
+use Rattle.play_syntax.specs.TraceLines.{Line, operate, show, audit, interrupt, feed, space, has_no_feed, line_in}
 use Rattle.play_syntax.specs.TraceText.{hex, spaced, ended, fault_name, bytes_moved, outcome_words, outcome_text, resumed_text, effect_text, rights_text, runs_of, run_text, runner_text, show_text, cert_text, root_text, handle_text, cert_run_text, audit_text, line_text, text_of, text, after}
 use Rattle.play_syntax.specs.Lines.{outcome_in, outcome_of}
 use Rattle.ffa_abi.specs.Names.{error_names, name_in, call_name_of, error_name_of}
@@ -43,10 +42,7 @@ use Rattle.play_forms.proofs.ReasonLines.{reason_cuts}
 
 inner_fault : (kind : FaultKind) → IsInner (fault_name kind)
 inner_fault Translation = refl
-inner_fault Permission = refl
-inner_fault Alignment = refl
-inner_fault AccessFlag = refl
-inner_fault OutsideRam = refl
+inner_fault _ = refl
 
 inner_either : (b : Bool) (left right : List ℕ) → IsInner left → IsInner right → IsInner (if b then left else right)
 inner_either true left right p q = p
@@ -73,9 +69,7 @@ inner_outcome op (Fault kind) = inner_fault kind
 headed_outcome : (op : Op) (outcome : Outcome) (more : List ℕ) → is_headed (outcome_words op outcome ++ more) ≡ true
 unfolding outcome_words
 headed_outcome op (Regs runner x) more = refl
-headed_outcome op (Data value) more = refl
-headed_outcome op Done more = refl
-headed_outcome op (Fault kind) more = refl
+headed_outcome op _ more = refl
 
 -- pages from one address to another, and whose they are
 inner_pages : (first last owner more : List ℕ) → IsInner first → IsInner last → IsInner owner → IsInner more → IsInner (codes "pages" ++ spaced first ++ spaced last ++ spaced owner ++ more)
@@ -226,14 +220,12 @@ spoken_cuts form n s line some own =
     (subst (CutsTo (front ++ reason)) (append-nil (line_text s line)) (cuts_append front (line_text s line) reason [] own (reason_cuts form.explain s line)))
 
 pub line_cuts : (form : Form) → form.short ≡ false → (n : ℕ) (s : Bench) (line : Option Line) → CutsTo (option_map_or (line_text_in form n s) line []) (option_map_or (line_text s) line [])
-line_cuts form long n s None = cuts_none
 line_cuts form long n s (Some (operate op)) = spoken_cuts form n s (operate op) (effect_some op (effect_of s op)) (effect_cuts form long n op (effect_of s op))
 line_cuts form long n s (Some show) = spoken_cuts form n s show (show_some s.state) (show_cuts form n s.state)
 line_cuts form long n s (Some audit) = spoken_cuts form n s audit (audit_some s.state) (audit_cuts form n s.state)
-line_cuts form long n s (Some skip) = cuts_none
-line_cuts form long n s (Some (turn processor)) = cuts_none
 line_cuts form long n s (Some interrupt) =
     spoken_cuts form n s interrupt (outcome_some (Call []) (outcome_of_interrupt s)) (outcome_cuts form long n (Call []) (outcome_of_interrupt s))
+line_cuts form long n s _ = cuts_none
 
 cuts_of : (form : Form) → form.short ≡ false → (n : ℕ) (s : Bench) (bytes : List ℕ) → CutsTo (text_of_in form n s bytes) (text_of s bytes)
 unfolding text_of_in text_of

@@ -1,7 +1,6 @@
 -- SPDX-License-Identifier: MIT OR Apache-2.0
 -- What is left of a line, and of texts one behind the other, when numbers and names are cut off and reasons left out.
-use Rattle.std.proofs.Common.{◌≡◌, ℕ, suc, zero, ◌+◌, ◌/◌, ◌%◌, ◌<◌, ◌≤◌, Bool, true, false, List, [], ◌∷◌, ◌++◌, length, map, drop, inl, inr, sym, ap, ◌∙◌, subst, arith, append_assoc, refl}
-use Rattle.std.specs.Prelude.{◌==◌, ◌&&◌, not, codes, decimal, filter, nat_eq}
+use Rattle.std.proofs.Common.{◌≡◌, ℕ, suc, zero, ◌+◌, ◌/◌, ◌%◌, ◌<◌, ◌≤◌, Bool, true, false, List, [], ◌∷◌, ◌++◌, length, map, drop, inl, inr, sym, ap, ◌∙◌, subst, arith, append_assoc, refl, ◌==◌, ◌&&◌, not, codes, decimal, filter, nat_eq}
 use Rattle.std.specs.Fmt.{digits, digits_onto, digit_glyph}
 use Rattle.std.specs.List.{list_all, flat_map, prefix_len, starts_with}
 use Rattle.std.proofs.lemmas.Bool.{cases_Bool, and_parts, and_from, and_left, and_right, not-true, leb-true, le-leb, lt-ltb, ne_eqb}

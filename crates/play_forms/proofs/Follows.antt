@@ -1,7 +1,6 @@
 -- SPDX-License-Identifier: MIT OR Apache-2.0
 -- A play line by line.
-use Rattle.std.proofs.Common.{◌≡◌, ◌+◌, ℕ, true, List, [], ◌∷◌, ◌++◌, length, Option, Some, Err, sym, ap, ◌∙◌, subst, arith, append_assoc, append-nil, refl}
-use Rattle.std.specs.Prelude.{is_some}
+use Rattle.std.proofs.Common.{◌≡◌, ◌+◌, ℕ, true, List, [], ◌∷◌, ◌++◌, length, Option, Some, Err, sym, ap, ◌∙◌, subst, arith, append_assoc, append-nil, refl, is_some}
 use Rattle.std.specs.Option.{option_map_or}
 use Rattle.std.specs.Io.KnownBytes.{Appends, Consumes}
 use Rattle.std.proofs.KnownBytes.{Consumes-nil, Consumes-trans}
@@ -98,7 +97,6 @@ module _ (form : Form) (start mid : Bench) (had has : Option (List ℕ)) (lines 
   pub unwritten_played : (e : PlayError) (now : Bench) (then : Option (List ℕ)) (line : List ℕ) (meant : Line) → Consumes has then (line ++ feed ∷ []) → has_no_feed line ≡ true → Some meant ≡ line_in (processors_of start) line
       → (held between holds : Option (List ℕ)) → Appends held between text → PrintsLine {X = Unit {0}} form mid now number meant between holds (Err e)
       → PlayedIn {X = Unit {0}} form start now held holds had then line (Err e)
-  unwritten_played Read now then line meant read single is held between holds written r = absurd r
   unwritten_played Write now then line meant read single is held between holds written (next, began) = fails_to_write now then line meant read single is next held between holds written began
   unwritten_played NoMemory now then line meant read single is held between holds written r = tt
-  unwritten_played (BadLine n) now then line meant read single is held between holds written r = absurd r
+  unwritten_played _ now then line meant read single is held between holds written r = absurd r

@@ -1,7 +1,6 @@
 -- SPDX-License-Identifier: MIT OR Apache-2.0
 -- Guards, as lines come one after another.
-use Rattle.std.proofs.Common.{◌≡◌, ◌+◌, ◌≤◌, ◌<◌, ℕ, true, false, List, [], ◌∷◌, ◌++◌, length, Option, None, Some, Ok, Err, inl, inr, sym, ap, ◌∙◌, subst, arith, append_assoc, length-append, refl}
-use Rattle.std.specs.Prelude.{Bool, not, filter, ◌⊎◌, ◌&&◌, ◌||◌}
+use Rattle.std.proofs.Common.{◌≡◌, ◌+◌, ◌≤◌, ◌<◌, ℕ, true, false, List, [], ◌∷◌, ◌++◌, length, Option, None, Some, Ok, Err, inl, inr, sym, ap, ◌∙◌, subst, arith, append_assoc, length-append, refl, Bool, not, filter, ◌⊎◌, ◌&&◌, ◌||◌}
 use Rattle.std.specs.List.{list_all}
 use Rattle.std.specs.Option.{option_map_or}
 use Rattle.std.specs.Io.KnownBytes.{Appends, Consumes}
@@ -86,13 +85,12 @@ line_same x y a b single singly same =
 -- behind as many lines a text goes on in one way
 same_behind : (xs ys : List (List ℕ)) (r s : List ℕ) → list_all has_no_feed xs ≡ true → list_all has_no_feed ys ≡ true → length xs ≡ length ys → joined xs ++ r ≡ joined ys ++ s → r ≡ s
 same_behind [] [] r s each singly count same = same
-same_behind [] (y ∷ ys) r s each singly count same = absurd (omega (arith, count))
-same_behind (x ∷ xs) [] r s each singly count same = absurd (omega (arith, count))
 same_behind (x ∷ xs) (y ∷ ys) r s each singly count same =
     let one = and_parts (has_no_feed x) (list_all has_no_feed xs) each in
     let other = and_parts (has_no_feed y) (list_all has_no_feed ys) singly in
     let both = line_same x y (joined xs ++ r) (joined ys ++ s) one.0 other.0 (sym (append_assoc x (feed ∷ joined xs) r) ∙ same ∙ append_assoc y (feed ∷ joined ys) s) in
     same_behind xs ys r s one.1 other.1 (omega (arith, count)) both.1
+same_behind _ _ r s each singly count same = absurd (omega (arith, count))
 
 pub same_rest : (start : Bench) (lines : List (List ℕ)) (came coming : Came) (rest other : List ℕ) → Leaves start lines came rest → Leaves start lines coming other → (came ≡ coming) × (rest ≡ other)
 same_rest start lines came coming rest other a b =
@@ -344,8 +342,7 @@ module _ (form : Form) (start mid : Bench) (had has : Option (List ℕ)) (lines 
   pub unwritten_guarded : (e : PlayError) (now : Bench) (then : Option (List ℕ)) (line : List ℕ) (meant : Line) → Consumes has then (line ++ feed ∷ []) → has_no_feed line ≡ true → Some meant ≡ line_in (processors_of start) line
       → (held between holds : Option (List ℕ)) (found : List ℕ) → Appends held between text → AreMet start (lines ++ line ∷ []) → (more : ℕ) (nearer : List ℕ) → Tallies (lines ++ line ∷ []) more nearer
       → PrintsLine {X = Unit {0}} form mid now number meant between holds (Err e) → GuardedIn form start now held holds had then line found more nearer (Err e)
-  unwritten_guarded Read now then line meant read single is held between holds found written met_more more nearer counted r = absurd r
   unwritten_guarded Write now then line meant read single is held between holds found written met_more more nearer counted (next, began) =
       (fails_to_write form start mid had has lines text f number count now then line meant read single is next held between holds written began, met_more, counted)
   unwritten_guarded NoMemory now then line meant read single is held between holds found written met_more more nearer counted r = tt
-  unwritten_guarded (BadLine n) now then line meant read single is held between holds found written met_more more nearer counted r = absurd r
+  unwritten_guarded _ now then line meant read single is held between holds found written met_more more nearer counted r = absurd r

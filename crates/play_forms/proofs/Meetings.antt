@@ -1,9 +1,7 @@
 -- SPDX-License-Identifier: MIT OR Apache-2.0
 -- Whether the line at the front of a text meets what is wanted.
-use Rattle.std.proofs.Common.{◌≡◌, ℕ, ◌+◌, true, false, List, [], ◌∷◌, ◌++◌, None, Some, Ok, sym, ap, ◌∙◌, take, drop, refl}
-use Rattle.std.specs.Prelude.{◌==◌, ◌||◌, option_map, position}
+use Rattle.std.proofs.Common.{◌≡◌, ℕ, ◌+◌, true, false, List, [], ◌∷◌, ◌++◌, None, Some, Ok, sym, ap, ◌∙◌, take, drop, refl, ◌==◌, ◌||◌, option_map, position, bytes_eq}
 use Rattle.std.specs.Option.{option_map_or}
-use Rattle.std.specs.Str.{bytes_eq}
 use Rattle.std.proofs.lemmas.Bool.{or_left}
 use Rattle.play_syntax.specs.TraceLines.{feed}
 use Rattle.play_forms.specs.Asking.{AsksPrinted}

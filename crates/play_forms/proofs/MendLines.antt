@@ -1,7 +1,6 @@
 -- SPDX-License-Identifier: MIT OR Apache-2.0
 -- What stands in a reason behind what the check is about has no LF.
-use Rattle.std.proofs.Common.{ℕ, ◌+◌, ◌-◌, ◌%◌, ◌^◌, Bool, true, false, List, ◌++◌, Option, None, Some, inl, inr, refl}
-use Rattle.std.specs.Prelude.{◌==◌, codes, nat_lt}
+use Rattle.std.proofs.Common.{ℕ, ◌+◌, ◌-◌, ◌%◌, ◌^◌, Bool, true, false, List, ◌++◌, Option, None, Some, inl, inr, refl, ◌==◌, codes, nat_lt}
 use Rattle.std.proofs.lemmas.Bool.{cases_Bool}
 use Rattle.ffa_model.specs.declared.endpoint.EndpointId.{EndpointId}
 use Rattle.ffa_model.specs.declared.endpoint.Version.{Version}
@@ -11,15 +10,15 @@ use Rattle.ffa_model.specs.declared.refusal.Refusal.TheVariants.{TxMisplaced, Rx
 use Rattle.ffa_model.specs.declared.rights.Data.{Data}
 use Rattle.ffa_model.specs.declared.rights.Data.TheVariants.{Ro, Rw}
 use Rattle.ffa_model.specs.declared.rights.Kind.{Kind}
-use Rattle.ffa_model.specs.declared.rights.Kind.TheVariants.{Share, Lend, Donate}
+use Rattle.ffa_model.specs.declared.rights.Kind.TheVariants.{Share}
 use Rattle.ffa_model.specs.declared.rights.Rights.{Rights}
 use Rattle.ffa_model.specs.declared.schedule.Status.{Status}
-use Rattle.ffa_model.specs.declared.schedule.Status.TheVariants.{Running, Waiting, Yielded, Blocked, Preempted, RunsElsewhere}
+use Rattle.ffa_model.specs.declared.schedule.Status.TheVariants.{Running}
 use Rattle.ffa_model.specs.declared.schedule.Work.{Work}
 use Rattle.ffa_model.specs.declared.schedule.Work.TheVariants.{Run, Request}
 use Rattle.ffa_mend.specs.declared.allowed.Allowed.{Allowed}
 use Rattle.ffa_mend.specs.declared.Cause.{Cause}
-use Rattle.ffa_mend.specs.declared.Cause.TheVariants.{BuffersMissing, RxNotFull, BitPending, BitTaken, BitUnbound, HandleUnknown, NotReceiver, NotLent, BitmapsUncreated, NotificationsUnreceived, SecureToNormal, PagesOfBothWorlds}
+use Rattle.ffa_mend.specs.declared.Cause.TheVariants.{BuffersMissing}
 use Rattle.ffa_mend.specs.declared.Mend.{Mend}
 use Rattle.ffa_mend.specs.declared.Mend.TheVariants as mends
 use Rattle.ffa_mend.specs.declared.Side.{Side}
@@ -98,8 +97,7 @@ single_letters right = of right.level right.exec
 
 single_kind : (kind : Kind) → IsSingle (kind_text kind)
 single_kind Share = refl
-single_kind Lend = refl
-single_kind Donate = refl
+single_kind _ = refl
 
 single_buffer : (endpoint : ℕ) (side : Side) → IsSingle (buffer_text endpoint side)
 unfolding buffer_text
@@ -108,17 +106,7 @@ single_buffer endpoint Rx = single_hex 4 endpoint
 
 single_cause : (cause : Cause) → IsSingle (cause_text cause)
 single_cause BuffersMissing = refl
-single_cause RxNotFull = refl
-single_cause BitPending = refl
-single_cause BitTaken = refl
-single_cause BitUnbound = refl
-single_cause HandleUnknown = refl
-single_cause NotReceiver = refl
-single_cause NotLent = refl
-single_cause BitmapsUncreated = refl
-single_cause NotificationsUnreceived = refl
-single_cause SecureToNormal = refl
-single_cause PagesOfBothWorlds = refl
+single_cause _ = refl
 
 single_has : (endpoint : ℕ) (right : List ℕ) → IsSingle right → IsSingle (access_text endpoint right)
 unfolding access_text
@@ -227,11 +215,7 @@ single_mend (mends.Cause cause) = single_cause cause
 
 single_status : (status : Status) → IsSingle (status_text status)
 single_status Running = refl
-single_status Waiting = refl
-single_status Yielded = refl
-single_status Blocked = refl
-single_status Preempted = refl
-single_status RunsElsewhere = refl
+single_status _ = refl
 
 single_awaited : (awaits : Option EndpointId) → IsSingle (awaited_text awaits)
 single_awaited None = refl

@@ -3,7 +3,7 @@
 use Rattle.std.proofs.Common.{◌≡◌, ℕ, ◌+◌, List, [], ◌∷◌, ◌++◌, Option, None, Some, ap, ◌∙◌, append-nil, refl}
 use Rattle.std.specs.Option.{option_map_or}
 use Rattle.ffa_model.specs.declared.operation.Outcome.{Outcome}
-use Rattle.ffa_model.specs.declared.operation.Outcome.TheVariants.{Regs, Data, Done, Fault}
+use Rattle.ffa_model.specs.declared.operation.Outcome.TheVariants.{Regs}
 use Rattle.ffa_playable.specs.Bench.{Bench, processors_of}
 use Rattle.play_syntax.specs.TraceLines.{Line, line_in}
 use Rattle.play_syntax.specs.TraceText.{line_text, text_of, text, after}
@@ -13,9 +13,7 @@ use Rattle.play_forms.specs.Forms.{plain, dressed, line_text_in, text_of_in, tex
 plain_named : (outcome : Option Outcome) (said : List ℕ) → worded_in plain outcome said ≡ said
 plain_named None said = refl
 plain_named (Some (Regs runner x)) said = refl
-plain_named (Some (Data value)) said = refl
-plain_named (Some Done) said = refl
-plain_named (Some (Fault fault)) said = refl
+plain_named _ said = refl
 
 plain_dressed : (number : ℕ) (outcome : Option Outcome) (said : List ℕ) → dressed plain number outcome [] said ≡ said
 plain_dressed number outcome [] = refl

@@ -1,11 +1,9 @@
 -- SPDX-License-Identifier: MIT OR Apache-2.0
 -- What reading a line gives.
-use Rattle.std.proofs.Common.{◌≡◌, ◌≢◌, ◌⊎◌, ◌-◌, ℕ, suc, Bool, true, false, List, [], ◌∷◌, ◌++◌, length, take, Option, None, Some, Result, Ok, Err, inl, inr, sym, ap, ◌∙◌, subst, arith, length-append, refl}
-use Rattle.std.specs.Prelude.{◌==◌, All, IfSome, is_some}
+use Rattle.std.proofs.Common.{◌≡◌, ◌≢◌, ◌⊎◌, ◌-◌, ℕ, suc, Bool, true, false, List, [], ◌∷◌, ◌++◌, length, take, Option, None, Some, Result, Ok, Err, inl, inr, sym, ap, ◌∙◌, subst, arith, length-append, refl, ◌==◌, All, IfSome, is_some}
 use Rattle.std.specs.Io.KnownBytes.{Consumes}
 use Rattle.std.specs.Io.{StopsAt}
 use Rattle.std.specs.Io.BufRead.{take_through}
-use Rattle.std.proofs.KnownBytes.{Consumes-nil}
 use Rattle.std.proofs.lemmas.Bool.{cases_Bool, eqb-true}
 use Rattle.std.proofs.lemmas.List.Folds.{list_all-append}
 use Rattle.std.proofs.Math.Seq.{take-append_seam}
@@ -13,7 +11,7 @@ use Rattle.play_syntax.specs.TraceLines.{feed, has_no_feed, line_in}
 use Rattle.play_syntax.specs.declared.lines.Line.{Line}
 use Rattle.play_syntax.specs.declared.output.PlayError.{PlayError}
 use Rattle.play_syntax.specs.declared.output.PlayError.TheVariants.{Read, Write, NoMemory, BadLine}
-use Rattle.play_forms.specs.Reading.{IsAll, ReadsLine, ReadsNoLine, TakesFeed, TakesLine, TakesWhole}
+use Rattle.play_forms.specs.Reading.{IsAll, ReadsLine, TakesFeed, TakesLine, TakesWhole}
 use Rattle.play_forms.specs.Steps.{Refuses}
 
 one_free : (x : ℕ) (xs : List ℕ) → x ≢ feed → has_no_feed xs ≡ true → has_no_feed (x ∷ xs) ≡ true
@@ -63,10 +61,8 @@ pub line_read : (had has : Option (List ℕ)) (all line : List ℕ) (number : �
     → IfSome had (λ xs. all ≡ take_through feed xs) → TakesFeed all line number r → ReadsLine had has line number r
 line_read had has all line number (Ok true) read stops through is =
     (subst (Consumes had has) is read, front_free line feed (subst (λ l. StopsAt l feed) is stops))
-line_read had has all line number (Ok false) read stops through is = absurd is
 line_read had has all line number (Err Read) read stops through is = (all, read, none_free all is)
 line_read had has all line number (Err NoMemory) read stops through is = tt
-line_read had has all line number (Err Write) read stops through is = absurd is
 line_read had has all line number (Err (BadLine n)) read stops through (number_is, same, (front, last, are, other)) =
     (number_is, whole had through, subst (λ l. has_no_feed l ≡ true) (sym same) single, omega (arith, ap length same, ap length are, length-append front (last ∷ [])))
   where
@@ -76,19 +72,13 @@ line_read had has all line number (Err (BadLine n)) read stops through (number_i
     whole : (had : Option (List ℕ)) → IfSome had (λ xs. all ≡ take_through feed xs) → IsAll had line
     whole None through = tt
     whole (Some xs) through = sym (all_through xs (ap has_no_feed (sym through) ∙ single)) ∙ sym through ∙ sym same
+line_read had has all line number _ read stops through is = absurd is
 
 -- and where the reader failed
 pub failed_read : (had has : Option (List ℕ)) (all line : List ℕ) (number : ℕ) (r : Result Bool PlayError) → Consumes had has all → StopsAt all feed → TakesWhole all line r → ReadsLine had has line number r
 failed_read had has all line number (Ok true) read stops is = (subst (Consumes had has) is read, front_free line feed (subst (λ l. StopsAt l feed) is stops))
-failed_read had has all line number (Ok false) read stops is = absurd is
 failed_read had has all line number (Err Read) read stops is = (all, read, unended_free all stops is)
-failed_read had has all line number (Err NoMemory) read stops is = absurd is
-failed_read had has all line number (Err Write) read stops is = absurd is
-failed_read had has all line number (Err (BadLine n)) read stops is = absurd is
-
--- where nothing was read
-pub nothing_read : (had : Option (List ℕ)) → ReadsNoLine had had
-nothing_read had = ([], Consumes-nil had, refl)
+failed_read had has all line number _ read stops is = absurd is
 
 -- there is a line
 pub one_line : (had has : Option (List ℕ)) (line : List ℕ) (number : ℕ) (b : Bool) → b ≡ true → ReadsLine had has line number (Ok b)
@@ -106,9 +96,7 @@ unread_untaken processors had has line number (BadLine n) (is, all, single, some
 -- what was read up to its LF is none of the format
 pub refused_untaken : (processors : Option ℕ) (had has : Option (List ℕ)) (line bytes : List ℕ) (number : ℕ) (r : Result (Option Line) PlayError) → Consumes had has (line ++ feed ∷ []) → has_no_feed line ≡ true
     → None ≡ line_in processors line → Refuses line bytes number r → TakesLine processors had has bytes number r
-refused_untaken processors had has line bytes number (Ok taken) read single none r = absurd r
-refused_untaken processors had has line bytes number (Err Read) read single none r = absurd r
-refused_untaken processors had has line bytes number (Err Write) read single none r = absurd r
 refused_untaken processors had has line bytes number (Err NoMemory) read single none r = tt
 refused_untaken processors had has line bytes number (Err (BadLine n)) read single none (is, back) =
     (is, inl (line, has, back, single, ap is_some (sym none), subst (Consumes had has) (sym back) read))
+refused_untaken processors had has line bytes number _ read single none r = absurd r

@@ -1,17 +1,16 @@
 -- SPDX-License-Identifier: MIT OR Apache-2.0
 -- A line that says why an operation is refused has no LF, and nothing is left of it.
-use Rattle.std.proofs.Common.{◌≡◌, ℕ, Bool, true, false, List, [], ◌++◌, Option, None, Some, inl, inr, refl}
-use Rattle.std.specs.Prelude.{codes, decimal, nat_le, slice_index}
+use Rattle.std.proofs.Common.{◌≡◌, ℕ, Bool, true, false, List, [], ◌++◌, Option, None, Some, inl, inr, refl, codes, decimal, nat_le, slice_index}
 use Rattle.std.specs.Option.{option_map, option_map_or}
 use Rattle.std.proofs.lemmas.Bool.{cases_Bool}
 use Rattle.ffa_model.specs.declared.operation.FaultKind.{FaultKind}
-use Rattle.ffa_model.specs.declared.operation.FaultKind.TheVariants.{Translation, Permission, Alignment, AccessFlag, OutsideRam}
+use Rattle.ffa_model.specs.declared.operation.FaultKind.TheVariants.{Translation, Permission, Alignment}
 use Rattle.ffa_model.specs.declared.operation.Op.{Op}
-use Rattle.ffa_model.specs.declared.operation.Op.TheVariants.{Call, Load, Store, Fetch}
+use Rattle.ffa_model.specs.declared.operation.Op.TheVariants.{Call}
 use Rattle.ffa_model.specs.declared.refusal.Refusal.{Refusal}
 use Rattle.ffa_model.specs.declared.flaw.FieldPlace.{FieldPlace}
 use Rattle.ffa_model.specs.declared.flaw.Flaw.{Flaw}
-use Rattle.ffa_model.specs.declared.flaw.Flaw.TheVariants.{Header, Send, Access, Composite, Range, Retrieve, Relinquish}
+use Rattle.ffa_model.specs.declared.flaw.Flaw.TheVariants.{Access, Range}
 use Rattle.ffa_model.specs.declared.why.About.{About}
 use Rattle.ffa_model.specs.declared.why.About.TheVariants.{Page, Endpoint, Handle, Register, Bit, Field}
 use Rattle.ffa_model.specs.declared.why.Obstacle.{Obstacle}
@@ -20,7 +19,7 @@ use Rattle.ffa_model.specs.declared.why.Why.{Why}
 use Rattle.ffa_model.specs.declared.why.Why.TheVariants.{Refused, Fault}
 use Rattle.ffa_model.specs.Registers.{low}
 use Rattle.ffa_playable.specs.Bench.{Bench, why_of}
-use Rattle.play_syntax.specs.TraceLines.{Line, operate, show, audit, skip, turn, interrupt, has_no_feed}
+use Rattle.play_syntax.specs.TraceLines.{Line, operate, has_no_feed}
 use Rattle.play_syntax.specs.TraceText.{bytes_moved, hex}
 use Rattle.ffa_abi.specs.Names.{call_name_of}
 use Rattle.ffa_abi.specs.Widths.{is_read_whole}
@@ -56,32 +55,25 @@ single_check : (op : Op) (refusal : Refusal) → IsSingle (call_text op refusal)
 unfolding check_text
 single_check (Call x) refusal =
     single_append (name_text (call_name_of x)) (number_text (number_of (low (slice_index x 0)) refusal)) (single_name (call_name_of x) (single_call x)) (single_number (number_of (low (slice_index x 0)) refusal))
-single_check (Load address size) refusal = refl
-single_check (Store address size value) refusal = refl
-single_check (Fetch address) refusal = refl
+single_check _ refusal = refl
 
 -- ACCESSES
 
 single_obstacle : (obstacle : Option Obstacle) → IsSingle (obstacle_text obstacle)
 unfolding transaction_text
-single_obstacle None = refl
-single_obstacle (Some obstacles.OutsideRam) = refl
-single_obstacle (Some obstacles.ManagersPage) = refl
 single_obstacle (Some (obstacles.OwnedBy endpoint)) = single_hex 4 endpoint.0
 single_obstacle (Some (obstacles.InTransaction handle)) = single_hex 16 handle
+single_obstacle _ = refl
 
 single_right : (op : Op) → IsSingle (right_text op)
 single_right (Call x) = refl
-single_right (Load address size) = refl
-single_right (Store address size value) = refl
-single_right (Fetch address) = refl
+single_right _ = refl
 
 single_fault : (op : Op) (kind : FaultKind) (obstacle : Option Obstacle) → IsSingle (fault_text op kind obstacle)
 single_fault op Translation obstacle = single_obstacle obstacle
 single_fault op Permission obstacle = single_right op
 single_fault op Alignment obstacle = single_hex 1 (bytes_moved op)
-single_fault op AccessFlag obstacle = refl
-single_fault op OutsideRam obstacle = refl
+single_fault op _ obstacle = refl
 
 -- FIELDS OF A DESCRIPTOR
 
@@ -92,13 +84,9 @@ single_indexed : (word : List ℕ) (n : ℕ) → IsSingle word → IsSingle (wor
 single_indexed word n h = single_append (word ++ short_text n) (codes ": ") (single_append word (short_text n) h (single_short n)) refl
 
 single_index : (flaw : Flaw) → IsSingle (index_text flaw)
-single_index (Header flaw) = refl
-single_index (Send flaw) = refl
 single_index (Access index flaw) = single_indexed (codes "access descriptor ") index refl
-single_index (Composite flaw) = refl
 single_index (Range index flaw) = single_indexed (codes "range ") index refl
-single_index (Retrieve flaw) = refl
-single_index (Relinquish flaw) = refl
+single_index _ = refl
 
 single_place : (first size : ℕ) → IsSingle (place_text first size)
 single_place first size =
@@ -158,9 +146,7 @@ single_letter (Call x) register =
       | inl whole ↦ rw whole refl
       | inr half ↦ rw half refl
     ]
-single_letter (Load address size) register = refl
-single_letter (Store address size value) register = refl
-single_letter (Fetch address) register = refl
+single_letter _ register = refl
 
 single_register : (op : Op) (register value : ℕ) → IsSingle (register_text op register value)
 unfolding register_text
@@ -208,11 +194,7 @@ some_cuts base op its (Some reason) = line_cuts base op reason (its reason)
 
 told_cuts : (s : Bench) (line : Line) → CutsTo (reason_text s line) []
 told_cuts s (operate op) = some_cuts s.state.ram_base op (detail_of s op) (why_of s op)
-told_cuts s show = cuts_none
-told_cuts s audit = cuts_none
-told_cuts s skip = cuts_none
-told_cuts s (turn processor) = cuts_none
-told_cuts s interrupt = cuts_none
+told_cuts s _ = cuts_none
 
 pub reason_cuts : (explain : Bool) (s : Bench) (line : Line) → CutsTo (reason_if explain s line) []
 reason_cuts true s line = told_cuts s line

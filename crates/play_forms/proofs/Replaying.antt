@@ -1,10 +1,8 @@
 -- SPDX-License-Identifier: MIT OR Apache-2.0
 -- What is written of a trace with the guards of its own play: its guards are met, and it plays as the trace.
-use Rattle.std.proofs.Common.{◌≡◌, ℕ, ◌+◌, true, false, List, [], ◌∷◌, ◌++◌, length, map, take, drop, Option, None, Some, Err, inl, inr, sym, ap, ◌∙◌, subst, append_assoc, append-nil, refl}
-use Rattle.std.specs.Prelude.{◌==◌, ◌⊎◌, not, nat_eq, position, is_some}
+use Rattle.std.proofs.Common.{◌≡◌, ℕ, ◌+◌, true, false, List, [], ◌∷◌, ◌++◌, length, map, take, drop, Option, None, Some, Err, inl, inr, sym, ap, ◌∙◌, subst, append_assoc, append-nil, refl, ◌==◌, ◌⊎◌, not, nat_eq, position, is_some, bytes_eq}
 use Rattle.std.specs.List.{list_all, take_while}
 use Rattle.std.specs.Option.{option_map_or}
-use Rattle.std.specs.Str.{bytes_eq}
 use Rattle.std.specs.Io.KnownBytes.{Appends, Consumes}
 use Rattle.std.proofs.KnownBytes.{Appends-trans}
 use Rattle.std.proofs.lemmas.Bool.{and_parts, and_from, cases_Bool, eqb-true, not-true, or_left}
@@ -30,7 +28,8 @@ use Rattle.play_forms.proofs.CutOff.{cuts_text}
 use Rattle.play_forms.proofs.Follows.{after_one, ends_at, followed_more}
 use Rattle.play_forms.proofs.Guarding.{guards_more, met_more, met_none, unasked_loud, unasked_more}
 use Rattle.play_forms.proofs.Plain.{plain_text}
-use Rattle.play_forms.proofs.WordsFit.{all_taken, ends_line, position_none}
+use Rattle.play_forms.proofs.WordsFit.{all_taken, ends_line}
+use Rattle.play_syntax.proofs.Cutting.{position_none}
 
 -- THE LINES OF A TEXT
 
@@ -115,10 +114,6 @@ text_turn s line processor is = ap (λ l. option_map_or (line_text s) l []) (sym
 text_meant : (s : Bench) (line : List ℕ) (meant : Line) → Some meant ≡ line_in (processors_of s) line → line_text s meant ≡ text_of s line
 unfolding text_of
 text_meant s line meant is = ap (λ l. option_map_or (line_text s) l []) is
-
-after_meant : (s : Bench) (line : List ℕ) (meant : Line) → Some meant ≡ line_in (processors_of s) line → line_after s meant ≡ after s line
-unfolding after
-after_meant s line meant is = ap (λ l. option_map_or (line_after s) l s) is
 
 text_last : (s : Bench) (lines : List (List ℕ)) (line : List ℕ) → text s (lines ++ line ∷ []) ≡ text s lines ++ text_of (after_all s lines) line
 text_last s [] line = append-nil (text_of s line)
@@ -276,7 +271,6 @@ module _ (start mid : Bench) (had has : Option (List ℕ)) (lines : List (List �
   pub unwritten_recorded : (e : PlayError) (now : Bench) (then : Option (List ℕ)) (line : List ℕ) (meant : Line) → Consumes has then (line ++ feed ∷ []) → has_no_feed line ≡ true → Some meant ≡ line_in (processors_of start) line
       → (held between holds : Option (List ℕ)) → Appends held between (joined (recorded start lines)) → RecordsLine {X = Unit {0}} mid now line meant between holds (Err e)
       → RecordedIn {X = Unit {0}} start now held holds had then line (Err e)
-  unwritten_recorded Read now then line meant read single is held between holds written r = absurd r
   unwritten_recorded Write now then line meant read single is held between holds written (next, began) = record {
     left = then;
     lines = lines;
@@ -288,4 +282,4 @@ module _ (start mid : Bench) (had has : Option (List ℕ)) (lines : List (List �
     began = subst (λ ls. TookFront between holds (joined ls)) (own_record line meant is) began;
   }
   unwritten_recorded NoMemory now then line meant read single is held between holds written r = tt
-  unwritten_recorded (BadLine n) now then line meant read single is held between holds written r = absurd r
+  unwritten_recorded _ now then line meant read single is held between holds written r = absurd r

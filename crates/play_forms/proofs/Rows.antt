@@ -1,14 +1,12 @@
 -- SPDX-License-Identifier: MIT OR Apache-2.0
 -- The lines of a text, each with its LF, and what reading one of them takes.
-use Rattle.std.proofs.Common.{◌≡◌, ◌≢◌, Bor, ℕ, ◌+◌, ◌-◌, ◌≤◌, true, false, List, [], ◌∷◌, ◌++◌, length, Option, None, Some, Result, Ok, Err, inr, sym, ap, ◌∙◌, subst, arith, append_assoc, append-nil, length-append, refl}
-use Rattle.std.specs.Prelude.{◌==◌, not, IfSome}
-use Rattle.std.specs.Option.{MatchOption}
+use Rattle.std.proofs.Common.{◌≡◌, ◌≢◌, Bor, ℕ, ◌+◌, ◌-◌, ◌≤◌, true, false, List, [], ◌∷◌, ◌++◌, length, Option, None, Some, Result, Ok, Err, inr, sym, ap, ◌∙◌, subst, arith, append_assoc, append-nil, length-append, refl, ◌==◌, not, IfSome, MatchOption}
 use Rattle.std.specs.Io.{StopsAt}
 use Rattle.std.specs.Io.BufRead.{take_through}
 use Rattle.std.specs.Io.KnownBytes.{Consumes}
 use Rattle.std.specs.List.{list_all}
 use Rattle.std.proofs.BufReadLemmas.{take_through-nil}
-use Rattle.std.proofs.lemmas.Bool.{and_parts, not-true, eq-eqb}
+use Rattle.std.proofs.lemmas.Bool.{and_parts, not-true}
 use Rattle.std.proofs.lemmas.List.Folds.{list_all-append}
 use Rattle.ffa_playable.specs.Bench.{Bench}
 use Rattle.play_syntax.specs.TraceLines.{Line, feed, has_no_feed, joined}
@@ -16,35 +14,19 @@ use Rattle.play_player.proofs.Runs.{joined-append}
 use Rattle.play_forms.specs.Comparing.{AreRows, EndsRow, Parts, ReadsRow, TakesText}
 use Rattle.play_forms.specs.declared.comparison.CompareError.{CompareError}
 use Rattle.play_forms.specs.declared.comparison.CompareError.TheVariants.{Play, Expected}
-use Rattle.play_syntax.specs.declared.output.PlayError.TheVariants.{Read, Write, NoMemory, BadLine}
+use Rattle.play_syntax.specs.declared.output.PlayError.TheVariants.{NoMemory}
 use Rattle.play_forms.specs.Compared.{next_row}
 use Rattle.play_forms.specs.Forms.{line_text_in}
 use Rattle.play_forms.specs.declared.form.Form.{Form}
 use Rattle.play_forms.proofs.ReadLines.{front_free, unended_free}
 use Rattle.play_forms.proofs.ShortLines.{line_rows}
+use Rattle.play_forms.proofs.Guarding.{line_same}
 
 -- a line's text, in whichever form, is lines
 pub text_rows : (form : Form) (n : ℕ) (s : Bench) (line : Line) (text : List ℕ) → text ≡ line_text_in form n s line → AreRows text
 text_rows form n s line text is =
     let rows = line_rows form n s line in
     (rows.0, is ∙ rows.1, rows.2)
-
-pub no_feed_first : (c : ℕ) (line : List ℕ) → has_no_feed (c ∷ line) ≡ true → c ≢ feed
-no_feed_first c line single same =
-    let fed : (c == feed) ≡ true = eq-eqb c feed same in
-    let other : not (c == feed) ≡ true = (and_parts (not (c == feed)) (has_no_feed line) single).0 in
-    absurd cc
-
--- the line up to the first LF
-pub same_first : (line other more rest : List ℕ) → has_no_feed line ≡ true → has_no_feed other ≡ true → line ++ feed ∷ more ≡ other ++ feed ∷ rest → (line ≡ other) × (more ≡ rest)
-same_first [] [] more rest p q same = (refl, cc)
-same_first [] (c ∷ other) more rest p q same = absurd (no_feed_first c other q cc)
-same_first (c ∷ line) [] more rest p q same = absurd (no_feed_first c line p cc)
-same_first (c ∷ line) (d ∷ other) more rest p q same =
-    let head : c ≡ d = cc in
-    let tail : line ++ feed ∷ more ≡ other ++ feed ∷ rest = cc in
-    let both = same_first line other more rest (and_parts (not (c == feed)) (has_no_feed line) p).1 (and_parts (not (d == feed)) (has_no_feed other) q).1 tail in
-    (cc (head, both.0), both.1)
 
 -- what is read of a text that begins with a row is the row
 pub take_row : (row more : List ℕ) → has_no_feed row ≡ true → take_through feed (row ++ feed ∷ more) ≡ row ++ feed ∷ []
@@ -94,7 +76,7 @@ first_row [] line more each single same =
     absurd (omega (arith, ap length same, length-append (line ++ feed ∷ []) more, length-append line (feed ∷ [])))
 first_row (row ∷ rows) line more each single same =
     let parts = and_parts (has_no_feed row) (list_all has_no_feed rows) each in
-    let both = same_first row line (joined rows) more parts.0 single (same ∙ append_assoc line (feed ∷ []) more) in
+    let both = line_same row line (joined rows) more parts.0 single (same ∙ append_assoc line (feed ∷ []) more) in
     (rows, ap (λ r. r ∷ rows) both.0, sym both.1)
 
 pub parts_each : (done todo : List (List ℕ)) → list_all has_no_feed (done ++ todo) ≡ true → (list_all has_no_feed done ≡ true) × (list_all has_no_feed todo ≡ true)
@@ -119,11 +101,9 @@ module _ (text rest : List ℕ) (done todo : List (List ℕ)) (whole : text ≡ 
   pub text_unread : (wants unread has : Option (List ℕ)) (old read new : ℕ) (row : List ℕ) (e : CompareError) → Consumes wants unread (joined done) → 1 ≤ length rest
       → ReadsRow {X = Unit {0}} unread has read new row (Err e) → TakesText wants has old new text row (Err e)
   text_unread wants unread has old read new row (Play NoMemory) alike some r = tt
-  text_unread wants unread has old read new row (Play Read) alike some r = absurd r
-  text_unread wants unread has old read new row (Play Write) alike some r = absurd r
-  text_unread wants unread has old read new row (Play (BadLine n)) alike some r = absurd r
   text_unread wants unread has old read new row Expected alike some r =
       (joined done, joined todo, unread, whole ∙ joined-append done todo, omega (arith, ap length left, some), alike, r)
+  text_unread wants unread has old read new row _ alike some r = absurd r
 
   -- no row is left
   pub rows_taken : rest ≡ [] → (text ≡ joined done) × (list_all has_no_feed done ≡ true)

@@ -1,8 +1,6 @@
 -- SPDX-License-Identifier: MIT OR Apache-2.0
 -- In each form, also in a short one, what a line prints is lines.
-use Rattle.std.proofs.Common.{◌≡◌, ℕ, true, false, List, [], ◌∷◌, ◌++◌, drop, Option, None, Some, inl, inr, sym, ap, ◌∙◌, subst, append_assoc, refl}
-use Rattle.std.specs.Prelude.{◌==◌, codes, nat_lt, slice_index}
-use Rattle.std.specs.List.{flat_map, list_all}
+use Rattle.std.proofs.Common.{◌≡◌, ℕ, true, false, List, [], ◌∷◌, ◌++◌, drop, Option, None, Some, inl, inr, sym, ap, ◌∙◌, append_assoc, refl, ◌==◌, codes, nat_lt, slice_index, flat_map}
 use Rattle.std.specs.Option.{option_map_or}
 use Rattle.std.proofs.lemmas.Bool.{cases_Bool, and_parts, and_from}
 use Rattle.std.proofs.lemmas.List.Folds.{list_all-append}
@@ -31,13 +29,12 @@ single_append : (xs ys : List ℕ) → has_no_feed xs ≡ true → has_no_feed y
 single_append xs ys p q = list_all-append _ xs ys ∙ and_from _ _ p q
 
 single_cut : (word : List ℕ) → has_no_feed word ≡ true → has_no_feed (cut_zeros word) ≡ true
-single_cut [] h = h
-single_cut (c ∷ []) h = h
 single_cut (c ∷ d ∷ word) h =
     elim (cases_Bool (c == 48)) [
       | inl zero ↦ rw zero (single_cut (d ∷ word) (and_parts _ (has_no_feed (d ∷ word)) h).1)
       | inr other ↦ rw other h
     ]
+single_cut _ h = h
 
 single_number : (value : ℕ) → has_no_feed (short_number value) ≡ true
 unfolding short_number

@@ -1,7 +1,6 @@
 -- SPDX-License-Identifier: MIT OR Apache-2.0
 -- Guards of a play that goes on at one that isn't met, as lines come one after another.
-use Rattle.std.proofs.Common.{◌≡◌, ◌+◌, ◌≤◌, ◌<◌, ℕ, true, false, List, [], ◌∷◌, ◌++◌, length, Option, None, Some, Ok, Err, inl, inr, sym, ap, ◌∙◌, subst, arith, append_assoc, append-nil, length-append, refl}
-use Rattle.std.specs.Prelude.{not, filter, ◌⊎◌}
+use Rattle.std.proofs.Common.{◌≡◌, ◌+◌, ◌≤◌, ◌<◌, ℕ, true, false, List, [], ◌∷◌, ◌++◌, length, Option, None, Some, Ok, Err, inl, inr, sym, ap, ◌∙◌, subst, arith, append_assoc, append-nil, length-append, refl, not, filter, ◌⊎◌}
 use Rattle.std.specs.List.{list_all}
 use Rattle.std.specs.Option.{option_map_or}
 use Rattle.std.specs.Io.KnownBytes.{Appends, Consumes}
@@ -262,8 +261,7 @@ module _ (form : Form) (start mid : Bench) (had has : Option (List ℕ)) (lines 
   pub unwritten_sifted : (e : PlayError) (now : Bench) (then : Option (List ℕ)) (line : List ℕ) (meant : Line) → Consumes has then (line ++ feed ∷ []) → has_no_feed line ≡ true → Some meant ≡ line_in (processors_of start) line
       → (held between holds : Option (List ℕ)) → Appends held between text → (more : ℕ) (nearer unmet₂ : List ℕ)
       → PrintsLine {X = Unit {0}} form mid now number meant between holds (Err e) → SiftedIn {X = Unit {0}} form start now held holds had then line more nearer unmet₂ (Err e)
-  unwritten_sifted Read now then line meant read single is held between holds written more nearer unmet₂ r = absurd r
   unwritten_sifted Write now then line meant read single is held between holds written more nearer unmet₂ (next, began) =
       fails_to_write form start mid had has lines text f number count now then line meant read single is next held between holds written began
   unwritten_sifted NoMemory now then line meant read single is held between holds written more nearer unmet₂ r = tt
-  unwritten_sifted (BadLine n) now then line meant read single is held between holds written more nearer unmet₂ r = absurd r
+  unwritten_sifted _ now then line meant read single is held between holds written more nearer unmet₂ r = absurd r

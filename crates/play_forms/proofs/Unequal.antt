@@ -1,7 +1,6 @@
 -- SPDX-License-Identifier: MIT OR Apache-2.0
 -- The lines of given bytes are unique, so a text that differs is no text of theirs.
-use Rattle.std.proofs.Common.{◌≡◌, ℕ, ◌+◌, true, List, [], ◌∷◌, ◌++◌, length, Option, None, Some, Result, Ok, Err, inl, inr, sym, ap, ◌∙◌, arith, append_assoc, append-nil, length-append, refl}
-use Rattle.std.specs.Prelude.{IfOk, IfSome}
+use Rattle.std.proofs.Common.{◌≡◌, ℕ, ◌+◌, true, List, [], ◌∷◌, ◌++◌, length, Option, None, Some, Result, Ok, Err, inl, inr, sym, ap, ◌∙◌, arith, append_assoc, append-nil, length-append, refl, IfOk, IfSome}
 use Rattle.play_forms.specs.declared.comparison.CompareError.{CompareError}
 use Rattle.std.specs.Io.KnownBytes.{Consumes}
 use Rattle.std.proofs.lemmas.Bool.{and_parts, and_from}
@@ -15,12 +14,13 @@ use Rattle.play_forms.proofs.Follows.{text_one}
 use Rattle.std.specs.Io.BufRead.{take_through}
 use Rattle.std.specs.List.{list_all}
 use Rattle.play_forms.specs.Compared.{Compared, DiffersAt, IsNext, NeverPrints, next_row, unexplained}
-use Rattle.play_forms.proofs.Rows.{no_row, parts_each, same_first, take_row}
+use Rattle.play_forms.proofs.Rows.{no_row, parts_each, take_row}
 use Rattle.play_reasons.specs.Reasons.{told_line}
 use Rattle.play_forms.specs.Forms.{text_in, text_of_in}
 use Rattle.play_forms.specs.declared.comparison.Mismatch.{Mismatch}
 use Rattle.play_forms.specs.declared.form.Form.{Form}
 use Rattle.play_forms.proofs.Behind.{processors-behind}
+use Rattle.play_forms.proofs.Guarding.{line_same}
 
 line_single : (processors : Option ℕ) (line : List ℕ) (lines : List (List ℕ)) → are_lines processors (line ∷ lines) ≡ true → has_no_feed line ≡ true
 line_single processors line lines each =
@@ -33,7 +33,7 @@ same_lines processors [] others rest p q same = (others, refl, same)
 same_lines processors (line ∷ lines) [] rest p q same =
     absurd (omega (arith, ap length same, length-append (line ++ feed ∷ joined lines) rest, length-append line (feed ∷ joined lines)))
 same_lines processors (line ∷ lines) (other ∷ others) rest p q same =
-    let both = same_first line other (joined lines ++ rest) (joined others) (line_single processors line lines p) (line_single processors other others q) (sym (append_assoc line (feed ∷ joined lines) rest) ∙ same) in
+    let both = line_same line other (joined lines ++ rest) (joined others) (line_single processors line lines p) (line_single processors other others q) (sym (append_assoc line (feed ∷ joined lines) rest) ∙ same) in
     let next = same_lines processors lines others rest (and_parts (is_line processors line) (are_lines processors lines) p).1 (and_parts (is_line processors other) (are_lines processors others) q).1 both.1 in
     (next.0, ap (λ l. l ∷ others) (sym both.0) ∙ ap (λ ls. line ∷ ls) next.1, next.2)
 

@@ -1,42 +1,16 @@
 -- SPDX-License-Identifier: MIT OR Apache-2.0
--- The first element that passes a test, and words that are compared one by one.
-use Rattle.std.proofs.Common.{◌≡◌, ℕ, ◌+◌, ◌<◌, Bool, true, false, List, [], ◌∷◌, ◌++◌, length, take, drop, Option, None, Some, inl, inr, sym, ap, ◌∙◌, subst, arith, length-append, refl}
-use Rattle.std.specs.Prelude.{◌==◌, ◌&&◌, ◌||◌, ◌≤◌, ◌⊎◌, codes, not, position, option_map}
+-- The first line of a text, and words that are compared one by one.
+use Rattle.std.proofs.Common.{◌≡◌, ℕ, ◌+◌, ◌<◌, Bool, true, false, List, [], ◌∷◌, ◌++◌, length, take, drop, Option, None, Some, inl, inr, sym, ap, ◌∙◌, subst, arith, length-append, refl, ◌==◌, ◌&&◌, ◌||◌, ◌⊎◌, codes, not, position, option_map}
 use Rattle.std.specs.List.{list_all, position_or_len, take_while}
-use Rattle.std.proofs.lemmas.Bool.{cases_lt, cases_Bool, and_parts, and_from, and_left, eqb-true, le-ltb, lt-ltb}
-use Rattle.std.proofs.lemmas.List.Sums.{passes_at_first, prefix_len-le-length, split_at_first, take_while-cons}
+use Rattle.std.proofs.lemmas.Bool.{cases_Bool, and_parts, and_from, eqb-true, lt-ltb}
+use Rattle.std.proofs.lemmas.List.Sums.{passes_at_first, split_at_first, take_while-cons}
 use Rattle.std.proofs.Math.Seq.{take-append_seam}
-use Rattle.play_syntax.specs.TraceLines.{feed, space, has_no_feed, words_of}
-use Rattle.play_syntax.proofs.LineWords.{more_words, one_word, some_word}
+use Rattle.play_syntax.specs.TraceLines.{feed, has_no_feed, words_of}
+use Rattle.play_syntax.proofs.LineWords.{one_word, some_word}
+use Rattle.play_syntax.proofs.Cutting.{position_some, position_none}
 use Rattle.play_forms.specs.Asking.{AreWords}
 use Rattle.play_forms.specs.Guards.{first_line}
 use Rattle.play_forms.specs.Patterns.{fit, is_alike}
-
--- THE FIRST THAT PASSES
-
-pub position_some : (p : ℕ → Bool) (xs : List ℕ) (end : ℕ) → position p xs ≡ Some end → (position_or_len p xs ≡ end) × (end < length xs)
-position_some p xs end is = of (cases_lt (position_or_len p xs) (length xs))
-  where
-    of : (position_or_len p xs < length xs) ⊎ (length xs ≤ position_or_len p xs) → (position_or_len p xs ≡ end) × (end < length xs)
-    of (inl below) =
-        let at : position p xs ≡ Some (position_or_len p xs) = rw (lt-ltb (position_or_len p xs) (length xs) below) refl in
-        let both : Some (position_or_len p xs) ≡ Some end = sym at ∙ is in
-        let same : position_or_len p xs ≡ end = cc in
-        (same, subst (λ n. n < length xs) same below)
-    of (inr beyond) =
-        let at : position p xs ≡ None = rw (le-ltb (position_or_len p xs) (length xs) beyond) refl in
-        let both : ◌≡◌ {A = Option ℕ} None (Some end) = sym at ∙ is in
-        absurd cc
-
-pub position_none : (p : ℕ → Bool) (xs : List ℕ) → position p xs ≡ None → position_or_len p xs ≡ length xs
-position_none p xs is = of (cases_lt (position_or_len p xs) (length xs))
-  where
-    of : (position_or_len p xs < length xs) ⊎ (length xs ≤ position_or_len p xs) → position_or_len p xs ≡ length xs
-    of (inl below) =
-        let at : position p xs ≡ Some (position_or_len p xs) = rw (lt-ltb (position_or_len p xs) (length xs) below) refl in
-        let both : ◌≡◌ {A = Option ℕ} None (Some (position_or_len p xs)) = sym is ∙ at in
-        absurd cc
-    of (inr beyond) = omega (arith, beyond, prefix_len-le-length (λ c. not (p c)) xs)
 
 -- THE FIRST LINE
 
@@ -110,15 +84,6 @@ no_line_ends text is = free_of_feed text (position_none (λ c. c == feed) text i
 
 -- WORDS
 
-pub cut_some : (text : List ℕ) (end : ℕ) → position (λ c. c == space) text ≡ Some end → words_of text ≡ take end text ∷ words_of (drop (end + 1) text)
-cut_some text end is =
-    let at = position_some (λ c. c == space) text end is in
-    subst (λ n. words_of text ≡ take n text ∷ words_of (drop (n + 1) text)) at.0
-    (more_words text (subst (λ n. n < length text) (sym at.0) at.1))
-
-pub cut_none : (text : List ℕ) → position (λ c. c == space) text ≡ None → words_of text ≡ text ∷ []
-cut_none text is = one_word text (position_none (λ c. c == space) text is)
-
 -- the words of what stands behind a word, if something does
 abbrev pub option_words : Option (List ℕ) → List (List ℕ)
 option_words None = []
@@ -173,10 +138,6 @@ module _ (numbers loose : Bool) where
   first_two text line word its more rest is are =
       ap (λ w. fit numbers loose w (words_of line)) (words_split text word more is) ∙ ap (fit numbers loose (word ∷ option_words more)) (words_split line its rest are)
       ∙ ap (λ b. is_alike numbers word its && b) (behind more rest (option_words more) (option_words rest) refl refl)
-
-  pub fit_unlike : (text line word its : List ℕ) (more rest : Option (List ℕ)) → AreWords text word more → AreWords line its rest → is_alike numbers word its ≡ false
-      → fit numbers loose (words_of text) (words_of line) ≡ false
-  fit_unlike text line word its more rest is are unlike = first_two text line word its more rest is are ∙ and_left (is_alike numbers word its) (fit_rest more rest) unlike
 
   pub fit_alike : (text line word its : List ℕ) (more rest : Option (List ℕ)) → AreWords text word more → AreWords line its rest → is_alike numbers word its ≡ true
       → fit numbers loose (words_of text) (words_of line) ≡ fit_rest more rest

@@ -1,8 +1,7 @@
 -- SPDX-License-Identifier: MIT OR Apache-2.0
 -- What more there is to say of a guard that isn't met than what is found.
-use Rattle.std.specs.Prelude.{ℕ, ◌==◌, Bool, true, not, ◌&&◌, ◌||◌, nat_eq, nat_le, List, [], ◌∷◌, codes, drop, is_some, length, take, Option, None, Some, if◌then◌else◌}
+use Rattle.std.specs.Prelude.{ℕ, ◌==◌, Bool, true, not, ◌&&◌, ◌||◌, nat_eq, nat_le, List, [], ◌∷◌, codes, drop, is_some, length, take, Option, None, Some, if◌then◌else◌, bytes_eq}
 use Rattle.std.specs.List.{list_all, list_any, position_or_len, starts_with}
-use Rattle.std.specs.Str.{bytes_eq}
 use Rattle.ffa_abi.specs.Names.{answer_names}
 use Rattle.ffa_model.specs.declared.rows.TheConstants.{CALLS}
 use Rattle.play_syntax.specs.TraceLines.{space, words_of}

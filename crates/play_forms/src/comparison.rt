@@ -1,7 +1,6 @@
 // SPDX-License-Identifier: MIT OR Apache-2.0
 //! A play against a text that is expected.
-ghost use Rattle.std.specs.Prelude.{◌≡◌, ◌≢◌, ℕ, List, [], ◌∷◌, ◌++◌, IfOk, IfSome};
-ghost use Rattle.std.specs.Option.{MatchOption};
+ghost use Rattle.std.specs.Prelude.{◌≡◌, ◌≢◌, ℕ, List, [], ◌∷◌, ◌++◌, IfOk, IfSome, MatchOption};
 ghost use Rattle.play_syntax.specs.Lines.{meant};
 ghost use Rattle.play_syntax.specs.TraceLines.{feed};
 ghost use Rattle.play_forms.specs.Compared.{Compared, NeverPrints, unexplained};

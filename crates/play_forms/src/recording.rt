@@ -1,7 +1,7 @@
 // SPDX-License-Identifier: MIT OR Apache-2.0
 //! A trace, written with the guards of its own play.
-ghost use Rattle.std.specs.Prelude.{◌≡◌, ◌∷◌, [], ◌++◌, map};
-ghost use Rattle.play_syntax.specs.TraceLines.{feed, joined};
+ghost use Rattle.std.specs.Prelude.{◌∷◌, [], map};
+ghost use Rattle.play_syntax.specs.TraceLines.{joined};
 ghost use Rattle.play_syntax.specs.Lines.{meant};
 ghost use Rattle.play_reasons.specs.Drafts.{Puts};
 ghost use Rattle.play_forms.specs.Recorded.{RecordedIn, RecordsLine, guard_for, line_recorded, lines_in};

@@ -1,13 +1,12 @@
 -- SPDX-License-Identifier: MIT OR Apache-2.0
 -- Writers that grow by texts in which nothing is `<`.
 use denote.Ref.{Bor}
-use Rattle.std.proofs.Common.{◌≡◌, ℕ, zero, suc, ◌+◌, ◌-◌, ◌/◌, ◌%◌, ◌^◌, ◌<◌, Bool, true, false, List, [], ◌∷◌, ◌++◌, length, replicate, Option, Some, None, Result, inl, inr, sym, ap, ◌∙◌, subst, true≢false, arith, refl}
-use Rattle.std.specs.Prelude.{◌==◌, ◌||◌, not, IfSome, OnOk, decimal, find, slice_index, unwrap_or}
+use Rattle.std.proofs.Common.{◌≡◌, ℕ, zero, suc, ◌+◌, ◌-◌, ◌/◌, ◌%◌, ◌^◌, ◌<◌, Bool, true, false, List, [], ◌∷◌, ◌++◌, length, replicate, Option, Some, None, Result, inl, inr, sym, ap, ◌∙◌, subst, true≢false, arith, refl, ◌==◌, ◌||◌, not, IfSome, OnOk, decimal, find, slice_index, unwrap_or}
 use Rattle.std.specs.Option.{option_map, option_or}
 use Rattle.std.specs.Fmt.{digits, digits_onto, digit_glyph, format_spec, number_padding, padded_integral, option_append}
 use Rattle.std.specs.Io.KnownBytes.{Appends}
 use Rattle.std.specs.List.{flat_map, list_all}
-use Rattle.std.proofs.KnownBytes.{Appends-nil, Appends-trans}
+use Rattle.std.proofs.KnownBytes.{Appends-trans}
 use Rattle.std.proofs.lemmas.Bool.{cases_Bool, cases_lt, and_from, and_parts, lt-ltb, le-ltb, ne_eqb}
 use Rattle.std.proofs.lemmas.List.Folds.{list_all-append}
 use Rattle.std.proofs.lemmas.Result.{on_ok_weaker}
@@ -16,7 +15,7 @@ use Rattle.ffa_model.specs.Registers.{low}
 use Rattle.ffa_model.specs.Rows.{Row as CallRow, is_row_of, row_of, rows}
 use Rattle.ffa_model.specs.declared.function.TheConstants.{FFA_ERROR}
 use Rattle.play_page.specs.Escapes.{escaped, has_meaning, is_bare}
-use Rattle.play_page.specs.Written.{Grows, WritesData, WritesPage, before_data, behind_data, endpoints_key, is_inert}
+use Rattle.play_page.specs.Written.{Grows, WritesData, endpoints_key, is_inert}
 use Rattle.play_page.proofs.Escaping.{escaped-bare}
 
 -- TEXTS
@@ -182,9 +181,6 @@ told_digits n output is = record { text = digits 16 true n; is = is; inert = hex
 
 -- WRITERS
 
-pub grows_none : (held : Option (List ℕ)) → Grows held held
-grows_none held = record { text = []; inert = refl; written = Appends-nil held }
-
 pub grows_by : (held holds : Option (List ℕ)) (text : List ℕ) → is_inert text ≡ true → Appends held holds text → Grows held holds
 grows_by held holds text inert written = record { text = text; inert = inert; written = written }
 
@@ -214,22 +210,6 @@ module _ {E : Type 0} (result : Result (Unit {0}) E) (held mid holds : Option (L
   pub last_by : (text : List ℕ) → is_inert text ≡ true → Grows held mid → OnOk result (Appends mid holds text) → OnOk result (Grows held holds)
   last_by text inert g = on_ok_weaker result (λ w. grows_then held mid holds g (grows_by mid holds text inert w))
 
-  pub last_told : (output : Option (List ℕ)) → IsTold output → Grows held mid → OnOk result (IfSome output (Appends mid holds)) → OnOk result (Grows held holds)
-  last_told output is g = on_ok_weaker result (λ w. grows_then held mid holds g (grows_told mid holds output is w))
-
   -- the data, behind their key
   pub last_data : Appends held mid endpoints_key → OnOk result (Grows mid holds) → OnOk result (WritesData held holds)
   last_data key = on_ok_weaker result (λ g. record { rest = g.text; inert = g.inert; written = Appends-trans held mid holds endpoints_key g.text key g.written })
-
--- a page is its beginning, its data and its end
-pub page_written : {E : Type 0} (result : Result (Unit {0}) E) (held head told holds : Option (List ℕ)) → Appends held head before_data → WritesData head told
-    → OnOk result (Appends told holds behind_data) → OnOk result (WritesPage held holds)
-page_written result held head told holds began wrote =
-    on_ok_weaker result (λ ended.
-    record {
-      rest = wrote.rest;
-      inert = wrote.inert;
-      written =
-          Appends-trans held head holds before_data (endpoints_key ++ wrote.rest ++ behind_data) began
-          (Appends-trans head told holds (endpoints_key ++ wrote.rest) behind_data wrote.written ended);
-    })

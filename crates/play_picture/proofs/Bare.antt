@@ -1,8 +1,6 @@
 -- SPDX-License-Identifier: MIT OR Apache-2.0
 -- Rows say the same in whatever memory they lie: so also in none.
-use Rattle.std.proofs.Common.{◌+◌, ◌<◌, ℕ, Bool, List, [], ◌∷◌, ◌++◌, length, Vec, inl, inr, ap, sym, ◌∙◌, subst}
-use Rattle.std.specs.Prelude.{map}
-use Rattle.std.specs.List.{Any}
+use Rattle.std.proofs.Common.{◌+◌, ◌<◌, ℕ, Bool, List, [], ◌∷◌, ◌++◌, length, Vec, inl, inr, ap, sym, ◌∙◌, subst, map, Any}
 use Rattle.std.proofs.lemmas.List.{get_or-map, length-map, map-append}
 use Rattle.std.proofs.lemmas.List.Elements.{All-map}
 use Rattle.ffa_model.specs.declared.certificate.CertRun.{CertRun}

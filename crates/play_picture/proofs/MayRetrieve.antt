@@ -1,7 +1,6 @@
 -- SPDX-License-Identifier: MIT OR Apache-2.0
 -- What may still be retrieved behind each row's line, as rows come one after another.
-use Rattle.std.proofs.Common.{◌≡◌, ◌≤◌, ◌+◌, ◌∙◌, ℕ, Bool, List, [], ◌∷◌, ◌++◌, length, None, Some, inl, inr, arith, refl, sym, ap, subst, length-append}
-use Rattle.std.specs.List.{All, slice_get}
+use Rattle.std.proofs.Common.{◌≡◌, ◌≤◌, ◌+◌, ◌∙◌, ℕ, Bool, List, [], ◌∷◌, ◌++◌, length, None, Some, inl, inr, arith, refl, sym, ap, subst, length-append, All, slice_get}
 use Rattle.std.proofs.lemmas.List.{take-append-le, take_all}
 use Rattle.std.proofs.lemmas.List.Elements.{All-head, All-tail}
 use Rattle.std.proofs.lemmas.Option.{slice_get_past}
@@ -43,27 +42,24 @@ module _ {A : Type 0} (start : Bench) where
   offers_kept : (lines : List (List ℕ)) (line : List ℕ) (rows : List (Row A)) (offers : List (RowOffers A)) → All (IsRowAmong start lines) rows
       → AreOffers start lines rows offers → AreOffers start (lines ++ line ∷ []) rows offers
   offers_kept lines line [] [] among are = tt
-  offers_kept lines line [] (its ∷ offers) among are = absurd are
-  offers_kept lines line (row ∷ rows) [] among are = absurd are
   offers_kept lines line (row ∷ rows) (its ∷ offers) among (is, are) =
       let le = (All-head (IsRowAmong start lines) row rows among).number in
       let same : state_behind start (lines ++ line ∷ []) row.number ≡ state_behind start lines row.number =
       ap (λ (ls : List (List ℕ)). (after_all start ls).state) (take-append-le row.number lines (line ∷ []) le) in
       (is ∙ ap (λ (s : State). offers_of s row.runs.items) (sym same), offers_kept lines line rows offers (All-tail (IsRowAmong start lines) row rows among) are)
+  offers_kept lines line _ _ among are = absurd are
 
   offers_many : (lines : List (List ℕ)) (rows : List (Row A)) (offers : List (RowOffers A)) → AreOffers start lines rows offers → length offers ≡ length rows
   offers_many lines [] [] are = refl
-  offers_many lines [] (its ∷ offers) are = absurd are
-  offers_many lines (row ∷ rows) [] are = absurd are
   offers_many lines (row ∷ rows) (its ∷ offers) (is, are) = let same = offers_many lines rows offers are in omega (arith, same)
+  offers_many lines _ _ are = absurd are
 
   -- one row more
   offers_put : (lines : List (List ℕ)) (rows : List (Row A)) (offers : List (RowOffers A)) (row : Row A) (its : RowOffers A) → AreOffers start lines rows offers
       → its.runs.items ≡ offers_of (state_behind start lines row.number) row.runs.items → AreOffers start lines (rows ++ row ∷ []) (offers ++ its ∷ [])
   offers_put lines [] [] row its are is = (is, tt)
-  offers_put lines [] (other ∷ offers) row its are is = absurd are
-  offers_put lines (first ∷ rows) [] row its are is = absurd are
   offers_put lines (first ∷ rows) (other ∷ offers) row its (own, are) is = (own, offers_put lines rows offers row its are is)
+  offers_put lines _ _ row its are is = absurd are
 
   next_of : (rows : List (Row A)) (row : Row A) → slice_get (rows ++ row ∷ []) (length rows) ≡ Some row
   next_of [] row = refl

@@ -1,7 +1,6 @@
 -- SPDX-License-Identifier: MIT OR Apache-2.0
 -- A trace that is watched, line by line.
-use Rattle.std.proofs.Common.{◌≡◌, ◌+◌, ◌∙◌, ℕ, List, [], ◌∷◌, ◌++◌, length, Option, Some, Result, Ok, Err, arith, refl, sym, subst, length-append}
-use Rattle.std.specs.Prelude.{IfErr, IfOk}
+use Rattle.std.proofs.Common.{◌≡◌, ◌+◌, ◌∙◌, ℕ, List, [], ◌∷◌, ◌++◌, length, Option, Some, Result, Ok, Err, arith, refl, sym, subst, length-append, IfErr, IfOk}
 use Rattle.ffa_model.specs.Certificate.{certificate}
 use Rattle.ffa_playable.specs.Bench.{Bench, processors_of}
 use Rattle.ffa_model.specs.declared.operation.Outcome.{Outcome}

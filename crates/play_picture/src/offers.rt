@@ -1,7 +1,6 @@
 // SPDX-License-Identifier: MIT OR Apache-2.0
 //! What may still be retrieved, row by row.
-ghost use Rattle.std.specs.Prelude.{◌≡◌, IfErr, IfOk, OnOk, length};
-ghost use Rattle.std.specs.List.{slice_get};
+ghost use Rattle.std.specs.Prelude.{◌≡◌, IfErr, IfOk, OnOk, length, slice_get};
 ghost use Rattle.play_picture.specs.Offers.{PutsOffers, offers_of, offers_to};
 
 use ffa_model::{CertRun, EndpointId, MOST_ENDPOINTS, PageNo};

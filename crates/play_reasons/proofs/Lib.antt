@@ -1,5 +1,4 @@
 -- SPDX-License-Identifier: MIT OR Apache-2.0
 pub mod Numbered
 pub mod Together
-pub mod FlawRows
 pub mod SingleWords

@@ -1,11 +1,6 @@
 -- SPDX-License-Identifier: MIT OR Apache-2.0
 -- A clause on a result, from another.
-use Rattle.std.proofs.Common.{Ok, Err, Result}
-use Rattle.std.specs.Prelude.{IfErr, OnOk}
-
-pub on_ok : {T E P Q : Type 0} (result : Result T E) → (P → Q) → OnOk result P → OnOk result Q
-on_ok (Ok x) f p = f p
-on_ok (Err e) f p = tt
+use Rattle.std.proofs.Common.{Ok, Err, Result, IfErr}
 
 pub on_err : {T E : Type 0} {P Q : E → Type 0} (result : Result T E) → ((e : E) → P e → Q e) → IfErr result P → IfErr result Q
 on_err (Ok x) f p = tt

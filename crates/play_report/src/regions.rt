@@ -1,12 +1,10 @@
 // SPDX-License-Identifier: MIT OR Apache-2.0
 //! Where the regions of a machine lie, and what is there for them.
-ghost use Rattle.std.specs.Prelude.{◌≡◌, ◌+◌, ◌<◌, ◌≤◌, [], ◌++◌, length, OnOk};
-ghost use Rattle.std.specs.List.{flat_map};
+ghost use Rattle.std.specs.Prelude.{◌≡◌, ◌+◌, ◌<◌, ◌≤◌, [], ◌++◌, length, OnOk, flat_map};
 ghost use Rattle.arrayvec.specs.ArrayVec.{array_vec_len};
 ghost use Rattle.ffa_model.specs.declared.limits.TheConstants.{MOST_ENDPOINTS};
 ghost use Rattle.ffa_model.specs.Manifest.{ram_end, tables_end};
 ghost use Rattle.ffa_manifest.specs.Document.{parts_of};
-ghost use Rattle.play_syntax.specs.TraceText.{ended, hex, spaced};
 ghost use Rattle.play_report.specs.Layouts.{region_line, region_lines, regions_text, span_line, spans_text};
 
 use ffa_model::{EndpointId, Manifest, Region};

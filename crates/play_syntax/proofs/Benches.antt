@@ -4,7 +4,7 @@ use Rattle.std.proofs.Common.{◌≡◌, ℕ, Bool, true, false, List, [], ◌�
 use Rattle.ffa_model.specs.declared.operation.Op.{Op}
 use Rattle.ffa_model.specs.State.{State}
 use Rattle.ffa_playable.specs.Bench.{Bench, Several, after_op, processors_of, several_behind, turned_by}
-use Rattle.play_syntax.specs.TraceLines.{Line, operate, show, audit, skip, turn, interrupt, line_in}
+use Rattle.play_syntax.specs.TraceLines.{Line, operate, turn, line_in}
 use Rattle.play_syntax.specs.TraceText.{line_after, after, after_all}
 
 processors-turned : (several : Option Several) (s : State) (p : ℕ)
@@ -23,11 +23,8 @@ processors-operated (Some x) s left op = refl
 
 pub processors-after-line : (b : Bench) (line : Line) → processors_of (line_after b line) ≡ processors_of b
 processors-after-line b (operate op) = processors-operated b.several b.state (after_op b op).state op
-processors-after-line b show = refl
-processors-after-line b audit = refl
-processors-after-line b skip = refl
 processors-after-line b (turn processor) = processors-turned b.several b.state processor
-processors-after-line b interrupt = refl
+processors-after-line b _ = refl
 
 pub processors-after : (b : Bench) (bytes : List ℕ) → processors_of (after b bytes) ≡ processors_of b
 unfolding after

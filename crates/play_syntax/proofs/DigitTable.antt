@@ -1,7 +1,6 @@
 -- SPDX-License-Identifier: MIT OR Apache-2.0
 -- The table of digits says of each byte what the definition says.
-use Rattle.std.proofs.Common.{◌≡◌, ℕ, ◌^◌, ◌<◌, ◌≤◌, true, Option, Some, None, get_or, refl, ap, arith}
-use Rattle.std.specs.Prelude.{◌==◌, nat_le, unwrap_or}
+use Rattle.std.proofs.Common.{◌≡◌, ℕ, ◌^◌, ◌<◌, ◌≤◌, true, Option, Some, None, get_or, refl, ap, arith, ◌==◌, nat_le, unwrap_or}
 use Rattle.std.proofs.lemmas.Bool.{agree_below_at, eqb-true, leb-true}
 use Rattle.play_syntax.specs.TraceLines.{digit_value}
 use Rattle.play_syntax.specs.Parsed.{value_of}
@@ -21,8 +20,3 @@ entry_few b h = leb-true (entry b) (2 ^ 32) (agree_below_at (λ b. nat_le (entry
 pub digit_small : (o : Option ℕ) (v : ℕ) → v ≡ unwrap_or o (2 ^ 32) → v < 2 ^ 32 → Some v ≡ o
 digit_small None v e h = absurd (omega (arith, e, h))
 digit_small (Some d) v e h = ap Some e
-
--- a digit is below 16
-pub digit_below : (b d : ℕ) → Some d ≡ digit_value b → d < 16
-unfolding digit_value
-digit_below b d e = grind (arith, e)

@@ -6,7 +6,7 @@ use Rattle.std.specs.Io.KnownBytes.{Appends}
 use Rattle.std.proofs.KnownBytes.{Appends-trans}
 use Rattle.play_syntax.specs.Output.{TookFront, Writes}
 use Rattle.play_syntax.specs.declared.output.PlayError.{PlayError}
-use Rattle.play_syntax.specs.declared.output.PlayError.TheVariants.{Read, Write, NoMemory, BadLine}
+use Rattle.play_syntax.specs.declared.output.PlayError.TheVariants.{Write}
 
 -- the first piece is whole, and a beginning of the second stands
 pub front_after : (a b c : Option (List ℕ)) (xs ys : List ℕ) → Appends a b xs → TookFront b c ys → TookFront a c (xs ++ ys)
@@ -31,10 +31,8 @@ front_before a b xs ys p = record {
 -- a write that failed, said of a longer text
 pub writes_failed : (e : PlayError) (a b c : Option (List ℕ)) (xs ys : List ℕ) → Writes {X = Unit {0}} b c xs (Err e)
     → (TookFront b c xs → TookFront a c ys) → Writes {X = Unit {0}} a c ys (Err e)
-writes_failed Read a b c xs ys w more = absurd w
 writes_failed Write a b c xs ys w more = more w
-writes_failed NoMemory a b c xs ys w more = absurd w
-writes_failed (BadLine n) a b c xs ys w more = absurd w
+writes_failed _ a b c xs ys w more = absurd w
 
 whole : (text : List ℕ) (n : ℕ) → take n text ++ take (length text - n) (drop n text) ≡ text
 whole text n = ap (λ l. take n text ++ l) (take_rest text n) ∙ take-append-drop n text
@@ -43,7 +41,5 @@ whole text n = ap (λ l. take n text ++ l) (take_rest text n) ∙ take-append-dr
 pub writes_on : {X : Type 0} (a b c : Option (List ℕ)) (text : List ℕ) (n : ℕ) (r : Result X PlayError) → Appends a b (take n text)
     → Writes b c (take (length text - n) (drop n text)) r → Writes a c text r
 writes_on a b c text n (Ok x) p w = subst (Appends a c) (whole text n) (Appends-trans a b c (take n text) _ p w)
-writes_on a b c text n (Err Read) p w = absurd w
 writes_on a b c text n (Err Write) p w = subst (TookFront a c) (whole text n) (front_after a b c (take n text) _ p w)
-writes_on a b c text n (Err NoMemory) p w = absurd w
-writes_on a b c text n (Err (BadLine k)) p w = absurd w
+writes_on a b c text n _ p w = absurd w

@@ -1,6 +1,8 @@
 -- SPDX-License-Identifier: MIT OR Apache-2.0
 pub mod Benches
+pub mod Cutting
 mod DigitTable
+pub mod Digits
 pub mod Fronts
 pub mod LineActs
 pub mod LineCommands

@@ -1,8 +1,6 @@
 -- SPDX-License-Identifier: MIT OR Apache-2.0
 -- The lines that only a trace of several processors has.
-use Rattle.std.proofs.Common.{◌≡◌, ◌≢◌, ℕ, ◌⊎◌, Bool, true, false, List, [], ◌∷◌, ◌++◌, take, codes, Option, Some, None, nat_lt, option_and_then, inl, inr, sym, ap, ◌∙◌, refl}
-use Rattle.std.specs.Prelude.{if◌then◌else◌}
-use Rattle.std.specs.Borrow.{Bor}
+use Rattle.std.proofs.Common.{◌≡◌, ◌≢◌, ℕ, ◌⊎◌, Bool, true, false, List, [], ◌∷◌, ◌++◌, take, codes, Option, Some, None, nat_lt, option_and_then, inl, inr, sym, ap, ◌∙◌, refl, if◌then◌else◌, Bor}
 use Rattle.std.specs.Option.{option_or}
 use Rattle.play_syntax.specs.TraceLines.{Line, audit, turn, interrupt, space, number_of, turn_of, interrupt_of, act_of, line_of, line_in, words_of}
 use Rattle.play_syntax.specs.Parsed.{IsFront}
@@ -86,7 +84,6 @@ chosen_no line false x y p q is = q is
 
 no_audit_turn : (count : ℕ) (words : List (List ℕ)) → Some audit ≡ turn_of count words → ⊥
 unfolding turn_of
-no_audit_turn count [] is = absurd cc
 no_audit_turn count (n ∷ []) is = of (number_of n) is
   where
     at : (b : Bool) (p : ℕ) → Some audit ≡ (if b then Some (turn p) else None) → ⊥
@@ -96,7 +93,7 @@ no_audit_turn count (n ∷ []) is = of (number_of n) is
     of : (o : Option ℕ) → Some audit ≡ option_and_then (λ p. if nat_lt p count then Some (turn p) else None) o → ⊥
     of None is = absurd cc
     of (Some p) is = at (nat_lt p count) p is
-no_audit_turn count (n ∷ m ∷ words) is = absurd cc
+no_audit_turn count _ is = absurd cc
 
 no_audit_interrupt : (words : List (List ℕ)) → Some audit ≡ interrupt_of words → ⊥
 unfolding interrupt_of

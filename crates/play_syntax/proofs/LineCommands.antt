@@ -1,9 +1,6 @@
 -- SPDX-License-Identifier: MIT OR Apache-2.0
 -- The commands, by the words behind their names.
-use Rattle.std.proofs.Common.{◌≡◌, ◌≢◌, ℕ, ◌<◌, ◌≤◌, ◌⊎◌, Bool, true, false, List, [], ◌∷◌, ◌++◌, length, take, get_or, codes, Option, Some, None, option_map, option_and_then, inl, inr, sym, ap, ◌∙◌, arith, refl}
-use Rattle.std.specs.Prelude.{◌==◌, if◌then◌else◌}
-use Rattle.std.specs.Borrow.{Bor}
-use Rattle.std.specs.Str.{bytes_eq}
+use Rattle.std.proofs.Common.{◌≡◌, ◌≢◌, ℕ, ◌<◌, ◌≤◌, ◌⊎◌, Bool, true, false, List, [], ◌∷◌, ◌++◌, length, take, get_or, codes, Option, Some, None, option_map, option_and_then, inl, inr, sym, ap, ◌∙◌, arith, refl, ◌==◌, if◌then◌else◌, Bor, bytes_eq}
 use Rattle.std.proofs.lemmas.Bool.{cases_Bool, eqb-true, eq-eqb}
 use Rattle.std.proofs.lemmas.Slice.Eq.{bytes_eq-Decides}
 use Rattle.ffa_model.specs.declared.operation.Op.TheVariants.{Load, Store, Fetch}
@@ -69,9 +66,8 @@ no_load xs (More n rest) f (inr is) = absurd cc
 no_load xs Other (word, words, are, none) h = of words ∙ ap load_of (sym are)
   where
     of : (ws : List (List ℕ)) → None ≡ load_of (word ∷ ws)
-    of [] = refl
     of (a ∷ []) = rw none refl
-    of (a ∷ b ∷ ws) = refl
+    of _ = refl
 
 -- A STORE
 
@@ -125,9 +121,8 @@ no_store xs (More n rest) f (inr is) = absurd cc
 no_store xs Other (word, words, are, none) h = of words ∙ ap store_of (sym are)
   where
     of : (ws : List (List ℕ)) → None ≡ store_of (word ∷ ws)
-    of [] = refl
     of (a ∷ []) = rw none refl
-    of (a ∷ b ∷ ws) = refl
+    of _ = refl
 
 -- A FETCH
 

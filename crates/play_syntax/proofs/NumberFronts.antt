@@ -1,7 +1,6 @@
 -- SPDX-License-Identifier: MIT OR Apache-2.0
 -- A number at the front of bytes, digit by digit.
-use Rattle.std.proofs.Common.{◌≡◌, ℕ, ◌+◌, ◌-◌, ◌*◌, ◌^◌, ◌<◌, ◌≤◌, Bool, true, false, List, [], ◌∷◌, length, take, get_or, fold, Option, Some, None, option_map, not, drop, inl, inr, sym, ap, ◌∙◌, subst, arith, refl, length-take-le, take_all, take-append-drop}
-use Rattle.std.specs.Prelude.{◌==◌, unwrap_or}
+use Rattle.std.proofs.Common.{◌≡◌, ℕ, ◌+◌, ◌-◌, ◌*◌, ◌^◌, ◌<◌, ◌≤◌, Bool, true, false, List, [], ◌∷◌, length, take, get_or, fold, Option, Some, None, option_map, not, drop, inl, inr, sym, ap, ◌∙◌, subst, arith, refl, length-take-le, take_all, take-append-drop, ◌==◌, unwrap_or}
 use Rattle.std.proofs.Math.Seq.{take-suc}
 use Rattle.std.proofs.Math.Nat.{pow-le-pow_right}
 use Rattle.std.proofs.Math.Numerals.{add-one}
@@ -12,9 +11,10 @@ use borrow.Author.Count.{below_more}
 use Rattle.play_syntax.specs.TraceLines.{digit_value, with_digit, number_of, space, words_of}
 use Rattle.play_syntax.specs.Parsed.{AreDigits, GoesOn, IsFront, value_at}
 use Rattle.play_syntax.specs.declared.line.Front.TheVariants.{Last, Other}
-use Rattle.play_syntax.proofs.DigitTable.{digit_small, digit_below}
+use Rattle.play_syntax.proofs.DigitTable.{digit_small}
 use Rattle.play_syntax.proofs.LineNumbers.{more_digits, no_digit, no_number}
 use Rattle.play_syntax.proofs.LineWords.{word_end, one_word, more_words}
+use Rattle.play_syntax.proofs.Digits.{digit_below}
 
 no_value : None ≡ digit_value 32
 unfolding digit_value
@@ -42,15 +42,6 @@ one_more xs i n d h e f =
 pub more_below : (xs : List ℕ) (i d : ℕ) → Some d ≡ digit_value (get_or xs i 0) → ((k : ℕ) → k < i → (get_or xs k 0 == space) ≡ false)
     → (k : ℕ) → k < i + 1 → (get_or xs k 0 == space) ≡ false
 more_below xs i d e h = below_more (λ k. (get_or xs k 0 == space) ≡ false) i h (no_space (get_or xs i 0) d e)
-
--- no bytes are no digits
-pub none_yet : (xs : List ℕ) → AreDigits xs 0 0
-none_yet xs = record {
-  inside = omega arith;
-  so_far = refl;
-  fits = omega arith;
-  digits = λ k h. absurd (omega (arith, h));
-}
 
 -- one digit more
 pub longer : (xs : List ℕ) (n i v : ℕ) → AreDigits xs n i → i < length xs → v ≡ value_at xs i → v < 2 ^ 32 → AreDigits xs (16 * n + v) (i + 1)
@@ -185,6 +176,3 @@ no_digit_at xs n i are on inside large =
 -- digits with no space behind them
 pub on_at : (xs : List ℕ) (i : ℕ) → i < length xs → (get_or xs i 0 == space) ≡ false → GoesOn xs i
 on_at xs i h none = record { inside = λ _. h; no_space = λ _. none }
-
-pub on_first : (xs : List ℕ) → GoesOn xs 0
-on_first xs = record { inside = λ some. absurd (omega (arith, some)); no_space = λ some. absurd (omega (arith, some)) }

@@ -1,7 +1,6 @@
 -- SPDX-License-Identifier: MIT OR Apache-2.0
 -- The digits of a number, two of each byte.
-use Rattle.std.proofs.Common.{◌≡◌, ℕ, zero, suc, ◌+◌, ◌-◌, ◌*◌, ◌/◌, ◌%◌, ◌^◌, ◌<◌, ◌≤◌, true, List, take, take_all, drop, length, get_or, sym, ap, ◌∙◌, arith, refl, pow-add}
-use Rattle.std.specs.Prelude.{◌==◌}
+use Rattle.std.proofs.Common.{◌≡◌, ℕ, zero, suc, ◌+◌, ◌-◌, ◌*◌, ◌/◌, ◌%◌, ◌^◌, ◌<◌, ◌≤◌, true, List, take, take_all, drop, length, get_or, sym, ap, ◌∙◌, arith, refl, pow-add, ◌==◌, suc-add}
 use Rattle.std.proofs.Math.Nat.{div-div-eq-div-mul}
 use Rattle.std.proofs.lemmas.Bool.{agree_below_at, eqb-true}
 use Rattle.play_syntax.specs.TraceText.{hex, digit}
@@ -35,20 +34,17 @@ digit_high x n =
 pub digit_low : (x n : ℕ) → x / 2 ^ (8 * n) % 256 % 16 ≡ x / 16 ^ (2 * n) % 16
 digit_low x n = ap (λ k. x / k % 256 % 16) (bytes_up n) ∙ byte_low (x / 16 ^ (2 * n))
 
-up : (k n : ℕ) → suc k + n ≡ suc (k + n)
-up k n = omega arith
-
 -- the last digits are those of the lower places
 last_digits : (k n x : ℕ) → drop k (hex (k + n) x) ≡ hex n x
 last_digits zero n x = let none : 0 + n ≡ n = omega arith in ap (λ k. hex k x) none
-last_digits (suc k) n x = ap (λ m. drop (suc k) (hex m x)) (up k n) ∙ last_digits k n x
+last_digits (suc k) n x = ap (λ m. drop (suc k) (hex m x)) (suc-add k n) ∙ last_digits k n x
 
 last_of_all : (n x : ℕ) → n ≤ 16 → drop (16 - n) (hex 16 x) ≡ hex n x
 last_of_all n x h =
     let all : 16 ≡ 16 - n + n = omega arith in
     ap (λ k. drop (16 - n) (hex k x)) all ∙ last_digits (16 - n) n x
 
-length-hex : (n x : ℕ) → length (hex n x) ≡ n
+pub length-hex : (n x : ℕ) → length (hex n x) ≡ n
 length-hex zero x = refl
 length-hex (suc n) x = omega (arith, length-hex n x)
 

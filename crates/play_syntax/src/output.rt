@@ -1,6 +1,5 @@
 // SPDX-License-Identifier: MIT OR Apache-2.0
 //! Writing text, and why a play stops.
-ghost use Rattle.std.specs.Prelude.{◌≡◌};
 ghost use Rattle.play_syntax.specs.Output.{Writes};
 
 use std::io::Write;

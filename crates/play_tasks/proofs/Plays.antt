@@ -1,9 +1,8 @@
 -- SPDX-License-Identifier: MIT OR Apache-2.0
 -- What a play leaves, for the one who asked for it.
-use Rattle.std.proofs.Common.{◌≡◌, ◌⊎◌, Bor, Bool, true, false, List, [], ◌∷◌, ◌++◌, ℕ, Option, None, Some, Ok, Err, Result, inl, inr, refl, ap, sym, ◌∙◌, subst, append_assoc, append-nil, arith, length, ◌≤◌}
-use Rattle.std.specs.Prelude.{slice_index_or, OnOk, unwrap_or}
-use Rattle.std.specs.Io.KnownBytes.{Appends, Consumes, IsAtEnd, Keeps, prepend_known}
-use Rattle.std.proofs.KnownBytes.{Consumes-trans}
+use Rattle.std.proofs.Common.{◌≡◌, ◌⊎◌, Bor, true, false, List, [], ◌∷◌, ◌++◌, ℕ, Option, None, Some, Ok, Err, Result, inl, inr, refl, ap, sym, ◌∙◌, subst, append_assoc, append-nil, arith, length, ◌≤◌, slice_index_or, OnOk, unwrap_or}
+use Rattle.std.specs.Io.KnownBytes.{Appends, Consumes, IsAtEnd, prepend_known}
+use Rattle.std.proofs.KnownBytes.{Consumes-trans, Keeps-refl}
 use Rattle.ffa_playable.specs.Bench.{Bench, processors_of}
 use Rattle.play_syntax.specs.TraceLines.{feed, joined}
 use Rattle.play_syntax.specs.TraceText.{text}
@@ -35,7 +34,7 @@ use Rattle.play_picture.specs.Watching.{IsTooLarge}
 use Rattle.play_picture.proofs.Bare.{bare_large}
 use Rattle.play_report.specs.Failures.{IsDifference, failure_of}
 use Rattle.play_report.specs.declared.failure.Failure.{Failure}
-use Rattle.play_report.specs.declared.failure.Failure.TheVariants.{Manifest, BadLine, Read, Write, NoMemory, Differs, Unmet, Words, Unfit, TooManyRows}
+use Rattle.play_report.specs.declared.failure.Failure.TheVariants.{BadLine, Read, Write, NoMemory, Differs, Unmet}
 use Rattle.play_tasks.specs.Plays.{EndsBadly, EndsGuards, IsDrawn, IsHeld, IsPlayed, IsRecorded, IsStopped, IsCutShort, IsUnmet, IsUnmetInAll, IsOverfull, PlayFails, Plays, PrintsExpected, Streams, TellsGuards}
 use Rattle.play_tasks.specs.declared.task.Expected.{Expected}
 use Rattle.play_tasks.specs.declared.task.Task.TheVariants.{Plain, Formed, Guarded, GuardedToEnd, Recorded, Session, Compare, Drawn, Paged}
@@ -44,14 +43,6 @@ use Rattle.play_tasks.specs.declared.task.Task.TheVariants.{Plain, Formed, Guard
 
 abbrev pub passed : (trace held holds : Option (List ℕ)) → Streams
 passed trace held holds = record { trace = trace; held = held; holds = holds }
-
-pub kept : (held : Option (List ℕ)) → Keeps held held
-kept None = tt
-kept (Some bytes) = refl
-
-pub unread_yet : (had : Option (List ℕ)) → prepend_known [] had ≡ had
-unread_yet None = refl
-unread_yet (Some bytes) = refl
 
 pub all_consumed : (had has : Option (List ℕ)) (bytes : List ℕ) → Consumes had has bytes → IsAtEnd has → IsAll had bytes
 all_consumed None has bytes c e = tt
@@ -135,9 +126,8 @@ pub play_failed : (start now : Bench) (held holds had has : Option (List ℕ)) (
     → Played {X = Unit {0}} start now held holds had has (Err error) → PlayFails Plain path start (passed had held holds) (failure_of (Read path) fault error)
 play_failed start now held holds had has path fault play_error.Read (lines, more, did, consumed, counted, ended) =
     inl ((lines, (did.each, (prepend_known more has, before_read had has (joined lines) more consumed)), written_plainly start held holds lines did.written, never_strict), refl)
-play_failed start now held holds had has path fault play_error.Write p = tt
-play_failed start now held holds had has path fault play_error.NoMemory p = tt
 play_failed start now held holds had has path fault (play_error.BadLine n) p = played_to start now held holds had has n p
+play_failed start now held holds had has path fault _ p = tt
 
 -- PLAYS IN A FORM, AND COMPARISONS
 
@@ -165,10 +155,9 @@ pub formed_failed : (form : Form) (start now : Bench) (held holds had has : Opti
     → PlayFails (Formed form) path start (passed had held holds) (failure_of (Read path) fault error)
 formed_failed form start now held holds had has bytes path fault play_error.Read (left, lines, said, f, unended, written) =
     inl ((lines, (f.each, (left, f.read)), subst (Appends held holds) f.said written, never_strict), refl)
-formed_failed form start now held holds had has bytes path fault play_error.Write p = tt
-formed_failed form start now held holds had has bytes path fault play_error.NoMemory p = tt
 formed_failed form start now held holds had has bytes path fault (play_error.BadLine n) (said, e, written) =
     (e.lines, ends_badly form start now had said bytes n e, subst (Appends held holds) e.followed.said written, never_strict)
+formed_failed form start now held holds had has bytes path fault _ p = tt
 
 -- PICTURES
 
@@ -182,34 +171,24 @@ drawn_whole picture keep start now had has bytes (left, lines, said, f, (ended, 
 pub drawn_over : (A : Type 0) (large : TooLarge) (keep : Keep) (start now : Bench) (held had has : Option (List ℕ)) (bytes : List ℕ) → Pictured {A = A} keep start now had has bytes (Ok (Err large))
     → IsOverfull keep start (passed had held held) large.most
 drawn_over A large keep start now held had has bytes (left, lines, said, f, is) =
-    (lines, (f.each, (left, f.read)), subst (λ (b : Bench). IsTooLarge (Unit {0}) keep start b.state lines (record { most = large.most })) f.state (bare_large keep start now.state lines large is), kept held)
+    (lines, (f.each, (left, f.read)), subst (λ (b : Bench). IsTooLarge (Unit {0}) keep start b.state lines (record { most = large.most })) f.state (bare_large keep start now.state lines large is), Keeps-refl held)
 
 pub drawn_failed : (A : Type 0) (keep : Keep) (width : ℕ) (start now : Bench) (held had has : Option (List ℕ)) (bytes : List ℕ) (path : Bor (List ℕ)) (fault : Option LineFlaw) (error : PlayError)
     → Pictured {A = A} keep start now had has bytes (Err error) → PlayFails (Drawn keep width) path start (passed had held held) (failure_of (Read path) fault error)
-drawn_failed A keep width start now held had has bytes path fault play_error.Read p = inl (kept held, refl)
+drawn_failed A keep width start now held had has bytes path fault play_error.Read p = inl (Keeps-refl held, refl)
 drawn_failed A keep width start now held had has bytes path fault play_error.Write p = absurd p
 drawn_failed A keep width start now held had has bytes path fault play_error.NoMemory p = tt
-drawn_failed A keep width start now held had has bytes path fault (play_error.BadLine n) (said, e) = (e.lines, ends_badly plain start now had said bytes n e, kept held)
+drawn_failed A keep width start now held had has bytes path fault (play_error.BadLine n) (said, e) = (e.lines, ends_badly plain start now had said bytes n e, Keeps-refl held)
 
 pub paged_whole : {A : Type 0} (page : Page A) (start now : Bench) (had has : Option (List ℕ)) (bytes : List ℕ) → Paging start now had has bytes (Ok page) → IsDrawn (processors_of start) had
 paged_whole page start now had has bytes (left, lines, said, f, is) = record { lines = lines; each = f.each; all = all_consumed had left (joined lines) f.read is.whole }
 
 pub paged_failed : (A : Type 0) (start now : Bench) (held had has : Option (List ℕ)) (bytes : List ℕ) (path : Bor (List ℕ)) (fault : Option LineFlaw) (error : PlayError)
     → Paging {A = A} start now had has bytes (Err error) → PlayFails Paged path start (passed had held held) (failure_of (Read path) fault error)
-paged_failed A start now held had has bytes path fault play_error.Read p = inl (kept held, refl)
+paged_failed A start now held had has bytes path fault play_error.Read p = inl (Keeps-refl held, refl)
 paged_failed A start now held had has bytes path fault play_error.Write p = absurd p
 paged_failed A start now held had has bytes path fault play_error.NoMemory p = tt
-paged_failed A start now held had has bytes path fault (play_error.BadLine n) (said, e) = (e.lines, ends_badly plain start now had said bytes n e, kept held)
-
-pub guarded_whole : (form : Form) (start now : Bench) (held holds had has : Option (List ℕ)) (line found : List ℕ) (met : ℕ) (near : List ℕ) → GuardedIn form start now held holds had has line found met near (Ok None)
-    → IsPlayed true form start (passed had held holds)
-guarded_whole form start now held holds had has line found met near (left, lines, said, f, ended, written, are_met, counts) = record {
-  lines = lines;
-  each = f.each;
-  all = all_consumed had left (joined lines) f.read ended;
-  written = subst (Appends held holds) f.said written;
-  guards = λ strict. are_met;
-}
+paged_failed A start now held had has bytes path fault (play_error.BadLine n) (said, e) = (e.lines, ends_badly plain start now had said bytes n e, Keeps-refl held)
 
 -- what is said of the guards
 pub guarded_told : (form : Form) (start now : Bench) (held holds had has : Option (List ℕ)) (line found : List ℕ) (met : ℕ) (near before between after : List ℕ) → GuardedIn form start now held holds had has line found met near (Ok None)
@@ -244,16 +223,6 @@ pub breach_told : (form : Form) (path : Bor (List ℕ)) (start : Bench) (streams
     → (failure ≡ Unmet n) ⊎ (failure ≡ NoMemory) → PlayFails (Guarded form) path start streams failure
 breach_told form path start streams n unmet failure (inl is) = subst (PlayFails (Guarded form) path start streams) (sym is) unmet
 breach_told form path start streams n unmet failure (inr is) = subst (PlayFails (Guarded form) path start streams) (sym is) tt
-
-pub guarded_failed : (form : Form) (start now : Bench) (held holds had has : Option (List ℕ)) (line found : List ℕ) (met : ℕ) (near : List ℕ) (path : Bor (List ℕ)) (fault : Option LineFlaw) (error : PlayError)
-    → GuardedIn form start now held holds had has line found met near (Err error)
-    → PlayFails (Guarded form) path start (passed had held holds) (failure_of (Read path) fault error)
-guarded_failed form start now held holds had has line found met near path fault play_error.Read (left, lines, said, f, unended, written, are_met, counts) =
-    inl ((lines, (f.each, (left, f.read)), subst (Appends held holds) f.said written, λ strict. are_met), refl)
-guarded_failed form start now held holds had has line found met near path fault play_error.Write p = tt
-guarded_failed form start now held holds had has line found met near path fault play_error.NoMemory p = tt
-guarded_failed form start now held holds had has line found met near path fault (play_error.BadLine n) (said, e, written, are_met, counts) =
-    (e.lines, ends_badly form start now had said line n e, subst (Appends held holds) e.followed.said written, λ strict. are_met)
 
 -- PLAYS PAST GUARDS
 
@@ -292,23 +261,7 @@ sifted_ended x form start now held holds had has line met near unmet sifted path
     record { played = tt; failed = sifted_unmet x form start now held holds had has line met near unmet sifted n more is }
 sifted_ended x form start now held holds had has line met near unmet sifted path (Err NoMemory) is = record { played = tt; failed = tt }
 sifted_ended x form start now held holds had has line met near unmet sifted path (Err Write) is = record { played = tt; failed = tt }
-sifted_ended x form start now held holds had has line met near unmet sifted path (Err Differs) is = absurd cc
-sifted_ended x form start now held holds had has line met near unmet sifted path (Err (Manifest cause)) is = absurd cc
-sifted_ended x form start now held holds had has line met near unmet sifted path (Err (BadLine n fault)) is = absurd cc
-sifted_ended x form start now held holds had has line met near unmet sifted path (Err (Read told)) is = absurd cc
-sifted_ended x form start now held holds had has line met near unmet sifted path (Err (Words fault)) is = absurd cc
-sifted_ended x form start now held holds had has line met near unmet sifted path (Err (Unfit cause)) is = absurd cc
-sifted_ended x form start now held holds had has line met near unmet sifted path (Err (TooManyRows most)) is = absurd cc
-
-pub sifted_failed : (form : Form) (start now : Bench) (held holds had has : Option (List ℕ)) (line : List ℕ) (met : ℕ) (near unmet : List ℕ) (path : Bor (List ℕ)) (fault : Option LineFlaw) (error : PlayError)
-    → SiftedIn {X = Unit {0}} form start now held holds had has line met near unmet (Err error)
-    → PlayFails (GuardedToEnd form) path start (passed had held holds) (failure_of (Read path) fault error)
-sifted_failed form start now held holds had has line met near unmet path fault play_error.Read (left, lines, said, f, unended, written, sift) =
-    inl ((lines, (f.each, (left, f.read)), subst (Appends held holds) f.said written, λ strict. absurd cc), refl)
-sifted_failed form start now held holds had has line met near unmet path fault play_error.Write p = tt
-sifted_failed form start now held holds had has line met near unmet path fault play_error.NoMemory p = tt
-sifted_failed form start now held holds had has line met near unmet path fault (play_error.BadLine n) (said, e, written, sift) =
-    (e.lines, ends_badly form start now had said line n e, subst (Appends held holds) e.followed.said written, λ strict. absurd cc)
+sifted_ended x form start now held holds had has line met near unmet sifted path _ is = absurd cc
 
 -- RECORDS
 
@@ -326,10 +279,9 @@ pub recorded_failed : (start now : Bench) (held holds had has : Option (List ℕ
     → PlayFails Recorded path start (passed had held holds) (failure_of (Read path) fault error)
 recorded_failed start now held holds had has bytes path fault play_error.Read (left, lines, said, f, unended, written, replays) =
     inl ((lines, (f.each, (left, f.read)), written), refl)
-recorded_failed start now held holds had has bytes path fault play_error.Write p = tt
-recorded_failed start now held holds had has bytes path fault play_error.NoMemory p = tt
 recorded_failed start now held holds had has bytes path fault (play_error.BadLine n) (said, e, written, replays) =
     (e.lines, ends_badly plain start now had said bytes n e, written)
+recorded_failed start now held holds had has bytes path fault _ p = tt
 
 -- COMPARISONS
 
@@ -350,15 +302,15 @@ module _ (form : Form) (start now : Bench) (had has unread held : Option (List �
   pub compared_failed : (path : Bor (List ℕ)) (fault : Option LineFlaw) (error : PlayError) → Compared form start now had has expected.reader unread bytes said wanted (Err (compare_error.Play error))
       → PlayFails (Compare expected form) path start (passed had held held) (failure_of (Read path) fault error)
   compared_failed path fault play_error.Read (left, lines, printed, more, alike, f, unended) =
-      inl (((lines, (f.each, (left, f.read)), (more, subst (Consumes expected.reader more) f.said alike)), kept held), refl)
+      inl (((lines, (f.each, (left, f.read)), (more, subst (Consumes expected.reader more) f.said alike)), Keeps-refl held), refl)
   compared_failed path fault play_error.Write p = absurd p
   compared_failed path fault play_error.NoMemory p = tt
-  compared_failed path fault (play_error.BadLine n) p = (cut_short form start now had has expected.reader unread bytes said wanted n p, kept held)
+  compared_failed path fault (play_error.BadLine n) p = (cut_short form start now had has expected.reader unread bytes said wanted n p, Keeps-refl held)
 
   -- the expected text couldn't be read
   pub compared_unmatched : (path : Bor (List ℕ)) → Compared form start now had has expected.reader unread bytes said wanted (Err compare_error.Expected)
       → PlayFails (Compare expected form) path start (passed had held held) (Read expected.path)
-  compared_unmatched path p = inr ((p.lines, (p.followed.each, (p.left, p.followed.read)), (p.found, p.more, p.alike, stopped_at p.stops)), kept held, refl)
+  compared_unmatched path p = inr ((p.lines, (p.followed.each, (p.left, p.followed.read)), (p.found, p.more, p.alike, stopped_at p.stops)), Keeps-refl held, refl)
     where
       stopped_at : (IsAtEnd p.left × (p.found ≡ p.printed)) ⊎ StopsInLast (unexplained form) start p.lines p.found
           → (IsAll had (joined p.lines) × (p.found ≡ text_in (unexplained form) 1 start p.lines)) ⊎ StopsInLast (unexplained form) start p.lines p.found
@@ -371,13 +323,7 @@ pub differing : (form : Form) (start : Bench) (streams : Streams) (expected : Ex
 differing form start streams expected path never_prints Differs any = never_prints
 differing form start streams expected path never_prints Write any = tt
 differing form start streams expected path never_prints NoMemory any = tt
-differing form start streams expected path never_prints (Manifest cause) never = absurd never
-differing form start streams expected path never_prints (BadLine n fault) never = absurd never
-differing form start streams expected path never_prints (Read told) never = absurd never
-differing form start streams expected path never_prints (Unmet n) never = absurd never
-differing form start streams expected path never_prints (Words fault) never = absurd never
-differing form start streams expected path never_prints (Unfit cause) never = absurd never
-differing form start streams expected path never_prints (TooManyRows most) never = absurd never
+differing form start streams expected path never_prints _ never = absurd never
 
 -- SESSIONS
 
@@ -405,6 +351,5 @@ pub held_failed : (form : Form) (start now : Bench) (held holds had has : Option
     → SessionIn {X = Unit {0}} form start now held holds had has (Err error) → PlayFails (Session form) path start (passed had held holds) (failure_of (Read path) fault error)
 held_failed form start now held holds had has path fault play_error.Read (left, lines, said, heard, unended, written) =
     inl ((lines, heard.each, (left, heard.read), subst (Appends held holds) heard.said written), refl)
-held_failed form start now held holds had has path fault play_error.Write p = tt
-held_failed form start now held holds had has path fault play_error.NoMemory p = tt
 held_failed form start now held holds had has path fault (play_error.BadLine n) p = absurd p
+held_failed form start now held holds had has path fault _ p = tt

@@ -1,13 +1,13 @@
 -- SPDX-License-Identifier: MIT OR Apache-2.0
 -- What is counted of a trace that is played: each operation, by what comes of it where it is done, and the check at which it is
 -- refused there.
-use Rattle.std.specs.Prelude.{◌≡◌, ℕ, true, List, [], ◌∷◌, Option, Some, None, Result, Ok, Err, ⊤, unwrap_or}
+use Rattle.std.specs.Prelude.{◌≡◌, ℕ, true, List, [], ◌∷◌, Option, None, Result, Ok, Err, ⊤, unwrap_or}
 use Rattle.std.specs.Option.{option_map_or}
 use Rattle.ffa_model.specs.declared.operation.Outcome.TheVariants.{Done}
 use Rattle.ffa_model.specs.declared.why.Why.{Why}
 use Rattle.ffa_playable.specs.Bench.{Bench, effect_of, processors_of, why_of}
 use Rattle.play_syntax.specs.Lines.{outcome_in}
-use Rattle.play_syntax.specs.TraceLines.{Line, operate, show, audit, skip, turn, interrupt, are_lines, joined, line_in}
+use Rattle.play_syntax.specs.TraceLines.{Line, operate, are_lines, joined, line_in}
 use Rattle.play_syntax.specs.TraceText.{after}
 use Rattle.play_syntax.specs.declared.output.PlayError.{PlayError}
 use Rattle.play_syntax.specs.declared.output.PlayError.TheVariants.{Read, Write, NoMemory, BadLine}

@@ -1,8 +1,6 @@
 -- SPDX-License-Identifier: MIT OR Apache-2.0
 -- Texts that grow by lines, and what is written of them.
-use Rattle.std.proofs.Common.{◌≡◌, ◌≤◌, ◌<◌, ◌+◌, ◌-◌, ℕ, true, List, [], ◌∷◌, ◌++◌, length, take, drop, map, get_or, codes, Option, None, Some, Result, Ok, Err, sym, ap, ◌∙◌, refl, subst, arith, append_assoc, append-nil, length-append, take-append-drop}
-use Rattle.std.specs.Prelude.{OnOk, if◌then◌else◌}
-use Rattle.std.specs.Result.{is_ok}
+use Rattle.std.proofs.Common.{◌≡◌, ◌≤◌, ◌<◌, ◌+◌, ◌-◌, ℕ, true, List, [], ◌∷◌, ◌++◌, length, take, drop, map, get_or, codes, Option, None, Some, Result, Ok, Err, sym, ap, ◌∙◌, refl, subst, arith, append_assoc, append-nil, length-append, take-append-drop, OnOk, if◌then◌else◌, is_ok}
 use Rattle.std.specs.Io.KnownBytes.{Appends}
 use Rattle.std.proofs.KnownBytes.{Appends-nil, Appends-trans}
 use Rattle.std.proofs.lemmas.List.{length-map, map-append, map_more, take_rest}

@@ -1,6 +1,6 @@
 // SPDX-License-Identifier: MIT OR Apache-2.0
 //! How often what came.
-ghost use Rattle.std.specs.Prelude.{◌≡◌, ◌<◌, ◌≤◌, ◌==◌, ◌∷◌, suc, position, replicate, slice_index, IfSome};
+ghost use Rattle.std.specs.Prelude.{◌≡◌, ◌<◌, ◌≤◌, ◌==◌, suc, position, replicate, slice_index, IfSome};
 ghost use Rattle.std.specs.Option.{option_map_or};
 ghost use Rattle.ffa_model.specs.Registers.{low};
 ghost use Rattle.ffa_model.specs.Rows.{place_in_rows};

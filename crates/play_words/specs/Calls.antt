@@ -1,9 +1,8 @@
 -- SPDX-License-Identifier: MIT OR Apache-2.0
 -- Calls by their names, which stand in the calls' one table, and their arguments, which stand in another: ARGUMENTS, with where
 -- the number of each stands in the registers (DEN0077A, 11 to 16).
-use Rattle.std.specs.Prelude.{ℕ, ◌+◌, ◌-◌, ◌%◌, ◌^◌, ◌==◌, Bool, false, true, List, [], codes, drop, find, length, map, take, Option, None, Some, option_map, option_and_then, if◌then◌else◌}
+use Rattle.std.specs.Prelude.{ℕ, ◌-◌, ◌%◌, ◌^◌, ◌==◌, Bool, false, true, List, [], codes, drop, find, length, map, take, Option, None, Some, option_map, option_and_then, if◌then◌else◌, bytes_eq}
 use Rattle.std.specs.Option.{option_or}
-use Rattle.std.specs.Str.{bytes_eq}
 use Rattle.ffa_abi.specs.declared.names.TheConstants.{FFA_NOTIFICATION_INFO_GET, FFA_NOTIFICATION_INFO_GET_64}
 use Rattle.ffa_model.specs.Registers.{wide_of}
 use Rattle.ffa_model.specs.Rows.{Row, rows}

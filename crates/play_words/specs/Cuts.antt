@@ -1,7 +1,7 @@
 -- SPDX-License-Identifier: MIT OR Apache-2.0
 -- FOR PROOFS ALONE
 -- Words that are cut off one by one.
-use Rattle.std.specs.Prelude.{◌≡◌, ℕ, ◌+◌, List, [], ◌∷◌, length, Option, None, Some}
+use Rattle.std.specs.Prelude.{ℕ, ◌+◌, List, [], length, Option, None, Some}
 use Rattle.play_syntax.specs.TraceLines.{words_of}
 use Rattle.std.specs.Borrow.{Bor}
 

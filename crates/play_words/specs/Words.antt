@@ -1,9 +1,8 @@
 -- SPDX-License-Identifier: MIT OR Apache-2.0
 -- What a line in words means: a call by its name, the numbers of its arguments, and the registers that hold them.
-use Rattle.std.specs.Prelude.{◌≡◌, ℕ, ◌+◌, ◌-◌, ◌*◌, ◌/◌, ◌%◌, ◌^◌, ◌==◌, Bool, true, false, not, ◌&&◌, nat_eq, nat_le, nat_lt, List, [], ◌∷◌, ◌++◌, bit_or, codes, drop, find, fold, is_some, length, position, take, unwrap_or, Option, None, Some, option_map, Result, Ok, Err, ⊤, if◌then◌else◌}
+use Rattle.std.specs.Prelude.{◌≡◌, ℕ, ◌+◌, ◌-◌, ◌*◌, ◌/◌, ◌%◌, ◌^◌, ◌==◌, Bool, not, ◌&&◌, nat_eq, nat_le, nat_lt, List, [], ◌∷◌, ◌++◌, bit_or, codes, drop, find, fold, is_some, length, position, take, unwrap_or, Option, None, Some, option_map, Result, Ok, Err, ⊤, if◌then◌else◌, bytes_eq}
 use Rattle.std.specs.List.{flat_map, list_any, starts_with}
 use Rattle.std.specs.Option.{option_or}
-use Rattle.std.specs.Str.{bytes_eq}
 use Rattle.play_syntax.specs.TraceLines.{hash, words_of}
 use Rattle.play_syntax.specs.TraceText.{spaced}
 use Rattle.play_words.specs.Calls.{Argument, Form, function_named}

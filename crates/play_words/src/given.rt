@@ -1,6 +1,6 @@
 // SPDX-License-Identifier: MIT OR Apache-2.0
 //! The arguments that words give, and the registers that they make.
-ghost use Rattle.std.specs.Prelude.{◌≡◌, ◌+◌, ◌<◌, ◌≤◌, ◌^◌, ◌==◌, [], ◌∷◌, find, length, option_map, position};
+ghost use Rattle.std.specs.Prelude.{◌≡◌, ◌+◌, ◌<◌, ◌^◌, ◌==◌, [], ◌∷◌, find, length, option_map, position};
 ghost use Rattle.play_syntax.specs.TraceLines.{words_of};
 ghost use Rattle.play_words.specs.Calls.{form_of};
 ghost use Rattle.play_words.specs.Cuts.{left_length, words_left};

@@ -1,7 +1,6 @@
 -- SPDX-License-Identifier: MIT OR Apache-2.0
 -- Hexadecimal digits are read as the number that was written.
-use Rattle.std.proofs.Common.{◌≡◌, ℕ, zero, suc, ◌+◌, ◌*◌, ◌/◌, ◌%◌, ◌^◌, ◌<◌, ◌≤◌, true, length, fold, Some, option_map, sym, ap, ◌∙◌, arith, refl, pow-add}
-use Rattle.std.specs.Prelude.{if◌then◌else◌, None}
+use Rattle.std.proofs.Common.{◌≡◌, ℕ, zero, suc, ◌+◌, ◌*◌, ◌/◌, ◌%◌, ◌^◌, ◌<◌, ◌≤◌, true, length, fold, Some, option_map, sym, ap, ◌∙◌, arith, refl, pow-add, if◌then◌else◌, None}
 use Rattle.std.specs.List.{list_all}
 use Rattle.std.proofs.Math.Nat.{lt-mul-div-succ, mod-eq_of_lt, mod-lt, one-le-pow, pow-suc, pow-succ'}
 use Rattle.std.proofs.Math.Arith.{mod-mul}
@@ -10,6 +9,7 @@ use Rattle.ffa_model.specs.Manifest.{is_from_to}
 use Rattle.play_syntax.specs.TraceLines.{digit_value, with_digit, number_of}
 use Rattle.play_syntax.specs.TraceText.{digit, hex}
 use Rattle.play_writer.proofs.Words.{is_plain}
+use Rattle.play_syntax.proofs.TextDigits.{length-hex}
 
 digit_read : (d : ℕ) → d < 16 → digit_value (digit d) ≡ Some d
 unfolding digit_value
@@ -25,10 +25,6 @@ digits_read (suc n) a x =
     ap (λ o. fold with_digit (option_map (λ e. 16 * a + e) o) (hex n x)) (digit_read d (mod-lt (x / 16 ^ n) (omega arith)))
     ∙ digits_read n (16 * a + d) x
     ∙ ap Some (rw (pow-succ' 16 n, split) (omega arith))
-
-pub length-hex : (n x : ℕ) → length (hex n x) ≡ n
-length-hex zero x = refl
-length-hex (suc n) x = omega (arith, length-hex n x)
 
 -- 1 to 16 digits of a number that has no more
 pub hex_read : (n x : ℕ) → 1 ≤ n → n ≤ 16 → x < 16 ^ n → number_of (hex n x) ≡ Some x

@@ -1,7 +1,6 @@
 -- SPDX-License-Identifier: MIT OR Apache-2.0
 -- A record that bytes are read as breaks no condition.
-use Rattle.std.proofs.Common.{◌≡◌, ◌≢◌, ℕ, zero, suc, ◌^◌, ◌<◌, ◌≤◌, Bool, true, false, not, cond, List, [], ◌∷◌, get_or, Option, Some, None, inl, inr, refl, sym, ap, subst, arith}
-use Rattle.std.specs.Prelude.{◌==◌, nat_le, nat_lt}
+use Rattle.std.proofs.Common.{◌≡◌, ◌≢◌, ℕ, zero, suc, ◌^◌, ◌<◌, ◌≤◌, Bool, true, false, not, cond, List, [], ◌∷◌, get_or, Option, Some, None, inl, inr, refl, sym, ap, subst, arith, ◌==◌, nat_le, nat_lt}
 use Rattle.std.specs.List.{list_all}
 use Rattle.std.proofs.lemmas.Bool.{and_parts, and_from, eq-eqb, ne_eqb, le-leb, lt-ltb, ltb-true}
 use Rattle.byteorder.specs.Numbers.{little_from-lt}
@@ -38,8 +37,7 @@ bit_below false = refl
 
 flag_again : (kind : Kind) (flags : ℕ) → flags ≤ most_flags kind → nat_le (cond (flags == 1) 1 0) (most_flags kind) ≡ true
 flag_again Share flags least = let none : flags ≡ 0 = omega arith in rw none refl
-flag_again Lend flags least = bit_below (flags == 1)
-flag_again Donate flags least = bit_below (flags == 1)
+flag_again _ flags least = bit_below (flags == 1)
 
 grant_again : (kind : Kind) (p : ℕ) → IsGrant kind p → is_grant kind (data_code (data_of p)) ≡ true
 grant_again Share p (inl e) = rw e refl

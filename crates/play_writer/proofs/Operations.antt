@@ -44,9 +44,7 @@ fetch_read n a some few fits =
 size_read : (size : Size) → size_named (hex 1 (size_of size)) ≡ Some size
 unfolding size_named
 size_read B1 = refl
-size_read B2 = refl
-size_read B4 = refl
-size_read B8 = refl
+size_read _ = refl
 
 pub load_read : (n a : ℕ) (size : Size) → 1 ≤ n → n ≤ 16 → a < 16 ^ n → IsLineOf (line (codes "load") (hex n a ∷ hex 1 (size_of size) ∷ [])) (Load a size)
 unfolding line_of command_of load_of
@@ -58,9 +56,7 @@ load_read n a size some few fits =
 value_size : (size : Size) (v : ℕ) → size_written (hex (2 * size_of size) v) ≡ Some size
 unfolding size_written
 value_size B1 v = refl
-value_size B2 v = refl
-value_size B4 v = refl
-value_size B8 v = refl
+value_size _ v = refl
 
 value_read : (size : Size) (v : ℕ) → v < 256 ^ size_of size → number_of (hex (2 * size_of size) v) ≡ Some v
 value_read B1 v fits = hex_read 2 v (omega arith) (omega arith) fits
@@ -84,9 +80,6 @@ pub record Told (text given : List ℕ) : Type 0 where
   pub plain : are_plain words ≡ true
   pub numbers : numbers_of words ≡ Some given
   pub each : length words ≡ length given
-
-pub none_told : Told (codes "call") []
-none_told = record { words = []; whole = refl; plain = refl; numbers = refl; each = refl }
 
 pub one_told : (text given : List ℕ) (n v : ℕ) → Told text given → 1 ≤ n → n ≤ 16 → v < 16 ^ n → Told (text ++ spaced (hex n v)) (given ++ v ∷ [])
 one_told text given n v told some few fits = record {

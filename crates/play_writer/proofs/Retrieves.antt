@@ -1,12 +1,11 @@
 -- SPDX-License-Identifier: MIT OR Apache-2.0
 -- The bytes of a retrieve are read as it.
-use Rattle.std.proofs.Common.{◌≡◌, ◌≢◌, ◌∙◌, ℕ, ◌+◌, ◌*◌, ◌^◌, ◌<◌, Bool, true, false, eqb, List, [], ◌++◌, length, Option, Some, None, refl, sym, ap, subst, inl, arith, length-append}
-use Rattle.std.proofs.lemmas.List.{append-nil}
+use Rattle.std.proofs.Common.{◌≡◌, ◌≢◌, ◌∙◌, ℕ, ◌+◌, ◌*◌, ◌^◌, ◌<◌, Bool, true, false, eqb, List, [], ◌++◌, length, Option, Some, None, refl, sym, ap, subst, inl, arith, length-append, append-nil}
 use Rattle.ffa_model.specs.declared.endpoint.Version.{Version}
 use Rattle.ffa_model.specs.declared.rights.Data.{Data}
 use Rattle.ffa_model.specs.declared.rights.Data.TheVariants.{Ro, Rw}
 use Rattle.ffa_model.specs.declared.rights.Kind.{Kind}
-use Rattle.ffa_model.specs.declared.rights.Kind.TheVariants.{Share, Lend, Donate}
+use Rattle.ffa_model.specs.declared.rights.Kind.TheVariants.{Share}
 use Rattle.ffa_model.specs.declared.descriptor.RetrieveDesc.{RetrieveDesc}
 use Rattle.ffa_model.specs.Bits.{bits}
 use Rattle.ffa_model.specs.DescriptorPlaces.{in_version, array_place, data_code, exec_code, kind_code}
@@ -34,8 +33,7 @@ asked (Some Rw) false = record { data_bits = refl; known = λ e. omega arith; ex
 pub kind_few : (k : Option Kind) → 8 * kind_code k < 2 ^ 32
 kind_few None = omega arith
 kind_few (Some Share) = omega arith
-kind_few (Some Lend) = omega arith
-kind_few (Some Donate) = omega arith
+kind_few _ = omega arith
 
 length-entry : (e p c : ℕ) → length (entry_bytes e p c) ≡ 16
 unfolding le

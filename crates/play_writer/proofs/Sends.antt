@@ -1,15 +1,13 @@
 -- SPDX-License-Identifier: MIT OR Apache-2.0
 -- The bytes of a send that is fit are read as it.
-use Rattle.std.proofs.Common.{◌≡◌, ◌≢◌, ◌∙◌, ℕ, ◌+◌, ◌*◌, ◌%◌, ◌^◌, ◌<◌, ◌≤◌, Bool, true, false, cond, eqb, List, ◌++◌, length, get_or, Option, Some, None, refl, sym, ap, subst, arith, append_assoc, length-append}
-use Rattle.std.specs.List.{flat_map}
+use Rattle.std.proofs.Common.{◌≡◌, ◌≢◌, ◌∙◌, ℕ, ◌+◌, ◌*◌, ◌%◌, ◌^◌, ◌<◌, ◌≤◌, Bool, true, false, cond, eqb, List, ◌++◌, length, get_or, Option, None, refl, sym, ap, subst, arith, append_assoc, length-append, flat_map}
 use Rattle.std.proofs.lemmas.List.Sums.{get_or-le-sum_by}
 use Rattle.ffa_model.specs.declared.limits.TheConstants.{MOST_RANGES}
 use Rattle.ffa_model.specs.declared.endpoint.Version.{Version}
 use Rattle.ffa_model.specs.declared.endpoint.Version.TheVariants.{Compact, V1_1}
 use Rattle.ffa_model.specs.declared.rights.Data.{Data}
-use Rattle.ffa_model.specs.declared.rights.Data.TheVariants.{Ro, Rw}
 use Rattle.ffa_model.specs.declared.rights.Kind.{Kind}
-use Rattle.ffa_model.specs.declared.rights.Kind.TheVariants.{Share, Lend, Donate}
+use Rattle.ffa_model.specs.declared.rights.Kind.TheVariants.{Lend}
 use Rattle.ffa_model.specs.declared.transaction.Range.{Range}
 use Rattle.ffa_model.specs.declared.transaction.Receiver.{Receiver}
 use Rattle.ffa_model.specs.DescriptorPlaces.{Versioned, in_version, header_size, array_place, access_place, receiver_count, composite_place, composite_field, range_count, range_place, IsHeader, data_code, data_of}
@@ -21,6 +19,9 @@ use Rattle.play_writer.proofs.Relinquishes.{flag_told}
 use Rattle.play_writer.proofs.Headings.{Fitting, Headed, headed, is_header_of, length-heading}
 use Rattle.play_writer.proofs.Places.{Entry, entry_at, Stands, stands, Counted, counted}
 use Rattle.play_writer.proofs.Splits.{split_at, behind, followed, length-flat, listed_is}
+use Rattle.play_writer.proofs.Sizes.{short_header, few_receivers}
+use Rattle.ffa_memdesc.proofs.RetrieveLaw.{data_of-data_code}
+use Rattle.ffa_model.proofs.ResponseSize.{length-composite, length-range}
 
 -- the conditions of the relation on what a send says
 pub record Fit (kind : Kind) (r : SendRecord) : Type 0 where
@@ -45,47 +46,24 @@ pub record Small (r : SendRecord) : Type 0 where
   pub endpoints : (k : ℕ) → k < length r.receivers → (d : Receiver) → (get_or r.receivers k d).endpoint.0 < 2 ^ 16
 
 attributes_small : (kind : Kind) (n : ℕ) → attributes_of kind n < 2 ^ 16
-attributes_small Share n = omega arith
 attributes_small Lend n = cases (eqb n 1)
   where
     cases : (t : Bool) → cond t 0 47 < 2 ^ 16
     cases true = omega arith
     cases false = omega arith
-attributes_small Donate n = omega arith
+attributes_small _ n = omega arith
 
 flag_few : (zero : Bool) → cond zero 1 0 < 2 ^ 32
 flag_few true = omega arith
 flag_few false = omega arith
 
-four_at_most : (kind : Kind) → most_receivers kind ≤ 4
-four_at_most Share = omega arith
-four_at_most Lend = omega arith
-four_at_most Donate = omega arith
-
-size_most : (version : Version) → header_size version ≤ 48
-size_most Compact = omega arith
-size_most V1_1 = omega arith
-
 size_aligned : (version : Version) (n : ℕ) → (header_size version + 16 * n) % 16 ≡ 0
 size_aligned Compact n = omega arith
 size_aligned V1_1 n = omega arith
 
-data_again : (g : Option Data) → data_of (data_code g) ≡ g
-data_again None = refl
-data_again (Some Ro) = refl
-data_again (Some Rw) = refl
-
 length-receiver : (place : ℕ) (x : Receiver) → length (receiver_bytes place x) ≡ 16
 unfolding le
 length-receiver place x = refl
-
-length-range : (q : Range) → length (range_bytes q) ≡ 16
-unfolding le
-length-range q = refl
-
-length-composite : (rs : List Range) → length (composite_bytes rs) ≡ 16
-unfolding le
-length-composite rs = refl
 
 -- the parts of the bytes
 abbrev head : Version → Kind → SendRecord → List ℕ
@@ -116,7 +94,7 @@ module _ (version : Version) (kind : Kind) (r : SendRecord) (fit : Fit kind r) (
   fitting : Fitting (send_heading kind r)
   fitting =
       let most = fit.most in
-      let four = four_at_most kind in
+      let four = few_receivers kind in
       record { sender = small.sender; attributes = attributes_small kind (length r.receivers); flags = flag_few r.zero; handle = omega arith; tag = small.tag; count = omega arith }
 
   length-before : length (head version kind r ++ accesses version r) ≡ composite_of version r
@@ -133,8 +111,8 @@ module _ (version : Version) (kind : Kind) (r : SendRecord) (fit : Fit kind r) (
       let x = get_or r.receivers i d in
       let f = receiver_bytes (composite_of version r) in
       let most = fit.most in
-      let four = four_at_most kind in
-      let size = size_most version in
+      let four = few_receivers kind in
+      let size = short_header version in
       let s = followed _ _ (runs r) _ (followed _ _ (composite_bytes r.ranges) _ (behind (head version kind r) (accesses version r) (f x) (header_size version) (16 * i) (length-heading version (send_heading kind r)) (split_at f r.receivers i d (length-receiver (composite_of version r)) lt))) in
       subst (λ (l : List ℕ). Entry l (header_size version + 16 * i) x.endpoint.0 (data_code x.grant) (composite_of version r)) (sym s.is)
       (entry_at s.front s.rest (header_size version + 16 * i) x.endpoint.0 (data_code x.grant) (composite_of version r) s.place (small.endpoints i lt d) (omega arith))
@@ -242,7 +220,7 @@ module _ (version : Version) (kind : Kind) (r : SendRecord) (fit : Fit kind r) (
   receivers : listed (receiver_count (written version kind r)) (receiver_in (written version kind r)) ≡ r.receivers
   receivers =
       ap (λ (n : ℕ). listed n (receiver_in (written version kind r))) says.count
-      ∙ listed_is r.receivers (receiver_in (written version kind r)) (λ i d lt. same_receiver (get_or r.receivers i d) _ _ (entry i d lt).endpoint (ap data_of (entry i d lt).permissions ∙ data_again (get_or r.receivers i d).grant))
+      ∙ listed_is r.receivers (receiver_in (written version kind r)) (λ i d lt. same_receiver (get_or r.receivers i d) _ _ (entry i d lt).endpoint (ap data_of (entry i d lt).permissions ∙ data_of-data_code (get_or r.receivers i d).grant))
 
   ranges : listed (range_count (written version kind r)) (range_in (written version kind r)) ≡ r.ranges
   ranges =

@@ -1,23 +1,21 @@
 -- SPDX-License-Identifier: MIT OR Apache-2.0
 -- A send descriptor that is written fits a page.
-use Rattle.std.proofs.Common.{◌≡◌, ℕ, ◌≤◌, List, length, take, Result, Ok, Err, ap, ◌∙◌, arith}
-use Rattle.std.specs.Result.{IfOk}
+use Rattle.std.proofs.Common.{◌≡◌, ℕ, ◌≤◌, List, length, take, Result, Ok, Err, ap, ◌∙◌, arith, IfOk}
 use Rattle.ffa_model.specs.declared.endpoint.Version.{Version}
 use Rattle.ffa_model.specs.declared.endpoint.Version.TheVariants.{Compact, V1_1}
 use Rattle.ffa_model.specs.declared.rights.Kind.{Kind}
-use Rattle.ffa_model.specs.declared.rights.Kind.TheVariants.{Share, Lend, Donate}
+use Rattle.ffa_model.specs.declared.rights.Kind.TheVariants.{Share}
 use Rattle.ffa_model.specs.DescriptorPlaces.{Versioned, in_version, header_size, receiver_count, range_count}
 use Rattle.ffa_model.specs.SendDescriptor.{SendRecord, Send, receiver_in, range_in, most_receivers}
 use Rattle.ffa_model.proofs.Listed.{length-listed}
 use Rattle.play_writer.specs.declared.unfit.Unfit.{Unfit}
 use Rattle.play_writer.specs.Composed.{send_size}
 
-few_receivers : (kind : Kind) → most_receivers kind ≤ 4
+pub few_receivers : (kind : Kind) → most_receivers kind ≤ 4
 few_receivers Share = omega arith
-few_receivers Lend = omega arith
-few_receivers Donate = omega arith
+few_receivers _ = omega arith
 
-short_header : (version : Version) → header_size version ≤ 48
+pub short_header : (version : Version) → header_size version ≤ 48
 short_header Compact = omega arith
 short_header V1_1 = omega arith
 

@@ -1,7 +1,6 @@
 -- SPDX-License-Identifier: MIT OR Apache-2.0
 -- Stores that are put one behind the other.
-use Rattle.std.proofs.Common.{◌≡◌, ℕ, true, false, ◌+◌, ◌-◌, ◌%◌, ◌^◌, ◌<◌, ◌≤◌, List, [], ◌∷◌, ◌++◌, length, take, drop, get_or, refl, sym, ap, ◌∙◌, subst, arith, append_assoc, append-nil, take-append-drop, length-drop, inl, inr}
-use Rattle.std.specs.Prelude.{◌==◌}
+use Rattle.std.proofs.Common.{◌≡◌, ℕ, true, false, ◌+◌, ◌-◌, ◌%◌, ◌^◌, ◌<◌, ◌≤◌, List, [], ◌∷◌, ◌++◌, length, take, drop, get_or, refl, sym, ap, ◌∙◌, subst, arith, append_assoc, append-nil, take-append-drop, length-drop, inl, inr, ◌==◌}
 use Rattle.std.specs.Int.{bytes_low_first}
 use Rattle.std.proofs.lemmas.List.{get_or-drop, nil_from_length}
 use Rattle.byteorder.specs.Endian.{little_from}
@@ -74,9 +73,6 @@ pub record Storing (start at : ℕ) (bytes rest old text : List ℕ) : Type 0 wh
   pub lines : List (List ℕ)
   pub whole : text ≡ old ++ joined lines
   pub goes_on : (more : List (List ℕ)) → Stores at more rest → Stores start (lines ++ more) bytes
-
-pub none_stored : (start : ℕ) (bytes old : List ℕ) → Storing start start bytes bytes old old
-none_stored start bytes old = record { lines = []; whole = sym (append-nil old); goes_on = λ more h. h }
 
 joined-push : (lines : List (List ℕ)) (line : List ℕ) → joined (lines ++ line ∷ []) ≡ joined lines ++ ended line
 joined-push [] line = refl

@@ -1,7 +1,7 @@
 // SPDX-License-Identifier: MIT OR Apache-2.0
 //! An access descriptor, as it is written.
 
-ghost use Rattle.std.specs.Prelude.{◌≡◌, ◌+◌, ◌^◌, ◌<◌, ◌≤◌, List, ℕ, length, ◌++◌};
+ghost use Rattle.std.specs.Prelude.{◌+◌, ◌^◌, ◌<◌, ◌≤◌, List, ℕ, length, ◌++◌};
 ghost use Rattle.ffa_memdesc.specs.Writing.{Wrote};
 ghost use Rattle.play_writer.specs.Composed.{entry_bytes};
 

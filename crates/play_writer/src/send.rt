@@ -1,8 +1,7 @@
 // SPDX-License-Identifier: MIT OR Apache-2.0
 //! Send descriptors.
 
-ghost use Rattle.std.specs.Prelude.{◌≡◌, ◌+◌, ◌*◌, ◌^◌, ◌<◌, ◌≤◌, ℕ, List, length, ◌++◌, get_or, take, drop, None, IfOk, OnErr, if◌then◌else◌};
-ghost use Rattle.std.specs.List.{flat_map};
+ghost use Rattle.std.specs.Prelude.{◌≡◌, ◌+◌, ◌*◌, ◌^◌, ◌<◌, ◌≤◌, ℕ, List, length, ◌++◌, get_or, take, drop, None, IfOk, OnErr, if◌then◌else◌, flat_map};
 ghost use Rattle.std.specs.Result.{result_err};
 ghost use Rattle.ffa_model.specs.declared.transaction.Receiver.{Receiver};
 ghost use Rattle.ffa_model.specs.DescriptorPlaces.{Versioned, in_version, data_code};

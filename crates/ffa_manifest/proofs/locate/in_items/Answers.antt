@@ -1,6 +1,5 @@
 -- SPDX-License-Identifier: MIT OR Apache-2.0
-use Rattle.std.proofs.Common.{◌≤◌, ◌++◌, List, Some, Ok, sym, ap, ◌∙◌, arith, length}
-use Rattle.std.specs.Prelude.{is_err}
+use Rattle.std.proofs.Common.{◌≤◌, ◌++◌, List, Some, Ok, sym, ap, ◌∙◌, arith, length, is_err}
 use Rattle.toml.specs.View.{view, items_view}
 use Rattle.ffa_model.specs.declared.endpoint.Region.{Region}
 use Rattle.ffa_model.specs.Manifest.{regions_of}

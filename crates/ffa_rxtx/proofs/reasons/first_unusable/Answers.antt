@@ -1,7 +1,5 @@
 -- SPDX-License-Identifier: MIT OR Apache-2.0
-use Rattle.std.proofs.Common.{ℕ, ◌+◌, Bool, sym, ap, arith}
-use Rattle.std.specs.Prelude.{not}
-use Rattle.std.specs.Option.{option_map}
+use Rattle.std.proofs.Common.{ℕ, ◌+◌, Bool, sym, ap, arith, not, option_map}
 use Rattle.ffa_model.specs.About.{numbered}
 use Rattle.ffa_model.specs.Buffers.{is_usable}
 use Rattle.ffa_model.proofs.Finds.{find-listed, find-none}

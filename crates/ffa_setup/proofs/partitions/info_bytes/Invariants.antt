@@ -1,6 +1,5 @@
 -- SPDX-License-Identifier: MIT OR Apache-2.0
-use Rattle.std.proofs.Common.{◌≡◌, ◌*◌, ◌-◌, ◌≤◌, ◌++◌, length, drop}
-use Rattle.std.specs.List.{flat_map}
+use Rattle.std.proofs.Common.{◌≡◌, ◌*◌, ◌-◌, ◌≤◌, ◌++◌, length, drop, flat_map}
 use Rattle.ffa_model.specs.Setup.{info_of}
 use Rattle.ffa_setup.proofs.Selected.{selected_from}
 use Rattle.ffa_setup.proofs.partitions.info_bytes.Given as goal

@@ -1,7 +1,5 @@
 -- SPDX-License-Identifier: MIT OR Apache-2.0
-use Rattle.std.proofs.Common.{rules, ◌≡◌, ◌∙◌, ◌-◌, ◌/◌, true, ap}
-use Rattle.std.specs.Prelude.{◌==◌}
-use Rattle.std.proofs.lemmas.Bool.{eq-eqb}
+use Rattle.std.proofs.Common.{rules, ◌≡◌, ◌∙◌, ◌-◌, ◌/◌, true, ap, ◌==◌, eq-eqb}
 use Rattle.ffa_model.specs.Reach.{page_index}
 use Rattle.ffa_physmem.proofs.Moments.{Only-map, loan-writing}
 use Rattle.ffa_walker.proofs.access.write_number.Goals as goal

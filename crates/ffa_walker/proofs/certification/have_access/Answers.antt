@@ -1,6 +1,5 @@
 -- SPDX-License-Identifier: MIT OR Apache-2.0
-use Rattle.std.proofs.Common.{◌≡◌, ◌∙◌, ℕ, ◌+◌, ◌-◌, ◌*◌, ◌/◌, ◌≤◌, true, sym, ap, subst, arith}
-use Rattle.std.specs.Prelude.{◌↔◌, is_some, max, min}
+use Rattle.std.proofs.Common.{◌≡◌, ◌∙◌, ℕ, ◌+◌, ◌-◌, ◌*◌, ◌/◌, ◌≤◌, true, sym, ap, subst, arith, ◌↔◌, is_some, max, min}
 use Rattle.std.proofs.lemmas.Bool.{false≢true}
 use Rattle.ffa_walker.specs.Spans.{HaveAccess, HavePages}
 use Rattle.ffa_walker.proofs.certification.have_access.Goals as goal

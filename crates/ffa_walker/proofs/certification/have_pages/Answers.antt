@@ -1,6 +1,5 @@
 -- SPDX-License-Identifier: MIT OR Apache-2.0
-use Rattle.std.proofs.Common.{◌∙◌, ℕ, sym, ap, arith, inl, inr}
-use Rattle.std.specs.Prelude.{not}
+use Rattle.std.proofs.Common.{◌∙◌, ℕ, sym, ap, arith, inl, inr, not}
 use Rattle.std.proofs.lemmas.Bool.{both_ways, cases_lt, false≢true}
 use Rattle.ffa_walker.proofs.certification.have_pages.Goals as goal
 use Rattle.ffa_walker.proofs.Spans.{first-left, is-none, none-is, nothing-left}

@@ -1,7 +1,5 @@
 -- SPDX-License-Identifier: MIT OR Apache-2.0
-use Rattle.std.proofs.Common.{◌≡◌, take}
-use Rattle.std.specs.Prelude.{◌==◌}
-use Rattle.std.specs.List.{count_by}
+use Rattle.std.proofs.Common.{◌≡◌, take, ◌==◌, count_by}
 use Rattle.play_descriptor.specs.Members.{comma}
 use Rattle.play_descriptor.proofs.parts.commas.Given as goal
 

@@ -1,5 +1,5 @@
 -- SPDX-License-Identifier: MIT OR Apache-2.0
-use Rattle.play_descriptor.proofs.Digits.{Written}
+use Rattle.play_syntax.proofs.Digits.{Written}
 use Rattle.play_descriptor.proofs.parts.digits.Given as goal
 
 abbrev pub invariant-loop-byte : goal.invariant-loop-byte

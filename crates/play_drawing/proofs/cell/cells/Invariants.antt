@@ -1,6 +1,5 @@
 -- SPDX-License-Identifier: MIT OR Apache-2.0
-use Rattle.std.proofs.Common.{◌≡◌, take}
-use Rattle.std.specs.List.{filter_map, flat_map}
+use Rattle.std.proofs.Common.{◌≡◌, take, filter_map, flat_map}
 use Rattle.play_drawing.specs.Cells.{cell_of}
 use Rattle.play_drawing.proofs.cell.cells.Given as goal
 

@@ -1,6 +1,5 @@
 -- SPDX-License-Identifier: MIT OR Apache-2.0
-use Rattle.std.proofs.Common.{◌≡◌, None, Ok, Some, true, false, ◌∙◌, ap, subst, sym, take}
-use Rattle.std.specs.Prelude.{◌==◌, position}
+use Rattle.std.proofs.Common.{◌≡◌, None, Ok, Some, true, false, ◌∙◌, ap, subst, sym, take, ◌==◌, position}
 use Rattle.play_syntax.specs.TraceLines.{feed}
 use Rattle.play_forms.specs.Asking.{AsksPrinted}
 use Rattle.play_forms.specs.Patterns.{meets, pattern_of, told}

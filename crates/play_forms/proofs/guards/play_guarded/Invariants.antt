@@ -1,6 +1,5 @@
 -- SPDX-License-Identifier: MIT OR Apache-2.0
-use Rattle.std.proofs.Common.{◌≡◌, ◌+◌, ◌-◌, ◌^◌, ℕ, List, length}
-use Rattle.std.specs.Prelude.{not}
+use Rattle.std.proofs.Common.{◌≡◌, ◌+◌, ◌-◌, ◌^◌, ℕ, List, length, not}
 use Rattle.std.specs.Io.KnownBytes.{Appends}
 use Rattle.ffa_playable.specs.Bench.{processors_of}
 use Rattle.play_forms.specs.Followed.{Followed}

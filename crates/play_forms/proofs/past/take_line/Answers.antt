@@ -1,6 +1,5 @@
 -- SPDX-License-Identifier: MIT OR Apache-2.0
-use Rattle.std.proofs.Common.{◌≡◌, ◌++◌, ◌∷◌, ◌∙◌, None, Some, ap, inl, inr, refl, sym, take}
-use Rattle.std.specs.Prelude.{◌==◌, position}
+use Rattle.std.proofs.Common.{◌≡◌, ◌++◌, ◌∷◌, ◌∙◌, None, Some, ap, inl, inr, refl, sym, take, ◌==◌, position}
 use Rattle.play_syntax.specs.TraceLines.{feed}
 use Rattle.play_forms.proofs.WordsFit.{ends_line, no_line_ends}
 use Rattle.play_forms.proofs.past.take_line.Goals as goal

@@ -2,7 +2,7 @@
 use Rattle.std.proofs.Common.{◌+◌, ◌∷◌, ◌∙◌, ap, sym, take}
 use Rattle.std.proofs.lemmas.List.{take_rest}
 use Rattle.play_syntax.specs.TraceLines.{words_of}
-use Rattle.play_forms.proofs.WordsFit.{cut_none, cut_some}
+use Rattle.play_syntax.proofs.Cutting.{cut_some, cut_none}
 use Rattle.play_forms.proofs.patterns.cut_word.Goals as goal
 
 pub returns-in-Some-clause-words : goal.returns-in-Some-clause-words

@@ -1,6 +1,5 @@
 -- SPDX-License-Identifier: MIT OR Apache-2.0
-use Rattle.std.proofs.Common.{◌≡◌, ◌∙◌, false, ap, sym, refl}
-use Rattle.std.specs.Prelude.{◌&&◌, codes, not, option_map}
+use Rattle.std.proofs.Common.{◌≡◌, ◌∙◌, false, ap, sym, refl, ◌&&◌, codes, not, option_map}
 use Rattle.play_syntax.specs.TraceLines.{words_of}
 use Rattle.play_forms.specs.Patterns.{fit}
 use Rattle.play_forms.proofs.WordsFit.{fit_alike, fit_rest, rest_loose, rest_zeros}

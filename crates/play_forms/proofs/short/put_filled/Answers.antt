@@ -1,6 +1,5 @@
 -- SPDX-License-Identifier: MIT OR Apache-2.0
-use Rattle.std.proofs.Common.{◌≡◌, ◌==◌, ◌++◌, true, false, append-nil, append_assoc, ap, sym, subst, ◌∙◌}
-use Rattle.std.specs.Prelude.{slice_index}
+use Rattle.std.proofs.Common.{◌≡◌, ◌==◌, ◌++◌, true, false, append-nil, append_assoc, ap, sym, subst, ◌∙◌, slice_index}
 use Rattle.std.specs.List.{flat_map, list_all}
 use Rattle.std.proofs.lemmas.List.{take_rest}
 use Rattle.play_syntax.specs.TraceText.{spaced}

@@ -1,6 +1,5 @@
 -- SPDX-License-Identifier: MIT OR Apache-2.0
-use Rattle.std.proofs.Common.{◌≡◌, ◌++◌, ℕ, List, length}
-use Rattle.std.specs.List.{flat_map}
+use Rattle.std.proofs.Common.{◌≡◌, ◌++◌, ℕ, List, length, flat_map}
 use Rattle.play_syntax.specs.TraceText.{spaced}
 use Rattle.play_reasons.specs.Drafts.{Puts}
 use Rattle.play_forms.specs.Short.{filled, short_number}

@@ -1,6 +1,5 @@
 -- SPDX-License-Identifier: MIT OR Apache-2.0
-use Rattle.std.proofs.Common.{◌∙◌, ap}
-use Rattle.std.specs.Prelude.{slice_set}
+use Rattle.std.proofs.Common.{◌∙◌, ap, slice_set}
 use Rattle.ffa_mend.specs.Offered.{offered}
 use Rattle.play_picture.proofs.Places.{offers-next}
 use Rattle.play_picture.proofs.offers.offers_to.Goals as goal

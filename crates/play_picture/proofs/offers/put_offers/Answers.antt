@@ -1,6 +1,5 @@
 -- SPDX-License-Identifier: MIT OR Apache-2.0
-use Rattle.std.proofs.Common.{◌≡◌, ◌∷◌, [], ◌++◌, ◌<◌, Option, Some, get_or, length, rules, subst, sym, ap, ◌∙◌}
-use Rattle.std.specs.List.{slice_get}
+use Rattle.std.proofs.Common.{◌≡◌, ◌∷◌, [], ◌++◌, ◌<◌, Option, Some, get_or, length, rules, subst, sym, ap, ◌∙◌, slice_get}
 use Rattle.std.proofs.lemmas.Option.{slice_get-get_or}
 use Rattle.play_drawing.specs.declared.row.Row.{Row}
 use Rattle.play_page.specs.declared.page.RowOffers.{RowOffers}

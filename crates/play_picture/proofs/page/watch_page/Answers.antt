@@ -1,6 +1,5 @@
 -- SPDX-License-Identifier: MIT OR Apache-2.0
-use Rattle.std.proofs.Common.{[], Ok, Err, subst, ◌∙◌, List, length}
-use Rattle.std.specs.List.{slice_get}
+use Rattle.std.proofs.Common.{[], Ok, Err, subst, ◌∙◌, List, length, slice_get}
 use Rattle.std.proofs.lemmas.Result.{err_from_is_err_and}
 use Rattle.ffa_playable.specs.Bench.{Bench, processors_of}
 use Rattle.play_drawing.specs.declared.row.Row.{Row}

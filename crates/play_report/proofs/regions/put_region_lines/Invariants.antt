@@ -1,6 +1,5 @@
 -- SPDX-License-Identifier: MIT OR Apache-2.0
-use Rattle.std.proofs.Common.{◌≡◌, ◌++◌}
-use Rattle.std.specs.List.{flat_map}
+use Rattle.std.proofs.Common.{◌≡◌, ◌++◌, flat_map}
 use Rattle.ffa_model.specs.Lists.{listed}
 use Rattle.ffa_manifest.specs.Document.{parts_of}
 use Rattle.play_report.specs.Layouts.{endpoint_regions}

@@ -1,6 +1,5 @@
 -- SPDX-License-Identifier: MIT OR Apache-2.0
-use Rattle.std.proofs.Common.{◌+◌, arith}
-use Rattle.std.proofs.lemmas.Bool.{eq-eqb, ne_eqb}
+use Rattle.std.proofs.Common.{◌+◌, arith, eq-eqb, ne_eqb}
 use Rattle.play_syntax.proofs.NumberFronts.{four_longer, fits, last_front, more_front, on_at}
 use Rattle.play_syntax.proofs.line.read_front.Goals as goal
 

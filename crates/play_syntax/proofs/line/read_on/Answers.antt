@@ -1,6 +1,5 @@
 -- SPDX-License-Identifier: MIT OR Apache-2.0
-use Rattle.std.proofs.Common.{◌+◌, ◌<◌, length, arith}
-use Rattle.std.proofs.lemmas.Bool.{eq-eqb, ne_eqb}
+use Rattle.std.proofs.Common.{◌+◌, ◌<◌, length, arith, eq-eqb, ne_eqb}
 use Rattle.play_syntax.proofs.NumberFronts.{longer, fits, last_front, more_front, no_bytes, no_digit_at, too_long, on_at}
 use Rattle.play_syntax.proofs.line.read_on.Goals as goal
 use Rattle.play_syntax.proofs.line.read_on.Goals.{else-loop-end-test, then-loop-end-test+then-value-ge-NO_DIGIT}

@@ -1,8 +1,5 @@
 -- SPDX-License-Identifier: MIT OR Apache-2.0
-use Rattle.std.proofs.Common.{◌≡◌, ◌+◌, ◌*◌, ◌≤◌, ◌++◌, ◌∙◌, length, take, get_or, refl, ap, sym, take_all, arith}
-use Rattle.std.specs.Prelude.{codes}
-use Rattle.std.specs.List.{flat_map}
-use Rattle.std.proofs.lemmas.List.{length-drop}
+use Rattle.std.proofs.Common.{◌≡◌, ◌+◌, ◌*◌, ◌≤◌, ◌++◌, ◌∙◌, length, take, get_or, refl, ap, sym, take_all, arith, codes, length-drop, flat_map}
 use Rattle.play_syntax.specs.TraceText.{hex, spaced}
 use Rattle.play_syntax.proofs.WordsPut.{one_more_put, behind_put, whole_line}
 use Rattle.play_syntax.proofs.text.put_registers.Goals as goal

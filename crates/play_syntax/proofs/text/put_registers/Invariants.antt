@@ -1,7 +1,5 @@
 -- SPDX-License-Identifier: MIT OR Apache-2.0
-use Rattle.std.proofs.Common.{◌≡◌, ◌+◌, ◌*◌, ◌++◌, take, drop}
-use Rattle.std.specs.Prelude.{codes}
-use Rattle.std.specs.List.{flat_map}
+use Rattle.std.proofs.Common.{◌≡◌, ◌+◌, ◌*◌, ◌++◌, take, drop, codes, flat_map}
 use Rattle.play_syntax.specs.TraceText.{hex, spaced}
 use Rattle.play_syntax.proofs.text.put_registers.Given as goal
 

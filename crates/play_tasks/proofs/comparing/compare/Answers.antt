@@ -1,13 +1,14 @@
 -- SPDX-License-Identifier: MIT OR Apache-2.0
 use Rattle.std.proofs.Common.{◌≡◌, None, Ok, Err, subst}
 use Rattle.std.specs.Io.Buffered.{reader_remaining}
+use Rattle.std.proofs.KnownBytes.{Keeps-refl}
 use Rattle.play_forms.specs.Compared.{Compared, NeverPrints, unexplained}
 use Rattle.play_forms.specs.declared.comparison.CompareError.TheVariants as compare_error
 use Rattle.play_tasks.specs.Plays.{PrintsExpected, PlayFails}
 use Rattle.play_report.specs.Failures.{failure_of}
 use Rattle.play_report.specs.declared.failure.Failure.TheVariants.{Read}
 use Rattle.play_tasks.specs.Purposes.{comparison_of, heard}
-use Rattle.play_tasks.proofs.Plays.{compared_whole, compared_failed, compared_unmatched, differing, kept, passed}
+use Rattle.play_tasks.proofs.Plays.{compared_whole, compared_failed, compared_unmatched, differing, passed}
 use Rattle.play_tasks.proofs.comparing.compare.Goals as goal
 
 pub returns-in-Ok-None : goal.returns-in-Ok-None
@@ -23,7 +24,7 @@ returns-in-Ok-None g c =
     let at_wanted = subst (λ wants. Compared form start now had has wants unread sides.line.items sides.text.items sides.expected.items (Ok None)) c.in_ok-wanted.ensures.unread (rw c.in-Ok-None.field-0-is at c.in-Ok-None.ensures.compared) in
     let whole = compared_whole form start now had has wants unread sides.line.items sides.text.items sides.expected.items at_wanted in
     let from_reader = subst (λ had. PrintsExpected (unexplained form) start had wants) c.in_ok-reader.ensures.unread whole in
-    record { played = (from_reader, kept (g.W.Write.contents c.args.out.now)); failed = tt }
+    record { played = (from_reader, Keeps-refl (g.W.Write.contents c.args.out.now)); failed = tt }
 
 pub returns-in-Ok-Some : goal.returns-in-Ok-Some
 returns-in-Ok-Some g c =

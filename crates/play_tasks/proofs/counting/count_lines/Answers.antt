@@ -8,7 +8,6 @@ use Rattle.play_forms.specs.Reading.{TakesLine, TakesNext}
 use Rattle.play_forms.proofs.Follows.{followed_none, followed_more}
 use Rattle.play_tasks.specs.Counted.{tally_of}
 use Rattle.play_tasks.proofs.Tallies.{counted_more, counts_untaken}
-use Rattle.play_tasks.proofs.Plays.{all_consumed}
 use Rattle.play_tasks.proofs.counting.count_lines.Goals as goal
 
 pub loop-bytes-init : goal.loop-bytes-init

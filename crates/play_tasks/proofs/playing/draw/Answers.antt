@@ -2,13 +2,14 @@
 use Rattle.std.proofs.Common.{ℕ, Ok, subst, sym}
 use Rattle.ffa_playable.specs.Bench.{processors_of}
 use Rattle.std.specs.Io.Buffered.{reader_remaining}
+use Rattle.std.proofs.lemmas.Result.{on_ok_weaker}
 use Rattle.play_drawing.specs.declared.size.TooLarge.{TooLarge}
 use Rattle.play_picture.specs.Pictured.{Pictured}
 use Rattle.play_tasks.specs.Plays.{IsDrawn, IsOverfull, PlayFails}
 use Rattle.play_report.specs.Failures.{failure_of}
 use Rattle.play_report.specs.declared.failure.Failure.TheVariants.{Read}
 use Rattle.play_tasks.specs.declared.task.Task.TheVariants.{Drawn}
-use Rattle.play_report.proofs.Results.{on_err, on_ok}
+use Rattle.play_report.proofs.Results.{on_err}
 use Rattle.play_tasks.proofs.Plays.{drawn_over, drawn_whole, drawn_failed, passed}
 use Rattle.play_tasks.proofs.playing.draw.Goals as goal
 
@@ -23,7 +24,7 @@ returns-in-Ok-Ok g c =
     let drawn = subst (IsDrawn (processors_of start)) c.in_ok-reader.ensures.unread (drawn_whole {A = g.row.A.Denot} c.in-Ok-Ok.picture c.args.keep start now had has bytes is) in
     let streams = passed (g.R.Read.remaining c.args.trace.reader) (g.W.Write.contents c.args.out.now) (g.W.Write.contents c.print_picture.new.out) in
     record {
-      played = on_ok c.print_picture.result (λ written. (drawn, written)) c.print_picture.ensures.printed;
+      played = on_ok_weaker c.print_picture.result (λ written. (drawn, written)) c.print_picture.ensures.printed;
       failed = on_err c.print_picture.result (λ failure is. subst (PlayFails (Drawn c.args.keep c.args.width) c.args.trace.path c.args.player.now.bench streams) (sym is) tt) c.print_picture.ensures.failed;
     }
 

@@ -1,7 +1,5 @@
 -- SPDX-License-Identifier: MIT OR Apache-2.0
-use Rattle.std.proofs.Common.{◌≤◌, ◌∙◌, ap, subst, sym}
-use Rattle.std.specs.Prelude.{IfSome}
-use Rattle.play_reasons.specs.Checks.{number_of}
+use Rattle.std.proofs.Common.{◌≤◌, subst, sym, IfSome}
 use Rattle.play_transcript.proofs.Numbers.{number-few, number-some}
 use Rattle.play_transcript.proofs.counts.number_of.Goals as goal
 

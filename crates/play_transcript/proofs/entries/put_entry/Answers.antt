@@ -1,6 +1,5 @@
 -- SPDX-License-Identifier: MIT OR Apache-2.0
-use Rattle.std.proofs.Common.{subst}
-use Rattle.std.specs.Prelude.{OnOk}
+use Rattle.std.proofs.Common.{subst, OnOk}
 use Rattle.play_writer.specs.Script.{GrowsBy}
 use Rattle.play_transcript.proofs.Growing.{grown_operation, grown_attempt, grown_show, grown_audit}
 use Rattle.play_transcript.proofs.entries.put_entry.Goals as goal

@@ -1,6 +1,5 @@
 -- SPDX-License-Identifier: MIT OR Apache-2.0
-use Rattle.std.proofs.Common.{◌≡◌, ◌++◌}
-use Rattle.std.specs.List.{flat_map}
+use Rattle.std.proofs.Common.{◌≡◌, ◌++◌, flat_map}
 use Rattle.play_syntax.specs.TraceLines.{words_of}
 use Rattle.play_syntax.specs.TraceText.{spaced}
 use Rattle.play_words.specs.Cuts.{left_length, words_left}

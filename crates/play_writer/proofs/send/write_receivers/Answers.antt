@@ -1,20 +1,15 @@
 -- SPDX-License-Identifier: MIT OR Apache-2.0
 use borrow.Author.Count.{below_more}
-use Rattle.std.proofs.Common.{◌≡◌, ◌+◌, ◌*◌, ◌++◌, ◌^◌, ◌<◌, ℕ, List, [], ◌∷◌, zero, suc, length, get_or, take, None, refl, subst, arith}
-use Rattle.std.specs.List.{flat_map}
+use Rattle.std.proofs.Common.{◌+◌, ◌*◌, ◌++◌, ◌^◌, ◌<◌, ℕ, List, [], length, get_or, take, None, subst, arith, flat_map}
+use Rattle.std.proofs.lemmas.List.{get_or_default}
 use Rattle.ffa_model.specs.declared.transaction.Receiver.{Receiver}
 use Rattle.ffa_memdesc.specs.Writing.{Wrote}
 use Rattle.play_writer.specs.Composed.{receiver_bytes, entry_bytes}
 use Rattle.ffa_memdesc.proofs.Runs.{goes_on, ends}
 use Rattle.play_writer.proofs.send.write_receivers.Goals as goal
 
-any_default : {X : Type 0} (xs : List X) (i : ℕ) (d e : X) → i < length xs → get_or xs i d ≡ get_or xs i e
-any_default [] i d e lt = absurd (omega arith)
-any_default (x ∷ xs) zero d e lt = refl
-any_default (x ∷ xs) (suc i) d e lt = any_default xs i d e (omega arith)
-
 fits_at : (xs : List Receiver) (i : ℕ) (e : Receiver) → i < length xs → (get_or xs i e).endpoint.0 < 2 ^ 16 → (d : Receiver) → (get_or xs i d).endpoint.0 < 2 ^ 16
-fits_at xs i e lt fits d = subst (λ (x : Receiver). x.endpoint.0 < 2 ^ 16) (any_default xs i e d lt) fits
+fits_at xs i e lt fits d = subst (λ (x : Receiver). x.endpoint.0 < 2 ^ 16) (get_or_default xs i e d lt) fits
 
 pub loop-i-preserved : goal.loop-i-preserved
 loop-i-preserved c =

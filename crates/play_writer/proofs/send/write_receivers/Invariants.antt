@@ -1,7 +1,6 @@
 -- SPDX-License-Identifier: MIT OR Apache-2.0
-use Rattle.std.proofs.Common.{◌≡◌, ℕ, ◌+◌, ◌*◌, ◌++◌, ◌^◌, ◌<◌, List, take, length, get_or}
+use Rattle.std.proofs.Common.{◌≡◌, ℕ, ◌+◌, ◌*◌, ◌++◌, ◌^◌, ◌<◌, List, take, length, get_or, flat_map}
 use Rattle.ffa_model.specs.declared.transaction.Receiver.{Receiver}
-use Rattle.std.specs.List.{flat_map}
 use Rattle.play_writer.specs.Composed.{receiver_bytes}
 use Rattle.ffa_memdesc.specs.Writing.{Wrote}
 use Rattle.play_writer.proofs.send.write_receivers.Given as goal

@@ -1,6 +1,5 @@
 -- SPDX-License-Identifier: MIT OR Apache-2.0
-use Rattle.std.proofs.Common.{◌∙◌, ◌+◌, ◌<◌, ap, sym, length, get_or, arith}
-use Rattle.std.proofs.lemmas.Bool.{eq-eqb, ne_eqb}
+use Rattle.std.proofs.Common.{◌∙◌, ◌+◌, ◌<◌, ap, sym, length, get_or, arith, eq-eqb, ne_eqb}
 use Rattle.ffa_manifest.proofs.TextPlaces.{column-begins, column-on, column-stays, line-ended, line-stays}
 use Rattle.ffa_manifest.proofs.text_place.TextPlace.of.Goals as goal
 use Rattle.ffa_manifest.proofs.text_place.TextPlace.of.Goals.{then-byte-eq10, else-byte-eq10+then-is_first_byte, else-byte-eq10+else-is_first_byte}

@@ -1,6 +1,5 @@
 -- SPDX-License-Identifier: MIT OR Apache-2.0
-use Rattle.std.proofs.Common.{None, arith}
-use Rattle.std.proofs.lemmas.List.{ext_get_or}
+use Rattle.std.proofs.Common.{None, arith, ext_get_or}
 use Rattle.ffa_pages.proofs.table.PageTable.copy_from.Goals as goal
 
 pub returns : goal.returns

@@ -1,6 +1,5 @@
 -- SPDX-License-Identifier: MIT OR Apache-2.0
-use Rattle.std.proofs.Common.{◌∙◌, ℕ, ◌*◌, Option, None, sym, arith}
-use Rattle.std.proofs.lemmas.List.{ext_get_or}
+use Rattle.std.proofs.Common.{◌∙◌, ℕ, ◌*◌, Option, None, sym, arith, ext_get_or}
 use Rattle.ffa_model.proofs.Listed.{length-listed, get_or-listed}
 use Rattle.ffa_pages.specs.Entry.{Entry, first_entry}
 use Rattle.ffa_pages.proofs.table.PageTable.fill.Goals as goal

@@ -1,6 +1,5 @@
 -- SPDX-License-Identifier: MIT OR Apache-2.0
-use Rattle.std.proofs.Common.{◌∙◌}
-use Rattle.std.proofs.lemmas.Bool.{ne_eqb}
+use Rattle.std.proofs.Common.{◌∙◌, ne_eqb}
 use Rattle.ffa_model.specs.Identifiers.{manager}
 use Rattle.ffa_pages.specs.declared.page.KeptPage.{KeptPage}
 use Rattle.ffa_pages.proofs.Kept.{entry_of-owned}

@@ -1,6 +1,5 @@
 -- SPDX-License-Identifier: MIT OR Apache-2.0
-use Rattle.std.proofs.Common.{◌∙◌, Option, ap, slice_set}
-use Rattle.std.specs.Option.{option_map}
+use Rattle.std.proofs.Common.{◌∙◌, Option, ap, slice_set, option_map}
 use Rattle.ffa_pages.specs.Entry.{Entry}
 use Rattle.ffa_pages.proofs.Kept.{entry_of-marked}
 use Rattle.ffa_pages.proofs.table.PageTable.mark.Goals as goal

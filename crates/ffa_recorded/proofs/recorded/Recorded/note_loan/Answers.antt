@@ -1,8 +1,6 @@
 -- SPDX-License-Identifier: MIT OR Apache-2.0
-use Rattle.std.proofs.Common.{◌≡◌, ◌∙◌, ℕ, ◌+◌, Bool, true, false, List, vec_len, sym, ap, arith}
-use Rattle.std.specs.Prelude.{if◌then◌else◌}
+use Rattle.std.proofs.Common.{◌≡◌, ◌∙◌, ℕ, ◌+◌, Bool, true, false, List, vec_len, sym, ap, arith, if◌then◌else◌, lt-ltb}
 use Rattle.std.specs.Vec.{with_item}
-use Rattle.std.proofs.lemmas.Bool.{lt-ltb}
 use Rattle.ffa_recorded.specs.Loans.{has_room, held_in}
 use Rattle.ffa_recorded.specs.declared.recorded.Noted.TheVariants.{Written}
 use Rattle.ffa_recorded.specs.declared.recorded.Recorded.{Recorded}

@@ -1,6 +1,5 @@
 -- SPDX-License-Identifier: MIT OR Apache-2.0
-use Rattle.std.proofs.Common.{◌∙◌, ◌++◌, ℕ, List, Option, drop, length, ap, subst, sym}
-use Rattle.std.specs.Prelude.{IsSomeAnd}
+use Rattle.std.proofs.Common.{◌∙◌, ◌++◌, ℕ, List, Option, drop, length, ap, subst, sym, IsSomeAnd}
 use Rattle.ffa_model.specs.Ram.{with_page}
 use Rattle.ffa_model.specs.State.{Buffers}
 use Rattle.ffa_rxtx.specs.Parts.{IsInRam, with_rx_bytes}

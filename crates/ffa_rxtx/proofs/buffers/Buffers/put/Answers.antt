@@ -1,6 +1,5 @@
 -- SPDX-License-Identifier: MIT OR Apache-2.0
-use Rattle.std.proofs.Common.{◌∙◌}
-use Rattle.std.specs.Option.{option_map}
+use Rattle.std.proofs.Common.{◌∙◌, option_map}
 use Rattle.ffa_model.proofs.Written.{map-refill-set}
 use Rattle.ffa_rxtx.specs.Stored.{buffers_of}
 use Rattle.ffa_rxtx.proofs.buffers.Buffers.put.Goals as goal

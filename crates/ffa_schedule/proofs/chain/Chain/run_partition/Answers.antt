@@ -1,6 +1,5 @@
 -- SPDX-License-Identifier: MIT OR Apache-2.0
-use Rattle.std.proofs.Common.{◌≡◌, ◌∙◌, None, ap, inr, length, sym}
-use Rattle.std.proofs.lemmas.Bool.{eqb-true}
+use Rattle.std.proofs.Common.{◌≡◌, ◌∙◌, None, ap, inr, length, sym, eqb-true}
 use Rattle.ffa_model.specs.declared.schedule.Status.TheVariants.{Yielded}
 use Rattle.ffa_model.specs.Calls.{first_failure}
 use Rattle.ffa_model.specs.RunStates.{given_cycles, is_stopped, run_guards, run_reply, status_in}

@@ -1,7 +1,6 @@
 -- SPDX-License-Identifier: MIT OR Apache-2.0
-use Rattle.std.proofs.Common.{◌≡◌, ℕ, List, [], slice_index_or, ap, subst, arith}
+use Rattle.std.proofs.Common.{◌≡◌, ℕ, List, [], slice_index_or, ap, subst, arith, option_map}
 use Rattle.std.proofs.lemmas.Grind.{common_steps}
-use Rattle.std.specs.Option.{option_map}
 use Rattle.ffa_model.specs.declared.endpoint.Region.{Region}
 use Rattle.ffa_model.specs.Regions.{has_page, right_in}
 use Rattle.ffa_model.proofs.Finds.{find-alike}

@@ -1,6 +1,5 @@
 -- SPDX-License-Identifier: MIT OR Apache-2.0
-use Rattle.std.proofs.Common.{ap}
-use Rattle.std.specs.Prelude.{OnOk}
+use Rattle.std.proofs.Common.{ap, OnOk}
 use Rattle.play_commands.specs.Performed.{IsDone, needs_manifest, needs_trace, ran}
 use Rattle.play_commands.proofs.Performs.{describes, unplayed}
 use Rattle.play_commands.proofs.program.Program.do_command.Goals as goal

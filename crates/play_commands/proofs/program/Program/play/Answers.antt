@@ -1,13 +1,13 @@
 -- SPDX-License-Identifier: MIT OR Apache-2.0
-use Rattle.std.proofs.Common.{refl, subst, ◌∙◌}
-use Rattle.std.specs.Prelude.{option_map}
+use Rattle.std.proofs.Common.{refl, subst, ◌∙◌, option_map}
 use Rattle.std.proofs.lemmas.Result.{err_from_is_err_and}
+use Rattle.std.proofs.KnownBytes.{Keeps-refl}
 use Rattle.ffa_manifest.specs.Document.{Parts, parts_of}
 use Rattle.play_report.specs.Manifests.{bytes_of}
 use Rattle.play_tasks.specs.Plays.{Plays}
 use Rattle.play_tasks.specs.Purposes.{known}
 use Rattle.play_tasks.specs.Starts.{begun_by}
-use Rattle.play_tasks.proofs.Plays.{kept, passed}
+use Rattle.play_tasks.proofs.Plays.{passed}
 use Rattle.play_commands.specs.Performed.{first_of, ran}
 use Rattle.play_commands.proofs.Performs.{play_does, unnamed}
 use Rattle.play_commands.proofs.program.Program.play.Goals as goal
@@ -16,7 +16,7 @@ pub returns-in_err-manifest-clause-does : goal.returns-in_err-manifest-clause-do
 returns-in_err-manifest-clause-does g c =
     let held = g.W.Write.contents c.args.out.now in
     let p = err_from_is_err_and c.from_residual.result c.from_residual.ensures.1 in
-    rw (p.1, p.2) (unnamed c.args.options (ran g.R.Read.remaining c.args.files g.W.Write.contents c.args.out.now c.args.out.now) (kept held) c.in_err-manifest.field-0.0 c.args.options.source refl c.in_err-manifest.ensures.failed)
+    rw (p.1, p.2) (unnamed c.args.options (ran g.R.Read.remaining c.args.files g.W.Write.contents c.args.out.now c.args.out.now) (Keeps-refl held) c.in_err-manifest.field-0.0 c.args.options.source refl c.in_err-manifest.ensures.failed)
 
 pub returns-clause-does : goal.returns-clause-does
 returns-clause-does g c =

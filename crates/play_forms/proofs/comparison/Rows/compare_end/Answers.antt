@@ -1,6 +1,5 @@
 -- SPDX-License-Identifier: MIT OR Apache-2.0
-use Rattle.std.proofs.Common.{◌≡◌, vec_len, sym, ◌∙◌, arith}
-use Rattle.std.proofs.lemmas.Bool.{eqb-true}
+use Rattle.std.proofs.Common.{◌≡◌, vec_len, sym, ◌∙◌, arith, eqb-true}
 use Rattle.std.proofs.lemmas.List.{nil_from_length}
 use Rattle.play_forms.proofs.Rows.{none_left}
 use Rattle.play_forms.proofs.comparison.Rows.compare_end.Goals as goal

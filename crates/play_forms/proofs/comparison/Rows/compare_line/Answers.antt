@@ -1,6 +1,5 @@
 -- SPDX-License-Identifier: MIT OR Apache-2.0
-use Rattle.std.proofs.Common.{◌≡◌, sym, subst}
-use Rattle.std.specs.Prelude.{IfSome}
+use Rattle.std.proofs.Common.{◌≡◌, sym, subst, IfSome}
 use Rattle.play_syntax.specs.Lines.{meant}
 use Rattle.play_forms.specs.Compared.{unexplained}
 use Rattle.play_forms.specs.Comparing.{AreRows}

@@ -1,14 +1,13 @@
 -- SPDX-License-Identifier: MIT OR Apache-2.0
 -- The first word of a text, and the words behind it.
-use Rattle.std.proofs.Common.{◌≡◌, ℕ, ◌+◌, ◌<◌, ◌≤◌, ◌⊎◌, Bool, List, [], ◌∷◌, length, take, drop, Option, None, Some, inl, inr, sym, ap, ◌∙◌, subst, arith, refl}
-use Rattle.std.specs.Prelude.{◌==◌, not, position}
+use Rattle.std.proofs.Common.{◌≡◌, ℕ, ◌+◌, ◌<◌, ◌≤◌, ◌⊎◌, Bool, List, [], ◌∷◌, length, take, drop, Option, None, Some, inl, inr, sym, ◌∙◌, subst, arith, refl, ◌==◌, not, position}
 use Rattle.std.specs.List.{position_or_len}
 use Rattle.std.proofs.lemmas.Bool.{cases_lt, le-ltb, lt-ltb}
 use Rattle.std.proofs.lemmas.List.Sums.{prefix_len-le-length}
 use Rattle.play_syntax.specs.TraceLines.{space, words_of}
 use Rattle.play_syntax.proofs.LineWords.{more_words, one_word}
 
-position_some : (p : ℕ → Bool) (xs : List ℕ) (end : ℕ) → position p xs ≡ Some end → (position_or_len p xs ≡ end) × (end < length xs)
+pub position_some : (p : ℕ → Bool) (xs : List ℕ) (end : ℕ) → position p xs ≡ Some end → (position_or_len p xs ≡ end) × (end < length xs)
 position_some p xs end is = of (cases_lt (position_or_len p xs) (length xs))
   where
     of : (position_or_len p xs < length xs) ⊎ (length xs ≤ position_or_len p xs) → (position_or_len p xs ≡ end) × (end < length xs)
@@ -22,7 +21,7 @@ position_some p xs end is = of (cases_lt (position_or_len p xs) (length xs))
         let both : ◌≡◌ {A = Option ℕ} None (Some end) = sym at ∙ is in
         absurd cc
 
-position_none : (p : ℕ → Bool) (xs : List ℕ) → position p xs ≡ None → position_or_len p xs ≡ length xs
+pub position_none : (p : ℕ → Bool) (xs : List ℕ) → position p xs ≡ None → position_or_len p xs ≡ length xs
 position_none p xs is = of (cases_lt (position_or_len p xs) (length xs))
   where
     of : (position_or_len p xs < length xs) ⊎ (length xs ≤ position_or_len p xs) → position_or_len p xs ≡ length xs

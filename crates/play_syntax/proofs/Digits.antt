@@ -28,13 +28,12 @@ one_more word number count d written inside is =
       fits = rw (add-one count, pow-suc 16 count) (omega (arith, written.fits));
     }
 
--- another digit fits a word too, where there are fewer than 32
-pub fits_more : (word : List ℕ) (number count : ℕ) → Written word number count → count < 32 → 16 * number + 15 < 2 ^ 128
-fits_more word number count written few =
+-- another digit fits a word too, where the digits so far are at most `most`
+pub fits_more : (word : List ℕ) (number count most : ℕ) → Written word number count → count ≤ most → 16 * number + 15 < 16 ^ (most + 1)
+fits_more word number count most written few =
     let some : 0 < 16 = omega arith in
-    let below : count ≤ 31 = omega (arith, few) in
-    let most : 16 ^ count ≤ 16 ^ 31 = pow-le-pow_right some below in
-    omega (arith, written.fits, most)
+    let below : 16 ^ count ≤ 16 ^ most = pow-le-pow_right some few in
+    rw (add-one most, pow-suc 16 most) (omega (arith, written.fits, below))
 
 -- a byte that is no digit
 pub no_digit : (word : List ℕ) (number count : ℕ) → Written word number count → count < length word → None ≡ digit_value (get_or word count 0)
