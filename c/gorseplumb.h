@@ -45,7 +45,7 @@ extern "C" {
 
 /* The number of these declarations, raised by each change that a caller has to know of. Who loads the library while a
  * program runs compares it with gorseplumb_declarations, which answers the number that the library was built by. */
-#define GORSEPLUMB_DECLARATIONS 8
+#define GORSEPLUMB_DECLARATIONS 9
 
 uint32_t gorseplumb_declarations(void);
 

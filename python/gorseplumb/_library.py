@@ -13,7 +13,7 @@ from typing import Any, Callable
 
 from .errors import LibraryError
 
-DECLARATIONS = 8
+DECLARATIONS = 9
 """The number of the declarations that this file has."""
 
 MOST_REGIONS = 16

@@ -190,6 +190,10 @@ class Registers:
         return self
 
 
+def _as_resumed(value: Any) -> str:
+    return f"Resumed(runner={shown(value.runner)})"
+
+
 @dataclass(frozen=True, slots=True, init=False)
 class Resumed(Registers):
     """The partition `runner`, which an interrupt had stopped, runs next and goes on where it was, with its own registers: `x`
@@ -199,8 +203,7 @@ class Resumed(Registers):
         object.__setattr__(self, "runner", runner)
         object.__setattr__(self, "x", (0,) * 8)
 
-    def __repr__(self) -> str:
-        return f"Resumed(runner={shown(self.runner)})"
+    __repr__ = _as_resumed
 
     def __str__(self) -> str:
         return f"resumed {self.runner:04X}"

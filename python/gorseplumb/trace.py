@@ -199,8 +199,8 @@ class Player:
         outcome = machine.perform(command)
         answer = outcome if isinstance(outcome, Registers) else None
         refused = isinstance(outcome, Faulted) or answer is not None and answer.is_error
-        explained = self.explain and refused and not isinstance(command, Interrupt)
-        reason = machine.why(command) if explained else None
+        explained = self.explain and refused
+        reason = machine.why(command) if explained and not isinstance(command, Interrupt) else None
         return Printed(number, line, command, [str(outcome)], answer, str(reason) if reason is not None else None)
 
     def _guard(self, number: int, line: str) -> None:

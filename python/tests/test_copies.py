@@ -10,7 +10,7 @@ import pytest
 from conftest import EXAMPLES
 from test_machine import MANIFEST, RAM
 
-from gorseplumb import Call, Data, Fetch, Function, Load, Machine, MachineEnded, NotRecordable, Operation, Outcome, Ram
+from gorseplumb import Act, Call, Data, Fetch, Function, Load, Machine, MachineEnded, NotRecordable, Operation, Outcome, Ram
 from gorseplumb import RamLent, Store, Watcher, WrongRamSize
 from gorseplumb.trace import parse
 
@@ -130,7 +130,7 @@ def test_are_watched_by_nobody_and_fresh_as_the_machine_is() -> None:
     class Counter(Watcher):
         count = 0
 
-        def after(self, machine: Machine, operation: Operation, outcome: Outcome) -> None:
+        def after(self, machine: Machine, act: Act, outcome: Outcome) -> None:
             self.count += 1
 
     counter = Counter()

@@ -185,7 +185,7 @@ def test_a_session_takes_them_back(program: Program, tmp_path: Path) -> None:
         session.line(line)
     assert session.line("interrupt")[0].startswith("regs 0000 0000000084000062 0000000080010000 ")
     assert session.line("on 1") == [] and session.line("who") == ["runner 8002, of 0000 8001 8002"]
-    assert session.line("on 8") == ["error: line 1, column 4: the processor's number must be less than 8"]
+    assert session.line("on 8") == ["error: column 4: the processor's number must be less than 8"]
     path = tmp_path / "saved.trace"
     assert session.line(f"save {path}") == ["3 operations"]
     assert program("run", "--strict", "--processors", 2, EXAMPLES / "partitions.toml", path).returncode == 0

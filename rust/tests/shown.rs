@@ -37,7 +37,7 @@ fn operations_and_what_they_give() {
     shows(outcomes[1], "Data(0xCD)");
     shows(outcomes[2], "Fault(Permission)");
     let zeros = ", 0x0".repeat(7);
-    shows(outcomes[3], &format!("Answer(Answer {{ runner: Id(0x0), registers: [0x84000061{zeros}] }})"));
+    shows(outcomes[3], &format!("Answer(Answer {{ runner: Id(0x0), registers: Some([0x84000061{zeros}]) }})"));
 }
 
 #[test]

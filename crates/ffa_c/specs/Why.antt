@@ -1,13 +1,13 @@
 -- SPDX-License-Identifier: MIT OR Apache-2.0
 -- What C is told of why an operation is refused.
-use Rattle.std.specs.Prelude.{ℕ, ◌+◌, pos, Bool, false, Option, None, Some}
+use Rattle.std.specs.Prelude.{ℕ, ◌+◌, ◌&&◌, pos, Bool, false, not, Option, None, Some, is_some, if◌then◌else◌}
 use Rattle.std.specs.Int.{cast_signed, w32}
 use Rattle.std.specs.Option.{option_and_then, option_map}
 use denote.Enum.Declared.{tag_of}
 use Rattle.ffa_model.specs.Calls.{code_number}
 use Rattle.ffa_model.specs.RefusalCodes.{code_of}
-use Rattle.ffa_model.specs.Refusals.{is_refusal}
-use Rattle.ffa_model.specs.Step.{step}
+use Rattle.ffa_model.specs.Processors.{resumed_by, step_resuming}
+use Rattle.ffa_model.specs.State.{State}
 use Rattle.ffa_model.specs.Why.{why}
 use Rattle.ffa_model.specs.contracts.flaw.AccessFlaw as access_flaw
 use Rattle.ffa_model.specs.contracts.flaw.CompositeFlaw as composite_flaw
@@ -21,6 +21,7 @@ use Rattle.ffa_model.specs.declared.endpoint.EndpointId.{EndpointId}
 use Rattle.ffa_model.specs.declared.flaw.FieldPlace.{FieldPlace}
 use Rattle.ffa_model.specs.declared.flaw.Flaw.{Flaw}
 use Rattle.ffa_model.specs.declared.flaw.Flaw.TheVariants.{Header, Send, Access, Composite, Range, Retrieve, Relinquish}
+use Rattle.ffa_model.specs.declared.limits.TheConstants.{MOST_PROCESSORS}
 use Rattle.ffa_model.specs.declared.operation.Op.{Op}
 use Rattle.ffa_model.specs.declared.operation.Size.{Size}
 use Rattle.ffa_model.specs.declared.refusal.Refusal.{Refusal}
@@ -34,6 +35,8 @@ use Rattle.ffa_model.specs.declared.why.Why.{Why}
 use Rattle.ffa_model.specs.declared.why.Why.TheVariants.{Refused, Fault}
 use Rattle.ffa_mend.specs.declared.allowed.Allowed.{Allowed}
 use Rattle.ffa_mend.specs.Allowed.{allowed}
+use Rattle.ffa_notify.specs.Noticed.{in_one_context, notice_asked}
+use Rattle.ffa_playable.specs.Bench.{is_refused as does_refuse}
 use Rattle.ffa_playable.specs.declared.detail.Standing.{Standing}
 use Rattle.ffa_playable.specs.declared.detail.Standing.TheVariants.{RunState}
 use Rattle.ffa_playable.specs.Standing.{standing}
@@ -45,17 +48,28 @@ use Rattle.ffa_c.specs.declared.reason.CReason.{CReason}
 abbrev pub sized : ℕ → (Size → Op) → Option Op
 sized bytes op = option_map op (size_at bytes)
 
--- whether there are a machine and an operation, which that would refuse to its runner
+-- whether a machine would refuse an operation to its runner, and why: not where that asks for a notice, or lets a preempted
+-- partition go on
+abbrev pub refuses : State → Op → Bool
+refuses s op = not (is_some (notice_asked s.runner op)) && does_refuse (step_resuming s (in_one_context op)).effect
+
+abbrev pub why_here : State → Op → Option Why
+why_here s op =
+    if is_some (notice_asked s.runner op) then None
+    else if is_some (resumed_by s (in_one_context op)) then None
+    else why s (in_one_context op)
+
+-- whether there are a machine and an operation, which that would refuse
 abbrev pub is_refused : Option Boarded → Option Op → Bool
 is_refused None op = false
 is_refused (Some b) None = false
-is_refused (Some b) (Some op) = is_refusal (step b.machine.state op).outcome
+is_refused (Some b) (Some op) = refuses b.machine.state op
 
 -- why it would
 abbrev pub why_held : Option Boarded → Option Op → Option Why
 why_held None op = None
 why_held (Some b) None = None
-why_held (Some b) (Some op) = why b.machine.state op
+why_held (Some b) (Some op) = why_here b.machine.state op
 
 abbrev pub no_reason : CReason
 no_reason =
@@ -174,10 +188,10 @@ reason_told why its values = allowed_told values (standing_told its (refused_tol
 abbrev pub standing_held : Option Boarded → Why → Option Standing
 standing_held held why = option_and_then (λ (b : Boarded). standing b.machine.state why) held
 
--- and of an operation that is no processor's, so that the normal world has one execution context
+-- and which values may be there, where the normal world has as many execution contexts as there may be processors
 abbrev pub allowed_held : Option Boarded → Option Op → Why → Option Allowed
 allowed_held held None why = None
-allowed_held held (Some op) why = option_and_then (λ (b : Boarded). allowed 1 b.machine.state op why) held
+allowed_held held (Some op) why = option_and_then (λ (b : Boarded). allowed MOST_PROCESSORS b.machine.state (in_one_context op) why) held
 
 abbrev pub reason_held : Option Boarded → Option Op → Why → CReason
 reason_held held op why = reason_told why (standing_held held why) (allowed_held held op why)

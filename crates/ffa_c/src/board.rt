@@ -10,12 +10,11 @@ ghost use Rattle.ffa_model.specs.Certified.{IsCertified};
 ghost use Rattle.ffa_model.specs.Notifications.{has_pending, notifications_of};
 ghost use Rattle.ffa_model.specs.Processors.{first_processors};
 ghost use Rattle.ffa_model.specs.Ram.{page_of, zero_ram};
-ghost use Rattle.ffa_model.specs.Refusals.{is_refusal};
-ghost use Rattle.ffa_model.specs.Step.{step};
-ghost use Rattle.ffa_model.specs.Why.{granted, why};
+ghost use Rattle.ffa_model.specs.Why.{granted};
 ghost use Rattle.ffa_manifest.specs.Document.{parts_of};
 ghost use Rattle.ffa_spmc.specs.Booted.{IsBootedBy};
 ghost use Rattle.ffa_spmc.specs.Storages.{IsRoomFor};
+ghost use Rattle.ffa_notify.specs.Noticed.{in_one_context};
 ghost use Rattle.ffa_notify.specs.Notices.{is_due};
 ghost use Rattle.ffa_mend.specs.Allowed.{allowed};
 ghost use Rattle.ffa_playable.specs.Standing.{standing};
@@ -25,8 +24,9 @@ ghost use Rattle.ffa_c.specs.Border.{HasDone, access_code, notices_after, owner_
 ghost use Rattle.ffa_c.specs.Changes.{with_all_told};
 ghost use Rattle.ffa_c.specs.Processors.{HasInterrupted, selected};
 ghost use Rattle.ffa_c.specs.Runs.{run_at};
+ghost use Rattle.ffa_c.specs.Why.{refuses, why_here};
 
-use crate::kind::{BoardMachine, audited_by, code_of, owner_by, root_by, run_by};
+use crate::kind::{BoardMachine, audited_by, code_of, do_noticing, owner_by, root_by, run_by};
 use crate::outcome::COutcome;
 use ffa_lent::{Frames, LentRam};
 use ffa_memshare::Changed;
@@ -35,10 +35,10 @@ use ffa_model::{
     CertRun, Effect, EndpointId, Grant, MOST_ENDPOINTS, MOST_PROCESSORS, Manifest, Op, Outcome,
     PageNo, Why,
 };
-use ffa_notify::{Told, in_one_context, notice_asked};
+use ffa_notify::{Told, in_one_context, is_about_notices, notice_asked};
 use ffa_physmem::{FlatRam, PhysMem};
 use ffa_playable::Standing;
-use ffa_spmc::{Cluster, Fill, Given, Machine, Ready, Storage, Store};
+use ffa_spmc::{Cluster, Fill, Given, Machine, Storage, Store};
 use ffa_tlb::NoTlb;
 use std::alloc::Global;
 use std::marker::Model;
@@ -134,7 +134,7 @@ impl Board {
     pub fn boot_lent(
         manifest: &Manifest,
         ram: LentRam,
-        storage: Storage<Ready<Global>>,
+        storage: Storage<Given<Global>>,
         bytes: FirstBytes,
     ) -> Board
         requires storage { IsRoomFor manifest.now storage }
@@ -164,7 +164,7 @@ impl Board {
 
     /// Ends the machine: the pages that were lent, with the bytes that they had in the end, and the room for another
     /// machine in them.
-    pub fn into_frames(self) -> (Frames, Storage<Ready<Global>>)
+    pub fn into_frames(self) -> (Frames, Storage<Given<Global>>)
         requires { self.is_lent ≡ true }
         ensures pages { result.0.pages ≡ self.machine.ram.pages }
         ensures ready { result.0.is_ready ≡ true }
@@ -187,11 +187,14 @@ impl Board {
         ensures kind { self.new.is_lent ≡ self.old.is_lent }
     {
         either!(&mut self.kind, cluster => {
-            let asked = notice_asked(cluster.machine().runner(), op);
-            let mut effect = Effect::Outcome(Outcome::Done);
-            cluster.op(&in_one_context(op), &mut effect);
-            self.notices.answer(asked, cluster.machine().bitmaps(), &mut effect);
-            outcome.tell(&effect);
+            if is_about_notices(op) {
+                do_noticing(cluster, &mut self.notices, op, outcome)
+            } else {
+                let mut effect = Effect::Outcome(Outcome::Done);
+                cluster.op(op, &mut effect);
+                self.notices.follow(cluster.machine().bitmaps());
+                outcome.tell(&effect);
+            }
         })
     }
 
@@ -301,10 +304,16 @@ impl Board {
 
     /// Why an operation of the runner would be refused now, or was refused just before.
     pub fn why(&self, op: &Op) -> Option<Why>
-        ensures why { result ≡ why self.now.machine.state op.now }
-        ensures refused { is_some result ≡ is_refusal (step self.now.machine.state op.now).outcome }
+        ensures why { result ≡ why_here self.now.machine.state op.now }
+        ensures refused { is_some result ≡ refuses self.now.machine.state op.now }
     {
-        asked!(&self.kind, machine => ffa_reasons::why(machine, op))
+        asked!(&self.kind, machine => {
+            if notice_asked(machine.runner(), op).is_some() {
+                None
+            } else {
+                ffa_reasons::why_resuming(machine, &in_one_context(op))
+            }
+        })
     }
 
     /// How that stands which the check is about, where an operation of the runner is refused.
@@ -315,13 +324,14 @@ impl Board {
         asked!(&self.kind, machine => ffa_reasons::standing(machine, why))
     }
 
-    /// Which values may be in the register or the field that the check is about, where an operation of the runner is refused that no
-    /// processor is named for.
+    /// Which values may be in the register or the field that the check is about, where an operation of the runner is refused.
     pub fn allowed(&self, op: &Op, why: Option<Why>) -> Option<Allowed>
-        ensures { result ≡ option_and_then (allowed 1 self.now.machine.state op.now) why }
+        ensures { let one = in_one_context op.now in
+            result ≡ option_and_then (allowed MOST_PROCESSORS self.now.machine.state one) why }
     {
         let why = why?;
-        asked!(&self.kind, machine => ffa_reasons::allowed(machine, 1, op, why))
+        let contexts = MOST_PROCESSORS as u32;
+        asked!(&self.kind, machine => ffa_reasons::allowed(machine, contexts, &in_one_context(op), why))
     }
 
     /// Whether an endpoint has a notification pending.

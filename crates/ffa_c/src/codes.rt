@@ -3,7 +3,7 @@
 //! which a call answers in its registers.
 
 /// The number of the header's declarations, raised by each change that a caller has to know of.
-pub const DECLARATIONS: u32 = 8;
+pub const DECLARATIONS: u32 = 9;
 
 /// It was done.
 pub const OK: u32 = 0;

@@ -18,7 +18,7 @@ use crate::board::{Board, FirstBytes};
 use crate::seat::Seat;
 use ffa_lent::{Frames, Lent, LentRam, Span};
 use ffa_model::{Address, CertRun, MOST_ENDPOINTS, MOST_PAGES, Manifest};
-use ffa_spmc::{Ready, Storage};
+use ffa_spmc::{Given, Storage};
 use std::alloc::{AllocError, Global};
 use std::marker::Model;
 use std::mem;
@@ -30,7 +30,7 @@ use std::mem;
 pub struct LentList {
     frames: Frames,
     seat: Option<Box<Seat>>,
-    storage: Option<Storage<Ready<Global>>>,
+    storage: Option<Storage<Given<Global>>>,
 }
 
 impl Model for LentList {
@@ -148,7 +148,7 @@ impl LentList {
         &mut self,
         alloc: Global,
         manifest: &Manifest,
-    ) -> Result<(Box<Seat>, LentRam, Storage<Ready<Global>>), AllocError>
+    ) -> Result<(Box<Seat>, LentRam, Storage<Given<Global>>), AllocError>
         requires { length self.old.pages ≡ 512 * manifest.now.ram_blocks }
         ensures seat { IfOk result (λ o. o.0.value ≡ None) }
         ensures ram { IfOk result (λ o. ram_of o.1 ≡ record { base = manifest.now.ram_base.0; pages = self.old.pages }) }
@@ -224,18 +224,16 @@ impl LentList {
 
 // The room that is there, or other room, made room for the machine of a manifest.
 fn storage_in(
-    own: &mut Option<Storage<Ready<Global>>>,
+    own: &mut Option<Storage<Given<Global>>>,
     alloc: Global,
     manifest: &Manifest,
-) -> Result<Storage<Ready<Global>>, AllocError>
+) -> Result<Storage<Given<Global>>, AllocError>
     ensures room { IfOk result (IsRoomFor manifest.now) }
     ensures kept { IfErr result (λ _. own.new ≡ own.old) }
     ensures lacking { IfErr result (λ _. storage_pages own.old < 512 * manifest.now.ram_blocks) }
 {
     let Some(mut storage) = own.take() else {
-        let mut storage = Storage::ready(alloc, 512 * manifest.ram_blocks as usize)?;
-        storage.begin(manifest)?;
-        return Ok(storage);
+        return Storage::allocate_for(alloc, manifest);
     };
     match storage.begin(manifest) {
         Ok(()) => Ok(storage),

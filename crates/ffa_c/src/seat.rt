@@ -14,7 +14,7 @@ use crate::outcome::COutcome;
 use ffa_lent::Frames;
 use ffa_memshare::Changed;
 use ffa_model::{MOST_PROCESSORS, Op};
-use ffa_spmc::{Ready, Storage};
+use ffa_spmc::{Given, Storage};
 use std::alloc::{AllocError, Global};
 use std::marker::Model;
 
@@ -53,7 +53,7 @@ impl Seat {
 
     /// Ends the machine that is there, in RAM that is lent: the pages with the bytes that they had in the end, and the
     /// room for another machine in them.
-    pub fn vacate(&mut self) -> (Frames, Storage<Ready<Global>>)
+    pub fn vacate(&mut self) -> (Frames, Storage<Given<Global>>)
         requires { lends self.old ≡ Some true }
         ensures pages { Some result.0.pages ≡ ram_pages self.old }
         ensures ready { result.0.is_ready ≡ true }

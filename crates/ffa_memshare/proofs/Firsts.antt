@@ -45,10 +45,6 @@ module _ (scene : Scene) (e : ℕ) (x : Transfer) where
   pub send-transfer : (read : Option SendRecord) (refusal : Refusal) → Some refusal ≡ first_refusal of_transfer → Some refusal ≡ first_refusal (send_guards scene e x read)
   send-transfer read refusal is = first-fail of_transfer (offer_guards scene e read) refusal is
 
-  -- where the bytes are none
-  pub send-bytes : (read : Option SendRecord) → None ≡ first_refusal of_transfer → read ≡ None → Some DescriptorMalformed ≡ first_refusal (send_guards scene e x read)
-  send-bytes read whole is = first-pass of_transfer (offer_guards scene e None) whole ∙ ap (λ (o : Option SendRecord). first_refusal (send_guards scene e x o)) (sym is)
-
   module _ (read : Option SendRecord) (r : SendRecord) (whole : None ≡ first_refusal of_transfer) (is : read ≡ Some r) where
     behind : {first : Option Refusal} → first ≡ first_refusal (offer_guards scene e (Some r)) → first ≡ first_refusal (send_guards scene e x read)
     behind first =

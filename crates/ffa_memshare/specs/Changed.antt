@@ -1,17 +1,10 @@
 -- SPDX-License-Identifier: MIT OR Apache-2.0
 -- Whose access to which pages a call on memory changes.
-use Rattle.std.specs.Prelude.{◌≡◌, ℕ, List, Option, Some, None}
+use Rattle.std.specs.Prelude.{ℕ, Option, Some, None}
 use Rattle.ffa_model.specs.declared.endpoint.EndpointId.{EndpointId}
 use Rattle.ffa_model.specs.declared.rights.Kind.{Kind}
 use Rattle.ffa_model.specs.declared.rights.Kind.TheVariants.{Share, Lend, Donate}
-use Rattle.ffa_model.specs.declared.transaction.Range.{Range}
 use Rattle.ffa_model.specs.State.{Transaction}
-use Rattle.ffa_memshare.specs.declared.changed.Changed.{Changed}
-
--- that of an endpoint, or of nobody, to the pages of these ranges
-pub record IsChanged (changed : Changed) (named : List Range) (whose : Option EndpointId) : Type 0 where
-  pub ranges : changed.ranges ≡ named
-  pub endpoint : changed.endpoint ≡ whose
 
 -- whose access a send by e changes, and a reclaim: that of e, but nobody's of a share, to which e keeps its right
 abbrev pub changed_sender : Kind → ℕ → Option EndpointId

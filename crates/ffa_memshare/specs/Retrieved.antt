@@ -17,10 +17,10 @@ use Rattle.ffa_model.specs.RetrieveDescriptor.{retrieve_of}
 use Rattle.ffa_model.specs.State.{Buffers, Transaction}
 use Rattle.ffa_pages.specs.Entry.{Entry}
 use Rattle.ffa_rxtx.specs.Parts.{with_rx_bytes, ownership_in}
-use Rattle.ffa_memshare.specs.declared.changed.Done.{Done}
+use Rattle.ffa_memshare.specs.declared.changed.Changed.{Changed}
+use Rattle.ffa_memshare.specs.declared.changed.Value.{Value}
 use Rattle.ffa_memshare.specs.declared.changed.Value.TheVariants.{Size}
 use Rattle.ffa_memshare.specs.declared.marks.Mark.TheVariants.{Given}
-use Rattle.ffa_memshare.specs.Changed.{IsChanged}
 use Rattle.ffa_memshare.specs.Changes.{IsMarked, IsMoved}
 use Rattle.ffa_memshare.specs.Memory.{Memory, MemoryParts}
 use Rattle.ffa_memshare.specs.Ranges.{in_ranges}
@@ -50,9 +50,9 @@ pub record IsResponded (old : Memory) (after : Ram) (own : Option Buffers)
   pub answered : after ≡ with_rx_bytes granted own (response_bytes version told)
   pub bytes : size ≡ response_size version told.ranges
 
--- The parts after an endpoint has taken what these bytes ask for, with the size of the response and the access that
--- changed.
-pub record IsRetrieved (old new : MemoryParts) (e : EndpointId) (bytes : Versioned) (done : Done) : Type 0 where
+-- The parts after an endpoint has taken what these bytes ask for, with the size of the response; and the news say which
+-- access changed.
+pub record IsRetrieved (old new : MemoryParts) (e : EndpointId) (bytes : Versioned) (news : Option Changed) (returned : Value) : Type 0 where
   pub asked : RetrieveDesc
   pub transaction : Transaction
   pub right : Rights
@@ -69,5 +69,5 @@ pub record IsRetrieved (old new : MemoryParts) (e : EndpointId) (bytes : Version
   pub answer :
       IsResponded old.memory new.memory.ram (buffers_in old.buffers e.0) bytes.version
       (response_to asked.handle transaction e.0 right) size
-  pub value : done.value ≡ Size size
-  pub access : IsChanged done.changed transaction.ranges (Some e)
+  pub value : returned ≡ Size size
+  pub access : news ≡ Some (record { ranges = transaction.ranges; endpoint = Some e })

@@ -1,6 +1,6 @@
 -- SPDX-License-Identifier: MIT OR Apache-2.0
 -- What a send leaves.
-use Rattle.std.specs.Prelude.{◌≡◌, ℕ, false, Some, None}
+use Rattle.std.specs.Prelude.{◌≡◌, ℕ, false, Option, Some, None}
 use Rattle.ffa_model.specs.declared.rights.Kind.{Kind}
 use Rattle.ffa_model.specs.declared.rights.Kind.TheVariants.{Share, Lend, Donate}
 use Rattle.ffa_model.specs.Access.{is_receiver}
@@ -14,7 +14,7 @@ use Rattle.ffa_memshare.specs.declared.changed.Changed.{Changed}
 use Rattle.ffa_memshare.specs.declared.grants.NewRight.{NewRight}
 use Rattle.ffa_memshare.specs.declared.grants.NewRight.TheVariants.{Same, Own}
 use Rattle.ffa_memshare.specs.declared.marks.Mark.TheVariants.{Named}
-use Rattle.ffa_memshare.specs.Changed.{IsChanged, changed_sender}
+use Rattle.ffa_memshare.specs.Changed.{changed_sender}
 use Rattle.ffa_memshare.specs.Changes.{IsMarked, IsMoved}
 use Rattle.ffa_memshare.specs.Grants.{new_right}
 use Rattle.ffa_memshare.specs.Memory.{Memory, MemoryParts}
@@ -34,9 +34,9 @@ abbrev pub offered_by : Memory → Kind → SendRecord → Transaction
 offered_by memory kind offer = opened_by memory.entries memory.base memory.normal kind offer
 
 -- The parts after e has sent what these bytes describe: a free slot of e has it, e's pages are marked with that
--- slot, e has the right to them that it keeps, and they are zeros where that is asked; and the access that
+-- slot, e has the right to them that it keeps, and they are zeros where that is asked; and the news say which access
 -- changed.
-pub record IsSent (old new : MemoryParts) (e : ℕ) (kind : Kind) (bytes : Versioned) (changed : Changed) : Type 0 where
+pub record IsSent (old new : MemoryParts) (e : ℕ) (kind : Kind) (bytes : Versioned) (news : Option Changed) : Type 0 where
   pub offer : SendRecord
   pub slot : ℕ
   pub described : send_of kind bytes ≡ Some offer
@@ -50,4 +50,4 @@ pub record IsSent (old new : MemoryParts) (e : ℕ) (kind : Kind) (bytes : Versi
   pub moved :
       IsMoved old.memory.ram new.memory.ram old.memory.endpoints old.memory.tables old.memory.blocks (place e)
       (in_ranges old.memory.base offer.ranges) (new_right (right_after kind) old.memory.entries) offer.zero
-  pub access : IsChanged changed offer.ranges (changed_sender kind e)
+  pub access : news ≡ Some (record { ranges = offer.ranges; endpoint = changed_sender kind e })

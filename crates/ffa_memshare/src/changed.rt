@@ -1,7 +1,8 @@
 // SPDX-License-Identifier: MIT OR Apache-2.0
 //! Whose access to which pages a call on memory changes.
 ghost use Rattle.std.specs.Prelude.{◌≡◌, Some, None};
-ghost use Rattle.ffa_memshare.specs.Changed.{IsChanged, changed_sender};
+ghost use Rattle.std.specs.Option.{option_copied};
+ghost use Rattle.ffa_memshare.specs.Changed.{changed_sender};
 
 use crate::draft::Draft;
 use crate::page_ranges::PageRanges;
@@ -17,7 +18,19 @@ pub struct Changed {
     pub endpoint: Option<EndpointId>,
 }
 
+impl Changed {
+    fn copy(&self) -> Changed
+        ensures { result ≡ self.now }
+    {
+        Changed {
+            ranges: self.ranges.copy(),
+            endpoint: self.endpoint,
+        }
+    }
+}
+
 /// What the caller of a call on memory is told, beside that it is done.
+// If the four calls on memory returned a `Reply`, each would have to promise that it is not an error.
 #[derive(Clone, Copy, PartialEq, Eq)]
 pub enum Value {
     /// Nothing more.
@@ -28,22 +41,12 @@ pub enum Value {
     Size(u32),
 }
 
-/// What a call on memory answers that was done.
-// The four calls on memory return this type. One function for all four would have the stack frame of the largest. If
-// they returned a `Reply`, each would have to promise that it is not an error.
-#[derive(Drop)]
-pub struct Done {
-    pub value: Value,
-    pub changed: Changed,
-}
-
 // What was told last, or nothing. It is filled in where it stands, since its ranges are large to move.
 // Contracts see what is told.
 #[derive(Drop)]
 pub(crate) struct Told {
     is_told: bool,
-    ranges: PageRanges,
-    endpoint: Option<EndpointId>,
+    changed: Changed,
 }
 
 impl Model for Told {
@@ -53,7 +56,7 @@ impl Model for Told {
 
     ghost Value = { Option Changed };
 
-    ghost view = { λ n. news_of n.is_told n.ranges n.endpoint };
+    ghost view = { λ n. news_of n.is_told n.changed };
 }
 
 impl Told {
@@ -63,24 +66,32 @@ impl Told {
     {
         Told {
             is_told: false,
-            ranges: PageRanges::none(),
-            endpoint: None,
+            changed: Changed {
+                ranges: PageRanges::none(),
+                endpoint: None,
+            },
         }
     }
 
     // Tells that the access of an endpoint, or of nobody, to the pages of these ranges has changed, in place
-    // of what was told before, and gives it.
+    // of what was told before.
     #[inline(always)]
-    pub(crate) fn tell(&mut self, ranges: &PageRanges, endpoint: Option<EndpointId>) -> Changed
-        ensures told { self.new ≡ Some result }
-        ensures changed { IsChanged result ranges.now endpoint }
+    pub(crate) fn tell(&mut self, ranges: &PageRanges, endpoint: Option<EndpointId>)
+        ensures { self.new ≡ Some (record { ranges = ranges.now; endpoint = endpoint }) }
     {
         self.is_told = true;
-        self.ranges.fill(ranges);
-        self.endpoint = endpoint;
-        Changed {
-            ranges: ranges.copy(),
-            endpoint,
+        self.changed.ranges.fill(ranges);
+        self.changed.endpoint = endpoint;
+    }
+
+    // What was told.
+    fn last(&self) -> Option<&Changed>
+        ensures { option_copied result ≡ self.now }
+    {
+        if self.is_told {
+            Some(&self.changed)
+        } else {
+            None
         }
     }
 
@@ -90,8 +101,7 @@ impl Told {
     {
         Told {
             is_told: self.is_told,
-            ranges: self.ranges.copy(),
-            endpoint: self.endpoint,
+            changed: self.changed.copy(),
         }
     }
 
@@ -104,10 +114,7 @@ impl Told {
             return None;
         }
         self.is_told = false;
-        Some(Changed {
-            ranges: self.ranges.copy(),
-            endpoint: self.endpoint,
-        })
+        Some(self.changed.copy())
     }
 }
 
@@ -136,6 +143,13 @@ impl News {
             told: Told::none(),
             draft: Draft::none(),
         }
+    }
+
+    /// Returns what was told, and leaves it told.
+    pub fn last(&self) -> Option<&Changed>
+        ensures { option_copied result ≡ self.now }
+    {
+        self.told.last()
     }
 
     /// What was told, which is told no more.

@@ -9,7 +9,7 @@ ghost use Rattle.ffa_model.specs.MemoryReturn.{named_ranges, reclaim_guards};
 ghost use Rattle.ffa_model.specs.Transactions.{closed};
 ghost use Rattle.ffa_physmem.specs.Moments.{Only};
 ghost use Rattle.ffa_pages.specs.Entry.{own_right_at};
-ghost use Rattle.ffa_memshare.specs.Changed.{IsChanged, changed_reclaimer};
+ghost use Rattle.ffa_memshare.specs.Changed.{changed_reclaimer};
 ghost use Rattle.ffa_memshare.specs.Changes.{IsMarked, IsMovedFor};
 ghost use Rattle.ffa_memshare.specs.Memory.{memory_of};
 ghost use Rattle.ffa_memshare.specs.Ranges.{in_ranges};
@@ -18,7 +18,7 @@ ghost use Rattle.ffa_memshare.specs.SlotChanges.{IsClosed};
 ghost use Rattle.ffa_memshare.specs.Steps.{EndsSettledFor, OnlyMomentsFor};
 ghost use Rattle.ffa_memshare.specs.Stored.{open_in, transaction_in};
 
-use crate::changed::{Done, News, Value, changed_sender};
+use crate::changed::{News, Value, changed_sender};
 use crate::marks::Mark;
 use crate::open_slot::OpenSlot;
 use crate::pool::Pool;
@@ -29,8 +29,8 @@ use ffa_stage2::Layout;
 
 impl<O: Room<OpenSlot> + Drop> Pool<O> {
     /// FFA_MEM_RECLAIM of an endpoint, with w3: the transaction is open no more, its pages are the sender's
-    /// with its own right, and zeros where bit 0 of the word asks for it. It gives whose access changed: the
-    /// sender's, but nobody's of a share.
+    /// with its own right, and zeros where bit 0 of the word asks for it. The news say whose access changed:
+    /// the sender's, but nobody's of a share.
     ///
     /// # Errors
     ///
@@ -47,7 +47,7 @@ impl<O: Room<OpenSlot> + Drop> Pool<O> {
         handle: Handle,
         flags: u32,
         news: &mut News,
-    ) -> Result<Done, ErrorCode>
+    ) -> Result<Value, ErrorCode>
         requires { IsShared (memory_of (M.ram ram.old) layout.now pages.old) self.old.slots }
         ensures refusal { let owners = ownership_in pages.old layout.now.base.0 in
             let transaction = transaction_in self.old.slots handle.0 in
@@ -57,8 +57,7 @@ impl<O: Room<OpenSlot> + Drop> Pool<O> {
         ensures kept_ram { OnErr result (M.ram ram.new ≡ M.ram ram.old) }
         ensures kept_past { OnErr result (M.past ram.new ≡ M.past ram.old) }
         ensures kept_news { OnErr result (news.new ≡ news.old) }
-        ensures told { IfOk result (λ done. news.new ≡ Some done.changed) }
-        ensures nothing { IfOk result (λ done. done.value ≡ Value.Nothing) }
+        ensures nothing { IfOk result (λ value. value ≡ Value.Nothing) }
         ensures slot { OnOk result (IsClosed self.old self.new handle.0) }
         ensures open_transactions { OnOk result (open_in self.new ≡ closed (open_in self.old) handle.0) }
         ensures ram { let ranges = named_ranges (transaction_in self.old.slots handle.0) in
@@ -72,16 +71,14 @@ impl<O: Room<OpenSlot> + Drop> Pool<O> {
             OnOk result (IsMarked pages.old pages.new named (Mark.Named None)) }
         ensures changed { let transaction = transaction_in self.old.slots handle.0 in
             let whose = changed_reclaimer transaction caller.0 in
-            IfOk result (λ done. IsChanged done.changed (named_ranges transaction) whose) }
+            OnOk result (news.new ≡ Some (record { ranges = named_ranges transaction; endpoint = whose })) }
     {
         let found = self.check_reclaim(pages, layout.base, caller, handle, flags)?;
         let open = self.at(found.slot);
         open.give_back(ram, layout, pages, found.zero);
-        let changed = news
-            .told
+        news.told
             .tell(&open.ranges, changed_sender(open.kind, caller));
         self.close(found.slot);
-        let value = Value::Nothing;
-        Ok(Done { value, changed })
+        Ok(Value::Nothing)
     }
 }

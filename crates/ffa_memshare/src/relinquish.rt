@@ -1,6 +1,6 @@
 // SPDX-License-Identifier: MIT OR Apache-2.0
 //! FFA_MEM_RELINQUISH.
-ghost use Rattle.std.specs.Prelude.{◌≡◌, length, Some, IfOk, OnErr};
+ghost use Rattle.std.specs.Prelude.{◌≡◌, length, IfOk, OnOk, OnErr};
 ghost use Rattle.std.specs.Result.{result_err};
 ghost use Rattle.ffa_model.specs.Buffers.{buffers_in};
 ghost use Rattle.ffa_model.specs.Calls.{first_failure};
@@ -15,7 +15,7 @@ ghost use Rattle.ffa_memshare.specs.Shared.{IsShared};
 ghost use Rattle.ffa_memshare.specs.Steps.{EndsSettledFor, OnlyMomentsFor};
 ghost use Rattle.ffa_memshare.specs.Stored.{open_in};
 
-use crate::changed::{Done, News, Value};
+use crate::changed::{News, Value};
 use crate::grants::NewRight;
 use crate::open_slot::OpenSlot;
 use crate::page_changes::change_pages;
@@ -28,7 +28,7 @@ use ffa_stage2::Layout;
 
 impl<O: Room<OpenSlot> + Drop> Pool<O> {
     /// FFA_MEM_RELINQUISH of an endpoint, with the descriptor in its TX: it holds the transaction no more and
-    /// has no right to the pages, which are zeros where the descriptor asks for it. It gives that the
+    /// has no right to the pages, which are zeros where the descriptor asks for it. The news say that the
     /// caller's access to the pages changed.
     ///
     /// # Errors
@@ -46,7 +46,7 @@ impl<O: Room<OpenSlot> + Drop> Pool<O> {
         buffers: &Buffers,
         caller: EndpointId,
         news: &mut News,
-    ) -> Result<Done, ErrorCode>
+    ) -> Result<Value, ErrorCode>
         requires shared { IsShared (memory_of (M.ram ram.old) layout.now pages.now) self.old.slots }
         requires caller { IsCaller (memory_of (M.ram ram.old) layout.now pages.now) buffers.now caller.0 }
         ensures refusal { let own = buffers_in buffers.now caller.0 in
@@ -56,12 +56,11 @@ impl<O: Room<OpenSlot> + Drop> Pool<O> {
         ensures kept_ram { OnErr result (M.ram ram.new ≡ M.ram ram.old) }
         ensures kept_past { OnErr result (M.past ram.new ≡ M.past ram.old) }
         ensures kept_news { OnErr result (news.new ≡ news.old) }
-        ensures told { IfOk result (λ done. news.new ≡ Some done.changed) }
-        ensures nothing { IfOk result (λ done. done.value ≡ Value.Nothing) }
+        ensures nothing { IfOk result (λ value. value ≡ Value.Nothing) }
         ensures done { let before = memory_parts (M.ram ram.old) layout.now pages.now buffers.now self.old in
             let after = memory_parts (M.ram ram.new) layout.now pages.now buffers.now self.new in
             let bytes = tx_in (M.ram ram.old) (buffers_in buffers.now caller.0) in
-            IfOk result (λ done. IsRelinquished before after caller.0 bytes done.changed) }
+            OnOk result (IsRelinquished before after caller.0 bytes news.new) }
         ensures steps { OnlyMomentsFor layout.now (M.ram ram.old) (M.ram ram.new) (M.past ram.old) (M.past ram.new) }
         ensures ended { EndsSettledFor layout.now (M.ram ram.old) (M.ram ram.new) (M.past ram.new) }
     {
@@ -70,9 +69,8 @@ impl<O: Room<OpenSlot> + Drop> Pool<O> {
         let index = caller.place();
         let nothing = NewRight::Same(None);
         change_pages(ram, layout, pages, &open.ranges, index, nothing, found.zero);
-        let changed = news.told.tell(&open.ranges, Some(caller));
+        news.told.tell(&open.ranges, Some(caller));
         self.set_held(found.slot, caller, None);
-        let value = Value::Nothing;
-        Ok(Done { value, changed })
+        Ok(Value::Nothing)
     }
 }

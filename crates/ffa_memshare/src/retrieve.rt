@@ -21,7 +21,7 @@ ghost use Rattle.ffa_memshare.specs.Shared.{IsHeld, IsShared};
 ghost use Rattle.ffa_memshare.specs.Steps.{EndsSettledFor, OnlyMomentsFor};
 ghost use Rattle.ffa_memshare.specs.Stored.{open_in, pool_slot, view_of};
 
-use crate::changed::{Done, News, Value};
+use crate::changed::{News, Value};
 use crate::descriptor_call::DescriptorCall;
 use crate::found::FoundRight;
 use crate::grants::NewRight;
@@ -41,7 +41,7 @@ use ffa_stage2::Layout;
 impl<O: Room<OpenSlot> + Drop> Pool<O> {
     /// FFA_MEM_RETRIEVE_REQ of an endpoint, with the descriptor in its TX: it holds the right that it asked
     /// for, which the answer in its RX tells, and the pages of a donate are its own. It gives the length of
-    /// the answer, and that the caller's access to the pages changed.
+    /// the answer. The news say that the caller's access to the pages changed.
     ///
     /// # Errors
     ///
@@ -59,7 +59,7 @@ impl<O: Room<OpenSlot> + Drop> Pool<O> {
         caller: EndpointId,
         call: &DescriptorCall,
         news: &mut News,
-    ) -> Result<Done, ErrorCode>
+    ) -> Result<Value, ErrorCode>
         requires shared { IsShared (memory_of (M.ram ram.old) layout.now pages.old) self.old.slots }
         requires caller { IsCaller (memory_of (M.ram ram.old) layout.now pages.old) buffers.old caller.0 }
         ensures refusal { let parts = memory_parts (M.ram ram.old) layout.now pages.old buffers.old self.old in
@@ -71,12 +71,11 @@ impl<O: Room<OpenSlot> + Drop> Pool<O> {
         ensures kept_ram { OnErr result (M.ram ram.new ≡ M.ram ram.old) }
         ensures kept_past { OnErr result (M.past ram.new ≡ M.past ram.old) }
         ensures kept_news { OnErr result (news.new ≡ news.old) }
-        ensures told { IfOk result (λ done. news.new ≡ Some done.changed) }
         ensures full { OnOk result (buffers.new ≡ buffers_with_rx buffers.old caller.0 true) }
         ensures done { let before = memory_parts (M.ram ram.old) layout.now pages.old buffers.old self.old in
             let after = memory_parts (M.ram ram.new) layout.now pages.new buffers.new self.new in
             let bytes = descriptor_in (M.ram ram.old) buffers.old caller.0 call.now in
-            IfOk result (IsRetrieved before after caller bytes) }
+            IfOk result (IsRetrieved before after caller bytes news.new) }
         ensures steps { let before = memory_parts (M.ram ram.old) layout.now pages.old buffers.old self.old in
             IsRxApartOfOpen before caller.0
             → OnlyMomentsFor layout.now (M.ram ram.old) (M.ram ram.new) (M.past ram.old) (M.past ram.new) }
@@ -88,10 +87,9 @@ impl<O: Room<OpenSlot> + Drop> Pool<O> {
         let open = self.at(found.slot);
         let version = call.version;
         let size = open.hand_over(ram, layout, pages, buffers, caller, version, &found);
-        let changed = news.told.tell(&open.ranges, Some(caller));
+        news.told.tell(&open.ranges, Some(caller));
         self.take(pages, layout.base, found.slot, caller, found.right);
-        let value = Value::Size(size);
-        Ok(Done { value, changed })
+        Ok(Value::Size(size))
     }
 
     // Notes that an endpoint holds the open transaction in a slot with this right. The pages of a donate are

@@ -1,6 +1,6 @@
 // SPDX-License-Identifier: MIT OR Apache-2.0
 //! FFA_MEM_DONATE, FFA_MEM_LEND and FFA_MEM_SHARE.
-ghost use Rattle.std.specs.Prelude.{◌≤◌, ◌≡◌, ◌<◌, ℕ, length, None, Some, IfOk, OnErr};
+ghost use Rattle.std.specs.Prelude.{◌≤◌, ◌≡◌, ◌<◌, ℕ, length, None, IfOk, OnOk, OnErr};
 ghost use Rattle.std.specs.Result.{result_err};
 ghost use Rattle.arrayvec.specs.ArrayVec.{array_vec_len};
 ghost use Rattle.ffa_model.specs.Calls.{first_failure};
@@ -18,7 +18,7 @@ ghost use Rattle.ffa_memshare.specs.Shared.{IsRoom};
 ghost use Rattle.ffa_memshare.specs.Steps.{EndsSettledFor, OnlyMomentsFor};
 ghost use Rattle.ffa_memshare.specs.Stored.{open_in};
 
-use crate::changed::{Done, News, Value, changed_sender};
+use crate::changed::{News, Value, changed_sender};
 use crate::descriptor_call::DescriptorCall;
 use crate::open_slot::OpenSlot;
 use crate::pool::Pool;
@@ -31,8 +31,8 @@ use ffa_stage2::Layout;
 impl<O: Room<OpenSlot> + Drop> Pool<O> {
     /// FFA_MEM_DONATE, FFA_MEM_LEND or FFA_MEM_SHARE of an endpoint, with the descriptor in its TX: the
     /// transaction is open, and nobody holds it. The sender has no right to the pages, but keeps its own in a
-    /// share, and they are zeros where the descriptor asks for it. Returns the handle, and whose access
-    /// changed: the sender's, but nobody's where it shares.
+    /// share, and they are zeros where the descriptor asks for it. Returns the handle. The news say
+    /// whose access changed: the sender's, but nobody's where it shares.
     ///
     /// # Errors
     ///
@@ -53,7 +53,7 @@ impl<O: Room<OpenSlot> + Drop> Pool<O> {
         kind: Kind,
         call: &DescriptorCall,
         news: &mut News,
-    ) -> Result<Done, ErrorCode>
+    ) -> Result<Value, ErrorCode>
         requires room { IsRoom (memory_of (M.ram ram.old) layout.now pages.old) }
         requires caller { IsCaller (memory_of (M.ram ram.old) layout.now pages.old) buffers.now caller.0 }
         requires endpoints { length self.old.sent ≡ array_vec_len layout.now.regions }
@@ -68,12 +68,11 @@ impl<O: Room<OpenSlot> + Drop> Pool<O> {
         ensures kept_ram { OnErr result (M.ram ram.new ≡ M.ram ram.old) }
         ensures kept_past { OnErr result (M.past ram.new ≡ M.past ram.old) }
         ensures kept_news { OnErr result (news.new ≡ news.old) }
-        ensures told { IfOk result (λ done. news.new ≡ Some done.changed) }
-        ensures handle { IfOk result (λ done. done.value ≡ Value.Handle (next_handle (open_in self.old) caller.0)) }
+        ensures handle { IfOk result (λ value. value ≡ Value.Handle (next_handle (open_in self.old) caller.0)) }
         ensures sent { let before = memory_parts (M.ram ram.old) layout.now pages.old buffers.now self.old in
             let after = memory_parts (M.ram ram.new) layout.now pages.new buffers.now self.new in
             let bytes = descriptor_in (M.ram ram.old) buffers.now caller.0 call.now in
-            IfOk result (λ done. IsSent before after caller.0 kind bytes done.changed) }
+            OnOk result (IsSent before after caller.0 kind bytes news.new) }
 
         // At each moment the walks of all endpoints at an address are those from before the call, or all are
         // those from behind.
@@ -85,11 +84,9 @@ impl<O: Room<OpenSlot> + Drop> Pool<O> {
         let transaction = &news.draft.transaction;
         let handle = transaction.handle;
         transaction.take_pages(ram, layout, pages, slot as SlotNumber);
-        let changed = news
-            .told
+        news.told
             .tell(&transaction.ranges, changed_sender(kind, caller));
         self.open(slot, transaction);
-        let value = Value::Handle(handle);
-        Ok(Done { value, changed })
+        Ok(Value::Handle(handle))
     }
 }

@@ -5,7 +5,7 @@ ghost use Rattle.ffa_memshare.specs.declared.pool.TheConstants.{MOST_SLOTS};
 ghost use Rattle.ffa_memshare.specs.Stored.{kept_slots};
 
 use crate::open_slot::OpenSlot;
-use crate::pool::{MOST_SLOTS, free_slots};
+use crate::pool::MOST_SLOTS;
 use ffa_model::Room;
 use std::alloc::{AllocError, Allocator};
 
@@ -31,9 +31,9 @@ impl<A: Allocator> Slots<A> {
         requires { count ≤ MOST_SLOTS }
         ensures { kept_slots self.new.list.items ≡ replicate count None }
     {
-        match free_slots(&mut self.list, count) {
-            Ok(()) => {}
-            Err(AllocError) => unreachable!(),
+        self.list.clear();
+        for _slot in 0..count {
+            let _ = self.list.push(OpenSlot::free());
         }
     }
 }

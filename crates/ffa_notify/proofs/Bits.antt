@@ -101,14 +101,6 @@ all-filtered test q (x ∷ xs) =
     apart true b = refl
     apart false b = refl
 
--- a test that none of the first n indexes passes
-pub any-none : {X : Type 0} (test : X → Bool) (n : ℕ) (f : ℕ → X) → ((k : ℕ) → k < n → test (f k) ≡ false) → list_any test (listed n f) ≡ false
-any-none test n f none = go (list_any test (listed n f)) refl
-  where
-    go : (b : Bool) → list_any test (listed n f) ≡ b → list_any test (listed n f) ≡ false
-    go true is = let found = any-found test n f is in absurd (false≢true (sym (none found.0 found.1) ∙ found.2))
-    go false is = is
-
 pub any-same : {X : Type 0} (test also : X → Bool) (n : ℕ) (f : ℕ → X) → ((k : ℕ) → k < n → test (f k) ≡ also (f k)) → list_any test (listed n f) ≡ list_any also (listed n f)
 any-same test also zero f same = refl
 any-same test also (suc n) f same =

@@ -47,9 +47,6 @@ module _ (w : Words) (are : IsWords w) (v : Notifications) (is : notifications_i
         ∙ bound-at n w.bound are.some are.few r s (known r known_r) (known s known_s) k lt
         ∙ (λ t. finite_set.contains (is t).bound (binding r (class_of s) k s))
 
-    pub bound-kept : (y : ℕ) → length (refill (length w.bound) w.bound (set ws (MOST_ENDPOINTS * i + j) y)) ≡ MOST_ENDPOINTS * n
-    bound-kept y = ap length (refill-set w.bound ws (MOST_ENDPOINTS * i + j) (MOST_ENDPOINTS * i + j) y same refl) ∙ length-set w.bound (MOST_ENDPOINTS * i + j) y ∙ are.bound
-
     pub bound-changed : (bitmap : ℕ) → notifications_in (record w { bound = refill (length w.bound) w.bound (set ws (MOST_ENDPOINTS * i + j) (bit_or (get_or ws (MOST_ENDPOINTS * i + j) 0) bitmap)) }) ≡ with_bound v r s (bits_of bitmap)
     bound-changed bitmap =
         ap (λ words. record (notifications_in w) { bound = bound_in n words })
@@ -79,9 +76,6 @@ module _ (w : Words) (are : IsWords w) (v : Notifications) (is : notifications_i
         (λ t. is_set k (get_or (same t) (3 * at_i t + at_j t) 0))
         ∙ pending-at n w.pending are.some r class (known r known_r) few k lt
         ∙ (λ t. finite_set.contains (is t).pending (receiver_bit r class k))
-
-    pub pending-kept : (y : ℕ) → length (refill (length w.pending) w.pending (set ws (3 * i + j) y)) ≡ 3 * n
-    pending-kept y = ap length (refill-set w.pending ws (3 * i + j) (3 * i + j) y same refl) ∙ length-set w.pending (3 * i + j) y ∙ are.pending
 
     pub pending-changed : has_bitmaps_in v r ≡ true → (bitmap : ℕ)
         → notifications_in (record w { pending = refill (length w.pending) w.pending (set ws (3 * i + j) (bit_or (get_or ws (3 * i + j) 0) bitmap)) }) ≡ with_pending v r class (bits_of bitmap)

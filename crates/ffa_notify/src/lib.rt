@@ -16,5 +16,5 @@ mod told;
 mod words;
 
 pub use bitmaps::Bitmaps;
-pub use notices::{Notice, in_one_context, notice_asked};
+pub use notices::{Notice, in_one_context, is_about_notices, notice_asked};
 pub use told::{NO_DATA, Told, info_registers};

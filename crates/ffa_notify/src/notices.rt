@@ -1,16 +1,16 @@
 // SPDX-License-Identifier: MIT OR Apache-2.0
 //! Calls about notices, which a machine of several processors serves beside those of any machine.
-ghost use Rattle.std.specs.Prelude.{◌≡◌, ◌==◌, ◌&&◌, nat_lt};
+ghost use Rattle.std.specs.Prelude.{◌≡◌, ◌==◌, ◌&&◌, None, false, nat_lt, ℕ};
 ghost use Rattle.ffa_model.specs.declared.operation.Effect.{Effect};
 ghost use Rattle.ffa_model.specs.declared.operation.Outcome.{Outcome};
 ghost use Rattle.ffa_model.specs.declared.limits.TheConstants.{MOST_PROCESSORS};
 ghost use Rattle.ffa_model.specs.Bits.{high_half, low_half};
 ghost use Rattle.ffa_notify.specs.Noticed.{in_one_context, is_info_get, notice_asked, notice_in, noticed, told_after, with_one_context};
 
-use ffa_abi::{FFA_NOTIFICATION_INFO_GET, FFA_NOTIFICATION_INFO_GET_64, low};
-use ffa_model::function::{FFA_FEATURES, FFA_NOTIFICATION_BITMAP_CREATE, FFA_NOTIFICATION_GET};
 use crate::bitmaps::Bitmaps;
 use crate::told::{Told, info_registers};
+use ffa_abi::{FFA_NOTIFICATION_INFO_GET, FFA_NOTIFICATION_INFO_GET_64, low};
+use ffa_model::function::{FFA_FEATURES, FFA_NOTIFICATION_BITMAP_CREATE, FFA_NOTIFICATION_GET};
 use ffa_model::{Effect, EndpointId, MOST_PROCESSORS, Op, Outcome, Reply};
 
 /// What the normal world asks about notices.
@@ -20,6 +20,26 @@ pub enum Notice {
     Info { is_wide: bool },
     /// FFA_FEATURES, of FFA_NOTIFICATION_INFO_GET.
     Features,
+}
+
+/// Whether an operation may ask about notices, or name execution contexts, by the number of its call. If not, it is its own form in
+/// one context, and asks nothing.
+#[inline(always)]
+pub fn is_about_notices(op: &Op) -> bool
+    ensures own { result ≡ false → in_one_context op.now ≡ op.now }
+    ensures quiet { result ≡ false → (runner : ℕ) → notice_asked runner op.now ≡ None }
+{
+    match op {
+        Op::Call(registers) => matches!(
+            low(registers[0]),
+            FFA_NOTIFICATION_BITMAP_CREATE
+                | FFA_NOTIFICATION_GET
+                | FFA_FEATURES
+                | FFA_NOTIFICATION_INFO_GET
+                | FFA_NOTIFICATION_INFO_GET_64
+        ),
+        _ => false,
+    }
 }
 
 /// What an operation of whoever runs asks about notices, if it does.

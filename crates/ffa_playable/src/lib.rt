@@ -26,10 +26,10 @@ pub trait Playable: Drop {
     /// The state, which is that of the small machine, and the processors, where there are several.
     ghost bench: { Self → Bench };
 
-    /// Does one operation of the runner. A refusal, which is FFA_ERROR or a fault, changes nothing. Where several processors run the
-    /// machine the normal world is told of notifications too.
-    fn op(&mut self, op: &Op) -> Effect
-        ensures effect { result ≡ effect_of (bench self.old) op.now }
+    /// Does one operation of the runner, and writes what comes of it to `effect`. A refusal, which is FFA_ERROR or a fault,
+    /// changes nothing. Where several processors run the machine the normal world is told of notifications too.
+    fn op(&mut self, op: &Op, effect: &mut Effect)
+        ensures effect { effect.new ≡ effect_of (bench self.old) op.now }
         ensures bench { bench self.new ≡ after_op (bench self.old) op.now };
 
     /// How many processors a trace may name, from 0 on: nothing where one alone runs the machine.

@@ -19,8 +19,11 @@ impl<M: PhysMem + Drop, T: Translations + Drop, S: Store> Playable for Explained
     ghost bench = { λ machine. alone machine.0.state };
 
     #[inline(always)]
-    fn op(&mut self, op: &Op) -> Effect {
-        Effect::Outcome(self.0.op(op))
+    fn op(&mut self, op: &Op, effect: &mut Effect) {
+        *effect = Effect::Outcome(Outcome::Done);
+        if let Effect::Outcome(outcome) = effect {
+            self.0.do_op(op, outcome);
+        }
     }
 
     #[inline(always)]

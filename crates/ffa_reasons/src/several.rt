@@ -64,13 +64,11 @@ impl<M: PhysMem + Drop, T: Translations + Drop, S: Store> ExplainedCluster<M, T,
 impl<M: Unshared + Drop, T: Translations + Drop, S: Store> Playable for ExplainedCluster<M, T, S> {
     ghost bench = { λ machine. machine };
 
-    fn op(&mut self, op: &Op) -> Effect {
+    fn op(&mut self, op: &Op, effect: &mut Effect) {
         let asked = notice_asked(self.cluster.machine().runner(), op);
-        let mut effect = Effect::Outcome(Outcome::Done);
-        self.cluster.op(&in_one_context(op), &mut effect);
+        self.cluster.op(&in_one_context(op), effect);
         self.told
-            .answer(asked, self.cluster.machine().bitmaps(), &mut effect);
-        effect
+            .answer(asked, self.cluster.machine().bitmaps(), effect);
     }
 
     fn processors(&self) -> Option<usize> {

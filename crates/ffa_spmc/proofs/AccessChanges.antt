@@ -34,7 +34,7 @@ use Rattle.ffa_model.proofs.CallAccesses.{access-filled, donate-other, reclaim-o
 use Rattle.ffa_laws.proofs.Form.{served-kept}
 use Rattle.ffa_laws.specs.OwnAccess.{is_memory_call}
 use Rattle.ffa_memshare.specs.declared.changed.Changed.{Changed}
-use Rattle.ffa_memshare.specs.Changed.{IsChanged, changed_sender}
+use Rattle.ffa_memshare.specs.Changed.{changed_sender}
 use Rattle.ffa_memshare.specs.Ranges.{ArePlaced}
 use Rattle.ffa_memshare.proofs.Joined.{owners-right, reclaim-beside, reclaim-none, reclaim-share, unheld-right}
 use Rattle.ffa_spmc.specs.AccessChange.{IsAccessChange, IsTelling, is_of, is_whose}
@@ -187,22 +187,19 @@ module _ (x y : Parts) (machine : IsManager x) (next : IsManager y) (blocks : y.
   outside : (z : State) (e p : ℕ) → length z.pages ≤ p → access z e p ≡ None
   outside z e p past = ap (λ page. right_of e page (transaction_at z p)) (get_or_past z.pages p None past)
 
-  module _ (changed : Changed) (named : List Range) (whose : Option EndpointId) (told : IsChanged changed named whose) (placed : ArePlaced x.manifest.ram_base.0 (512 * x.manifest.ram_blocks) named)
+  module _ (named : List Range) (whose : Option EndpointId) (placed : ArePlaced x.manifest.ram_base.0 (512 * x.manifest.ram_blocks) named)
       (exclusive : (e p : ℕ) → p < length s.pages → (names s named p && is_whose whose e) ≡ true → (access s e p ≡ None) ⊎ (access t e p ≡ None))
       (rest : (e p : ℕ) → p < length s.pages → (names s named p && is_whose whose e) ≡ false → access t e p ≡ access s e p) where
-    same-of : (e p : ℕ) → (names s named p && is_whose whose e) ≡ is_of s (Some changed) e p
-    same-of e p = sym (λ i. names s (told.ranges i) p && is_whose (told.endpoint i) e)
-
-    pub access-changed : IsAccessChange s t (Some changed)
+    pub access-changed : IsAccessChange s t (Some (record { ranges = named; endpoint = whose }))
     access-changed =
         record {
-          placed = subst (λ n. ArePlaced s.ram_base n changed.ranges) (sym count) (subst (ArePlaced s.ram_base (512 * x.manifest.ram_blocks)) (sym told.ranges) placed);
+          placed = subst (λ n. ArePlaced s.ram_base n named) (sym count) placed;
           exclusive = λ e p its. elim (cases_lt p (length s.pages)) [
-            | inl lt ↦ exclusive e p lt (same-of e p ∙ its)
+            | inl lt ↦ exclusive e p lt its
             | inr past ↦ inl (outside s e p past)
           ];
           rest = λ e p kept. elim (cases_lt p (length s.pages)) [
-            | inl lt ↦ rest e p lt (same-of e p ∙ kept)
+            | inl lt ↦ rest e p lt kept
             | inr past ↦ outside t e p (subst (λ n. n ≤ p) (sym size) past) ∙ sym (outside s e p past)
           ];
         }

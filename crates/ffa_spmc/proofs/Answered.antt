@@ -12,7 +12,7 @@ use Rattle.ffa_model.specs.Calls.{Service, answered, first_failure, first_refusa
 use Rattle.ffa_model.specs.RefusalCodes.{code_of}
 use Rattle.ffa_model.specs.State.{State}
 use Rattle.ffa_model.proofs.Guards.{failure-code}
-use Rattle.ffa_memshare.specs.declared.changed.Done.{Done}
+use Rattle.ffa_memshare.specs.declared.changed.Value.{Value}
 use Rattle.ffa_memshare.specs.declared.changed.Value.TheVariants.{Nothing}
 use Rattle.ffa_spmc.specs.Replies.{reply_of, value_reply}
 
@@ -43,7 +43,7 @@ pub done-replies : {X : Type 0} (r : Result X ErrorCode) → IfOk r (λ done. su
 done-replies (Ok done) = refl
 done-replies (Err code) = tt
 
-pub nothing-replies : (r : Result Done ErrorCode) → IfOk r (λ done. done.value ≡ Nothing) → IfOk r (λ done. value_reply done.value ≡ success 0 0)
+pub nothing-replies : (r : Result Value ErrorCode) → IfOk r (λ value. value ≡ Nothing) → IfOk r (λ value. value_reply value ≡ success 0 0)
 nothing-replies (Ok done) is = ap value_reply is
 nothing-replies (Err code) is = tt
 

@@ -65,11 +65,6 @@ unowned m p bytes from low = of (page_with_bytes m.ram_base.0 m.endpoints.items 
           | inr behind ↦ absurd (omega (arith, low, behind))
         ]
 
--- a RAM of zeros that stands where the manifest says
-pub zeros-of : (old zeros : Ram) (m : Manifest) → zeros ≡ zero_ram old.base (length old.pages) → old.base ≡ m.ram_base.0 → length old.pages ≡ 512 * m.ram_blocks
-    → zeros ≡ zero_ram m.ram_base.0 (512 * m.ram_blocks)
-zeros-of old zeros m cleared base size = cleared ∙ ap (λ (b : ℕ). zero_ram b (length old.pages)) base ∙ ap (zero_ram m.ram_base.0) size
-
 -- nobody owns a page of the tables at first
 unentered : (m : Manifest) (p : ℕ) → m.tables.0 ≤ p → p < table_page m.tables.0 m.ram_blocks (length m.endpoints.items) 0 → first_entry m.ram_base.0 m.endpoints.items p ≡ None
 unentered m p from low = of (find (λ (x : ℕ × Region). has_page m.ram_base.0 p x.1) (owned_regions m.endpoints.items)) (unowned m p [] from low)

@@ -53,18 +53,6 @@ number-at [] p = refl
 number-at (e ∷ items) zero = refl
 number-at (e ∷ items) (suc p) = number-at items p
 
--- where a machine has booted no partition runs elsewhere
-pub booted-here : (worlds : Worlds) (base tables blocks : ℕ) (es : List Endpoint) → 1 ≤ length es → IsHere (first worlds base tables blocks es)
-unfolding first
-booted-here worlds base tables blocks es some e its = first-here (length es) some e (record { partition = its.partition; status = its.status })
-
-pub boot-here : (m : Manifest) (s : State) (ram : Ram) → IsBooted m s ram → IsHere s
-unfolding first
-boot-here m s ram booted =
-    let least : 1 ≤ length s.parties = booted.sound.sized.some in
-    let size : length s.parties ≡ length m.endpoints.items = ap (λ (t : State). length t.parties) booted.state ∙ length-map m.endpoints.items party_of in
-    subst IsHere (sym booted.state) (booted-here m.worlds m.ram_base.0 m.tables.0 m.ram_blocks m.endpoints.items (omega (arith, least, size)))
-
 pub booted-here-held : (worlds : Worlds) (base tables blocks : ℕ) (es : List Endpoint) (held : ℕ → List ℕ) → 1 ≤ length es → IsHere (first_held worlds base tables blocks es held)
 unfolding first
 booted-here-held worlds base tables blocks es held some e its = first-here (length es) some e (record { partition = its.partition; status = its.status })
@@ -138,20 +126,6 @@ module _ (machine : Snapshot) (current p : ℕ) (items : List EndpointId) (place
 
     pub placed-next : ArePlaced (kept_as p written) new.state
     placed-next = subst₂ ArePlaced (sym kept-next) (sym state-next) (turned-placed processors s sound.schedule some placed p within)
-
-    pub machine-next : new ≡ in_state machine (on processors p s)
-    machine-next = switched ∙ ap (in_state machine) (sym (ap (λ (x : Snapshot). x.state) switched) ∙ state-next)
-
--- who runs on a processor
-pub runner-here : (machine : Snapshot) (current p : ℕ) (items : List EndpointId) → current ≡ p → machine.state.runner ≡ (on (kept_as current items) p machine.state).runner
-runner-here machine current p items same =
-    ap (λ b. (cond b machine.state (moved_to machine.state (runner_on (kept_as current items) p))).runner) (sym (eq-eqb current p same))
-
-pub runner-there : (machine : Snapshot) (current p : ℕ) (items slice : List EndpointId) → current ≢ p → slice ≡ items → (get_or slice p nobody).0 ≡ (on (kept_as current items) p machine.state).runner
-runner-there machine current p items slice other same =
-    ap (λ (xs : List EndpointId). (get_or xs p nobody).0) same
-    ∙ sym (number-at items p)
-    ∙ ap (λ b. (cond b machine.state (moved_to machine.state (runner_on (kept_as current items) p))).runner) (sym (ne_eqb current p other))
 
 -- an operation while others write to TX changes nothing of who runs elsewhere
 read-elsewhere : (run : Run) (begins : Bool) (old new : Snapshot) → IsRead run begins old new → SameElsewhere (schedule_of old.state) (schedule_of new.state)

@@ -163,14 +163,3 @@ module _ (x : Parts) where
 
     pub counted : length x.kept.chain.works ≡ length x.manifest.endpoints.items
     counted = machine.sound.sized.works ∙ parties_are
-
-    pub scheduled : IsSound x.kept.chain
-    scheduled = machine.sound.schedule
-
-    -- an endpoint of the run states is one of the manifest's
-    pub endpoint-known : (e : ℕ) → is_known_among (length x.kept.chain.works) e ≡ true → place e < length x.manifest.endpoints.items
-    endpoint-known e known =
-        subst (λ (n : ℕ). place e < n) counted
-        (known-place (length x.kept.chain.works) e
-        (subst (λ (n : ℕ). 1 ≤ n) (sym counted) (accepted x.manifest.ram_base.0 x.manifest.tables.0 x.manifest.ram_blocks x.manifest.endpoints.items x.manifest.accepted).some_endpoints)
-        known)

@@ -7,8 +7,6 @@ use Rattle.std.specs.Option.{option_and_then}
 use Rattle.std.proofs.lemmas.Bool.{and_parts, eqb-true, leb-true}
 use Rattle.std.proofs.lemmas.Bool.Decides.{nat_tests}
 use Rattle.std.proofs.lemmas.Option.{none-some, same_Some}
-use Rattle.ffa_memshare.specs.declared.changed.Changed.{Changed}
-use Rattle.ffa_model.specs.declared.limits.TheConstants.{MOST_PAGES}
 use Rattle.ffa_model.specs.declared.leaf.Leaf.{Leaf}
 use Rattle.ffa_model.specs.declared.operation.FaultKind.{FaultKind}
 use Rattle.ffa_model.specs.declared.operation.FaultKind.TheVariants.{Translation}
@@ -23,10 +21,10 @@ use Rattle.ffa_model.specs.SoundState.{IsSoundState}
 use Rattle.ffa_model.specs.State.{State, address_of, is_known}
 use Rattle.ffa_model.specs.Walk.{Answer, mapped_answer}
 use Rattle.ffa_model.proofs.Places.{known-named, known-place}
+use Rattle.ffa_laws.proofs.SoundSteady.{runner-known}
 use Rattle.ffa_tlb.specs.declared.translations.Entry.{Entry}
 use Rattle.ffa_tlb.specs.Lookups.{IsFilled, is_pair, lookup}
-use Rattle.ffa_physmem.specs.Moments.{Step}
-use Rattle.ffa_spmc.specs.Cached.{AreWalks, IsWalk, missed_page, run_by}
+use Rattle.ffa_spmc.specs.Cached.{AreWalks, IsWalk, missed_page}
 use Rattle.ffa_spmc.specs.Caching.{moved_back, moved_to}
 use Rattle.ffa_spmc.specs.Snapshot.{Snapshot}
 use Rattle.ffa_spmc.specs.Walks.{walk_of}
@@ -47,7 +45,7 @@ same_leaf a b same = ap (leaf_in a) same
 no_leaf : (fault : FaultKind) (leaf : Leaf) → let x : Answer = Err fault in x ≡ Ok leaf → ⊥
 no_leaf fault leaf same = cc
 
--- where RAM begins, and how large it is
+-- where RAM begins, and where it ends
 module _ (s : State) (sound : IsSoundState s) where
   aligned : s.ram_base % 4096 ≡ 0
   aligned =
@@ -57,11 +55,6 @@ module _ (s : State) (sound : IsSoundState s) where
 
   highest : s.ram_base + 4096 * length s.pages ≤ 2 ^ 32
   highest = sound.sized.within
-
-  pub few_pages : length s.pages ≤ MOST_PAGES
-  few_pages =
-      let (n, size, _, few, _) = sound.sized.blocks in
-      omega (arith, size, few)
 
   -- the first address of a page is one of the page
   pub page-first : (p : ℕ) → p < length s.pages → page_of_address s (address_of s p) ≡ Some p
@@ -215,7 +208,7 @@ walks-filled ram s old new e p leaf walks filled walk f q l is = elim (filled f 
         (subst (λ (r : ℕ). IsWalk ram s f r leaf) (sym (eqb-true q p page)) (subst (λ (r : ℕ). IsWalk ram s r p leaf) (sym (eqb-true f e endpoint)) walk))
 
 -- a page for which nothing is held is that of the address
-pub missed-in : (x : Snapshot) (address p : ℕ) → missed_page x address ≡ Some p → page_of_address x.state address ≡ Some p
+missed-in : (x : Snapshot) (address p : ℕ) → missed_page x address ≡ Some p → page_of_address x.state address ≡ Some p
 missed-in x address p = of (page_of_address x.state address)
   where
     of : (o : Option ℕ) → option_and_then (λ q. cond (is_some (lookup x.held x.state.runner q)) None (Some q)) o ≡ Some p → o ≡ Some p
@@ -226,24 +219,15 @@ missed-in x address p = of (page_of_address x.state address)
         at true none = absurd (none-some p none)
         at false is = is
 
--- What an endpoint may come to hold of what a walk answered for an address: `now` is what a contract sees, and there the walk
--- answered this leaf, and nothing was held for this page.
-module _ (ram : Ram) (s : State) (held : List Entry) (agrees : Agrees ram s) (sound : IsSoundState s) {writes : Option (List Step)} {told : Option Changed} (now : Snapshot) (view : record { state = s; ram = ram; held = held; past = writes; told = told } ≡ now)
-    (e : ℕ) (known : is_known now.state e ≡ true) (address p : ℕ) (leaf : Leaf) (answered : Ok leaf ≡ walk_of now.ram now.state e address) (missed : Some p ≡ missed_page (run_by e now) address) where
-  known-here : is_known s e ≡ true
-  known-here = ap (λ (seen : Snapshot). is_known seen.state e) view ∙ known
-
-  at-page : page_of_address s address ≡ Some p
-  at-page = ap (λ (seen : Snapshot). page_of_address seen.state address) view ∙ missed-in (run_by e now) address p (sym missed)
-
-  walked : walk_of ram s e address ≡ Ok leaf
-  walked = ap (λ (seen : Snapshot). walk_of seen.ram seen.state e address) view ∙ sym answered
-
+-- What the runner may come to hold of what a walk answered for an address: the walk answered this leaf, and nothing was held for
+-- this page.
+module _ (x : Snapshot) (agrees : Agrees x.ram x.state) (sound : IsSoundState x.state)
+    (address p : ℕ) (leaf : Leaf) (answered : Ok leaf ≡ walk_of x.ram x.state x.state.runner address) (missed : Some p ≡ missed_page x address) where
   pub own-past : address % 4096 ≤ leaf.phys
-  own-past = past ram s agrees sound e known-here address p at-page leaf walked
+  own-past = past x.ram x.state agrees sound x.state.runner (runner-known x.state sound) address p (missed-in x address p (sym missed)) leaf (sym answered)
 
-  pub own-back : IsWalk ram s e p (moved_back leaf address)
-  own-back = walk-back ram s agrees sound e known-here address p at-page leaf walked
+  pub own-back : IsWalk x.ram x.state x.state.runner p (moved_back leaf address)
+  own-back = walk-back x.ram x.state agrees sound x.state.runner (runner-known x.state sound) address p (missed-in x address p (sym missed)) leaf (sym answered)
 
 -- AFTER A CHANGE
 -- Where RAM agrees with the states before and after, whatever is held still, of an endpoint's page to which access is as

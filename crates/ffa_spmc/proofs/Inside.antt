@@ -1,11 +1,13 @@
 -- SPDX-License-Identifier: MIT OR Apache-2.0
 -- The parts of a machine, of the fields that the code has.
-use Rattle.std.proofs.Common.{◌≡◌, ◌∙◌, Option, List, sym, ap, subst}
+use Rattle.std.proofs.Common.{◌≡◌, ◌∙◌, Option, List, Result, sym, ap, subst}
 use Rattle.ffa_model.specs.declared.call.Reply.{Reply}
+use Rattle.ffa_model.specs.declared.operation.ErrorCode.{ErrorCode}
 use Rattle.ffa_model.specs.Calls.{Service}
 use Rattle.ffa_model.specs.Ram.{Ram}
 use Rattle.ffa_physmem.specs.Moments.{Step}
-use Rattle.ffa_spmc.specs.declared.answer.Answer.{Answer}
+use Rattle.ffa_memshare.specs.declared.changed.Changed.{Changed}
+use Rattle.ffa_memshare.specs.declared.changed.Value.{Value}
 use Rattle.ffa_spmc.specs.declared.manager.Manager.TheInside.{Inside}
 use Rattle.ffa_spmc.specs.declared.records.Records.{Records}
 use Rattle.ffa_spmc.specs.KeptParts.{kept_parts}
@@ -44,6 +46,6 @@ module _ (x : Parts) {here there : Records} (same : here ≡ there) where
           → IsReplied now (managed_of (with_records x there) past) service reply
       replied-alike {reply = reply} = subst (λ (y : Parts). IsReplied now (managed_of y past) service reply) parts-alike
 
-      pub told-alike : {answer : Answer} → IsTold now (managed_of (with_records x here) past) service answer
-          → IsTold now (managed_of (with_records x there) past) service answer
-      told-alike {answer = answer} = subst (λ (y : Parts). IsTold now (managed_of y past) service answer) parts-alike
+      pub told-alike : {done : Result Value ErrorCode} {news : Option Changed} → IsTold now (managed_of (with_records x here) past) service done news
+          → IsTold now (managed_of (with_records x there) past) service done news
+      told-alike {done = done} {news = news} = subst (λ (y : Parts). IsTold now (managed_of y past) service done news) parts-alike

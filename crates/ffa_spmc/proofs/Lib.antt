@@ -39,6 +39,7 @@ pub mod Laws
 pub mod Notified
 pub mod HeldWalks
 pub mod CachedAccesses
+pub mod Done
 pub mod Forgotten
 pub mod Unowned
 pub mod Sizes

@@ -1,9 +1,8 @@
 -- SPDX-License-Identifier: MIT OR Apache-2.0
 -- FFA_MEM_DONATE, FFA_MEM_LEND and FFA_MEM_SHARE change the state as the small machine's.
 use Rattle.std.proofs.Common.{◌≡◌, ◌∙◌, ℕ, ◌<◌, Bool, true, false, List, length, take, Option, Some, None, Result, Ok, Err, refl, sym, ap, subst, inr}
-use Rattle.std.specs.Prelude.{OnErr, ◌&&◌, IfOk, if◌then◌else◌, is_some}
-use Rattle.std.specs.Option.{option_map}
-use Rattle.std.specs.Result.{result_err, result_ok}
+use Rattle.std.specs.Prelude.{OnErr, OnOk, ◌&&◌, IfOk, if◌then◌else◌, is_some}
+use Rattle.std.specs.Result.{result_err}
 use Rattle.std.proofs.lemmas.Bool.{false≢true}
 use Rattle.std.proofs.lemmas.Option.{none-some}
 use Rattle.arrayvec.specs.ArrayVec.{array_vec_len}
@@ -33,7 +32,7 @@ use Rattle.ffa_pages.specs.Entry.{Entry, entry_at, slot_at}
 use Rattle.ffa_rxtx.specs.Parts.{ownership_in}
 use Rattle.ffa_stage2.specs.Layout.{normal_in}
 use Rattle.ffa_memshare.specs.declared.changed.Changed.{Changed}
-use Rattle.ffa_memshare.specs.declared.changed.Done.{Done}
+use Rattle.ffa_memshare.specs.declared.changed.Value.{Value}
 use Rattle.ffa_memshare.specs.declared.changed.Value.TheVariants.{Handle}
 use Rattle.ffa_memshare.specs.Changed.{changed_sender}
 use Rattle.ffa_memshare.specs.Changes.{IsMarked, IsMoved}
@@ -46,9 +45,9 @@ use Rattle.ffa_memshare.specs.Stored.{Pooled, open_in, pool_slot}
 use Rattle.ffa_memshare.specs.declared.marks.Mark.TheVariants.{Named}
 use Rattle.ffa_spmc.specs.AccessChange.{IsAccessChange, is_whose}
 use Rattle.ffa_spmc.specs.Meaning.{AreOpenTransactions, IsManager, IsOffered, Parts, access_by_place, state_of}
-use Rattle.ffa_spmc.specs.Replies.{value_or_error, value_reply}
+use Rattle.ffa_spmc.specs.Replies.{change_told, value_or_error, value_reply}
 use Rattle.ffa_spmc.specs.Unowned.{KeepsUnowned}
-use Rattle.ffa_spmc.proofs.Answered.{answered-by, done-with, refused-so}
+use Rattle.ffa_spmc.proofs.Answered.{answered-by, done-so, refused-so}
 use Rattle.ffa_spmc.proofs.Closes.{open-opened, slot-opened}
 use Rattle.ffa_spmc.proofs.Granted.{send-granted}
 use Rattle.ffa_spmc.proofs.Held.{owners-size, parties_are, size_is}
@@ -83,8 +82,8 @@ module _ (x : Parts) (machine : IsManager x) (e : ℕ) (at : e ≡ x.kept.chain.
   guards = (memory_send s kind a).guards
 
   -- what the pool has done
-  abbrev IsDone : Changed → Type 0
-  IsDone changed = IsSent (memory_parts_in x) (memory_parts_in after_offer) e kind bytes changed
+  abbrev IsDone : Option Changed → Type 0
+  IsDone news = IsSent (memory_parts_in x) (memory_parts_in after_offer) e kind bytes news
 
   read-is : send_of kind bytes ≡ send_read s kind a.total
   read-is = λ i. send_of kind (in_version (spoken i) (take call.transfer.total (sent-is x machine e at i)))
@@ -95,7 +94,7 @@ module _ (x : Parts) (machine : IsManager x) (e : ℕ) (at : e ≡ x.kept.chain.
   kept-right Lend p = refl
   kept-right Donate p = refl
 
-  module _ (changed : Changed) (none : None ≡ first_failure guards) (done : IsDone changed) where
+  module _ (news : Option Changed) (none : None ≡ first_failure guards) (done : IsDone news) where
     abbrev r : SendRecord
     r = done.offer
 
@@ -203,59 +202,60 @@ module _ (x : Parts) (machine : IsManager x) (e : ℕ) (at : e ≡ x.kept.chain.
     by-runner : (f p : ℕ) → (names s r.ranges p && is_whose (changed_sender kind s.runner) f) ≡ (names s r.ranges p && is_whose (changed_sender kind e) f)
     by-runner f p = ap (λ (g : ℕ). names s r.ranges p && is_whose (changed_sender kind g) f) (sym at)
 
-    pub access-sent : IsAccessChange s (state_of after_offer) (Some changed)
+    pub access-sent : IsAccessChange s (state_of after_offer) news
     access-sent =
-        access-changed x after_offer machine machine-sent refl changed r.ranges (changed_sender kind e) done.access offered.placed
+        subst (IsAccessChange s (state_of after_offer)) (sym done.access)
+        (access-changed x after_offer machine machine-sent refl r.ranges (changed_sender kind e) offered.placed
         (λ f p lt its. inr (ap (λ (z : State). access z f p) state-from ∙ sent-lost s machine.sound f p lt kind r good.sender good.free (by-runner f p ∙ its)))
-        (λ f p lt kept. ap (λ (z : State). access z f p) state-from ∙ sent-kept s machine.sound f p lt kind r good.sender good.free (by-runner f p ∙ kept))
+        (λ f p lt kept. ap (λ (z : State). access z f p) state-from ∙ sent-kept s machine.sound f p lt kind r good.sender good.free (by-runner f p ∙ kept)))
 
   -- the clauses of the pool's call
-  module _ (result : Result Done ErrorCode)
+  module _ (result : Result Value ErrorCode) (news : Option Changed)
       (refusal : result_err result ≡ first_failure (send_guards (scene_in (memory_parts_in x)) e a (send_of kind bytes)))
       (kept : OnErr result (pool ≡ x.kept.pool)) (kept_pages : OnErr result (pages ≡ x.kept.pages)) (kept_ram : OnErr result (ram ≡ x.ram))
-      (handle : IfOk result (λ done. done.value ≡ Handle (next_handle (open_in x.kept.pool) e))) (done : IfOk result (λ sent. IsDone sent.changed)) where
+      (handle : IfOk result (λ value. value ≡ Handle (next_handle (open_in x.kept.pool) e))) (done : OnOk result (IsDone news)) where
     refuses : result_err result ≡ first_failure guards
     refuses = refusal ∙ (λ i. first_failure (send_guards (scene-is x machine i) (at i) a (read-is i)))
 
     unchanged : OnErr result (after_offer ≡ x)
     unchanged = of result kept kept_pages kept_ram
       where
-        of : (r : Result Done ErrorCode) → OnErr r (pool ≡ x.kept.pool) → OnErr r (pages ≡ x.kept.pages) → OnErr r (ram ≡ x.ram) → OnErr r (after_offer ≡ x)
+        of : (r : Result Value ErrorCode) → OnErr r (pool ≡ x.kept.pool) → OnErr r (pages ≡ x.kept.pages) → OnErr r (ram ≡ x.ram) → OnErr r (after_offer ≡ x)
         of (Ok given) a b c = tt
         of (Err code) same_pool same_pages same_ram = λ i. record x { ram = same_ram i; kept = record x.kept { pages = same_pages i; pool = same_pool i } }
 
-    told : IfOk result (λ done. value_reply done.value ≡ (memory_send s kind a).reply)
+    told : IfOk result (λ value. value_reply value ≡ (memory_send s kind a).reply)
     told = of result handle
       where
-        of : (r : Result Done ErrorCode) → IfOk r (λ done. done.value ≡ Handle (next_handle (open_in x.kept.pool) e)) → IfOk r (λ done. value_reply done.value ≡ (memory_send s kind a).reply)
+        of : (r : Result Value ErrorCode) → IfOk r (λ value. value ≡ Handle (next_handle (open_in x.kept.pool) e)) → IfOk r (λ value. value_reply value ≡ (memory_send s kind a).reply)
         of (Ok sent) is = ap value_reply is ∙ ap (λ (f : ℕ). handle_reply (next_handle (open_of s) f)) at
         of (Err code) is = tt
 
     pub offer-served : replied (state_of after_offer) (value_or_error result) ≡ served s (memory_send s kind a)
     offer-served =
-        answered-by s (state_of after_offer) (memory_send s kind a) result (λ (done : Done). value_reply done.value) refuses
+        answered-by s (state_of after_offer) (memory_send s kind a) result value_reply refuses
         (refused-so result (λ is. ap state_of is) unchanged)
-        (done-with result (λ sent. IsDone sent.changed) (λ sent none facts. state-sent sent.changed (sym none ∙ refuses) facts) done)
+        (done-so result (λ none facts. state-sent news (sym none ∙ refuses) facts) done)
         told
 
     pub offer-machine : IsManager after_offer
     offer-machine = of result refuses unchanged done
       where
-        of : (r : Result Done ErrorCode) → result_err r ≡ first_failure guards → OnErr r (after_offer ≡ x) → IfOk r (λ sent. IsDone sent.changed) → IsManager after_offer
-        of (Ok sent) passes same facts = machine-sent sent.changed passes facts
+        of : (r : Result Value ErrorCode) → result_err r ≡ first_failure guards → OnErr r (after_offer ≡ x) → OnOk r (IsDone news) → IsManager after_offer
+        of (Ok sent) passes same facts = machine-sent news passes facts
         of (Err code) fails same facts = subst IsManager (sym same) machine
 
     pub offer-unowned : KeepsUnowned s x.ram ram
     offer-unowned = of result refuses kept_ram done
       where
-        of : (r : Result Done ErrorCode) → result_err r ≡ first_failure guards → OnErr r (ram ≡ x.ram) → IfOk r (λ sent. IsDone sent.changed) → KeepsUnowned s x.ram ram
-        of (Ok sent) passes same facts = unowned-sent sent.changed passes facts
+        of : (r : Result Value ErrorCode) → result_err r ≡ first_failure guards → OnErr r (ram ≡ x.ram) → OnOk r (IsDone news) → KeepsUnowned s x.ram ram
+        of (Ok sent) passes same facts = unowned-sent news passes facts
         of (Err code) fails same facts = unowned-same s x.ram ram same
 
-    pub offer-changes : IsAccessChange s (state_of after_offer) (option_map (λ (done : Done). done.changed) (result_ok result))
+    pub offer-changes : IsAccessChange s (state_of after_offer) (change_told result news)
     offer-changes = of result refuses unchanged done
       where
-        of : (r : Result Done ErrorCode) → result_err r ≡ first_failure guards → OnErr r (after_offer ≡ x) → IfOk r (λ sent. IsDone sent.changed)
-            → IsAccessChange s (state_of after_offer) (option_map (λ (done : Done). done.changed) (result_ok r))
-        of (Ok sent) passes same facts = access-sent sent.changed passes facts
+        of : (r : Result Value ErrorCode) → result_err r ≡ first_failure guards → OnErr r (after_offer ≡ x) → OnOk r (IsDone news)
+            → IsAccessChange s (state_of after_offer) (change_told r news)
+        of (Ok sent) passes same facts = access-sent news passes facts
         of (Err code) fails same facts = none-changed s (state_of after_offer) (λ f p. ap (λ (y : Parts). access (state_of y) f p) same)

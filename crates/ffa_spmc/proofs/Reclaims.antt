@@ -3,8 +3,7 @@
 use Rattle.std.proofs.Common.{◌≡◌, ◌∙◌, ℕ, ◌<◌, Bool, true, List, length, Option, Some, None, Result, Ok, Err, refl, sym, ap, subst, arith, inl}
 use Rattle.ffa_rxtx.specs.Parts.{ownership_in}
 use Rattle.std.specs.Prelude.{◌==◌, ◌&&◌, IfOk, OnOk, OnErr}
-use Rattle.std.specs.Option.{option_map}
-use Rattle.std.specs.Result.{result_err, result_ok}
+use Rattle.std.specs.Result.{result_err}
 use Rattle.std.specs.FinMap as finite
 use Rattle.std.proofs.lemmas.Bool.{eqb-true, leb-true}
 use Rattle.std.proofs.lemmas.Bool.Decides.{nat_tests}
@@ -25,9 +24,9 @@ use Rattle.ffa_model.proofs.Guards.{guard-passes}
 use Rattle.ffa_model.proofs.KeptCalls.{reclaimed-sound}
 use Rattle.ffa_pages.specs.Entry.{Entry, own_right_at}
 use Rattle.ffa_memshare.specs.declared.changed.Changed.{Changed}
-use Rattle.ffa_memshare.specs.declared.changed.Done.{Done}
+use Rattle.ffa_memshare.specs.declared.changed.Value.{Value}
 use Rattle.ffa_memshare.specs.declared.changed.Value.TheVariants.{Nothing}
-use Rattle.ffa_memshare.specs.Changed.{IsChanged, changed_reclaimer, changed_sender}
+use Rattle.ffa_memshare.specs.Changed.{changed_reclaimer, changed_sender}
 use Rattle.ffa_memshare.specs.Changes.{IsMarked, IsMoved}
 use Rattle.ffa_memshare.specs.Grants.{with_rights}
 use Rattle.ffa_memshare.specs.Ranges.{in_ranges}
@@ -37,7 +36,7 @@ use Rattle.ffa_memshare.specs.declared.marks.Mark.TheVariants.{Named}
 use Rattle.ffa_memshare.proofs.Joined.{reclaim-access}
 use Rattle.ffa_spmc.specs.AccessChange.{IsAccessChange, is_whose}
 use Rattle.ffa_spmc.specs.Meaning.{AreOpenTransactions, IsManager, Parts, access_by_place, state_of}
-use Rattle.ffa_spmc.specs.Replies.{value_or_error, value_reply}
+use Rattle.ffa_spmc.specs.Replies.{change_told, value_or_error, value_reply}
 use Rattle.ffa_spmc.specs.Unowned.{KeepsUnowned}
 use Rattle.ffa_spmc.proofs.Answered.{answered-by, nothing-replies, done-so, refused-so}
 use Rattle.ffa_spmc.proofs.Closes.{open-closed, slot-marked}
@@ -68,9 +67,12 @@ module _ (x : Parts) (machine : IsManager x) (e : ℕ) (at : e ≡ x.kept.chain.
     pub moved : IsMoved x.ram ram (array_vec_len x.kept.layout.regions) x.kept.layout.tables.0 x.kept.layout.blocks (place e) named (own_right_at x.kept.pages) (flags == 1)
     pub marked : IsMarked x.kept.pages pages named (Named None)
 
-  -- and what it tells of access
-  abbrev IsTold : Changed → Type 0
-  IsTold changed = IsChanged changed (named_ranges (finite.get (map_in x.kept.pool.slots) h)) (changed_reclaimer (finite.get (map_in x.kept.pool.slots) h) e)
+  -- and what it tells of access, of this transaction
+  abbrev told_of : Option Transaction → Option Changed
+  told_of o = Some (record { ranges = named_ranges o; endpoint = changed_reclaimer o e })
+
+  abbrev IsTold : Option Changed → Type 0
+  IsTold news = news ≡ told_of (finite.get (map_in x.kept.pool.slots) h)
 
   module _ (none : None ≡ first_failure guards) (done : IsReclaimed) where
     abbrev t : Transaction
@@ -138,32 +140,32 @@ module _ (x : Parts) (machine : IsManager x) (e : ℕ) (at : e ≡ x.kept.chain.
     by-sender : (f p : ℕ) → (names s t.ranges p && is_whose (changed_sender t.kind t.sender) f) ≡ (names s t.ranges p && is_whose (changed_sender t.kind e) f)
     by-sender f p = ap (λ (g : ℕ). names s t.ranges p && is_whose (changed_sender t.kind g) f) sender
 
-    access-reclaimed : (changed : Changed) → IsTold changed → IsAccessChange s (state_of after_reclaim) (Some changed)
-    access-reclaimed changed told =
-        access-changed x after_reclaim machine machine-reclaimed refl changed t.ranges (changed_sender t.kind e)
-        (subst (λ (o : Option Transaction). IsChanged changed (named_ranges o) (changed_reclaimer o e)) was told)
+    access-reclaimed : (news : Option Changed) → IsTold news → IsAccessChange s (state_of after_reclaim) news
+    access-reclaimed news told =
+        subst (IsAccessChange s (state_of after_reclaim)) (sym (told ∙ ap told_of was))
+        (access-changed x after_reclaim machine machine-reclaimed refl t.ranges (changed_sender t.kind e)
         (machine.open_transactions.offered done.slot.slot h t done.slot.was).placed
         (λ f p lt its. inl (reclaimed-new s machine.sound f p lt h t was unheld (by-sender f p ∙ its)))
-        (λ f p lt kept. ap (λ (z : State). access z f p) state-reclaimed ∙ reclaimed-kept s machine.sound f p lt h t was unheld (is_set 0 flags) (by-sender f p ∙ kept))
+        (λ f p lt kept. ap (λ (z : State). access z f p) state-reclaimed ∙ reclaimed-kept s machine.sound f p lt h t was unheld (is_set 0 flags) (by-sender f p ∙ kept)))
 
   -- the clauses of the pool's call
-  module _ (r : Result Done ErrorCode) (refusal : result_err r ≡ first_failure (reclaim_guards (ownership_in x.kept.pages x.kept.layout.base.0) e flags (finite.get (map_in x.kept.pool.slots) h)))
+  module _ (r : Result Value ErrorCode) (news : Option Changed) (refusal : result_err r ≡ first_failure (reclaim_guards (ownership_in x.kept.pages x.kept.layout.base.0) e flags (finite.get (map_in x.kept.pool.slots) h)))
       (kept : OnErr r (pool ≡ x.kept.pool)) (kept_pages : OnErr r (pages ≡ x.kept.pages)) (kept_ram : OnErr r (ram ≡ x.ram))
-      (nothing : IfOk r (λ (d : Done). d.value ≡ Nothing))
+      (nothing : IfOk r (λ value. value ≡ Nothing))
       (slot : OnOk r (IsClosed x.kept.pool pool h)) (open_transactions : OnOk r (open_in pool ≡ closed (open_in x.kept.pool) h))
       (moved : OnOk r (IsMoved x.ram ram (array_vec_len x.kept.layout.regions) x.kept.layout.tables.0 x.kept.layout.blocks (place e) named (own_right_at x.kept.pages) (flags == 1)))
-      (marked : OnOk r (IsMarked x.kept.pages pages named (Named None))) (changed : IfOk r (λ (d : Done). IsTold d.changed)) where
+      (marked : OnOk r (IsMarked x.kept.pages pages named (Named None))) (changed : OnOk r (IsTold news)) where
     unchanged : OnErr r (after_reclaim ≡ x)
     unchanged = of r kept kept_pages kept_ram
       where
-        of : (r : Result Done ErrorCode) → OnErr r (pool ≡ x.kept.pool) → OnErr r (pages ≡ x.kept.pages) → OnErr r (ram ≡ x.ram) → OnErr r (after_reclaim ≡ x)
+        of : (r : Result Value ErrorCode) → OnErr r (pool ≡ x.kept.pool) → OnErr r (pages ≡ x.kept.pages) → OnErr r (ram ≡ x.ram) → OnErr r (after_reclaim ≡ x)
         of (Ok told) a b c = tt
         of (Err code) same_pool same_pages same_ram = λ i. record x { ram = same_ram i; kept = record x.kept { pages = same_pages i; pool = same_pool i } }
 
     done : OnOk r IsReclaimed
     done = of r slot open_transactions moved marked
       where
-        of : (r : Result Done ErrorCode) → OnOk r (IsClosed x.kept.pool pool h) → OnOk r (open_in pool ≡ closed (open_in x.kept.pool) h)
+        of : (r : Result Value ErrorCode) → OnOk r (IsClosed x.kept.pool pool h) → OnOk r (open_in pool ≡ closed (open_in x.kept.pool) h)
             → OnOk r (IsMoved x.ram ram (array_vec_len x.kept.layout.regions) x.kept.layout.tables.0 x.kept.layout.blocks (place e) named (own_right_at x.kept.pages) (flags == 1))
             → OnOk r (IsMarked x.kept.pages pages named (Named None)) → OnOk r IsReclaimed
         of (Ok told) closes leaves moves marks = record { slot = closes; open_transactions = leaves; moved = moves; marked = marks }
@@ -178,7 +180,7 @@ module _ (x : Parts) (machine : IsManager x) (e : ℕ) (at : e ≡ x.kept.chain.
 
     pub reclaim-served : replied (state_of after_reclaim) (value_or_error r) ≡ served s (memory_reclaim s h flags)
     reclaim-served =
-        answered-by s (state_of after_reclaim) (memory_reclaim s h flags) r (λ (d : Done). value_reply d.value)
+        answered-by s (state_of after_reclaim) (memory_reclaim s h flags) r value_reply
         refuses
         (refused-so r (λ is. ap state_of is) unchanged)
         (done-so r (λ none facts. state-reclaimed (sym none ∙ refuses) facts) done)
@@ -187,20 +189,20 @@ module _ (x : Parts) (machine : IsManager x) (e : ℕ) (at : e ≡ x.kept.chain.
     pub reclaim-machine : IsManager after_reclaim
     reclaim-machine = of r refuses unchanged done
       where
-        of : (r : Result Done ErrorCode) → result_err r ≡ first_failure guards → OnErr r (after_reclaim ≡ x) → OnOk r IsReclaimed → IsManager after_reclaim
+        of : (r : Result Value ErrorCode) → result_err r ≡ first_failure guards → OnErr r (after_reclaim ≡ x) → OnOk r IsReclaimed → IsManager after_reclaim
         of (Ok told) passes same facts = machine-reclaimed passes facts
         of (Err code) fails same facts = subst IsManager (sym same) machine
 
     pub reclaim-unowned : KeepsUnowned s x.ram ram
     reclaim-unowned = of r refuses kept_ram done
       where
-        of : (r : Result Done ErrorCode) → result_err r ≡ first_failure guards → OnErr r (ram ≡ x.ram) → OnOk r IsReclaimed → KeepsUnowned s x.ram ram
+        of : (r : Result Value ErrorCode) → result_err r ≡ first_failure guards → OnErr r (ram ≡ x.ram) → OnOk r IsReclaimed → KeepsUnowned s x.ram ram
         of (Ok told) passes same facts = unowned-reclaimed passes facts
         of (Err code) fails same facts = unowned-same s x.ram ram same
 
-    pub reclaim-changes : IsAccessChange s (state_of after_reclaim) (option_map (λ (d : Done). d.changed) (result_ok r))
+    pub reclaim-changes : IsAccessChange s (state_of after_reclaim) (change_told r news)
     reclaim-changes = of r refuses unchanged done changed
       where
-        of : (r : Result Done ErrorCode) → result_err r ≡ first_failure guards → OnErr r (after_reclaim ≡ x) → OnOk r IsReclaimed → IfOk r (λ (d : Done). IsTold d.changed) → IsAccessChange s (state_of after_reclaim) (option_map (λ (d : Done). d.changed) (result_ok r))
-        of (Ok told) passes same facts is = access-reclaimed passes facts told.changed is
+        of : (r : Result Value ErrorCode) → result_err r ≡ first_failure guards → OnErr r (after_reclaim ≡ x) → OnOk r IsReclaimed → OnOk r (IsTold news) → IsAccessChange s (state_of after_reclaim) (change_told r news)
+        of (Ok value) passes same facts is = access-reclaimed passes facts news is
         of (Err code) fails same facts is = none-changed s (state_of after_reclaim) (λ f p. ap (λ (y : Parts). access (state_of y) f p) same)

@@ -1,9 +1,8 @@
 -- SPDX-License-Identifier: MIT OR Apache-2.0
 -- FFA_MEM_RELINQUISH changes the state as the small machine's.
-use Rattle.std.proofs.Common.{◌≡◌, ◌∙◌, ℕ, ◌<◌, Bool, true, List, length, Some, None, Result, Ok, Err, refl, sym, ap, subst, inr}
-use Rattle.std.specs.Prelude.{◌==◌, ◌&&◌, IfOk, OnErr}
-use Rattle.std.specs.Option.{option_map}
-use Rattle.std.specs.Result.{result_err, result_ok}
+use Rattle.std.proofs.Common.{◌≡◌, ◌∙◌, ℕ, ◌<◌, Bool, true, List, length, Option, Some, None, Result, Ok, Err, refl, sym, ap, subst, inr}
+use Rattle.std.specs.Prelude.{◌==◌, ◌&&◌, IfOk, OnErr, OnOk}
+use Rattle.std.specs.Result.{result_err}
 use Rattle.std.proofs.lemmas.Bool.{false≢true}
 use Rattle.ffa_model.specs.declared.refusal.Refusal.{Refusal}
 use Rattle.ffa_model.specs.declared.operation.ErrorCode.{ErrorCode}
@@ -22,7 +21,7 @@ use Rattle.ffa_model.specs.Transactions.{not_holding, open_of, with_open, with_t
 use Rattle.ffa_model.proofs.Guards.{guard-passes}
 use Rattle.ffa_model.proofs.KeptCalls.{relinquished-sound}
 use Rattle.ffa_memshare.specs.declared.changed.Changed.{Changed}
-use Rattle.ffa_memshare.specs.declared.changed.Done.{Done}
+use Rattle.ffa_memshare.specs.declared.changed.Value.{Value}
 use Rattle.ffa_memshare.specs.declared.changed.Value.TheVariants.{Nothing}
 use Rattle.ffa_memshare.specs.Changes.{IsMoved}
 use Rattle.ffa_memshare.specs.Grants.{with_rights}
@@ -32,9 +31,9 @@ use Rattle.ffa_memshare.specs.Stored.{Pooled, open_in}
 use Rattle.ffa_rxtx.specs.Parts.{tx_in}
 use Rattle.ffa_spmc.specs.AccessChange.{IsAccessChange}
 use Rattle.ffa_spmc.specs.Meaning.{AreOpenTransactions, IsManager, Parts, access_by_place, state_of}
-use Rattle.ffa_spmc.specs.Replies.{value_or_error, value_reply}
+use Rattle.ffa_spmc.specs.Replies.{change_told, value_or_error, value_reply}
 use Rattle.ffa_spmc.specs.Unowned.{KeepsUnowned}
-use Rattle.ffa_spmc.proofs.Answered.{answered-by, nothing-replies, done-with, refused-so}
+use Rattle.ffa_spmc.proofs.Answered.{answered-by, nothing-replies, done-so, refused-so}
 use Rattle.ffa_spmc.proofs.Closes.{open-reheld}
 use Rattle.ffa_spmc.proofs.Granted.{relinquish-granted}
 use Rattle.ffa_spmc.proofs.AccessChanges.{access-changed, none-changed, relinquished-kept, relinquished-lost}
@@ -59,10 +58,10 @@ module _ (x : Parts) (machine : IsManager x) (e : ℕ) (at : e ≡ x.kept.chain.
   guards = (memory_relinquish s).guards
 
   -- what the pool has done
-  abbrev IsDone : Changed → Type 0
-  IsDone changed = IsRelinquished (memory_parts_in x) (memory_parts_in after_relinquish) e bytes changed
+  abbrev IsDone : Option Changed → Type 0
+  IsDone news = IsRelinquished (memory_parts_in x) (memory_parts_in after_relinquish) e bytes news
 
-  module _ (changed : Changed) (none : None ≡ first_failure guards) (done : IsDone changed) where
+  module _ (news : Option Changed) (none : None ≡ first_failure guards) (done : IsDone news) where
     abbrev d : RelinquishDesc
     d = done.asked
 
@@ -127,17 +126,18 @@ module _ (x : Parts) (machine : IsManager x) (e : ℕ) (at : e ≡ x.kept.chain.
     by-runner : (f p : ℕ) → (names s t.ranges p && s.runner == f) ≡ (names s t.ranges p && e == f)
     by-runner f p = ap (λ (g : ℕ). names s t.ranges p && g == f) (sym at)
 
-    pub access-relinquished : IsAccessChange s (state_of after_relinquish) (Some changed)
+    pub access-relinquished : IsAccessChange s (state_of after_relinquish) news
     access-relinquished =
-        access-changed x after_relinquish machine machine-relinquished refl changed t.ranges (Some (record { 0 = e })) done.access
+        subst (IsAccessChange s (state_of after_relinquish)) (sym done.access)
+        (access-changed x after_relinquish machine machine-relinquished refl t.ranges (Some (record { 0 = e }))
         (let slot = open-slot x machine d.handle t was in (machine.open_transactions.offered slot.0 d.handle t slot.1).placed)
         (λ f p lt its. inr (ap (λ (z : State). access z f p) state-from ∙ relinquished-lost s machine.sound f p lt d.handle t was d refl other (by-runner f p ∙ its)))
-        (λ f p lt kept. ap (λ (z : State). access z f p) state-from ∙ relinquished-kept s machine.sound f p lt d.handle t was d refl (by-runner f p ∙ kept))
+        (λ f p lt kept. ap (λ (z : State). access z f p) state-from ∙ relinquished-kept s machine.sound f p lt d.handle t was d refl (by-runner f p ∙ kept)))
 
   -- the clauses of the pool's call
-  module _ (r : Result Done ErrorCode) (refusal : result_err r ≡ first_failure (relinquish_guards (buffers_in x.kept.buffers e) (open_in x.kept.pool) e (relinquish_of bytes)))
+  module _ (r : Result Value ErrorCode) (news : Option Changed) (refusal : result_err r ≡ first_failure (relinquish_guards (buffers_in x.kept.buffers e) (open_in x.kept.pool) e (relinquish_of bytes)))
       (kept : OnErr r (pool ≡ x.kept.pool)) (kept_ram : OnErr r (ram ≡ x.ram))
-      (nothing : IfOk r (λ (d : Done). d.value ≡ Nothing)) (done : IfOk r (λ (d : Done). IsDone d.changed)) where
+      (nothing : IfOk r (λ value. value ≡ Nothing)) (done : OnOk r (IsDone news)) where
     refuses : result_err r ≡ first_failure guards
     refuses =
         refusal
@@ -146,34 +146,34 @@ module _ (x : Parts) (machine : IsManager x) (e : ℕ) (at : e ≡ x.kept.chain.
     unchanged : OnErr r (after_relinquish ≡ x)
     unchanged = of r kept kept_ram
       where
-        of : (r : Result Done ErrorCode) → OnErr r (pool ≡ x.kept.pool) → OnErr r (ram ≡ x.ram) → OnErr r (after_relinquish ≡ x)
+        of : (r : Result Value ErrorCode) → OnErr r (pool ≡ x.kept.pool) → OnErr r (ram ≡ x.ram) → OnErr r (after_relinquish ≡ x)
         of (Ok d) a b = tt
         of (Err code) same_pool same_ram = λ i. record x { ram = same_ram i; kept = record x.kept { pool = same_pool i } }
 
     pub relinquish-served : replied (state_of after_relinquish) (value_or_error r) ≡ served s (memory_relinquish s)
     relinquish-served =
-        answered-by s (state_of after_relinquish) (memory_relinquish s) r (λ (d : Done). value_reply d.value) refuses
+        answered-by s (state_of after_relinquish) (memory_relinquish s) r value_reply refuses
         (refused-so r (λ is. ap state_of is) unchanged)
-        (done-with r (λ (d : Done). IsDone d.changed) (λ d none facts. state-relinquished d.changed (sym none ∙ refuses) facts) done)
+        (done-so r (λ none facts. state-relinquished news (sym none ∙ refuses) facts) done)
         (nothing-replies r nothing)
 
     pub relinquish-machine : IsManager after_relinquish
     relinquish-machine = of r refuses unchanged done
       where
-        of : (r : Result Done ErrorCode) → result_err r ≡ first_failure guards → OnErr r (after_relinquish ≡ x) → IfOk r (λ (d : Done). IsDone d.changed) → IsManager after_relinquish
-        of (Ok d) passes same facts = machine-relinquished d.changed passes facts
+        of : (r : Result Value ErrorCode) → result_err r ≡ first_failure guards → OnErr r (after_relinquish ≡ x) → OnOk r (IsDone news) → IsManager after_relinquish
+        of (Ok d) passes same facts = machine-relinquished news passes facts
         of (Err code) fails same facts = subst IsManager (sym same) machine
 
     pub relinquish-unowned : KeepsUnowned s x.ram ram
     relinquish-unowned = of r refuses kept_ram done
       where
-        of : (r : Result Done ErrorCode) → result_err r ≡ first_failure guards → OnErr r (ram ≡ x.ram) → IfOk r (λ (d : Done). IsDone d.changed) → KeepsUnowned s x.ram ram
-        of (Ok d) passes same facts = unowned-relinquished d.changed passes facts
+        of : (r : Result Value ErrorCode) → result_err r ≡ first_failure guards → OnErr r (ram ≡ x.ram) → OnOk r (IsDone news) → KeepsUnowned s x.ram ram
+        of (Ok d) passes same facts = unowned-relinquished news passes facts
         of (Err code) fails same facts = unowned-same s x.ram ram same
 
-    pub relinquish-changes : IsAccessChange s (state_of after_relinquish) (option_map (λ (d : Done). d.changed) (result_ok r))
+    pub relinquish-changes : IsAccessChange s (state_of after_relinquish) (change_told r news)
     relinquish-changes = of r refuses unchanged done
       where
-        of : (r : Result Done ErrorCode) → result_err r ≡ first_failure guards → OnErr r (after_relinquish ≡ x) → IfOk r (λ (d : Done). IsDone d.changed) → IsAccessChange s (state_of after_relinquish) (option_map (λ (d : Done). d.changed) (result_ok r))
-        of (Ok d) passes same facts = access-relinquished d.changed passes facts
+        of : (r : Result Value ErrorCode) → result_err r ≡ first_failure guards → OnErr r (after_relinquish ≡ x) → OnOk r (IsDone news) → IsAccessChange s (state_of after_relinquish) (change_told r news)
+        of (Ok d) passes same facts = access-relinquished news passes facts
         of (Err code) fails same facts = none-changed s (state_of after_relinquish) (λ f p. ap (λ (y : Parts). access (state_of y) f p) same)

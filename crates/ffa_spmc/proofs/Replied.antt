@@ -1,9 +1,8 @@
 -- SPDX-License-Identifier: MIT OR Apache-2.0
 -- What each call's part of the manager promises follows from what it keeps where it refuses.
 use Rattle.std.proofs.Common.{◌≡◌, ◌∙◌, Bool, None, true, false, List, Option, Some, Result, Ok, Err, refl, sym, ap, subst}
-use Rattle.std.specs.Prelude.{IfOk, OnErr}
-use Rattle.std.specs.Option.{option_map, option_or}
-use Rattle.std.specs.Result.{result_ok}
+use Rattle.std.specs.Prelude.{IfOk, OnErr, OnOk, is_some}
+use Rattle.std.specs.Option.{option_or}
 use Rattle.std.proofs.lemmas.Bool.{true≢false}
 use Rattle.ffa_laws.specs.OwnAccess.{is_memory_call}
 use Rattle.ffa_model.specs.declared.call.Call as calls
@@ -18,18 +17,16 @@ use Rattle.ffa_model.specs.Refusals.{is_error}
 use Rattle.ffa_model.specs.State.{Buffers, State}
 use Rattle.ffa_model.specs.Step.{service}
 use Rattle.ffa_memshare.specs.declared.changed.Changed.{Changed}
-use Rattle.ffa_memshare.specs.declared.changed.Done.{Done}
 use Rattle.ffa_memshare.specs.declared.changed.Value.{Value}
 use Rattle.ffa_memshare.specs.declared.changed.Value.TheVariants.{Nothing, Handle, Size}
 use Rattle.ffa_memshare.specs.Stored.{Pooled}
 use Rattle.ffa_pages.specs.Entry.{Entry}
 use Rattle.ffa_physmem.specs.Moments.{Step}
 use Rattle.ffa_tlb.specs.declared.translations.Entry.{Entry as Held}
-use Rattle.ffa_spmc.specs.declared.answer.Answer.{Answer}
 use Rattle.ffa_spmc.specs.AccessChange.{IsAccessChange}
 use Rattle.ffa_spmc.specs.Managed.{Managed}
 use Rattle.ffa_spmc.specs.Meaning.{Parts, state_of}
-use Rattle.ffa_spmc.specs.Replies.{done_or_error, message_or_error, reply_of, reply_or_error, value_or_error, value_reply}
+use Rattle.ffa_spmc.specs.Replies.{change_told, done_or_error, message_or_error, reply_of, reply_or_error, value_or_error, value_reply}
 use Rattle.ffa_spmc.specs.Served.{IsAnswered, IsReplied, IsSilent, IsTold}
 use Rattle.ffa_spmc.specs.Moments.{AreMoments}
 use Rattle.ffa_spmc.specs.Unowned.{KeepsUnowned}
@@ -52,8 +49,8 @@ plain-value Nothing = refl
 plain-value (Handle h) = refl
 plain-value (Size size) = refl
 
-pub refused-value : {P : Type 0} (r : Result Done ErrorCode) (reply : Reply) → reply ≡ value_or_error r → OnErr r P → is_error reply ≡ true → P
-refused-value r reply is kept = refused-told (λ (done : Done). value_reply done.value) r reply is (λ done. plain-value done.value) kept
+pub refused-value : {P : Type 0} (r : Result Value ErrorCode) → OnErr r P → is_error (value_or_error r) ≡ true → P
+refused-value r kept = refused-told value_reply r (value_or_error r) refl plain-value kept
 
 pub refused-done : {X P : Type 0} (r : Result X ErrorCode) (reply : Reply) → reply ≡ done_or_error r → OnErr r P → is_error reply ≡ true → P
 refused-done r reply is kept = refused-told (λ done. success 0 0) r reply is (λ done. refl) kept
@@ -69,10 +66,15 @@ refused-replied (Ok y) reply told is so plain kept error = absurd (true≢false 
 refused-replied (Err code) reply told is so plain kept error = kept
 
 -- what is done is told, and a refusal leaves what was told
-pub told-of : {X : Type 0} (r : Result X ErrorCode) (change : X → Changed) (before now : Option Changed) → OnErr r (now ≡ before) → IfOk r (λ x. now ≡ Some (change x))
-    → now ≡ option_or (option_map change (result_ok r)) before
-told-of (Ok x) change before now kept told = told
-told-of (Err code) change before now kept told = kept
+pub told-of : {X : Type 0} (r : Result X ErrorCode) (before now : Option Changed) → OnErr r (now ≡ before) → OnOk r ((change : Changed) × (now ≡ Some change))
+    → now ≡ option_or (change_told r now) before
+told-of (Ok x) before now kept told = told.1 ∙ ap (λ o. option_or o before) (sym told.1)
+told-of (Err code) before now kept told = kept
+
+-- a refusal tells no change
+silent-refusal : {X : Type 0} (r : Result X ErrorCode) (news : Option Changed) → OnErr r (change_told r news ≡ None)
+silent-refusal (Ok x) news = tt
+silent-refusal (Err code) news = refl
 
 -- a refused call on memory keeps all parts
 pub kept-memory : {X : Type 0} (x : Parts) (r : Result X ErrorCode) (ram : Ram) (pages : List (Option Entry)) (pool : Pooled)
@@ -107,18 +109,16 @@ module _ (x y : Parts) {past : Option (List Step)} (now : Managed) (seen : manag
   replied-beside is kept same = replied-with past is kept (λ error. refl) (λ p behind none. ap (λ (r : Ram). page_of r p) same)
       (still-moments (state_of x) x.ram y.ram past past same refl)
 
--- and of a call on memory, whose answer tells this change
-module _ (x y : Parts) {past : Option (List Step)} (now : Managed) (seen : managed_of x past ≡ now) (c : State → Service) (answer : Answer) (changed : Option Changed) where
-  pub told-with : (later : Option (List Step)) → replied (state_of y) answer.reply ≡ served (state_of x) (c (state_of x)) → (is_error answer.reply ≡ true → y ≡ x)
-      → (is_error answer.reply ≡ true → later ≡ past)
-      → KeepsUnowned (state_of x) x.ram y.ram → AreMoments (state_of x) x.ram y.ram past later → answer.changed ≡ changed → IsAccessChange (state_of x) (state_of y) changed
-      → (is_error answer.reply ≡ true → answer.changed ≡ None) → IsTold now (managed_of y later) (c now.state) answer
-  told-with later is kept kept_past unowned moments told change none =
+-- and of a call on memory, after which these are the news
+module _ (x y : Parts) {past : Option (List Step)} (now : Managed) (seen : managed_of x past ≡ now) (c : State → Service) (r : Result Value ErrorCode) (news : Option Changed) where
+  pub told-with : (later : Option (List Step)) → replied (state_of y) (value_or_error r) ≡ served (state_of x) (c (state_of x)) → OnErr r (y ≡ x) → OnErr r (later ≡ past)
+      → KeepsUnowned (state_of x) x.ram y.ram → AreMoments (state_of x) x.ram y.ram past later → IsAccessChange (state_of x) (state_of y) (change_told r news)
+      → IsTold now (managed_of y later) (c now.state) r news
+  told-with later is kept kept_past unowned moments change =
       record {
-        replied = replied-with x y now seen c answer.reply later is kept kept_past unowned moments;
-        access = subst (λ (o : Option Changed). IsAccessChange now.state (state_of y) o) (sym told)
-            (subst (λ (m : Managed). IsAccessChange m.state (state_of y) changed) seen change);
-        unchanged = none;
+        replied = replied-with x y now seen c (value_or_error r) later is (refused-value r kept) (refused-value r kept_past) unowned moments;
+        access = subst (λ (m : Managed). IsAccessChange m.state (state_of y) (change_told r news)) seen change;
+        unchanged = refused-value r (silent-refusal r news);
       }
 
 -- a call that changes nothing

@@ -2,8 +2,8 @@
 -- FFA_MEM_RETRIEVE_REQ changes the state as the small machine's.
 use Rattle.std.proofs.Common.{◌≡◌, ◌∙◌, ℕ, ◌<◌, Bool, true, false, List, length, take, Option, Some, None, Result, Ok, Err, refl, sym, ap, subst, inl}
 use Rattle.std.specs.Prelude.{◌==◌, ◌&&◌, is_none, IfOk, OnOk, OnErr, ◌++◌}
-use Rattle.std.specs.Option.{option_map, option_map_or}
-use Rattle.std.specs.Result.{result_err, result_ok}
+use Rattle.std.specs.Option.{option_map_or}
+use Rattle.std.specs.Result.{result_err}
 use Rattle.std.proofs.lemmas.Bool.{false≢true}
 use Rattle.std.proofs.lemmas.Option.{same_Some}
 use Rattle.ffa_model.specs.declared.refusal.Refusal.{Refusal}
@@ -38,7 +38,8 @@ use Rattle.ffa_model.proofs.KeptCalls.{taken-sound}
 use Rattle.ffa_laws.proofs.SoundOperations.{call-sound}
 use Rattle.ffa_pages.specs.Entry.{Entry}
 use Rattle.ffa_rxtx.specs.Parts.{with_rx_bytes, ownership_in}
-use Rattle.ffa_memshare.specs.declared.changed.Done.{Done}
+use Rattle.ffa_memshare.specs.declared.changed.Changed.{Changed}
+use Rattle.ffa_memshare.specs.declared.changed.Value.{Value}
 use Rattle.ffa_memshare.specs.Changes.{IsMoved}
 use Rattle.ffa_memshare.specs.Grants.{with_rights}
 use Rattle.ffa_memshare.specs.Ranges.{in_ranges}
@@ -48,7 +49,7 @@ use Rattle.ffa_memshare.specs.SlotChanges.{IsClosed, IsHeldBy}
 use Rattle.ffa_memshare.specs.Stored.{Pooled, open_in, pool_slot}
 use Rattle.ffa_spmc.specs.AccessChange.{IsAccessChange}
 use Rattle.ffa_spmc.specs.Meaning.{AreOpenTransactions, HasTables, IsManager, IsOffered, Parts, access_by_place, state_of}
-use Rattle.ffa_spmc.specs.Replies.{value_or_error, value_reply}
+use Rattle.ffa_spmc.specs.Replies.{change_told, value_or_error, value_reply}
 use Rattle.ffa_spmc.specs.Unowned.{KeepsUnowned}
 use Rattle.ffa_spmc.proofs.Answered.{answered-by, passed-state, refused-so}
 use Rattle.ffa_spmc.proofs.Closes.{open-closed, open-reheld}
@@ -95,13 +96,13 @@ module _ (x : Parts) (machine : IsManager x) (e : EndpointId) (at : e.0 ≡ x.ke
   guards = (memory_retrieve s registers).guards
 
   -- what the pool has done
-  abbrev IsDone : Done → Type 0
-  IsDone taken = IsRetrieved (memory_parts_in x) (memory_parts_in after_retrieve) e bytes taken
+  abbrev IsDone : Option Changed → Value → Type 0
+  IsDone news value = IsRetrieved (memory_parts_in x) (memory_parts_in after_retrieve) e bytes news value
 
   descriptor-is : retrieve_of e.0 bytes ≡ retrieve_read s total
   descriptor-is = λ i. retrieve_of (at i) (in_version (spoken i) (take total (sent-is x machine e.0 at i)))
 
-  module _ (taken : Done) (none : None ≡ first_failure guards) (done : IsDone taken) (full : buffers ≡ buffers_with_rx x.kept.buffers e.0 true) where
+  module _ (news : Option Changed) (value : Value) (none : None ≡ first_failure guards) (done : IsDone news value) (full : buffers ≡ buffers_with_rx x.kept.buffers e.0 true) where
     abbrev d : RetrieveDesc
     d = done.asked
 
@@ -245,7 +246,7 @@ module _ (x : Parts) (machine : IsManager x) (e : EndpointId) (at : e.0 ≡ x.ke
         (unowned-moved x machine done.answer.granted (place e.0) t.ranges (λ p. Some right) false moves (open-entered x machine d.handle t was))
         (unowned-filled x machine e.0 (runner-there x machine e.0 at) done.answer.granted answer))
 
-    pub length-retrieved : value_reply taken.value ≡ (memory_retrieve s registers).reply
+    pub length-retrieved : value_reply value ≡ (memory_retrieve s registers).reply
     length-retrieved =
         ap value_reply done.value ∙ ap Retrieved (done.answer.bytes ∙ ap (λ (v : Version). response_size v t.ranges) spoken
         ∙ sym (ap (response_length s) read ∙ ap (λ o. option_map_or (λ (u : Transaction). response_size (version_of s s.runner) u.ranges) o 0) was))
@@ -257,13 +258,14 @@ module _ (x : Parts) (machine : IsManager x) (e : EndpointId) (at : e.0 ≡ x.ke
     by-runner : (f p : ℕ) → (names s t.ranges p && s.runner == f) ≡ (names s t.ranges p && e.0 == f)
     by-runner f p = ap (λ (g : ℕ). names s t.ranges p && g == f) (sym at)
 
-    pub access-retrieved : IsAccessChange s (state_of after_retrieve) (Some taken.changed)
+    pub access-retrieved : IsAccessChange s (state_of after_retrieve) news
     access-retrieved =
-        access-changed x after_retrieve machine machine-retrieved refl taken.changed t.ranges (Some e) done.access offered.placed
+        subst (IsAccessChange s (state_of after_retrieve)) (sym done.access)
+        (access-changed x after_retrieve machine machine-retrieved refl t.ranges (Some e) offered.placed
         (λ f p lt its. inl (retrieved-new s machine.sound f p lt d.handle t was s.runner unheld other (by-runner f p ∙ its)))
         (λ f p lt kept.
         ap (λ (z : State). access z f p) (state-retrieved ∙ ap (retrieved s) read ∙ ap (retrieved_from s d) was)
-        ∙ retrieved-kept s machine.sound f p lt d.handle t was s.runner (right_for (ownership_of s) t s.runner d) (by-runner f p ∙ kept))
+        ∙ retrieved-kept s machine.sound f p lt d.handle t was s.runner (right_for (ownership_of s) t s.runner d) (by-runner f p ∙ kept)))
       where
         none-of : (o : Option Rights) → is_none o ≡ true → o ≡ None
         none-of None is = refl
@@ -276,60 +278,60 @@ module _ (x : Parts) (machine : IsManager x) (e : EndpointId) (at : e.0 ≡ x.ke
         other same = false≢true (sym offered.other ∙ ap (λ (f : ℕ). is_receiver f t) same ∙ receiver)
 
   -- the clauses of the pool's call
-  module _ (r : Result Done ErrorCode)
+  module _ (r : Result Value ErrorCode) (news : Option Changed)
       (refusal : result_err r ≡ first_failure (retrieve_guards
       (scene_in (memory_parts_in x)) e.0 registers (retrieve_of e.0 bytes)))
       (kept : OnErr r (pool ≡ x.kept.pool)) (kept_pages : OnErr r (pages ≡ x.kept.pages)) (kept_buffers : OnErr r (buffers ≡ x.kept.buffers)) (kept_ram : OnErr r (ram ≡ x.ram))
-      (full : OnOk r (buffers ≡ buffers_with_rx x.kept.buffers e.0 true)) (done : IfOk r IsDone) where
+      (full : OnOk r (buffers ≡ buffers_with_rx x.kept.buffers e.0 true)) (done : IfOk r (IsDone news)) where
     refuses : result_err r ≡ first_failure guards
     refuses = refusal ∙ (λ i. first_failure (retrieve_guards (scene-is x machine i) (at i) registers (descriptor-is i)))
 
     unchanged : OnErr r (after_retrieve ≡ x)
     unchanged = of r kept kept_pages kept_buffers kept_ram
       where
-        of : (r : Result Done ErrorCode) → OnErr r (pool ≡ x.kept.pool) → OnErr r (pages ≡ x.kept.pages) → OnErr r (buffers ≡ x.kept.buffers) → OnErr r (ram ≡ x.ram) → OnErr r (after_retrieve ≡ x)
-        of (Ok taken) a b c d = tt
+        of : (r : Result Value ErrorCode) → OnErr r (pool ≡ x.kept.pool) → OnErr r (pages ≡ x.kept.pages) → OnErr r (buffers ≡ x.kept.buffers) → OnErr r (ram ≡ x.ram) → OnErr r (after_retrieve ≡ x)
+        of (Ok value) a b c d = tt
         of (Err code) same_pool same_pages same_buffers same_ram = λ i. record x { ram = same_ram i; kept = record x.kept { pages = same_pages i; pool = same_pool i; buffers = same_buffers i } }
 
     state-done : OnOk r (state_of after_retrieve ≡ retrieved s (retrieve_read s total))
     state-done = of r refuses full done
       where
-        of : (r : Result Done ErrorCode) → result_err r ≡ first_failure guards → OnOk r (buffers ≡ buffers_with_rx x.kept.buffers e.0 true) → IfOk r IsDone
+        of : (r : Result Value ErrorCode) → result_err r ≡ first_failure guards → OnOk r (buffers ≡ buffers_with_rx x.kept.buffers e.0 true) → IfOk r (IsDone news)
             → OnOk r (state_of after_retrieve ≡ retrieved s (retrieve_read s total))
-        of (Ok taken) none fills facts = state-retrieved taken none facts fills
+        of (Ok value) none fills facts = state-retrieved news value none facts fills
         of (Err code) fails fills facts = tt
 
-    told : IfOk r (λ taken. value_reply taken.value ≡ (memory_retrieve s registers).reply)
+    told : IfOk r (λ value. value_reply value ≡ (memory_retrieve s registers).reply)
     told = of r refuses full done
       where
-        of : (r : Result Done ErrorCode) → result_err r ≡ first_failure guards → OnOk r (buffers ≡ buffers_with_rx x.kept.buffers e.0 true) → IfOk r IsDone
-            → IfOk r (λ taken. value_reply taken.value ≡ (memory_retrieve s registers).reply)
-        of (Ok taken) none fills facts = length-retrieved taken none facts fills
+        of : (r : Result Value ErrorCode) → result_err r ≡ first_failure guards → OnOk r (buffers ≡ buffers_with_rx x.kept.buffers e.0 true) → IfOk r (IsDone news)
+            → IfOk r (λ value. value_reply value ≡ (memory_retrieve s registers).reply)
+        of (Ok value) none fills facts = length-retrieved news value none facts fills
         of (Err code) fails fills facts = tt
 
     pub retrieve-served : replied (state_of after_retrieve) (value_or_error r) ≡ served s (memory_retrieve s registers)
     retrieve-served =
-        answered-by s (state_of after_retrieve) (memory_retrieve s registers) r (λ (taken : Done). value_reply taken.value) refuses
+        answered-by s (state_of after_retrieve) (memory_retrieve s registers) r value_reply refuses
         (refused-so r (λ is. ap state_of is) unchanged) state-done told
 
     pub retrieve-machine : IsManager after_retrieve
     retrieve-machine = of r refuses unchanged full done
       where
-        of : (r : Result Done ErrorCode) → result_err r ≡ first_failure guards → OnErr r (after_retrieve ≡ x) → OnOk r (buffers ≡ buffers_with_rx x.kept.buffers e.0 true) → IfOk r IsDone → IsManager after_retrieve
-        of (Ok taken) none same fills facts = machine-retrieved taken none facts fills
+        of : (r : Result Value ErrorCode) → result_err r ≡ first_failure guards → OnErr r (after_retrieve ≡ x) → OnOk r (buffers ≡ buffers_with_rx x.kept.buffers e.0 true) → IfOk r (IsDone news) → IsManager after_retrieve
+        of (Ok value) none same fills facts = machine-retrieved news value none facts fills
         of (Err code) fails same fills facts = subst IsManager (sym same) machine
 
     pub retrieve-unowned : KeepsUnowned s x.ram ram
     retrieve-unowned = of r refuses kept_ram full done
       where
-        of : (r : Result Done ErrorCode) → result_err r ≡ first_failure guards → OnErr r (ram ≡ x.ram) → OnOk r (buffers ≡ buffers_with_rx x.kept.buffers e.0 true) → IfOk r IsDone → KeepsUnowned s x.ram ram
-        of (Ok taken) none same fills facts = unowned-retrieved taken none facts fills
+        of : (r : Result Value ErrorCode) → result_err r ≡ first_failure guards → OnErr r (ram ≡ x.ram) → OnOk r (buffers ≡ buffers_with_rx x.kept.buffers e.0 true) → IfOk r (IsDone news) → KeepsUnowned s x.ram ram
+        of (Ok value) none same fills facts = unowned-retrieved news value none facts fills
         of (Err code) fails same fills facts = unowned-same s x.ram ram same
 
-    pub retrieve-changes : IsAccessChange s (state_of after_retrieve) (option_map (λ (taken : Done). taken.changed) (result_ok r))
+    pub retrieve-changes : IsAccessChange s (state_of after_retrieve) (change_told r news)
     retrieve-changes = of r refuses unchanged full done
       where
-        of : (r : Result Done ErrorCode) → result_err r ≡ first_failure guards → OnErr r (after_retrieve ≡ x) → OnOk r (buffers ≡ buffers_with_rx x.kept.buffers e.0 true) → IfOk r IsDone
-            → IsAccessChange s (state_of after_retrieve) (option_map (λ (taken : Done). taken.changed) (result_ok r))
-        of (Ok taken) none same fills facts = access-retrieved taken none facts fills
+        of : (r : Result Value ErrorCode) → result_err r ≡ first_failure guards → OnErr r (after_retrieve ≡ x) → OnOk r (buffers ≡ buffers_with_rx x.kept.buffers e.0 true) → IfOk r (IsDone news)
+            → IsAccessChange s (state_of after_retrieve) (change_told r news)
+        of (Ok value) none same fills facts = access-retrieved news value none facts fills
         of (Err code) fails same fills facts = none-changed s (state_of after_retrieve) (λ f p. ap (λ (y : Parts). access (state_of y) f p) same)

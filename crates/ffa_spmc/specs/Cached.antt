@@ -6,7 +6,6 @@ use Rattle.ffa_model.specs.declared.leaf.Leaf.{Leaf}
 use Rattle.ffa_model.specs.declared.operation.Op.{Op}
 use Rattle.ffa_model.specs.declared.operation.Op.TheVariants.{Call, Load, Store, Fetch}
 use Rattle.ffa_model.specs.Access.{access}
-use Rattle.ffa_model.specs.Elsewhere.{as_run_by}
 use Rattle.ffa_model.specs.Memory.{page_of_address}
 use Rattle.ffa_model.specs.Ram.{Ram}
 use Rattle.ffa_model.specs.State.{State, address_of, is_known}
@@ -37,10 +36,6 @@ AreKept old new = (e p : ℕ) → access new.state e p ≡ access old.state e p 
 abbrev pub missed_page : Snapshot → ℕ → Option ℕ
 missed_page x address =
     option_and_then (λ p. if is_some (lookup x.held x.state.runner p) then None else Some p) (page_of_address x.state address)
-
--- the machine as it is where e runs
-abbrev pub run_by : ℕ → Snapshot → Snapshot
-run_by e x = record x { state = as_run_by e x.state }
 
 -- the address to which an operation has access, if it is a load, a store or a fetch
 abbrev pub address_in : Op → Option ℕ

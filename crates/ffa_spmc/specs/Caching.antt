@@ -1,10 +1,12 @@
 -- SPDX-License-Identifier: MIT OR Apache-2.0
 -- FOR PROOFS ALONE
 -- What the machine's private steps do to its cache.
-use Rattle.std.specs.Prelude.{◌≡◌, ℕ, ◌+◌, ◌-◌, ◌%◌, ◌==◌, Bool, ◌&&◌, List, Option, None, if◌then◌else◌}
+use Rattle.std.specs.Prelude.{◌≡◌, ℕ, ◌+◌, ◌-◌, ◌%◌, ◌==◌, Bool, true, ◌&&◌, List, Option, None, if◌then◌else◌}
 use Rattle.ffa_model.specs.declared.limits.TheConstants.{MOST_PAGES}
 use Rattle.ffa_model.specs.declared.leaf.Leaf.{Leaf}
+use Rattle.ffa_model.specs.declared.operation.Outcome.{Outcome}
 use Rattle.ffa_memshare.specs.declared.changed.Changed.{Changed}
+use Rattle.ffa_model.specs.Refusals.{is_refusal}
 use Rattle.ffa_model.specs.State.{State}
 use Rattle.ffa_tlb.specs.declared.translations.Entry.{Entry}
 use Rattle.ffa_tlb.specs.Lookups.{lookup}
@@ -19,9 +21,12 @@ moved_to leaf address = record leaf { phys = leaf.phys + address % 4096 }
 abbrev pub moved_back : Leaf → ℕ → Leaf
 moved_back leaf address = record leaf { phys = leaf.phys - address % 4096 }
 
--- an access to an address, with the state left out: where a leaf was held for its page nothing changes, and else at most the page is new
-pub record IsCached (old new : Snapshot) (address : ℕ) : Type 0 where
+-- The cache was given what the walk of an address answered, behind an access with this outcome: where a leaf was held for its page
+-- or the access was refused nothing changes, and else at most the page is new.
+pub record IsCached (old new : Snapshot) (address : ℕ) (told : Outcome) : Type 0 where
+  pub rest : new ≡ record old { held = new.held }
   pub hit : missed_page old address ≡ None → new.held ≡ old.held
+  pub refused : is_refusal told ≡ true → new.held ≡ old.held
   pub miss : AreSameOrGone old new (is_runners old.state address)
 
 -- nothing is held any more for e and the pages that pass a test, and each other page has what it had

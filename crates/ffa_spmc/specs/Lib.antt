@@ -24,4 +24,5 @@ pub mod Amid
 pub mod Mixtures
 pub mod Moments
 pub mod Meanwhile
+pub mod Machines
 pub mod Clustered

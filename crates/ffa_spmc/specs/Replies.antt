@@ -1,12 +1,12 @@
 -- SPDX-License-Identifier: MIT OR Apache-2.0
 -- FOR PROOFS ALONE
 -- What the runner sees of a call that a part of the machine has done or refused.
-use Rattle.std.specs.Prelude.{Result, Ok, Err}
+use Rattle.std.specs.Prelude.{Option, None, Result, Ok, Err}
 use Rattle.ffa_model.specs.declared.call.DirectMessage.{DirectMessage}
 use Rattle.ffa_model.specs.declared.call.Reply.{Reply}
 use Rattle.ffa_model.specs.declared.call.Reply.TheVariants.{Error, Passed, Retrieved}
 use Rattle.ffa_model.specs.declared.operation.ErrorCode.{ErrorCode}
-use Rattle.ffa_memshare.specs.declared.changed.Done.{Done}
+use Rattle.ffa_memshare.specs.declared.changed.Changed.{Changed}
 use Rattle.ffa_memshare.specs.declared.changed.Value.{Value}
 use Rattle.ffa_memshare.specs.declared.changed.Value.TheVariants.{Nothing, Handle, Size}
 use Rattle.ffa_model.specs.Calls.{success}
@@ -33,5 +33,10 @@ value_reply Nothing = success 0 0
 value_reply (Handle h) = handle_reply h
 value_reply (Size size) = Retrieved size
 
-abbrev pub value_or_error : Result Done ErrorCode → Reply
-value_or_error r = reply_of (λ (done : Done). value_reply done.value) r
+abbrev pub value_or_error : Result Value ErrorCode → Reply
+value_or_error r = reply_of value_reply r
+
+-- what a call on memory tells that it has changed, by the news after it: a refused one has changed nothing
+abbrev pub change_told : {X : Type 0} → Result X ErrorCode → Option Changed → Option Changed
+change_told (Ok x) news = news
+change_told (Err code) news = None

@@ -1,18 +1,20 @@
 -- SPDX-License-Identifier: MIT OR Apache-2.0
 -- FOR PROOFS ALONE
 -- What each call's part of the manager promises.
-use Rattle.std.specs.Prelude.{◌≡◌, ⊤, Bool, true, false, List, Option, None}
+use Rattle.std.specs.Prelude.{◌≡◌, ⊤, Bool, true, false, List, Option, None, Result}
 use Rattle.std.specs.Option.{option_or}
 use Rattle.ffa_model.specs.declared.call.Reply.{Reply}
 use Rattle.ffa_model.specs.Calls.{Service, replied, served}
 use Rattle.ffa_model.specs.Refusals.{is_error}
 use Rattle.ffa_tlb.specs.declared.translations.Entry.{Entry}
-use Rattle.ffa_spmc.specs.declared.answer.Answer.{Answer}
+use Rattle.ffa_model.specs.declared.operation.ErrorCode.{ErrorCode}
 use Rattle.ffa_memshare.specs.declared.changed.Changed.{Changed}
+use Rattle.ffa_memshare.specs.declared.changed.Value.{Value}
 use Rattle.ffa_spmc.specs.AccessChange.{IsAccessChange}
 use Rattle.ffa_spmc.specs.Caching.{IsForgotten}
 use Rattle.ffa_spmc.specs.Managed.{Managed}
 use Rattle.ffa_spmc.specs.Moments.{AreMoments}
+use Rattle.ffa_spmc.specs.Replies.{change_told, value_or_error}
 use Rattle.ffa_spmc.specs.Unowned.{KeepsUnowned}
 
 -- a call of the runner is replied to as the small machine does
@@ -23,11 +25,11 @@ pub record IsReplied (old new : Managed) (c : Service) (reply : Reply) : Type 0 
   pub unowned : KeepsUnowned old.state old.ram new.ram
   pub moments : AreMoments old.state old.ram new.ram old.past new.past
 
--- and what the answer to a call on memory tells that it changes of access is so
-pub record IsTold (old new : Managed) (c : Service) (answer : Answer) : Type 0 where
-  pub replied : IsReplied old new c answer.reply
-  pub access : IsAccessChange old.state new.state answer.changed
-  pub unchanged : is_error answer.reply ≡ true → answer.changed ≡ None
+-- and what the news after a call on memory tell that it changes of access is so
+pub record IsTold (old new : Managed) (c : Service) (done : Result Value ErrorCode) (news : Option Changed) : Type 0 where
+  pub replied : IsReplied old new c (value_or_error done)
+  pub access : IsAccessChange old.state new.state (change_told done news)
+  pub unchanged : is_error (value_or_error done) ≡ true → change_told done news ≡ None
 
 -- a call that isn't on memory tells nothing more
 abbrev pub IsSilent : Bool → Option Changed → Type 0

@@ -11,7 +11,7 @@ use Rattle.ffa_memshare.specs.declared.changed.Changed.{Changed}
 use Rattle.ffa_physmem.specs.Moments.{Step}
 use Rattle.ffa_tlb.specs.Codes.{coded_entries}
 use Rattle.ffa_tlb.specs.declared.translations.Entry.{Entry}
-use Rattle.ffa_spmc.specs.Managed.{coded_past, coded_ram}
+use Rattle.ffa_spmc.specs.Managed.{Managed, coded_past, coded_ram}
 
 pub record Snapshot : Type 0 where
   pub state : State
@@ -19,6 +19,10 @@ pub record Snapshot : Type 0 where
   pub held : List Entry
   pub past : Option (List Step)
   pub told : Option Changed
+
+-- what a machine keeps: its manager, the leaves in its cache, and what it tells
+abbrev pub snapshot_of : Managed → List Entry → Option Changed → Snapshot
+snapshot_of m held told = record { state = m.state; ram = m.ram; held = held; past = m.past; told = told }
 
 abbrev pub coded_snapshot : Coded Snapshot
 coded_snapshot =

@@ -4,7 +4,7 @@ ghost use Rattle.std.specs.Prelude.{◌≡◌, ◌<◌, None, true, length, map,
 ghost use Rattle.ffa_model.specs.declared.endpoint.EndpointId.{EndpointId};
 ghost use Rattle.ffa_model.specs.declared.limits.TheConstants.{MOST_PROCESSORS};
 ghost use Rattle.ffa_model.specs.Agreement.{Agrees};
-ghost use Rattle.ffa_model.specs.Processors.{ArePlaced, IsHere, first_processors, interrupt, left_status, on, turned};
+ghost use Rattle.ffa_model.specs.Processors.{ArePlaced, IsHere, first_processors, interrupt, left_status, turned};
 ghost use Rattle.ffa_model.specs.SoundState.{IsSoundState};
 ghost use Rattle.ffa_spmc.specs.Cached.{AreWalks};
 ghost use Rattle.ffa_spmc.specs.Clustered.{IsEffected, IsEffectedAlone, in_state, seen_by};
@@ -75,26 +75,6 @@ impl<M: PhysMem + Drop, T: Translations + Drop, S: Store> Cluster<M, T, S> {
         ensures { result.now ≡ self.now.machine }
     {
         &self.machine
-    }
-
-    /// The processor of the last operation.
-    pub fn processor(&self) -> usize
-        ensures number { result ≡ self.now.processors.current }
-        ensures within { result < MOST_PROCESSORS }
-    {
-        self.current
-    }
-
-    /// Who runs on a processor.
-    pub fn runner_of(&self, processor: usize) -> EndpointId
-        requires { processor < MOST_PROCESSORS }
-        ensures { result.0 ≡ (on self.now.processors processor self.now.machine.state).runner }
-    {
-        if processor == self.current {
-            self.machine.runner()
-        } else {
-            self.runners[processor]
-        }
     }
 
     /// Selects a processor: from then on the machine is as that one sees it, and operations are of whoever runs there. A partition

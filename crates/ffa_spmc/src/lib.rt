@@ -3,7 +3,6 @@
 //! several processors.
 #![tactic(auto)]
 
-mod answer;
 pub mod cluster;
 pub mod fill;
 mod kept;
@@ -22,4 +21,4 @@ pub use lists::{act_in_turn, left_among_others};
 pub use machine::Machine;
 pub use parts::Parts;
 pub use records::Records;
-pub use storage::{Given, Inline, Ready, Storage, Store};
+pub use storage::{Given, Inline, Storage, Store};

@@ -1,6 +1,6 @@
 // SPDX-License-Identifier: MIT OR Apache-2.0
 //! The machine.
-ghost use Rattle.std.specs.Prelude.{true, false, None, [], ◌≡◌, ℕ, ◌*◌, ◌<◌, ◌≤◌, length};
+ghost use Rattle.std.specs.Prelude.{None, [], ◌≡◌, ℕ, ◌*◌, ◌<◌, ◌≤◌, length};
 ghost use Rattle.ffa_model.specs.declared.limits.TheConstants.{MOST_ENDPOINTS};
 ghost use Rattle.ffa_model.specs.Access.{access};
 ghost use Rattle.ffa_model.specs.Agreement.{Agrees};
@@ -14,16 +14,12 @@ ghost use Rattle.ffa_laws.specs.Loans.{ZeroedIsForgotten};
 ghost use Rattle.ffa_laws.specs.Readable.{RunConfidential};
 ghost use Rattle.ffa_laws.specs.Replay.{Replays};
 ghost use Rattle.ffa_laws.specs.RunIntegrity.{RunIntegrity};
-ghost use Rattle.ffa_model.specs.Refusals.{is_refusal};
-ghost use Rattle.ffa_model.specs.Registers.{decode};
 ghost use Rattle.ffa_model.specs.State.{owner_of};
-ghost use Rattle.ffa_model.specs.Step.{serve, step, outcomes, state_after};
-ghost use Rattle.ffa_spmc.specs.AccessChange.{IsTelling};
-ghost use Rattle.ffa_spmc.specs.Cached.{AreSameOrGone, AreForgotten, AreKept, AreWalks, is_accessed, is_miss};
+ghost use Rattle.ffa_model.specs.Step.{outcomes, state_after};
+ghost use Rattle.ffa_spmc.specs.Cached.{AreWalks};
 ghost use Rattle.ffa_spmc.specs.Operated.{AreOperated, IsDone};
 ghost use Rattle.ffa_spmc.specs.Booted.{IsBooted, IsBootedBy, IsBootedHeld};
 ghost use Rattle.ffa_spmc.specs.Mixtures.{TablesRest};
-ghost use Rattle.ffa_spmc.specs.Moments.{AreMoments};
 ghost use Rattle.ffa_spmc.specs.Readied.{IsReadyFor};
 ghost use Rattle.ffa_spmc.specs.Storages.{IsRoomFor};
 ghost use Rattle.ffa_spmc.specs.Unowned.{KeepsUnowned};
@@ -55,7 +51,7 @@ pub struct Machine<M: PhysMem + Drop, T: Translations + Drop = NoTlb, S: Store =
 }
 
 impl<M: PhysMem + Drop, T: Translations + Drop, S: Store> Model for Machine<M, T, S> {
-    ghost use Rattle.ffa_spmc.specs.Snapshot.{Snapshot, coded_snapshot};
+    ghost use Rattle.ffa_spmc.specs.Snapshot.{Snapshot, coded_snapshot, snapshot_of};
 
     ghost Value = { Snapshot };
 
@@ -64,22 +60,12 @@ impl<M: PhysMem + Drop, T: Translations + Drop, S: Store> Model for Machine<M, T
     ghost use Rattle.ffa_spmc.specs.Cached.{AreWalks};
     ghost use Rattle.ffa_spmc.specs.Mixtures.{TablesRest};
 
-    ghost view = { λ m. record {
-      state = m.manager.state;
-      ram = m.manager.ram;
-      held = T.entries m.cache;
-      past = m.manager.past;
-      told = m.news;
-    } };
+    ghost view = { λ m. snapshot_of m.manager (T.entries m.cache) m.news };
 
     // No answer that is held is stale, and the tables are at rest.
-    ghost invariant = { λ m. AreWalks (record {
-      state = m.manager.state;
-      ram = m.manager.ram;
-      held = T.entries m.cache;
-      past = m.manager.past;
-      told = m.news;
-    }) × TablesRest m.manager.state m.manager.ram m.manager.past };
+    ghost invariant = { λ m.
+        AreWalks (snapshot_of m.manager (T.entries m.cache) m.news)
+        × TablesRest m.manager.state m.manager.ram m.manager.past };
 }
 
 impl<M: PhysMem + Drop> Machine<M> {
@@ -257,62 +243,28 @@ impl<M: PhysMem + Drop, T: Translations + Drop, S: Store> Machine<M, T, S> {
         outcome
     }
 
-    // The same, whose outcome is filled in where it stands: handed back by value it would be copied at each step of its way.
+    /// Does one operation of the runner, as `op` does, and fills in its outcome where it is stored.
     #[inline]
-    pub(crate) fn do_op(&mut self, op: &Op, outcome: &mut Outcome)
+    pub fn do_op(&mut self, op: &Op, outcome: &mut Outcome)
         ensures done { IsDone self.old op.now outcome.new self.new }
     {
-        // Proof step: the state is sound, and the tables give its access.
-        self.manager.holds();
-        self.operate(op, outcome);
-        // Proof step: so it is afterwards.
-        self.manager.holds();
-    }
-
-    // The operation itself, by its kind.
-    #[inline(always)]
-    fn operate(&mut self, op: &Op, outcome: &mut Outcome)
-        ensures outcome { outcome.new ≡ (step self.old.state op.now).outcome }
-        ensures state { self.new.state ≡ (step self.old.state op.now).state }
-        ensures refused { is_refusal outcome.new ≡ true → self.new ≡ self.old }
-        ensures unowned { KeepsUnowned self.old.state self.old.ram self.new.ram }
-        ensures moments { AreMoments self.old.state self.old.ram self.new.ram self.old.past self.new.past }
-        ensures forgotten { AreForgotten self.old self.new }
-        ensures kept { is_miss self.old op.now ≡ false → AreKept self.old self.new }
-        ensures others { AreSameOrGone self.old self.new (is_accessed self.old.state op.now) }
-        ensures telling { IsTelling op.now self.old.state self.new.state self.old.told self.new.told }
-    {
-        // Proof step: the state is sound, so that the runner is an endpoint of the machine.
-        self.manager.holds();
-        let runner = self.manager.runner();
         match op {
             Op::Call(x) => self.call(x, outcome),
-            Op::Load { addr, size } => *outcome = self.load(runner, *addr, *size),
-            Op::Store { addr, size, value } => {
-                *outcome = self.store(runner, *addr, *size, *value)
-            }
-            Op::Fetch { addr } => *outcome = self.fetch(runner, *addr),
+            Op::Load { addr, size } => self.load(*addr, *size, outcome),
+            Op::Store { addr, size, value } => self.store(*addr, *size, *value, outcome),
+            Op::Fetch { addr } => self.fetch(*addr, outcome),
         }
     }
 
     // A call of the runner, in its registers. The cache forgets whatever the call has made untrue.
     #[inline(always)]
     fn call(&mut self, x: &[u64; 8], outcome: &mut Outcome)
-        ensures outcome { outcome.new ≡ (serve self.old.state (decode x.now)).outcome }
-        ensures state { self.new.state ≡ (serve self.old.state (decode x.now)).state }
-        ensures refused { is_refusal outcome.new ≡ true → self.new ≡ self.old }
-        ensures unowned { KeepsUnowned self.old.state self.old.ram self.new.ram }
-        ensures moments { AreMoments self.old.state self.old.ram self.new.ram self.old.past self.new.past }
-        ensures forgotten { AreForgotten self.old self.new }
-        ensures kept { AreKept self.old self.new }
-        ensures others { AreSameOrGone self.old self.new (λ e p. false) }
-        ensures telling { IsTelling (Op.Call x.now) self.old.state self.new.state self.old.told self.new.told }
+        ensures { IsDone self.old (Op.Call x.now) outcome.new self.new }
     {
-        // Proof step: the state is sound, and the tables give its access.
+        // Proof step: what holds of every manager, before the call and after it.
         self.manager.holds();
         self.manager
             .call(x, &mut self.cache, &mut self.news, outcome);
-        // Proof step: so it is afterwards.
         self.manager.holds();
     }
 
@@ -351,11 +303,10 @@ impl<M: PhysMem + Drop, T: Translations + Drop, S: Store> Machine<M, T, S> {
         // the same, and so is all that an endpoint sees and reads that doesn't hold the loan.
         ensures forgotten_loans { ZeroedIsForgotten self.old.state }
     {
-        // Proof step: the state is sound, and the tables give its access.
-        self.manager.holds();
+        // Proof step: what holds of every machine, before the operations and after them.
+        self.holds();
         self.operate_all(ops, filled);
-        // Proof step: so it is afterwards.
-        self.manager.holds();
+        self.holds();
     }
 
     // The operations themselves, in turn.

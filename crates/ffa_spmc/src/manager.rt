@@ -5,23 +5,22 @@ ghost use Rattle.std.specs.Option.{option_or};
 ghost use Rattle.ffa_model.specs.declared.limits.TheConstants.{MOST_ENDPOINTS};
 ghost use Rattle.ffa_model.specs.Access.{access};
 ghost use Rattle.ffa_model.specs.Agreement.{Agrees};
-ghost use Rattle.ffa_model.specs.SoundState.{IsSoundState};
-ghost use Rattle.ffa_laws.specs.OwnAccess.{AreApart, is_memory_call};
+ghost use Rattle.ffa_laws.specs.OwnAccess.{is_memory_call};
 ghost use Rattle.ffa_model.specs.Refusals.{is_refusal, passes_no_error};
 ghost use Rattle.ffa_model.specs.Registers.{decode};
 ghost use Rattle.ffa_model.specs.Setup.{features_reply};
 ghost use Rattle.ffa_model.specs.State.{owner_of, version_of};
 ghost use Rattle.ffa_model.specs.Step.{serve, service};
 ghost use Rattle.ffa_memshare.specs.declared.changed.Changed.{Changed};
-ghost use Rattle.ffa_physmem.specs.Moments.{TurnsIn};
 ghost use Rattle.ffa_spmc.specs.Caching.{IsForgotten, most_pages};
 ghost use Rattle.ffa_spmc.specs.Booted.{IsBootedHeld};
 ghost use Rattle.ffa_spmc.specs.Readied.{IsReadyFor};
 ghost use Rattle.ffa_spmc.specs.Served.{IsAnswered};
+ghost use Rattle.ffa_spmc.specs.Machines.{IsManaged};
 ghost use Rattle.ffa_spmc.specs.Storages.{IsRoomFor};
 ghost use Rattle.ffa_spmc.specs.Mixtures.{TablesRest};
 ghost use Rattle.ffa_spmc.specs.Moments.{AreMoments};
-ghost use Rattle.ffa_spmc.specs.Unowned.{KeepsUnowned, OwnsNoTables};
+ghost use Rattle.ffa_spmc.specs.Unowned.{KeepsUnowned};
 
 mod accesses;
 mod buffers;
@@ -138,15 +137,10 @@ impl<M: PhysMem + Drop, S: Store> Manager<M, S> {
         )
     }
 
-    // What holds of every manager: the tables give the access of the state, which is sound, and in which nobody is offered
-    // what it has sent itself. And the steps of RAM's history follow one another.
+    // What holds of every manager.
     #[inline(always)]
     pub(crate) fn holds(&self)
-        ensures agrees { Agrees self.now.ram self.now.state }
-        ensures sound { IsSoundState self.now.state }
-        ensures apart { AreApart self.now.state }
-        ensures turn { TurnsIn self.now.ram self.now.past }
-        ensures tables { OwnsNoTables self.now.state }
+        ensures { IsManaged self.now }
     {
         // Proof step: the invariant of all parts is at hand where one is read.
         let _ = &self.kept;
@@ -236,12 +230,13 @@ impl<M: PhysMem + Drop, S: Store> Manager<M, S> {
         let mut call = Call::Unknown;
         ffa_abi::decode_into(x, &mut call);
         let reply = self.reply(&call, cache, news);
-        let mut answer = [0; 8];
-        ffa_abi::encode_into(&reply, &mut answer);
         *outcome = Outcome::Regs {
             runner: self.kept.chain.runner(),
-            x: answer,
+            x: [0; 8],
         };
+        if let Outcome::Regs { x: answer, .. } = outcome {
+            ffa_abi::encode_into(&reply, answer);
+        }
     }
 
     // The reply to a call of the runner. Each arm answers for itself.

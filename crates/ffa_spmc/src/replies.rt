@@ -2,8 +2,9 @@
 //! Replies to calls that a part of the machine has done or refused.
 ghost use Rattle.std.specs.Prelude.{◌≡◌};
 ghost use Rattle.ffa_model.specs.MemorySend.{handle_reply};
-ghost use Rattle.ffa_spmc.specs.Replies.{done_or_error, message_or_error, reply_or_error};
+ghost use Rattle.ffa_spmc.specs.Replies.{done_or_error, message_or_error, reply_or_error, value_reply};
 
+use ffa_memshare::Value;
 use ffa_model::{DirectMessage, ErrorCode, Handle, Reply};
 
 /// The reply to a call that answers no more than that it is done.
@@ -37,6 +38,18 @@ pub(crate) fn message_or_error(message: &DirectMessage, answer: Result<(), Error
     match answer {
         Ok(()) => Reply::Passed(*message),
         Err(code) => Reply::Error(code),
+    }
+}
+
+// The reply to a call on memory that returns a value.
+#[inline(always)]
+pub(crate) fn value_reply(value: Value) -> Reply
+    ensures { result ≡ value_reply value }
+{
+    match value {
+        Value::Nothing => DONE,
+        Value::Handle(handle) => handle_reply(handle),
+        Value::Size(size) => Reply::Retrieved(size),
     }
 }
 

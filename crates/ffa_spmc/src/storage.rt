@@ -1,7 +1,7 @@
 // SPDX-License-Identifier: MIT OR Apache-2.0
 //! Room for what a machine keeps.
-ghost use Rattle.std.specs.Prelude.{true, false, ◌≡◌, ◌*◌, ◌<◌, ◌≤◌, ◌⊎◌, None, length, replicate, IfOk, OnOk, OnErr};
-ghost use Rattle.ffa_model.specs.declared.limits.TheConstants.{MOST_ENDPOINTS, MOST_OPEN, MOST_PAGES};
+ghost use Rattle.std.specs.Prelude.{◌≡◌, ◌*◌, ◌<◌, ◌≤◌, length, IfOk, OnOk, OnErr};
+ghost use Rattle.ffa_model.specs.declared.limits.TheConstants.{MOST_PAGES};
 ghost use Rattle.ffa_spmc.specs.Storages.{IsRoomFor};
 
 use crate::records::Records;
@@ -9,7 +9,7 @@ use arrayvec::ArrayVec;
 use ffa_memshare::{MOST_SLOTS, OpenSlot, Pool, Slots};
 use ffa_model::{Here, Home, MOST_PAGES, MOST_RANGES, Manifest, Room};
 use ffa_pages::{KeptPage, PageTable};
-use std::alloc::{AllocError, Allocator};
+use std::alloc::{AllocError, Allocator, Global};
 use std::marker::PhantomData;
 use std::mem::size_of;
 
@@ -35,28 +35,14 @@ impl Store for Inline {
     type Records = Here<Records>;
 }
 
-/// In memory of an allocator, as much as the machine's RAM needs.
+/// In memory of an allocator, for as many pages as the machine's RAM needs, and for as many open transactions as there may be,
+/// whichever endpoints the machine has.
 #[derive(Drop)]
 pub struct Given<A: Allocator + Drop> {
     marker: PhantomData<A>,
 }
 
 impl<A: Allocator + Drop> Store for Given<A> {
-    type Pages = Vec<KeptPage, A>;
-
-    type Open = Vec<OpenSlot, A>;
-
-    type Records = Box<Records, A>;
-}
-
-/// In memory of an allocator, for as many pages as the machine's RAM needs, and for as many open transactions as there may be,
-/// whichever endpoints the machine has.
-#[derive(Drop)]
-pub struct Ready<A: Allocator + Drop> {
-    marker: PhantomData<A>,
-}
-
-impl<A: Allocator + Drop> Store for Ready<A> {
     type Pages = Vec<KeptPage, A>;
 
     type Open = Slots<A>;
@@ -72,7 +58,7 @@ const _: () = prove!(
 
 // A machine with given room is small, whatever its RAM has.
 const _: () = prove!(
-    size_of::<PageTable<Vec<KeptPage>>>() + size_of::<Pool<Vec<OpenSlot>>>() <= 128
+    size_of::<PageTable<Vec<KeptPage>>>() + size_of::<Pool<Slots<Global>>>() <= 128
 );
 
 /// Room for one machine.
@@ -107,40 +93,17 @@ impl Storage {
 }
 
 impl<A: Allocator + Copy + Drop> Storage<Given<A>> {
-    /// Room for a machine of so many pages of RAM and so many endpoints, in memory of an allocator.
-    pub fn allocate(
-        alloc: A,
-        pages: usize,
-        endpoints: usize,
-    ) -> Result<Storage<Given<A>>, AllocError>
-        requires pages { pages ≤ MOST_PAGES }
-        requires endpoints { endpoints ≤ MOST_ENDPOINTS }
-        ensures pages { IfOk result (λ storage. length storage.pages ≡ pages) }
-        ensures slots { IfOk result (λ storage. storage.pool.slots ≡ replicate (MOST_OPEN * endpoints) None) }
-        ensures sent { IfOk result (λ storage. storage.pool.sent ≡ replicate endpoints 0) }
-    {
-        Ok(Storage {
-            pages: PageTable::of_managers(alloc, pages)?,
-            pool: Pool::free_in(alloc, endpoints)?,
-            records: Box::new(alloc, Records::none())?,
-        })
-    }
-
     /// Room for the machine of a manifest, in memory of an allocator.
     pub fn allocate_for(alloc: A, manifest: &Manifest) -> Result<Storage<Given<A>>, AllocError>
         ensures { IfOk result (IsRoomFor manifest.now) }
     {
-        Storage::allocate(
-            alloc,
-            512 * manifest.ram_blocks as usize,
-            manifest.endpoints.len(),
-        )
+        let mut storage = Storage::ready(alloc, 512 * manifest.ram_blocks as usize)?;
+        storage.begin(manifest)?;
+        Ok(storage)
     }
-}
 
-impl<A: Allocator + Copy + Drop> Storage<Ready<A>> {
     /// Room for machines of so many pages of RAM, whichever endpoints they have, in memory of an allocator.
-    pub fn ready(alloc: A, pages: usize) -> Result<Storage<Ready<A>>, AllocError>
+    pub fn ready(alloc: A, pages: usize) -> Result<Storage<Given<A>>, AllocError>
         requires { pages ≤ MOST_PAGES }
         ensures { IfOk result (λ storage. length storage.pages ≡ pages) }
     {

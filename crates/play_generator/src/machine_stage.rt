@@ -104,7 +104,9 @@ impl<M: Readable, A: Allocator + Copy> Stage for MachineStage<M, A> {
         if !self.add(TraceEntry::Operation(op)) {
             return None;
         }
-        match self.machine.op(&op) {
+        let mut effect = Effect::Outcome(Outcome::Done);
+        self.machine.op(&op, &mut effect);
+        match effect {
             Effect::Outcome(outcome) => {
                 self.count(&op, &outcome);
                 Some(outcome)

@@ -1,8 +1,8 @@
 // SPDX-License-Identifier: MIT OR Apache-2.0
 //! The player of traces.
-ghost use Rattle.std.specs.Prelude.{◌≡◌, ◌*◌, codes, ◌==◌, true, [], ◌++◌, position, IfErr, IfOk, OnOk};
+ghost use Rattle.std.specs.Prelude.{◌≡◌, ◌*◌, codes, ◌==◌, true, [], ◌++◌, position, IfErr, IfOk, OnOk, Some, None, if◌then◌else◌};
 ghost use Rattle.std.specs.List.{flat_map};
-ghost use Rattle.play_syntax.specs.TraceLines.{feed, has_no_feed, operate};
+ghost use Rattle.play_syntax.specs.TraceLines.{call_of, feed, has_no_feed, operate, words_of};
 ghost use Rattle.ffa_model.specs.Memory.{size_of};
 ghost use Rattle.ffa_playable.specs.Bench.{after_op, effect_of, processors_of};
 ghost use Rattle.play_syntax.specs.TraceText.{effect_text, ended, hex, interrupt_text, outcome_text, resumed_text, spaced};
@@ -337,12 +337,25 @@ fn do_call<P: Playable, W: Write>(
         let holds = W.contents writer.new in
         LineDone start now held holds number (codes "call " ++ words.now) result }
 {
-    let mut x = [0; 8];
-    if line::registers(words, &mut x) {
-        operate(machine, writer, &Op::Call(x))
+    let mut op = Op::Call([0; 8]);
+    if read_call(words, &mut op) {
+        operate(machine, writer, &op)
     } else {
         Err(PlayError::BadLine(number))
     }
+}
+
+// Reads the call that words name into an operation, or returns false. Registers that are read elsewhere would be copied.
+#[inline(always)]
+fn read_call(words: &[u8], op: &mut Op) -> bool
+    ensures { (if result then Some (operate op.new) else None) ≡ call_of (words_of words.now) }
+{
+    let mut is_call = false;
+    *op = Op::Call([0; 8]);
+    if let Op::Call(x) = op {
+        is_call = line::registers(words, x);
+    }
+    is_call
 }
 
 // Does a load, alike.
@@ -445,7 +458,9 @@ fn operate_and_tell<P: Playable, W: Write>(
         let holds = W.contents writer.new in
         Answered (P.bench machine.old) (P.bench machine.new) held holds (operate op.now) result }
 {
-    match machine.op(op) {
+    let mut effect = Effect::Outcome(Outcome::Done);
+    machine.op(op, &mut effect);
+    match effect {
         Effect::Outcome(outcome) => {
             write_outcome(writer, op, &outcome)?;
             Ok(Some(outcome))
@@ -465,9 +480,11 @@ fn operate<P: Playable, W: Write>(machine: &mut P, writer: &mut W, op: &Op) -> R
         let holds = W.contents writer.new in
         Writes held holds (effect_text op.now (effect_of (P.bench machine.old) op.now)) result }
 {
-    match machine.op(op) {
-        Effect::Outcome(outcome) => write_outcome(writer, op, &outcome),
-        Effect::Resumed(partition) => write_resumed(writer, partition),
+    let mut effect = Effect::Outcome(Outcome::Done);
+    machine.op(op, &mut effect);
+    match &effect {
+        Effect::Outcome(outcome) => write_outcome(writer, op, outcome),
+        Effect::Resumed(partition) => write_resumed(writer, *partition),
     }
 }
 

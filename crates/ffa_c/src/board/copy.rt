@@ -10,7 +10,7 @@ use crate::kind::BoardMachine;
 use ffa_lent::LentRam;
 use ffa_model::Manifest;
 use ffa_physmem::{FlatRam, PhysMem};
-use ffa_spmc::{Given, Ready, Storage};
+use ffa_spmc::{Given, Storage};
 use ffa_tlb::NoTlb;
 use std::alloc::Global;
 
@@ -31,7 +31,7 @@ impl Board {
     }
 
     /// The same machine in this RAM that is lent and in this room.
-    pub fn copy_to_lent(&self, ram: LentRam, storage: Storage<Ready<Global>>) -> Board
+    pub fn copy_to_lent(&self, ram: LentRam, storage: Storage<Given<Global>>) -> Board
         requires storage { IsRoomToCopy self.now.machine storage }
         requires ram { IsRamToCopy self.now.machine (ram_of ram) }
         ensures { IsCopy true self.now result }

@@ -235,12 +235,12 @@ fn has_room(rt: &impl Abort, alloc: Global, size: usize) -> Result<bool, Fail> {
 #[test]
 fn room_comes_whole_or_not(rt: HostRuntime) -> Result<(), Fail> {
     let mut came: u64 = 0;
-    for kibibytes in 1..65 {
+    for kibibytes in 1..129 {
         if has_room(&rt, rt.alloc(), 1024 * kibibytes)? {
             came = u64::saturating_add(came, 1);
         }
     }
-    // Four bytes for each of 512 pages, 16 slots for each of three endpoints, and records: between 16 and 48 KiB.
+    // Four bytes for each of 512 pages, 128 slots of 624 bytes, and records: between 80 and 112 KiB.
     holds(&rt, 16 < came && came < 48);
     Ok(())
 }

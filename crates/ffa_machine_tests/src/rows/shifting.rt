@@ -248,7 +248,10 @@ fn write_lend(machine: &mut Cluster<Shifting>) {
         (0x58, 1),
     ];
     for (place, value) in words {
-        let _ = act(machine, &store(u64::wrapping_add(0x4002_E000, place), value));
+        let _ = act(
+            machine,
+            &store(u64::wrapping_add(0x4002_E000, place), value),
+        );
     }
 }
 
@@ -259,9 +262,21 @@ fn a_descriptor_is_read_once(rt: HostRuntime) -> Result<(), Fail> {
     write_lend(&mut machine);
     let outcome = act(&mut machine, &call(0x8400_0072, 0x60, 0x60));
     same(&rt, registers(&outcome)[0], 0x8400_0061);
-    same(&rt, word(machine.machine().ram(), TX.0, NAMED), Some(0x4002_2000));
-    alike(&rt, machine.machine().access(FIRST, PageNo(0x21)).is_some(), false);
-    alike(&rt, machine.machine().access(FIRST, PageNo(0x22)).is_some(), true);
+    same(
+        &rt,
+        word(machine.machine().ram(), TX.0, NAMED),
+        Some(0x4002_2000),
+    );
+    alike(
+        &rt,
+        machine.machine().access(FIRST, PageNo(0x21)).is_some(),
+        false,
+    );
+    alike(
+        &rt,
+        machine.machine().access(FIRST, PageNo(0x22)).is_some(),
+        true,
+    );
     Ok(())
 }
 
@@ -272,7 +287,11 @@ fn a_bad_descriptor_is_read_once(rt: HostRuntime) -> Result<(), Fail> {
     write_lend(&mut machine);
     let outcome = act(&mut machine, &call(0x8400_0072, 0x60, 0x60));
     same(&rt, registers(&outcome)[0], 0x8400_0060);
-    alike(&rt, machine.machine().access(FIRST, PageNo(0x21)).is_some(), true);
+    alike(
+        &rt,
+        machine.machine().access(FIRST, PageNo(0x21)).is_some(),
+        true,
+    );
     Ok(())
 }
 

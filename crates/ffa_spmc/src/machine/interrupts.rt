@@ -11,9 +11,9 @@ ghost use Rattle.ffa_model.specs.declared.schedule.Status.TheVariants.{Blocked};
 ghost use Rattle.ffa_model.specs.RunStates.{schedule_of, scheduled};
 ghost use Rattle.ffa_model.specs.Sound.{MayGoOn, MayStop};
 ghost use Rattle.ffa_model.specs.SoundState.{IsSoundState};
-ghost use Rattle.ffa_laws.specs.OwnAccess.{AreApart};
 ghost use Rattle.ffa_spmc.specs.Cached.{AreWalks};
 ghost use Rattle.ffa_spmc.specs.Clustered.{in_state};
+ghost use Rattle.ffa_spmc.specs.Machines.{IsMachine};
 
 use super::Machine;
 use crate::storage::Store;
@@ -62,13 +62,10 @@ impl<M: PhysMem + Drop, T: Translations + Drop, S: Store> Machine<M, T, S> {
         self.switch(Status::Blocked, partition);
     }
 
-    // What holds of every machine: the tables give the access of the state, which is sound, and no translation is stale.
+    // What holds of every machine.
     #[inline(always)]
     pub(crate) fn holds(&self)
-        ensures agrees { Agrees self.now.ram self.now.state }
-        ensures sound { IsSoundState self.now.state }
-        ensures apart { AreApart self.now.state }
-        ensures walks { AreWalks self.now }
+        ensures { IsMachine self.now }
     {
         self.manager.holds();
     }

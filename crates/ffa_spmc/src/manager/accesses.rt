@@ -1,29 +1,26 @@
 // SPDX-License-Identifier: MIT OR Apache-2.0
-//! Loads, stores and fetches, by what the walk of their address answered.
+//! The runner's loads, stores and fetches, by what the walk of their address answered.
 ghost use Rattle.std.specs.Prelude.{true, ◌≡◌};
 ghost use Rattle.std.specs.Option.{option_map};
 ghost use Rattle.ffa_model.specs.declared.endpoint.PageNo.{PageNo};
-ghost use Rattle.ffa_model.specs.Elsewhere.{step_elsewhere};
 ghost use Rattle.ffa_model.specs.Memory as memory;
 ghost use Rattle.ffa_model.specs.Refusals.{is_refusal};
-ghost use Rattle.ffa_model.specs.State.{is_known};
 ghost use Rattle.ffa_spmc.specs.Moments.{AreMoments};
 ghost use Rattle.ffa_spmc.specs.Unowned.{KeepsUnowned};
 ghost use Rattle.ffa_spmc.specs.Walks.{walk_of};
 
 use super::Manager;
 use crate::storage::Store;
-use ffa_model::{EndpointId, FaultKind, Home, Leaf, Op, Outcome, PageNo, Size};
+use ffa_model::{FaultKind, Home, Leaf, Outcome, PageNo, Size};
 use ffa_physmem::PhysMem;
 
 impl<M: PhysMem + Drop, S: Store> Manager<M, S> {
-    // What the walk of an address by an endpoint's table answers.
+    // What the walk of an address by the runner's table answers.
     #[inline(always)]
-    pub(crate) fn translate(&self, endpoint: EndpointId, addr: u64) -> Result<Leaf, FaultKind>
-        requires { is_known self.now.state endpoint.0 ≡ true }
-        ensures { result ≡ walk_of self.now.ram self.now.state endpoint.0 addr }
+    pub(crate) fn translate(&self, addr: u64) -> Result<Leaf, FaultKind>
+        ensures { result ≡ walk_of self.now.ram self.now.state self.now.state.runner addr }
     {
-        ffa_walker::translate(&self.ram, self.root_at(endpoint.place()), addr)
+        ffa_walker::translate(&self.ram, self.root_at(self.runner().place()), addr)
     }
 
     // The page of an address, counted from RAM's first: none below RAM, and none from 2^32 on.
@@ -38,18 +35,11 @@ impl<M: PhysMem + Drop, S: Store> Manager<M, S> {
         }
     }
 
-    // A load of an endpoint, where the walk of its address answered this.
+    // A load of the runner, where the walk of its address answered this.
     #[inline(always)]
-    pub(crate) fn load(
-        &self,
-        endpoint: EndpointId,
-        walked: Result<Leaf, FaultKind>,
-        addr: u64,
-        size: Size,
-    ) -> Outcome
-        requires known { is_known self.now.state endpoint.0 ≡ true }
-        requires walked { walked ≡ walk_of self.now.ram self.now.state endpoint.0 addr }
-        ensures { result ≡ (step_elsewhere self.now.state endpoint.0 (Op.Load addr size)).outcome }
+    pub(crate) fn load(&self, walked: Result<Leaf, FaultKind>, addr: u64, size: Size) -> Outcome
+        requires { walked ≡ walk_of self.now.ram self.now.state self.now.state.runner addr }
+        ensures { result ≡ (memory.load self.now.state addr size).outcome }
     {
         match ffa_walker::load_at(&self.ram, walked, addr, size) {
             Ok(value) => Outcome::Data(value),
@@ -58,15 +48,9 @@ impl<M: PhysMem + Drop, S: Store> Manager<M, S> {
     }
 
     // A fetch, alike.
-    pub(crate) fn fetch(
-        &self,
-        endpoint: EndpointId,
-        walked: Result<Leaf, FaultKind>,
-        addr: u64,
-    ) -> Outcome
-        requires known { is_known self.now.state endpoint.0 ≡ true }
-        requires walked { walked ≡ walk_of self.now.ram self.now.state endpoint.0 addr }
-        ensures { result ≡ (step_elsewhere self.now.state endpoint.0 (Op.Fetch addr)).outcome }
+    pub(crate) fn fetch(&self, walked: Result<Leaf, FaultKind>, addr: u64) -> Outcome
+        requires { walked ≡ walk_of self.now.ram self.now.state self.now.state.runner addr }
+        ensures { result ≡ (memory.fetch self.now.state addr).outcome }
     {
         match ffa_walker::fetch_at(&self.ram, walked, addr) {
             Ok(instruction) => Outcome::Data(u64::from(instruction)),
@@ -78,16 +62,14 @@ impl<M: PhysMem + Drop, S: Store> Manager<M, S> {
     #[inline(always)]
     pub(crate) fn store(
         &mut self,
-        endpoint: EndpointId,
         walked: Result<Leaf, FaultKind>,
         addr: u64,
         size: Size,
         value: u64,
     ) -> Outcome
-        requires known { is_known self.old.state endpoint.0 ≡ true }
-        requires walked { walked ≡ walk_of self.old.ram self.old.state endpoint.0 addr }
-        ensures outcome { result ≡ (step_elsewhere self.old.state endpoint.0 (Op.Store addr size value)).outcome }
-        ensures state { self.new.state ≡ (step_elsewhere self.old.state endpoint.0 (Op.Store addr size value)).state }
+        requires { walked ≡ walk_of self.old.ram self.old.state self.old.state.runner addr }
+        ensures outcome { result ≡ (memory.store self.old.state addr size value).outcome }
+        ensures state { self.new.state ≡ (memory.store self.old.state addr size value).state }
         ensures refused { is_refusal result ≡ true → self.new ≡ self.old }
         ensures unowned { KeepsUnowned self.old.state self.old.ram self.new.ram }
         ensures moments { AreMoments self.old.state self.old.ram self.new.ram self.old.past self.new.past }

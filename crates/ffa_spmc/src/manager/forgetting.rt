@@ -5,11 +5,12 @@ ghost use Rattle.ffa_memshare.specs.Ranges.{ArePlaced, IsPlaced, in_range, in_ra
 ghost use Rattle.ffa_model.specs.State.{State};
 ghost use Rattle.ffa_spmc.specs.AccessChange.{is_of};
 ghost use Rattle.ffa_spmc.specs.Caching.{AreOut, most_pages};
+ghost use Rattle.ffa_spmc.specs.Replies.{change_told, value_or_error};
 ghost use Rattle.ffa_tlb.specs.Lookups.{lookup};
 
-use crate::answer::Answer;
-use ffa_memshare::{PageRanges, first_page};
-use ffa_model::{Address, EndpointId, PageNo, Range, Reply};
+use crate::replies::value_reply;
+use ffa_memshare::{News, PageRanges, Value, first_page};
+use ffa_model::{Address, EndpointId, ErrorCode, PageNo, Range, Reply};
 use ffa_tlb::Translations;
 
 // Forgets what is held for an endpoint and the pages of a range in the RAM at an address.
@@ -38,20 +39,31 @@ fn forget_ranges<T: Translations>(
     }
 }
 
-// Forgets what is held for the endpoint and the pages to which its access changed, and gives the reply.
+// Returns the reply to a call on memory. If the call was done, the cache forgets the endpoint and the pages between which
+// the access changed, as the news say.
 #[inline(always)]
-pub(super) fn conclude<T: Translations>(cache: &mut T, base: Address, answer: &Answer) -> Reply
-    requires { IfSome answer.now.changed (λ c. ArePlaced base.0 most_pages c.ranges) }
-    ensures reply { result ≡ answer.now.reply }
-    ensures unchanged { answer.now.changed ≡ None → T.entries cache.new ≡ T.entries cache.old }
+pub(super) fn conclude<T: Translations>(
+    cache: &mut T,
+    base: Address,
+    done: Result<Value, ErrorCode>,
+    news: &News,
+) -> Reply
+    requires { IfSome (change_told done news.now) (λ c. ArePlaced base.0 most_pages c.ranges) }
+    ensures reply { result ≡ value_or_error done }
+    ensures unchanged { change_told done news.now ≡ None → T.entries cache.new ≡ T.entries cache.old }
     ensures forgotten { (s : State) → s.ram_base ≡ base.0 → (e p : ℕ)
         → let held = lookup (T.entries cache.old) e p in
-        lookup (T.entries cache.new) e p ≡ (if is_of s answer.now.changed e p then None else held) }
+        lookup (T.entries cache.new) e p ≡ (if is_of s (change_told done news.now) e p then None else held) }
 {
-    if let Some(changed) = &answer.changed
-        && let Some(endpoint) = changed.endpoint
-    {
-        forget_ranges(cache, base, endpoint, &changed.ranges);
+    match done {
+        Ok(value) => {
+            if let Some(changed) = news.last()
+                && let Some(endpoint) = changed.endpoint
+            {
+                forget_ranges(cache, base, endpoint, &changed.ranges);
+            }
+            value_reply(value)
+        }
+        Err(code) => Reply::Error(code),
     }
-    answer.reply
 }

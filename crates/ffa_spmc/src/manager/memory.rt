@@ -1,20 +1,19 @@
 // SPDX-License-Identifier: MIT OR Apache-2.0
-//! The calls on memory. Each stands alone, so that other calls have no room for it, and has the cache forget whose
-//! access to which pages it changed, and tells it. What the pool does for it is inlined here, since its answer is large
-//! to hand on.
+//! The calls on memory. Each stands alone, so that other calls have no room for it. The pool says in the news whose
+//! access to which pages changed, and the cache forgets what the news say.
 ghost use Rattle.std.specs.Prelude.{◌≡◌, true};
 ghost use Rattle.std.specs.Option.{option_or};
 ghost use Rattle.ffa_model.specs.MemoryRetrieve.{memory_retrieve};
 ghost use Rattle.ffa_model.specs.MemoryReturn.{memory_reclaim, memory_relinquish};
 ghost use Rattle.ffa_model.specs.MemorySend.{memory_send};
+ghost use Rattle.ffa_spmc.specs.Replies.{change_told};
 ghost use Rattle.ffa_spmc.specs.Served.{IsAnswered, IsTold};
 
 use super::Manager;
 use super::forgetting::conclude;
-use crate::answer::Answer;
 use crate::storage::Store;
-use ffa_memshare::{DescriptorCall, News};
-use ffa_model::{Handle, Home, Kind, Reply, Transfer};
+use ffa_memshare::{DescriptorCall, News, Value};
+use ffa_model::{ErrorCode, Handle, Home, Kind, Reply, Transfer};
 use ffa_physmem::PhysMem;
 use ffa_tlb::Translations;
 
@@ -33,15 +32,20 @@ impl<M: PhysMem + Drop, S: Store> Manager<M, S> {
             IsAnswered self.old self.new held kept news.old news.new true call result }
     {
         let base = self.ram_base();
-        let answer = self.pool_send(kind, transfer, news);
-        conclude(cache, base, &answer)
+        let done = self.pool_send(kind, transfer, news);
+        conclude(cache, base, done, news)
     }
 
-    // The same, and whose access it changed.
+    // The same, but the cache keeps what it had.
     #[inline(always)]
-    fn pool_send(&mut self, kind: Kind, transfer: Transfer, news: &mut News) -> Answer
-        ensures done { IsTold self.old self.new (memory_send self.old.state kind transfer) result }
-        ensures told { news.new ≡ option_or result.changed news.old }
+    fn pool_send(
+        &mut self,
+        kind: Kind,
+        transfer: Transfer,
+        news: &mut News,
+    ) -> Result<Value, ErrorCode>
+        ensures done { IsTold self.old self.new (memory_send self.old.state kind transfer) result news.new }
+        ensures told { news.new ≡ option_or (change_told result news.new) news.old }
     {
         let version = self.version();
         let call = DescriptorCall { transfer, version };
@@ -49,7 +53,7 @@ impl<M: PhysMem + Drop, S: Store> Manager<M, S> {
         let kept = &mut self.kept;
         let records = kept.records.get();
         let pool = &mut kept.pool;
-        Answer::of(pool.send(
+        pool.send(
             &mut self.ram,
             &records.layout,
             &mut kept.pages,
@@ -58,7 +62,7 @@ impl<M: PhysMem + Drop, S: Store> Manager<M, S> {
             kind,
             &call,
             news,
-        ))
+        )
     }
 
     // FFA_MEM_RETRIEVE_REQ of the runner.
@@ -74,15 +78,15 @@ impl<M: PhysMem + Drop, S: Store> Manager<M, S> {
             IsAnswered self.old self.new held kept news.old news.new true call result }
     {
         let base = self.ram_base();
-        let answer = self.pool_retrieve(transfer, news);
-        conclude(cache, base, &answer)
+        let done = self.pool_retrieve(transfer, news);
+        conclude(cache, base, done, news)
     }
 
-    // The same, and whose access it changed.
+    // The same, but the cache keeps what it had.
     #[inline(always)]
-    fn pool_retrieve(&mut self, transfer: Transfer, news: &mut News) -> Answer
-        ensures done { IsTold self.old self.new (memory_retrieve self.old.state transfer) result }
-        ensures told { news.new ≡ option_or result.changed news.old }
+    fn pool_retrieve(&mut self, transfer: Transfer, news: &mut News) -> Result<Value, ErrorCode>
+        ensures done { IsTold self.old self.new (memory_retrieve self.old.state transfer) result news.new }
+        ensures told { news.new ≡ option_or (change_told result news.new) news.old }
     {
         let version = self.version();
         let call = DescriptorCall { transfer, version };
@@ -90,7 +94,7 @@ impl<M: PhysMem + Drop, S: Store> Manager<M, S> {
         let kept = &mut self.kept;
         let records = kept.records.get();
         let pool = &mut kept.pool;
-        Answer::of(pool.retrieve(
+        pool.retrieve(
             &mut self.ram,
             &records.layout,
             &mut kept.pages,
@@ -98,7 +102,7 @@ impl<M: PhysMem + Drop, S: Store> Manager<M, S> {
             runner,
             &call,
             news,
-        ))
+        )
     }
 
     // FFA_MEM_RELINQUISH of the runner.
@@ -113,28 +117,28 @@ impl<M: PhysMem + Drop, S: Store> Manager<M, S> {
             IsAnswered self.old self.new held kept news.old news.new true call result }
     {
         let base = self.ram_base();
-        let answer = self.pool_relinquish(news);
-        conclude(cache, base, &answer)
+        let done = self.pool_relinquish(news);
+        conclude(cache, base, done, news)
     }
 
-    // The same, and whose access it changed.
+    // The same, but the cache keeps what it had.
     #[inline(always)]
-    fn pool_relinquish(&mut self, news: &mut News) -> Answer
-        ensures done { IsTold self.old self.new (memory_relinquish self.old.state) result }
-        ensures told { news.new ≡ option_or result.changed news.old }
+    fn pool_relinquish(&mut self, news: &mut News) -> Result<Value, ErrorCode>
+        ensures done { IsTold self.old self.new (memory_relinquish self.old.state) result news.new }
+        ensures told { news.new ≡ option_or (change_told result news.new) news.old }
     {
         let runner = self.kept.chain.runner();
         let kept = &mut self.kept;
         let records = kept.records.get();
         let pool = &mut kept.pool;
-        Answer::of(pool.relinquish(
+        pool.relinquish(
             &mut self.ram,
             &records.layout,
             &kept.pages,
             &kept.buffers,
             runner,
             news,
-        ))
+        )
     }
 
     // FFA_MEM_RECLAIM of the runner.
@@ -151,22 +155,27 @@ impl<M: PhysMem + Drop, S: Store> Manager<M, S> {
             IsAnswered self.old self.new held kept news.old news.new true call result }
     {
         let base = self.ram_base();
-        let answer = self.pool_reclaim(handle, flags, news);
-        conclude(cache, base, &answer)
+        let done = self.pool_reclaim(handle, flags, news);
+        conclude(cache, base, done, news)
     }
 
-    // The same, and whose access it changed.
+    // The same, but the cache keeps what it had.
     #[inline(always)]
-    fn pool_reclaim(&mut self, handle: Handle, flags: u32, news: &mut News) -> Answer
-        ensures done { IsTold self.old self.new (memory_reclaim self.old.state handle.0 flags) result }
-        ensures told { news.new ≡ option_or result.changed news.old }
+    fn pool_reclaim(
+        &mut self,
+        handle: Handle,
+        flags: u32,
+        news: &mut News,
+    ) -> Result<Value, ErrorCode>
+        ensures done { IsTold self.old self.new (memory_reclaim self.old.state handle.0 flags) result news.new }
+        ensures told { news.new ≡ option_or (change_told result news.new) news.old }
     {
         let runner = self.kept.chain.runner();
         let kept = &mut self.kept;
         let pages = &mut kept.pages;
         let records = kept.records.get();
         let pool = &mut kept.pool;
-        Answer::of(pool.reclaim(
+        pool.reclaim(
             &mut self.ram,
             &records.layout,
             pages,
@@ -174,6 +183,6 @@ impl<M: PhysMem + Drop, S: Store> Manager<M, S> {
             handle,
             flags,
             news,
-        ))
+        )
     }
 }

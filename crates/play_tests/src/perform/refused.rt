@@ -2,8 +2,6 @@
 //! Commands where memory is short: each allocation of RAM, of a machine's room and of the player is refused in turn, over a
 //! heap of a fixed size. What a manifest is read with is refused by the script tests/refused-memory.
 
-ghost use Rattle.std.specs.Prelude.{◌≤◌};
-
 use super::{BUILT_IN, FIRST, FIRST_TEXT, KINDS, ROW, RUN, on_kind, printed, program};
 use fixtures::{InPieces, ROW_TEXT};
 use linked_list_allocator::LocalHeap;
@@ -19,11 +17,11 @@ const PAGES: usize = 512 * 4096;
 
 const LIST: usize = 512 * 16;
 
-// What the room of a machine with 2 MiB of RAM takes: the owners of its pages, the slots of each endpoint for open
-// transactions, and its records.
+// What the room of a machine with 2 MiB of RAM takes: the owners of its pages, the slots for open transactions of all endpoints
+// that there may be, and its records.
 const OWNERS: usize = 512 * 4;
 
-const SLOTS: usize = 16 * 624;
+const SLOTS: usize = 128 * 624;
 
 const RECORDS: usize = 4160;
 
@@ -90,7 +88,7 @@ fn is_done(
     Ok(status == 0)
 }
 
-// On a machine of each kind with so many endpoints: RAM is refused, or a piece of the machine's room, or each growth of the
+// On a machine of each kind: RAM is refused, or a piece of the machine's room, or each growth of the
 // room for a line, or nothing.
 fn done_or_no_memory(
     rt: &impl Abort,
@@ -98,14 +96,11 @@ fn done_or_no_memory(
     play: PlayOptions<'_>,
     trace: &str,
     text: &[u8],
-    endpoints: usize,
-) -> Result<(), Fail>
-    requires { endpoints ≤ 8 }
-{
+) -> Result<(), Fail> {
     for (frames, tlb) in KINDS {
         let request = on_kind(play, (frames, tlb));
         let ram = if frames { PAGES + LIST } else { PAGES };
-        let records = ram + OWNERS + endpoints * SLOTS;
+        let records = ram + OWNERS + SLOTS;
         let booted = records + RECORDS;
         for room in [16, 4096, LIST, ram - 16, ram, ram + OWNERS, records, booted] {
             assert!(rt; !is_done(rt, alloc, &request, trace, text, room)?, "{room}");
@@ -120,13 +115,13 @@ fn done_or_no_memory(
 
 #[test]
 fn demonstrates_or_has_no_memory(rt: HostRuntime) -> Result<(), Fail> {
-    done_or_no_memory(&rt, rt.alloc(), BUILT_IN, FIRST, FIRST_TEXT.as_bytes(), 2)
+    done_or_no_memory(&rt, rt.alloc(), BUILT_IN, FIRST, FIRST_TEXT.as_bytes())
 }
 
 #[test]
 fn runs_or_has_no_memory(rt: HostRuntime) -> Result<(), Fail> {
     let whole = printed(rt.alloc(), LEND);
-    done_or_no_memory(&rt, rt.alloc(), ROW, LEND, &whole, 3)
+    done_or_no_memory(&rt, rt.alloc(), ROW, LEND, &whole)
 }
 
 // Each frame is refused in turn.

@@ -49,7 +49,7 @@ returns-clause-done g c =
           subst (λ (zero : Bool). IsMoved old new (array_vec_len l.regions) l.tables.0 l.blocks (place c.args.caller.0) (in_ranges l.base.0 it.ranges) (λ p. None) zero) its.zero
           (subst (λ (i : ℕ). IsMoved old new (array_vec_len l.regions) l.tables.0 l.blocks i (in_ranges l.base.0 it.ranges) (λ p. None) found.zero) c.place-index.ensures
           c.change_pages.ensures.moved);
-      access = c.tell-changed.ensures.changed;
+      access = c.tell.ensures;
     }
 
 pub returns-in_err-found-clause-steps : goal.returns-in_err-found-clause-steps

@@ -71,7 +71,7 @@ returns-clause-done g c =
           (same-handle slots found.slot its.asked.handle it (its.transaction, its.slot) c.at-open.ensures.value)
           c.hand_over-size.ensures.answered;
       value = refl;
-      access = c.tell-changed.ensures.changed;
+      access = c.tell.ensures;
     }
 
 pub returns-clause-steps : goal.returns-clause-steps

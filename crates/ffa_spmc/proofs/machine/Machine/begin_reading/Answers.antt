@@ -7,7 +7,7 @@ use Rattle.ffa_spmc.specs.Snapshot.{Snapshot}
 use Rattle.ffa_spmc.specs.Unowned.{IsNoTable}
 use Rattle.ffa_spmc.proofs.Besides.{beside-access, beside-base, beside-known, beside-placed, beside-size}
 use Rattle.ffa_spmc.proofs.HeldWalks.{walks-after}
-use Rattle.ffa_spmc.proofs.Mixtures.{mixed-alike, rest-alike}
+use Rattle.ffa_spmc.proofs.Mixtures.{mixed-alike}
 use Rattle.ffa_spmc.proofs.machine.Machine.begin_reading.Goals as goal
 
 pub begin_reading-requires-clause-within : goal.begin_reading-requires-clause-within
@@ -28,9 +28,9 @@ invariant_of-self g c =
           c.holds.ensures.agrees c.holds-2.ensures.agrees c.holds.ensures.sound c.holds-2.ensures.sound
           (beside-base s t (is_in c.args.front.pages) beside) (beside-known s t (is_in c.args.front.pages) beside) held held
           (λ e p leaf there. (there, beside-access s t (is_in c.args.front.pages) beside e p)) c.self.invariant.0,
-      rest-alike s t c.self.inside.manager.ram c.begin_reading.new.self.ram c.self.inside.manager.past c.begin_reading.new.self.past c.holds.ensures.agrees c.holds-2.ensures.agrees
+      (mixed-alike c.self.inside.manager c.begin_reading.new.self c.holds.ensures c.holds-2.ensures
           (ap (λ (u : State). length u.parties) (sym beside.same)) (beside-placed s t (is_in c.args.front.pages) beside) (beside-size s t (is_in c.args.front.pages) beside)
-          (beside-access s t (is_in c.args.front.pages) beside) c.begin_reading.ensures.moments c.self.invariant.1,
+          (beside-access s t (is_in c.args.front.pages) beside) c.begin_reading.ensures.moments c.self.invariant.1).1,
     )
 
 pub returns-clause-read : goal.returns-clause-read
@@ -45,9 +45,9 @@ returns-clause-read g c =
       ram = c.begin_reading.ensures.ram;
       step = c.begin_reading.ensures.step;
       mixtures =
-          mixed-alike s new.state c.self.inside.manager.ram new.ram c.self.inside.manager.past new.past c.holds.ensures.agrees c.holds-2.ensures.agrees
+          (mixed-alike c.self.inside.manager new c.holds.ensures c.holds-2.ensures
           (ap (λ (u : State). length u.parties) (sym beside.same)) (beside-placed s new.state (is_in c.args.front.pages) beside) (beside-size s new.state (is_in c.args.front.pages) beside)
-          (beside-access s new.state (is_in c.args.front.pages) beside) c.holds.ensures.sound c.holds.ensures.tables c.holds-2.ensures.tables c.holds-2.ensures.turn c.begin_reading.ensures.moments c.self.invariant.1;
+          (beside-access s new.state (is_in c.args.front.pages) beside) c.begin_reading.ensures.moments c.self.invariant.1).0;
       held = refl;
       told = refl;
       agrees = c.holds-2.ensures.agrees;

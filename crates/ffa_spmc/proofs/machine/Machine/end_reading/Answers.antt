@@ -6,7 +6,7 @@ use Rattle.ffa_spmc.specs.Snapshot.{Snapshot}
 use Rattle.ffa_spmc.specs.Unowned.{IsNoTable}
 use Rattle.ffa_spmc.proofs.Besides.{beside-access, beside-base, beside-known, beside-placed, beside-size}
 use Rattle.ffa_spmc.proofs.HeldWalks.{walks-after}
-use Rattle.ffa_spmc.proofs.Mixtures.{mixed-alike, rest-alike}
+use Rattle.ffa_spmc.proofs.Mixtures.{mixed-alike}
 use Rattle.ffa_spmc.proofs.machine.Machine.end_reading.Goals as goal
 
 pub end_reading-requires-clause-within : goal.end_reading-requires-clause-within
@@ -27,9 +27,9 @@ invariant_of-self g c =
           c.holds.ensures.agrees c.holds-2.ensures.agrees c.holds.ensures.sound c.holds-2.ensures.sound
           (beside-base s t (is_in c.args.run) beside) (beside-known s t (is_in c.args.run) beside) held held
           (λ e p leaf there. (there, beside-access s t (is_in c.args.run) beside e p)) c.self.invariant.0,
-      rest-alike s t c.self.inside.manager.ram c.end_reading.new.self.ram c.self.inside.manager.past c.end_reading.new.self.past c.holds.ensures.agrees c.holds-2.ensures.agrees
+      (mixed-alike c.self.inside.manager c.end_reading.new.self c.holds.ensures c.holds-2.ensures
           (ap (λ (u : State). length u.parties) (sym beside.same)) (beside-placed s t (is_in c.args.run) beside) (beside-size s t (is_in c.args.run) beside)
-          (beside-access s t (is_in c.args.run) beside) c.end_reading.ensures.moments c.self.invariant.1,
+          (beside-access s t (is_in c.args.run) beside) c.end_reading.ensures.moments c.self.invariant.1).1,
     )
 
 pub returns : goal.returns
@@ -44,9 +44,9 @@ returns g c =
       ram = c.end_reading.ensures.ram;
       step = c.end_reading.ensures.step;
       mixtures =
-          mixed-alike s new.state c.self.inside.manager.ram new.ram c.self.inside.manager.past new.past c.holds.ensures.agrees c.holds-2.ensures.agrees
+          (mixed-alike c.self.inside.manager new c.holds.ensures c.holds-2.ensures
           (ap (λ (u : State). length u.parties) (sym beside.same)) (beside-placed s new.state (is_in c.args.run) beside) (beside-size s new.state (is_in c.args.run) beside)
-          (beside-access s new.state (is_in c.args.run) beside) c.holds.ensures.sound c.holds.ensures.tables c.holds-2.ensures.tables c.holds-2.ensures.turn c.end_reading.ensures.moments c.self.invariant.1;
+          (beside-access s new.state (is_in c.args.run) beside) c.end_reading.ensures.moments c.self.invariant.1).0;
       held = refl;
       told = refl;
       agrees = c.holds-2.ensures.agrees;

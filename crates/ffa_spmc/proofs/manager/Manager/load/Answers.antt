@@ -2,28 +2,23 @@
 use Rattle.std.proofs.Common.{◌∙◌, true, sym, refl, Ok, Err}
 use Rattle.ffa_model.specs.Memory.{size_of}
 use Rattle.ffa_model.specs.Reach.{may_load}
-use Rattle.ffa_spmc.proofs.Accesses.{known-inside, loaded-seen, offset-kept}
+use Rattle.ffa_spmc.proofs.Accesses.{loaded-seen, offset-kept}
 use Rattle.ffa_spmc.proofs.Inside.{parts_of}
 use Rattle.ffa_spmc.proofs.manager.Manager.load.Goals as goal
 
 pub load_at-requires : goal.load_at-requires
 load_at-requires g c =
     let x = parts_of g.M.PhysMem.ram g.S.Records.Home.value c.self.inside in
-    record {
-      offset = offset-kept x c.self.invariant c.args.endpoint.0 (known-inside x c.args.self.now c.self.view_is c.args.endpoint.0 c.requires.known)
-          c.args.self.now c.self.view_is c.args.addr c.args.walked c.requires.walked;
-    }
+    record { offset = offset-kept x c.self.invariant c.args.self.now c.self.view_is c.args.addr c.args.walked c.requires }
 
 pub returns-in-Ok : goal.returns-in-Ok
 returns-in-Ok g c =
     let x = parts_of g.M.PhysMem.ram g.S.Records.Home.value c.self.inside in
-    loaded-seen x c.self.invariant c.args.endpoint.0 (known-inside x c.args.self.now c.self.view_is c.args.endpoint.0 c.requires.known)
-    c.args.self.now c.self.view_is c.args.addr c.args.walked c.requires.walked
+    loaded-seen x c.self.invariant c.args.self.now c.self.view_is c.args.addr c.args.walked c.requires
     (size_of c.args.size) may_load (λ right. true) (Ok c.in-Ok.value) (λ right. refl) (sym c.in-Ok.is ∙ c.load_at.ensures.loaded)
 
 pub returns-in-Err : goal.returns-in-Err
 returns-in-Err g c =
     let x = parts_of g.M.PhysMem.ram g.S.Records.Home.value c.self.inside in
-    loaded-seen x c.self.invariant c.args.endpoint.0 (known-inside x c.args.self.now c.self.view_is c.args.endpoint.0 c.requires.known)
-    c.args.self.now c.self.view_is c.args.addr c.args.walked c.requires.walked
+    loaded-seen x c.self.invariant c.args.self.now c.self.view_is c.args.addr c.args.walked c.requires
     (size_of c.args.size) may_load (λ right. true) (Err c.in-Err.fault) (λ right. refl) (sym c.in-Err.is ∙ c.load_at.ensures.loaded)

@@ -1,13 +1,9 @@
 -- SPDX-License-Identifier: MIT OR Apache-2.0
-use Rattle.std.proofs.Common.{◌∙◌, ap, sym}
-use Rattle.std.specs.Option.{option_map}
-use Rattle.std.specs.Result.{result_ok}
-use Rattle.ffa_model.specs.declared.call.Reply.{Reply}
-use Rattle.ffa_model.specs.Calls.{replied}
+use Rattle.std.proofs.Common.{sym}
 use Rattle.ffa_model.specs.MemoryReturn.{memory_reclaim}
-use Rattle.ffa_memshare.specs.declared.changed.Done.{Done}
-use Rattle.ffa_spmc.specs.Meaning.{Parts, state_of}
-use Rattle.ffa_spmc.proofs.Replied.{told-with, kept-memory, refused-value}
+use Rattle.ffa_spmc.specs.Meaning.{Parts}
+use Rattle.ffa_spmc.proofs.Answered.{done-so}
+use Rattle.ffa_spmc.proofs.Replied.{told-of, told-with, kept-memory}
 use Rattle.ffa_model.specs.State.{State}
 use Rattle.ffa_spmc.proofs.Inside.{machine-alike, parts_of, told-alike, view-alike, with_records}
 use Rattle.ffa_spmc.proofs.Moments.{moments-of}
@@ -30,7 +26,7 @@ invariant_of-self g c =
     let y : Parts = record x { ram = g.M.PhysMem.ram c.reclaim.new.ram; kept = record x.kept { pages = c.reclaim.new.pages; pool = c.reclaim.new.self } } in
     machine-alike y c.get-records.ensures
     (reclaim-machine x machine c.runner-runner.result.0 c.runner-runner.ensures.runner c.args.handle.0 c.args.flags
-    (g.M.PhysMem.ram c.reclaim.new.ram) c.reclaim.new.pages c.reclaim.new.self c.reclaim.result c.reclaim.ensures.refusal
+    (g.M.PhysMem.ram c.reclaim.new.ram) c.reclaim.new.pages c.reclaim.new.self c.reclaim.result c.reclaim.new.news c.reclaim.ensures.refusal
     c.reclaim.ensures.kept c.reclaim.ensures.kept_pages c.reclaim.ensures.kept_ram c.reclaim.ensures.nothing
     c.reclaim.ensures.slot c.reclaim.ensures.open_transactions c.reclaim.ensures.ram c.reclaim.ensures.pages c.reclaim.ensures.changed)
 
@@ -42,25 +38,26 @@ returns-clause-done g c =
     let view = view-alike old (sym c.get-records.ensures) c.self.view_is in
     let y : Parts = record x { ram = g.M.PhysMem.ram c.reclaim.new.ram; kept = record x.kept { pages = c.reclaim.new.pages; pool = c.reclaim.new.self } } in
     told-alike y c.get-records.ensures
-    (told-with x y c.args.self.now view (λ (s : State). memory_reclaim s c.args.handle.0 c.args.flags) c.of.result (option_map (λ (done : Done). done.changed) (result_ok c.reclaim.result))
+    (told-with x y c.args.self.now view (λ (s : State). memory_reclaim s c.args.handle.0 c.args.flags) c.reclaim.result c.reclaim.new.news
     (g.M.PhysMem.past c.reclaim.new.ram)
-    (ap (λ (reply : Reply). replied (state_of y) reply) c.of.ensures.reply
-    ∙ reclaim-served x machine c.runner-runner.result.0 c.runner-runner.ensures.runner c.args.handle.0 c.args.flags
-    (g.M.PhysMem.ram c.reclaim.new.ram) c.reclaim.new.pages c.reclaim.new.self c.reclaim.result c.reclaim.ensures.refusal
+    (reclaim-served x machine c.runner-runner.result.0 c.runner-runner.ensures.runner c.args.handle.0 c.args.flags
+    (g.M.PhysMem.ram c.reclaim.new.ram) c.reclaim.new.pages c.reclaim.new.self c.reclaim.result c.reclaim.new.news c.reclaim.ensures.refusal
     c.reclaim.ensures.kept c.reclaim.ensures.kept_pages c.reclaim.ensures.kept_ram c.reclaim.ensures.nothing
     c.reclaim.ensures.slot c.reclaim.ensures.open_transactions c.reclaim.ensures.ram c.reclaim.ensures.pages c.reclaim.ensures.changed)
-    (refused-value c.reclaim.result c.of.result.reply c.of.ensures.reply
     (kept-memory x c.reclaim.result (g.M.PhysMem.ram c.reclaim.new.ram) c.reclaim.new.pages c.reclaim.new.self
-    c.reclaim.ensures.kept_ram c.reclaim.ensures.kept_pages c.reclaim.ensures.kept))
-    (refused-value c.reclaim.result c.of.result.reply c.of.ensures.reply c.reclaim.ensures.kept_past)
+    c.reclaim.ensures.kept_ram c.reclaim.ensures.kept_pages c.reclaim.ensures.kept)
+    c.reclaim.ensures.kept_past
     (reclaim-unowned x machine c.runner-runner.result.0 c.runner-runner.ensures.runner c.args.handle.0 c.args.flags
-    (g.M.PhysMem.ram c.reclaim.new.ram) c.reclaim.new.pages c.reclaim.new.self c.reclaim.result c.reclaim.ensures.refusal
+    (g.M.PhysMem.ram c.reclaim.new.ram) c.reclaim.new.pages c.reclaim.new.self c.reclaim.result c.reclaim.new.news c.reclaim.ensures.refusal
     c.reclaim.ensures.kept c.reclaim.ensures.kept_pages c.reclaim.ensures.kept_ram c.reclaim.ensures.nothing
     c.reclaim.ensures.slot c.reclaim.ensures.open_transactions c.reclaim.ensures.ram c.reclaim.ensures.pages c.reclaim.ensures.changed)
     (moments-of x machine (g.M.PhysMem.ram c.reclaim.new.ram) _ _ (g.met.M.PhysMem.in_turn c.reclaim.new.ram) c.reclaim.ensures.steps c.reclaim.ensures.ended)
-    c.of.ensures.changed
     (reclaim-changes x machine c.runner-runner.result.0 c.runner-runner.ensures.runner c.args.handle.0 c.args.flags
-    (g.M.PhysMem.ram c.reclaim.new.ram) c.reclaim.new.pages c.reclaim.new.self c.reclaim.result c.reclaim.ensures.refusal
+    (g.M.PhysMem.ram c.reclaim.new.ram) c.reclaim.new.pages c.reclaim.new.self c.reclaim.result c.reclaim.new.news c.reclaim.ensures.refusal
     c.reclaim.ensures.kept c.reclaim.ensures.kept_pages c.reclaim.ensures.kept_ram c.reclaim.ensures.nothing
-    c.reclaim.ensures.slot c.reclaim.ensures.open_transactions c.reclaim.ensures.ram c.reclaim.ensures.pages c.reclaim.ensures.changed)
-    c.of.ensures.unchanged)
+    c.reclaim.ensures.slot c.reclaim.ensures.open_transactions c.reclaim.ensures.ram c.reclaim.ensures.pages c.reclaim.ensures.changed))
+
+pub returns-clause-told : goal.returns-clause-told
+returns-clause-told g c =
+    told-of c.reclaim.result c.args.news.now c.reclaim.new.news c.reclaim.ensures.kept_news
+    (done-so c.reclaim.result (λ none is. (_, is)) c.reclaim.ensures.changed)

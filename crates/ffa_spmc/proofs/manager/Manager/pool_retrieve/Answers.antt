@@ -1,18 +1,13 @@
 -- SPDX-License-Identifier: MIT OR Apache-2.0
-use Rattle.std.proofs.Common.{◌∙◌, Option, sym, ap}
-use Rattle.std.specs.Option.{option_map, option_or}
-use Rattle.std.specs.Result.{result_ok}
+use Rattle.std.proofs.Common.{◌∙◌, sym, ap}
 use Rattle.ffa_model.specs.State.{version_of}
-use Rattle.ffa_model.specs.declared.call.Reply.{Reply}
-use Rattle.ffa_model.specs.Calls.{replied}
 use Rattle.ffa_model.specs.MemoryRetrieve.{memory_retrieve}
-use Rattle.ffa_memshare.specs.declared.changed.Changed.{Changed}
-use Rattle.ffa_memshare.specs.declared.changed.Done.{Done}
-use Rattle.ffa_spmc.specs.Meaning.{Parts, state_of}
+use Rattle.ffa_spmc.specs.Meaning.{Parts}
 use Rattle.ffa_spmc.specs.Managed.{Managed}
+use Rattle.ffa_spmc.proofs.Answered.{done-with}
 use Rattle.ffa_spmc.proofs.Fills.{caller-is, runner-there}
 use Rattle.ffa_spmc.proofs.Moments.{moments-of, rx-apart}
-use Rattle.ffa_spmc.proofs.Replied.{told-of, told-with, kept-buffers, refused-value}
+use Rattle.ffa_spmc.proofs.Replied.{told-of, told-with, kept-buffers}
 use Rattle.ffa_model.specs.State.{State}
 use Rattle.ffa_memshare.specs.declared.descriptor_call.DescriptorCall.{DescriptorCall}
 use Rattle.ffa_spmc.proofs.Inside.{machine-alike, parts_of, told-alike, view-alike, with_records}
@@ -45,7 +40,7 @@ invariant_of-self g c =
     machine-alike y c.get-records.ensures
     (retrieve-machine x machine c.runner-runner.result c.runner-runner.ensures.runner its (c.version-version.ensures ∙ sym (ap (λ (seen : Managed). version_of seen.state seen.state.runner) view))
     (g.M.PhysMem.ram c.retrieve.new.ram) c.retrieve.new.pages c.retrieve.new.self c.retrieve.new.buffers
-    c.retrieve.result c.retrieve.ensures.refusal c.retrieve.ensures.kept c.retrieve.ensures.kept_pages c.retrieve.ensures.kept_buffers c.retrieve.ensures.kept_ram
+    c.retrieve.result c.retrieve.new.news c.retrieve.ensures.refusal c.retrieve.ensures.kept c.retrieve.ensures.kept_pages c.retrieve.ensures.kept_buffers c.retrieve.ensures.kept_ram
     c.retrieve.ensures.full c.retrieve.ensures.done)
 
 pub returns-clause-done : goal.returns-clause-done
@@ -58,31 +53,27 @@ returns-clause-done g c =
     let apart = rx-apart x machine c.runner-runner.result.0 (runner-there x machine c.runner-runner.result.0 c.runner-runner.ensures.runner) in
     let y : Parts = record x { ram = g.M.PhysMem.ram c.retrieve.new.ram; kept = record x.kept { pages = c.retrieve.new.pages; pool = c.retrieve.new.self; buffers = c.retrieve.new.buffers } } in
     told-alike y c.get-records.ensures
-    (told-with x y c.args.self.now view (λ (s : State). memory_retrieve s c.args.transfer) c.of.result (option_map (λ (done : Done). done.changed) (result_ok c.retrieve.result))
+    (told-with x y c.args.self.now view (λ (s : State). memory_retrieve s c.args.transfer) c.retrieve.result c.retrieve.new.news
     (g.M.PhysMem.past c.retrieve.new.ram)
-    (ap (λ (reply : Reply). replied (state_of y) reply) c.of.ensures.reply
-    ∙ retrieve-served x machine c.runner-runner.result c.runner-runner.ensures.runner its (c.version-version.ensures ∙ sym (ap (λ (seen : Managed). version_of seen.state seen.state.runner) view))
+    (retrieve-served x machine c.runner-runner.result c.runner-runner.ensures.runner its (c.version-version.ensures ∙ sym (ap (λ (seen : Managed). version_of seen.state seen.state.runner) view))
     (g.M.PhysMem.ram c.retrieve.new.ram) c.retrieve.new.pages c.retrieve.new.self c.retrieve.new.buffers
-    c.retrieve.result c.retrieve.ensures.refusal c.retrieve.ensures.kept c.retrieve.ensures.kept_pages c.retrieve.ensures.kept_buffers c.retrieve.ensures.kept_ram
+    c.retrieve.result c.retrieve.new.news c.retrieve.ensures.refusal c.retrieve.ensures.kept c.retrieve.ensures.kept_pages c.retrieve.ensures.kept_buffers c.retrieve.ensures.kept_ram
     c.retrieve.ensures.full c.retrieve.ensures.done)
-    (refused-value c.retrieve.result c.of.result.reply c.of.ensures.reply
     (kept-buffers x c.retrieve.result (g.M.PhysMem.ram c.retrieve.new.ram) c.retrieve.new.pages c.retrieve.new.self c.retrieve.new.buffers
-    c.retrieve.ensures.kept_ram c.retrieve.ensures.kept_pages c.retrieve.ensures.kept c.retrieve.ensures.kept_buffers))
-    (refused-value c.retrieve.result c.of.result.reply c.of.ensures.reply c.retrieve.ensures.kept_past)
+    c.retrieve.ensures.kept_ram c.retrieve.ensures.kept_pages c.retrieve.ensures.kept c.retrieve.ensures.kept_buffers)
+    c.retrieve.ensures.kept_past
     (retrieve-unowned x machine c.runner-runner.result c.runner-runner.ensures.runner its (c.version-version.ensures ∙ sym (ap (λ (seen : Managed). version_of seen.state seen.state.runner) view))
     (g.M.PhysMem.ram c.retrieve.new.ram) c.retrieve.new.pages c.retrieve.new.self c.retrieve.new.buffers
-    c.retrieve.result c.retrieve.ensures.refusal c.retrieve.ensures.kept c.retrieve.ensures.kept_pages c.retrieve.ensures.kept_buffers c.retrieve.ensures.kept_ram
+    c.retrieve.result c.retrieve.new.news c.retrieve.ensures.refusal c.retrieve.ensures.kept c.retrieve.ensures.kept_pages c.retrieve.ensures.kept_buffers c.retrieve.ensures.kept_ram
     c.retrieve.ensures.full c.retrieve.ensures.done)
     (moments-of x machine (g.M.PhysMem.ram c.retrieve.new.ram) _ _ (g.met.M.PhysMem.in_turn c.retrieve.new.ram)
     (c.retrieve.ensures.steps apart) (c.retrieve.ensures.ended apart))
-    c.of.ensures.changed
     (retrieve-changes x machine c.runner-runner.result c.runner-runner.ensures.runner its (c.version-version.ensures ∙ sym (ap (λ (seen : Managed). version_of seen.state seen.state.runner) view))
     (g.M.PhysMem.ram c.retrieve.new.ram) c.retrieve.new.pages c.retrieve.new.self c.retrieve.new.buffers
-    c.retrieve.result c.retrieve.ensures.refusal c.retrieve.ensures.kept c.retrieve.ensures.kept_pages c.retrieve.ensures.kept_buffers c.retrieve.ensures.kept_ram
-    c.retrieve.ensures.full c.retrieve.ensures.done)
-    c.of.ensures.unchanged)
+    c.retrieve.result c.retrieve.new.news c.retrieve.ensures.refusal c.retrieve.ensures.kept c.retrieve.ensures.kept_pages c.retrieve.ensures.kept_buffers c.retrieve.ensures.kept_ram
+    c.retrieve.ensures.full c.retrieve.ensures.done))
 
 pub returns-clause-told : goal.returns-clause-told
 returns-clause-told g c =
-    told-of c.retrieve.result (λ (done : Done). done.changed) c.args.news.now c.retrieve.new.news c.retrieve.ensures.kept_news c.retrieve.ensures.told
-    ∙ ap (λ (o : Option Changed). option_or o c.args.news.now) (sym c.of.ensures.changed)
+    told-of c.retrieve.result c.args.news.now c.retrieve.new.news c.retrieve.ensures.kept_news
+    (done-with c.retrieve.result _ (λ value none its. (_, its.access)) c.retrieve.ensures.done)

@@ -1,16 +1,12 @@
 -- SPDX-License-Identifier: MIT OR Apache-2.0
 use Rattle.std.proofs.Common.{◌∙◌, sym, ap}
-use Rattle.std.specs.Option.{option_map}
-use Rattle.std.specs.Result.{result_ok}
 use Rattle.ffa_model.specs.State.{version_of}
-use Rattle.ffa_model.specs.declared.call.Reply.{Reply}
-use Rattle.ffa_model.specs.Calls.{replied}
 use Rattle.ffa_model.specs.MemorySend.{memory_send}
-use Rattle.ffa_memshare.specs.declared.changed.Done.{Done}
-use Rattle.ffa_spmc.specs.Meaning.{Parts, state_of}
+use Rattle.ffa_spmc.specs.Meaning.{Parts}
 use Rattle.ffa_spmc.specs.Managed.{Managed}
+use Rattle.ffa_spmc.proofs.Answered.{done-so}
 use Rattle.ffa_spmc.proofs.Fills.{caller-is}
-use Rattle.ffa_spmc.proofs.Replied.{told-with, kept-memory, refused-value}
+use Rattle.ffa_spmc.proofs.Replied.{told-of, told-with, kept-memory}
 use Rattle.ffa_model.specs.State.{State}
 use Rattle.ffa_spmc.proofs.Inside.{machine-alike, parts_of, told-alike, view-alike, with_records}
 use Rattle.ffa_spmc.proofs.Moments.{moments-of}
@@ -41,7 +37,7 @@ invariant_of-self g c =
     machine-alike y c.get-records.ensures
     (offer-machine x machine c.runner-runner.result.0 c.runner-runner.ensures.runner c.args.kind (record { transfer = c.args.transfer; version = c.version-version.result }) (c.version-version.ensures ∙ sym (ap (λ (seen : Managed). version_of seen.state seen.state.runner) view))
     (g.M.PhysMem.ram c.send.new.ram) c.send.new.pages c.send.new.self
-    c.send.result c.send.ensures.refusal c.send.ensures.kept c.send.ensures.kept_pages c.send.ensures.kept_ram c.send.ensures.handle c.send.ensures.sent)
+    c.send.result c.send.new.news c.send.ensures.refusal c.send.ensures.kept c.send.ensures.kept_pages c.send.ensures.kept_ram c.send.ensures.handle c.send.ensures.sent)
 
 pub returns-clause-done : goal.returns-clause-done
 returns-clause-done g c =
@@ -51,22 +47,23 @@ returns-clause-done g c =
     let view = view-alike old (sym c.get-records.ensures) c.self.view_is in
     let y : Parts = record x { ram = g.M.PhysMem.ram c.send.new.ram; kept = record x.kept { pages = c.send.new.pages; pool = c.send.new.self } } in
     told-alike y c.get-records.ensures
-    (told-with x y c.args.self.now view (λ (s : State). memory_send s c.args.kind c.args.transfer) c.of.result (option_map (λ (done : Done). done.changed) (result_ok c.send.result))
+    (told-with x y c.args.self.now view (λ (s : State). memory_send s c.args.kind c.args.transfer) c.send.result c.send.new.news
     (g.M.PhysMem.past c.send.new.ram)
-    (ap (λ (reply : Reply). replied (state_of y) reply) c.of.ensures.reply
-    ∙ offer-served x machine c.runner-runner.result.0 c.runner-runner.ensures.runner c.args.kind (record { transfer = c.args.transfer; version = c.version-version.result }) (c.version-version.ensures ∙ sym (ap (λ (seen : Managed). version_of seen.state seen.state.runner) view))
+    (offer-served x machine c.runner-runner.result.0 c.runner-runner.ensures.runner c.args.kind (record { transfer = c.args.transfer; version = c.version-version.result }) (c.version-version.ensures ∙ sym (ap (λ (seen : Managed). version_of seen.state seen.state.runner) view))
     (g.M.PhysMem.ram c.send.new.ram) c.send.new.pages c.send.new.self
-    c.send.result c.send.ensures.refusal c.send.ensures.kept c.send.ensures.kept_pages c.send.ensures.kept_ram c.send.ensures.handle c.send.ensures.sent)
-    (refused-value c.send.result c.of.result.reply c.of.ensures.reply
+    c.send.result c.send.new.news c.send.ensures.refusal c.send.ensures.kept c.send.ensures.kept_pages c.send.ensures.kept_ram c.send.ensures.handle c.send.ensures.sent)
     (kept-memory x c.send.result (g.M.PhysMem.ram c.send.new.ram) c.send.new.pages c.send.new.self
-    c.send.ensures.kept_ram c.send.ensures.kept_pages c.send.ensures.kept))
-    (refused-value c.send.result c.of.result.reply c.of.ensures.reply c.send.ensures.kept_past)
+    c.send.ensures.kept_ram c.send.ensures.kept_pages c.send.ensures.kept)
+    c.send.ensures.kept_past
     (offer-unowned x machine c.runner-runner.result.0 c.runner-runner.ensures.runner c.args.kind (record { transfer = c.args.transfer; version = c.version-version.result }) (c.version-version.ensures ∙ sym (ap (λ (seen : Managed). version_of seen.state seen.state.runner) view))
     (g.M.PhysMem.ram c.send.new.ram) c.send.new.pages c.send.new.self
-    c.send.result c.send.ensures.refusal c.send.ensures.kept c.send.ensures.kept_pages c.send.ensures.kept_ram c.send.ensures.handle c.send.ensures.sent)
+    c.send.result c.send.new.news c.send.ensures.refusal c.send.ensures.kept c.send.ensures.kept_pages c.send.ensures.kept_ram c.send.ensures.handle c.send.ensures.sent)
     (moments-of x machine (g.M.PhysMem.ram c.send.new.ram) _ _ (g.met.M.PhysMem.in_turn c.send.new.ram) c.send.ensures.steps c.send.ensures.ended)
-    c.of.ensures.changed
     (offer-changes x machine c.runner-runner.result.0 c.runner-runner.ensures.runner c.args.kind (record { transfer = c.args.transfer; version = c.version-version.result }) (c.version-version.ensures ∙ sym (ap (λ (seen : Managed). version_of seen.state seen.state.runner) view))
     (g.M.PhysMem.ram c.send.new.ram) c.send.new.pages c.send.new.self
-    c.send.result c.send.ensures.refusal c.send.ensures.kept c.send.ensures.kept_pages c.send.ensures.kept_ram c.send.ensures.handle c.send.ensures.sent)
-    c.of.ensures.unchanged)
+    c.send.result c.send.new.news c.send.ensures.refusal c.send.ensures.kept c.send.ensures.kept_pages c.send.ensures.kept_ram c.send.ensures.handle c.send.ensures.sent))
+
+pub returns-clause-told : goal.returns-clause-told
+returns-clause-told g c =
+    told-of c.send.result c.args.news.now c.send.new.news c.send.ensures.kept_news
+    (done-so c.send.result (λ none its. (_, its.access)) c.send.ensures.sent)

@@ -1,8 +1,6 @@
 -- SPDX-License-Identifier: MIT OR Apache-2.0
-use Rattle.std.proofs.Common.{◌≡◌, ◌≢◌, ◌∙◌, ℕ, ◌<◌, [], List, cond, false, length, refl, subst, sym, true, ap, arith, inl, inr}
-use Rattle.std.specs.Prelude.{◌==◌}
+use Rattle.std.proofs.Common.{◌≡◌, ◌≢◌, ◌∙◌, ℕ, ◌<◌, [], List, cond, false, length, refl, subst, sym, true, ap, arith, inl, inr, ◌==◌, get_or-set_other, get_or-set_same, length-set}
 use Rattle.std.proofs.lemmas.Bool.{cases_eq, false≢true, ne_eqb}
-use Rattle.std.proofs.lemmas.List.{get_or-set_other, get_or-set_same, length-set}
 use Rattle.ffa_model.proofs.Runs.{in-run}
 use Rattle.ffa_model.specs.Lists.{is_in_run}
 use Rattle.ffa_model.specs.Ram.{Ram, page_of, with_page, with_word}
