@@ -244,8 +244,9 @@ enum gorseplumb_answer gorseplumb_boot(struct gorseplumb_machine *machine, const
 
 /* The same of a manifest as numbers, for which no memory is needed but the machine's own and its RAM. Refused first, in
  * this order: more endpoints than places; then for each endpoint an unknown version, more regions than places, unknown
- * rights; then `has_security_states` that is neither 0 nor 1 (GORSEPLUMB_MANIFEST_WRONG_KIND). After that come the causes of a text, in the order in which it would be read,
- * with GORSEPLUMB_MANIFEST_TABLES_OUTSIDE behind the count of endpoints. */
+ * rights; then `has_security_states` that is neither 0 nor 1 (GORSEPLUMB_MANIFEST_WRONG_KIND). After that come the
+ * causes of a text, in the order in which it would be read, with GORSEPLUMB_MANIFEST_TABLES_OUTSIDE behind the count of
+ * endpoints. */
 enum gorseplumb_answer gorseplumb_boot_manifest(struct gorseplumb_machine *machine,
                                                 const struct gorseplumb_manifest *manifest);
 
@@ -271,11 +272,11 @@ enum gorseplumb_answer gorseplumb_boot_preloaded_manifest(struct gorseplumb_mach
 
 /* Makes the same machine as `original` once more, with RAM from the heap, whichever RAM that one has: for a test that
  * tries several operations from one state, or a checkpoint. GORSEPLUMB_OK: there was none, and now each operation gives
- * what it gives in `original`, since all is the same: the state, every byte of RAM, who runs on each processor and which one is selected, what is to
- * be told of access that changed and what the normal world has been told of. From then on neither changes the other. Else
- * nothing has changed, the first that applies: GORSEPLUMB_OCCUPIED; GORSEPLUMB_NO_MACHINE, where there is none to copy; or
- * GORSEPLUMB_NO_MEMORY. To `original` it is a question. Where its RAM is lent, nobody may write there meanwhile: what
- * would be copied of such bytes is not said. */
+ * what it gives in `original`, since all is the same: the state, every byte of RAM, who runs on each processor and
+ * which one is selected, what is to be told of access that changed and what the normal world has been told of. From
+ * then on neither changes the other. Else nothing has changed, the first that applies: GORSEPLUMB_OCCUPIED;
+ * GORSEPLUMB_NO_MACHINE, where there is none to copy; or GORSEPLUMB_NO_MEMORY. To `original` it is a question. Where
+ * its RAM is lent, nobody may write there meanwhile: what would be copied of such bytes is not said. */
 enum gorseplumb_answer gorseplumb_copy(struct gorseplumb_machine *machine, const struct gorseplumb_machine *original);
 
 /* The same in RAM that is lent: the pages of the list, in order, of which it writes every byte, and which is empty then. It
@@ -289,9 +290,10 @@ enum gorseplumb_answer gorseplumb_copy_lent(struct gorseplumb_machine *machine, 
                                             const struct gorseplumb_machine *original);
 
 /* Reads a manifest's text of `size` bytes into numbers, which a boot would go by, so that RAM can be lent that has the
- * size which the text describes. GORSEPLUMB_OK: `manifest` gives what the text describes, `has_security_states` and `tables` are 0, and what stands
- * behind the endpoints and regions that it counts is zeros. Else `manifest` stays: GORSEPLUMB_NO_MEMORY, since reading takes
- * memory, all of which it gives back, or the cause for which gorseplumb_boot would refuse the text. */
+ * size which the text describes. GORSEPLUMB_OK: `manifest` gives what the text describes, `has_security_states` and
+ * `tables` are 0, and what stands behind the endpoints and regions that it counts is zeros. Else `manifest` stays:
+ * GORSEPLUMB_NO_MEMORY, since reading takes memory, all of which it gives back, or the cause for which gorseplumb_boot
+ * would refuse the text. */
 enum gorseplumb_answer gorseplumb_read_manifest(const uint8_t *text, size_t size, struct gorseplumb_manifest *manifest);
 
 /* Why a manifest is refused, and where. No byte lies between the fields. */
@@ -315,13 +317,13 @@ enum gorseplumb_answer gorseplumb_why_text(const uint8_t *text, size_t size, str
  * `refusal` stays. */
 enum gorseplumb_answer gorseplumb_why_manifest(const struct gorseplumb_manifest *manifest, struct gorseplumb_refusal *refusal);
 
-/* One operation of the endpoint that runs on the selected processor: a call with eight registers, a load of 1, 2, 4 or 8
- * bytes, a store of the value's lowest bytes, as many as `size` says, and a fetch of one instruction. The outcome and the
- * machine's next state are those of the definition of the machine, and with them goes every promise that the machine's
- * own operations make, but what these say of a cache and `reads_no_more` (docs/THEOREMS.md). FFA_RUN of a partition that an
- * interrupt had stopped lets it go on, and answers GORSEPLUMB_KIND_RESUMED. A load and a store of another size answer
- * GORSEPLUMB_KIND_BAD_SIZE, with a machine or without one; every other operation answers GORSEPLUMB_KIND_NO_MACHINE
- * where there is none. With either nothing was done. */
+/* One operation of the endpoint that runs on the selected processor: a call with eight registers, a load of 1, 2, 4 or
+ * 8 bytes, a store of the value's lowest bytes, as many as `size` says, and a fetch of one instruction. The outcome and
+ * the machine's next state are those of the definition of the machine, and with them goes every promise that the
+ * machine's own operations make (docs/THEOREMS.md). FFA_RUN of a partition that an interrupt had stopped lets it go on,
+ * and answers GORSEPLUMB_KIND_RESUMED. A load and a store of another size answer GORSEPLUMB_KIND_BAD_SIZE, with a
+ * machine or without one; every other operation answers GORSEPLUMB_KIND_NO_MACHINE where there is none. With either
+ * nothing was done. */
 struct gorseplumb_outcome gorseplumb_call(struct gorseplumb_machine *machine, const struct gorseplumb_registers *registers);
 struct gorseplumb_outcome gorseplumb_load(struct gorseplumb_machine *machine, uint64_t address, uint32_t size);
 struct gorseplumb_outcome gorseplumb_store(struct gorseplumb_machine *machine, uint64_t address, uint32_t size, uint64_t value);
@@ -343,10 +345,10 @@ struct gorseplumb_operation {
     uint64_t x[8];    /* of a call */
 };
 
-/* Operations one after another, each of the endpoint that runs then on the selected processor: as many as both lists have places, which it
- * answers. Each has the outcome of its own call above, and does what that does, so nothing of what is promised of these
- * is lost; an unknown kind is answered as an unknown size, by GORSEPLUMB_KIND_BAD_SIZE, and the next operation is done.
- * Places of `outcomes` behind those stay. */
+/* Operations one after another, each of the endpoint that runs then on the selected processor: as many as both lists
+ * have places, which it answers. Each has the outcome of its own call above, and does what that does, so nothing of
+ * what is promised of these is lost; an unknown kind is answered as an unknown size, by GORSEPLUMB_KIND_BAD_SIZE, and
+ * the next operation is done. Places of `outcomes` behind those stay. */
 size_t gorseplumb_run(struct gorseplumb_machine *machine, const struct gorseplumb_operation *operations, size_t count,
                       struct gorseplumb_outcome *outcomes, size_t places);
 
