@@ -170,10 +170,10 @@ impl<M: Observed + Drop, T: Translations + Drop, S: Store> Cluster<M, T, S> {
             unreachable!()
         };
         match self.machine.front_observed(op) {
-            None => self.machine.do_op(op, outcome),
+            None => self.machine.op_apart(op, outcome),
             Some(front) => {
                 self.machine.begin_reading(front);
-                self.machine.do_op(op, outcome);
+                self.machine.op_apart(op, outcome);
                 self.machine.end_reading(front.pages);
             }
         }

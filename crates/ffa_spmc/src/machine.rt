@@ -244,7 +244,8 @@ impl<M: PhysMem + Drop, T: Translations + Drop, S: Store> Machine<M, T, S> {
     }
 
     /// Does one operation of the runner, as `op` does, and fills in its outcome where it is stored.
-    #[inline]
+    // Inlined, because a call for each line of a trace would cost a tenth of an access.
+    #[inline(always)]
     pub fn do_op(&mut self, op: &Op, outcome: &mut Outcome)
         ensures done { IsDone self.old op.now outcome.new self.new }
     {
@@ -254,6 +255,14 @@ impl<M: PhysMem + Drop, T: Translations + Drop, S: Store> Machine<M, T, S> {
             Op::Store { addr, size, value } => self.store(*addr, *size, *value, outcome),
             Op::Fetch { addr } => self.fetch(*addr, outcome),
         }
+    }
+
+    // The same, which is compiled once for the calls in `Cluster::op`.
+    #[inline(never)]
+    pub(crate) fn op_apart(&mut self, op: &Op, outcome: &mut Outcome)
+        ensures done { IsDone self.old op.now outcome.new self.new }
+    {
+        self.do_op(op, outcome)
     }
 
     // A call of the runner, in its registers. The cache forgets whatever the call has made untrue.
