@@ -6,22 +6,17 @@ ghost use Rattle.ffa_model.specs.Certified.{IsCertified, access_in, are_in_order
 ghost use Rattle.ffa_model.specs.Walk as walk;
 ghost use Rattle.ffa_model.specs.declared.limits.TheConstants.{MOST_ENDPOINTS};
 ghost use Rattle.ffa_model.specs.declared.rights.Rights.{Rights};
-ghost use Rattle.ffa_walker.specs.Spans.{AreCertified, HaveAccess, HavePages, from_table2, from_table3};
+ghost use Rattle.ffa_physmem.specs.Levels.{shift};
+ghost use Rattle.ffa_walker.specs.Spans.{AreCertified, HaveAccess, HavePages, index_bits, span, from_word, from_table, next_level, first_answer};
 
 use crate::translation::{read_entry, read_leaf, table_of};
-use ffa_model::{CertRun, Data, Rights};
+use ffa_model::{CertRun, Data, FaultKind, Leaf, Rights};
 use ffa_physmem::{Descriptor, Level, PAGE_SIZE, PhysMem};
-
-// The addresses that one descriptor of each level maps.
-const LEVEL1: u64 = 1 << 30;
-
-const LEVEL2: u64 = 1 << 21;
-
-const LEVEL3: u64 = 1 << 12;
 
 /// Whether the runs follow one another from RAM's first page to its last, none of them empty, and the walks from these
 /// level 1 tables give at every address below 2^32 exactly what the runs say: a leaf with that address and the right of
 /// the table's endpoint, and Translation where it has none and outside RAM.
+#[tactic(auto, unfolding(ffa_model::specs::Walk::walk))]
 pub fn audit<M: PhysMem>(memory: &M, roots: &[u32], runs: &[CertRun]) -> bool
     requires few { length roots.now ≤ MOST_ENDPOINTS }
     requires roots { All (λ root. walk.is_page_address (M.ram memory.now) root ≡ true) roots.now }
@@ -31,7 +26,7 @@ pub fn audit<M: PhysMem>(memory: &M, roots: &[u32], runs: &[CertRun]) -> bool
         return false;
     }
     for (place, root) in roots.iter().enumerate() {
-        if !gives_root(memory, *root, runs, place) {
+        if !gives_table(memory, Level::One, u64::from(*root), runs, place, 0) {
             return false;
         }
     }
@@ -52,100 +47,120 @@ fn are_in_order(runs: &[CertRun], pages: u32) -> bool
     next == u64::from(pages)
 }
 
-// Whether the walks from a level 1 table are those of the runs.
-fn gives_root<M: PhysMem>(memory: &M, root: u32, runs: &[CertRun], place: usize) -> bool
-    requires root { walk.is_page_address (M.ram memory.now) root ≡ true }
-    requires place { place < MOST_ENDPOINTS }
-    ensures { IsTrue result
-        ↔ AreCertified (M.ram memory.now) runs.now place 0 (2 ^ 32) (walk.walk (M.ram memory.now) root) }
-{
-    for index in 0..4u64 {
-        let word = read_entry(memory, u64::from(root), index);
-        if !gives_level1(memory, word, runs, place, LEVEL1 * index) {
-            return false;
-        }
-    }
-    true
-}
-
-// Whether the walks from a word of level 1, which maps the addresses from `start` on, are those of the runs.
-fn gives_level1<M: PhysMem>(
+// Whether the walks from a table of this level, which maps the addresses from `start` on, are those of the runs. A run that
+// ends before a word's pages is passed once, not again for each word.
+#[cycle(gives)]
+fn gives_table<M: PhysMem>(
     memory: &M,
-    word: Descriptor,
-    runs: &[CertRun],
-    place: usize,
-    start: u64,
-) -> bool
-    requires start { start % 2 ^ 30 ≡ 0 }
-    requires below { start + 2 ^ 30 ≤ 2 ^ 32 }
-    requires place { place < MOST_ENDPOINTS }
-    ensures { IsTrue result
-        ↔ AreCertified (M.ram memory.now) runs.now place start (2 ^ 30) (walk.from_level1 (M.ram memory.now) word.0) }
-{
-    if !word.is_valid() {
-        return have_access(memory, runs, place, start, LEVEL1, None);
-    }
-    if !word.is_table() {
-        let output = word.output(Level::One);
-        return gives_leaf(memory, word, output, runs, place, start, LEVEL1);
-    }
-    match table_of(memory, word) {
-        Ok(table) => gives_table2(memory, table, runs, place, start),
-        Err(_) => false,
-    }
-}
-
-// The same of the words of a level 2 table. A run that ends before a word's pages is passed once, not again for each word.
-fn gives_table2<M: PhysMem>(
-    memory: &M,
+    level: Level,
     table: u64,
     runs: &[CertRun],
     place: usize,
     start: u64,
 ) -> bool
     requires table { IsTrue (walk.is_in_ram (M.ram memory.now) table) }
-    requires start { start % 2 ^ 30 ≡ 0 }
-    requires below { start + 2 ^ 30 ≤ 2 ^ 32 }
+    requires start { start % span level ≡ 0 }
+    requires below { start + span level ≤ 2 ^ 32 }
     requires place { place < MOST_ENDPOINTS }
     ensures { IsTrue result
-        ↔ AreCertified (M.ram memory.now) runs.now place start (2 ^ 30) (from_table2 (M.ram memory.now) table) }
+        ↔ AreCertified (M.ram memory.now) runs.now place start (span level) (from_table (M.ram memory.now) level table) }
 {
+    let step = size(level);
     let mut rest = runs;
-    for index in 0..512u64 {
+    for index in 0..words(level) {
         let word = read_entry(memory, table, index);
-        let address = start + LEVEL2 * index;
+        let address = start + step * index;
         rest = runs_from(rest, page_behind(memory, address));
-        if !gives_level2(memory, word, rest, place, address) {
+        if !gives_word(memory, level, word, rest, place, address) {
             return false;
         }
     }
     true
 }
 
-// Whether the walks from a word of level 2 are those of the runs.
-fn gives_level2<M: PhysMem>(
+// The same of the walks from a word of such a table.
+#[cycle(gives)]
+fn gives_word<M: PhysMem>(
     memory: &M,
+    level: Level,
     word: Descriptor,
     runs: &[CertRun],
     place: usize,
     start: u64,
 ) -> bool
-    requires start { start % 2 ^ 21 ≡ 0 }
-    requires below { start + 2 ^ 21 ≤ 2 ^ 32 }
+    requires start { start % 2 ^ shift level ≡ 0 }
+    requires below { start + 2 ^ shift level ≤ 2 ^ 32 }
     requires place { place < MOST_ENDPOINTS }
-    ensures { IsTrue result
-        ↔ AreCertified (M.ram memory.now) runs.now place start (2 ^ 21) (walk.from_level2 (M.ram memory.now) word.0) }
+    ensures { let answer = from_word (M.ram memory.now) level word.0 in
+        IsTrue result ↔ AreCertified (M.ram memory.now) runs.now place start (2 ^ shift level) answer }
 {
-    if !word.is_valid() {
-        return have_access(memory, runs, place, start, LEVEL2, None);
+    if let Some(next) = next_level(level, word) {
+        return match table_of(memory, word) {
+            Ok(table) => gives_table(memory, next, table, runs, place, start),
+            Err(_) => false,
+        };
     }
-    if !word.is_table() {
-        let output = word.output(Level::Two);
-        return gives_leaf(memory, word, output, runs, place, start, LEVEL2);
+    match access_by(first_answer(level, word), start) {
+        Some(access) => have_access(memory, level, runs, place, start, access),
+        None => false,
     }
-    match table_of(memory, word) {
-        Ok(table) => gives_table3(memory, table, runs, place, start),
-        Err(_) => false,
+}
+
+// How many addresses a word of a table of this level maps, which are 512 times as many as one of the next.
+fn size(level: Level) -> u64
+    ensures { result ≡ 2 ^ shift level }
+{
+    1 << (30 - 9 * level as u64)
+}
+
+// How many words the walks ask a table of this level for.
+fn words(level: Level) -> u64
+    ensures { result ≡ 2 ^ index_bits level }
+{
+    match level {
+        Level::One => 4,
+        Level::Two | Level::Three => 512,
+    }
+}
+
+// The level of the table that a word of a table of this level names, if it names one.
+fn next_level(level: Level, word: Descriptor) -> Option<Level>
+    ensures { result ≡ next_level level word.0 }
+{
+    match level {
+        Level::One if word.is_page() => Some(Level::Two),
+        Level::Two if word.is_page() => Some(Level::Three),
+        _ => None,
+    }
+}
+
+// What the walk to the first address of a word answers, where the word names no table.
+fn first_answer(level: Level, word: Descriptor) -> Result<Leaf, FaultKind>
+    ensures { result ≡ first_answer level word.0 }
+{
+    let maps = match level {
+        Level::One | Level::Two => word.is_valid(),
+        Level::Three => word.is_page(),
+    };
+    if !maps {
+        return Err(FaultKind::Translation);
+    }
+    read_leaf(word, word.output(level))
+}
+
+// The access to an address that a walk's answer gives, if runs can say it: none, or the right of a leaf at the address.
+#[tactic(auto, unfolding(ffa_model::specs::Walk::mapped_answer))]
+fn access_by(answer: Result<Leaf, FaultKind>, address: u64) -> Option<Option<Rights>>
+    ensures some { IfSome result (λ access. answer ≡ walk.mapped_answer access address) }
+    ensures none { IfNone result ((access : Option Rights) → answer ≢ walk.mapped_answer access address) }
+{
+    match answer {
+        Ok(leaf) if leaf.phys == address && leaf.read => Some(Some(Rights {
+            level: if leaf.write { Data::Rw } else { Data::Ro },
+            exec: leaf.exec,
+        })),
+        Err(FaultKind::Translation) => Some(None),
+        _ => None,
     }
 }
 
@@ -153,162 +168,67 @@ fn gives_level2<M: PhysMem>(
 fn runs_from(runs: &[CertRun], page: u64) -> &[CertRun]
     ensures { (place p : ℕ) → page ≤ p → access_in result.now place p ≡ access_in runs.now place p }
 {
-    let mut passed = 0;
-    while passed < runs.len() && u64::from(runs[passed].last.0) < page {
-        passed += 1;
-    }
-    &runs[passed..]
-}
-
-// The same of the words of a level 3 table, where runs are passed in the same way.
-fn gives_table3<M: PhysMem>(
-    memory: &M,
-    table: u64,
-    runs: &[CertRun],
-    place: usize,
-    start: u64,
-) -> bool
-    requires table { IsTrue (walk.is_in_ram (M.ram memory.now) table) }
-    requires start { start % 2 ^ 21 ≡ 0 }
-    requires below { start + 2 ^ 21 ≤ 2 ^ 32 }
-    requires place { place < MOST_ENDPOINTS }
-    ensures { IsTrue result
-        ↔ AreCertified (M.ram memory.now) runs.now place start (2 ^ 21) (from_table3 (M.ram memory.now) table) }
-{
     let mut rest = runs;
-    for index in 0..512u64 {
-        let word = read_entry(memory, table, index);
-        let address = start + LEVEL3 * index;
-        rest = runs_from(rest, page_behind(memory, address));
-        if !gives_level3(memory, word, rest, place, address) {
-            return false;
-        }
+    while let [run, later @ ..] = rest
+        && u64::from(run.last.0) < page
+    {
+        rest = later;
     }
-    true
+    rest
 }
 
 // The number of the page at an address, from RAM's first on, or 0 where the address is below RAM.
 fn page_behind<M: PhysMem>(memory: &M, address: u64) -> u64
-    ensures { result ≡ (address - (M.ram memory.now).base) / 4096 }
+    ensures page { result ≡ (address - (M.ram memory.now).base) / 4096 }
+    ensures base { (M.ram memory.now).base % 4096 ≡ 0 }
 {
     address.saturating_sub(u64::from(memory.base().0)) / PAGE_SIZE as u64
 }
 
-// Whether the walks from a word of level 3 are those of the runs.
-fn gives_level3<M: PhysMem>(
-    memory: &M,
-    word: Descriptor,
-    runs: &[CertRun],
-    place: usize,
-    start: u64,
-) -> bool
-    requires start { start % 2 ^ 12 ≡ 0 }
-    requires below { start + 2 ^ 12 ≤ 2 ^ 32 }
-    requires place { place < MOST_ENDPOINTS }
-    ensures { IsTrue result ↔ AreCertified (M.ram memory.now) runs.now place start (2 ^ 12) (walk.from_level3 word.0) }
-{
-    if !word.is_page() {
-        return have_access(memory, runs, place, start, LEVEL3, None);
-    }
-    let output = word.output(Level::Three);
-    gives_leaf(memory, word, output, runs, place, start, LEVEL3)
-}
-
-// Whether a leaf descriptor, which leads the addresses of a span to those from `output` on, gives what the runs say.
-fn gives_leaf<M: PhysMem>(
-    memory: &M,
-    word: Descriptor,
-    output: u64,
-    runs: &[CertRun],
-    place: usize,
-    start: u64,
-    size: u64,
-) -> bool
-    requires start { start % 2 ^ 12 ≡ 0 }
-    requires size { size % 2 ^ 12 ≡ 0 }
-    requires some { 0 < size }
-    requires below { start + size ≤ 2 ^ 32 }
-    requires place { place < MOST_ENDPOINTS }
-    ensures { let answer = λ (address : ℕ). walk.leaf_of word.0 (output + (address - start)) in
-        IsTrue result ↔ AreCertified (M.ram memory.now) runs.now place start size answer }
-{
-    match right_to_itself(word, output, start) {
-        Some(right) => have_access(memory, runs, place, start, size, Some(right)),
-        None => false,
-    }
-}
-
-// The right that a leaf descriptor gives to an address, if it leads to the address itself and gives a right.
-#[tactic(auto, unfolding(ffa_model::specs::Walk::mapped_answer))]
-fn right_to_itself(word: Descriptor, output: u64, address: u64) -> Option<Rights>
-    ensures some { IfSome result (λ right. walk.leaf_of word.0 output ≡ walk.mapped_answer (Some right) address) }
-    ensures none { IfNone result ((right : Option Rights)
-        → walk.leaf_of word.0 output ≢ walk.mapped_answer right address) }
-{
-    let leaf = read_leaf(word, output).ok()?;
-    if leaf.phys != address || !leaf.read {
-        return None;
-    }
-    Some(Rights {
-        level: if leaf.write { Data::Rw } else { Data::Ro },
-        exec: leaf.exec,
-    })
-}
-
-// Whether the runs give an endpoint this access to all addresses of a span, of which those outside RAM have none.
+// Whether the runs give an endpoint this access to all addresses of a word, of which those outside RAM have none.
 fn have_access<M: PhysMem>(
     memory: &M,
+    level: Level,
     runs: &[CertRun],
     place: usize,
     start: u64,
-    size: u64,
     access: Option<Rights>,
 ) -> bool
-    requires start { start % 2 ^ 12 ≡ 0 }
-    requires size { size % 2 ^ 12 ≡ 0 }
-    requires some { 0 < size }
-    requires below { start + size ≤ 2 ^ 32 }
+    requires start { start % 2 ^ shift level ≡ 0 }
+    requires below { start + 2 ^ shift level ≤ 2 ^ 32 }
     requires place { place < MOST_ENDPOINTS }
-    ensures { IsTrue result ↔ HaveAccess (M.ram memory.now) runs.now place start size access }
+    ensures { IsTrue result ↔ HaveAccess (M.ram memory.now) runs.now place start (2 ^ shift level) access }
 {
-    let base = u64::from(memory.base().0);
-    let ram_end = base + PAGE_SIZE as u64 * u64::from(memory.pages());
-    let first = start.max(base);
-    let end = (start + size).min(ram_end);
+    let size = size(level);
+    let first = page_behind(memory, start);
+    let end = page_behind(memory, start + size).min(u64::from(memory.pages()));
     // A part of the span is outside.
-    if access.is_some() && end < first + size {
+    if access.is_some() && end < first + size / PAGE_SIZE as u64 {
         return false;
     }
-    first >= end
-        || have_pages(
-            runs,
-            place,
-            (first - base) / PAGE_SIZE as u64,
-            (end - base) / PAGE_SIZE as u64,
-            access,
-        )
+    have_pages(runs, place, first, end, access)
 }
 
 // Whether the runs give an endpoint this access to all pages from `first` to before `end`.
 fn have_pages(runs: &[CertRun], place: usize, first: u64, end: u64, access: Option<Rights>) -> bool
-    requires some { first < end }
     requires place { place < MOST_ENDPOINTS }
     ensures { IsTrue result ↔ HavePages runs.now place first end access }
 {
     let mut next = first;
-    for run in runs {
+    let mut rest = runs;
+    while next < end
+        && let [run, later @ ..] = rest
+    {
         let last = u64::from(run.last.0);
         if next <= last {
             if !is_same(run.access[place], access) {
                 return false;
             }
-            if end <= last + 1 {
-                return true;
-            }
             next = last + 1;
         }
+        rest = later;
     }
-    access.is_none()
+    end <= next || access.is_none()
 }
 
 fn is_same(access: Option<Rights>, other: Option<Rights>) -> bool

@@ -1,5 +1,5 @@
 // SPDX-License-Identifier: MIT OR Apache-2.0
-//! The walk: one small function for each level.
+//! The walk: one small function for each level. They are inlined, because a call for each access would take a tenth of it.
 ghost use Rattle.std.specs.Prelude.{◌≡◌, ◌*◌, ◌^◌, ◌<◌, if◌then◌else◌, IsTrue, IfOk, Ok, Err, true};
 ghost use Rattle.ffa_model.specs.Walk as walk;
 ghost use Rattle.ffa_model.specs.Bits.{bits};
@@ -58,6 +58,7 @@ pub(crate) fn read_leaf(word: Descriptor, phys: u64) -> Result<Leaf, FaultKind>
 }
 
 // The walk from a word of level 3, where type 01 is invalid.
+#[inline(always)]
 #[tactic(auto, unfolding(ffa_model::specs::Walk::from_level3))]
 fn walk_from_level3(word: Descriptor, address: u64) -> Result<Leaf, FaultKind>
     ensures { result ≡ walk.from_level3 word.0 address }
@@ -69,6 +70,7 @@ fn walk_from_level3(word: Descriptor, address: u64) -> Result<Leaf, FaultKind>
 }
 
 // The walk from a word of level 2: a block of 2 MiB, or a table of level 3.
+#[inline(always)]
 #[tactic(auto, unfolding(ffa_model::specs::Walk::from_level2))]
 fn walk_from_level2<M: PhysMem>(
     memory: &M,
@@ -88,6 +90,7 @@ fn walk_from_level2<M: PhysMem>(
 }
 
 // The walk from a word of level 1: a block of 1 GiB, or a table of level 2.
+#[inline(always)]
 #[tactic(auto, unfolding(ffa_model::specs::Walk::from_level1))]
 fn walk_from_level1<M: PhysMem>(
     memory: &M,
@@ -113,6 +116,7 @@ fn walk_from_level1<M: PhysMem>(
 /// Walks the tables whose level 1 page stands at `root`. An address of 2^32 or more is `Translation`, as is an
 /// invalid descriptor; a table that is no page of the RAM is `OutsideRam`, and a leaf whose access flag is 0
 /// `AccessFlag` (DDI 0487, D8.3). The leaf's physical address need not be in RAM.
+#[inline(always)]
 #[tactic(auto, unfolding(ffa_model::specs::Walk::walk))]
 pub fn translate<M: PhysMem>(memory: &M, root: u32, address: u64) -> Result<Leaf, FaultKind>
     requires root { walk.is_page_address (M.ram memory.now) root ≡ true }
