@@ -1,45 +1,30 @@
 -- SPDX-License-Identifier: MIT OR Apache-2.0
--- The heap as the allocator of a call, and the drop of a value as a call asks for it. Assumes `Logic`.
-use Rattle.ffa_lent.proofs.Steps.{[], ◌∷◌, refl, raw, ◌$◌, ◌∵◌, !, qed, drop, join, RattleType, Is, Al, bare, sem, vunit, vstruct, ftrue, plain, nothing, unit}
-use base.Fml.{fsep}
-use base.Logic.{SProp, sep, emp, emp∗, ex_i}
-use contract.Running.{Running}
-use denote.Exit.{no}
-use denote.Param.{arg, layout, param}
+-- The heap's handle as one machine value, and the drop of a value as a call asks for it. Assumes `Logic`.
+use Rattle.ffa_lent.proofs.Steps.{[], ◌∷◌, refl, raw, ◌$◌, ◌∵◌, !, qed, drop, join, RattleType, bare, ⊑_refl, sem, vunit, vstruct, ftrue, plain, nothing, unit, fsep, SProp, sep, emp, emp∗, ex_i, Running, layout, param, Signature, Res, Meets, Spec, run_framed, vcons, vnil, Dict, impl, tcons, tnil, dnil, method, no_args, Ura, by, Logic}
 use denote.Param.Glue as glue
-use denote.Param.Laws.{Laws, arg_laws}
-use denote.Signature.{Signature}
 use denote.Triple.Carry.{beside, spared}
-use denote.Triple.Entry.{Res}
-use denote.Triple.Spec.{Meets, Spec}
-use denote.Triple.Table.{run_framed}
-use mir.Val.{vcons, vnil}
-use Rattle.std.proofs.Handle.{heap_val}
-use mir.Syntax.{Dict, impl, tcons, tnil, dnil, method, no_args}
+use Rattle.std.proofs.Handle.{heap_val, heap_Tells}
+use Rattle.ffa_lent.proofs.Pointers.{Handle}
 use prog.Model.{Model}
-use seplogic.Ra.Ura.{Ura}
-use types.Kit.{by}
-use types.Logic.{Logic}
-use Rattle.std.proofs.alloc.Global.TheLaws.{the_row_laws}
-use Rattle.std.specs.contracts.alloc.Global.{the_row as Heap}
+use Rattle.std.proofs.alloc.Global.TheLaws as heap_laws
+use Rattle.std.specs.contracts.alloc.Global as heap
 use Rattle.std.specs.contracts.impls.GlobalAllocator.TheImpl.{ghosts, dict}
 
--- a type as a type argument
-abbrev pub argument : RattleType → RattleType
-argument R = arg (bare (layout R)) no R
-
-abbrev pub Handle : RattleType
-Handle = argument Heap
-
-abbrev pub handle_laws : Laws Handle
-handle_laws = arg_laws (bare (layout Heap)) no Heap the_row_laws refl
-
-abbrev pub allocator : Al
-allocator = record { row = Handle; laws = handle_laws; g = ghosts; d = dict; drops = impl ("ffa_c::Destruct++none::drop" ∷ []) (tcons (layout Handle) tnil) dnil }
-
--- the heap's handle has one machine value
-pub heap_is : (a : Heap.Denot) → Is Heap a (heap_val ∷ [])
-heap_is a = ((vstruct (vcons vunit vnil) ∷ [], tt), (refl, (((vunit ∷ [], tt), (refl, (refl, tt))), tt)))
+abbrev pub keeper : Handle
+keeper = record {
+  D = heap.the_type;
+  plains = heap_laws.the_plain;
+  laws = heap_laws.the_row_laws;
+  ghosts = ghosts;
+  dict = dict;
+  drops = impl ("ffa_c::Destruct++none::drop" ∷ []) (tcons (bare (layout heap.the_row)) tnil) dnil;
+  hand = heap_val;
+  fits = (tt, ((tt, tt), tt));
+  tells = heap_Tells;
+  is = λ a. ((vstruct (vcons vunit vnil) ∷ [], tt), (refl, (((vunit ∷ [], tt), (refl, (refl, tt))), tt)));
+  unseen = λ a. (tt, (λ w. tt));
+  lasts = ⊑_refl [];
+}
 
 abbrev pub dropped : RattleType → Signature
 dropped R = record { lifetimes = 0; outlives = []; params = plain (λ _. param 0 R) ∷ []; result = plain (λ _. unit) }

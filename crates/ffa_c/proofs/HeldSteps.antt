@@ -1,59 +1,55 @@
 -- SPDX-License-Identifier: MIT OR Apache-2.0
--- How the machine stores a `Held`, and what one is put together from. Assumes `Logic`.
-use Rattle.ffa_lent.proofs.Owners.{owner_in}
-use Rattle.ffa_lent.proofs.Steps.{◌≡◌, List, [], ◌∷◌, Option, None, Some, IsSome, refl, Val, ‵, RattleType, Ptr, ptr_val, bare}
-use denote.Exit.{no}
-use denote.Param.{layout}
-use denote.Param.Laws.{Laws, arg_laws}
-use denote.Struct.Laws.{RawPtr-plain}
-use mir.Syntax.{Dict, impl, tnil, dnil}
-use seplogic.Ra.Ura.{Ura}
-use types.Kit.{Item, Goal, Step}
-use types.Logic.{Logic}
-use Rattle.std.proofs.Handle.{heap_val}
+-- `Held` and `HeldList` as pointers to boxes. Assumes `Logic`.
+use Rattle.ffa_lent.proofs.Steps.{◌≡◌, [], ◌∷◌, Option, None, Some, IsSome, refl, id⊢, sem, ⊑_refl, ‵, ◌$◌, ◌∵◌, !, qed, done, keep, nothing, Ptr, Fml, ent, Ty, impl, tnil, dnil, Ura, Logic}
 use Rattle.std.proofs.lemmas.Bool.{false≢true}
-use Rattle.std.proofs.alloc.Global.TheLaws.{the_field_plain, the_row_laws as heap_laws}
-use Rattle.std.proofs.boxed.Box.TheLaws.{the_row_laws as boxes_laws}
-use Rattle.std.specs.contracts.alloc.Global.{the_row as Heap}
-use Rattle.std.specs.contracts.boxed.Box.{the_row as Box}
-use Rattle.std.specs.contracts.impls.GlobalAllocator.TheImpl.{ghosts}
+use Rattle.std.specs.Box.Ownership.{box_owns}
 use Rattle.ffa_lent.specs.Slots.{slot_owns}
 use Rattle.ffa_c.specs.Boarded.{Boarded, seated}
-use Rattle.ffa_c.specs.contracts.seat.Seat as seat
-use Rattle.ffa_c.proofs.seat.Seat.TheLaws.{the_row_laws}
+use Rattle.ffa_c.specs.contracts.seat.Seat.{the_row as Seat}
+use Rattle.ffa_c.proofs.seat.Seat.TheLaws.{the_row_laws as seat_laws}
 use Rattle.ffa_c.specs.contracts.held.Held as held
-use Rattle.ffa_c.proofs.held.Held.TheLaws.{lowers}
-use Rattle.ffa_c.proofs.Heap.{argument, heap_is}
+use Rattle.ffa_c.proofs.held.Held.TheLaws.{lowers as held_lowers}
+use Rattle.ffa_c.specs.contracts.lent_list.LentList.{the_row as LentList}
+use Rattle.ffa_c.proofs.lent_list.LentList.TheLaws.{the_row_laws as list_laws}
+use Rattle.ffa_c.specs.contracts.held_list.HeldList as held_list
+use Rattle.ffa_c.proofs.held_list.HeldList.TheLaws.{lowers as list_lowers}
+use Rattle.ffa_lent.proofs.Pointers.{Pointer}
+-- what their functions' proofs cite
+pub use Rattle.ffa_lent.proofs.Pointers.{allocator, close_met, content, content_laws, mut_met, none_met, open_met}
+pub use Rattle.ffa_lent.proofs.Steps.{fact, ftrue, glues, triple_of}
+pub use Rattle.std.proofs.impls.GlobalAllocator.TheImpl.Met.{passed}
+pub use Rattle.ffa_c.proofs.Heap.{drop_met, keeper}
+pub use denote.Triple.Table.{widened}
+pub use mir.Syntax.{method, no_args}
 
-abbrev pub Seat : RattleType
-Seat = seat.the_row
-
-abbrev pub Argument : RattleType
-Argument = argument Seat
-
-abbrev pub argument_laws : Laws Argument
-argument_laws = arg_laws (bare (layout Seat)) no Seat the_row_laws refl
-
-abbrev pub SeatBox : RattleType
-SeatBox = Box Seat Heap ghosts
-
-abbrev pub box_laws : Laws SeatBox
-box_laws = boxes_laws Seat Heap ghosts the_row_laws heap_laws
-
-abbrev pub drops : Dict
-drops = impl ("ffa_c::ffa_c++seat++Seat+Destruct::drop" ∷ []) tnil dnil
-
-abbrev pub Held : RattleType
-Held = held.the_row
-
-abbrev pub held_vals : Held.Denot → List Val
-held_vals d = lowers.lowered d ∷ []
+abbrev pub to_list : Pointer keeper
+to_list = record {
+  name = held_list.the_type.name;
+  S = held_list.the_row;
+  V = LentList.Denot;
+  out = λ d. (d.at, (d.alloc, d.value));
+  into = λ x. record { at = x.0; alloc = x.1.0; value = x.1.1 };
+  back = λ x. refl;
+  Y = LentList;
+  laws = list_laws;
+  drops = impl ("ffa_c::ffa_c++lent_list++LentList+Destruct::drop" ∷ []) tnil dnil;
+  inner = λ v. v;
+  none = refl;
+  new = Some;
+  same = λ v x. v ≡ Some x;
+  has = λ v there. there;
+  right = λ v x there is. is;
+  again = λ {M} {𝓤} 𝓛 holds p x. id⊢ 𝓤 _;
+  mir = refl;
+  tells = list_lowers.val_is;
+  unseen = λ d. (tt, (λ w. tt));
+  spent = λ b. (tt, (λ w. tt));
+  lasts = ⊑_refl [];
+  behind = λ holds p x. refl;
+  own = λ d vs. refl;
+}
 
 -- behind the pointer to a machine is its seat, with the machine in it
-pub is-seated : (v : Option Boarded) → IsSome v → Some v ≡ seated v
-is-seated None there = absurd (false≢true there)
-is-seated (Some b) there = refl
-
 pub has-seat : (v : Option Boarded) → IsSome v → IsSome (seated v)
 has-seat None there = absurd (false≢true there)
 has-seat (Some b) there = refl
@@ -62,8 +58,34 @@ pub in-seat : (v x : Option Boarded) → IsSome v → seated v ≡ Some x → x 
 in-seat None x there is = absurd (false≢true there)
 in-seat (Some b) x there is = cc
 
-module _ {M : Type 1} {𝓤 : Ura M} {𝓛 : Logic 𝓤} {K : Type 0} {Γ : List (Item 𝓤)} {G : Goal 𝓤 𝓛.H} where
-  pub held_in : K → (p : Ptr) (a : Heap.Denot) (v : Option Boarded)
-      → let d : Held.Denot = record { at = p; alloc = a; value = v } in Step K 𝓛 (‵ (Held.own_val d (held_vals d)) ∷ Γ) G (‵ (slot_owns (ghosts.dealloc_token a) Seat p (seated v)) ∷ Γ) G
-  held_in t p a v = let d : Held.Denot = record { at = p; alloc = a; value = v } in
-      owner_in t held.the_type (RawPtr-plain, (the_field_plain, tt)) d (held_vals d) ((ptr_val p ∷ [], (heap_val ∷ [], tt)), (refl, (refl, (heap_is a, tt))))
+-- with whatever is left in the seat, the pointer owns it
+pub owned-again : {M : Type 1} {𝓤 : Ura M} (𝓛 : Logic 𝓤) (holds : Ty → Ptr → Fml) (p : Ptr) (x : Option Boarded) → ent 𝓤 (sem 𝓛 (box_owns holds Seat p x)) (sem 𝓛 (slot_owns holds Seat p (seated x)))
+owned-again 𝓛 holds p None = qed 𝓛 (‵ (box_owns holds Seat p None) ∷ []) ∵ keep ! [] $ nothing ! $ done !
+owned-again {𝓤 = 𝓤} 𝓛 holds p (Some b) = id⊢ 𝓤 _
+
+abbrev pub to_seat : Pointer keeper
+to_seat = record {
+  name = held.the_type.name;
+  S = held.the_row;
+  V = Boarded;
+  out = λ d. (d.at, (d.alloc, d.value));
+  into = λ x. record { at = x.0; alloc = x.1.0; value = x.1.1 };
+  back = λ x. refl;
+  Y = Seat;
+  laws = seat_laws;
+  drops = impl ("ffa_c::ffa_c++seat++Seat+Destruct::drop" ∷ []) tnil dnil;
+  inner = seated;
+  none = refl;
+  new = λ x. x;
+  same = λ v x. x ≡ v;
+  has = has-seat;
+  right = in-seat;
+  again = owned-again;
+  mir = refl;
+  tells = held_lowers.val_is;
+  unseen = λ d. (tt, (λ w. tt));
+  spent = λ b. (tt, (λ w. tt));
+  lasts = ⊑_refl [];
+  behind = λ holds p x. refl;
+  own = λ d vs. refl;
+}

@@ -3,7 +3,6 @@ pub mod Boards
 pub mod Ready
 pub mod Heap
 pub mod HeldSteps
-pub mod HeldListSteps
 pub mod Audits
 pub mod Given
 pub mod Numbers

@@ -27,7 +27,7 @@ impl Model for HeldList {
 
 impl HeldList {
     ghost use Rattle.std.specs.Borrow.{sem};
-    ghost use Rattle.ffa_c.specs.ListFollows.{keeps_list, list_follows};
+    ghost use Rattle.ffa_c.specs.Follows.{keeps_list, list_follows};
 
     /// A null pointer, which owns nothing.
     pub fn none(alloc: Global) -> HeldList

@@ -1,21 +1,11 @@
 -- SPDX-License-Identifier: MIT OR Apache-2.0
 -- The calls that take a box apart and put one together, as steps of a walk. Assumes `Logic`.
-use Rattle.ffa_lent.proofs.Steps.{◌≡◌, List, [], ◌∷◌, id⊢, ftrue, flft, full_share, Val, fact, ‵, raw, ◌⊛◌, some, later, ◌$◌, move, drop, use0, use1, split, join, pick, await, feq_i, feq_l, refl, ap, ◌∙◌, ◌++◌, only, fpick, fsplit, rewrite, ptr_val, block_ptr, ℕ, RattleType, Ptr, nothing, heard, triple_of, ◌⊑◌, vptr, vstruct, of_list, Al, handle_tells}
-use base.Logic.{SProp, emp}
-use denote.Param.{param}
-use contract.Monad.{Fun, fact_i}
+use Rattle.ffa_lent.proofs.Steps.{◌≡◌, List, [], ◌∷◌, id⊢, ftrue, flft, full_share, Val, fact, ‵, raw, ◌⊛◌, some, later, ◌$◌, move, drop, use0, use1, split, join, pick, await, feq_i, feq_l, refl, ap, ◌∙◌, ◌++◌, only, fpick, fsplit, rewrite, ptr_val, block_ptr, ℕ, RattleType, Ptr, nothing, heard, triple_of, ◌⊑◌, vptr, vstruct, of_list, Al, handle_tells, SProp, emp, param, Fun, fact_i, type_at, Args, Dict, Ura, Item, Goal, Soaks, Seq, Step, step, Logic, Fits, token}
 use denote.Triple.Clauses.{Lasts, lasts}
-use denote.Signature.{type_at}
-use denote.Triple.Entry.{Args}
 use denote.Triple.Statement.{Contract}
-use mir.Syntax.{Dict}
 use prog.Memory.{Memory}
 use prog.Routine.{Routine}
-use seplogic.Ra.Ura.{Ura}
-use types.Kit.{Item, Goal, Soaks, Seq, Step, step}
-use types.Logic.{Logic}
 use Rattle.ffa_lent.proofs.Owners.{block_of}
-use Rattle.std.proofs.alloc.Calls.{Fits, token}
 use Rattle.std.specs.Box.{box_allocator}
 use Rattle.std.specs.Box.Ownership.{box_owns}
 use Rattle.std.specs.contracts.boxed.Box.{the_row as Box}

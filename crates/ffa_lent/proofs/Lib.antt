@@ -5,4 +5,5 @@ pub mod Steps
 pub mod BoxCalls
 pub mod Owners
 pub mod Strips
+pub mod Pointers
 pub mod Slots

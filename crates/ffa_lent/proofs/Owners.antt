@@ -1,17 +1,10 @@
 -- SPDX-License-Identifier: MIT OR Apache-2.0
 -- A struct that owns what lies behind a pointer, put together and taken apart. Assumes `Logic`.
-use Rattle.ffa_lent.proofs.Steps.{◌≡◌, ℕ, List, [], ◌∷◌, Option, None, Some, refl, IsSome, Val, ‵, ◌$◌, fjoin, RattleType, Ptr, block_ptr, null_ptr, in_a_block, owned, bare, lone, never, fst∗, sem, Al, ftrue, Is}
+use Rattle.ffa_lent.proofs.Steps.{◌≡◌, ℕ, List, [], ◌∷◌, Option, None, Some, refl, IsSome, Val, ‵, ◌$◌, fjoin, RattleType, Ptr, block_ptr, null_ptr, in_a_block, owned, bare, lone, never, fst∗, sem, Al, ftrue, Is, Fml, Laws, Struct, Plains, Struct-Makes, Ty, impl, tnil, dnil, Ura, Item, Goal, Seq, Step, step, Logic}
 use Rattle.std.proofs.lemmas.Bool.{false≢true}
 use Rattle.std.specs.Box.Ownership.{box_owns}
 use Rattle.ffa_lent.specs.Slots.{slot_owns}
-use base.Fml.{Fml}
-use denote.Param.Laws.{Laws}
 use denote.Struct.Owning.{Owning, fields, shape, to, row}
-use denote.Struct.Struct.{Struct, Plains, Struct-Makes}
-use mir.Syntax.{Ty, impl, tnil, dnil}
-use seplogic.Ra.Ura.{Ura}
-use types.Kit.{Item, Goal, Seq, Step, step}
-use types.Logic.{Logic}
 
 -- any type, as what `handle_tells` speaks of
 abbrev pub as_handle : (R : RattleType) → Laws R → Al

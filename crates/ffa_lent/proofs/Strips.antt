@@ -1,16 +1,7 @@
 -- SPDX-License-Identifier: MIT OR Apache-2.0
 -- How the machine stores a `Strip`, and what one is put together from and taken apart to. Assumes `Logic`.
-use Rattle.ffa_lent.proofs.Steps.{◌≡◌, ℕ, List, [], ◌∷◌, refl, Val, ‵, ◌$◌, fsplit, RattleType, Ptr, ptr_val, block_ptr, null_ptr, in_a_block, never, fst∗, sem}
-use Rattle.std.proofs.Common.{◌<◌, length, arith}
-use denote.Struct.Laws.{RawPtr-plain}
-use seplogic.Ra.Ura.{Ura}
-use base.Logic.{via, guard_i}
-use mir.Syntax.{Width, int_big}
+use Rattle.ffa_lent.proofs.Steps.{◌≡◌, ℕ, List, [], ◌∷◌, refl, Val, ‵, ◌$◌, fsplit, RattleType, Ptr, ptr_val, block_ptr, null_ptr, in_a_block, never, fst∗, sem, ◌<◌, length, arith, RawPtr-plain, Ura, via, guard_i, Width, int_big, Env, Item, Goal, Seq, Step, Logic, Opd}
 use mir.Val.{Fits, vint}
-use prog.Wp.{Env}
-use types.Kit.{Item, Goal, Seq, Step}
-use types.Logic.{Logic}
-use types.Run.{Opd}
 use Rattle.std.specs.Ptr.{points_to, ptr_add}
 use Rattle.ffa_lent.specs.Strips.{strip_owns}
 use Rattle.ffa_lent.specs.contracts.span.Strip as strip

@@ -10,7 +10,8 @@ use std::marker::Model;
 /// The pointer to a page's memory of 4096 bytes, which owns it, or a pointer that owns nothing.
 #[repr(C)]
 pub struct Slot {
-    pub(crate) at: *mut [u8; 4096],
+    // It points to the page. C is told of bytes, as it is of a box that it holds.
+    pub(crate) at: *mut u8,
     // It takes no bytes.
     pub(crate) lent: Lent,
     pub ghost bytes: { Option (List ℕ) } by { coded_option (coded_list coded_ℕ) },
@@ -39,7 +40,10 @@ impl Slot {
         ensures { result.bytes ≡ Some page.value }
     {
         let (at, lent) = Box::into_raw_with_allocator(page);
-        Slot { at, lent }
+        Slot {
+            at: at as *mut u8,
+            lent,
+        }
     }
 
     /// The page that is held, as its box.
@@ -48,7 +52,7 @@ impl Slot {
         ensures { self.bytes ≡ Some result.value }
     {
         let Slot { at, lent } = self;
-        unsafe { Box::from_raw(lent, at) }
+        unsafe { Box::from_raw(lent, at as *mut [u8; 4096]) }
     }
 
     /// Lets a pointer go that owns nothing.

@@ -40,6 +40,7 @@ impl Strip {
     {
         let Strip { at } = self;
         let rest = unsafe { at.add(1) };
+        let at = at as *mut u8;
         (Slot { at, lent: Lent }, Strip { at: rest })
     }
 

@@ -1,9 +1,6 @@
 -- SPDX-License-Identifier: MIT OR Apache-2.0
 -- `allocate` has no memory to give.
-use Rattle.ffa_lent.proofs.Steps.{[], ◌∷◌, refl, proved, named, w64, ‵, raw, ◌⊛◌, ◌$◌, ◌∵◌, !, qed, done, move, drop, use0, split, join, suffices, group, enter, lit, no_more, and_then, returns, alloc_all, pass_all, free_all, look_at, get, sets, agg, usize, RefOf, yes, uint_vals, uint_Tells, shr_vals, shr_Tells, owns, plain, nothing, Vals, alive, Stays, walk_of, stay_dropped, Goes-dropped, ends_at}
-use denote.Signature.{types_at}
-use Rattle.std.proofs.alloc.Calls.{Answer, answer_val, Answer-err, Answer-typed}
-use Rattle.std.specs.Prelude.{Err, false}
+use Rattle.ffa_lent.proofs.Steps.{[], ◌∷◌, refl, proved, named, w64, ‵, raw, ◌⊛◌, ◌$◌, ◌∵◌, !, qed, done, move, drop, use0, split, join, suffices, group, enter, lit, no_more, and_then, returns, alloc_all, pass_all, free_all, look_at, get, sets, agg, usize, RefOf, yes, uint_vals, uint_Tells, shr_vals, shr_Tells, owns, plain, nothing, Vals, alive, Stays, walk_of, stay_dropped, Goes-dropped, ends_at, types_at, Answer, answer_val, Answer-err, Answer-typed, Err, false}
 use Rattle.ffa_lent.specs.contracts.lent.Lent.{the_row as Lent}
 use Rattle.ffa_lent.specs.contracts.lent.LentAllocator.allocate as f
 use Rattle.ffa_lent.proofs.lent.LentAllocator.allocate.Statement.{statement}

@@ -1,7 +1,6 @@
 -- SPDX-License-Identifier: MIT OR Apache-2.0
 -- `deallocate` leaves the block to whoever lent it.
-use Rattle.ffa_lent.proofs.Steps.{[], ◌∷◌, refl, proved, vunit, named, w64, ‵, raw, ◌⊛◌, ◌$◌, ◌∵◌, !, qed, done, move, drop, split, join, feq_i, suffices, group, enter, of_opd, unit_lit, returns, alloc_all, pass_all, free_all, look_at, sets, usize, RefOf, yes, uint_vals, uint_Tells, RawPtr, rawptr_vals, rawptr_Tells, rawptr_Lawful, shr_vals, shr_Tells, owns, plain, nothing, Vals, alive, Stays, walk_of, stay_dropped, Goes-dropped, ends_at}
-use denote.Signature.{types_at}
+use Rattle.ffa_lent.proofs.Steps.{[], ◌∷◌, refl, proved, vunit, named, w64, ‵, raw, ◌⊛◌, ◌$◌, ◌∵◌, !, qed, done, move, drop, split, join, feq_i, suffices, group, enter, of_opd, unit_lit, returns, alloc_all, pass_all, free_all, look_at, sets, usize, RefOf, yes, uint_vals, uint_Tells, RawPtr, rawptr_vals, rawptr_Tells, rawptr_Lawful, shr_vals, shr_Tells, owns, plain, nothing, Vals, alive, Stays, walk_of, stay_dropped, Goes-dropped, ends_at, types_at}
 use Rattle.ffa_lent.specs.contracts.lent.Lent.{the_row as Lent}
 use Rattle.ffa_lent.specs.contracts.lent.LentAllocator.deallocate as f
 use Rattle.ffa_lent.proofs.lent.LentAllocator.deallocate.Statement.{statement}

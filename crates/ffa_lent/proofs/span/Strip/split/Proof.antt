@@ -1,15 +1,11 @@
 -- SPDX-License-Identifier: MIT OR Apache-2.0
 -- `split` hands on what the strip owns: the first page's memory to a slot, and the rest to a strip.
-use Rattle.ffa_lent.proofs.Steps.{[], ◌∷◌, List, Some, refl, sym, ap, lit<, proved, ftrue, fact, Val, tables, WpFn, ‵, raw, ◌⊛◌, prop, at_ret, ◌$◌, ◌∵◌, !, qed, done, move, keep, drop, split, fsplit, join, fjoin, feq_i, regoal, suffices, group, enter, of_opd, stop, fld, no_more, and_then, first, blocks, exec, returns, alloc_all, pass_all, free_all, look_at, get, get_in, sets, env, agg, sub, whole, yes, block_ptr, ptr_val, owns, plain, nothing, heard, Stays, walk_of, says, stay_dropped, Goes-dropped, ends_at, vstruct, of_list}
-use Rattle.std.proofs.Common.{◌+◌, ◌<◌, length}
-use denote.RattleType.{Valss}
+use Rattle.ffa_lent.proofs.Steps.{[], ◌∷◌, List, Some, refl, sym, ap, lit<, proved, ftrue, fact, Val, tables, WpFn, ‵, raw, ◌⊛◌, prop, at_ret, ◌$◌, ◌∵◌, !, qed, done, move, keep, drop, split, fsplit, join, fjoin, feq_i, regoal, suffices, group, enter, of_opd, stop, fld, no_more, and_then, first, blocks, exec, returns, alloc_all, pass_all, free_all, look_at, get, get_in, sets, env, agg, sub, whole, yes, block_ptr, ptr_val, owns, plain, nothing, heard, Stays, walk_of, says, stay_dropped, Goes-dropped, ends_at, vstruct, of_list, ◌+◌, ◌<◌, length, Valss, within, sets_last, fpack, bin}
 use denote.Struct.Declared.{shape}
-use denote.Struct.Struct.{within}
 use denote.Struct.Tuple.{tuple_type}
-use types.ByLocal.{sets_last}
-use types.Kit.{fpack}
-use types.Run.{bin}
-use Rattle.ffa_lent.proofs.Slots.{Page, Slot, slot_in}
+use Rattle.ffa_lent.proofs.Pointers.{held_in}
+use Rattle.ffa_lent.proofs.Slots.{Page, lender, to_page}
+use Rattle.ffa_lent.specs.contracts.slot.Slot.{the_row as Slot}
 use Rattle.ffa_lent.proofs.Strips.{Strip, strip_vals, strip_in, strip_out, big_lit}
 use Rattle.ffa_lent.proofs.slot.Slot.TheLaws.{lowers as slot_lowers}
 use Rattle.ffa_lent.proofs.span.Strip.TheLaws.{lowers}
@@ -36,6 +32,7 @@ split_spec 𝓤 𝓛 𝓜 𝓡 wired =
     first ! $ blocks ! $ sets_last ! (bin ! (get ! refl) (big_lit ! (record { fits = lit< tt })) tt) refl (tt, tt) $
     exec ! 𝓣.C 𝓣.Λ (env code.Mir.locals l) code.Mir.t-3 (at_ret _ (W.post y)) $
     sets ! (of_opd ! (get ! refl)) refl (tt, tt) $
+    sets ! (of_opd ! (get ! refl)) refl (tt, tt) $
     sets ! (agg ! (no_more !)) refl (tt, tt) $
     sets ! (agg ! (and_then ! (get ! refl) (and_then ! (get ! refl) (no_more !)))) refl (tt, (tt, (tt, tt))) $
     sets ! (agg ! (and_then ! (get ! refl) (no_more !))) refl (tt, (tt, tt)) $
@@ -47,7 +44,7 @@ split_spec 𝓤 𝓛 𝓜 𝓡 wired =
     suffices ! _ (ends_at 𝓛 f.ended stayed c y pair (slot, behind) (tt, tt) (tt, tt)) $ says ! (ap Some (sym held)) $
     -- [the strip behind; the first page]
     strip_in ! (block_ptr b (4096 + o)) rest $
-    nothing ! $ move ! (2 ∷ 0 ∷ []) $ fjoin ! $ slot_in ! (block_ptr b o) (record {}) (Some x) $
+    nothing ! $ move ! (2 ∷ 0 ∷ []) $ fjoin ! $ held_in lender to_page ! (block_ptr b o, (record {}, Some x)) $
     -- [the slot; the strip]
     nothing ! $ move ! (2 ∷ 0 ∷ []) $ fjoin ! $ move ! (1 ∷ 0 ∷ []) $ fjoin ! $ feq_i ! (List Val) (pair ∷ []) (pair ∷ []) refl $ fjoin ! $
     fpack ! (Valss (Slot ∷ Strip ∷ [])) (within (shape (tuple_type (Slot ∷ Strip ∷ []))) (slot, (behind, tt)) (pair ∷ [])) ((slot_lowers.lowered slot ∷ []), ((lowers.lowered behind ∷ []), tt)) $
