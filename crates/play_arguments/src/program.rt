@@ -29,35 +29,20 @@ Status:
 
 Manual: docs/USING.md";
 
-// A path, flag or value of a command. `tests/generated` lists these in docs/COMMANDS.md.
+// A path, flag or value of a command: its name, and what the help says of it. `tests/generated` lists these in
+// docs/COMMANDS.md.
 #[derive(Clone, Copy)]
 enum Word<'a> {
     // A path, which is required.
-    Path {
-        id: &'a str,
-        help: &'a str,
-    },
+    Path(&'a str, &'a str),
     // One path or more.
-    Paths {
-        id: &'a str,
-        help: &'a str,
-    },
+    Paths(&'a str, &'a str),
     // A flag, which is optional.
-    Flag {
-        id: &'a str,
-        help: &'a str,
-    },
+    Flag(&'a str, &'a str),
     // A value after its name, which is optional.
-    Value {
-        id: &'a str,
-        help: &'a str,
-    },
+    Value(&'a str, &'a str),
     // A number below 2^64 after its name, with its default.
-    Number {
-        id: &'a str,
-        help: &'a str,
-        usual: &'a str,
-    },
+    Number(&'a str, &'a str, &'a str),
 }
 
 // A command of the program.
@@ -68,90 +53,69 @@ struct Entry<'a> {
     words: &'a [Word<'a>],
 }
 
-const MANIFEST: Word = Word::Path {
-    id: "manifest",
-    help: "Manifest of the machine (TOML), or - for standard input",
-};
+const MANIFEST: Word = Word::Path(
+    "manifest",
+    "Manifest of the machine (TOML), or - for standard input",
+);
 
-const TRACE: Word = Word::Path {
-    id: "trace",
-    help: "Trace, one operation on each line, or - for standard input",
-};
+const TRACE: Word = Word::Path(
+    "trace",
+    "Trace, one operation on each line, or - for standard input",
+);
 
-const EXPECTED: Word = Word::Path {
-    id: "expected",
-    help: "Expected output, or - for standard input",
-};
+const EXPECTED: Word = Word::Path("expected", "Expected output, or - for standard input");
 
-const FRAMES: Word = Word::Flag {
-    id: "frames",
-    help: "Allocate each page of RAM separately",
-};
+const FRAMES: Word = Word::Flag("frames", "Allocate each page of RAM separately");
 
-const TLB: Word = Word::Flag {
-    id: "tlb",
-    help: "Cache the last translations, as a TLB does",
-};
+const TLB: Word = Word::Flag("tlb", "Cache the last translations, as a TLB does");
 
-const PROCESSORS: Word = Word::Value {
-    id: "processors",
-    help: "Simulate 1 to 8 processors; allow `on N` and `interrupt`",
-};
+const PROCESSORS: Word = Word::Value(
+    "processors",
+    "Simulate 1 to 8 processors; allow `on N` and `interrupt`",
+);
 
-const WORLDS: Word = Word::Flag {
-    id: "worlds",
-    help: "Make the normal world's regions non-secure, all other memory secure",
-};
+const WORLDS: Word = Word::Flag(
+    "worlds",
+    "Make the normal world's regions non-secure, all other memory secure",
+);
 
-const WORDS: Word = Word::Flag {
-    id: "words",
-    help: "Read calls and arguments by name; numbers may have 0x",
-};
+const WORDS: Word = Word::Flag(
+    "words",
+    "Read calls and arguments by name; numbers may have 0x",
+);
 
-const LINE_BUFFERED: Word = Word::Flag {
-    id: "line-buffered",
-    help: "Write each line's output before reading more of the trace",
-};
+const LINE_BUFFERED: Word = Word::Flag(
+    "line-buffered",
+    "Write each line's output before reading more of the trace",
+);
 
-const NUMBER: Word = Word::Flag {
-    id: "number",
-    help: "Print each line's number before its output",
-};
+const NUMBER: Word = Word::Flag("number", "Print each line's number before its output");
 
-const NAMES: Word = Word::Flag {
-    id: "names",
-    help: "Print the names of calls and errors after the registers",
-};
+const NAMES: Word = Word::Flag(
+    "names",
+    "Print the names of calls and errors after the registers",
+);
 
-const EXPLAIN: Word = Word::Flag {
-    id: "explain",
-    help: "Print why an operation was refused, as `# refused: ..`",
-};
+const EXPLAIN: Word = Word::Flag(
+    "explain",
+    "Print why an operation was refused, as `# refused: ..`",
+);
 
-const SHORT: Word = Word::Flag {
-    id: "short",
-    help: "Print registers and data in a short form",
-};
+const SHORT: Word = Word::Flag("short", "Print registers and data in a short form");
 
-const STRICT: Word = Word::Flag {
-    id: "strict",
-    help: "Check the guards `#=` and `#@`; stop at a failure",
-};
+const STRICT: Word = Word::Flag(
+    "strict",
+    "Check the guards `#=` and `#@`; stop at a failure",
+);
 
-const KEEP_GOING: Word = Word::Flag {
-    id: "keep-going",
-    help: "Check guards and continue after a failure",
-};
+const KEEP_GOING: Word = Word::Flag("keep-going", "Check guards and continue after a failure");
 
-const INTERACTIVE: Word = Word::Flag {
-    id: "interactive",
-    help: "Report bad lines and continue; write output at once",
-};
+const INTERACTIVE: Word = Word::Flag(
+    "interactive",
+    "Report bad lines and continue; write output at once",
+);
 
-const VERBOSE: Word = Word::Flag {
-    id: "verbose",
-    help: "Print details of errors on standard error",
-};
+const VERBOSE: Word = Word::Flag("verbose", "Print details of errors on standard error");
 
 const RUN: Entry = Entry {
     name: "run",
@@ -221,10 +185,10 @@ const CHECK: Entry = Entry {
     words: &[MANIFEST, VERBOSE],
 };
 
-const REGIONS: Word = Word::Flag {
-    id: "regions",
-    help: "Also print regions, table pages, space for regions, and RAM",
-};
+const REGIONS: Word = Word::Flag(
+    "regions",
+    "Also print regions, table pages, space for regions, and RAM",
+);
 
 const LAYOUT: Entry = Entry {
     name: "layout",
@@ -232,77 +196,57 @@ const LAYOUT: Entry = Entry {
     words: &[MANIFEST, REGIONS, VERBOSE],
 };
 
-const KIND: Word = Word::Path {
-    id: "kind",
-    help: "Kind of call: donate, lend, share, retrieve, relinquish or reclaim",
-};
+const KIND: Word = Word::Path(
+    "kind",
+    "Kind of call: donate, lend, share, retrieve, relinquish or reclaim",
+);
 
-const TX_ADDRESS: Word = Word::Value {
-    id: "tx",
-    help: "The caller's TX address, such as 4002E000; not for reclaim",
-};
+const TX_ADDRESS: Word = Word::Value(
+    "tx",
+    "The caller's TX address, such as 4002E000; not for reclaim",
+);
 
-const FROM: Word = Word::Value {
-    id: "from",
-    help: "Sender of the transaction, such as 8001",
-};
+const FROM: Word = Word::Value("from", "Sender of the transaction, such as 8001");
 
-const TO: Word = Word::Value {
-    id: "to",
-    help: "Receivers, such as 8002:rw,8003:ro; donate and relinquish take no right",
-};
+const TO: Word = Word::Value(
+    "to",
+    "Receivers, such as 8002:rw,8003:ro; donate and relinquish take no right",
+);
 
-const PAGES: Word = Word::Value {
-    id: "pages",
-    help: "Ranges as ADDRESS+PAGES in hexadecimal, such as 40021000+1,40025000+2",
-};
+const PAGES: Word = Word::Value(
+    "pages",
+    "Ranges as ADDRESS+PAGES in hexadecimal, such as 40021000+1,40025000+2",
+);
 
-const HANDLE: Word = Word::Value {
-    id: "handle",
-    help: "Handle of the transaction, such as 0000800100000001",
-};
+const HANDLE: Word = Word::Value(
+    "handle",
+    "Handle of the transaction, such as 0000800100000001",
+);
 
-const TAG: Word = Word::Value {
-    id: "tag",
-    help: "Tag of the transaction [default: 0]",
-};
+const TAG: Word = Word::Value("tag", "Tag of the transaction [default: 0]");
 
-const OF: Word = Word::Value {
-    id: "of",
-    help: "Kind to retrieve: share, lend or donate [default: any]",
-};
+const OF: Word = Word::Value(
+    "of",
+    "Kind to retrieve: share, lend or donate [default: any]",
+);
 
-const ZERO: Word = Word::Flag {
-    id: "zero",
-    help: "Zero the pages; not for share or retrieve",
-};
+const ZERO: Word = Word::Flag("zero", "Zero the pages; not for share or retrieve");
 
-const COMPACT: Word = Word::Flag {
-    id: "compact",
-    help: "Write the \"compact\" form of the descriptor",
-};
+const COMPACT: Word = Word::Flag("compact", "Write the \"compact\" form of the descriptor");
 
-const VERSIONS: Word = Word::Value {
-    id: "manifest",
-    help: "Manifest with the caller's form, or - for standard input",
-};
+const VERSIONS: Word = Word::Value(
+    "manifest",
+    "Manifest with the caller's form, or - for standard input",
+);
 
-const SEED: Word = Word::Number {
-    id: "seed",
-    help: "Seed; the same seed generates the same trace",
-    usual: "1",
-};
+const SEED: Word = Word::Number("seed", "Seed; the same seed generates the same trace", "1");
 
-const LINES: Word = Word::Number {
-    id: "lines",
-    help: "Number of lines",
-    usual: "1000",
-};
+const LINES: Word = Word::Number("lines", "Number of lines", "1000");
 
-const COUNT: Word = Word::Flag {
-    id: "count",
-    help: "Print counts of successes, errors, faults and checks instead",
-};
+const COUNT: Word = Word::Flag(
+    "count",
+    "Print counts of successes, errors, faults and checks instead",
+);
 
 const DESCRIPTOR: Entry = Entry {
     name: "descriptor",
@@ -318,25 +262,19 @@ const GENERATE: Entry = Entry {
     words: &[MANIFEST, SEED, LINES, COUNT, WORLDS, VERBOSE],
 };
 
-const FOLDERS: Word = Word::Paths {
-    id: "folder",
-    help: "Folder of NAME.trace files, each with NAME.toml or machine.toml",
-};
+const FOLDERS: Word = Word::Paths(
+    "folder",
+    "Folder of NAME.trace files, each with NAME.toml or machine.toml",
+);
 
-const TAP: Word = Word::Flag {
-    id: "tap",
-    help: "Print results in the Test Anything Protocol",
-};
+const TAP: Word = Word::Flag("tap", "Print results in the Test Anything Protocol");
 
-const REACHED: Word = Word::Flag {
-    id: "count",
-    help: "Also print counts of successes, errors, faults and checks",
-};
+const REACHED: Word = Word::Flag(
+    "count",
+    "Also print counts of successes, errors, faults and checks",
+);
 
-const ALLOW_UNGUARDED: Word = Word::Flag {
-    id: "allow-unguarded",
-    help: "Let a trace without guards pass",
-};
+const ALLOW_UNGUARDED: Word = Word::Flag("allow-unguarded", "Let a trace without guards pass");
 
 const TEST: Entry = Entry {
     name: "test",
@@ -352,27 +290,21 @@ const TEST: Entry = Entry {
     ],
 };
 
-const EVERY: Word = Word::Number {
-    id: "every",
-    help: "Draw a row every N lines; 0 draws each change",
-    usual: "0",
-};
+const EVERY: Word = Word::Number(
+    "every",
+    "Draw a row every N lines; 0 draws each change",
+    "0",
+);
 
-const WIDTH: Word = Word::Number {
-    id: "width",
-    help: "Narrow columns to fit N pixels; 0 keeps their width",
-    usual: "0",
-};
+const WIDTH: Word = Word::Number(
+    "width",
+    "Narrow columns to fit N pixels; 0 keeps their width",
+    "0",
+);
 
-const REFUSED: Word = Word::Flag {
-    id: "refused",
-    help: "Also draw a row for each refused call",
-};
+const REFUSED: Word = Word::Flag("refused", "Also draw a row for each refused call");
 
-const PAGE: Word = Word::Flag {
-    id: "page",
-    help: "Print an HTML page to step through instead of SVG",
-};
+const PAGE: Word = Word::Flag("page", "Print an HTML page to step through instead of SVG");
 
 const PICTURE: Entry = Entry {
     name: "picture",
@@ -393,20 +325,20 @@ fn arg<'a>(alloc: Global, word: &Word<'a>) -> Arg<'a>
     ensures local { result.global ≡ false }
 {
     match *word {
-        Word::Path { id, help } => Arg::new(alloc, id).required(true).help(help),
-        Word::Paths { id, help } => Arg::new(alloc, id)
+        Word::Path(id, help) => Arg::new(alloc, id).required(true).help(help),
+        Word::Paths(id, help) => Arg::new(alloc, id)
             .required(true)
             .action(ArgAction::Append)
             .help(help),
-        Word::Flag { id, help } => Arg::new(alloc, id)
+        Word::Flag(id, help) => Arg::new(alloc, id)
             .long(id)
             .action(ArgAction::SetTrue)
             .help(help),
-        Word::Value { id, help } => Arg::new(alloc, id)
+        Word::Value(id, help) => Arg::new(alloc, id)
             .long(id)
             .action(ArgAction::Set)
             .help(help),
-        Word::Number { id, help, usual } => Arg::new(alloc, id)
+        Word::Number(id, help, usual) => Arg::new(alloc, id)
             .long(id)
             .action(ArgAction::Set)
             .default_value(usual)

@@ -1,8 +1,8 @@
 -- SPDX-License-Identifier: MIT OR Apache-2.0
 -- What each word of a descriptor says by itself, where it can be read.
-use Rattle.std.specs.Prelude.{ℕ, ◌^◌, ◌%◌, ◌==◌, ◌&&◌, ◌||◌, Bool, false, nat_lt, List, [], ◌∷◌, drop, codes, Option, Some, None, if◌then◌else◌, option_map, option_and_then, bytes_eq}
-use Rattle.std.specs.List.{slice_split, starts_with}
-use Rattle.play_syntax.specs.TraceLines.{number_of}
+use Rattle.std.specs.Prelude.{ℕ, ◌^◌, ◌%◌, ◌==◌, ◌&&◌, Bool, false, nat_lt, List, [], ◌∷◌, codes, Option, Some, None, if◌then◌else◌, option_map, option_and_then, bytes_eq}
+use Rattle.std.specs.List.{slice_split}
+use Rattle.play_syntax.specs.TraceLines.{number_in}
 use Rattle.ffa_model.specs.declared.endpoint.Address.{Address}
 use Rattle.ffa_model.specs.declared.endpoint.EndpointId.{EndpointId}
 use Rattle.ffa_model.specs.declared.rights.Data.{Data}
@@ -44,36 +44,28 @@ each read (part ∷ parts) = option_and_then (λ a. option_map (λ rest. a ∷ r
 
 -- NUMBERS
 
--- `0x` or `0X` stands in front
-abbrev pub is_marked : List ℕ → Bool
-is_marked word = starts_with (λ a b. a == b) word (codes "0x") || starts_with (λ a b. a == b) word (codes "0X")
-
--- the number that 1 to 16 digits write, with such a mark before them or without
-unfoldable pub number_in : List ℕ → Option ℕ
-number_in word = number_of (if is_marked word then drop 2 word else word)
-
 abbrev pub below : ℕ → ℕ → Option ℕ
 below bound n = if nat_lt n bound then Some n else None
 
 unfoldable pub identifier_of : List ℕ → Option EndpointId
-identifier_of word = option_map (λ n. record { 0 = n }) (option_and_then (below (2 ^ 16)) (number_in word))
+identifier_of word = option_map (λ n. record { 0 = n }) (option_and_then (below (2 ^ 16)) (number_in 16 word))
 
 unfoldable pub page_count_of : List ℕ → Option ℕ
-page_count_of word = option_and_then (below (2 ^ 32)) (number_in word)
+page_count_of word = option_and_then (below (2 ^ 32)) (number_in 16 word)
 
 -- the address of a page, below 2 ^ 32
 unfoldable pub tx_of : List ℕ → Option Address
 tx_of word =
     option_and_then
     (λ n. if nat_lt n (2 ^ 32) && (n % 4096 == 0) then Some (record { 0 = n }) else None)
-    (number_in word)
+    (number_in 16 word)
 
 -- `ADDRESS+PAGES`
 abbrev pub range_in : List ℕ × Option (List ℕ) → Option Range
 range_in (first, Some second) =
     option_and_then
     (λ address. option_map (λ pages. record { address = address; pages = pages }) (page_count_of second))
-    (number_in first)
+    (number_in 16 first)
 range_in (first, None) = None
 
 unfoldable pub range_of : List ℕ → Option Range

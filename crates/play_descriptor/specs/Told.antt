@@ -2,6 +2,7 @@
 -- What the words of a descriptor say, and what is wrong first with them.
 use Rattle.std.specs.Prelude.{◌≡◌, ℕ, ◌%◌, ⊤, Bool, true, false, is_some, nat_le, length, List, codes, Option, Some, None, Result, Ok, Err, option_map, if◌then◌else◌, ok_or, bytes_eq}
 use Rattle.play_arguments.specs.Commands.{Described}
+use Rattle.play_syntax.specs.TraceLines.{number_in}
 use Rattle.ffa_model.specs.declared.endpoint.EndpointId.{EndpointId}
 use Rattle.ffa_model.specs.declared.endpoint.Address.{Address}
 use Rattle.ffa_model.specs.declared.endpoint.Version.{Version}
@@ -13,7 +14,7 @@ use Rattle.ffa_model.specs.declared.transaction.Receiver.{Receiver}
 use Rattle.play_writer.specs.declared.descriptor.DescriptorContents.TheVariants.{Send, Retrieve, Relinquish}
 use Rattle.play_writer.specs.declared.reclaim.Reclaim.{Reclaim}
 use Rattle.play_descriptor.specs.Forms.{form_of}
-use Rattle.play_descriptor.specs.Members.{asker_of, each, first_misplaced, identifier_of, kind_of, members_of, number_in, range_of, receiver_of, tx_of}
+use Rattle.play_descriptor.specs.Members.{asker_of, each, first_misplaced, identifier_of, kind_of, members_of, range_of, receiver_of, tx_of}
 use Rattle.play_descriptor.specs.declared.fault.Form.{Form}
 use Rattle.play_descriptor.specs.declared.fault.Form.TheVariants as form
 use Rattle.play_descriptor.specs.declared.fault.Word.{Word}
@@ -73,10 +74,10 @@ unfoldable pub sender_in : List ℕ → Result EndpointId WordsFault
 sender_in text = ok_or (identifier_of text) (Unreadable words.From)
 
 unfoldable pub handle_in : List ℕ → Result ℕ WordsFault
-handle_in text = ok_or (number_in text) (Unreadable words.Handle)
+handle_in text = ok_or (number_in 16 text) (Unreadable words.Handle)
 
 unfoldable pub tag_in : Described → Result ℕ WordsFault
-tag_in d = read_or 0 number_in words.Tag d.tag
+tag_in d = read_or 0 (number_in 16) words.Tag d.tag
 
 -- the kind of the transaction that is retrieved, if it is told
 unfoldable pub of_in : Described → Result (Option Kind) WordsFault

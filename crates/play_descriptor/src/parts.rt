@@ -1,10 +1,12 @@
 // SPDX-License-Identifier: MIT OR Apache-2.0
 //! The parts of a word: those between its commas, those round a colon or a plus, and numbers.
-ghost use Rattle.std.specs.Prelude.{◌≡◌, ◌+◌, ◌<◌, ◌≤◌, ◌==◌, ◌∷◌, drop, length, fold, IfSome, Some, option_map, if◌then◌else◌};
+ghost use Rattle.std.specs.Prelude.{◌≡◌, ◌+◌, ◌<◌, ◌==◌, ◌∷◌, length, IfSome, option_map};
 ghost use Rattle.std.specs.List.{slice_split};
-ghost use Rattle.play_syntax.specs.TraceLines.{digit_value, with_digit};
-ghost use Rattle.play_descriptor.specs.Members.{comma, is_marked, number_in, one_or_two};
+ghost use Rattle.play_syntax.specs.TraceLines.{number_in};
+ghost use Rattle.play_descriptor.specs.Members.{comma, one_or_two};
 ghost use Rattle.play_descriptor.specs.Cuts.{parts_left};
+
+use play_syntax::number::number_in;
 
 /// What stands before the first mark, and behind it where there is one.
 pub(crate) fn cut(text: &str, mark: char) -> (&str, Option<&str>)
@@ -47,51 +49,9 @@ pub(crate) fn commas(text: &str) -> usize
     count
 }
 
-#[tactic(auto, unfolding(play_syntax::specs::TraceLines::digit_value))]
-fn digit(byte: u8) -> Option<u64>
-    ensures { result ≡ digit_value byte }
-{
-    match byte {
-        b'0'..=b'9' => Some(u64::from(byte - b'0')),
-        b'A'..=b'F' => Some(u64::from(byte - b'A') + 10),
-        b'a'..=b'f' => Some(u64::from(byte - b'a') + 10),
-        _ => None,
-    }
-}
-
-// What stands behind `0x` or `0X`, or the whole word where neither stands in front.
-fn without_mark(word: &[u8]) -> &[u8]
-    ensures { result.now ≡ (if is_marked word.now then drop 2 word.now else word.now) }
-{
-    if word.starts_with(b"0x".as_slice()) {
-        &word[2..]
-    } else if word.starts_with(b"0X".as_slice()) {
-        &word[2..]
-    } else {
-        word
-    }
-}
-
 /// The number that 1 to 16 hexadecimal digits write, with `0x` or `0X` before them or without.
-#[tactic(auto, unfolding(play_syntax::specs::TraceLines::number_of, crate::specs::Members::number_in))]
 pub(crate) fn number(word: &str) -> Option<u64>
-    ensures { result ≡ number_in word.now }
+    ensures { result ≡ number_in 16 word.now }
 {
-    let written = without_mark(word.as_bytes());
-    if written.is_empty() || written.len() > 16 {
-        None
-    } else {
-        digits(written)
-    }
-}
-
-fn digits(word: &[u8]) -> Option<u64>
-    requires { length word.now ≤ 16 }
-    ensures { result ≡ fold with_digit (Some 0) word.now }
-{
-    let mut number = 0;
-    for byte in word {
-        number = 16 * number + digit(*byte)?;
-    }
-    Some(number)
+    Some(number_in(16, word.as_bytes())? as u64)
 }

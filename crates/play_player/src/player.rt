@@ -87,10 +87,12 @@ impl<P: Playable> Player<P> {
 
     /// Does the lines that the reader gives, one after another, and writes the text of each before the next is done.
     /// Lines count from 1. It asks the reader and the writer for `read` and `write` alone, and tries nothing again
-    /// after an error.
-    pub fn play<R: Read, W: Write>(
+    /// after an error. It is `feed`, with what each `read` gave, before the next `read`.
+    // Not inlined: the block would lie on the stack while the caller boots the machine.
+    #[inline(never)]
+    pub fn play<A: Allocator + Copy, R: Read, W: Write>(
         &mut self,
-        alloc: Global,
+        alloc: A,
         reader: &mut R,
         writer: &mut W,
     ) -> Result<(), PlayError>
@@ -100,24 +102,17 @@ impl<P: Playable> Player<P> {
             let has = R.remaining reader.new in
             Played self.old.bench self.new.bench held holds had has result }
     {
-        self.play_in(alloc, reader, writer)
-    }
-
-    /// Does a line, and writes its text. It answers the outcome of the operation or the interrupt that the line is, but
-    /// none where a preempted partition goes on.
-    ///
-    /// Only `Line::Audit` wants memory: where that is refused, nothing is done and nothing is written.
-    pub fn line<A: Allocator + Copy, W: Write>(
-        &mut self,
-        alloc: A,
-        line: &Line,
-        writer: &mut W,
-    ) -> Result<Option<Outcome>, PlayError>
-        ensures { let held = W.contents writer.old in
-            let holds = W.contents writer.new in
-            Answered self.old.bench self.new.bench held holds (meant line.now) result }
-    {
-        answer(&mut self.machine, alloc, writer, line)
+        let mut begun = Begun::new(alloc);
+        let mut block = [0; BLOCK];
+        for _ in 0..u64::MAX - 1 {
+            match reader.read(&mut block) {
+                Ok(0) if begun.bytes.is_empty() => return Ok(()),
+                Ok(0) => return Err(PlayError::BadLine(begun.number)),
+                Ok(count) => begun = self.feed(alloc, begun, &block[..count], writer)?,
+                Err(_) => return Err(PlayError::Read),
+            }
+        }
+        Err(PlayError::Read)
     }
 
     /// Takes bytes of a trace, of which `begun` came before: does each line that ends in them, and writes its text, and
@@ -146,115 +141,223 @@ impl<P: Playable> Player<P> {
             let holds = W.contents writer.new in
             IfErr result (StopsIn start now held holds begun.number (begun.bytes.items ++ bytes.now)) }
     {
-        feed(&mut self.machine, alloc, writer, begun, bytes)
+        let Begun {
+            bytes: mut line,
+            mut number,
+        } = begun;
+        self.do_lines(alloc, writer, &mut line, &mut number, bytes)?;
+        Ok(Begun {
+            bytes: line,
+            number,
+        })
     }
 
-    /// Plays as `play` does, with memory of any allocator. It is `feed`, with what each `read` gave, before the next
-    /// `read`.
-    pub fn play_in<A: Allocator + Copy, R: Read, W: Write>(
+    // Takes bytes that were read: `begun` are those of the line that hasn't ended, and `number` is its number. The last
+    // number is that of no line, so bytes behind the lines that can be counted are those of an input that is too long.
+    fn do_lines<A: Allocator + Copy, W: Write>(
         &mut self,
         alloc: A,
-        reader: &mut R,
         writer: &mut W,
+        begun: &mut Vec<u8, A>,
+        number: &mut u64,
+        bytes: &[u8],
+    ) -> Result<(), PlayError>
+        requires unended { has_no_feed begun.old.items ≡ true }
+        requires numbered { IsNumbered number.old begun.old.items }
+        ensures { let start = self.old.bench in
+            let now = self.new.bench in
+            let held = W.contents writer.old in
+            let holds = W.contents writer.new in
+            Fed start now held holds number.old number.new (begun.old.items ++ bytes.now) begun.new.items result }
+    {
+        let mut rest = bytes;
+        while *number < u64::MAX {
+            let Some(end) = first_feed(rest) else {
+                return keep(begun, rest);
+            };
+            self.end_line(alloc, writer, begun, *number, &rest[..end])?;
+            *number += 1;
+            rest = &rest[end + 1..];
+        }
+        if rest.is_empty() {
+            Ok(())
+        } else {
+            Err(PlayError::Read)
+        }
+    }
+
+    // Does the line that begins with `begun` and ends with `piece`. A line that lies in one block isn't copied.
+    fn end_line<A: Allocator + Copy, W: Write>(
+        &mut self,
+        alloc: A,
+        writer: &mut W,
+        begun: &mut Vec<u8, A>,
+        number: u64,
+        piece: &[u8],
+    ) -> Result<(), PlayError>
+        ensures line { let held = W.contents writer.old in
+            let holds = W.contents writer.new in
+            LineEnded self.old.bench self.new.bench held holds number (begun.old.items ++ piece.now) result }
+        ensures none_begun { OnOk result (begun.new.items ≡ []) }
+    {
+        if begun.is_empty() {
+            return self.do_line(alloc, writer, number, piece);
+        }
+        keep(begun, piece)?;
+        self.do_line(alloc, writer, number, begun)?;
+        begun.clear();
+        Ok(())
+    }
+
+    // Does a line, and writes its text. It tells the commands that most lines have by their bytes, as `Line::read`
+    // does, and does each where it was read: a line that is made into a `Line` first, and that taken apart again, takes
+    // 87 instructions more.
+    fn do_line<A: Allocator + Copy, W: Write>(
+        &mut self,
+        alloc: A,
+        writer: &mut W,
+        number: u64,
+        bytes: &[u8],
     ) -> Result<(), PlayError>
         ensures { let held = W.contents writer.old in
             let holds = W.contents writer.new in
-            let had = R.remaining reader.old in
-            let has = R.remaining reader.new in
-            Played self.old.bench self.new.bench held holds had has result }
+            LineDone self.old.bench self.new.bench held holds number bytes.now result }
     {
-        play_lines(&mut self.machine, alloc, reader, writer)
-    }
-}
-
-// Not inlined: the block would lie on the stack while the caller boots the machine.
-#[inline(never)]
-fn play_lines<P: Playable, A: Allocator + Copy, R: Read, W: Write>(
-    machine: &mut P,
-    alloc: A,
-    reader: &mut R,
-    writer: &mut W,
-) -> Result<(), PlayError>
-    ensures { let held = W.contents writer.old in
-        let holds = W.contents writer.new in
-        let had = R.remaining reader.old in
-        let has = R.remaining reader.new in
-        Played (P.bench machine.old) (P.bench machine.new) held holds had has result }
-{
-    let mut begun = Begun::new(alloc);
-    let mut block = [0; BLOCK];
-    for _ in 0..u64::MAX - 1 {
-        match reader.read(&mut block) {
-            Ok(0) if begun.bytes.is_empty() => return Ok(()),
-            Ok(0) => return Err(PlayError::BadLine(begun.number)),
-            Ok(count) => begun = feed(machine, alloc, writer, begun, &block[..count])?,
-            Err(_) => return Err(PlayError::Read),
+        match bytes {
+            [] | [b'#', ..] => Ok(()),
+            [b'c', b'a', b'l', b'l', b' ', words @ ..] => self.do_call(writer, number, words),
+            [b'l', b'o', b'a', b'd', b' ', words @ ..] => self.do_load(writer, number, words),
+            [b's', b't', b'o', b'r', b'e', b' ', words @ ..] => {
+                self.do_store(writer, number, words)
+            }
+            _ => self.do_other(alloc, writer, number, bytes),
         }
     }
-    Err(PlayError::Read)
-}
 
-fn feed<P: Playable, A: Allocator + Copy, W: Write>(
-    machine: &mut P,
-    alloc: A,
-    writer: &mut W,
-    begun: Begun<A>,
-    bytes: &[u8],
-) -> Result<Begun<A>, PlayError>
-    ensures fed { let start = P.bench machine.old in
-        let now = P.bench machine.new in
-        let held = W.contents writer.old in
-        let holds = W.contents writer.new in
-        let all = begun.bytes.items ++ bytes.now in
-        IfOk result (λ next. Feeding start now held holds begun.number next.number all next.bytes.items) }
-    ensures failed { let start = P.bench machine.old in
-        let now = P.bench machine.new in
-        let held = W.contents writer.old in
-        let holds = W.contents writer.new in
-        IfErr result (StopsIn start now held holds begun.number (begun.bytes.items ++ bytes.now)) }
-{
-    let Begun {
-        bytes: mut line,
-        mut number,
-    } = begun;
-    do_lines(machine, alloc, writer, &mut line, &mut number, bytes)?;
-    Ok(Begun {
-        bytes: line,
-        number,
-    })
-}
-
-// Takes bytes that were read: `begun` are those of the line that hasn't ended, and `number` is its number. The last
-// number is that of no line, so bytes behind the lines that can be counted are those of an input that is too long.
-fn do_lines<P: Playable, A: Allocator + Copy, W: Write>(
-    machine: &mut P,
-    alloc: A,
-    writer: &mut W,
-    begun: &mut Vec<u8, A>,
-    number: &mut u64,
-    bytes: &[u8],
-) -> Result<(), PlayError>
-    requires unended { has_no_feed begun.old.items ≡ true }
-    requires numbered { IsNumbered number.old begun.old.items }
-    ensures { let start = P.bench machine.old in
-        let now = P.bench machine.new in
-        let held = W.contents writer.old in
-        let holds = W.contents writer.new in
-        Fed start now held holds number.old number.new (begun.old.items ++ bytes.now) begun.new.items result }
-{
-    let mut rest = bytes;
-    while *number < u64::MAX {
-        let Some(end) = first_feed(rest) else {
-            return keep(begun, rest);
-        };
-        end_line(machine, alloc, writer, begun, *number, &rest[..end])?;
-        *number += 1;
-        rest = &rest[end + 1..];
+    // Does a call, by the words behind its name.
+    #[inline(always)]
+    fn do_call<W: Write>(
+        &mut self,
+        writer: &mut W,
+        number: u64,
+        words: &[u8],
+    ) -> Result<(), PlayError>
+        ensures { let held = W.contents writer.old in
+            let holds = W.contents writer.new in
+            LineDone self.old.bench self.new.bench held holds number (codes "call " ++ words.now) result }
+    {
+        let mut op = Op::Call([0; 8]);
+        if read_call(words, &mut op) {
+            self.operate(writer, &op)
+        } else {
+            Err(PlayError::BadLine(number))
+        }
     }
-    if rest.is_empty() {
-        Ok(())
-    } else {
-        Err(PlayError::Read)
+
+    // Does a load, alike.
+    #[inline(always)]
+    fn do_load<W: Write>(
+        &mut self,
+        writer: &mut W,
+        number: u64,
+        words: &[u8],
+    ) -> Result<(), PlayError>
+        ensures { let held = W.contents writer.old in
+            let holds = W.contents writer.new in
+            LineDone self.old.bench self.new.bench held holds number (codes "load " ++ words.now) result }
+    {
+        match line::load(words) {
+            Some((addr, size)) => self.operate(writer, &Op::Load { addr, size }),
+            None => Err(PlayError::BadLine(number)),
+        }
+    }
+
+    // Does a store, alike.
+    #[inline(always)]
+    fn do_store<W: Write>(
+        &mut self,
+        writer: &mut W,
+        number: u64,
+        words: &[u8],
+    ) -> Result<(), PlayError>
+        ensures { let held = W.contents writer.old in
+            let holds = W.contents writer.new in
+            LineDone self.old.bench self.new.bench held holds number (codes "store " ++ words.now) result }
+    {
+        match line::store(words) {
+            Some((addr, size, value)) => self.operate(writer, &Op::Store { addr, size, value }),
+            None => Err(PlayError::BadLine(number)),
+        }
+    }
+
+    // Does a line of another command, of which a trace has few.
+    #[inline(never)]
+    fn do_other<A: Allocator + Copy, W: Write>(
+        &mut self,
+        alloc: A,
+        writer: &mut W,
+        number: u64,
+        bytes: &[u8],
+    ) -> Result<(), PlayError>
+        ensures { let held = W.contents writer.old in
+            let holds = W.contents writer.new in
+            LineDone self.old.bench self.new.bench held holds number bytes.now result }
+    {
+        match Line::read_in(self.processors(), bytes) {
+            Some(line) => {
+                self.line(alloc, &line, writer)?;
+                Ok(())
+            }
+            None => Err(PlayError::BadLine(number)),
+        }
+    }
+
+    /// Does a line, and writes its text. It answers the outcome of the operation or the interrupt that the line is, but
+    /// none where a preempted partition goes on.
+    ///
+    /// Only `Line::Audit` wants memory: where that is refused, nothing is done and nothing is written.
+    pub fn line<A: Allocator + Copy, W: Write>(
+        &mut self,
+        alloc: A,
+        line: &Line,
+        writer: &mut W,
+    ) -> Result<Option<Outcome>, PlayError>
+        ensures { let held = W.contents writer.old in
+            let holds = W.contents writer.new in
+            Answered self.old.bench self.new.bench held holds (meant line.now) result }
+    {
+        let machine = &mut self.machine;
+        match *line {
+            Line::Operation(op) => operate_and_tell(machine, writer, &op),
+            Line::Show => show::write_show(machine, writer).map(|()| None),
+            Line::Audit => certificate::write_audit(machine, alloc, writer).map(|()| None),
+            Line::Nothing => Ok(None),
+            Line::Turn(processor) => {
+                machine.turn(processor);
+                Ok(None)
+            }
+            Line::Interrupt => {
+                let outcome = machine.interrupt();
+                write_interrupt(writer, &outcome)?;
+                Ok(Some(outcome))
+            }
+        }
+    }
+
+    // Does an operation, and writes what comes of it.
+    #[inline(always)]
+    fn operate<W: Write>(&mut self, writer: &mut W, op: &Op) -> Result<(), PlayError>
+        ensures bench { self.new.bench ≡ after_op self.old.bench op.now }
+        ensures text { let held = W.contents writer.old in
+            let holds = W.contents writer.new in
+            Writes held holds (effect_text op.now (effect_of self.old.bench op.now)) result }
+    {
+        let mut effect = Effect::Outcome(Outcome::Done);
+        self.machine.op(op, &mut effect);
+        match &effect {
+            Effect::Outcome(outcome) => write_outcome(writer, op, outcome),
+            Effect::Resumed(partition) => write_resumed(writer, *partition),
+        }
     }
 }
 
@@ -273,78 +376,6 @@ fn keep<A: Allocator>(begun: &mut Vec<u8, A>, bytes: &[u8]) -> Result<(), PlayEr
         .map_err(|_| PlayError::NoMemory)
 }
 
-// Does the line that begins with `begun` and ends with `piece`. A line that lies in one block isn't copied.
-fn end_line<P: Playable, A: Allocator + Copy, W: Write>(
-    machine: &mut P,
-    alloc: A,
-    writer: &mut W,
-    begun: &mut Vec<u8, A>,
-    number: u64,
-    piece: &[u8],
-) -> Result<(), PlayError>
-    ensures line { let start = P.bench machine.old in
-        let now = P.bench machine.new in
-        let held = W.contents writer.old in
-        let holds = W.contents writer.new in
-        LineEnded start now held holds number (begun.old.items ++ piece.now) result }
-    ensures none_begun { OnOk result (begun.new.items ≡ []) }
-{
-    if begun.is_empty() {
-        return do_line(machine, alloc, writer, number, piece);
-    }
-    keep(begun, piece)?;
-    do_line(machine, alloc, writer, number, begun)?;
-    begun.clear();
-    Ok(())
-}
-
-// Does a line, and writes its text. It tells the commands that most lines have by their bytes, as `Line::read` does,
-// and does each where it was read: a line that is made into a `Line` first, and that taken apart again, takes 87
-// instructions more.
-fn do_line<P: Playable, A: Allocator + Copy, W: Write>(
-    machine: &mut P,
-    alloc: A,
-    writer: &mut W,
-    number: u64,
-    bytes: &[u8],
-) -> Result<(), PlayError>
-    ensures { let held = W.contents writer.old in
-        let holds = W.contents writer.new in
-        LineDone (P.bench machine.old) (P.bench machine.new) held holds number bytes.now result }
-{
-    match bytes {
-        [] | [b'#', ..] => Ok(()),
-        [b'c', b'a', b'l', b'l', b' ', words @ ..] => do_call(machine, writer, number, words),
-        [b'l', b'o', b'a', b'd', b' ', words @ ..] => do_load(machine, writer, number, words),
-        [b's', b't', b'o', b'r', b'e', b' ', words @ ..] => {
-            do_store(machine, writer, number, words)
-        }
-        _ => do_other(machine, alloc, writer, number, bytes),
-    }
-}
-
-// Does a call, by the words behind its name.
-#[inline(always)]
-fn do_call<P: Playable, W: Write>(
-    machine: &mut P,
-    writer: &mut W,
-    number: u64,
-    words: &[u8],
-) -> Result<(), PlayError>
-    ensures { let start = P.bench machine.old in
-        let now = P.bench machine.new in
-        let held = W.contents writer.old in
-        let holds = W.contents writer.new in
-        LineDone start now held holds number (codes "call " ++ words.now) result }
-{
-    let mut op = Op::Call([0; 8]);
-    if read_call(words, &mut op) {
-        operate(machine, writer, &op)
-    } else {
-        Err(PlayError::BadLine(number))
-    }
-}
-
 // Reads the call that words name into an operation, or returns false. Registers that are read elsewhere would be copied.
 #[inline(always)]
 fn read_call(words: &[u8], op: &mut Op) -> bool
@@ -356,96 +387,6 @@ fn read_call(words: &[u8], op: &mut Op) -> bool
         is_call = line::registers(words, x);
     }
     is_call
-}
-
-// Does a load, alike.
-#[inline(always)]
-fn do_load<P: Playable, W: Write>(
-    machine: &mut P,
-    writer: &mut W,
-    number: u64,
-    words: &[u8],
-) -> Result<(), PlayError>
-    ensures { let start = P.bench machine.old in
-        let now = P.bench machine.new in
-        let held = W.contents writer.old in
-        let holds = W.contents writer.new in
-        LineDone start now held holds number (codes "load " ++ words.now) result }
-{
-    match line::load(words) {
-        Some((addr, size)) => operate(machine, writer, &Op::Load { addr, size }),
-        None => Err(PlayError::BadLine(number)),
-    }
-}
-
-// Does a store, alike.
-#[inline(always)]
-fn do_store<P: Playable, W: Write>(
-    machine: &mut P,
-    writer: &mut W,
-    number: u64,
-    words: &[u8],
-) -> Result<(), PlayError>
-    ensures { let start = P.bench machine.old in
-        let now = P.bench machine.new in
-        let held = W.contents writer.old in
-        let holds = W.contents writer.new in
-        LineDone start now held holds number (codes "store " ++ words.now) result }
-{
-    match line::store(words) {
-        Some((addr, size, value)) => operate(machine, writer, &Op::Store { addr, size, value }),
-        None => Err(PlayError::BadLine(number)),
-    }
-}
-
-// Does a line of another command, of which a trace has few.
-#[inline(never)]
-fn do_other<P: Playable, A: Allocator + Copy, W: Write>(
-    machine: &mut P,
-    alloc: A,
-    writer: &mut W,
-    number: u64,
-    bytes: &[u8],
-) -> Result<(), PlayError>
-    ensures { let held = W.contents writer.old in
-        let holds = W.contents writer.new in
-        LineDone (P.bench machine.old) (P.bench machine.new) held holds number bytes.now result }
-{
-    match Line::read_in(machine.processors(), bytes) {
-        Some(line) => {
-            answer(machine, alloc, writer, &line)?;
-            Ok(())
-        }
-        None => Err(PlayError::BadLine(number)),
-    }
-}
-
-// Does a line that was read, and writes its text. It answers the outcome, if it has one.
-fn answer<P: Playable, A: Allocator + Copy, W: Write>(
-    machine: &mut P,
-    alloc: A,
-    writer: &mut W,
-    line: &Line,
-) -> Result<Option<Outcome>, PlayError>
-    ensures { let held = W.contents writer.old in
-        let holds = W.contents writer.new in
-        Answered (P.bench machine.old) (P.bench machine.new) held holds (meant line.now) result }
-{
-    match *line {
-        Line::Operation(op) => operate_and_tell(machine, writer, &op),
-        Line::Show => show::write_show(machine, writer).map(|()| None),
-        Line::Audit => certificate::write_audit(machine, alloc, writer).map(|()| None),
-        Line::Nothing => Ok(None),
-        Line::Turn(processor) => {
-            machine.turn(processor);
-            Ok(None)
-        }
-        Line::Interrupt => {
-            let outcome = machine.interrupt();
-            write_interrupt(writer, &outcome)?;
-            Ok(Some(outcome))
-        }
-    }
 }
 
 // Does an operation, writes what comes of it, and answers the outcome, if it has one.
@@ -472,20 +413,12 @@ fn operate_and_tell<P: Playable, W: Write>(
     }
 }
 
-// Does an operation, and writes what comes of it.
-#[inline(always)]
-fn operate<P: Playable, W: Write>(machine: &mut P, writer: &mut W, op: &Op) -> Result<(), PlayError>
-    ensures bench { P.bench machine.new ≡ after_op (P.bench machine.old) op.now }
-    ensures text { let held = W.contents writer.old in
-        let holds = W.contents writer.new in
-        Writes held holds (effect_text op.now (effect_of (P.bench machine.old) op.now)) result }
+// Writes that a store was done. It stands alone, so that its text is written without a call for its bytes.
+#[inline(never)]
+fn write_done<W: Write>(writer: &mut W) -> Result<(), PlayError>
+    ensures { Writes (W.contents writer.old) (W.contents writer.new) (ended (codes "done")) result }
 {
-    let mut effect = Effect::Outcome(Outcome::Done);
-    machine.op(op, &mut effect);
-    match &effect {
-        Effect::Outcome(outcome) => write_outcome(writer, op, outcome),
-        Effect::Resumed(partition) => write_resumed(writer, *partition),
-    }
+    output::write_text(writer, b"done\n")
 }
 
 // Writes that a partition goes on.
@@ -511,7 +444,7 @@ fn write_outcome<W: Write>(writer: &mut W, op: &Op, outcome: &Outcome) -> Result
     ensures { Writes (W.contents writer.old) (W.contents writer.new) (outcome_text op.now outcome.now) result }
 {
     match outcome {
-        Outcome::Done => output::write_text(writer, b"done\n"),
+        Outcome::Done => write_done(writer),
         Outcome::Data(value) => write_data(writer, op, *value),
         Outcome::Regs { runner, x } => write_registers(writer, runner.0, x),
         Outcome::Fault(fault) => output::write_text(writer, text::fault_line(*fault)),

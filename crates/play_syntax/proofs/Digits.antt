@@ -1,6 +1,6 @@
 -- SPDX-License-Identifier: MIT OR Apache-2.0
 -- The number that digits write, digit by digit.
-use Rattle.std.proofs.Common.{◌≡◌, ℕ, ◌+◌, ◌*◌, ◌^◌, ◌<◌, ◌≤◌, List, length, take, get_or, fold, option_map, Some, None, refl, sym, ap, ◌∙◌, arith}
+use Rattle.std.proofs.Common.{◌≡◌, ℕ, ◌+◌, ◌*◌, ◌^◌, ◌<◌, ◌≤◌, List, length, take, get_or, fold, option_map, Option, Some, None, IfSome, refl, sym, ap, ◌∙◌, arith}
 use Rattle.std.proofs.Math.Nat.{pow-le-pow_right, pow-suc}
 use Rattle.std.proofs.Math.Numerals.{add-one}
 use Rattle.std.proofs.lemmas.List.Sums.{fold_more}
@@ -34,6 +34,14 @@ fits_more word number count most written few =
     let some : 0 < 16 = omega arith in
     let below : 16 ^ count ≤ 16 ^ most = pow-le-pow_right some few in
     rw (add-one most, pow-suc 16 most) (omega (arith, written.fits, below))
+
+-- a number of so many digits is one of at most as many
+pub fits_in : (r : Option ℕ) (count most : ℕ) → IfSome r (λ n. n < 16 ^ count) → count ≤ most → IfSome r (λ n. n < 16 ^ most)
+fits_in (Some number) count most fits few =
+    let some : 0 < 16 = omega arith in
+    let below : 16 ^ count ≤ 16 ^ most = pow-le-pow_right some few in
+    omega (arith, fits, below)
+fits_in None count most fits few = tt
 
 -- a byte that is no digit
 pub no_digit : (word : List ℕ) (number count : ℕ) → Written word number count → count < length word → None ≡ digit_value (get_or word count 0)

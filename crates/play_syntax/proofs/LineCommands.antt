@@ -204,26 +204,20 @@ no_command bytes other no_fetch no_show no_audit =
       | inl one ↦ named bytes [] (λ _. refl) (λ _. refl) (λ _. refl) (λ _. refl) (λ is. absurd (no_show is)) (λ is. absurd (no_audit is)) ∙ ap command_of (sym one)
       | inr more ↦
           named _ (words_of more.rest) (λ is. absurd (other.no_call more.rest (begins more is))) (λ is. absurd (other.no_load more.rest (begins more is)))
-          (λ is. absurd (other.no_store more.rest (begins more is))) (λ is. absurd (no_fetch more.rest (begins more is))) (λ is. shown more) (λ is. audited more)
+          (λ is. absurd (other.no_store more.rest (begins more is))) (λ is. absurd (no_fetch more.rest (begins more is))) (λ is. alone show_of (λ w ws. refl) more) (λ is. alone audit_of (λ w ws. refl) more)
           ∙ ap command_of (sym more.words)
     ]
   where
     begins : (more : HasMore bytes) {name : List ℕ} → take (word_end bytes) bytes ≡ name → bytes ≡ name ++ space ∷ more.rest
     begins more is = more.whole ∙ ap (λ n. n ++ space ∷ more.rest) is
 
-    shown : (more : HasMore bytes) → None ≡ show_of (words_of more.rest)
-    shown more = of (words_of more.rest) (some_word more.rest)
+    -- a command that no word follows
+    alone : (f : List (List ℕ) → Option Line) → ((w : List ℕ) (ws : List (List ℕ)) → None ≡ f (w ∷ ws)) → (more : HasMore bytes) → None ≡ f (words_of more.rest)
+    alone f none more = of (words_of more.rest) (some_word more.rest)
       where
-        of : (ws : List (List ℕ)) → (ws ≡ [] → ⊥) → None ≡ show_of ws
+        of : (ws : List (List ℕ)) → (ws ≡ [] → ⊥) → None ≡ f ws
         of [] some = absurd (some refl)
-        of (w ∷ ws) some = refl
-
-    audited : (more : HasMore bytes) → None ≡ audit_of (words_of more.rest)
-    audited more = of (words_of more.rest) (some_word more.rest)
-      where
-        of : (ws : List (List ℕ)) → (ws ≡ [] → ⊥) → None ≡ audit_of ws
-        of [] some = absurd (some refl)
-        of (w ∷ ws) some = refl
+        of (w ∷ ws) some = none w ws
 
 pub no_line : (bytes : List ℕ) → IsOther bytes → ((words : List ℕ) → bytes ≢ codes "fetch " ++ words) → bytes ≢ codes "show" → bytes ≢ codes "audit" → None ≡ line_of bytes
 unfolding line_of

@@ -1,8 +1,8 @@
 -- SPDX-License-Identifier: MIT OR Apache-2.0
 -- The lines of a trace: which bytes, without the LF that ends them, are which line.
-use Rattle.std.specs.Prelude.{ℕ, ◌+◌, ◌-◌, ◌*◌, ◌==◌, Bool, not, ◌&&◌, List, [], ◌∷◌, ◌++◌, length, replicate, fold, codes, Option, Some, None, is_some, if◌then◌else◌, nat_lt, option_and_then, option_map, bytes_eq}
+use Rattle.std.specs.Prelude.{ℕ, ◌+◌, ◌-◌, ◌*◌, ◌==◌, Bool, not, ◌&&◌, ◌||◌, List, [], ◌∷◌, ◌++◌, length, replicate, drop, fold, codes, Option, Some, None, is_some, if◌then◌else◌, nat_eq, nat_lt, option_and_then, option_map, bytes_eq}
 use Rattle.std.specs.Option.{option_or}
-use Rattle.std.specs.List.{list_all, slice_split}
+use Rattle.std.specs.List.{list_all, slice_split, starts_with}
 use Rattle.ffa_model.specs.Manifest.{is_from_to}
 use Rattle.ffa_model.specs.declared.operation.Op.{Op}
 use Rattle.ffa_model.specs.declared.operation.Op.TheVariants.{Call, Load, Store, Fetch}
@@ -46,6 +46,14 @@ with_digit number c = option_and_then (λ n. option_map (λ d. 16 * n + d) (digi
 -- the number that 1 to 16 digits write
 unfoldable pub number_of : List ℕ → Option ℕ
 number_of word = if is_from_to 1 16 (length word) then fold with_digit (Some 0) word else None
+
+-- a word without `0x` or `0X` in front, which no line of a trace has
+abbrev pub bare : List ℕ → List ℕ
+bare word = if starts_with nat_eq word (codes "0x") || starts_with nat_eq word (codes "0X") then drop 2 word else word
+
+-- the number that at most so many digits write, with such a mark before them or without
+unfoldable pub number_in : ℕ → List ℕ → Option ℕ
+number_in most word = if is_from_to 1 most (length (bare word)) then fold with_digit (Some 0) (bare word) else None
 
 -- the numbers that words write, one each
 abbrev pub numbers_of : List (List ℕ) → Option (List ℕ)

@@ -4,6 +4,7 @@
 
 pub mod line;
 mod lines;
+pub mod number;
 pub mod output;
 pub mod text;
 

@@ -2,5 +2,4 @@
 pub mod Calls
 pub mod Cuts
 pub mod Names
-pub mod Numbers
 pub mod Words

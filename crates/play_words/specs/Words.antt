@@ -1,13 +1,14 @@
 -- SPDX-License-Identifier: MIT OR Apache-2.0
 -- What a line in words means: a call by its name, the numbers of its arguments, and the registers that hold them.
 use Rattle.std.specs.Prelude.{◌≡◌, ℕ, ◌+◌, ◌-◌, ◌*◌, ◌/◌, ◌%◌, ◌^◌, ◌==◌, Bool, not, ◌&&◌, nat_eq, nat_le, nat_lt, List, [], ◌∷◌, ◌++◌, bit_or, codes, drop, find, fold, is_some, length, position, take, unwrap_or, Option, None, Some, option_map, Result, Ok, Err, ⊤, if◌then◌else◌, bytes_eq}
+use Rattle.std.specs.Int.{from_le_bytes, w128}
 use Rattle.std.specs.List.{flat_map, list_any, starts_with}
 use Rattle.std.specs.Option.{option_or}
-use Rattle.play_syntax.specs.TraceLines.{hash, words_of}
+use Rattle.play_syntax.specs.TraceLines.{bare, hash, number_in, words_of}
 use Rattle.play_syntax.specs.TraceText.{spaced}
+use Rattle.uuid.specs.Text.{parsed}
 use Rattle.play_words.specs.Calls.{Argument, Form, function_named}
 use Rattle.play_words.specs.Names.{name_text}
-use Rattle.play_words.specs.Numbers.{bare, number_in, uuid_in}
 use Rattle.play_words.specs.declared.arguments.Place.{Place}
 use Rattle.play_words.specs.declared.arguments.Place.TheVariants.{High, Low, Word, Words}
 use Rattle.play_words.specs.declared.arguments.Usual.{Usual}
@@ -44,9 +45,13 @@ most_at function other most = most
 abbrev pub most_of : Form → Argument → ℕ
 most_of function argument = most_at function argument.1 argument.2
 
+-- the number of a UUID, which is written as in a manifest: its first byte has the lowest bits
+unfoldable pub uuid_in : List ℕ → Option ℕ
+uuid_in text = option_map (from_le_bytes w128) (parsed text)
+
 -- a feature is a number, or the call of a name, behind which `_64` stands for the 64-bit form
 unfoldable pub feature_in : List ℕ → Option ℕ
-feature_in text = option_or (number_in text) (option_map (λ form. form.number) (function_named text))
+feature_in text = option_or (number_in 32 text) (option_map (λ form. form.number) (function_named text))
 
 abbrev pub or_cause : Cause → Option ℕ → Result ℕ Cause
 or_cause cause None = Err cause
@@ -56,7 +61,7 @@ or_cause cause (Some value) = Ok value
 abbrev pub value_in : Name → List ℕ → Result ℕ Cause
 value_in Uuid text = or_cause cause.NoUuid (uuid_in text)
 value_in Feature text = or_cause cause.NoFeature (feature_in text)
-value_in other text = or_cause cause.NoNumber (number_in text)
+value_in other text = or_cause cause.NoNumber (number_in 32 text)
 
 abbrev pub valued : Argument → ℕ → Result ℕ Cause → Result Given Cause
 valued argument most (Err cause) = Err cause

@@ -31,26 +31,31 @@ pub enum Usual {
 /// Of an argument its name; where its number stands; the largest that it may be, in the 32-bit form; and what stands for it.
 pub type Argument = (Name, Place, u128, Usual);
 
-macro_rules! rows {
-    ($($function:ident [$($name:ident $place:ident $register:literal $most:literal $usual:ident),*];)*) => {
-        [$(($function, &[$((Name::$name, Place::$place($register), $most, Usual::$usual)),*])),*]
+macro_rules! arguments {
+    ([$($name:ident $place:ident $register:literal $most:literal $usual:ident),*]) => {
+        &[$((Name::$name, Place::$place($register), $most, Usual::$usual)),*]
     };
 }
 
-/// The calls with their arguments, by the identifier of the 32-bit form.
+macro_rules! rows {
+    ($($($function:ident)+: $arguments:tt;)*) => {
+        [$($(($function, arguments!($arguments))),+),*]
+    };
+}
+
+/// The calls with their arguments, by the identifier of the 32-bit form. Calls with the same arguments share a row.
 #[rattlefmt::skip]
 pub const ARGUMENTS: &[(u32, &[Argument])] = &rows![
-    FFA_VERSION [Major High 1 0x7FFF Needed, Minor Low 1 0xFFFF Needed];
-    FFA_FEATURES [Feature Word 1 0xFFFF_FFFF Needed];
-    FFA_RX_RELEASE [];
-    FFA_RXTX_MAP [Tx Word 1 0xFFFF_FFFF Needed, Rx Word 2 0xFFFF_FFFF Needed, Pages Word 3 0xFFFF_FFFF Needed];
-    FFA_RXTX_UNMAP [Endpoint Word 1 0xFFFF_FFFF Zero];
-    FFA_PARTITION_INFO_GET [Uuid Words 1 0xFFFF_FFFF_FFFF_FFFF_FFFF_FFFF_FFFF_FFFF Zero, CountOnly Low 5 0x1 Zero];
-    FFA_ID_GET [];
-    FFA_MSG_WAIT [Partition High 1 0xFFFF Zero, Context Low 1 0xFFFF Zero];
-    FFA_YIELD [Partition High 1 0xFFFF Zero, Context Low 1 0xFFFF Zero];
-    FFA_RUN [Partition High 1 0xFFFF Needed, Context Low 1 0xFFFF Zero];
-    FFA_MSG_SEND_DIRECT_REQ [
+    FFA_VERSION: [Major High 1 0x7FFF Needed, Minor Low 1 0xFFFF Needed];
+    FFA_FEATURES: [Feature Word 1 0xFFFF_FFFF Needed];
+    FFA_RX_RELEASE: [];
+    FFA_RXTX_MAP: [Tx Word 1 0xFFFF_FFFF Needed, Rx Word 2 0xFFFF_FFFF Needed, Pages Word 3 0xFFFF_FFFF Needed];
+    FFA_RXTX_UNMAP: [Endpoint Word 1 0xFFFF_FFFF Zero];
+    FFA_PARTITION_INFO_GET: [Uuid Words 1 0xFFFF_FFFF_FFFF_FFFF_FFFF_FFFF_FFFF_FFFF Zero, CountOnly Low 5 0x1 Zero];
+    FFA_ID_GET: [];
+    FFA_MSG_WAIT FFA_YIELD: [Partition High 1 0xFFFF Zero, Context Low 1 0xFFFF Zero];
+    FFA_RUN: [Partition High 1 0xFFFF Needed, Context Low 1 0xFFFF Zero];
+    FFA_MSG_SEND_DIRECT_REQ FFA_MSG_SEND_DIRECT_RESP: [
         Sender High 1 0xFFFF Needed,
         Receiver Low 1 0xFFFF Needed,
         Flags Word 2 0xFFFF_FFFF Zero,
@@ -60,63 +65,22 @@ pub const ARGUMENTS: &[(u32, &[Argument])] = &rows![
         Payload3 Word 6 0xFFFF_FFFF Zero,
         Payload4 Word 7 0xFFFF_FFFF Zero
     ];
-    FFA_MSG_SEND_DIRECT_RESP [
-        Sender High 1 0xFFFF Needed,
-        Receiver Low 1 0xFFFF Needed,
-        Flags Word 2 0xFFFF_FFFF Zero,
-        Payload0 Word 3 0xFFFF_FFFF Zero,
-        Payload1 Word 4 0xFFFF_FFFF Zero,
-        Payload2 Word 5 0xFFFF_FFFF Zero,
-        Payload3 Word 6 0xFFFF_FFFF Zero,
-        Payload4 Word 7 0xFFFF_FFFF Zero
-    ];
-    FFA_MEM_DONATE [
+    FFA_MEM_DONATE FFA_MEM_LEND FFA_MEM_SHARE FFA_MEM_RETRIEVE_REQ: [
         Length Word 1 0xFFFF_FFFF Needed,
         Fragment Word 2 0xFFFF_FFFF Length,
         Address Word 3 0xFFFF_FFFF Zero,
         Pages Word 4 0xFFFF_FFFF Zero
     ];
-    FFA_MEM_LEND [
-        Length Word 1 0xFFFF_FFFF Needed,
-        Fragment Word 2 0xFFFF_FFFF Length,
-        Address Word 3 0xFFFF_FFFF Zero,
-        Pages Word 4 0xFFFF_FFFF Zero
-    ];
-    FFA_MEM_SHARE [
-        Length Word 1 0xFFFF_FFFF Needed,
-        Fragment Word 2 0xFFFF_FFFF Length,
-        Address Word 3 0xFFFF_FFFF Zero,
-        Pages Word 4 0xFFFF_FFFF Zero
-    ];
-    FFA_MEM_RETRIEVE_REQ [
-        Length Word 1 0xFFFF_FFFF Needed,
-        Fragment Word 2 0xFFFF_FFFF Length,
-        Address Word 3 0xFFFF_FFFF Zero,
-        Pages Word 4 0xFFFF_FFFF Zero
-    ];
-    FFA_MEM_RELINQUISH [];
-    FFA_MEM_RECLAIM [Handle Words 1 0xFFFF_FFFF_FFFF_FFFF Needed, Flags Word 3 0xFFFF_FFFF Zero];
-    FFA_NOTIFICATION_BITMAP_CREATE [Endpoint Word 1 0xFFFF_FFFF Needed, Contexts Word 2 0xFFFF_FFFF Needed];
-    FFA_NOTIFICATION_BITMAP_DESTROY [Endpoint Word 1 0xFFFF_FFFF Needed];
-    FFA_NOTIFICATION_BIND [
+    FFA_MEM_RELINQUISH: [];
+    FFA_MEM_RECLAIM: [Handle Words 1 0xFFFF_FFFF_FFFF_FFFF Needed, Flags Word 3 0xFFFF_FFFF Zero];
+    FFA_NOTIFICATION_BITMAP_CREATE: [Endpoint Word 1 0xFFFF_FFFF Needed, Contexts Word 2 0xFFFF_FFFF Needed];
+    FFA_NOTIFICATION_BITMAP_DESTROY: [Endpoint Word 1 0xFFFF_FFFF Needed];
+    FFA_NOTIFICATION_BIND FFA_NOTIFICATION_UNBIND FFA_NOTIFICATION_SET: [
         Sender High 1 0xFFFF Needed,
         Receiver Low 1 0xFFFF Needed,
         Flags Word 2 0xFFFF_FFFF Zero,
         Bits Words 3 0xFFFF_FFFF_FFFF_FFFF Needed
     ];
-    FFA_NOTIFICATION_UNBIND [
-        Sender High 1 0xFFFF Needed,
-        Receiver Low 1 0xFFFF Needed,
-        Flags Word 2 0xFFFF_FFFF Zero,
-        Bits Words 3 0xFFFF_FFFF_FFFF_FFFF Needed
-    ];
-    FFA_NOTIFICATION_SET [
-        Sender High 1 0xFFFF Needed,
-        Receiver Low 1 0xFFFF Needed,
-        Flags Word 2 0xFFFF_FFFF Zero,
-        Bits Words 3 0xFFFF_FFFF_FFFF_FFFF Needed
-    ];
-    FFA_NOTIFICATION_GET [Receiver Low 1 0xFFFF Needed, Context High 1 0xFFFF Zero, Flags Word 2 0xFFFF_FFFF Needed];
-    FFA_SPM_ID_GET [];
-    FFA_MSG_SEND2 [];
+    FFA_NOTIFICATION_GET: [Receiver Low 1 0xFFFF Needed, Context High 1 0xFFFF Zero, Flags Word 2 0xFFFF_FFFF Needed];
+    FFA_SPM_ID_GET FFA_MSG_SEND2: [];
 ];

@@ -4,14 +4,15 @@ ghost use Rattle.std.specs.Prelude.{◌≡◌, ◌+◌, ◌<◌, ◌^◌, ◌==�
 ghost use Rattle.play_syntax.specs.TraceLines.{words_of};
 ghost use Rattle.play_words.specs.Calls.{form_of};
 ghost use Rattle.play_words.specs.Cuts.{left_length, words_left};
-ghost use Rattle.play_words.specs.Words.{Gives, argument_named, given_in, givens, feature_in, is_given, is_missing, is_whole, most_of, named_in, register_of, registers, share, usual_of, value_in, value_named, value_of, word_at};
+ghost use Rattle.play_words.specs.Words.{Gives, argument_named, given_in, givens, feature_in, is_given, is_missing, is_whole, most_of, named_in, register_of, registers, share, usual_of, uuid_in, value_in, value_named, value_of, word_at};
 
 use crate::arguments::{Argument, Place, Usual};
 use crate::fault::{Cause, LowerError, WordsFault};
 use crate::function::{Function, function_named};
 use crate::name::Name;
-use crate::number::{number_in, uuid_in};
+use play_syntax::number::number_in;
 use std::alloc::Allocator;
+use uuid::Uuid;
 
 /// An argument with the number that was given for it.
 #[derive(Clone, Copy)]
@@ -102,7 +103,18 @@ fn value_in(name: Name, text: &[u8]) -> Result<u128, Cause>
     match name {
         Name::Uuid => uuid_in(text).ok_or(Cause::NoUuid),
         Name::Feature => feature_in(text).ok_or(Cause::NoFeature),
-        _ => number_in(text).ok_or(Cause::NoNumber),
+        _ => number_in(32, text).ok_or(Cause::NoNumber),
+    }
+}
+
+// The number of a UUID, which is written as in a manifest: its first byte has the lowest bits.
+#[tactic(auto, unfolding(crate::specs::Words::uuid_in))]
+fn uuid_in(text: &[u8]) -> Option<u128>
+    ensures { result ≡ uuid_in text.now }
+{
+    match Uuid::try_parse_ascii(text) {
+        Ok(uuid) => Some(u128::from_le_bytes(uuid.into_bytes())),
+        Err(_) => None,
     }
 }
 
@@ -111,7 +123,7 @@ fn value_in(name: Name, text: &[u8]) -> Result<u128, Cause>
 fn feature_in(text: &[u8]) -> Option<u128>
     ensures { result ≡ feature_in text.now }
 {
-    if let Some(number) = number_in(text) {
+    if let Some(number) = number_in(32, text) {
         return Some(number);
     }
     match function_named(text) {

@@ -9,7 +9,6 @@ mod function;
 mod given;
 mod lowering;
 mod name;
-mod number;
 
 pub use arguments::{ARGUMENTS, Argument, Place, Usual};
 pub use fault::{Cause, LowerError, WordsFault};

@@ -10,8 +10,8 @@ ghost use Rattle.play_words.specs.Words.{Gives, Refuses, call_in, is_named, plai
 use crate::fault::{Cause, LowerError, WordsFault};
 use crate::function::function_named;
 use crate::given::{cut_word, first_missing, read_given, registers};
-use crate::number::bare;
 use ffa_model::Op;
+use play_syntax::number::bare;
 use play_writer::put_operation;
 use std::alloc::{AllocError, Allocator};
 

@@ -72,7 +72,7 @@ fn push_load(line: &mut LineText, addr: u64, size: Size)
 {
     push_word(line, b"load");
     push_hex(line, address_digits(addr), addr);
-    push_hex(line, 1, byte_count(size) as u64);
+    push_hex(line, 1, size.bytes());
 }
 
 fn push_store(line: &mut LineText, addr: u64, size: Size, value: u64)
@@ -83,7 +83,7 @@ fn push_store(line: &mut LineText, addr: u64, size: Size, value: u64)
 {
     push_word(line, b"store");
     push_hex(line, address_digits(addr), addr);
-    push_hex(line, 2 * byte_count(size) as u32, value);
+    push_hex(line, 2 * size.bytes() as u32, value);
 }
 
 fn push_fetch(line: &mut LineText, addr: u64)
@@ -101,16 +101,4 @@ fn address_digits(addr: u64) -> u32
     ensures enough { addr < 16 ^ result }
 {
     if addr < 1 << 32 { 8 } else { 16 }
-}
-
-/// How many bytes an access moves.
-pub fn byte_count(size: Size) -> usize
-    ensures { result ≡ size_of size }
-{
-    match size {
-        Size::B1 => 1,
-        Size::B2 => 2,
-        Size::B4 => 4,
-        Size::B8 => 8,
-    }
 }

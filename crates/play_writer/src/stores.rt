@@ -4,7 +4,7 @@
 ghost use Rattle.std.specs.Prelude.{◌≡◌, ℕ, ◌+◌, ◌%◌, ◌^◌, ◌≤◌, List, ◌++◌, length, OnOk, OnErr};
 ghost use Rattle.play_writer.specs.Script.{GrowsByStores, largest};
 
-use crate::operation::{byte_count, put_operation};
+use crate::operation::put_operation;
 use byteorder::{ByteOrder, LittleEndian};
 use ffa_model::{Address, Op, Size};
 use std::alloc::{AllocError, Allocator};
@@ -42,7 +42,7 @@ fn put_each<A: Allocator>(
     let (mut addr, mut rest) = (address, bytes);
     while !rest.is_empty() {
         let size = largest(rest.len());
-        let count = byte_count(size);
+        let count = size.bytes() as usize;
         let value = LittleEndian::read_uint(rest, count);
         put_operation(text, &Op::Store { addr, size, value })?;
         addr += count as u64;

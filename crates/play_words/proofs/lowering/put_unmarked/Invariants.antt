@@ -1,9 +1,8 @@
 -- SPDX-License-Identifier: MIT OR Apache-2.0
 use Rattle.std.proofs.Common.{◌≡◌, ◌++◌, flat_map}
-use Rattle.play_syntax.specs.TraceLines.{words_of}
+use Rattle.play_syntax.specs.TraceLines.{bare, words_of}
 use Rattle.play_syntax.specs.TraceText.{spaced}
 use Rattle.play_words.specs.Cuts.{left_length, words_left}
-use Rattle.play_words.specs.Numbers.{bare}
 use Rattle.play_words.specs.Words.{unmarked}
 use Rattle.play_words.proofs.lowering.put_unmarked.Given as goal
 

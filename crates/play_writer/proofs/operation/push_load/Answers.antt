@@ -14,7 +14,7 @@ returns-clause-line c =
     let size = c.args.size in
     let name = c.push_word.ensures.items ∙ ap (λ l. l ++ codes "load") c.requires in
     let first = c.push_hex.ensures.items ∙ ap (λ l. l ++ spaced (hex digits addr)) name in
-    let second = c.push_hex-2.ensures.items ∙ ap (λ n. c.push_hex.new.text.items ++ spaced (hex 1 n)) c.byte_count.ensures in
+    let second = c.push_hex-2.ensures.items ∙ ap (λ n. c.push_hex.new.text.items ++ spaced (hex 1 n)) c.bytes.ensures in
     let whole = second ∙ ap (λ l. l ++ spaced (hex 1 (size_of size))) first ∙ two_put (codes "load") (hex digits addr) (hex 1 (size_of size)) in
     subst (λ l. IsLineOf l (Load addr size)) (sym whole)
     (load_read digits addr size (omega (arith, c.address_digits.ensures.some)) c.address_digits.ensures.few c.address_digits.ensures.enough)

@@ -15,7 +15,7 @@ returns-clause-line c =
     let value = c.args.value in
     let name = c.push_word.ensures.items ∙ ap (λ l. l ++ codes "store") c.requires.empty in
     let first = c.push_hex.ensures.items ∙ ap (λ l. l ++ spaced (hex digits addr)) name in
-    let second = c.push_hex-2.ensures.items ∙ ap (λ n. c.push_hex.new.text.items ++ spaced (hex (2 * n) value)) c.byte_count.ensures in
+    let second = c.push_hex-2.ensures.items ∙ ap (λ n. c.push_hex.new.text.items ++ spaced (hex (2 * n) value)) c.bytes.ensures in
     let word = hex (2 * size_of size) value in
     let whole = second ∙ ap (λ l. l ++ spaced word) first ∙ two_put (codes "store") (hex digits addr) word in
     subst (λ l. IsLineOf l (Store addr size value)) (sym whole)

@@ -1,6 +1,6 @@
 -- SPDX-License-Identifier: MIT OR Apache-2.0
 use borrow.Author.Count.{below_more}
-use Rattle.std.proofs.Common.{◌+◌, ◌*◌, ◌++◌, ◌^◌, ◌<◌, ℕ, List, [], length, get_or, take, None, subst, arith, flat_map}
+use Rattle.std.proofs.Common.{◌+◌, ◌*◌, ◌++◌, ◌^◌, ◌<◌, ℕ, List, length, get_or, take, None, subst, arith, flat_map}
 use Rattle.std.proofs.lemmas.List.{get_or_default}
 use Rattle.ffa_model.specs.declared.transaction.Receiver.{Receiver}
 use Rattle.ffa_memdesc.specs.Writing.{Wrote}

@@ -9,9 +9,9 @@ use Rattle.play_writer.proofs.stores.put_each.Goals as goal
 pub put_operation-requires : goal.put_operation-requires
 put_operation-requires g c =
     let rest = c.loop-rest.rest.now in
-    let value : c.read_uint-value.result ≡ little_from 0 c.byte_count-count.result rest = c.read_uint-value.ensures in
-    let count : c.byte_count-count.result ≡ size_of c.largest-size.result = c.byte_count-count.ensures in
-    subst (λ n. c.read_uint-value.result < 256 ^ n) count (subst (λ v. v < 256 ^ c.byte_count-count.result) (sym value) (little_from-lt 0 c.byte_count-count.result rest c.loop-rest.invariant.small))
+    let value : c.read_uint-value.result ≡ little_from 0 c.bytes-count.result rest = c.read_uint-value.ensures in
+    let count : c.bytes-count.result ≡ size_of c.largest-size.result = c.bytes-count.ensures in
+    subst (λ n. c.read_uint-value.result < 256 ^ n) count (subst (λ v. v < 256 ^ c.bytes-count.result) (sym value) (little_from-lt 0 c.bytes-count.result rest c.loop-rest.invariant.small))
 
 pub loop-rest-preserved : goal.loop-rest-preserved
 loop-rest-preserved g c =
@@ -20,8 +20,8 @@ loop-rest-preserved g c =
     let between : Between c.args.address c.loop-rest.addr c.args.bytes.now rest c.args.text.now.items c.loop-rest.text.items =
     record { stored = held.stored; ready = held.ready; small = held.small; inside = held.inside } in
     let after =
-    next _ _ _ rest _ _ c.put_operation.new.text.items c.split_at.result.1.now c.largest-size.result c.byte_count-count.result c.read_uint-value.result
-    c.largest-size.ensures c.byte_count-count.ensures c.read_uint-value.ensures c.split_at.ensures.back (some_left rest c.loop-rest-test.ensures) held.small between
+    next _ _ _ rest _ _ c.put_operation.new.text.items c.split_at.result.1.now c.largest-size.result c.bytes-count.result c.read_uint-value.result
+    c.largest-size.ensures c.bytes-count.ensures c.read_uint-value.ensures c.split_at.ensures.back (some_left rest c.loop-rest-test.ensures) held.small between
     c.in_ok-put_operation.ensures.written in
     record { stored = after.stored; ready = after.ready; small = after.small; inside = after.inside }
 

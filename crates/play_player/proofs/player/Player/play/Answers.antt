@@ -3,7 +3,7 @@ use Rattle.std.proofs.Common.{◌≡◌, ◌≢◌, vec_len, sym, ◌∙◌, ari
 use Rattle.std.proofs.lemmas.Bool.{eqb-true, eqb-false}
 use Rattle.std.proofs.lemmas.Result.{err_from_is_err_and}
 use Rattle.play_player.proofs.Plays.{playing_none, block_more, block_failed, all_played, cut_short}
-use Rattle.play_player.proofs.player.play_lines.Goals as goal
+use Rattle.play_player.proofs.player.Player.play.Goals as goal
 
 pub loop-init : goal.loop-init
 loop-init g c = rw (c.new-begun.ensures.bytes, c.new-begun.ensures.number) (playing_none _ _ _)

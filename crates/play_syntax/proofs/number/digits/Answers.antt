@@ -1,7 +1,7 @@
 -- SPDX-License-Identifier: MIT OR Apache-2.0
 use Rattle.std.proofs.Common.{arith, ◌∙◌, sym}
 use Rattle.play_syntax.proofs.Digits.{digit_below, fits_more, no_digit, one_more}
-use Rattle.play_words.proofs.number.digits.Goals as goal
+use Rattle.play_syntax.proofs.number.digits.Goals as goal
 
 pub overflow_mul-number : goal.overflow_mul-number
 overflow_mul-number c = omega (arith, fits_more c.args.word.now c.loop-byte.number c.loop-byte.byte-index 31 c.loop-byte.invariant (omega arith))
@@ -15,7 +15,7 @@ pub loop-byte-preserved : goal.loop-byte-preserved
 loop-byte-preserved c =
     one_more c.args.word.now c.loop-byte.number c.loop-byte.byte-index c.in_ok-number.field-0 c.loop-byte.invariant c.loop-byte-test.true (sym (c.in_ok-number.was) ∙ c.digit.ensures)
 
-pub returns-in_err-number : goal.returns-in_err-number
-returns-in_err-number c =
+pub returns-in_err-number-clause-number : goal.returns-in_err-number-clause-number
+returns-in_err-number-clause-number c =
     c.from_residual.ensures
     ∙ no_digit c.args.word.now c.loop-byte.number c.loop-byte.byte-index c.loop-byte.invariant c.loop-byte-test.true (sym (c.in_err-number.was) ∙ c.digit.ensures)

@@ -4,7 +4,7 @@ use Rattle.play_syntax.specs.TraceLines.{operate}
 use Rattle.play_syntax.proofs.LineCommands.{call_line}
 use Rattle.play_syntax.proofs.LineActs.{bad_in, call_no_act, good_in}
 use Rattle.play_player.proofs.OneLine.{line_written, line_bad}
-use Rattle.play_player.proofs.player.do_call.Goals as goal
+use Rattle.play_player.proofs.player.Player.do_call.Goals as goal
 
 pub returns-then-read_call : goal.returns-then-read_call
 returns-then-read_call g c =

@@ -4,7 +4,7 @@ use Rattle.std.proofs.lemmas.List.{take_rest, nil_from_length}
 use Rattle.std.proofs.lemmas.Bool.{eqb-true, eqb-false}
 use Rattle.std.proofs.lemmas.Result.{err_from_is_err_and}
 use Rattle.play_player.proofs.Feeds.{taking_none, line_done, line_failed, cannot_count, all_taken, none_left}
-use Rattle.play_player.proofs.player.do_lines.Goals as goal
+use Rattle.play_player.proofs.player.Player.do_lines.Goals as goal
 
 pub loop-number-init : goal.loop-number-init
 loop-number-init g c = taking_none _ _ _ _ _ c.requires.unended c.requires.numbered

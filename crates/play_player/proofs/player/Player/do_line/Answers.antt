@@ -2,7 +2,7 @@
 use Rattle.std.proofs.Common.{◌≡◌, get_or, arith}
 use Rattle.play_syntax.proofs.LineCommands.{empty_line, comment_line}
 use Rattle.play_player.proofs.OneLine.{line_skipped}
-use Rattle.play_player.proofs.player.do_line.Goals as goal
+use Rattle.play_player.proofs.player.Player.do_line.Goals as goal
 
 pub returns-in-empty : goal.returns-in-empty
 returns-in-empty g c = line_skipped _ _ c.args.number c.args.bytes.now (empty_line c.args.bytes.now c.in-empty.len_below)

@@ -5,7 +5,7 @@ use Rattle.play_syntax.specs.TraceLines.{operate}
 use Rattle.play_syntax.proofs.LineCommands.{store_line}
 use Rattle.play_syntax.proofs.LineActs.{bad_in, store_no_act, good_in}
 use Rattle.play_player.proofs.OneLine.{line_written, line_bad}
-use Rattle.play_player.proofs.player.do_store.Goals as goal
+use Rattle.play_player.proofs.player.Player.do_store.Goals as goal
 
 pub returns-in-Some : goal.returns-in-Some
 returns-in-Some g c =
