@@ -14,6 +14,6 @@ ram-fits m n is = let a = accepted m.ram_base.0 m.tables.0 m.ram_blocks m.endpoi
 pub ready-for-none : (m : Manifest) (ready n : ℕ) → ready ≡ 0 → n ≡ 512 * m.ram_blocks → ready < n
 ready-for-none m ready n none is = let a = accepted m.ram_base.0 m.tables.0 m.ram_blocks m.endpoints.items m.accepted in omega (arith, none, is, a.some_blocks)
 
-pub ready-without-seat : {S P O R : Type 0} (copies : Bool) (storage : Option (Storage S P O R)) → ready_pages copies false storage ≡ 0
+pub ready-without-seat : {S P O : Type 0} (copies : Bool) (storage : Option (Storage S P O)) → ready_pages copies false storage ≡ 0
 ready-without-seat true storage = refl
 ready-without-seat false storage = refl

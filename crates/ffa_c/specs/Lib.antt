@@ -18,8 +18,8 @@ pub mod Operations
 pub mod Reading
 pub mod Refusing
 pub mod Spans
+pub mod Hints
 pub mod Why
 pub mod Follows
-pub mod ListFollows
 pub mod Grants
 pub mod Runs

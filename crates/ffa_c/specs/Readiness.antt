@@ -5,11 +5,11 @@
 use Rattle.std.specs.Prelude.{ℕ, Bool, true, false, length, Option, None, Some}
 use Rattle.ffa_spmc.specs.declared.storage.Storage.{Storage}
 
-abbrev pub storage_pages : {S P O R : Type 0} → Option (Storage S P O R) → ℕ
+abbrev pub storage_pages : {S P O : Type 0} → Option (Storage S P O) → ℕ
 storage_pages None = 0
 storage_pages (Some s) = length s.pages
 
-abbrev pub ready_pages : {S P O R : Type 0} → Bool → Bool → Option (Storage S P O R) → ℕ
+abbrev pub ready_pages : {S P O : Type 0} → Bool → Bool → Option (Storage S P O) → ℕ
 ready_pages true true storage = storage_pages storage
 ready_pages true false storage = 0
 ready_pages false seat storage = 0

@@ -33,15 +33,15 @@ use Rattle.ffa_model.specs.declared.why.Obstacle.{Obstacle}
 use Rattle.ffa_model.specs.declared.why.Obstacle.TheVariants.{OutsideRam, ManagersPage, OwnedBy, InTransaction}
 use Rattle.ffa_model.specs.declared.why.Why.{Why}
 use Rattle.ffa_model.specs.declared.why.Why.TheVariants.{Refused, Fault}
-use Rattle.ffa_mend.specs.declared.allowed.Allowed.{Allowed}
-use Rattle.ffa_mend.specs.Allowed.{allowed}
 use Rattle.ffa_notify.specs.Noticed.{in_one_context, notice_asked}
 use Rattle.ffa_playable.specs.Bench.{is_refused as does_refuse}
-use Rattle.ffa_playable.specs.declared.detail.Standing.{Standing}
+use Rattle.ffa_playable.specs.declared.detail.Detail.{Detail}
+use Rattle.ffa_playable.specs.declared.detail.Detail.TheVariants.{Standing, Allowed, Mend}
 use Rattle.ffa_playable.specs.declared.detail.Standing.TheVariants.{RunState}
-use Rattle.ffa_playable.specs.Standing.{standing}
+use Rattle.ffa_playable.specs.Standing.{detail}
 use Rattle.ffa_c.specs.Boarded.{Boarded}
 use Rattle.ffa_c.specs.Border.{fault_number, size_at}
+use Rattle.ffa_c.specs.Hints.{hint_told, no_hint}
 use Rattle.ffa_c.specs.declared.reason.CReason.{CReason}
 
 -- an operation of so many bytes, where those are a size
@@ -96,6 +96,7 @@ no_reason =
       least = 0;
       most = 0;
       step = 0;
+      hint = no_hint;
     }
 
 -- what stands in the way
@@ -171,27 +172,20 @@ abbrev pub awaited_told : Option EndpointId → CReason → CReason
 awaited_told None r = r
 awaited_told (Some e) r = record r { awaits = e.0 }
 
--- how that stands which a check is about
-abbrev pub standing_told : Option Standing → CReason → CReason
-standing_told None r = r
-standing_told (Some (RunState status awaits)) r = awaited_told awaits (record r { state = state_number status })
+-- how that stands which a check is about, or which values may be there instead, whose step is never 0, or what to change
+abbrev pub detail_told : Option Detail → CReason → CReason
+detail_told (Some (Standing (RunState status awaits))) r = awaited_told awaits (record r { state = state_number status })
+detail_told (Some (Allowed its)) r = record r { least = its.least; most = its.most; step = its.step }
+detail_told (Some (Mend mend)) r = record r { hint = hint_told mend }
+detail_told None r = r
 
--- which values may be there instead: a step is never 0
-abbrev pub allowed_told : Option Allowed → CReason → CReason
-allowed_told None r = r
-allowed_told (Some its) r = record r { least = its.least; most = its.most; step = its.step }
+abbrev pub reason_told : Why → Option Detail → CReason
+reason_told why its = detail_told its (refused_told why)
 
-abbrev pub reason_told : Why → Option Standing → Option Allowed → CReason
-reason_told why its values = allowed_told values (standing_told its (refused_told why))
-
--- in the state of the machine, if there is one
-abbrev pub standing_held : Option Boarded → Why → Option Standing
-standing_held held why = option_and_then (λ (b : Boarded). standing b.machine.state why) held
-
--- and which values may be there, where the normal world has as many execution contexts as there may be processors
-abbrev pub allowed_held : Option Boarded → Option Op → Why → Option Allowed
-allowed_held held None why = None
-allowed_held held (Some op) why = option_and_then (λ (b : Boarded). allowed MOST_PROCESSORS b.machine.state (in_one_context op) why) held
+-- in the state of the machine, if there is one, where the normal world has as many execution contexts as there may be processors
+abbrev pub detail_held : Option Boarded → Option Op → Why → Option Detail
+detail_held held None why = None
+detail_held held (Some op) why = option_and_then (λ (b : Boarded). detail MOST_PROCESSORS b.machine.state (in_one_context op) why) held
 
 abbrev pub reason_held : Option Boarded → Option Op → Why → CReason
-reason_held held op why = reason_told why (standing_held held why) (allowed_held held op why)
+reason_held held op why = reason_told why (detail_held held op why)

@@ -1,8 +1,8 @@
 // SPDX-License-Identifier: MIT OR Apache-2.0
 //! A machine with the outcomes that C sees, whichever RAM it has.
-ghost use Rattle.std.specs.Prelude.{◌≡◌, ◌<◌, ◌≤◌, ◌*◌, ◌↔◌, IsTrue, true, false, length, is_some};
+ghost use Rattle.std.specs.Prelude.{◌≡◌, ◌<◌, ◌≤◌, ◌*◌, ◌↔◌, IfSome, IsTrue, true, false, length, is_some};
 ghost use Rattle.std.specs.FinSet as finite_set;
-ghost use Rattle.std.specs.Option.{option_and_then};
+ghost use Rattle.std.specs.Option.{option_map};
 ghost use Rattle.ffa_model.specs.declared.limits.TheConstants.{MOST_PROCESSORS};
 ghost use Rattle.ffa_model.specs.Access.{access};
 ghost use Rattle.ffa_model.specs.Agreement.{Agrees, blocks_of, roots_of};
@@ -16,8 +16,7 @@ ghost use Rattle.ffa_spmc.specs.Booted.{IsBootedBy};
 ghost use Rattle.ffa_spmc.specs.Storages.{IsRoomFor};
 ghost use Rattle.ffa_notify.specs.Noticed.{in_one_context};
 ghost use Rattle.ffa_notify.specs.Notices.{is_due};
-ghost use Rattle.ffa_mend.specs.Allowed.{allowed};
-ghost use Rattle.ffa_playable.specs.Standing.{standing};
+ghost use Rattle.ffa_playable.specs.Standing.{detail};
 ghost use Rattle.ffa_c.specs.Boarded.{cluster_of};
 ghost use Rattle.ffa_c.specs.Booting.{IsFirst, IsFirstBy};
 ghost use Rattle.ffa_c.specs.Border.{HasDone, access_code, notices_after, owner_number, root_number};
@@ -30,14 +29,13 @@ use crate::kind::{BoardMachine, audited_by, code_of, do_noticing, owner_by, root
 use crate::outcome::COutcome;
 use ffa_lent::{Frames, LentRam};
 use ffa_memshare::Changed;
-use ffa_mend::Allowed;
 use ffa_model::{
     CertRun, Effect, EndpointId, Grant, MOST_ENDPOINTS, MOST_PROCESSORS, Manifest, Op, Outcome,
-    PageNo, Why,
+    PageNo,
 };
 use ffa_notify::{Told, in_one_context, is_about_notices, notice_asked};
 use ffa_physmem::{FlatRam, PhysMem};
-use ffa_playable::Standing;
+use ffa_playable::Explanation;
 use ffa_spmc::{Cluster, Fill, Given, Machine, Storage, Store};
 use ffa_tlb::NoTlb;
 use std::alloc::Global;
@@ -303,35 +301,20 @@ impl Board {
     }
 
     /// Why an operation of the runner would be refused now, or was refused just before.
-    pub fn why(&self, op: &Op) -> Option<Why>
-        ensures why { result ≡ why_here self.now.machine.state op.now }
+    pub fn why(&self, op: &Op) -> Option<Explanation>
+        ensures why { option_map (λ its. its.why) result ≡ why_here self.now.machine.state op.now }
+        ensures detail { let one = in_one_context op.now in
+            IfSome result (λ its. its.detail ≡ detail MOST_PROCESSORS self.now.machine.state one its.why) }
         ensures refused { is_some result ≡ refuses self.now.machine.state op.now }
     {
+        let contexts = MOST_PROCESSORS as u32;
         asked!(&self.kind, machine => {
             if notice_asked(machine.runner(), op).is_some() {
                 None
             } else {
-                ffa_reasons::why_resuming(machine, &in_one_context(op))
+                ffa_reasons::why_resuming(machine, contexts, &in_one_context(op))
             }
         })
-    }
-
-    /// How that stands which the check is about, where an operation of the runner is refused.
-    pub fn standing(&self, why: Option<Why>) -> Option<Standing>
-        ensures { result ≡ option_and_then (standing self.now.machine.state) why }
-    {
-        let why = why?;
-        asked!(&self.kind, machine => ffa_reasons::standing(machine, why))
-    }
-
-    /// Which values may be in the register or the field that the check is about, where an operation of the runner is refused.
-    pub fn allowed(&self, op: &Op, why: Option<Why>) -> Option<Allowed>
-        ensures { let one = in_one_context op.now in
-            result ≡ option_and_then (allowed MOST_PROCESSORS self.now.machine.state one) why }
-    {
-        let why = why?;
-        let contexts = MOST_PROCESSORS as u32;
-        asked!(&self.kind, machine => ffa_reasons::allowed(machine, contexts, &in_one_context(op), why))
     }
 
     /// Whether an endpoint has a notification pending.

@@ -3,7 +3,7 @@
 //! which a call answers in its registers.
 
 /// The number of the header's declarations, raised by each change that a caller has to know of.
-pub const DECLARATIONS: u32 = 9;
+pub const DECLARATIONS: u32 = 10;
 
 /// It was done.
 pub const OK: u32 = 0;
@@ -190,6 +190,75 @@ pub const OBSTACLE_OWNED_BY: u32 = 3;
 
 /// Of a reason: the page stands in an open transaction.
 pub const OBSTACLE_IN_TRANSACTION: u32 = 4;
+
+/// Of a hint: no hint.
+pub const HINT_NONE: u32 = 0;
+
+/// Of a hint: the page is in an endpoint's TX.
+pub const HINT_TX_PAGE: u32 = 1;
+
+/// Of a hint: the page is in an endpoint's RX.
+pub const HINT_RX_PAGE: u32 = 2;
+
+/// Of a hint: the owner's own right.
+pub const HINT_OWN_RIGHT: u32 = 3;
+
+/// Of a hint: the owner's own right, to which more is granted: to read and write.
+pub const HINT_GRANTED: u32 = 4;
+
+/// Of a hint: an endpoint, and the right that it has at the address.
+pub const HINT_ACCESS: u32 = 5;
+
+/// Of a hint: the caller, where another endpoint is named.
+pub const HINT_CALLER: u32 = 6;
+
+/// Of a hint: the transaction's sender.
+pub const HINT_SENDER: u32 = 7;
+
+/// Of a hint: the tag that the descriptor names, and the transaction's.
+pub const HINT_TAG: u32 = 8;
+
+/// Of a hint: the kind that the call names, and the transaction's.
+pub const HINT_KIND: u32 = 9;
+
+/// Of a hint: the right that is requested, and the most that is allowed.
+pub const HINT_RIGHT: u32 = 10;
+
+/// Of a hint: the right by which the caller holds the transaction.
+pub const HINT_HELD: u32 = 11;
+
+/// Of a hint: how many bytes the buffer has.
+pub const HINT_ROOM: u32 = 12;
+
+/// Of a hint: the one value that the register may have.
+pub const HINT_VALUE: u32 = 13;
+
+/// Of a hint: the caller, and the size of an access descriptor that its header must have.
+pub const HINT_FORM: u32 = 14;
+
+/// Of a hint: the place of a word of a header, and the number in it.
+pub const HINT_WORD: u32 = 15;
+
+/// Of a hint: the offset of a message, its size, and how many bytes the buffer has.
+pub const HINT_MESSAGE: u32 = 16;
+
+/// Of a hint: the first address that is not in RAM.
+pub const HINT_OUTSIDE: u32 = 17;
+
+/// Of a hint: the first receiver that holds the transaction.
+pub const HINT_HOLDER: u32 = 18;
+
+/// Of a hint: the caller is processing an FFA_RUN.
+pub const HINT_RUN: u32 = 19;
+
+/// Of a hint: the endpoint whose direct request the caller is processing.
+pub const HINT_REQUEST: u32 = 20;
+
+/// Of a hint: the least bit that is pending.
+pub const HINT_PENDING: u32 = 21;
+
+/// Of a hint: the endpoint has no buffers, and after it the other causes of `Cause`.
+pub const HINT_BUFFERS_MISSING: u32 = 22;
 
 /// Of a grant: there is no access.
 pub const GRANT_NONE: u32 = 0;

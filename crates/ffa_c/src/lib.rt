@@ -18,6 +18,7 @@ pub mod exports;
 pub mod grants;
 pub mod held;
 pub mod held_list;
+pub mod hint;
 pub mod kind;
 pub mod lending;
 pub mod lent_list;

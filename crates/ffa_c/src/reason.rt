@@ -4,7 +4,7 @@ ghost use Rattle.std.specs.Prelude.{◌≡◌, IfSome, false, is_some};
 ghost use Rattle.std.specs.Int.{cast_signed, w32};
 ghost use Rattle.ffa_model.specs.Calls.{code_number};
 ghost use Rattle.ffa_c.specs.Border.{fault_number};
-ghost use Rattle.ffa_c.specs.Why.{about_told, allowed_told, awaited_told, check_number, field_told, flaw_number, index_in, no_reason, obstacle_told, reason_told, standing_told, state_number, value_told};
+ghost use Rattle.ffa_c.specs.Why.{about_told, awaited_told, check_number, detail_told, field_told, flaw_number, index_in, no_reason, obstacle_told, reason_told, state_number, value_told};
 
 use crate::codes::{
     ABOUT_BIT, ABOUT_ENDPOINT, ABOUT_FIELD, ABOUT_HANDLE, ABOUT_NOTHING, ABOUT_PAGE,
@@ -12,10 +12,11 @@ use crate::codes::{
     OBSTACLE_OUTSIDE_RAM, OBSTACLE_OWNED_BY, STATE_BLOCKED, STATE_NONE, STATE_PREEMPTED,
     STATE_RUNNING, STATE_RUNS_ELSEWHERE, STATE_WAITING, STATE_YIELDED,
 };
+use crate::hint::CHint;
 use crate::outcome::fault_code;
 use ffa_mend::Allowed;
 use ffa_model::{About, EndpointId, ErrorCode, FieldPlace, Flaw, Obstacle, Refusal, Status, Why};
-use ffa_playable::Standing;
+use ffa_playable::{Detail, Explanation, Standing};
 
 /// Why an operation is refused. What its tags don't name is zero.
 #[repr(C)]
@@ -65,6 +66,8 @@ pub struct CReason {
     pub most: u64,
     /// How far each such value is from the next; 0 where none are told.
     pub step: u64,
+    /// What to change.
+    pub hint: CHint,
 }
 
 impl CReason {
@@ -94,15 +97,16 @@ impl CReason {
             least: 0,
             most: 0,
             step: 0,
+            hint: CHint::none(),
         }
     }
 
-    /// A reason for C, with how that stands which the check is about, and which values may be there.
-    pub fn of(why: &Why, standing: Option<Standing>, allowed: Option<Allowed>) -> CReason
-        ensures { result ≡ reason_told why.now standing allowed }
+    /// A reason for C.
+    pub fn of(explanation: &Explanation) -> CReason
+        ensures { result ≡ reason_told explanation.now.why explanation.now.detail }
     {
         let mut reason = CReason::none();
-        match *why {
+        match explanation.why {
             Why::Refused { refusal, about } => {
                 reason.check = number_of(refusal);
                 reason.error = error_code(refusal.code());
@@ -113,25 +117,19 @@ impl CReason {
                 reason.tell_obstacle(obstacle);
             }
         }
-        reason.tell_standing(standing);
-        reason.tell_allowed(allowed);
+        reason.tell_detail(explanation.detail);
         reason
     }
 
     /// Takes a reason on, if there is one, and says whether there is.
-    pub fn fill(
-        &mut self,
-        why: Option<Why>,
-        standing: Option<Standing>,
-        allowed: Option<Allowed>,
-    ) -> bool
-        ensures there { result ≡ is_some why }
-        ensures told { IfSome why (λ why. self.new ≡ reason_told why standing allowed) }
+    pub fn fill(&mut self, explanation: Option<Explanation>) -> bool
+        ensures there { result ≡ is_some explanation }
+        ensures told { IfSome explanation (λ its. self.new ≡ reason_told its.why its.detail) }
         ensures kept { result ≡ false → self.new ≡ self.old }
     {
-        match why {
-            Some(why) => {
-                *self = CReason::of(&why, standing, allowed);
+        match explanation {
+            Some(its) => {
+                *self = CReason::of(&its);
                 true
             }
             None => false,
@@ -193,27 +191,22 @@ impl CReason {
         }
     }
 
-    // How that stands which the check is about.
-    fn tell_standing(&mut self, standing: Option<Standing>)
-        ensures { self.new ≡ standing_told standing self.old }
+    // How that stands which the check is about, or which values may be there, or what to change.
+    fn tell_detail(&mut self, detail: Option<Detail>)
+        ensures { self.new ≡ detail_told detail self.old }
     {
-        match standing {
-            None => {}
-            Some(Standing::RunState { status, awaits }) => {
+        match detail {
+            Some(Detail::Standing(Standing::RunState { status, awaits })) => {
                 self.state = state_number(status);
                 self.tell_awaited(awaits);
             }
-        }
-    }
-
-    // Which values may be there.
-    fn tell_allowed(&mut self, allowed: Option<Allowed>)
-        ensures { self.new ≡ allowed_told allowed self.old }
-    {
-        if let Some(Allowed { least, most, step }) = allowed {
-            self.least = least;
-            self.most = most;
-            self.step = step;
+            Some(Detail::Allowed(Allowed { least, most, step })) => {
+                self.least = least;
+                self.most = most;
+                self.step = step;
+            }
+            Some(Detail::Mend(mend)) => self.hint = CHint::of(mend),
+            None => {}
         }
     }
 

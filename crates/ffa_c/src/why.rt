@@ -114,11 +114,7 @@ fn tell(machine: &mut CMachine, op: Option<Op>, reason: &mut CReason) -> bool
     ensures kept { result ≡ false → reason.new ≡ reason.old }
 {
     match op {
-        Some(op) if machine.live => {
-            let board = machine.held.board();
-            let why = board.why(&op);
-            reason.fill(why, board.standing(why), board.allowed(&op, why))
-        }
+        Some(op) if machine.live => { reason.fill(machine.held.board().why(&op)) }
         _ => false,
     }
 }

@@ -9,28 +9,19 @@ use Rattle.ffa_model.specs.declared.call.Transfer.{Transfer}
 use Rattle.ffa_model.specs.declared.flaw.FieldPlace.{FieldPlace}
 use Rattle.ffa_model.specs.declared.flaw.Flaw.{Flaw}
 use Rattle.ffa_model.specs.declared.flaw.Flaw.TheVariants.{Send, Access as AccessOf, Composite, Range as RangeOf, Retrieve, Relinquish}
-use Rattle.ffa_model.specs.declared.flaw.SendFlaw.{SendFlaw}
 use Rattle.ffa_model.specs.declared.flaw.SendFlaw.TheVariants.{Attributes, Flags, Handle as HandleGiven, NoReceiver, ManyReceivers}
-use Rattle.ffa_model.specs.declared.flaw.AccessFlaw.{AccessFlaw}
 use Rattle.ffa_model.specs.declared.flaw.AccessFlaw.TheVariants.{Permissions, Flags as AccessFlags, Reserved as AccessReserved}
-use Rattle.ffa_model.specs.declared.flaw.CompositeFlaw.{CompositeFlaw}
 use Rattle.ffa_model.specs.declared.flaw.CompositeFlaw.TheVariants.{Outside, Unaligned, InArray, NoRange, ManyRanges, Reserved as CompositeReserved}
-use Rattle.ffa_model.specs.declared.flaw.RangeFlaw.{RangeFlaw}
 use Rattle.ffa_model.specs.declared.flaw.RangeFlaw.TheVariants.{Reserved as RangeReserved}
-use Rattle.ffa_model.specs.declared.flaw.RetrieveFlaw.{RetrieveFlaw}
 use Rattle.ffa_model.specs.declared.flaw.RetrieveFlaw.TheVariants.{Attributes as AskedAttributes, AccessCount, AccessFlags as AskedAccessFlags, CompositeTold, AccessReserved as AskedAccessReserved}
-use Rattle.ffa_model.specs.declared.flaw.RelinquishFlaw.{RelinquishFlaw}
 use Rattle.ffa_model.specs.declared.flaw.RelinquishFlaw.TheVariants.{Flags as RelinquishFlags, EndpointCount}
 use Rattle.ffa_model.specs.declared.limits.TheConstants.{MOST_BUFFER_PAGES, MOST_RANGES}
-use Rattle.ffa_model.specs.declared.operation.Op.{Op}
 use Rattle.ffa_model.specs.declared.refusal.Refusal.{Refusal}
 use Rattle.ffa_model.specs.declared.refusal.Refusal.TheVariants.{FlagsReserved, ContextUnknown, BufferPageCount, EndpointNotZero, EndpointNotNormalWorld, ContextCount, ClassesUnknown, Fragmented, BufferAddressGiven, BufferPagesGiven}
 use Rattle.ffa_model.specs.declared.rights.Kind.{Kind}
 use Rattle.ffa_model.specs.declared.rights.Kind.TheVariants.{Share, Lend, Donate}
 use Rattle.ffa_model.specs.declared.why.About.{About}
 use Rattle.ffa_model.specs.declared.why.About.TheVariants.{Register, Field}
-use Rattle.ffa_model.specs.declared.why.Why.{Why}
-use Rattle.ffa_model.specs.declared.why.Why.TheVariants.{Refused, Fault}
 use Rattle.ffa_model.specs.Numbers.{Identifier}
 use Rattle.ffa_model.specs.Bits.{word_of_two}
 use Rattle.ffa_model.specs.Calls.{first_refusal}
@@ -39,7 +30,6 @@ use Rattle.ffa_model.specs.MemorySend.{descriptor_in, transfer_guards}
 use Rattle.ffa_model.specs.SendDescriptor.{attributes_of, most_flags, most_receivers}
 use Rattle.ffa_model.specs.State.{State, Buffers}
 use Rattle.ffa_mend.specs.declared.allowed.Allowed.{Allowed}
-use Rattle.ffa_mend.specs.Mend.{call_of}
 
 -- a number is one of them
 pub record IsAmong (its : Allowed) (n : ℕ) : Type 0 where
@@ -102,23 +92,10 @@ allowed_register contexts call refusal = None
 
 -- FIELDS of an offer to so many receivers, if its header tells how many, in so many bytes
 
-abbrev pub allowed_send : Kind → Option ℕ → SendFlaw → Option Allowed
-allowed_send kind receivers Attributes = option_map (λ n. one (attributes_of kind n)) receivers
-allowed_send kind receivers Flags = Some (between 0 (most_flags kind))
-allowed_send kind receivers HandleGiven = Some (one 0)
-allowed_send kind receivers NoReceiver = Some (between 1 (most_receivers kind))
-allowed_send kind receivers ManyReceivers = Some (between 1 (most_receivers kind))
-
 abbrev pub allowed_permissions : Kind → Allowed
 allowed_permissions Share = between 1 2
 allowed_permissions Lend = between 1 2
 allowed_permissions Donate = one 0
-
-abbrev pub allowed_access : Kind → AccessFlaw → Option Allowed
-allowed_access kind Permissions = Some (allowed_permissions kind)
-allowed_access kind AccessFlags = Some (one 0)
-allowed_access kind AccessReserved = Some (one 0)
-allowed_access kind flaw = None
 
 -- A composite may stand at a place behind access descriptors that end at a multiple of 16, and inside so many bytes with one range
 pub record IsPlace (end length place : ℕ) : Type 0 where
@@ -135,25 +112,23 @@ allowed_places end length =
 abbrev pub allowed_behind : ℕ → Option ℕ → ℕ → Option Allowed
 allowed_behind array receivers length = option_and_then (λ n. allowed_places (array + 16 * n) length) receivers
 
-abbrev pub allowed_composite : ℕ → Option ℕ → ℕ → CompositeFlaw → Option Allowed
-allowed_composite array receivers length Outside = allowed_behind array receivers length
-allowed_composite array receivers length Unaligned = allowed_behind array receivers length
-allowed_composite array receivers length InArray = allowed_behind array receivers length
-allowed_composite array receivers length NoRange = Some (between 1 MOST_RANGES)
-allowed_composite array receivers length ManyRanges = Some (between 1 MOST_RANGES)
-allowed_composite array receivers length CompositeReserved = Some (one 0)
-allowed_composite array receivers length flaw = None
-
-abbrev pub allowed_range : RangeFlaw → Option Allowed
-allowed_range RangeReserved = Some (one 0)
-allowed_range flaw = None
-
 -- the offset of the composite stands 4 bytes behind the first access descriptor's place
 abbrev pub allowed_offer : Kind → Option ℕ → ℕ → FieldPlace → Flaw → Option Allowed
-allowed_offer kind receivers length place (Send flaw) = allowed_send kind receivers flaw
-allowed_offer kind receivers length place (AccessOf index flaw) = allowed_access kind flaw
-allowed_offer kind receivers length place (Composite flaw) = allowed_composite (place.first - 4) receivers length flaw
-allowed_offer kind receivers length place (RangeOf index flaw) = allowed_range flaw
+allowed_offer kind receivers length place (Send Attributes) = option_map (λ n. one (attributes_of kind n)) receivers
+allowed_offer kind receivers length place (Send Flags) = Some (between 0 (most_flags kind))
+allowed_offer kind receivers length place (Send HandleGiven) = Some (one 0)
+allowed_offer kind receivers length place (Send NoReceiver) = Some (between 1 (most_receivers kind))
+allowed_offer kind receivers length place (Send ManyReceivers) = Some (between 1 (most_receivers kind))
+allowed_offer kind receivers length place (AccessOf index Permissions) = Some (allowed_permissions kind)
+allowed_offer kind receivers length place (AccessOf index AccessFlags) = Some (one 0)
+allowed_offer kind receivers length place (AccessOf index AccessReserved) = Some (one 0)
+allowed_offer kind receivers length place (Composite Outside) = allowed_behind (place.first - 4) receivers length
+allowed_offer kind receivers length place (Composite Unaligned) = allowed_behind (place.first - 4) receivers length
+allowed_offer kind receivers length place (Composite InArray) = allowed_behind (place.first - 4) receivers length
+allowed_offer kind receivers length place (Composite NoRange) = Some (between 1 MOST_RANGES)
+allowed_offer kind receivers length place (Composite ManyRanges) = Some (between 1 MOST_RANGES)
+allowed_offer kind receivers length place (Composite CompositeReserved) = Some (one 0)
+allowed_offer kind receivers length place (RangeOf index RangeReserved) = Some (one 0)
 allowed_offer kind receivers length place flaw = None
 
 -- how many receivers the header of a descriptor tells that stands whole in TX of e
@@ -163,49 +138,37 @@ told_receivers buffers e transfer descriptor =
     then if nat_le 32 (length descriptor.bytes) then Some (receiver_count descriptor) else None
     else None
 
--- OF A RETRIEVE AND A RELINQUISH
-
-abbrev pub allowed_retrieve : RetrieveFlaw → Option Allowed
-allowed_retrieve AskedAttributes = Some (either 0 normal_memory)
-allowed_retrieve AccessCount = Some (one 1)
-allowed_retrieve AskedAccessFlags = Some (one 0)
-allowed_retrieve CompositeTold = Some (one 0)
-allowed_retrieve AskedAccessReserved = Some (one 0)
-allowed_retrieve flaw = None
-
+-- of a retrieve and a relinquish
 abbrev pub allowed_asked : Flaw → Option Allowed
-allowed_asked (Retrieve flaw) = allowed_retrieve flaw
+allowed_asked (Retrieve AskedAttributes) = Some (either 0 normal_memory)
+allowed_asked (Retrieve AccessCount) = Some (one 1)
+allowed_asked (Retrieve AskedAccessFlags) = Some (one 0)
+allowed_asked (Retrieve CompositeTold) = Some (one 0)
+allowed_asked (Retrieve AskedAccessReserved) = Some (one 0)
+allowed_asked (Relinquish RelinquishFlags) = Some (between 0 1)
+allowed_asked (Relinquish EndpointCount) = Some (one 1)
 allowed_asked flaw = None
-
-abbrev pub allowed_relinquish : RelinquishFlaw → Option Allowed
-allowed_relinquish RelinquishFlags = Some (between 0 1)
-allowed_relinquish EndpointCount = Some (one 1)
-allowed_relinquish flaw = None
-
-abbrev pub allowed_returned : Flaw → Option Allowed
-allowed_returned (Relinquish flaw) = allowed_relinquish flaw
-allowed_returned flaw = None
 
 -- ON A STATE
 
 abbrev pub receivers_told : State → Transfer → Option ℕ
 receivers_told s transfer = told_receivers s.buffers s.runner transfer (descriptor_in s transfer.total)
 
-abbrev pub allowed_field : State → Call → FieldPlace → Flaw → Option Allowed
-allowed_field s (calls.MemDonate transfer) place flaw = allowed_offer Donate (receivers_told s transfer) transfer.total place flaw
-allowed_field s (calls.MemLend transfer) place flaw = allowed_offer Lend (receivers_told s transfer) transfer.total place flaw
-allowed_field s (calls.MemShare transfer) place flaw = allowed_offer Share (receivers_told s transfer) transfer.total place flaw
-allowed_field s (calls.MemRetrieve transfer) place flaw = allowed_asked flaw
-allowed_field s calls.MemRelinquish place flaw = allowed_returned flaw
-allowed_field s call place flaw = None
+abbrev pub receivers_of : State → Call → Option ℕ
+receivers_of s (calls.MemDonate transfer) = receivers_told s transfer
+receivers_of s (calls.MemLend transfer) = receivers_told s transfer
+receivers_of s (calls.MemShare transfer) = receivers_told s transfer
+receivers_of s call = None
+
+-- of an offer to so many receivers, and of other calls
+abbrev pub allowed_field : Option ℕ → Call → FieldPlace → Flaw → Option Allowed
+allowed_field receivers (calls.MemDonate transfer) place flaw = allowed_offer Donate receivers transfer.total place flaw
+allowed_field receivers (calls.MemLend transfer) place flaw = allowed_offer Lend receivers transfer.total place flaw
+allowed_field receivers (calls.MemShare transfer) place flaw = allowed_offer Share receivers transfer.total place flaw
+allowed_field receivers call place flaw = allowed_asked flaw
 
 -- a check of a call that fails, where it is about a register, or about a field whose value is told
-abbrev pub allowed_check : ℕ → State → Call → Refusal → Option About → Option Allowed
-allowed_check contexts s call refusal (Some (Register number value)) = allowed_register contexts call refusal
-allowed_check contexts s call refusal (Some (Field flaw place (Some value))) = allowed_field s call place flaw
-allowed_check contexts s call refusal about = None
-
--- of what an operation of the runner is refused for
-abbrev pub allowed : ℕ → State → Op → Why → Option Allowed
-allowed contexts s op (Refused refusal about) = allowed_check contexts s (call_of op) refusal about
-allowed contexts s op (Fault kind obstacle) = None
+abbrev pub allowed_check : ℕ → Option ℕ → Call → Refusal → Option About → Option Allowed
+allowed_check contexts receivers call refusal (Some (Register number value)) = allowed_register contexts call refusal
+allowed_check contexts receivers call refusal (Some (Field flaw place (Some value))) = allowed_field receivers call place flaw
+allowed_check contexts receivers call refusal about = None

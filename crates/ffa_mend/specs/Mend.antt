@@ -2,22 +2,22 @@
 -- What is to be mended where an operation is refused: a buffer, a right, a value that is wanted, what the caller
 -- works on, or which of two causes it has.
 use Rattle.std.specs.Prelude.{ℕ, ◌+◌, ◌*◌, ◌%◌, ◌==◌, ◌&&◌, ◌||◌, Bool, not, is_none, is_some, find, length, nat_le, nat_lt, List, Option, Some, None, if◌then◌else◌}
-use Rattle.std.specs.Option.{option_and_then, option_map}
+use Rattle.std.specs.Option.{option_and_then, option_map, option_or}
 use Rattle.ffa_model.specs.declared.call.Call.{Call}
 use Rattle.ffa_model.specs.declared.call.Call.TheVariants as calls
 use Rattle.ffa_model.specs.declared.call.Transfer.{Transfer}
+use Rattle.ffa_model.specs.declared.descriptor.RelinquishDesc.{RelinquishDesc}
 use Rattle.ffa_model.specs.declared.descriptor.RetrieveDesc.{RetrieveDesc}
 use Rattle.ffa_model.specs.declared.endpoint.Region.{Region}
 use Rattle.ffa_model.specs.declared.flaw.Flaw.{Flaw}
 use Rattle.ffa_model.specs.declared.flaw.Flaw.TheVariants.{Header}
-use Rattle.ffa_model.specs.declared.flaw.HeaderFlaw.{HeaderFlaw}
 use Rattle.ffa_model.specs.declared.flaw.HeaderFlaw.TheVariants.{AccessSize}
 use Rattle.ffa_model.specs.declared.operation.FaultKind.{FaultKind}
 use Rattle.ffa_model.specs.declared.operation.FaultKind.TheVariants.{Permission}
 use Rattle.ffa_model.specs.declared.operation.Op.{Op}
 use Rattle.ffa_model.specs.declared.operation.Op.TheVariants.{Call as Calls, Load, Store, Fetch}
 use Rattle.ffa_model.specs.declared.refusal.Refusal.{Refusal}
-use Rattle.ffa_model.specs.declared.refusal.Refusal.TheVariants.{SenderIsAnother, ReceiverIsAnother, BitmapsMissing, BitsPending, WorldsMixed, StillHeld, TxMisplaced, RxMisplaced, TxUnusable, RxUnusable, RxEmpty, FlagsReserved, HeaderReserved, MessageInHeader, MessageEmpty, MessageTooLong, AnswerMisdirected, NoRequest, NotRun, NobodyToYieldTo, ReceiverRxSmall, BitsTaken, BitsNotTheSenders, DescriptorTooLong, RangeOutside, PageUnsendable, GrantTooMuch, ZerosUnwritable, TransactionSenderDiffers, TagDiffers, KindDiffers, RightTooMuch, EndpointIsAnother, NotOffered, ZerosNotAllowed, NotTheSenders}
+use Rattle.ffa_model.specs.declared.refusal.Refusal.TheVariants.{SenderIsAnother, ReceiverIsAnother, BitmapsMissing, BitsPending, WorldsMixed, StillHeld, TxMisplaced, RxMisplaced, TxUnusable, RxUnusable, RxEmpty, FlagsReserved, HeaderReserved, MessageInHeader, MessageEmpty, MessageTooLong, AnswerMisdirected, NoRequest, NotRun, NobodyToYieldTo, ReceiverRxSmall, DescriptorTooLong, RangeOutside, PageUnsendable, GrantTooMuch, ZerosUnwritable, TransactionSenderDiffers, TagDiffers, KindDiffers, RightTooMuch, EndpointIsAnother, NotOffered, ZerosNotAllowed, NotTheSenders}
 use Rattle.ffa_model.specs.declared.rights.Kind.{Kind as SendKind}
 use Rattle.ffa_model.specs.declared.rights.Kind.TheVariants.{Share, Lend, Donate}
 use Rattle.ffa_model.specs.declared.schedule.Work.{Work}
@@ -26,9 +26,8 @@ use Rattle.ffa_model.specs.declared.transaction.Receiver.{Receiver}
 use Rattle.ffa_model.specs.declared.why.About.{About}
 use Rattle.ffa_model.specs.declared.why.About.TheVariants as abouts
 use Rattle.ffa_model.specs.declared.why.Obstacle.{Obstacle}
-use Rattle.ffa_model.specs.declared.why.Why.{Why}
-use Rattle.ffa_model.specs.declared.why.Why.TheVariants.{Refused, Fault}
 use Rattle.ffa_model.specs.Numbers.{Bit, HandleNumber, Identifier, PageIndex}
+use Rattle.ffa_model.specs.AboutContents.{about_bits}
 use Rattle.ffa_model.specs.Access.{Ownership, held_by, is_receiver, ownership_of}
 use Rattle.ffa_model.specs.Bits.{word_of_two}
 use Rattle.ffa_model.specs.Buffers.{room_of}
@@ -41,13 +40,13 @@ use Rattle.ffa_model.specs.MemorySend.{are_secure, descriptor_in, is_inside, sen
 use Rattle.ffa_model.specs.Messages.{MessageHeader, header_in, tx_bytes}
 use Rattle.ffa_model.specs.Notifications.{Notifications, class_of, is_pending, manager_class, normal_class, notifications_of, partition_class}
 use Rattle.ffa_model.specs.Registers.{decode}
+use Rattle.ffa_model.specs.RelinquishDescriptor.{relinquish_of}
 use Rattle.ffa_model.specs.RetrieveDescriptor.{retrieve_of}
 use Rattle.ffa_model.specs.Rights.{is_lend}
 use Rattle.ffa_model.specs.RunStates.{requester, schedule_of, work_in}
 use Rattle.ffa_model.specs.SendDescriptor.{SendRecord}
-use Rattle.ffa_model.specs.State.{State, Buffers, Transaction, buffers_of, is_known_among, own_right_of, transaction_of, version_of}
+use Rattle.ffa_model.specs.State.{State, Buffers, Transaction, buffers_of, own_right_of, transaction_of, version_of}
 use Rattle.ffa_model.specs.Transactions.{ceiling}
-use Rattle.ffa_model.specs.Why.{why}
 use Rattle.ffa_mend.specs.declared.Cause.{Cause}
 use Rattle.ffa_mend.specs.declared.Cause.TheVariants.{BuffersMissing, RxNotFull, BitPending, BitTaken, BitUnbound, HandleUnknown, NotReceiver, NotLent, BitmapsUncreated, NotificationsUnreceived, SecureToNormal, PagesOfBothWorlds}
 use Rattle.ffa_mend.specs.declared.Mend.{Mend}
@@ -89,6 +88,12 @@ mend_return e NotTheSenders t = mend_sent t
 mend_return e ZerosNotAllowed t = mend_zeros e t
 mend_return e StillHeld t = mend_held t
 mend_return e refusal t = None
+
+-- of the one that a relinquish names, which stands in TX of e
+abbrev pub mend_given_back : (HandleNumber → Option Transaction) → Identifier → Option Buffers → List ℕ → Refusal → Option Mend
+mend_given_back named e None bytes refusal = None
+mend_given_back named e (Some own) bytes refusal =
+    option_and_then (λ (d : RelinquishDesc). mend_return e refusal (named d.handle)) (relinquish_of bytes)
 
 -- what e names of a transaction in a retrieve, and what the transaction has
 abbrev pub mend_retrieve : Ownership → Identifier → RetrieveDesc → Refusal → Transaction → Option Mend
@@ -174,24 +179,15 @@ mend_response e by = option_map (λ its. Wanted (word_of_two e its)) by
 
 -- NOTIFICATIONS
 -- one of the 64 bits of e, which a sender gets or loses: it is pending, or else this is the cause
-abbrev pub mend_bit : ℕ → Notifications → Identifier → Identifier → Bit → Cause → Option Mend
-mend_bit endpoints n e sender bit cause =
-    if nat_lt bit 64 && is_known_among endpoints sender
-    then Some (Because (if is_pending n e (class_of sender) bit then BitPending else cause))
-    else None
+abbrev pub mend_bit : Notifications → Identifier → Identifier → Cause → Option About → Option Mend
+mend_bit n e sender cause (Some (abouts.Bit k)) =
+    if nat_lt k 64 then Some (Because (if is_pending n e (class_of sender) k then BitPending else cause)) else None
+mend_bit n e sender cause about = None
 
-abbrev pub mend_bind : ℕ → Notifications → Identifier → Identifier → Bit → Refusal → Option Mend
-mend_bind endpoints n e sender bit BitsTaken = mend_bit endpoints n e sender bit BitTaken
-mend_bind endpoints n e sender bit refusal = None
-
-abbrev pub mend_unbind : ℕ → Notifications → Identifier → Identifier → Bit → Refusal → Option Mend
-mend_unbind endpoints n e sender bit BitsNotTheSenders = mend_bit endpoints n e sender bit BitUnbound
-mend_unbind endpoints n e sender bit refusal = None
-
-abbrev pub mend_bits : ℕ → Notifications → Identifier → Call → Refusal → Bit → Option Mend
-mend_bits endpoints n e (calls.NotificationBind its) refusal bit = mend_bind endpoints n e its.sender.0 bit refusal
-mend_bits endpoints n e (calls.NotificationUnbind its) refusal bit = mend_unbind endpoints n e its.sender.0 bit refusal
-mend_bits endpoints n e call refusal bit = None
+abbrev pub mend_bits : Notifications → Identifier → Call → Option About → Option Mend
+mend_bits n e (calls.NotificationBind its) about = mend_bit n e its.sender.0 BitTaken about
+mend_bits n e (calls.NotificationUnbind its) about = mend_bit n e its.sender.0 BitUnbound about
+mend_bits n e call about = None
 
 -- the least bit of e that is pending, in whichever class
 abbrev pub is_pending_in_any : Notifications → Identifier → Bit → Bool
@@ -206,45 +202,65 @@ abbrev pub mend_bitmaps : Identifier → Mend
 mend_bitmaps e = Because (if e == 0 then BitmapsUncreated else NotificationsUnreceived)
 
 -- ON A STATE
-abbrev pub mend_retrieved : State → Call → Refusal → Option Mend
-mend_retrieved s (calls.MemRetrieve transfer) refusal =
+-- what the call names: a message, the ranges or the transaction of a descriptor, a handle, buffers, and bits
+abbrev pub mend_offered_by : State → SendKind → Transfer → Refusal → Option Mend
+mend_offered_by s kind transfer refusal =
+    mend_send s.buffers (ownership_of s) s.normal s.runner transfer (send_read s kind transfer.total) refusal
+
+abbrev pub mend_retrieved : State → Transfer → Refusal → Option Mend
+mend_retrieved s transfer refusal =
     mend_asked s.buffers (ownership_of s) (transaction_of s) s.runner transfer (descriptor_in s transfer.total) refusal
-mend_retrieved s call refusal = None
 
--- a check that is about an endpoint, and about a handle
-abbrev pub mend_endpoint : State → Call → Refusal → Identifier → Option Mend
-mend_endpoint s call SenderIsAnother e = Some (Caller (record { 0 = s.runner }))
-mend_endpoint s call ReceiverIsAnother e = Some (Caller (record { 0 = s.runner }))
-mend_endpoint s call EndpointIsAnother e = Some (Caller (record { 0 = s.runner }))
-mend_endpoint s call ReceiverRxSmall e = Some (Room (room_of (buffers_of s e)))
-mend_endpoint s call refusal e = mend_retrieved s call refusal
+abbrev pub mend_relinquished : State → Refusal → Option Mend
+mend_relinquished s refusal =
+    mend_given_back (transaction_of s) s.runner (buffers_of s s.runner) (tx_bytes s s.runner) refusal
 
-abbrev pub mend_handle : State → Call → Refusal → HandleNumber → Option Mend
-mend_handle s (calls.MemRetrieve transfer) refusal h = mend_retrieved s (calls.MemRetrieve transfer) refusal
-mend_handle s call refusal h = mend_return s.runner refusal (transaction_of s h)
+abbrev pub mend_noticed : State → Call → Refusal → Option Mend
+mend_noticed s call refusal =
+    mend_bits (notifications_of s) s.runner call (about_bits (length s.parties) (notifications_of s) s.runner call refusal)
 
--- a descriptor that is longer than TX, and a response to another than who asked; and a buffer outside RAM
-abbrev pub mend_word : State → Refusal → Option Mend
-mend_word s DescriptorTooLong = Some (Room (room_of (buffers_of s s.runner)))
-mend_word s AnswerMisdirected = mend_response s.runner (requester (work_in (schedule_of s) s.runner))
-mend_word s refusal = None
+abbrev pub mend_contents : State → Call → Refusal → Option Mend
+mend_contents s (calls.RxtxMap tx rx pages) refusal = mend_map (ownership_of s) tx rx pages refusal
+mend_contents s calls.MsgSend2 refusal = mend_message (buffers_of s s.runner) (header_in (tx_bytes s s.runner)) refusal
+mend_contents s (calls.MemDonate transfer) refusal = mend_offered_by s Donate transfer refusal
+mend_contents s (calls.MemLend transfer) refusal = mend_offered_by s Lend transfer refusal
+mend_contents s (calls.MemShare transfer) refusal = mend_offered_by s Share transfer refusal
+mend_contents s (calls.MemRetrieve transfer) refusal = mend_retrieved s transfer refusal
+mend_contents s calls.MemRelinquish refusal = mend_relinquished s refusal
+mend_contents s (calls.MemReclaim handle flags) refusal = mend_return s.runner refusal (transaction_of s handle.0)
+mend_contents s call refusal = mend_noticed s call refusal
 
-abbrev pub mend_register : State → Call → Refusal → Option Mend
-mend_register s (calls.RxtxMap tx rx pages) refusal = mend_map (ownership_of s) tx rx pages refusal
-mend_register s call refusal = mend_word s refusal
+-- a page of the runner's own that stands in no open transaction: its buffer or its own right; and of another page its own right where
+-- that is too little for zeros. What is granted and is more than an own right is rw
+abbrev pub mend_own_page : State → Refusal → PageIndex → Option Mend
+mend_own_page s PageUnsendable p = in_buffer s.runner (buffers_of s s.runner) p
+mend_own_page s TxUnusable p = option_map OwnRight (own_right_of s p)
+mend_own_page s RxUnusable p = option_map OwnRight (own_right_of s p)
+mend_own_page s GrantTooMuch p = option_map Granted (own_right_of s p)
+mend_own_page s ZerosUnwritable p = option_map OwnRight (own_right_of s p)
+mend_own_page s refusal p = None
 
--- a header in another form than the caller's
-abbrev pub mend_form : State → HeaderFlaw → Option Mend
-mend_form s AccessSize = Some (Form (record { 0 = s.runner }) (version_of s s.runner))
-mend_form s flaw = None
+abbrev pub mend_page : State → Refusal → PageIndex → Option Obstacle → Option Mend
+mend_page s refusal p None = mend_own_page s refusal p
+mend_page s ZerosUnwritable p (Some obstacle) = option_map OwnRight (own_right_of s p)
+mend_page s refusal p (Some obstacle) = None
 
+abbrev pub mend_endpoint : State → Refusal → Identifier → Option Mend
+mend_endpoint s SenderIsAnother e = Some (Caller (record { 0 = s.runner }))
+mend_endpoint s ReceiverIsAnother e = Some (Caller (record { 0 = s.runner }))
+mend_endpoint s EndpointIsAnother e = Some (Caller (record { 0 = s.runner }))
+mend_endpoint s ReceiverRxSmall e = Some (Room (room_of (buffers_of s e)))
+mend_endpoint s refusal e = None
+
+-- a header in another form than the runner's
 abbrev pub mend_field : State → Flaw → Option Mend
-mend_field s (Header flaw) = mend_form s flaw
+mend_field s (Header AccessSize) = Some (Form (record { 0 = s.runner }) (version_of s s.runner))
 mend_field s flaw = None
 
--- a check that is about nothing: an RX that can't be released, what the runner works on, its bitmaps, a message, and the
--- ranges of an offer
+-- what the runner has and works on: a TX for the descriptor, an RX to release, a request to answer, bitmaps
 abbrev pub mend_runner : State → Refusal → Option Mend
+mend_runner s DescriptorTooLong = Some (Room (room_of (buffers_of s s.runner)))
+mend_runner s AnswerMisdirected = mend_response s.runner (requester (work_in (schedule_of s) s.runner))
 mend_runner s RxEmpty = Some (Because (if is_some (buffers_of s s.runner) then RxNotFull else BuffersMissing))
 mend_runner s NoRequest = Some (mend_work s.runner (work_in (schedule_of s) s.runner))
 mend_runner s NotRun = Some (mend_work s.runner (work_in (schedule_of s) s.runner))
@@ -253,47 +269,16 @@ mend_runner s BitmapsMissing = Some (mend_bitmaps s.runner)
 mend_runner s BitsPending = mend_pending (notifications_of s) s.runner
 mend_runner s refusal = None
 
-abbrev pub mend_sent_message : State → Refusal → Option Mend
-mend_sent_message s refusal = mend_message (buffers_of s s.runner) (header_in (tx_bytes s s.runner)) refusal
+-- by what the check is about
+abbrev pub mend_about : State → Refusal → Option About → Option Mend
+mend_about s refusal (Some (abouts.Page page obstacle)) = mend_page s refusal page.0 obstacle
+mend_about s refusal (Some (abouts.Endpoint e)) = mend_endpoint s refusal e.0
+mend_about s refusal (Some (abouts.Field flaw place value)) = mend_field s flaw
+mend_about s refusal about = mend_runner s refusal
 
-abbrev pub mend_offered_by : State → SendKind → Transfer → Refusal → Option Mend
-mend_offered_by s kind transfer refusal =
-    mend_send s.buffers (ownership_of s) s.normal s.runner transfer (send_read s kind transfer.total) refusal
-
-abbrev pub mend_bare : State → Call → Refusal → Option Mend
-mend_bare s calls.MsgSend2 refusal = mend_sent_message s refusal
-mend_bare s (calls.MemDonate transfer) refusal = mend_offered_by s Donate transfer refusal
-mend_bare s (calls.MemLend transfer) refusal = mend_offered_by s Lend transfer refusal
-mend_bare s (calls.MemShare transfer) refusal = mend_offered_by s Share transfer refusal
-mend_bare s call refusal = mend_runner s refusal
-
--- of a page of the runner's own that stands in no open transaction, its buffer or its own right; and of another page its own
--- right where that is too little for zeros. What is granted and is more than an own right is rw.
--- Where worlds are mixed it is told of all pages of the offer
-abbrev pub mend_own_page : State → Call → Refusal → PageIndex → Option Mend
-mend_own_page s call PageUnsendable p = in_buffer s.runner (buffers_of s s.runner) p
-mend_own_page s call TxUnusable p = option_map OwnRight (own_right_of s p)
-mend_own_page s call RxUnusable p = option_map OwnRight (own_right_of s p)
-mend_own_page s call GrantTooMuch p = option_map Granted (own_right_of s p)
-mend_own_page s call ZerosUnwritable p = option_map OwnRight (own_right_of s p)
-mend_own_page s call WorldsMixed p = mend_bare s call WorldsMixed
-mend_own_page s call refusal p = None
-
-abbrev pub mend_page : State → Call → Refusal → PageIndex → Option Obstacle → Option Mend
-mend_page s call refusal p None = mend_own_page s call refusal p
-mend_page s call ZerosUnwritable p (Some obstacle) = option_map OwnRight (own_right_of s p)
-mend_page s call refusal p (Some obstacle) = None
-
--- a check of a call that fails, by what it is about
+-- a check of a call that fails
 abbrev pub mend_check : State → Call → Refusal → Option About → Option Mend
-mend_check s call refusal (Some (abouts.Page page obstacle)) = mend_page s call refusal page.0 obstacle
-mend_check s call refusal (Some (abouts.Endpoint e)) = mend_endpoint s call refusal e.0
-mend_check s call refusal (Some (abouts.Handle h)) = mend_handle s call refusal h
-mend_check s call refusal (Some (abouts.Bit k)) =
-    mend_bits (length s.parties) (notifications_of s) s.runner call refusal k
-mend_check s call refusal (Some (abouts.Register number value)) = mend_register s call refusal
-mend_check s call refusal (Some (abouts.Field flaw place value)) = mend_field s flaw
-mend_check s call refusal None = mend_bare s call refusal
+mend_check s call refusal about = option_or (mend_contents s call refusal) (mend_about s refusal about)
 
 -- a fault at an address, where the runner reaches the page without the right
 abbrev pub mend_access : State → ℕ → Option Mend
@@ -313,11 +298,3 @@ address_of (Fetch address) = address
 abbrev pub call_of : Op → Call
 call_of (Calls x) = decode x
 call_of op = calls.Unknown
-
-abbrev pub mend_why : State → Op → Why → Option Mend
-mend_why s op (Refused refusal about) = mend_check s (call_of op) refusal about
-mend_why s op (Fault kind obstacle) = mend_fault s (address_of op) kind
-
--- what is to be mended where an operation of the runner is refused
-abbrev pub mend : State → Op → Option Mend
-mend s op = option_and_then (mend_why s op) (why s op)

@@ -4,8 +4,10 @@
 #![tactic(auto)]
 
 mod allowed;
+mod explained;
 
 pub use allowed::Allowed;
+pub use explained::Explained;
 use ffa_model::{EndpointId, Kind, Rights, Version, Work};
 
 /// What a machine tells of an operation that is refused, beside why it is.

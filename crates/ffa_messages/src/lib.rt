@@ -5,12 +5,10 @@
 mod checks;
 mod direct;
 mod indirect;
-mod mends;
 mod parties;
 mod reasons;
 
 pub use checks::{IndirectMessage, check_direct_req, check_direct_resp, check_send2};
 pub use direct::{direct_req, direct_resp};
 pub use indirect::send2;
-pub use mends::{mend_message, mend_response};
-pub use reasons::about_message;
+pub use reasons::{explain_message, mend_response};

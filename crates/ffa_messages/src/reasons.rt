@@ -1,18 +1,25 @@
 // SPDX-License-Identifier: MIT OR Apache-2.0
-//! Which end of a message a check is about. Only who asks why a call was refused asks this: no call does.
-ghost use Rattle.std.specs.Prelude.{◌≡◌, length};
+//! Explains why a message is refused. No call uses this.
+ghost use Rattle.std.specs.Prelude.{◌≡◌, None, length};
 ghost use Rattle.ffa_model.specs.AboutContents.{about_ends, about_message};
+ghost use Rattle.ffa_model.specs.Bits.{word_of_two};
 ghost use Rattle.ffa_model.specs.Buffers.{buffers_in};
 ghost use Rattle.ffa_model.specs.Messages.{header_in};
+ghost use Rattle.ffa_model.specs.RunStates.{requester, work_in};
+ghost use Rattle.ffa_mend.specs.Explained.{explained};
+ghost use Rattle.ffa_mend.specs.Mend.{mend_header, mend_message, mend_response};
 ghost use Rattle.ffa_messages.specs.Parts.{AreInRam, header_of, sent_in};
 
+use crate::checks::requester;
 use crate::indirect::{MessageHeader, read_header};
+use ffa_mend::{Explained, Mend};
 use ffa_model::{About, EndpointId, Refusal};
 use ffa_physmem::PhysMem;
 use ffa_rxtx::Buffers;
+use ffa_schedule::Chain;
 
 impl MessageHeader {
-    // Which of its ends a check that fails is about.
+    // Returns the end that a check is about.
     fn about(&self, refusal: Refusal) -> Option<About>
         ensures { result ≡ about_ends (header_of self.now) refusal }
     {
@@ -27,21 +34,68 @@ impl MessageHeader {
             _ => None,
         }
     }
+
+    // Returns the word that a check is about, or where the message ends, in a buffer of this size.
+    fn mend(&self, room: usize, refusal: Refusal) -> Option<Mend>
+        ensures { result ≡ mend_header room (header_of self.now) refusal }
+    {
+        match refusal {
+            Refusal::FlagsReserved => Some(word(0, self.flags)),
+            Refusal::HeaderReserved => Some(word(4, self.reserved)),
+            Refusal::MessageInHeader => Some(word(8, self.offset)),
+            Refusal::MessageEmpty => Some(word(16, self.size)),
+            Refusal::MessageTooLong => Some(Mend::Message {
+                offset: self.offset,
+                size: self.size,
+                room: room as u64,
+            }),
+            _ => None,
+        }
+    }
 }
 
-/// Which end that the header in its TX names a check of FFA_MSG_SEND2 of an endpoint is about, where it fails.
-pub fn about_message<M: PhysMem>(
+// A word of a header, by the place of its first byte.
+fn word(place: u32, value: u32) -> Mend
+    ensures { result ≡ Mend.Word place value }
+{
+    Mend::Word { place, value }
+}
+
+/// Explains a check that refuses FFA_MSG_SEND2 of an endpoint: which end in the header the check is about, or the header's word, or
+/// where the message ends.
+pub fn explain_message<M: PhysMem>(
     ram: &M,
     buffers: &Buffers,
     caller: EndpointId,
     refusal: Refusal,
-) -> Option<About>
+) -> Explained
     requires { AreInRam (length (M.ram ram.now).pages) buffers.now }
-    ensures { result ≡ about_message (buffers_in buffers.now caller.0)
-        (header_in (sent_in (M.ram ram.now) buffers.now caller.0)) refusal }
+    ensures { let own = buffers_in buffers.now caller.0 in
+        let header = header_in (sent_in (M.ram ram.now) buffers.now caller.0) in
+        result ≡ explained (about_message own header refusal) None (mend_message own header refusal) }
 {
     match buffers.of(caller) {
-        Some(from) => read_header(ram, &from).about(refusal),
+        Some(from) => {
+            let header = read_header(ram, &from);
+            Explained::of(header.about(refusal), header.mend(from.room(), refusal))
+        }
+        None => Explained::of(None, None),
+    }
+}
+
+/// Returns the one w1 that FFA_MSG_SEND_DIRECT_RESP may have, where the runner answers a request.
+pub fn mend_response(chain: &Chain) -> Option<Mend>
+    ensures { result ≡ mend_response chain.now.runner (requester (work_in chain.now chain.now.runner)) }
+{
+    match requester(chain) {
+        Some(by) => Some(Mend::Wanted(u64::from(word_of_two(chain.runner(), by)))),
         None => None,
     }
+}
+
+// Two endpoints in one register, the sender in the high half.
+fn word_of_two(sender: EndpointId, receiver: EndpointId) -> u32
+    ensures { result ≡ word_of_two sender.0 receiver.0 }
+{
+    u32::from(sender.0) * 0x10000 + u32::from(receiver.0)
 }

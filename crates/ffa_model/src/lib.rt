@@ -9,7 +9,6 @@ pub mod descriptor;
 pub mod endpoint;
 pub mod flaw;
 pub mod function;
-pub mod home;
 pub mod leaf;
 pub mod limits;
 pub mod manifest;
@@ -32,7 +31,6 @@ pub use flaw::{
     AccessFlaw, CompositeFlaw, FieldPlace, Flaw, HeaderFlaw, RangeFlaw, RelinquishFlaw,
     RetrieveFlaw, SendFlaw,
 };
-pub use home::{Here, Home};
 pub use leaf::Leaf;
 pub use limits::{
     MOST_BLOCKS, MOST_BUFFER_PAGES, MOST_ENDPOINTS, MOST_OPEN, MOST_PAGES, MOST_PROCESSORS,

@@ -1,7 +1,8 @@
 -- SPDX-License-Identifier: MIT OR Apache-2.0
 -- Notices around operations of several processors (DEN0077A, 10): the normal world asks which endpoints to run, and names execution
 -- contexts, as many as there are processors.
-use Rattle.std.specs.Prelude.{ℕ, Bool, not, ◌==◌, ◌&&◌, ◌||◌, nat_le, nat_lt, List, Option, Some, None, slice_index, slice_set, if◌then◌else◌}
+use Rattle.std.specs.List.{list_any}
+use Rattle.std.specs.Prelude.{ℕ, Bool, false, [], ◌∷◌, not, ◌==◌, ◌&&◌, ◌||◌, nat_le, nat_lt, List, Option, Some, None, slice_index, slice_set, if◌then◌else◌}
 use Rattle.ffa_model.specs.declared.function.TheConstants.{FFA_FEATURES, FFA_NOTIFICATION_BITMAP_CREATE, FFA_NOTIFICATION_GET}
 use Rattle.ffa_model.specs.declared.limits.TheConstants.{MOST_PROCESSORS}
 use Rattle.ffa_model.specs.declared.operation.Effect.{Effect}
@@ -35,6 +36,13 @@ in_one_context (Call x) = Call (with_one_context x)
 in_one_context (Load addr size) = Load addr size
 in_one_context (Store addr size value) = Store addr size value
 in_one_context (Fetch addr) = Fetch addr
+
+-- whether a call has one of the numbers of calls that ask about notices or name contexts
+abbrev pub is_about_notices : Op → Bool
+is_about_notices (Call x) =
+    list_any (λ function. low (slice_index x 0) == function)
+    (FFA_NOTIFICATION_BITMAP_CREATE ∷ FFA_NOTIFICATION_GET ∷ FFA_FEATURES ∷ FFA_NOTIFICATION_INFO_GET ∷ wide_of FFA_NOTIFICATION_INFO_GET ∷ [])
+is_about_notices op = false
 
 -- NOTICES
 

@@ -8,7 +8,6 @@ mod checks;
 mod class;
 mod copy;
 mod first;
-mod mends;
 pub mod notices;
 mod questions;
 mod reasons;

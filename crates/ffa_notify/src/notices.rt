@@ -5,7 +5,7 @@ ghost use Rattle.ffa_model.specs.declared.operation.Effect.{Effect};
 ghost use Rattle.ffa_model.specs.declared.operation.Outcome.{Outcome};
 ghost use Rattle.ffa_model.specs.declared.limits.TheConstants.{MOST_PROCESSORS};
 ghost use Rattle.ffa_model.specs.Bits.{high_half, low_half};
-ghost use Rattle.ffa_notify.specs.Noticed.{in_one_context, is_info_get, notice_asked, notice_in, noticed, told_after, with_one_context};
+ghost use Rattle.ffa_notify.specs.Noticed.{in_one_context, is_about_notices, is_info_get, notice_asked, notice_in, noticed, told_after, with_one_context};
 
 use crate::bitmaps::Bitmaps;
 use crate::told::{Told, info_registers};
@@ -26,6 +26,7 @@ pub enum Notice {
 /// one context, and asks nothing.
 #[inline(always)]
 pub fn is_about_notices(op: &Op) -> bool
+    ensures about { result ≡ is_about_notices op.now }
     ensures own { result ≡ false → in_one_context op.now ≡ op.now }
     ensures quiet { result ≡ false → (runner : ℕ) → notice_asked runner op.now ≡ None }
 {

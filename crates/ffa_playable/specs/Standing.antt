@@ -5,8 +5,9 @@ use Rattle.std.specs.Prelude.{ℕ, Bool, length, find, Option, Some, None}
 use Rattle.std.specs.Option.{option_map}
 use Rattle.ffa_mend.specs.declared.allowed.Allowed.{Allowed}
 use Rattle.ffa_mend.specs.declared.Mend.{Mend}
-use Rattle.ffa_mend.specs.Allowed.{allowed}
-use Rattle.ffa_mend.specs.Mend.{mend_why}
+use Rattle.ffa_mend.specs.Allowed.{allowed_check, receivers_of}
+use Rattle.ffa_mend.specs.Mend.{address_of, call_of, mend_check, mend_fault}
+use Rattle.ffa_model.specs.declared.call.Call.{Call}
 use Rattle.ffa_model.specs.declared.endpoint.EndpointId.{EndpointId}
 use Rattle.ffa_model.specs.declared.operation.Op.{Op}
 use Rattle.ffa_model.specs.declared.refusal.Refusal.{Refusal}
@@ -50,20 +51,22 @@ abbrev pub standing_of_check : State → Refusal → Option About → Option Sta
 standing_of_check s refusal (Some (Endpoint e)) = standing_of_endpoint s refusal e.0
 standing_of_check s refusal about = None
 
--- of what an operation is refused for
-abbrev pub standing : State → Why → Option Standing
-standing s (Refused refusal about) = standing_of_check s refusal about
-standing s (Fault kind obstacle) = None
-
 -- that, or what is to be mended, or which values may be there
 abbrev pub detail_by : Option Standing → Option Mend → Option Allowed → Option Detail
 detail_by (Some its) mend values = Some (details.Standing its)
 detail_by None (Some mend) values = Some (details.Mend mend)
 detail_by None None values = option_map details.Allowed values
 
--- where the normal world has so many execution contexts
+-- of a check of a call, where the normal world has so many execution contexts
+abbrev pub check_detail : ℕ → State → Call → Refusal → Option About → Option Detail
+check_detail contexts s call refusal about =
+    detail_by (standing_of_check s refusal about) (mend_check s call refusal about)
+    (allowed_check contexts (receivers_of s call) call refusal about)
+
+-- of what an operation is refused for
 abbrev pub detail : ℕ → State → Op → Why → Option Detail
-detail contexts s op why = detail_by (standing s why) (mend_why s op why) (allowed contexts s op why)
+detail contexts s op (Refused refusal about) = check_detail contexts s (call_of op) refusal about
+detail contexts s op (Fault kind obstacle) = detail_by None (mend_fault s (address_of op) kind) None
 
 -- on a bench
 abbrev pub detail_of : Bench → Op → Why → Option Detail

@@ -2,7 +2,16 @@
 //! What a machine tells of an operation that is refused, beside why it is. It serves diagnostics alone.
 
 use ffa_mend::{Allowed, Mend};
-use ffa_model::{EndpointId, Status};
+use ffa_model::{EndpointId, Status, Why};
+
+/// Why an operation is refused, with what else the machine knows of it.
+#[derive(Clone, Copy)]
+pub struct Explanation {
+    /// Why the operation is refused.
+    pub why: Why,
+    /// What to change, or how that stands which the check is about, or which values may be there.
+    pub detail: Option<Detail>,
+}
 
 /// What a machine tells of an operation that is refused, beside why it is.
 #[derive(Clone, Copy)]

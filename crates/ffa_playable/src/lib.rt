@@ -4,6 +4,7 @@
 #![tactic(auto)]
 
 ghost use Rattle.std.specs.Prelude.{◌≡◌, ℕ, ◌+◌, ◌*◌, ◌^◌, ◌<◌, ◌≤◌, IfSome, IsTrue, Some, is_some, length};
+ghost use Rattle.std.specs.Option.{option_map};
 ghost use Rattle.ffa_model.specs.declared.limits.TheConstants.{MOST_ENDPOINTS, MOST_PROCESSORS};
 ghost use Rattle.ffa_model.specs.Access.{access};
 ghost use Rattle.ffa_model.specs.Agreement.{root};
@@ -17,8 +18,8 @@ ghost use Rattle.ffa_playable.specs.Standing.{detail_of};
 
 mod detail;
 
-pub use detail::{Detail, Standing};
-use ffa_model::{Address, CertRun, Effect, EndpointId, Op, Outcome, PageNo, Rights, Why};
+pub use detail::{Detail, Explanation, Standing};
+use ffa_model::{Address, CertRun, Effect, EndpointId, Op, Outcome, PageNo, Rights};
 
 /// A machine that traces can be played on: what it answers and how it changes is what the small machine does from the
 /// same state. One processor runs it alone, or several do, of which one is on turn.
@@ -47,17 +48,15 @@ pub trait Playable: Drop {
         ensures outcome { result ≡ outcome_of_interrupt (bench self.old) }
         ensures bench { bench self.new ≡ after_interrupt (bench self.old) };
 
-    /// Why an operation of the runner is refused; nothing where it isn't, as where there is no notice. It changes nothing.
-    fn why(&self, op: &Op) -> Option<Why>
-        ensures why { result ≡ why_of (bench self.now) op.now }
+    /// Why an operation of the runner is refused; nothing where it isn't, as where there is no notice. With it what is to be
+    /// mended, or how that stands which the check is about, or which values may be there, as far as the machine knows it. It
+    /// changes nothing.
+    fn why(&self, op: &Op) -> Option<Explanation>
+        ensures why { option_map (λ its. its.why) result ≡ why_of (bench self.now) op.now }
+        ensures detail { IfSome result (λ its. its.detail ≡ detail_of (bench self.now) op.now its.why) }
         ensures refused { is_some result ≡ refuses (bench self.now) op.now }
-        ensures outcome { IfSome result (λ reason.
-            effect_of (bench self.now) op.now ≡ Effect.Outcome (outcome_of (bench self.now).state reason)) };
-
-    /// What is to be mended where an operation of the runner is refused for this reason, or how that stands which the check
-    /// is about, or which values may be there, as far as the machine knows it. It changes nothing.
-    fn detail(&self, op: &Op, why: Why) -> Option<Detail>
-        ensures { result ≡ detail_of (bench self.now) op.now why };
+        ensures outcome { IfSome result (λ its.
+            effect_of (bench self.now) op.now ≡ Effect.Outcome (outcome_of (bench self.now).state its.why)) };
 
     /// The endpoint that runs.
     fn runner(&self) -> EndpointId

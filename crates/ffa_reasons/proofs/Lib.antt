@@ -1,6 +1,5 @@
 -- SPDX-License-Identifier: MIT OR Apache-2.0
 mod Answered
 mod Checked
-mod Counted
-mod Mended
+mod Explanations
 mod Told

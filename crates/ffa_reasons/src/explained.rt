@@ -2,9 +2,9 @@
 //! The machine that one processor runs, as a player sees it.
 ghost use Rattle.ffa_playable.specs.Bench.{alone};
 
-use ffa_model::{Address, CertRun, Effect, EndpointId, Op, Outcome, PageNo, Rights, Why};
+use ffa_model::{Address, CertRun, Effect, EndpointId, Op, Outcome, PageNo, Rights};
 use ffa_physmem::PhysMem;
-use ffa_playable::{Detail, Playable, Readable};
+use ffa_playable::{Explanation, Playable, Readable};
 use ffa_spmc::{Inline, Machine, Store};
 use ffa_tlb::{NoTlb, Translations};
 
@@ -37,12 +37,8 @@ impl<M: PhysMem + Drop, T: Translations + Drop, S: Store> Playable for Explained
         Outcome::Done
     }
 
-    fn why(&self, op: &Op) -> Option<Why> {
-        crate::why(&self.0, op)
-    }
-
-    fn detail(&self, op: &Op, why: Why) -> Option<Detail> {
-        crate::detail(&self.0, 1, op, why)
+    fn why(&self, op: &Op) -> Option<Explanation> {
+        crate::why(&self.0, 1, op)
     }
 
     fn runner(&self) -> EndpointId {

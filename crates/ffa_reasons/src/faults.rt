@@ -129,7 +129,7 @@ impl<M: PhysMem + Drop, T: Translations + Drop, S: Store> Reasons<'_, M, T, S> {
         ensures { result ≡ offered self.now endpoint.0 page.0 }
     {
         let parts = &self.parts;
-        let base = parts.records.layout.base;
+        let base = parts.layout.base;
         parts.pool.offered_at(parts.pages, base, endpoint, page)
     }
 }

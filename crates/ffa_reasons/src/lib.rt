@@ -7,7 +7,6 @@ mod abouts;
 mod contents;
 mod explained;
 mod faults;
-mod mends;
 mod reasons;
 mod refusals;
 mod registers;
@@ -18,4 +17,4 @@ mod values;
 
 pub use explained::Explained;
 pub use several::ExplainedCluster;
-pub use telling::{allowed, detail, grant_of, offered, standing, why, why_resuming};
+pub use telling::{grant_of, offered, why, why_resuming};

@@ -77,7 +77,7 @@ impl<M: PhysMem + Drop, T: Translations + Drop, S: Store> Reasons<'_, M, T, S> {
         ensures { result ≡ first_refusal (rxtx_map self.now tx rx pages).guards }
     {
         let parts = &self.parts;
-        let base = parts.records.manifest.ram_base;
+        let base = parts.manifest.ram_base;
         let runner = parts.chain.runner();
         let found = parts
             .buffers
@@ -99,7 +99,7 @@ impl<M: PhysMem + Drop, T: Translations + Drop, S: Store> Reasons<'_, M, T, S> {
     {
         let buffers = self.parts.buffers;
         let runner = self.parts.chain.runner();
-        let is_recognized = ffa_setup::is_recognized(&self.parts.records.manifest, uuid);
+        let is_recognized = ffa_setup::is_recognized(self.parts.manifest, uuid);
         info_refusal(
             is_recognized,
             is_count_alone(flags),
@@ -133,7 +133,7 @@ impl<M: PhysMem + Drop, T: Translations + Drop, S: Store> Reasons<'_, M, T, S> {
     fn direct_request_refusal(&self, message: &DirectMessage) -> Option<Refusal>
         ensures { result ≡ first_refusal (direct_request self.now message.now).guards }
     {
-        check_direct_req(self.parts.chain, &self.parts.records.manifest, message).err()
+        check_direct_req(self.parts.chain, self.parts.manifest, message).err()
     }
 
     // Of FFA_MSG_SEND_DIRECT_RESP.
@@ -149,7 +149,7 @@ impl<M: PhysMem + Drop, T: Translations + Drop, S: Store> Reasons<'_, M, T, S> {
     {
         let parts = &self.parts;
         let runner = parts.chain.runner();
-        check_send2(parts.ram, parts.buffers, &parts.records.manifest, runner).err()
+        check_send2(parts.ram, parts.buffers, parts.manifest, runner).err()
     }
 
     // Of FFA_MEM_DONATE, FFA_MEM_LEND or FFA_MEM_SHARE.
@@ -160,7 +160,7 @@ impl<M: PhysMem + Drop, T: Translations + Drop, S: Store> Reasons<'_, M, T, S> {
         let call = DescriptorCall { transfer, version };
         let parts = &self.parts;
         let runner = parts.chain.runner();
-        let (ram, layout) = (parts.ram, &parts.records.layout);
+        let (ram, layout) = (parts.ram, parts.layout);
         let (pages, buffers) = (parts.pages, parts.buffers);
         let mut draft = Draft::none();
         let found = parts.pool.check_send(
@@ -177,7 +177,7 @@ impl<M: PhysMem + Drop, T: Translations + Drop, S: Store> Reasons<'_, M, T, S> {
         let call = DescriptorCall { transfer, version };
         let parts = &self.parts;
         let runner = parts.chain.runner();
-        let (layout, pages) = (&parts.records.layout, parts.pages);
+        let (layout, pages) = (parts.layout, parts.pages);
         let found = parts
             .pool
             .check_retrieve(parts.ram, layout, pages, parts.buffers, runner, &call);
@@ -202,7 +202,7 @@ impl<M: PhysMem + Drop, T: Translations + Drop, S: Store> Reasons<'_, M, T, S> {
     {
         let parts = &self.parts;
         let runner = parts.chain.runner();
-        let base = parts.records.layout.base;
+        let base = parts.layout.base;
         let found = parts
             .pool
             .check_reclaim(parts.pages, base, runner, handle, flags);
@@ -214,7 +214,7 @@ impl<M: PhysMem + Drop, T: Translations + Drop, S: Store> Reasons<'_, M, T, S> {
         ensures { result ≡ first_refusal (bitmap_create self.now endpoint contexts).guards }
     {
         let runner = self.parts.chain.runner();
-        let bitmaps = &self.parts.records.bitmaps;
+        let bitmaps = self.parts.bitmaps;
         bitmaps.check_create(runner, endpoint, contexts).err()
     }
 
@@ -223,11 +223,7 @@ impl<M: PhysMem + Drop, T: Translations + Drop, S: Store> Reasons<'_, M, T, S> {
         ensures { result ≡ first_refusal (bitmap_destroy self.now endpoint).guards }
     {
         let runner = self.parts.chain.runner();
-        self.parts
-            .records
-            .bitmaps
-            .check_destroy(runner, endpoint)
-            .err()
+        self.parts.bitmaps.check_destroy(runner, endpoint).err()
     }
 
     // Of FFA_NOTIFICATION_BIND.
@@ -235,7 +231,7 @@ impl<M: PhysMem + Drop, T: Translations + Drop, S: Store> Reasons<'_, M, T, S> {
         ensures { result ≡ first_refusal (notification_bind self.now bits.now).guards }
     {
         let runner = self.parts.chain.runner();
-        self.parts.records.bitmaps.check_bind(runner, bits).err()
+        self.parts.bitmaps.check_bind(runner, bits).err()
     }
 
     // Of FFA_NOTIFICATION_UNBIND.
@@ -243,7 +239,7 @@ impl<M: PhysMem + Drop, T: Translations + Drop, S: Store> Reasons<'_, M, T, S> {
         ensures { result ≡ first_refusal (notification_unbind self.now bits.now).guards }
     {
         let runner = self.parts.chain.runner();
-        self.parts.records.bitmaps.check_unbind(runner, bits).err()
+        self.parts.bitmaps.check_unbind(runner, bits).err()
     }
 
     // Of FFA_NOTIFICATION_SET.
@@ -251,7 +247,7 @@ impl<M: PhysMem + Drop, T: Translations + Drop, S: Store> Reasons<'_, M, T, S> {
         ensures { result ≡ first_refusal (notification_set self.now bits.now).guards }
     {
         let runner = self.parts.chain.runner();
-        self.parts.records.bitmaps.check_set(runner, bits).err()
+        self.parts.bitmaps.check_set(runner, bits).err()
     }
 
     // Of FFA_NOTIFICATION_GET.
@@ -264,7 +260,7 @@ impl<M: PhysMem + Drop, T: Translations + Drop, S: Store> Reasons<'_, M, T, S> {
         ensures { result ≡ first_refusal (notification_get self.now receiver.0 context flags).guards }
     {
         let runner = self.parts.chain.runner();
-        let bitmaps = &self.parts.records.bitmaps;
+        let bitmaps = self.parts.bitmaps;
         bitmaps.check_get(runner, receiver, context, flags).err()
     }
 }

@@ -6,11 +6,11 @@ ghost use Rattle.ffa_model.specs.declared.limits.TheConstants.{MOST_PROCESSORS};
 ghost use Rattle.ffa_playable.specs.Bench.{Bench};
 
 use ffa_model::{
-    Address, CertRun, Effect, EndpointId, MOST_PROCESSORS, Op, Outcome, PageNo, Rights, Why,
+    Address, CertRun, Effect, EndpointId, MOST_PROCESSORS, Op, Outcome, PageNo, Rights,
 };
 use ffa_notify::{Told, in_one_context, notice_asked};
 use ffa_physmem::{PhysMem, Unshared};
-use ffa_playable::{Detail, Playable, Readable};
+use ffa_playable::{Explanation, Playable, Readable};
 use ffa_spmc::{Cluster, Inline, Store};
 use ffa_tlb::{NoTlb, Translations};
 use std::marker::Model;
@@ -85,18 +85,14 @@ impl<M: Unshared + Drop, T: Translations + Drop, S: Store> Playable for Explaine
         self.cluster.interrupt()
     }
 
-    fn why(&self, op: &Op) -> Option<Why> {
+    fn why(&self, op: &Op) -> Option<Explanation> {
         let machine = self.cluster.machine();
+        let contexts = MOST_PROCESSORS as u32;
         if notice_asked(machine.runner(), op).is_some() {
             None
         } else {
-            crate::why_resuming(machine, &in_one_context(op))
+            crate::why_resuming(machine, contexts, &in_one_context(op))
         }
-    }
-
-    fn detail(&self, op: &Op, why: Why) -> Option<Detail> {
-        let contexts = MOST_PROCESSORS as u32;
-        crate::detail(self.cluster.machine(), contexts, &in_one_context(op), why)
     }
 
     fn runner(&self) -> EndpointId {

@@ -3,10 +3,10 @@
 ghost use Rattle.std.specs.Prelude.{◌≡◌, ◌≤◌, length};
 ghost use Rattle.ffa_model.specs.declared.limits.TheConstants.{MOST_ENDPOINTS};
 ghost use Rattle.ffa_model.specs.RunStates.{schedule_of};
-ghost use Rattle.ffa_playable.specs.Standing.{awaited, is_asked_by, run_state, standing, standing_of_check, standing_of_endpoint};
+ghost use Rattle.ffa_playable.specs.Standing.{awaited, is_asked_by, run_state, standing_of_check, standing_of_endpoint};
 
 use crate::reasons::Reasons;
-use ffa_model::{About, EndpointId, Refusal, Why, Work};
+use ffa_model::{About, EndpointId, Refusal, Work};
 use ffa_physmem::PhysMem;
 use ffa_playable::Standing;
 use ffa_schedule::Chain;
@@ -14,18 +14,12 @@ use ffa_spmc::Store;
 use ffa_tlb::Translations;
 
 impl<M: PhysMem + Drop, T: Translations + Drop, S: Store> Reasons<'_, M, T, S> {
-    // Of what an operation of the runner is refused for.
-    pub(crate) fn standing(&self, why: Why) -> Option<Standing>
-        ensures { result ≡ standing self.now why }
-    {
-        match why {
-            Why::Refused { refusal, about } => self.standing_of_check(refusal, about),
-            Why::Fault { .. } => None,
-        }
-    }
-
     // Of a check of a call.
-    fn standing_of_check(&self, refusal: Refusal, about: Option<About>) -> Option<Standing>
+    pub(crate) fn standing_of_check(
+        &self,
+        refusal: Refusal,
+        about: Option<About>,
+    ) -> Option<Standing>
         ensures { result ≡ standing_of_check self.now refusal about }
     {
         match about {

@@ -2,108 +2,67 @@
 //! Why an operation of the runner would be refused now, by what an endpoint has its access to a page, and what it may still
 //! retrieve.
 ghost use Rattle.std.specs.Prelude.{◌≡◌, ◌<◌, IfSome, None, false, is_some, length, if◌then◌else◌};
+ghost use Rattle.std.specs.Option.{option_map};
 ghost use Rattle.ffa_model.specs.Access.{access};
 ghost use Rattle.ffa_model.specs.Processors.{resumed_by, resumed_by_call, step_resuming};
 ghost use Rattle.ffa_model.specs.Refusals.{is_refusal};
 ghost use Rattle.ffa_model.specs.Step.{step};
-ghost use Rattle.ffa_model.specs.Why.{granted, outcome_of, why, why_fault};
-ghost use Rattle.ffa_mend.specs.Allowed.{allowed};
-ghost use Rattle.ffa_mend.specs.Mend.{address_of, call_of, mend_why};
+ghost use Rattle.ffa_model.specs.Why.{granted, outcome_of, why};
 ghost use Rattle.ffa_mend.specs.Offered.{offered};
 ghost use Rattle.ffa_playable.specs.Bench.{is_refused};
-ghost use Rattle.ffa_playable.specs.Standing.{detail, standing};
+ghost use Rattle.ffa_playable.specs.Standing.{detail, detail_by};
+ghost use Rattle.ffa_reasons.specs.Explanation.{check_explanation, explanation, fault_explanation};
 
 use crate::reasons::Reasons;
+use crate::registers::about_registers;
+use crate::values::allowed_check;
 use ffa_mend::{Allowed, Mend};
-use ffa_model::{Call, Effect, EndpointId, FaultKind, Grant, Op, PageNo, Rights, Why};
+use ffa_model::{Call, Effect, EndpointId, FaultKind, Grant, Op, PageNo, Refusal, Rights, Why};
 use ffa_physmem::PhysMem;
-use ffa_playable::{Detail, Standing};
+use ffa_playable::{Detail, Explanation, Standing};
 use ffa_spmc::{Machine, Store};
 use ffa_tlb::Translations;
 
 /// Why an operation of the runner is refused: of a call the first check that fails, with what it is about, where that is a
 /// register, an endpoint or a handle that registers, a message's header or a descriptor name, the first condition that a
 /// descriptor breaks, a bit or a page, and nothing for other checks; and of an access its fault, with what stands in the way.
-/// `Machine::op` does the operation where this answers nothing. It changes nothing and takes no memory.
+/// With it what to change, or the run state of the endpoint, or the values that may be there, where the normal world has this
+/// many execution contexts. `Machine::op` does the operation where this answers nothing. It changes nothing and takes no memory.
 pub fn why<M: PhysMem + Drop, T: Translations + Drop, S: Store>(
     machine: &Machine<M, T, S>,
+    contexts: u32,
     op: &Op,
-) -> Option<Why>
-    ensures why { result ≡ why machine.now.state op.now }
+) -> Option<Explanation>
+    ensures why { option_map (λ its. its.why) result ≡ why machine.now.state op.now }
+    ensures detail { IfSome result (λ its. its.detail ≡ detail contexts machine.now.state op.now its.why) }
     // There is a reason just where the operation is refused, and it says what the runner sees: FFA_ERROR with the code of
     // the check, or the fault.
     ensures refused { is_some result ≡ is_refusal (step machine.now.state op.now).outcome }
-    ensures outcome { IfSome result (λ reason. (step machine.now.state op.now).outcome
-        ≡ outcome_of machine.now.state reason) }
+    ensures outcome { IfSome result (λ its. (step machine.now.state op.now).outcome
+        ≡ outcome_of machine.now.state its.why) }
 {
-    Reasons::of(machine).why(op)
+    Reasons::of(machine).why(contexts, op)
 }
 
 /// The same where partitions may be preempted: FFA_RUN of one that was lets it go on, and isn't refused.
-/// `Machine::op_resuming` does the operation where this answers nothing. It changes nothing and takes no memory.
+/// `Cluster::op` does the operation where this answers nothing. It changes nothing and takes no memory.
 pub fn why_resuming<M: PhysMem + Drop, T: Translations + Drop, S: Store>(
     machine: &Machine<M, T, S>,
+    contexts: u32,
     op: &Op,
-) -> Option<Why>
-    ensures why { result ≡ (if is_some (resumed_by machine.now.state op.now) then None else why machine.now.state op.now) }
+) -> Option<Explanation>
+    ensures why { option_map (λ its. its.why) result
+        ≡ (if is_some (resumed_by machine.now.state op.now) then None else why machine.now.state op.now) }
+    ensures detail { IfSome result (λ its. its.detail ≡ detail contexts machine.now.state op.now its.why) }
     ensures refused { is_some result ≡ is_refused (step_resuming machine.now.state op.now).effect }
-    ensures outcome { IfSome result (λ reason. (step_resuming machine.now.state op.now).effect
-        ≡ Effect.Outcome (outcome_of machine.now.state reason)) }
+    ensures outcome { IfSome result (λ its. (step_resuming machine.now.state op.now).effect
+        ≡ Effect.Outcome (outcome_of machine.now.state its.why)) }
 {
     if Reasons::of(machine).lets_go_on(op) {
         None
     } else {
-        why(machine, op)
+        why(machine, contexts, op)
     }
-}
-
-/// What is to be mended where an operation of the runner is refused for this reason, beside what the reason names: a buffer, a
-/// right, a value that is wanted, or which of two causes it has; or how that stands which the check is about; or which values may
-/// be there, where the normal world has so many execution contexts. Nothing where nothing more is known. It changes nothing and
-/// takes no memory.
-pub fn detail<M: PhysMem + Drop, T: Translations + Drop, S: Store>(
-    machine: &Machine<M, T, S>,
-    contexts: u32,
-    op: &Op,
-    why: Why,
-) -> Option<Detail>
-    ensures detail { result ≡ detail contexts machine.now.state op.now why }
-{
-    let reasons = Reasons::of(machine);
-    if let Some(standing) = reasons.standing(why) {
-        return Some(Detail::Standing(standing));
-    }
-    if let Some(mend) = reasons.mend(op, why) {
-        return Some(Detail::Mend(mend));
-    }
-    match reasons.allowed(contexts, op, why) {
-        Some(allowed) => Some(Detail::Allowed(allowed)),
-        None => None,
-    }
-}
-
-/// Which values that register or field may have which the check is about that refuses an operation of the runner, where the normal
-/// world has so many execution contexts. Nothing of other checks. It changes nothing and takes no memory.
-pub fn allowed<M: PhysMem + Drop, T: Translations + Drop, S: Store>(
-    machine: &Machine<M, T, S>,
-    contexts: u32,
-    op: &Op,
-    why: Why,
-) -> Option<Allowed>
-    ensures allowed { result ≡ allowed contexts machine.now.state op.now why }
-{
-    Reasons::of(machine).allowed(contexts, op, why)
-}
-
-/// How that stands which the check is about that refuses an operation of the runner: the run state of an endpoint that is to
-/// wait. Nothing of other checks. It changes nothing and takes no memory.
-pub fn standing<M: PhysMem + Drop, T: Translations + Drop, S: Store>(
-    machine: &Machine<M, T, S>,
-    why: Why,
-) -> Option<Standing>
-    ensures standing { result ≡ standing machine.now.state why }
-{
-    Reasons::of(machine).standing(why)
 }
 
 /// By what an endpoint has its access to a page: its own page, or the open transaction by which it has it. Nothing outside
@@ -134,11 +93,11 @@ pub fn offered<M: PhysMem + Drop, T: Translations + Drop, S: Store>(
 
 impl<M: PhysMem + Drop, T: Translations + Drop, S: Store> Reasons<'_, M, T, S> {
     // The reason itself.
-    fn why(&self, op: &Op) -> Option<Why>
-        ensures { result ≡ why self.now op.now }
+    fn why(&self, contexts: u32, op: &Op) -> Option<Explanation>
+        ensures { result ≡ explanation contexts self.now op.now }
     {
         match *op {
-            Op::Call(x) => self.why_call(x),
+            Op::Call(x) => self.why_call(contexts, x),
             Op::Load { addr, size } => self.why_fault(addr, self.load_fault(addr, size)),
             Op::Store {
                 addr,
@@ -169,58 +128,65 @@ impl<M: PhysMem + Drop, T: Translations + Drop, S: Store> Reasons<'_, M, T, S> {
         }
     }
 
-    // What is to be mended where an operation is refused for this reason.
-    fn mend(&self, op: &Op, why: Why) -> Option<Mend>
-        ensures { result ≡ mend_why self.now op.now why }
-    {
-        match why {
-            Why::Refused { refusal, about } => self.mend_check(call_of(op), refusal, about),
-            Why::Fault { kind, obstacle: _ } => self.mend_fault(address_of(op), kind),
-        }
-    }
-
     // Of a call, in its registers.
-    fn why_call(&self, x: [u64; 8]) -> Option<Why>
-        ensures { result ≡ why self.now (Op.Call x) }
+    fn why_call(&self, contexts: u32, x: [u64; 8]) -> Option<Explanation>
+        ensures { result ≡ explanation contexts self.now (Op.Call x) }
     {
         let call = ffa_abi::decode(x);
         match self.refusal(call) {
-            Some(refusal) => Some(Why::Refused {
-                refusal,
-                about: self.about(ffa_abi::low(x[0]), call, refusal),
-            }),
+            Some(refusal) => Some(self.explain(contexts, ffa_abi::low(x[0]), call, refusal)),
             None => None,
         }
     }
 
+    // Of a check of a call that fails. The number is that of the function, in w0.
+    fn explain(&self, contexts: u32, number: u32, call: Call, refusal: Refusal) -> Explanation
+        ensures { result ≡ check_explanation contexts self.now number call refusal }
+    {
+        let contents = self.explain_contents(call, refusal);
+        let named = contents.about.or(self.about_page(contents.page));
+        let about = about_registers(number, &call, refusal).or(named);
+        Explanation {
+            why: Why::Refused { refusal, about },
+            detail: detail_by(
+                self.standing_of_check(refusal, about),
+                contents.mend.or(self.mend_about(refusal, about)),
+                allowed_check(contexts, contents.receivers, call, refusal, about),
+            ),
+        }
+    }
+
     // A fault of an access to an address, with what stands in the way.
-    fn why_fault(&self, addr: u64, fault: Option<FaultKind>) -> Option<Why>
-        ensures { result ≡ why_fault self.now addr fault }
+    fn why_fault(&self, addr: u64, fault: Option<FaultKind>) -> Option<Explanation>
+        ensures { result ≡ fault_explanation self.now addr fault }
     {
         let kind = fault?;
-        Some(Why::Fault {
-            kind,
-            obstacle: self.obstacle(addr, kind),
+        Some(Explanation {
+            why: Why::Fault {
+                kind,
+                obstacle: self.obstacle(addr, kind),
+            },
+            detail: detail_by(None, self.mend_fault(addr, kind), None),
         })
     }
 }
 
-// The call that an operation is, if it is one.
-pub(crate) fn call_of(op: &Op) -> Call
-    ensures { result ≡ call_of op.now }
+// The detail that is told of these.
+fn detail_by(
+    standing: Option<Standing>,
+    mend: Option<Mend>,
+    allowed: Option<Allowed>,
+) -> Option<Detail>
+    ensures { result ≡ detail_by standing mend allowed }
 {
-    match *op {
-        Op::Call(x) => ffa_abi::decode(x),
-        Op::Load { .. } | Op::Store { .. } | Op::Fetch { .. } => Call::Unknown,
+    if let Some(standing) = standing {
+        return Some(Detail::Standing(standing));
     }
-}
-
-// The address of an access.
-fn address_of(op: &Op) -> u64
-    ensures { result ≡ address_of op.now }
-{
-    match *op {
-        Op::Call(_) => 0,
-        Op::Load { addr, .. } | Op::Store { addr, .. } | Op::Fetch { addr } => addr,
+    if let Some(mend) = mend {
+        return Some(Detail::Mend(mend));
+    }
+    match allowed {
+        Some(allowed) => Some(Detail::Allowed(allowed)),
+        None => None,
     }
 }

@@ -2,97 +2,61 @@
 //! Which values a register or a field of a descriptor may have, where a check wants others. Nothing is changed, and no memory is taken.
 ghost use Rattle.std.specs.Prelude.{◌≡◌, ℕ, ◌+◌, ◌*◌, ◌%◌, IfSome, IsSomeAnd};
 ghost use Rattle.ffa_model.specs.SendDescriptor.{attributes_of, most_flags, most_receivers};
-ghost use Rattle.ffa_mend.specs.Allowed.{IsAmong, IsPlace, allowed, allowed_access, allowed_asked, allowed_behind, allowed_check, allowed_composite, allowed_context, allowed_contexts, allowed_field, allowed_flags, allowed_fragment, allowed_offer, allowed_permissions, allowed_places, allowed_range, allowed_register, allowed_relinquish, allowed_retrieve, allowed_returned, allowed_send, between, contexts_of, either, one, receivers_told, steps};
+ghost use Rattle.ffa_mend.specs.Allowed.{IsAmong, IsPlace, allowed_asked, allowed_behind, allowed_check, allowed_context, allowed_contexts, allowed_field, allowed_flags, allowed_fragment, allowed_offer, allowed_permissions, allowed_places, allowed_register, between, contexts_of, one, steps};
 
-use crate::reasons::Reasons;
-use crate::telling::call_of;
-use ffa_memshare::DescriptorCall;
 use ffa_mend::Allowed;
 use ffa_model::{
     About, AccessFlaw, Call, CompositeFlaw, EndpointId, FieldPlace, Flaw, Kind, MOST_BUFFER_PAGES,
-    MOST_RANGES, MOST_RECEIVERS, Op, RangeFlaw, Refusal, RelinquishFlaw, RetrieveFlaw, SendFlaw,
-    Transfer, Why,
+    MOST_RANGES, MOST_RECEIVERS, RangeFlaw, Refusal, RelinquishFlaw, RetrieveFlaw, SendFlaw,
 };
-use ffa_physmem::PhysMem;
-use ffa_spmc::Store;
-use ffa_tlb::Translations;
 
 // The attributes of normal memory, as the manager wants them.
 const NORMAL_MEMORY: u64 = 0x2F;
 
-impl<M: PhysMem + Drop, T: Translations + Drop, S: Store> Reasons<'_, M, T, S> {
-    // Of what an operation of the runner is refused for, where the normal world has so many execution contexts.
-    pub(crate) fn allowed(&self, contexts: u32, op: &Op, why: Why) -> Option<Allowed>
-        ensures { result ≡ allowed contexts self.now op.now why }
-    {
-        match why {
-            Why::Refused { refusal, about } => {
-                self.allowed_check(contexts, call_of(op), refusal, about)
-            }
-            Why::Fault { .. } => None,
+// Of a check of a call, where the normal world has this many execution contexts, and the header of a descriptor names this many
+// receivers.
+pub(crate) fn allowed_check(
+    contexts: u32,
+    receivers: Option<u64>,
+    call: Call,
+    refusal: Refusal,
+    about: Option<About>,
+) -> Option<Allowed>
+    ensures { result ≡ allowed_check contexts receivers call refusal about }
+{
+    match about {
+        Some(About::Register { .. }) => allowed_register(contexts, call, refusal),
+        Some(
+            About::Field {
+                flaw,
+                place,
+                value: Some(_),
+            },
+        ) => allowed_field(receivers, call, place, flaw),
+        _ => None,
+    }
+}
+
+// Of a field of a descriptor.
+fn allowed_field(
+    receivers: Option<u64>,
+    call: Call,
+    place: FieldPlace,
+    flaw: Flaw,
+) -> Option<Allowed>
+    ensures { result ≡ allowed_field receivers call place flaw }
+{
+    match call {
+        Call::MemDonate(transfer) => {
+            allowed_offer(Kind::Donate, receivers, transfer.total, place, flaw)
         }
-    }
-
-    // Of a check of a call.
-    fn allowed_check(
-        &self,
-        contexts: u32,
-        call: Call,
-        refusal: Refusal,
-        about: Option<About>,
-    ) -> Option<Allowed>
-        ensures { result ≡ allowed_check contexts self.now call refusal about }
-    {
-        match about {
-            Some(About::Register { .. }) => allowed_register(contexts, call, refusal),
-            Some(
-                About::Field {
-                    flaw,
-                    place,
-                    value: Some(_),
-                },
-            ) => self.allowed_field(call, place, flaw),
-            _ => None,
+        Call::MemLend(transfer) => {
+            allowed_offer(Kind::Lend, receivers, transfer.total, place, flaw)
         }
-    }
-
-    // Of a field of a descriptor.
-    fn allowed_field(&self, call: Call, place: FieldPlace, flaw: Flaw) -> Option<Allowed>
-        ensures { result ≡ allowed_field self.now call place flaw }
-    {
-        match call {
-            Call::MemDonate(transfer) => self.allowed_offer(Kind::Donate, transfer, place, flaw),
-            Call::MemLend(transfer) => self.allowed_offer(Kind::Lend, transfer, place, flaw),
-            Call::MemShare(transfer) => self.allowed_offer(Kind::Share, transfer, place, flaw),
-            Call::MemRetrieve(_) => allowed_asked(flaw),
-            Call::MemRelinquish => allowed_returned(flaw),
-            _ => None,
+        Call::MemShare(transfer) => {
+            allowed_offer(Kind::Share, receivers, transfer.total, place, flaw)
         }
-    }
-
-    // Of FFA_MEM_DONATE, FFA_MEM_LEND or FFA_MEM_SHARE.
-    fn allowed_offer(
-        &self,
-        kind: Kind,
-        transfer: Transfer,
-        place: FieldPlace,
-        flaw: Flaw,
-    ) -> Option<Allowed>
-        ensures { let receivers = receivers_told self.now transfer in
-            result ≡ allowed_offer kind receivers transfer.total place flaw }
-    {
-        let receivers = self.receivers_told(transfer);
-        allowed_offer(kind, receivers, transfer.total, place, flaw)
-    }
-
-    // How many receivers the header of the runner's descriptor tells.
-    fn receivers_told(&self, transfer: Transfer) -> Option<u64>
-        ensures { result ≡ receivers_told self.now transfer }
-    {
-        let version = self.version();
-        let call = DescriptorCall { transfer, version };
-        let runner = self.parts.chain.runner();
-        ffa_memshare::told_receivers(self.parts.ram, self.parts.buffers, runner, &call)
+        _ => allowed_asked(flaw),
     }
 }
 
@@ -192,24 +156,23 @@ fn allowed_offer(
     ensures { result ≡ allowed_offer kind receivers length place flaw }
 {
     match flaw {
-        Flaw::Send(flaw) => allowed_send(kind, receivers, flaw),
-        Flaw::Access(_, flaw) => allowed_access(kind, flaw),
-        Flaw::Composite(flaw) => {
-            allowed_composite(place.first.saturating_sub(4), receivers, length, flaw)
+        Flaw::Send(SendFlaw::Attributes) => Some(one(attributes_of(kind, receivers?))),
+        Flaw::Send(SendFlaw::Flags) => Some(between(0, most_flags(kind))),
+        Flaw::Send(SendFlaw::NoReceiver | SendFlaw::ManyReceivers) => {
+            Some(between(1, most_receivers(kind)))
         }
-        Flaw::Range(_, flaw) => allowed_range(flaw),
-        Flaw::Header(_) | Flaw::Retrieve(_) | Flaw::Relinquish(_) => None,
-    }
-}
-
-fn allowed_send(kind: Kind, receivers: Option<u64>, flaw: SendFlaw) -> Option<Allowed>
-    ensures { result ≡ allowed_send kind receivers flaw }
-{
-    match flaw {
-        SendFlaw::Attributes => Some(one(attributes_of(kind, receivers?))),
-        SendFlaw::Flags => Some(between(0, most_flags(kind))),
-        SendFlaw::Handle => Some(one(0)),
-        SendFlaw::NoReceiver | SendFlaw::ManyReceivers => Some(between(1, most_receivers(kind))),
+        Flaw::Access(_, AccessFlaw::Permissions) => Some(allowed_permissions(kind)),
+        Flaw::Composite(
+            CompositeFlaw::Outside | CompositeFlaw::Unaligned | CompositeFlaw::InArray,
+        ) => allowed_behind(place.first.saturating_sub(4), receivers, length),
+        Flaw::Composite(CompositeFlaw::NoRange | CompositeFlaw::ManyRanges) => {
+            Some(between(1, MOST_RANGES as u64))
+        }
+        Flaw::Send(SendFlaw::Handle)
+        | Flaw::Access(_, AccessFlaw::Flags | AccessFlaw::Reserved)
+        | Flaw::Composite(CompositeFlaw::Reserved)
+        | Flaw::Range(_, RangeFlaw::Reserved) => Some(one(0)),
+        _ => None,
     }
 }
 
@@ -241,18 +204,6 @@ fn most_receivers(kind: Kind) -> u64
     }
 }
 
-fn allowed_access(kind: Kind, flaw: AccessFlaw) -> Option<Allowed>
-    ensures { result ≡ allowed_access kind flaw }
-{
-    match flaw {
-        AccessFlaw::Permissions => Some(allowed_permissions(kind)),
-        AccessFlaw::Flags | AccessFlaw::Reserved => Some(one(0)),
-        AccessFlaw::OtherComposite | AccessFlaw::ReceiverIsSender | AccessFlaw::ReceiverTwice => {
-            None
-        }
-    }
-}
-
 fn allowed_permissions(kind: Kind) -> Allowed
     ensures { result ≡ allowed_permissions kind }
 {
@@ -263,24 +214,6 @@ fn allowed_permissions(kind: Kind) -> Allowed
 }
 
 // By the place of the first of so many access descriptors.
-fn allowed_composite(
-    array: u64,
-    receivers: Option<u64>,
-    length: u32,
-    flaw: CompositeFlaw,
-) -> Option<Allowed>
-    ensures { result ≡ allowed_composite array receivers length flaw }
-{
-    match flaw {
-        CompositeFlaw::Outside | CompositeFlaw::Unaligned | CompositeFlaw::InArray => {
-            allowed_behind(array, receivers, length)
-        }
-        CompositeFlaw::NoRange | CompositeFlaw::ManyRanges => Some(between(1, MOST_RANGES as u64)),
-        CompositeFlaw::Reserved => Some(one(0)),
-        CompositeFlaw::RangesOutside | CompositeFlaw::Total => None,
-    }
-}
-
 fn allowed_behind(array: u64, receivers: Option<u64>, length: u32) -> Option<Allowed>
     ensures { result ≡ allowed_behind array receivers length }
 {
@@ -303,57 +236,18 @@ fn allowed_places(end: u128, length: u32) -> Option<Allowed>
     Some(steps(end as u64, most as u64, 16))
 }
 
-fn allowed_range(flaw: RangeFlaw) -> Option<Allowed>
-    ensures { result ≡ allowed_range flaw }
-{
-    match flaw {
-        RangeFlaw::Reserved => Some(one(0)),
-        RangeFlaw::Empty | RangeFlaw::Unaligned | RangeFlaw::TooHigh | RangeFlaw::Overlap => None,
-    }
-}
-
-// Of a field of a retrieve.
+// Of a field of a retrieve or a relinquish.
 fn allowed_asked(flaw: Flaw) -> Option<Allowed>
     ensures { result ≡ allowed_asked flaw }
 {
     match flaw {
-        Flaw::Retrieve(flaw) => allowed_retrieve(flaw),
+        Flaw::Retrieve(RetrieveFlaw::Attributes) => Some(steps(0, NORMAL_MEMORY, NORMAL_MEMORY)),
+        Flaw::Retrieve(RetrieveFlaw::AccessCount)
+        | Flaw::Relinquish(RelinquishFlaw::EndpointCount) => Some(one(1)),
+        Flaw::Retrieve(
+            RetrieveFlaw::AccessFlags | RetrieveFlaw::CompositeTold | RetrieveFlaw::AccessReserved,
+        ) => Some(one(0)),
+        Flaw::Relinquish(RelinquishFlaw::Flags) => Some(between(0, 1)),
         _ => None,
-    }
-}
-
-fn allowed_retrieve(flaw: RetrieveFlaw) -> Option<Allowed>
-    ensures { result ≡ allowed_retrieve flaw }
-{
-    match flaw {
-        RetrieveFlaw::Attributes => Some(steps(0, NORMAL_MEMORY, NORMAL_MEMORY)),
-        RetrieveFlaw::AccessCount => Some(one(1)),
-        RetrieveFlaw::AccessFlags | RetrieveFlaw::CompositeTold | RetrieveFlaw::AccessReserved =>
-            Some(one(0)),
-        RetrieveFlaw::Flags
-        | RetrieveFlaw::ReceiverIsAnother
-        | RetrieveFlaw::DataPermission
-        | RetrieveFlaw::InstructionPermission
-        | RetrieveFlaw::PermissionsReserved => None,
-    }
-}
-
-// Of a field of a relinquish.
-fn allowed_returned(flaw: Flaw) -> Option<Allowed>
-    ensures { result ≡ allowed_returned flaw }
-{
-    match flaw {
-        Flaw::Relinquish(flaw) => allowed_relinquish(flaw),
-        _ => None,
-    }
-}
-
-fn allowed_relinquish(flaw: RelinquishFlaw) -> Option<Allowed>
-    ensures { result ≡ allowed_relinquish flaw }
-{
-    match flaw {
-        RelinquishFlaw::Short => None,
-        RelinquishFlaw::Flags => Some(between(0, 1)),
-        RelinquishFlaw::EndpointCount => Some(one(1)),
     }
 }

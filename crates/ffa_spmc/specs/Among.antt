@@ -66,8 +66,13 @@ pub record IsRead (run : Run) (begins : Bool) (old new : Snapshot) : Type 0 wher
   pub sound : IsSoundState new.state
   pub walks : AreWalks new
 
--- so was one that reads pages to which others may write: they were read at once, the operation was done in what was seen
--- then, and only behind it they are what others wrote
+-- so are pages, if there are any; else the machine stays as it is
+abbrev pub AreRead : Option Run → Bool → Snapshot → Snapshot → Type 0
+AreRead None begins old new = new ≡ old
+AreRead (Some run) begins old new = IsRead run begins old new
+
+-- An operation was done that reads pages to which others may write: they were read at once, the operation was done in what was
+-- seen then, and only after it they are what others wrote.
 pub record IsDoneAmong (run : Run) (old : Snapshot) (op : Op) (told : Outcome) (new : Snapshot) : Type 0 where
   pub seen : Snapshot
   pub left : Snapshot

@@ -6,7 +6,7 @@ use Rattle.ffa_spmc.specs.Snapshot.{Snapshot}
 use Rattle.ffa_spmc.specs.declared.storage.Storage.{Storage}
 
 -- the room is for as many pages and endpoints as the machine has
-pub record IsRoomToCopy {S P O R : Type 0} (x : Snapshot) (storage : Storage S P O R) : Type 0 where
+pub record IsRoomToCopy {S P O : Type 0} (x : Snapshot) (storage : Storage S P O) : Type 0 where
   pub pages : length storage.pages ≡ length x.ram.pages
   pub endpoints : length storage.pool.sent ≡ length x.state.parties
 

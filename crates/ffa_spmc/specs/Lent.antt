@@ -8,18 +8,18 @@ use Rattle.ffa_spmc.specs.declared.parts.Parts.{Parts as Lent}
 use Rattle.ffa_spmc.specs.Meaning.{IsManager, Parts, state_of}
 
 -- by what a RAM of this type means
-abbrev pub lent_parts : {M S P O R : Type 0} → (M → Ram) → Lent M S P O R → Parts
+abbrev pub lent_parts : {M S P O : Type 0} → (M → Ram) → Lent M S P O → Parts
 lent_parts meaning lent =
     record {
       ram = meaning lent.ram.now;
-      manifest = lent.records.now.manifest;
+      manifest = lent.manifest.now;
       kept = record {
-        layout = lent.records.now.layout;
+        layout = lent.layout.now;
         pages = lent.pages.now;
         pool = lent.pool.now;
         buffers = lent.buffers.now;
         chain = lent.chain.now;
-        bitmaps = lent.records.now.bitmaps;
+        bitmaps = lent.bitmaps.now;
       };
     }
 

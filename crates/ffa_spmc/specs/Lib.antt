@@ -7,7 +7,7 @@ pub mod Caching
 pub mod Owners
 pub mod Storages
 pub mod Copies
-pub mod FirstRecords
+pub mod FirstKept
 pub mod KeptParts
 pub mod Meaning
 pub mod Lent

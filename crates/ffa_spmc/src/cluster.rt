@@ -169,14 +169,11 @@ impl<M: Observed + Drop, T: Translations + Drop, S: Store> Cluster<M, T, S> {
         let Effect::Outcome(outcome) = effect else {
             unreachable!()
         };
-        match self.machine.front_observed(op) {
-            None => self.machine.op_apart(op, outcome),
-            Some(front) => {
-                self.machine.begin_reading(front);
-                self.machine.op_apart(op, outcome);
-                self.machine.end_reading(front.pages);
-            }
-        }
+        let read = self.machine.begin_reading(op);
+        self.machine.do_op(op, outcome);
+        self.machine.end_reading(read);
+        // Proof step: the tables give the access of the state, which is sound.
+        self.machine.holds();
     }
 }
 

@@ -5,22 +5,27 @@ ghost use Rattle.ffa_model.specs.declared.limits.TheConstants.{MOST_OPEN};
 ghost use Rattle.ffa_model.specs.Lists.{listed};
 ghost use Rattle.ffa_model.specs.RunStates.{first_schedule};
 ghost use Rattle.ffa_pages.specs.Entry.{first_entry};
-ghost use Rattle.ffa_spmc.specs.FirstRecords.{AreFirstRecords};
+ghost use Rattle.ffa_spmc.specs.FirstKept.{AreFirst};
 ghost use Rattle.ffa_spmc.specs.Storages.{IsRoomFor};
 
-use crate::records::Records;
 use crate::storage::{Inline, Storage, Store};
 use ffa_memshare::Pool;
-use ffa_model::{Home, Manifest};
+use ffa_model::Manifest;
+use ffa_notify::Bitmaps;
 use ffa_pages::PageTable;
 use ffa_rxtx::Buffers;
 use ffa_schedule::Chain;
+use ffa_stage2::Layout;
 
 /// What a machine keeps beside the RAM.
 #[derive(Drop)]
 pub struct Kept<S: Store = Inline> {
-    /// The manifest, the layout and the bitmaps of notifications.
-    pub records: S::Records,
+    /// The manifest of the machine.
+    pub manifest: Manifest,
+    /// Where the tables stand, and how many.
+    pub layout: Layout,
+    /// Who has bitmaps of notifications, which bits are bound, and which are pending.
+    pub bitmaps: Bitmaps,
     /// Who owns each page.
     pub pages: PageTable<S::Pages>,
     /// The open memory transactions.
@@ -35,11 +40,11 @@ impl<S: Store> Kept<S> {
     /// What the machine of a manifest keeps at first: each page of a region is its endpoint's, nothing is open, nobody has
     /// buffers, the normal world runs, and partitions that receive notifications have bitmaps, of which no bit is bound or
     /// pending.
-    // Inlined, as `Manager::first` is.
-    #[inline(always)]
+    // Not inlined, so that the stack of its copies is free again when the tables are built.
+    #[inline(never)]
     pub fn first(manifest: &Manifest, storage: Storage<S>) -> Kept<S>
         requires { IsRoomFor manifest.now storage }
-        ensures records { AreFirstRecords manifest.now (S.Records.value result.records) }
+        ensures first { AreFirst manifest.now result.manifest result.layout result.bitmaps }
         ensures pages { result.pages
             ≡ listed (512 * manifest.now.ram_blocks)
             (first_entry manifest.now.ram_base.0 manifest.now.endpoints.items) }
@@ -48,15 +53,12 @@ impl<S: Store> Kept<S> {
         ensures buffers { result.buffers ≡ replicate (length manifest.now.endpoints.items) None }
         ensures chain { result.chain ≡ first_schedule (length manifest.now.endpoints.items) }
     {
-        let Storage {
-            mut pages,
-            pool,
-            mut records,
-        } = storage;
+        let Storage { mut pages, pool } = storage;
         pages.fill(manifest);
-        *records.get_mut() = Records::of(manifest);
         Kept {
-            records,
+            manifest: manifest.copy(),
+            layout: Layout::of(manifest),
+            bitmaps: Bitmaps::of(manifest),
             pages,
             pool,
             buffers: Buffers::none(manifest.endpoints.len()),
@@ -65,11 +67,14 @@ impl<S: Store> Kept<S> {
     }
 
     /// The same once more, in this room.
-    #[inline(always)]
+    // Not inlined, alike.
+    #[inline(never)]
     pub fn copy_in<R: Store>(&self, storage: Storage<R>) -> Kept<R>
         requires pages { length storage.pages ≡ length self.now.pages }
         requires endpoints { length storage.pool.sent ≡ length self.now.pool.sent }
-        ensures records { R.Records.value result.records ≡ S.Records.value self.now.records }
+        ensures manifest { result.manifest ≡ self.now.manifest }
+        ensures layout { result.layout ≡ self.now.layout }
+        ensures bitmaps { result.bitmaps ≡ self.now.bitmaps }
         ensures pages { result.pages ≡ self.now.pages }
         ensures pool { result.pool ≡ self.now.pool }
         ensures buffers { result.buffers ≡ self.now.buffers }
@@ -78,13 +83,13 @@ impl<S: Store> Kept<S> {
         let Storage {
             mut pages,
             mut pool,
-            mut records,
         } = storage;
         pages.copy_from(&self.pages);
         pool.copy_from(&self.pool);
-        *records.get_mut() = self.records.get().copy();
         Kept {
-            records,
+            manifest: self.manifest.copy(),
+            layout: self.layout.copy(),
+            bitmaps: self.bitmaps.copy(),
             pages,
             pool,
             buffers: self.buffers.copy(),

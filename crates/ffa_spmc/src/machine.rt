@@ -150,14 +150,8 @@ impl<M: PhysMem + Drop, T: Translations + Drop, S: Store> Machine<M, T, S> {
         self.manager.ram()
     }
 
-    /// Ends the machine, and gives its RAM back with the bytes that it has in the end.
-    pub fn into_ram(self) -> M
-        ensures { M.ram result ≡ self.ram }
-    {
-        self.manager.into_ram()
-    }
-
-    /// The same, with the room for another machine, which is for as many pages.
+    /// Ends the machine, and gives back its RAM with the bytes that it has in the end, and the room for another machine, which is for
+    /// as many pages.
     pub fn into_parts(self) -> (M, Storage<S>)
         ensures ram { M.ram result.0 ≡ self.ram }
         ensures pages { length result.1.pages ≡ length self.ram.pages }
@@ -250,31 +244,17 @@ impl<M: PhysMem + Drop, T: Translations + Drop, S: Store> Machine<M, T, S> {
         ensures done { IsDone self.old op.now outcome.new self.new }
     {
         match op {
-            Op::Call(x) => self.call(x, outcome),
+            Op::Call(x) => {
+                // Proof step: what holds of every manager, before the call and after it.
+                self.manager.holds();
+                self.manager
+                    .call(x, &mut self.cache, &mut self.news, outcome);
+                self.manager.holds();
+            }
             Op::Load { addr, size } => self.load(*addr, *size, outcome),
             Op::Store { addr, size, value } => self.store(*addr, *size, *value, outcome),
             Op::Fetch { addr } => self.fetch(*addr, outcome),
         }
-    }
-
-    // The same, which is compiled once for the calls in `Cluster::op`.
-    #[inline(never)]
-    pub(crate) fn op_apart(&mut self, op: &Op, outcome: &mut Outcome)
-        ensures done { IsDone self.old op.now outcome.new self.new }
-    {
-        self.do_op(op, outcome)
-    }
-
-    // A call of the runner, in its registers. The cache forgets whatever the call has made untrue.
-    #[inline(always)]
-    fn call(&mut self, x: &[u64; 8], outcome: &mut Outcome)
-        ensures { IsDone self.old (Op.Call x.now) outcome.new self.new }
-    {
-        // Proof step: what holds of every manager, before the call and after it.
-        self.manager.holds();
-        self.manager
-            .call(x, &mut self.cache, &mut self.news, outcome);
-        self.manager.holds();
     }
 
     /// Does operations one after another, each of the endpoint that runs then, and fills in their outcomes.

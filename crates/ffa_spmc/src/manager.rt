@@ -38,8 +38,7 @@ use crate::kept::Kept;
 use crate::storage::{Inline, Storage, Store};
 use ffa_memshare::News;
 use ffa_model::{
-    Address, Call, EndpointId, ErrorCode, Home, Kind, Manifest, Outcome, PageNo, Reply, Rights,
-    Version,
+    Address, Call, EndpointId, ErrorCode, Kind, Manifest, Outcome, PageNo, Reply, Rights, Version,
 };
 use ffa_physmem::PhysMem;
 use ffa_stage2::{build, built_tables};
@@ -68,16 +67,16 @@ impl<M: PhysMem + Drop, S: Store> Model for Manager<M, S> {
     ghost view = { λ m.
         let x : Parts = record {
           ram = M.ram m.ram;
-          manifest = (S.Records.value m.kept.records).manifest;
-          kept = kept_parts S.Records.value m.kept;
+          manifest = m.kept.manifest;
+          kept = kept_parts m.kept;
         } in
         record { state = state_of x; ram = x.ram; past = M.past m.ram } };
 
     ghost invariant = { λ m.
         IsManager (record {
           ram = M.ram m.ram;
-          manifest = (S.Records.value m.kept.records).manifest;
-          kept = kept_parts S.Records.value m.kept;
+          manifest = m.kept.manifest;
+          kept = kept_parts m.kept;
         }) };
 }
 
@@ -93,7 +92,7 @@ impl<M: PhysMem + Drop, S: Store> Manager<M, S> {
     {
         let mut ram = ram;
         let kept = Kept::first(manifest, storage);
-        build(&mut ram, &kept.records.get().layout);
+        build(&mut ram, &kept.layout);
         // Proof step: what built tables give holds from here on, and the manager's invariant has it.
         built_tables();
         Manager { ram, kept }
@@ -107,34 +106,23 @@ impl<M: PhysMem + Drop, S: Store> Manager<M, S> {
         &self.ram
     }
 
-    // The RAM with the bytes that it has in the end, where nothing is managed any more.
-    pub(crate) fn into_ram(self) -> M
-        ensures { M.ram result ≡ self.ram }
-    {
-        self.ram
-    }
-
-    // The same, and the room for what was kept, which is for as many pages.
+    // The RAM with the bytes that it has in the end, where nothing is managed any more, and the room for what was kept, which is
+    // for as many pages.
     pub(crate) fn into_parts(self) -> (M, Storage<S>)
         ensures ram { M.ram result.0 ≡ self.ram }
         ensures pages { length result.1.pages ≡ length self.ram.pages }
     {
         let Manager { ram, kept } = self;
         let Kept {
-            records,
+            manifest: _,
+            layout: _,
+            bitmaps: _,
             pages,
             pool,
             buffers: _,
             chain: _,
         } = kept;
-        (
-            ram,
-            Storage {
-                pages,
-                pool,
-                records,
-            },
-        )
+        (ram, Storage { pages, pool })
     }
 
     // What holds of every manager.
@@ -151,7 +139,7 @@ impl<M: PhysMem + Drop, S: Store> Manager<M, S> {
         ensures base { result.0 ≡ self.now.state.ram_base }
         ensures few { length self.now.state.pages ≤ most_pages }
     {
-        self.kept.records.get().manifest.ram_base
+        self.kept.manifest.ram_base
     }
 
     // The endpoint that runs.
@@ -167,15 +155,14 @@ impl<M: PhysMem + Drop, S: Store> Manager<M, S> {
         ensures some { 1 ≤ result }
         ensures few { result ≤ MOST_ENDPOINTS }
     {
-        self.kept.records.get().manifest.endpoints.len()
+        self.kept.manifest.endpoints.len()
     }
 
     // The form in which the runner writes and reads descriptors.
     fn version(&self) -> Version
         ensures { result ≡ version_of self.now.state self.now.state.runner }
     {
-        let records = self.kept.records.get();
-        records.manifest.version_of(self.kept.chain.runner())
+        self.kept.manifest.version_of(self.kept.chain.runner())
     }
 
     // The owner of a page of the RAM; 0x8000 is the manager.
@@ -202,7 +189,7 @@ impl<M: PhysMem + Drop, S: Store> Manager<M, S> {
     fn features(&self, function: u32) -> Reply
         ensures { result ≡ features_reply (is_some self.now.state.normal) function }
     {
-        ffa_setup::features(function, self.kept.records.get().manifest.tells_worlds())
+        ffa_setup::features(function, self.kept.manifest.tells_worlds())
     }
 
     // A call of the runner, in its registers, after which the cache holds nothing that the call has made untrue, and what it

@@ -4,10 +4,9 @@ ghost use Rattle.std.specs.Prelude.{◌≡◌, ◌*◌, ◌<◌, ◌≤◌, leng
 ghost use Rattle.ffa_model.specs.declared.limits.TheConstants.{MOST_PAGES};
 ghost use Rattle.ffa_spmc.specs.Storages.{IsRoomFor};
 
-use crate::records::Records;
 use arrayvec::ArrayVec;
 use ffa_memshare::{MOST_SLOTS, OpenSlot, Pool, Slots};
-use ffa_model::{Here, Home, MOST_PAGES, MOST_RANGES, Manifest, Room};
+use ffa_model::{MOST_PAGES, MOST_RANGES, Manifest, Room};
 use ffa_pages::{KeptPage, PageTable};
 use std::alloc::{AllocError, Allocator, Global};
 use std::marker::PhantomData;
@@ -19,8 +18,6 @@ pub trait Store {
     type Pages: Room<KeptPage> + Drop;
     /// The open transactions.
     type Open: Room<OpenSlot> + Drop;
-    /// The manifest, the layout and the bitmaps of notifications.
-    type Records: Home<Records> + Drop;
 }
 
 /// In the machine itself, which is as large as the largest RAM needs.
@@ -31,8 +28,6 @@ impl Store for Inline {
     type Pages = ArrayVec<KeptPage, MOST_PAGES>;
 
     type Open = ArrayVec<OpenSlot, MOST_SLOTS>;
-
-    type Records = Here<Records>;
 }
 
 /// In memory of an allocator, for as many pages as the machine's RAM needs, and for as many open transactions as there may be,
@@ -46,8 +41,6 @@ impl<A: Allocator + Drop> Store for Given<A> {
     type Pages = Vec<KeptPage, A>;
 
     type Open = Slots<A>;
-
-    type Records = Box<Records, A>;
 }
 
 // A slot has eight bytes for each range, and at most 256 beside them.
@@ -68,8 +61,6 @@ pub struct Storage<S: Store = Inline> {
     pub(crate) pages: PageTable<S::Pages>,
     /// The open transactions.
     pub(crate) pool: Pool<S::Open>,
-    /// The manifest, the layout and the bitmaps of notifications, which a boot writes.
-    pub(crate) records: S::Records,
 }
 
 impl Storage {
@@ -82,13 +73,7 @@ impl Storage {
         pages.begin(512 * manifest.ram_blocks as usize);
         let mut pool = Pool::none();
         pool.fill(manifest.endpoints.len());
-        Storage {
-            pages,
-            pool,
-            records: Here {
-                value: Records::of(manifest),
-            },
-        }
+        Storage { pages, pool }
     }
 }
 
@@ -110,7 +95,6 @@ impl<A: Allocator + Copy + Drop> Storage<Given<A>> {
         Ok(Storage {
             pages: PageTable::of_managers(alloc, pages)?,
             pool: Pool::ready_in(alloc)?,
-            records: Box::new(alloc, Records::none())?,
         })
     }
 

@@ -103,7 +103,8 @@ fn check_of<P: Playable>(player: &Player<P>, op: &Op, outcome: Option<Outcome>) 
     let Op::Call(x) = *op else {
         return None;
     };
-    match player.machine().why(op)? {
+    let its = player.machine().why(op)?;
+    match its.why {
         Why::Refused { refusal, .. } => check_number(low(x[0]), refusal),
         Why::Fault { .. } => None,
     }

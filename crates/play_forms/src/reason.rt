@@ -27,14 +27,13 @@ pub(crate) fn reason_of<P: Playable>(
     }
     match *line {
         Line::Operation(op) => {
-            let why = player.machine().why(&op)?;
+            let its = player.machine().why(&op)?;
             let base = player.machine().ram_base();
-            let detail = player.machine().detail(&op, why);
             Some(Reason {
                 base,
                 op,
-                why,
-                detail,
+                why: its.why,
+                detail: its.detail,
             })
         }
         Line::Show | Line::Audit | Line::Nothing | Line::Turn(_) | Line::Interrupt => None,

@@ -66,7 +66,7 @@ impl<M: Readable, A: Allocator + Copy> MachineStage<M, A> {
     // the machine as it was.
     fn count(&mut self, op: &Op, outcome: &Outcome) {
         let why = if is_error(outcome) {
-            self.machine.why(op)
+            self.machine.why(op).map(|its| its.why)
         } else {
             None
         };

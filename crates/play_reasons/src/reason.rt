@@ -1,7 +1,6 @@
 // SPDX-License-Identifier: MIT OR Apache-2.0
 //! The line that says why an operation is refused.
 ghost use Rattle.std.specs.Prelude.{◌≡◌, ◌++◌, ◌≤◌, None, Some, codes, option_map};
-ghost use Rattle.ffa_model.specs.Memory.{size_of};
 ghost use Rattle.play_syntax.specs.TraceText.{bytes_moved};
 ghost use Rattle.ffa_model.specs.Words.{words_of};
 ghost use Rattle.ffa_mend.specs.Mend.{address_of};
@@ -18,7 +17,7 @@ use crate::{check_number, flaw_words, words};
 use ffa_abi::{call_name, is_read_whole, low};
 use ffa_model::{
     About, Address, EndpointId, FaultKind, FieldPlace, Flaw, HeaderFlaw, Obstacle, Op, PageNo,
-    Refusal, Size, Why,
+    Refusal, Why,
 };
 use ffa_playable::Detail;
 use std::alloc::Allocator;
@@ -409,19 +408,8 @@ fn bytes_moved(op: Op) -> u64
 {
     match op {
         Op::Call(_) => 0,
-        Op::Load { size, .. } | Op::Store { size, .. } => bytes_of(size),
+        Op::Load { size, .. } | Op::Store { size, .. } => size.bytes(),
         Op::Fetch { .. } => 4,
-    }
-}
-
-fn bytes_of(size: Size) -> u64
-    ensures { result ≡ size_of size }
-{
-    match size {
-        Size::B1 => 1,
-        Size::B2 => 2,
-        Size::B4 => 4,
-        Size::B8 => 8,
     }
 }
 

@@ -76,7 +76,10 @@ fn why_in<P: Playable>(player: &Player<P>, line: &Line) -> Option<Why>
     ensures { result ≡ why_in player.now.bench (meant line.now) }
 {
     match line {
-        Line::Operation(op) => player.machine().why(op),
+        Line::Operation(op) => match player.machine().why(op) {
+            Some(explanation) => Some(explanation.why),
+            None => None,
+        },
         Line::Show | Line::Audit | Line::Nothing | Line::Turn(_) | Line::Interrupt => None,
     }
 }

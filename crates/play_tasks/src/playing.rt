@@ -26,7 +26,7 @@ pub(crate) fn play_plainly<'a, A: Allocator + Copy, P: Playable, R: Read + Drop,
         Plays Task.Plain trace.entry.path player.old.bench streams result }
 {
     let Trace { path, mut reader } = trace;
-    match player.play_in(alloc, &mut reader, out) {
+    match player.play(alloc, &mut reader, out) {
         Ok(()) => Ok(()),
         Err(error) => Err(Failure::of_play(path, error, None)),
     }

@@ -81,7 +81,7 @@ fn play_over<P: Playable, R: Read>(
     reader: &mut R,
     printed: &mut Vec<u8>,
 ) -> Result<(), PlayError> {
-    player.play_in(heap, reader, printed)
+    player.play(heap, reader, printed)
 }
 
 #[test]
@@ -240,8 +240,8 @@ fn room_comes_whole_or_not(rt: HostRuntime) -> Result<(), Fail> {
             came = u64::saturating_add(came, 1);
         }
     }
-    // Four bytes for each of 512 pages, 128 slots of 624 bytes, and records: between 80 and 112 KiB.
-    holds(&rt, 16 < came && came < 48);
+    // Four bytes for each of 512 pages, and 128 slots of 624 bytes, are 80 KiB: from there on there is room.
+    same(&rt, came, 49);
     Ok(())
 }
 

@@ -1,92 +1,342 @@
 // SPDX-License-Identifier: MIT OR Apache-2.0
-//! What a check is about that fails, where the descriptor in TX tells it.
-ghost use Rattle.std.specs.Prelude.{◌≡◌, Some, find, length, not};
+//! Explains a check that refuses a call on memory by what the call names: a descriptor in TX, or the handle of a transaction.
+ghost use Rattle.std.specs.Prelude.{◌≡◌, Some, None, find, is_some, length, not, if◌then◌else◌};
+ghost use Rattle.std.specs.Option.{option_and_then, option_map};
+ghost use Rattle.std.specs.FinMap as finite;
 ghost use Rattle.ffa_model.specs.declared.transaction.Receiver.{Receiver as Named};
+ghost use Rattle.ffa_model.specs.About.{failing_reclaim, failing_send};
 ghost use Rattle.ffa_model.specs.AboutContents.{about_field, about_relinquish, about_retrieve, about_send, if_malformed, is_known_receiver, named_by_relinquish, named_by_retrieve, named_by_send, unknown_receiver, where_mapped, where_whole};
+ghost use Rattle.ffa_model.specs.Access.{held_by, is_receiver};
 ghost use Rattle.ffa_model.specs.Buffers.{buffers_in};
 ghost use Rattle.ffa_model.specs.DescriptorPlaces.{in_version};
-ghost use Rattle.ffa_model.specs.SendDescriptor.{send_record};
+ghost use Rattle.ffa_model.specs.MemoryRetrieve.{right_for};
+ghost use Rattle.ffa_model.specs.SendDescriptor.{send_of, send_record};
 ghost use Rattle.ffa_model.specs.State.{Buffers as Own};
-ghost use Rattle.ffa_rxtx.specs.Parts.{IsInRam, tx_in};
+ghost use Rattle.ffa_model.specs.Transactions.{ceiling};
+ghost use Rattle.ffa_mend.specs.Allowed.{told_receivers};
+ghost use Rattle.ffa_mend.specs.Explained.{explained};
+ghost use Rattle.ffa_mend.specs.Mend.{mend_asked, mend_given_back, mend_held, mend_offered, mend_retrieve, mend_return, mend_send, mend_sent, mend_zeros};
+ghost use Rattle.ffa_rxtx.specs.Parts.{IsInRam, ownership_in, tx_in};
+ghost use Rattle.ffa_stage2.specs.Layout.{normal_in};
+ghost use Rattle.ffa_memshare.specs.Ranges.{ArePlaced};
 ghost use Rattle.ffa_memshare.specs.Scenes.{descriptor_in};
+ghost use Rattle.ffa_memshare.specs.Shared.{AreRangesInRam};
+ghost use Rattle.ffa_memshare.specs.Stored.{map_in, view_of};
 
+use crate::checks::retrieve::asked_right;
 use crate::descriptor_call::DescriptorCall;
+use crate::open_slot::OpenSlot;
 use crate::page_run::{PageRun, read_relinquish, read_retrieve, read_send};
-use ffa_memdesc::{field_value, flaw_place};
+use crate::pool::Pool;
+use crate::reasons::failing::{failing_offer, failing_reclaim, mend_offer};
+use crate::transaction::OpenTransaction;
+use ffa_memdesc::{FieldPlace, field_value, flaw_place};
+use ffa_mend::{Cause, Explained, Mend};
 use ffa_model::{
-    About, EndpointId, Flaw, Kind, Receiver, Refusal, RelinquishDesc, RetrieveDesc, SendDesc,
-    Version,
+    About, Address, EndpointId, Flaw, Handle, Kind, Receiver, Refusal, RelinquishDesc,
+    RetrieveDesc, Room, SendDesc, Version,
 };
+use ffa_pages::{KeptPage, PageTable};
 use ffa_physmem::PhysMem;
 use ffa_rxtx::Buffers;
+use ffa_stage2::Layout;
 
-/// What a check of FFA_MEM_DONATE, FFA_MEM_LEND or FFA_MEM_SHARE of an endpoint, one of so many, is about,
-/// where it fails and the descriptor in TX tells it: the field of which a condition is broken, or an
-/// endpoint.
-pub fn about_send<M: PhysMem>(
+// The field of a header with the number of receivers.
+const COUNT: FieldPlace = FieldPlace { first: 28, size: 4 };
+
+/// Explains a check that refuses FFA_MEM_DONATE, FFA_MEM_LEND or FFA_MEM_SHARE of an endpoint, one of this many: the field of
+/// which a condition is broken, or an endpoint that the descriptor names, or the first page that it names and that fails the check.
+/// Of ranges outside RAM the first page outside, and of pages of both worlds whether all are secure.
+pub fn explain_send<M: PhysMem, P: Room<KeptPage> + Drop>(
     ram: &M,
+    layout: &Layout,
+    pages: &PageTable<P>,
     buffers: &Buffers,
     caller: EndpointId,
     endpoints: usize,
     kind: Kind,
     call: &DescriptorCall,
     refusal: Refusal,
-) -> Option<About>
+) -> Explained
     requires tx { (b : Own) → buffers_in buffers.now caller.0 ≡ Some b → IsInRam (length (M.ram ram.now).pages) b }
-    ensures { let bytes = descriptor_in (M.ram ram.now) buffers.now caller.0 call.now in
-        result ≡ where_whole buffers.now caller.0 call.now.transfer (about_send kind endpoints bytes refusal) }
+    ensures about { let bytes = descriptor_in (M.ram ram.now) buffers.now caller.0 call.now in
+        result.about ≡ where_whole buffers.now caller.0 call.now.transfer (about_send kind endpoints bytes refusal) }
+    ensures page { let owners = ownership_in pages.now layout.now.base.0 in
+        let offer = send_of kind (descriptor_in (M.ram ram.now) buffers.now caller.0 call.now) in
+        result.page ≡ failing_send caller.0 owners buffers.now (normal_in layout.now) call.now.transfer offer refusal }
+    ensures mend { let owners = ownership_in pages.now layout.now.base.0 in
+        let offer = send_of kind (descriptor_in (M.ram ram.now) buffers.now caller.0 call.now) in
+        result.mend ≡ mend_send buffers.now owners (normal_in layout.now) caller.0 call.now.transfer offer refusal }
+    ensures receivers { let bytes = descriptor_in (M.ram ram.now) buffers.now caller.0 call.now in
+        result.receivers ≡ told_receivers buffers.now caller.0 call.now.transfer bytes }
 {
     let Ok(found) = call.descriptor(ram, buffers, caller) else {
-        return None;
+        return Explained::of(None, None);
     };
+    let receivers = field_value(&found.bytes, &COUNT);
     let mut offer = SendDesc::none();
     match read_send(&found.bytes, call.version, kind, &mut offer) {
-        Ok(()) => named_by_send(&offer, endpoints, refusal),
-        Err(flaw) => about_flaw(&found.bytes, call.version, flaw, refusal),
+        Ok(()) => Explained {
+            about: named_by_send(&offer, endpoints, refusal),
+            page: failing_offer(&offer, pages, layout, buffers, caller, refusal),
+            mend: mend_offer(&offer, pages, layout, refusal),
+            receivers,
+        },
+        Err(flaw) => Explained {
+            about: about_flaw(&found.bytes, call.version, flaw, refusal),
+            page: None,
+            mend: None,
+            receivers,
+        },
     }
 }
 
-/// What a check of FFA_MEM_RETRIEVE_REQ of an endpoint is about, where it fails and the descriptor in TX
-/// tells it: the field of which a condition is broken, an endpoint or a handle.
-pub fn about_retrieve<M: PhysMem>(
-    ram: &M,
-    buffers: &Buffers,
-    caller: EndpointId,
-    call: &DescriptorCall,
-    refusal: Refusal,
-) -> Option<About>
-    requires tx { (b : Own) → buffers_in buffers.now caller.0 ≡ Some b → IsInRam (length (M.ram ram.now).pages) b }
-    ensures { let bytes = descriptor_in (M.ram ram.now) buffers.now caller.0 call.now in
-        result ≡ where_whole buffers.now caller.0 call.now.transfer (about_retrieve caller.0 bytes refusal) }
-{
-    let Ok(found) = call.descriptor(ram, buffers, caller) else {
-        return None;
-    };
-    match read_retrieve(&found.bytes, call.version, caller) {
-        Ok(asked) => named_by_retrieve(&asked, refusal),
-        Err(flaw) => about_flaw(&found.bytes, call.version, flaw, refusal),
+impl<O: Room<OpenSlot> + Drop> Pool<O> {
+    /// Explains a check that refuses FFA_MEM_RETRIEVE_REQ of an endpoint: the field of which a condition is broken, or an endpoint or
+    /// a handle that the descriptor names, with what the transaction has instead.
+    pub fn explain_retrieve<M: PhysMem, P: Room<KeptPage> + Drop>(
+        &self,
+        ram: &M,
+        base: Address,
+        pages: &PageTable<P>,
+        buffers: &Buffers,
+        caller: EndpointId,
+        call: &DescriptorCall,
+        refusal: Refusal,
+    ) -> Explained
+        requires placed { AreRangesInRam self.now.slots base.0 (length pages.now) }
+        requires tx { (b : Own) → buffers_in buffers.now caller.0 ≡ Some b → IsInRam (length (M.ram ram.now).pages) b }
+        ensures { let owners = ownership_in pages.now base.0 in
+            let named = finite.get (map_in self.now.slots) in
+            let bytes = descriptor_in (M.ram ram.now) buffers.now caller.0 call.now in
+            let about = where_whole buffers.now caller.0 call.now.transfer (about_retrieve caller.0 bytes refusal) in
+            result ≡ explained about None (mend_asked buffers.now owners named caller.0 call.now.transfer bytes refusal) }
+    {
+        let Ok(found) = call.descriptor(ram, buffers, caller) else {
+            return Explained::of(None, None);
+        };
+        match read_retrieve(&found.bytes, call.version, caller) {
+            Ok(asked) => Explained::of(
+                named_by_retrieve(&asked, refusal),
+                self.mend_asked(pages, base, caller, &asked, refusal),
+            ),
+            Err(flaw) => {
+                let about = about_flaw(&found.bytes, call.version, flaw, refusal);
+                Explained::of(about, None)
+            }
+        }
+    }
+
+    /// Explains a check that refuses FFA_MEM_RELINQUISH of an endpoint in the same way.
+    pub fn explain_relinquish<M: PhysMem>(
+        &self,
+        ram: &M,
+        buffers: &Buffers,
+        caller: EndpointId,
+        refusal: Refusal,
+    ) -> Explained
+        requires tx { (b : Own) → buffers_in buffers.now caller.0 ≡ Some b → IsInRam (length (M.ram ram.now).pages) b }
+        ensures { let own = buffers_in buffers.now caller.0 in
+            let named = finite.get (map_in self.now.slots) in
+            let bytes = tx_in (M.ram ram.now) own in
+            let about = where_mapped own (about_relinquish bytes refusal) in
+            result ≡ explained about None (mend_given_back named caller.0 own bytes refusal) }
+    {
+        let Some(mapped) = buffers.of(caller) else {
+            return Explained::of(None, None);
+        };
+        let bytes = PageRun::new(ram, mapped.tx, mapped.pages, mapped.room());
+        match read_relinquish(&bytes) {
+            Ok(asked) => Explained::of(
+                named_by_relinquish(&asked, refusal),
+                self.mend_return(asked.handle, caller, refusal),
+            ),
+            // A relinquish has one form in both versions.
+            Err(flaw) => Explained::of(about_flaw(&bytes, Version::V1_1, flaw, refusal), None),
+        }
+    }
+
+    /// Explains a check that refuses FFA_MEM_RECLAIM of an endpoint, in the RAM from `base` on: the first page of the transaction that
+    /// its owner may not write, or what the transaction has that the call needs otherwise.
+    pub fn explain_reclaim<P: Room<KeptPage> + Drop>(
+        &self,
+        pages: &PageTable<P>,
+        base: Address,
+        caller: EndpointId,
+        handle: Handle,
+        refusal: Refusal,
+    ) -> Explained
+        ensures { let transaction = finite.get (map_in self.now.slots) handle.0 in
+            let page = failing_reclaim (ownership_in pages.now base.0) transaction refusal in
+            result ≡ explained None page (mend_return caller.0 refusal transaction) }
+    {
+        Explained {
+            about: None,
+            page: failing_reclaim(self, pages, base, handle, refusal),
+            mend: self.mend_return(handle.0, caller, refusal),
+            receivers: None,
+        }
+    }
+
+    // What to change where a check compares a retrieve with the transaction that it names.
+    fn mend_asked<P: Room<KeptPage> + Drop>(
+        &self,
+        pages: &PageTable<P>,
+        base: Address,
+        caller: EndpointId,
+        asked: &RetrieveDesc,
+        refusal: Refusal,
+    ) -> Option<Mend>
+        requires placed { AreRangesInRam self.now.slots base.0 (length pages.now) }
+        ensures { let owners = ownership_in pages.now base.0 in
+            let named = finite.get (map_in self.now.slots) asked.now.handle in
+            result ≡ option_and_then (mend_retrieve owners caller.0 asked.now refusal) named }
+    {
+        let Some(slot) = self.find(asked.handle) else {
+            return None;
+        };
+        self.at(slot)
+            .mend_retrieve(pages, base, caller, asked, refusal)
+    }
+
+    // What to change where FFA_MEM_RELINQUISH or FFA_MEM_RECLAIM needs another transaction than the handle's.
+    fn mend_return(&self, handle: u64, caller: EndpointId, refusal: Refusal) -> Option<Mend>
+        ensures { result ≡ mend_return caller.0 refusal (finite.get (map_in self.now.slots) handle) }
+    {
+        let its = self.named(handle);
+        match refusal {
+            Refusal::NotOffered => Some(mend_offered(its)),
+            Refusal::NotTheSenders => Some(mend_sent(its)),
+            Refusal::ZerosNotAllowed => mend_zeros(its, caller),
+            Refusal::StillHeld => mend_held(its),
+            _ => None,
+        }
+    }
+
+    // The transaction with this handle, if it is open.
+    fn named(&self, handle: u64) -> Option<&OpenTransaction>
+        ensures { option_map (λ t. view_of t.now) result ≡ finite.get (map_in self.now.slots) handle }
+    {
+        match self.find(handle) {
+            Some(slot) => Some(self.at(slot)),
+            None => None,
+        }
     }
 }
 
-/// What a check of FFA_MEM_RELINQUISH of an endpoint is about, where it fails and the descriptor in TX tells it.
-pub fn about_relinquish<M: PhysMem>(
-    ram: &M,
-    buffers: &Buffers,
-    caller: EndpointId,
-    refusal: Refusal,
-) -> Option<About>
-    requires tx { (b : Own) → buffers_in buffers.now caller.0 ≡ Some b → IsInRam (length (M.ram ram.now).pages) b }
-    ensures { let own = buffers_in buffers.now caller.0 in
-        result ≡ where_mapped own (about_relinquish (tx_in (M.ram ram.now) own) refusal) }
+impl OpenTransaction {
+    // What a receiver names in a retrieve that the transaction has otherwise.
+    fn mend_retrieve<P: Room<KeptPage> + Drop>(
+        &self,
+        pages: &PageTable<P>,
+        base: Address,
+        caller: EndpointId,
+        asked: &RetrieveDesc,
+        refusal: Refusal,
+    ) -> Option<Mend>
+        requires { ArePlaced base.0 (length pages.now) self.now.ranges }
+        ensures { let owners = ownership_in pages.now base.0 in
+            result ≡ mend_retrieve owners caller.0 asked.now refusal (view_of self.now) }
+    {
+        match refusal {
+            Refusal::TransactionSenderDiffers => Some(Mend::Sender(self.sender)),
+            Refusal::TagDiffers => Some(Mend::Tag {
+                found: asked.tag,
+                wanted: self.tag,
+            }),
+            Refusal::KindDiffers => mend_kind(asked.kind, self.kind),
+            Refusal::RightTooMuch => self.mend_right(pages, base, caller, asked),
+            _ => None,
+        }
+    }
+
+    // The right that a receiver asks for, and the most that it may hold.
+    fn mend_right<P: Room<KeptPage> + Drop>(
+        &self,
+        pages: &PageTable<P>,
+        base: Address,
+        caller: EndpointId,
+        asked: &RetrieveDesc,
+    ) -> Option<Mend>
+        requires { ArePlaced base.0 (length pages.now) self.now.ranges }
+        ensures { let owners = ownership_in pages.now base.0 in
+            let its = view_of self.now in
+            result ≡ (if is_receiver caller.0 its
+            then Some (Mend.Asked (right_for owners its caller.0 asked.now) (ceiling owners its caller.0))
+            else None) }
+    {
+        let granted = self.grant_to(caller)?;
+        let most = self.ceiling(pages, base, granted);
+        Some(Mend::Asked {
+            asked: asked_right(most, asked),
+            most,
+        })
+    }
+
+    // The first receiver that holds it.
+    fn first_holder(&self) -> Option<Receiver>
+        ensures { let its = view_of self.now in
+            result ≡ find (λ (r : Named). is_some (held_by its r.endpoint.0)) its.receivers }
+    {
+        self.receivers
+            .as_slice()
+            .iter()
+            .copied()
+            .find(|receiver| self.held_right(receiver.endpoint).is_some())
+    }
+}
+
+// The kind that is named, where one is, and the transaction's.
+fn mend_kind(found: Option<Kind>, wanted: Kind) -> Option<Mend>
+    ensures { result ≡ option_map (λ k. Mend.Kind k wanted) found }
 {
-    let Some(mapped) = buffers.of(caller) else {
-        return None;
-    };
-    let bytes = PageRun::new(ram, mapped.tx, mapped.pages, mapped.room());
-    match read_relinquish(&bytes) {
-        Ok(asked) => named_by_relinquish(&asked, refusal),
-        // A relinquish has one form in both versions.
-        Err(flaw) => about_flaw(&bytes, Version::V1_1, flaw, refusal),
+    match found {
+        Some(found) => Some(Mend::Kind { found, wanted }),
+        None => None,
+    }
+}
+
+// Why a handle is none of a transaction that is offered to the caller.
+fn mend_offered(its: Option<&OpenTransaction>) -> Mend
+    ensures { Some result ≡ mend_offered (option_map (λ t. view_of t.now) its.entry) }
+{
+    match its {
+        Some(_) => Mend::Cause(Cause::NotReceiver),
+        None => Mend::Cause(Cause::HandleUnknown),
+    }
+}
+
+// Why a handle is none of a transaction of the caller's.
+fn mend_sent(its: Option<&OpenTransaction>) -> Mend
+    ensures { Some result ≡ mend_sent (option_map (λ t. view_of t.now) its.entry) }
+{
+    match its {
+        Some(its) => Mend::Sender(its.sender),
+        None => Mend::Cause(Cause::HandleUnknown),
+    }
+}
+
+// Why the pages of a transaction that the caller holds can't become zeros.
+fn mend_zeros(its: Option<&OpenTransaction>, caller: EndpointId) -> Option<Mend>
+    ensures { result ≡ mend_zeros caller.0 (option_map (λ t. view_of t.now) its.entry) }
+{
+    let its = its?;
+    if its.kind != Kind::Lend {
+        return Some(Mend::Cause(Cause::NotLent));
+    }
+    match its.held_right(caller) {
+        Some(right) => Some(Mend::Held(right)),
+        None => None,
+    }
+}
+
+// The first receiver that holds a transaction.
+fn mend_held(its: Option<&OpenTransaction>) -> Option<Mend>
+    ensures { result ≡ mend_held (option_map (λ t. view_of t.now) its.entry) }
+{
+    match its?.first_holder() {
+        Some(receiver) => Some(Mend::Holder(receiver.endpoint)),
+        None => None,
     }
 }
 

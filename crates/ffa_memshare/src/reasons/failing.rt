@@ -1,67 +1,37 @@
 // SPDX-License-Identifier: MIT OR Apache-2.0
-//! The first page that fails a check of a send or a reclaim.
-ghost use Rattle.std.specs.Prelude.{◌≡◌, ◌<◌, ◌&&◌, [], Some, length, not};
+//! The first page that fails a check of a send or a reclaim, and where an offer leaves RAM or a world.
+ghost use Rattle.std.specs.Prelude.{◌≡◌, ◌<◌, ◌&&◌, [], length, not};
 ghost use Rattle.std.specs.List.{list_all};
 ghost use Rattle.ffa_model.specs.declared.limits.TheConstants.{MOST_PAGES};
 ghost use Rattle.ffa_model.specs.declared.transaction.Receiver.{Receiver as Named};
-ghost use Rattle.ffa_model.specs.About.{failing_offer, failing_reclaim, failing_send, first_unwritable, passes};
-ghost use Rattle.ffa_model.specs.Buffers.{buffers_in};
+ghost use Rattle.ffa_model.specs.About.{failing_offer, failing_reclaim, first_unwritable, passes};
 ghost use Rattle.ffa_model.specs.MemoryReturn.{named_ranges};
-ghost use Rattle.ffa_model.specs.MemorySend.{is_buffer, is_grantable, is_sendable};
+ghost use Rattle.ffa_model.specs.MemorySend.{are_secure, is_buffer, is_grantable, is_inside, is_sendable};
+ghost use Rattle.ffa_model.specs.Regions.{is_normal};
 ghost use Rattle.ffa_model.specs.Rights.{may_store};
-ghost use Rattle.ffa_model.specs.SendDescriptor.{send_of, send_record};
-ghost use Rattle.ffa_model.specs.State.{Buffers as Own};
+ghost use Rattle.ffa_model.specs.SendDescriptor.{send_record};
+ghost use Rattle.ffa_mend.specs.Mend.{first_outside, mend_offer, mixed, outside_of};
 ghost use Rattle.ffa_pages.specs.Entry.{own_right_at};
-ghost use Rattle.ffa_rxtx.specs.Parts.{IsInRam, ownership_in};
+ghost use Rattle.ffa_rxtx.specs.Parts.{ownership_in};
 ghost use Rattle.ffa_stage2.specs.Layout.{normal_in};
 ghost use Rattle.ffa_memshare.specs.Ranges.{in_range, in_ranges};
-ghost use Rattle.ffa_memshare.specs.Scenes.{descriptor_in};
 ghost use Rattle.ffa_memshare.specs.Stored.{transaction_in};
 
-use crate::checks::send::is_own;
-use crate::descriptor_call::DescriptorCall;
+use crate::checks::send::{is_inside, is_own};
 use crate::open_slot::OpenSlot;
-use crate::page_run::read_send;
 use crate::pool::Pool;
 use arrayvec::ArrayVec;
+use ffa_mend::{Cause, Mend};
 use ffa_model::{
-    Address, Data, EndpointId, Handle, Kind, MOST_RANGES, PageNo, Range, Receiver, Refusal, Rights,
-    Room, SendDesc,
+    Address, Data, EndpointId, Handle, MOST_RANGES, PageNo, Range, Receiver, Refusal, Rights, Room,
+    SendDesc,
 };
 use ffa_pages::{KeptPage, PageTable};
-use ffa_physmem::PhysMem;
 use ffa_rxtx::Buffers;
 use ffa_stage2::Layout;
 
-/// The page that a check of FFA_MEM_DONATE, FFA_MEM_LEND or FFA_MEM_SHARE of an endpoint is about, where it
-/// fails: the first page of the layout's RAM that the descriptor in TX names and that fails it.
-pub fn failing_send<M: PhysMem, P: Room<KeptPage> + Drop>(
-    ram: &M,
-    layout: &Layout,
-    pages: &PageTable<P>,
-    buffers: &Buffers,
-    caller: EndpointId,
-    kind: Kind,
-    call: &DescriptorCall,
-    refusal: Refusal,
-) -> Option<PageNo>
-    requires tx { (b : Own) → buffers_in buffers.now caller.0 ≡ Some b → IsInRam (length (M.ram ram.now).pages) b }
-    ensures { let owners = ownership_in pages.now layout.now.base.0 in
-        let offer = send_of kind (descriptor_in (M.ram ram.now) buffers.now caller.0 call.now) in
-        result ≡ failing_send caller.0 owners buffers.now (normal_in layout.now) call.now.transfer offer refusal }
-{
-    let Ok(found) = call.descriptor(ram, buffers, caller) else {
-        return None;
-    };
-    let mut offer = SendDesc::none();
-    if read_send(&found.bytes, call.version, kind, &mut offer).is_err() {
-        return None;
-    }
-    failing_offer(&offer, pages, layout, buffers, caller, refusal)
-}
-
-// The first page that is offered and that fails a check.
-fn failing_offer<P: Room<KeptPage> + Drop>(
+/// The first page that is offered and that fails a check.
+pub(crate) fn failing_offer<P: Room<KeptPage> + Drop>(
     offer: &SendDesc,
     pages: &PageTable<P>,
     layout: &Layout,
@@ -125,9 +95,95 @@ fn passes<P: Room<KeptPage> + Drop>(
     }
 }
 
+/// Where the ranges of an offer leave RAM, and of which worlds their pages are.
+pub(crate) fn mend_offer<P: Room<KeptPage> + Drop>(
+    offer: &SendDesc,
+    pages: &PageTable<P>,
+    layout: &Layout,
+    refusal: Refusal,
+) -> Option<Mend>
+    ensures { let owners = ownership_in pages.now layout.now.base.0 in
+        result ≡ mend_offer owners (normal_in layout.now) refusal (send_record offer.now) }
+{
+    let ranges = offer.ranges.as_slice();
+    match refusal {
+        Refusal::RangeOutside => match first_outside(ranges, pages, layout.base) {
+            Some(address) => Some(Mend::Outside(address)),
+            None => None,
+        },
+        Refusal::WorldsMixed => Some(Mend::Cause(mixed(ranges, pages, layout))),
+        _ => None,
+    }
+}
+
+// Why the pages of these ranges are not of one world.
+fn mixed<P: Room<KeptPage> + Drop>(ranges: &[Range], pages: &PageTable<P>, layout: &Layout) -> Cause
+    ensures { let owners = ownership_in pages.now layout.now.base.0 in
+        result ≡ mixed owners (normal_in layout.now) ranges.now }
+{
+    if are_secure(ranges, pages, layout) {
+        Cause::SecureToNormal
+    } else {
+        Cause::PagesOfBothWorlds
+    }
+}
+
+// Whether no page of these ranges is non-secure.
+fn are_secure<P: Room<KeptPage> + Drop>(
+    ranges: &[Range],
+    pages: &PageTable<P>,
+    layout: &Layout,
+) -> bool
+    ensures { let owners = ownership_in pages.now layout.now.base.0 in
+        result ≡ are_secure owners (normal_in layout.now) ranges.now }
+{
+    for number in 0..pages.pages() {
+        if is_normal_in(ranges, layout, PageNo(number)) {
+            return false;
+        }
+    }
+    true
+}
+
+// Whether a page stands in one of these ranges and is non-secure.
+fn is_normal_in(ranges: &[Range], layout: &Layout, page: PageNo) -> bool
+    ensures { let is_normal = is_normal layout.now.base.0 (normal_in layout.now) page.0 in
+        result ≡ (in_ranges layout.now.base.0 ranges.now page.0 && is_normal) }
+{
+    is_in_any(ranges, layout.base, page) && layout.is_normal(page)
+}
+
+// The first page outside RAM of the first range that doesn't lie in it.
+fn first_outside<P: Room<KeptPage> + Drop>(
+    ranges: &[Range],
+    pages: &PageTable<P>,
+    base: Address,
+) -> Option<u64>
+    ensures { result ≡ first_outside (ownership_in pages.now base.0) ranges.now }
+{
+    let outside = ranges.iter().find(|range| !is_inside(range, pages, base));
+    match outside {
+        Some(range) => Some(outside_of(range, pages, base)),
+        None => None,
+    }
+}
+
+// The first page outside RAM of a range that doesn't lie in it.
+fn outside_of<P: Room<KeptPage> + Drop>(range: &Range, pages: &PageTable<P>, base: Address) -> u64
+    ensures { result ≡ outside_of (ownership_in pages.now base.0) range.now }
+{
+    let start = u64::from(base.0);
+    let end = start + 4096 * u64::from(pages.pages());
+    if start <= range.address && range.address < end {
+        end
+    } else {
+        range.address
+    }
+}
+
 /// The page that a check of FFA_MEM_RECLAIM of the transaction with this handle is about, where it fails: the
 /// first of its pages that its owner may not write, in the RAM from `base` on.
-pub fn failing_reclaim<P: Room<KeptPage> + Drop, O: Room<OpenSlot> + Drop>(
+pub(crate) fn failing_reclaim<P: Room<KeptPage> + Drop, O: Room<OpenSlot> + Drop>(
     pool: &Pool<O>,
     pages: &PageTable<P>,
     base: Address,
@@ -192,7 +248,7 @@ fn is_unwritable<P: Room<KeptPage> + Drop>(
 }
 
 // Whether one of these ranges has a page.
-pub(crate) fn is_in_any(ranges: &[Range], base: Address, page: PageNo) -> bool
+fn is_in_any(ranges: &[Range], base: Address, page: PageNo) -> bool
     ensures { result ≡ in_ranges base.0 ranges.now page.0 }
 {
     ranges.iter().any(|range| has_page(range, base, page))

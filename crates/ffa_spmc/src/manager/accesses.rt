@@ -11,7 +11,7 @@ ghost use Rattle.ffa_spmc.specs.Walks.{walk_of};
 
 use super::Manager;
 use crate::storage::Store;
-use ffa_model::{FaultKind, Home, Leaf, Outcome, PageNo, Size};
+use ffa_model::{FaultKind, Leaf, Outcome, PageNo, Size};
 use ffa_physmem::PhysMem;
 
 impl<M: PhysMem + Drop, S: Store> Manager<M, S> {
@@ -27,7 +27,7 @@ impl<M: PhysMem + Drop, S: Store> Manager<M, S> {
     pub(crate) fn page_of(&self, addr: u64) -> Option<PageNo>
         ensures { option_map (λ (page : PageNo). page.0) result ≡ memory.page_of_address self.now.state addr }
     {
-        let base = u64::from(self.kept.records.get().manifest.ram_base.0);
+        let base = u64::from(self.kept.manifest.ram_base.0);
         if base <= addr && addr < 1 << 32 {
             Some(PageNo(((addr - base) / 4096) as u32))
         } else {

@@ -13,7 +13,7 @@ ghost use Rattle.ffa_spmc.specs.Unowned.{KeepsUnowned};
 use super::Manager;
 use crate::replies::done_or_error;
 use crate::storage::Store;
-use ffa_model::{Home, Refusal, Reply};
+use ffa_model::{Refusal, Reply};
 use ffa_physmem::PhysMem;
 
 // Whether a request for partition information asks for the count alone.
@@ -37,10 +37,13 @@ impl<M: PhysMem + Drop, S: Store> Manager<M, S> {
         ensures { IsReplied self.old self.new (rxtx_map self.old.state tx rx pages) result }
     {
         let runner = self.kept.chain.runner();
-        let kept = &mut self.kept;
-        let ram_base = kept.records.get().manifest.ram_base;
-        let owners = &kept.pages;
-        done_or_error(kept.buffers.map(owners, ram_base, runner, tx, rx, pages))
+        let ram_base = self.kept.manifest.ram_base;
+        let owners = &self.kept.pages;
+        done_or_error(
+            self.kept
+                .buffers
+                .map(owners, ram_base, runner, tx, rx, pages),
+        )
     }
 
     // FFA_RXTX_UNMAP of the runner.
@@ -66,8 +69,7 @@ impl<M: PhysMem + Drop, S: Store> Manager<M, S> {
         ensures { result_err result ≡ first_refusal (info_guards self.now.state (uuid_bytes uuid) flags) }
     {
         let runner = self.kept.chain.runner();
-        let records = self.kept.records.get();
-        if !ffa_setup::is_recognized(&records.manifest, uuid) {
+        if !ffa_setup::is_recognized(&self.kept.manifest, uuid) {
             return Err(Refusal::UuidUnknown);
         }
         if is_count_alone(flags) {
@@ -91,13 +93,12 @@ impl<M: PhysMem + Drop, S: Store> Manager<M, S> {
         ensures reply { result ≡ success (length (selected self.old.state.parties (uuid_bytes uuid)))
             (if is_count_alone flags then 0 else told_info_size (version_of self.old.state self.old.state.runner)) }
     {
-        let records = self.kept.records.get();
-        let count = ffa_setup::count(&records.manifest, uuid);
+        let count = ffa_setup::count(&self.kept.manifest, uuid);
         if is_count_alone(flags) {
             return Reply::Success([count, 0, 0, 0, 0, 0]);
         }
         let version = self.version();
-        let bytes = ffa_setup::info_bytes(&records.manifest, version, uuid);
+        let bytes = ffa_setup::info_bytes(&self.kept.manifest, version, uuid);
         let runner = self.kept.chain.runner();
         self.kept
             .buffers

@@ -10,7 +10,7 @@ ghost use Rattle.ffa_model.specs.Walk.{is_page_address};
 use super::Manager;
 use crate::storage::Store;
 use arrayvec::ArrayVec;
-use ffa_model::{CertRun, Home, MOST_ENDPOINTS, PageNo};
+use ffa_model::{CertRun, MOST_ENDPOINTS, PageNo};
 use ffa_physmem::PhysMem;
 
 impl<M: PhysMem + Drop, S: Store> Manager<M, S> {
@@ -28,7 +28,7 @@ impl<M: PhysMem + Drop, S: Store> Manager<M, S> {
         ensures value { result ≡ root self.now.state place }
         ensures page { is_page_address self.now.ram result ≡ true }
     {
-        self.kept.records.get().manifest.root(place)
+        self.kept.manifest.root(place)
     }
 
     // The same of each endpoint.

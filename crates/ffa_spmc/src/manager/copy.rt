@@ -5,7 +5,7 @@ ghost use Rattle.ffa_spmc.specs.Mixtures.{TablesRest};
 
 use super::Manager;
 use crate::storage::{Storage, Store};
-use ffa_model::{Home, Manifest, PageNo};
+use ffa_model::{Manifest, PageNo};
 use ffa_physmem::PhysMem;
 use ffa_stage2::settle_tables;
 
@@ -27,7 +27,7 @@ impl<M: PhysMem + Drop, S: Store> Manager<M, S> {
     {
         let mut ram = ram;
         copy_pages(&self.ram, &mut ram);
-        settle_tables(&mut ram, &self.kept.records.get().layout);
+        settle_tables(&mut ram, &self.kept.layout);
         Manager {
             ram,
             kept: self.kept.copy_in(storage),
@@ -40,7 +40,7 @@ impl<M: PhysMem + Drop, S: Store> Manager<M, S> {
         ensures pages { 512 * result.now.ram_blocks ≡ length self.now.ram.pages }
         ensures endpoints { length result.now.endpoints.items ≡ length self.now.state.parties }
     {
-        &self.kept.records.get().manifest
+        &self.kept.manifest
     }
 }
 

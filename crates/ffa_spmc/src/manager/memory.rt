@@ -13,7 +13,7 @@ use super::Manager;
 use super::forgetting::conclude;
 use crate::storage::Store;
 use ffa_memshare::{DescriptorCall, News, Value};
-use ffa_model::{ErrorCode, Handle, Home, Kind, Reply, Transfer};
+use ffa_model::{ErrorCode, Handle, Kind, Reply, Transfer};
 use ffa_physmem::PhysMem;
 use ffa_tlb::Translations;
 
@@ -51,11 +51,10 @@ impl<M: PhysMem + Drop, S: Store> Manager<M, S> {
         let call = DescriptorCall { transfer, version };
         let runner = self.kept.chain.runner();
         let kept = &mut self.kept;
-        let records = kept.records.get();
         let pool = &mut kept.pool;
         pool.send(
             &mut self.ram,
-            &records.layout,
+            &kept.layout,
             &mut kept.pages,
             &kept.buffers,
             runner,
@@ -92,11 +91,10 @@ impl<M: PhysMem + Drop, S: Store> Manager<M, S> {
         let call = DescriptorCall { transfer, version };
         let runner = self.kept.chain.runner();
         let kept = &mut self.kept;
-        let records = kept.records.get();
         let pool = &mut kept.pool;
         pool.retrieve(
             &mut self.ram,
-            &records.layout,
+            &kept.layout,
             &mut kept.pages,
             &mut kept.buffers,
             runner,
@@ -129,11 +127,10 @@ impl<M: PhysMem + Drop, S: Store> Manager<M, S> {
     {
         let runner = self.kept.chain.runner();
         let kept = &mut self.kept;
-        let records = kept.records.get();
         let pool = &mut kept.pool;
         pool.relinquish(
             &mut self.ram,
-            &records.layout,
+            &kept.layout,
             &kept.pages,
             &kept.buffers,
             runner,
@@ -173,11 +170,10 @@ impl<M: PhysMem + Drop, S: Store> Manager<M, S> {
         let runner = self.kept.chain.runner();
         let kept = &mut self.kept;
         let pages = &mut kept.pages;
-        let records = kept.records.get();
         let pool = &mut kept.pool;
         pool.reclaim(
             &mut self.ram,
-            &records.layout,
+            &kept.layout,
             pages,
             runner,
             handle,

@@ -10,7 +10,7 @@ use super::Manager;
 use crate::replies::{DONE, message_or_error, reply_or_error};
 use crate::storage::Store;
 use ffa_messages::{direct_req, direct_resp, send2};
-use ffa_model::{DirectMessage, EndpointId, Home, Reply};
+use ffa_model::{DirectMessage, EndpointId, Reply};
 use ffa_physmem::PhysMem;
 
 impl<M: PhysMem + Drop, S: Store> Manager<M, S> {
@@ -45,9 +45,7 @@ impl<M: PhysMem + Drop, S: Store> Manager<M, S> {
         requires { (message.now.function == FFA_ERROR) ≡ false }
         ensures { IsReplied self.old self.new (direct_request self.old.state message.now) result }
     {
-        let kept = &mut self.kept;
-        let records = kept.records.get();
-        let answer = direct_req(&mut kept.chain, &records.manifest, message);
+        let answer = direct_req(&mut self.kept.chain, &self.kept.manifest, message);
         message_or_error(message, answer)
     }
 
@@ -65,10 +63,9 @@ impl<M: PhysMem + Drop, S: Store> Manager<M, S> {
     {
         let runner = self.kept.chain.runner();
         let kept = &mut self.kept;
-        let records = kept.records.get_mut();
-        match send2(&mut self.ram, &mut kept.buffers, &records.manifest, runner) {
+        match send2(&mut self.ram, &mut kept.buffers, &kept.manifest, runner) {
             Ok(receiver) => {
-                records.bitmaps.raise_framework(receiver);
+                kept.bitmaps.raise_framework(receiver);
                 DONE
             }
             Err(code) => Reply::Error(code),

@@ -7,7 +7,7 @@ ghost use Rattle.ffa_spmc.specs.Served.{IsReplied};
 use super::Manager;
 use crate::replies::{done_or_error, reply_or_error};
 use crate::storage::Store;
-use ffa_model::{EndpointId, Home, NotificationBits, Reply};
+use ffa_model::{EndpointId, NotificationBits, Reply};
 use ffa_notify::Bitmaps;
 use ffa_physmem::PhysMem;
 
@@ -16,14 +16,14 @@ impl<M: PhysMem + Drop, S: Store> Manager<M, S> {
     pub(crate) fn has_pending(&self, endpoint: EndpointId) -> bool
         ensures { result ≡ has_pending (notifications_of self.now.state) endpoint.0 }
     {
-        endpoint.is_among(self.endpoints()) && self.kept.records.get().bitmaps.has_pending(endpoint)
+        endpoint.is_among(self.endpoints()) && self.kept.bitmaps.has_pending(endpoint)
     }
 
     // Who has bitmaps, and which bits are bound and pending.
     pub(crate) fn bitmaps(&self) -> &Bitmaps
         ensures { result.now ≡ notifications_of self.now.state }
     {
-        &self.kept.records.get().bitmaps
+        &self.kept.bitmaps
     }
 
     // FFA_NOTIFICATION_BITMAP_CREATE of the runner.
@@ -31,8 +31,7 @@ impl<M: PhysMem + Drop, S: Store> Manager<M, S> {
         ensures { IsReplied self.old self.new (bitmap_create self.old.state endpoint contexts) result }
     {
         let runner = self.kept.chain.runner();
-        let records = self.kept.records.get_mut();
-        done_or_error(records.bitmaps.create(runner, endpoint, contexts))
+        done_or_error(self.kept.bitmaps.create(runner, endpoint, contexts))
     }
 
     // FFA_NOTIFICATION_BITMAP_DESTROY of the runner.
@@ -40,8 +39,7 @@ impl<M: PhysMem + Drop, S: Store> Manager<M, S> {
         ensures { IsReplied self.old self.new (bitmap_destroy self.old.state endpoint) result }
     {
         let runner = self.kept.chain.runner();
-        let records = self.kept.records.get_mut();
-        done_or_error(records.bitmaps.destroy(runner, endpoint))
+        done_or_error(self.kept.bitmaps.destroy(runner, endpoint))
     }
 
     // FFA_NOTIFICATION_BIND of the runner.
@@ -49,8 +47,7 @@ impl<M: PhysMem + Drop, S: Store> Manager<M, S> {
         ensures { IsReplied self.old self.new (notification_bind self.old.state bits.now) result }
     {
         let runner = self.kept.chain.runner();
-        let records = self.kept.records.get_mut();
-        done_or_error(records.bitmaps.bind(runner, bits))
+        done_or_error(self.kept.bitmaps.bind(runner, bits))
     }
 
     // FFA_NOTIFICATION_UNBIND of the runner.
@@ -58,8 +55,7 @@ impl<M: PhysMem + Drop, S: Store> Manager<M, S> {
         ensures { IsReplied self.old self.new (notification_unbind self.old.state bits.now) result }
     {
         let runner = self.kept.chain.runner();
-        let records = self.kept.records.get_mut();
-        done_or_error(records.bitmaps.unbind(runner, bits))
+        done_or_error(self.kept.bitmaps.unbind(runner, bits))
     }
 
     // FFA_NOTIFICATION_SET of the runner.
@@ -67,8 +63,7 @@ impl<M: PhysMem + Drop, S: Store> Manager<M, S> {
         ensures { IsReplied self.old self.new (notification_set self.old.state bits.now) result }
     {
         let runner = self.kept.chain.runner();
-        let records = self.kept.records.get_mut();
-        done_or_error(records.bitmaps.set(runner, bits))
+        done_or_error(self.kept.bitmaps.set(runner, bits))
     }
 
     // FFA_NOTIFICATION_GET of the runner.
@@ -81,7 +76,6 @@ impl<M: PhysMem + Drop, S: Store> Manager<M, S> {
         ensures { IsReplied self.old self.new (notification_get self.old.state receiver.0 context flags) result }
     {
         let runner = self.kept.chain.runner();
-        let records = self.kept.records.get_mut();
-        reply_or_error(records.bitmaps.get(runner, receiver, context, flags))
+        reply_or_error(self.kept.bitmaps.get(runner, receiver, context, flags))
     }
 }

@@ -5,7 +5,6 @@ ghost use Rattle.ffa_spmc.specs.Lent.{AreParts, lent_parts};
 use super::Manager;
 use crate::parts::Parts;
 use crate::storage::Store;
-use ffa_model::Home;
 use ffa_physmem::PhysMem;
 
 impl<M: PhysMem + Drop, S: Store> Manager<M, S> {
@@ -15,7 +14,9 @@ impl<M: PhysMem + Drop, S: Store> Manager<M, S> {
     {
         Parts {
             ram: &self.ram,
-            records: self.kept.records.get(),
+            manifest: &self.kept.manifest,
+            layout: &self.kept.layout,
+            bitmaps: &self.kept.bitmaps,
             pages: &self.kept.pages,
             pool: &self.kept.pool,
             buffers: &self.kept.buffers,

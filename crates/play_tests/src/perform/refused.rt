@@ -17,13 +17,11 @@ const PAGES: usize = 512 * 4096;
 
 const LIST: usize = 512 * 16;
 
-// What the room of a machine with 2 MiB of RAM takes: the owners of its pages, the slots for open transactions of all endpoints
-// that there may be, and its records.
+// What the room of a machine with 2 MiB of RAM takes: the owners of its pages, and the slots for open transactions of all endpoints
+// that there may be.
 const OWNERS: usize = 512 * 4;
 
 const SLOTS: usize = 128 * 624;
-
-const RECORDS: usize = 4160;
 
 // What the player takes at most: the room for a line of up to 33 bytes, before it grows and after.
 const LINE: usize = 256;
@@ -100,9 +98,8 @@ fn done_or_no_memory(
     for (frames, tlb) in KINDS {
         let request = on_kind(play, (frames, tlb));
         let ram = if frames { PAGES + LIST } else { PAGES };
-        let records = ram + OWNERS + SLOTS;
-        let booted = records + RECORDS;
-        for room in [16, 4096, LIST, ram - 16, ram, ram + OWNERS, records, booted] {
+        let booted = ram + OWNERS + SLOTS;
+        for room in [16, 4096, LIST, ram - 16, ram, ram + OWNERS, booted] {
             assert!(rt; !is_done(rt, alloc, &request, trace, text, room)?, "{room}");
         }
         for more in (16..LINE).step_by(16) {

@@ -16,21 +16,22 @@ returns-then-not-explain g c =
           says_nothing c.args.explain _ (meant c.args.line.now) c.args.outcome (sym w.is_refused.ensures ∙ w.if-not-is_refused.true)
     ]
 
-pub returns-in_err-why-in-Operation : goal.returns-in_err-why-in-Operation
-returns-in_err-why-in-Operation g c =
+pub returns-in_err-its-in-Operation : goal.returns-in_err-its-in-Operation
+returns-in_err-its-in-Operation g c =
     let now = c.args.player.now.bench in
-    let is : None ≡ why_of now c.in-Operation.op = c.in_err-why-in-Operation.ensures.why ∙ ap (λ s. why_of s c.in-Operation.op) c.machine.ensures in
+    let is : None ≡ why_of now c.in-Operation.op = c.in_err-its-in-Operation.ensures.why ∙ ap (λ s. why_of s c.in-Operation.op) c.machine.ensures in
     subst (λ reason. SaysWhy c.args.explain now (meant c.args.line.now) c.args.outcome reason) (sym c.from_residual.ensures)
     (subst (λ line. SaysWhy c.args.explain now (meant line) c.args.outcome None) (sym c.in-Operation.is)
     (says_none c.args.explain now c.in-Operation.op c.args.outcome c.if-not-explain.false (sym c.is_refused.ensures ∙ c.if-not-is_refused.false) is))
 
-pub returns-in_ok-why-in-Operation : goal.returns-in_ok-why-in-Operation
-returns-in_ok-why-in-Operation g c =
+pub returns-in_ok-its-in-Operation : goal.returns-in_ok-its-in-Operation
+returns-in_ok-its-in-Operation g c =
     let now = c.args.player.now.bench in
-    let reason = c.in_ok-why-in-Operation.why in
-    let is : Some reason ≡ why_of now c.in-Operation.op = c.in_ok-why-in-Operation.ensures.why ∙ ap (λ s. why_of s c.in-Operation.op) c.machine.ensures in
-    let detailed : c.detail-detail.result ≡ detail_of now c.in-Operation.op reason =
-    c.detail-detail.ensures ∙ ap (λ (s : Bench). detail_of s c.in-Operation.op reason) c.machine-in-Operation-2.ensures in
+    let its = c.in_ok-its-in-Operation.its in
+    let reason = its.why in
+    let is : Some reason ≡ why_of now c.in-Operation.op = c.in_ok-its-in-Operation.ensures.why ∙ ap (λ s. why_of s c.in-Operation.op) c.machine.ensures in
+    let detailed : its.detail ≡ detail_of now c.in-Operation.op reason =
+    c.in_ok-its-in-Operation.ensures.detail ∙ ap (λ (s : Bench). detail_of s c.in-Operation.op reason) c.machine.ensures in
     let begins = c.ram_base-base.ensures.value ∙ ap (λ (s : Bench). s.state.ram_base) c.machine-in-Operation.ensures in
-    subst (λ line. SaysWhy c.args.explain now (meant line) c.args.outcome (Some (record { base = c.ram_base-base.result; op = c.in-Operation.op; why = reason; detail = c.detail-detail.result }))) (sym c.in-Operation.is)
-    (says_why c.args.explain now c.in-Operation.op c.args.outcome c.if-not-explain.false (sym c.is_refused.ensures ∙ c.if-not-is_refused.false) c.ram_base-base.result reason c.detail-detail.result begins is detailed)
+    subst (λ line. SaysWhy c.args.explain now (meant line) c.args.outcome (Some (record { base = c.ram_base-base.result; op = c.in-Operation.op; why = reason; detail = its.detail }))) (sym c.in-Operation.is)
+    (says_why c.args.explain now c.in-Operation.op c.args.outcome c.if-not-explain.false (sym c.is_refused.ensures ∙ c.if-not-is_refused.false) c.ram_base-base.result reason its.detail begins is detailed)

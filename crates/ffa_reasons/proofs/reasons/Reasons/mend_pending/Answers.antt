@@ -3,8 +3,7 @@ use Rattle.std.proofs.Common.{◌∙◌}
 use Rattle.ffa_mend.specs.Mend.{mend_pending}
 use Rattle.ffa_model.specs.Notifications.{notifications_of}
 use Rattle.ffa_model.specs.State.{State}
-use Rattle.ffa_reasons.proofs.Mended.{pending-mended}
-use Rattle.ffa_reasons.proofs.Told.{seen-in}
+use Rattle.ffa_reasons.proofs.Told.{pending-mended, seen-in}
 use Rattle.ffa_spmc.proofs.Notified.{runner-notified}
 use Rattle.ffa_spmc.specs.Lent.{lent_parts}
 use Rattle.ffa_reasons.proofs.reasons.Reasons.mend_pending.Goals as goal

@@ -10,7 +10,7 @@ use Rattle.ffa_spmc.proofs.manager.Manager.access.Goals as goal
 
 pub returns-then-page-pages : goal.returns-then-page-pages
 returns-then-page-pages g c =
-    let x = parts_of g.M.PhysMem.ram g.S.Records.Home.value c.self.inside in
+    let x = parts_of g.M.PhysMem.ram c.self.inside in
     let count : c.pages.result ≡ length x.kept.pages = c.pages.ensures.count in
     let size : length x.kept.pages ≡ length x.ram.pages = owners-size x c.self.invariant in
     let inside : c.args.page.0 < length x.ram.pages = omega (arith, c.if-page-pages.true, count, size) in
@@ -20,7 +20,7 @@ returns-then-page-pages g c =
 
 pub returns-else-page-pages : goal.returns-else-page-pages
 returns-else-page-pages g c =
-    let x = parts_of g.M.PhysMem.ram g.S.Records.Home.value c.self.inside in
+    let x = parts_of g.M.PhysMem.ram c.self.inside in
     let count : c.pages.result ≡ length x.kept.pages = c.pages.ensures.count in
     let size : length x.kept.pages ≡ length x.ram.pages = owners-size x c.self.invariant in
     let past : length x.ram.pages ≤ c.args.page.0 = omega (arith, c.if-page-pages.false, count, size) in

@@ -12,7 +12,7 @@ use Rattle.ffa_spmc.proofs.manager.Manager.audit.Goals as goal
 
 pub returns-clause-own : goal.returns-clause-own
 returns-clause-own g c is =
-    let x = parts_of g.M.PhysMem.ram g.S.Records.Home.value c.self.inside in
+    let x = parts_of g.M.PhysMem.ram c.self.inside in
     let roots : c.as_slice.result.now ≡ roots_of (state_of x) =
     c.as_slice.ensures.value ∙ c.roots-roots.ensures.value ∙ sym (ap (λ (seen : Managed). roots_of seen.state) c.self.view_is)
     in

@@ -19,14 +19,14 @@ observe_in-requires-clause-within g c =
 
 pub invariant_of-self : goal.invariant_of-self
 invariant_of-self g c =
-    let x = parts_of g.M.PhysMem.ram g.S.Records.Home.value c.self.inside in
+    let x = parts_of g.M.PhysMem.ram c.self.inside in
     machine-read x (g.M.PhysMem.ram c.observe_in.new.ram) (is_in c.args.front.pages) c.observe_in.ensures.beside c.observe_in.ensures.whole
     c.self.invariant c.observe_in.ensures.bytes
     (λ p its. by-manifest x c.self.invariant p (subst (λ (seen : Managed). IsNoTable seen.state p) (sym c.self.view_is) (c.requires.aside p its)))
 
 pub returns-clause-state : goal.returns-clause-state
 returns-clause-state g c =
-    let x = parts_of g.M.PhysMem.ram g.S.Records.Home.value c.self.inside in
+    let x = parts_of g.M.PhysMem.ram c.self.inside in
     let new = g.M.PhysMem.ram c.observe_in.new.ram in
     subst (λ (seen : Managed). AreBeside seen.state (state_of (read x new (is_in c.args.front.pages) c.observe_in.ensures.beside)) (is_in c.args.front.pages)) c.self.view_is
     (states-beside x new (is_in c.args.front.pages) c.observe_in.ensures.beside c.observe_in.ensures.whole)
@@ -45,7 +45,7 @@ returns-clause-step g c =
 
 pub returns-clause-same : goal.returns-clause-same
 returns-clause-same g c = λ alone.
-    let x = parts_of g.M.PhysMem.ram g.S.Records.Home.value c.self.inside in
+    let x = parts_of g.M.PhysMem.ram c.self.inside in
     let new = g.M.PhysMem.ram c.observe_in.new.ram in
     subst (λ (seen : Managed). HaveInFront c.args.front.pages c.args.front.bytes seen.state (state_of (read x new (is_in c.args.front.pages) c.observe_in.ensures.beside))) c.self.view_is
     (λ p at.
@@ -54,7 +54,7 @@ returns-clause-same g c = λ alone.
 
 pub returns-clause-moments : goal.returns-clause-moments
 returns-clause-moments g c =
-    let x = parts_of g.M.PhysMem.ram g.S.Records.Home.value c.self.inside in
+    let x = parts_of g.M.PhysMem.ram c.self.inside in
     let new = g.M.PhysMem.ram c.observe_in.new.ram in
     let later = g.M.PhysMem.past c.observe_in.new.ram in
     subst (λ (seen : Managed). AreMoments seen.state seen.ram new seen.past later) c.self.view_is

@@ -18,14 +18,14 @@ release_in-requires g c = subst (λ (seen : Managed). c.args.run.first.0 + c.arg
 
 pub invariant_of-self : goal.invariant_of-self
 invariant_of-self g c =
-    let x = parts_of g.M.PhysMem.ram g.S.Records.Home.value c.self.inside in
+    let x = parts_of g.M.PhysMem.ram c.self.inside in
     machine-read x (g.M.PhysMem.ram c.release_in.new.ram) (is_in c.args.run) c.release_in.ensures.beside c.release_in.ensures.whole
     c.self.invariant c.release_in.ensures.bytes
     (λ p its. by-manifest x c.self.invariant p (subst (λ (seen : Managed). IsNoTable seen.state p) (sym c.self.view_is) (c.requires.aside p its)))
 
 pub returns-clause-state : goal.returns-clause-state
 returns-clause-state g c =
-    let x = parts_of g.M.PhysMem.ram g.S.Records.Home.value c.self.inside in
+    let x = parts_of g.M.PhysMem.ram c.self.inside in
     let new = g.M.PhysMem.ram c.release_in.new.ram in
     subst (λ (seen : Managed). AreBeside seen.state (state_of (read x new (is_in c.args.run) c.release_in.ensures.beside)) (is_in c.args.run)) c.self.view_is
     (states-beside x new (is_in c.args.run) c.release_in.ensures.beside c.release_in.ensures.whole)
@@ -44,7 +44,7 @@ returns-clause-step g c =
 
 pub returns-clause-moments : goal.returns-clause-moments
 returns-clause-moments g c =
-    let x = parts_of g.M.PhysMem.ram g.S.Records.Home.value c.self.inside in
+    let x = parts_of g.M.PhysMem.ram c.self.inside in
     let new = g.M.PhysMem.ram c.release_in.new.ram in
     let later = g.M.PhysMem.past c.release_in.new.ram in
     subst (λ (seen : Managed). AreMoments seen.state seen.ram new seen.past later) c.self.view_is

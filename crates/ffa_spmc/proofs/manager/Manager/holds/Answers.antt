@@ -9,7 +9,7 @@ use Rattle.ffa_spmc.proofs.manager.Manager.holds.Goals as goal
 
 pub returns : goal.returns
 returns g c =
-    let x = parts_of g.M.PhysMem.ram g.S.Records.Home.value c.self.inside in
+    let x = parts_of g.M.PhysMem.ram c.self.inside in
     subst IsManaged c.self.view_is (record {
       agrees = agrees x c.self.invariant;
       sound = c.self.invariant.sound;

@@ -5,7 +5,7 @@ use Rattle.ffa_spmc.specs.Meaning.{Parts}
 use Rattle.ffa_spmc.proofs.Answered.{done-so}
 use Rattle.ffa_spmc.proofs.Replied.{told-of, told-with, kept-memory}
 use Rattle.ffa_model.specs.State.{State}
-use Rattle.ffa_spmc.proofs.Inside.{machine-alike, parts_of, told-alike, view-alike, with_records}
+use Rattle.ffa_spmc.proofs.Inside.{parts_of}
 use Rattle.ffa_spmc.proofs.Moments.{moments-of}
 use Rattle.ffa_spmc.proofs.Pools.{pool-shared}
 use Rattle.ffa_spmc.proofs.Reclaims.{reclaim-changes, reclaim-machine, reclaim-served, reclaim-unowned}
@@ -13,46 +13,36 @@ use Rattle.ffa_spmc.proofs.manager.Manager.pool_reclaim.Goals as goal
 
 pub reclaim-requires : goal.reclaim-requires
 reclaim-requires g c =
-    let old = parts_of g.M.PhysMem.ram g.S.Records.Home.value c.self.inside in
-    let x = with_records old c.get-records.result.now in
-    let machine = machine-alike old (sym c.get-records.ensures) c.self.invariant in
-    pool-shared x machine
+    let x = parts_of g.M.PhysMem.ram c.self.inside in
+    pool-shared x c.self.invariant
 
 pub invariant_of-self : goal.invariant_of-self
 invariant_of-self g c =
-    let old = parts_of g.M.PhysMem.ram g.S.Records.Home.value c.self.inside in
-    let x = with_records old c.get-records.result.now in
-    let machine = machine-alike old (sym c.get-records.ensures) c.self.invariant in
-    let y : Parts = record x { ram = g.M.PhysMem.ram c.reclaim.new.ram; kept = record x.kept { pages = c.reclaim.new.pages; pool = c.reclaim.new.self } } in
-    machine-alike y c.get-records.ensures
-    (reclaim-machine x machine c.runner-runner.result.0 c.runner-runner.ensures.runner c.args.handle.0 c.args.flags
+    let x = parts_of g.M.PhysMem.ram c.self.inside in
+    (reclaim-machine x c.self.invariant c.runner-runner.result.0 c.runner-runner.ensures.runner c.args.handle.0 c.args.flags
     (g.M.PhysMem.ram c.reclaim.new.ram) c.reclaim.new.pages c.reclaim.new.self c.reclaim.result c.reclaim.new.news c.reclaim.ensures.refusal
     c.reclaim.ensures.kept c.reclaim.ensures.kept_pages c.reclaim.ensures.kept_ram c.reclaim.ensures.nothing
     c.reclaim.ensures.slot c.reclaim.ensures.open_transactions c.reclaim.ensures.ram c.reclaim.ensures.pages c.reclaim.ensures.changed)
 
 pub returns-clause-done : goal.returns-clause-done
 returns-clause-done g c =
-    let old = parts_of g.M.PhysMem.ram g.S.Records.Home.value c.self.inside in
-    let x = with_records old c.get-records.result.now in
-    let machine = machine-alike old (sym c.get-records.ensures) c.self.invariant in
-    let view = view-alike old (sym c.get-records.ensures) c.self.view_is in
+    let x = parts_of g.M.PhysMem.ram c.self.inside in
     let y : Parts = record x { ram = g.M.PhysMem.ram c.reclaim.new.ram; kept = record x.kept { pages = c.reclaim.new.pages; pool = c.reclaim.new.self } } in
-    told-alike y c.get-records.ensures
-    (told-with x y c.args.self.now view (λ (s : State). memory_reclaim s c.args.handle.0 c.args.flags) c.reclaim.result c.reclaim.new.news
+    (told-with x y c.args.self.now c.self.view_is (λ (s : State). memory_reclaim s c.args.handle.0 c.args.flags) c.reclaim.result c.reclaim.new.news
     (g.M.PhysMem.past c.reclaim.new.ram)
-    (reclaim-served x machine c.runner-runner.result.0 c.runner-runner.ensures.runner c.args.handle.0 c.args.flags
+    (reclaim-served x c.self.invariant c.runner-runner.result.0 c.runner-runner.ensures.runner c.args.handle.0 c.args.flags
     (g.M.PhysMem.ram c.reclaim.new.ram) c.reclaim.new.pages c.reclaim.new.self c.reclaim.result c.reclaim.new.news c.reclaim.ensures.refusal
     c.reclaim.ensures.kept c.reclaim.ensures.kept_pages c.reclaim.ensures.kept_ram c.reclaim.ensures.nothing
     c.reclaim.ensures.slot c.reclaim.ensures.open_transactions c.reclaim.ensures.ram c.reclaim.ensures.pages c.reclaim.ensures.changed)
     (kept-memory x c.reclaim.result (g.M.PhysMem.ram c.reclaim.new.ram) c.reclaim.new.pages c.reclaim.new.self
     c.reclaim.ensures.kept_ram c.reclaim.ensures.kept_pages c.reclaim.ensures.kept)
     c.reclaim.ensures.kept_past
-    (reclaim-unowned x machine c.runner-runner.result.0 c.runner-runner.ensures.runner c.args.handle.0 c.args.flags
+    (reclaim-unowned x c.self.invariant c.runner-runner.result.0 c.runner-runner.ensures.runner c.args.handle.0 c.args.flags
     (g.M.PhysMem.ram c.reclaim.new.ram) c.reclaim.new.pages c.reclaim.new.self c.reclaim.result c.reclaim.new.news c.reclaim.ensures.refusal
     c.reclaim.ensures.kept c.reclaim.ensures.kept_pages c.reclaim.ensures.kept_ram c.reclaim.ensures.nothing
     c.reclaim.ensures.slot c.reclaim.ensures.open_transactions c.reclaim.ensures.ram c.reclaim.ensures.pages c.reclaim.ensures.changed)
-    (moments-of x machine (g.M.PhysMem.ram c.reclaim.new.ram) _ _ (g.met.M.PhysMem.in_turn c.reclaim.new.ram) c.reclaim.ensures.steps c.reclaim.ensures.ended)
-    (reclaim-changes x machine c.runner-runner.result.0 c.runner-runner.ensures.runner c.args.handle.0 c.args.flags
+    (moments-of x c.self.invariant (g.M.PhysMem.ram c.reclaim.new.ram) _ _ (g.met.M.PhysMem.in_turn c.reclaim.new.ram) c.reclaim.ensures.steps c.reclaim.ensures.ended)
+    (reclaim-changes x c.self.invariant c.runner-runner.result.0 c.runner-runner.ensures.runner c.args.handle.0 c.args.flags
     (g.M.PhysMem.ram c.reclaim.new.ram) c.reclaim.new.pages c.reclaim.new.self c.reclaim.result c.reclaim.new.news c.reclaim.ensures.refusal
     c.reclaim.ensures.kept c.reclaim.ensures.kept_pages c.reclaim.ensures.kept_ram c.reclaim.ensures.nothing
     c.reclaim.ensures.slot c.reclaim.ensures.open_transactions c.reclaim.ensures.ram c.reclaim.ensures.pages c.reclaim.ensures.changed))

@@ -1,6 +1,6 @@
 -- SPDX-License-Identifier: MIT OR Apache-2.0
 use Rattle.std.proofs.Common.{◌∙◌, sym, ap}
-use Rattle.ffa_model.specs.State.{version_of}
+use Rattle.ffa_model.specs.State.{version_of, State}
 use Rattle.ffa_model.specs.MemoryRetrieve.{memory_retrieve}
 use Rattle.ffa_spmc.specs.Meaning.{Parts}
 use Rattle.ffa_spmc.specs.Managed.{Managed}
@@ -8,67 +8,53 @@ use Rattle.ffa_spmc.proofs.Answered.{done-with}
 use Rattle.ffa_spmc.proofs.Fills.{caller-is, runner-there}
 use Rattle.ffa_spmc.proofs.Moments.{moments-of, rx-apart}
 use Rattle.ffa_spmc.proofs.Replied.{told-of, told-with, kept-buffers}
-use Rattle.ffa_model.specs.State.{State}
 use Rattle.ffa_memshare.specs.declared.descriptor_call.DescriptorCall.{DescriptorCall}
-use Rattle.ffa_spmc.proofs.Inside.{machine-alike, parts_of, told-alike, view-alike, with_records}
+use Rattle.ffa_spmc.proofs.Inside.{parts_of}
 use Rattle.ffa_spmc.proofs.Pools.{pool-shared}
 use Rattle.ffa_spmc.proofs.Retrieves.{retrieve-changes, retrieve-machine, retrieve-served, retrieve-unowned}
 use Rattle.ffa_spmc.proofs.manager.Manager.pool_retrieve.Goals as goal
 
 pub retrieve-requires-clause-shared : goal.retrieve-requires-clause-shared
 retrieve-requires-clause-shared g c =
-    let old = parts_of g.M.PhysMem.ram g.S.Records.Home.value c.self.inside in
-    let x = with_records old c.get-records.result.now in
-    let machine = machine-alike old (sym c.get-records.ensures) c.self.invariant in
-    pool-shared x machine
+    let x = parts_of g.M.PhysMem.ram c.self.inside in
+    pool-shared x c.self.invariant
 
 pub retrieve-requires-clause-caller : goal.retrieve-requires-clause-caller
 retrieve-requires-clause-caller g c =
-    let old = parts_of g.M.PhysMem.ram g.S.Records.Home.value c.self.inside in
-    let x = with_records old c.get-records.result.now in
-    let machine = machine-alike old (sym c.get-records.ensures) c.self.invariant in
-    caller-is x machine c.runner-runner.result.0 c.runner-runner.ensures.runner
+    let x = parts_of g.M.PhysMem.ram c.self.inside in
+    caller-is x c.self.invariant c.runner-runner.result.0 c.runner-runner.ensures.runner
 
 pub invariant_of-self : goal.invariant_of-self
 invariant_of-self g c =
-    let old = parts_of g.M.PhysMem.ram g.S.Records.Home.value c.self.inside in
-    let x = with_records old c.get-records.result.now in
-    let machine = machine-alike old (sym c.get-records.ensures) c.self.invariant in
-    let view = view-alike old (sym c.get-records.ensures) c.self.view_is in
+    let x = parts_of g.M.PhysMem.ram c.self.inside in
     let its : DescriptorCall = record { transfer = c.args.transfer; version = c.version-version.result } in
-    let y : Parts = record x { ram = g.M.PhysMem.ram c.retrieve.new.ram; kept = record x.kept { pages = c.retrieve.new.pages; pool = c.retrieve.new.self; buffers = c.retrieve.new.buffers } } in
-    machine-alike y c.get-records.ensures
-    (retrieve-machine x machine c.runner-runner.result c.runner-runner.ensures.runner its (c.version-version.ensures ∙ sym (ap (λ (seen : Managed). version_of seen.state seen.state.runner) view))
+    (retrieve-machine x c.self.invariant c.runner-runner.result c.runner-runner.ensures.runner its (c.version-version.ensures ∙ sym (ap (λ (seen : Managed). version_of seen.state seen.state.runner) c.self.view_is))
     (g.M.PhysMem.ram c.retrieve.new.ram) c.retrieve.new.pages c.retrieve.new.self c.retrieve.new.buffers
     c.retrieve.result c.retrieve.new.news c.retrieve.ensures.refusal c.retrieve.ensures.kept c.retrieve.ensures.kept_pages c.retrieve.ensures.kept_buffers c.retrieve.ensures.kept_ram
     c.retrieve.ensures.full c.retrieve.ensures.done)
 
 pub returns-clause-done : goal.returns-clause-done
 returns-clause-done g c =
-    let old = parts_of g.M.PhysMem.ram g.S.Records.Home.value c.self.inside in
-    let x = with_records old c.get-records.result.now in
-    let machine = machine-alike old (sym c.get-records.ensures) c.self.invariant in
-    let view = view-alike old (sym c.get-records.ensures) c.self.view_is in
+    let x = parts_of g.M.PhysMem.ram c.self.inside in
     let its : DescriptorCall = record { transfer = c.args.transfer; version = c.version-version.result } in
-    let apart = rx-apart x machine c.runner-runner.result.0 (runner-there x machine c.runner-runner.result.0 c.runner-runner.ensures.runner) in
+    let apart = rx-apart x c.self.invariant c.runner-runner.result.0 (runner-there x c.self.invariant c.runner-runner.result.0 c.runner-runner.ensures.runner) in
     let y : Parts = record x { ram = g.M.PhysMem.ram c.retrieve.new.ram; kept = record x.kept { pages = c.retrieve.new.pages; pool = c.retrieve.new.self; buffers = c.retrieve.new.buffers } } in
-    told-alike y c.get-records.ensures
-    (told-with x y c.args.self.now view (λ (s : State). memory_retrieve s c.args.transfer) c.retrieve.result c.retrieve.new.news
+    (told-with x y c.args.self.now c.self.view_is (λ (s : State). memory_retrieve s c.args.transfer) c.retrieve.result c.retrieve.new.news
     (g.M.PhysMem.past c.retrieve.new.ram)
-    (retrieve-served x machine c.runner-runner.result c.runner-runner.ensures.runner its (c.version-version.ensures ∙ sym (ap (λ (seen : Managed). version_of seen.state seen.state.runner) view))
+    (retrieve-served x c.self.invariant c.runner-runner.result c.runner-runner.ensures.runner its (c.version-version.ensures ∙ sym (ap (λ (seen : Managed). version_of seen.state seen.state.runner) c.self.view_is))
     (g.M.PhysMem.ram c.retrieve.new.ram) c.retrieve.new.pages c.retrieve.new.self c.retrieve.new.buffers
     c.retrieve.result c.retrieve.new.news c.retrieve.ensures.refusal c.retrieve.ensures.kept c.retrieve.ensures.kept_pages c.retrieve.ensures.kept_buffers c.retrieve.ensures.kept_ram
     c.retrieve.ensures.full c.retrieve.ensures.done)
     (kept-buffers x c.retrieve.result (g.M.PhysMem.ram c.retrieve.new.ram) c.retrieve.new.pages c.retrieve.new.self c.retrieve.new.buffers
     c.retrieve.ensures.kept_ram c.retrieve.ensures.kept_pages c.retrieve.ensures.kept c.retrieve.ensures.kept_buffers)
     c.retrieve.ensures.kept_past
-    (retrieve-unowned x machine c.runner-runner.result c.runner-runner.ensures.runner its (c.version-version.ensures ∙ sym (ap (λ (seen : Managed). version_of seen.state seen.state.runner) view))
+    (retrieve-unowned x c.self.invariant c.runner-runner.result c.runner-runner.ensures.runner its (c.version-version.ensures ∙ sym (ap (λ (seen : Managed). version_of seen.state seen.state.runner) c.self.view_is))
     (g.M.PhysMem.ram c.retrieve.new.ram) c.retrieve.new.pages c.retrieve.new.self c.retrieve.new.buffers
     c.retrieve.result c.retrieve.new.news c.retrieve.ensures.refusal c.retrieve.ensures.kept c.retrieve.ensures.kept_pages c.retrieve.ensures.kept_buffers c.retrieve.ensures.kept_ram
     c.retrieve.ensures.full c.retrieve.ensures.done)
-    (moments-of x machine (g.M.PhysMem.ram c.retrieve.new.ram) _ _ (g.met.M.PhysMem.in_turn c.retrieve.new.ram)
+    (moments-of x c.self.invariant (g.M.PhysMem.ram c.retrieve.new.ram) _ _ (g.met.M.PhysMem.in_turn c.retrieve.new.ram)
     (c.retrieve.ensures.steps apart) (c.retrieve.ensures.ended apart))
-    (retrieve-changes x machine c.runner-runner.result c.runner-runner.ensures.runner its (c.version-version.ensures ∙ sym (ap (λ (seen : Managed). version_of seen.state seen.state.runner) view))
+    (retrieve-changes x c.self.invariant c.runner-runner.result c.runner-runner.ensures.runner its (c.version-version.ensures ∙ sym (ap (λ (seen : Managed). version_of seen.state seen.state.runner) c.self.view_is))
     (g.M.PhysMem.ram c.retrieve.new.ram) c.retrieve.new.pages c.retrieve.new.self c.retrieve.new.buffers
     c.retrieve.result c.retrieve.new.news c.retrieve.ensures.refusal c.retrieve.ensures.kept c.retrieve.ensures.kept_pages c.retrieve.ensures.kept_buffers c.retrieve.ensures.kept_ram
     c.retrieve.ensures.full c.retrieve.ensures.done))

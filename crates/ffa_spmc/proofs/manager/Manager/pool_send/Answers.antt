@@ -1,65 +1,51 @@
 -- SPDX-License-Identifier: MIT OR Apache-2.0
 use Rattle.std.proofs.Common.{◌∙◌, sym, ap}
-use Rattle.ffa_model.specs.State.{version_of}
+use Rattle.ffa_model.specs.State.{version_of, State}
 use Rattle.ffa_model.specs.MemorySend.{memory_send}
 use Rattle.ffa_spmc.specs.Meaning.{Parts}
 use Rattle.ffa_spmc.specs.Managed.{Managed}
 use Rattle.ffa_spmc.proofs.Answered.{done-so}
 use Rattle.ffa_spmc.proofs.Fills.{caller-is}
 use Rattle.ffa_spmc.proofs.Replied.{told-of, told-with, kept-memory}
-use Rattle.ffa_model.specs.State.{State}
-use Rattle.ffa_spmc.proofs.Inside.{machine-alike, parts_of, told-alike, view-alike, with_records}
+use Rattle.ffa_spmc.proofs.Inside.{parts_of}
 use Rattle.ffa_spmc.proofs.Moments.{moments-of}
 use Rattle.ffa_spmc.proofs.Offers.{offer-endpoints, offer-changes, offer-machine, offer-served, offer-unowned}
 use Rattle.ffa_spmc.proofs.manager.Manager.pool_send.Goals as goal
 
 pub send-requires-clause-caller : goal.send-requires-clause-caller
 send-requires-clause-caller g c =
-    let old = parts_of g.M.PhysMem.ram g.S.Records.Home.value c.self.inside in
-    let x = with_records old c.get-records.result.now in
-    let machine = machine-alike old (sym c.get-records.ensures) c.self.invariant in
-    caller-is x machine c.runner-runner.result.0 c.runner-runner.ensures.runner
+    let x = parts_of g.M.PhysMem.ram c.self.inside in
+    caller-is x c.self.invariant c.runner-runner.result.0 c.runner-runner.ensures.runner
 
 pub send-requires-clause-endpoints : goal.send-requires-clause-endpoints
 send-requires-clause-endpoints g c =
-    let old = parts_of g.M.PhysMem.ram g.S.Records.Home.value c.self.inside in
-    let x = with_records old c.get-records.result.now in
-    let machine = machine-alike old (sym c.get-records.ensures) c.self.invariant in
-    offer-endpoints x machine
+    let x = parts_of g.M.PhysMem.ram c.self.inside in
+    offer-endpoints x c.self.invariant
 
 pub invariant_of-self : goal.invariant_of-self
 invariant_of-self g c =
-    let old = parts_of g.M.PhysMem.ram g.S.Records.Home.value c.self.inside in
-    let x = with_records old c.get-records.result.now in
-    let machine = machine-alike old (sym c.get-records.ensures) c.self.invariant in
-    let view = view-alike old (sym c.get-records.ensures) c.self.view_is in
-    let y : Parts = record x { ram = g.M.PhysMem.ram c.send.new.ram; kept = record x.kept { pages = c.send.new.pages; pool = c.send.new.self } } in
-    machine-alike y c.get-records.ensures
-    (offer-machine x machine c.runner-runner.result.0 c.runner-runner.ensures.runner c.args.kind (record { transfer = c.args.transfer; version = c.version-version.result }) (c.version-version.ensures ∙ sym (ap (λ (seen : Managed). version_of seen.state seen.state.runner) view))
+    let x = parts_of g.M.PhysMem.ram c.self.inside in
+    (offer-machine x c.self.invariant c.runner-runner.result.0 c.runner-runner.ensures.runner c.args.kind (record { transfer = c.args.transfer; version = c.version-version.result }) (c.version-version.ensures ∙ sym (ap (λ (seen : Managed). version_of seen.state seen.state.runner) c.self.view_is))
     (g.M.PhysMem.ram c.send.new.ram) c.send.new.pages c.send.new.self
     c.send.result c.send.new.news c.send.ensures.refusal c.send.ensures.kept c.send.ensures.kept_pages c.send.ensures.kept_ram c.send.ensures.handle c.send.ensures.sent)
 
 pub returns-clause-done : goal.returns-clause-done
 returns-clause-done g c =
-    let old = parts_of g.M.PhysMem.ram g.S.Records.Home.value c.self.inside in
-    let x = with_records old c.get-records.result.now in
-    let machine = machine-alike old (sym c.get-records.ensures) c.self.invariant in
-    let view = view-alike old (sym c.get-records.ensures) c.self.view_is in
+    let x = parts_of g.M.PhysMem.ram c.self.inside in
     let y : Parts = record x { ram = g.M.PhysMem.ram c.send.new.ram; kept = record x.kept { pages = c.send.new.pages; pool = c.send.new.self } } in
-    told-alike y c.get-records.ensures
-    (told-with x y c.args.self.now view (λ (s : State). memory_send s c.args.kind c.args.transfer) c.send.result c.send.new.news
+    (told-with x y c.args.self.now c.self.view_is (λ (s : State). memory_send s c.args.kind c.args.transfer) c.send.result c.send.new.news
     (g.M.PhysMem.past c.send.new.ram)
-    (offer-served x machine c.runner-runner.result.0 c.runner-runner.ensures.runner c.args.kind (record { transfer = c.args.transfer; version = c.version-version.result }) (c.version-version.ensures ∙ sym (ap (λ (seen : Managed). version_of seen.state seen.state.runner) view))
+    (offer-served x c.self.invariant c.runner-runner.result.0 c.runner-runner.ensures.runner c.args.kind (record { transfer = c.args.transfer; version = c.version-version.result }) (c.version-version.ensures ∙ sym (ap (λ (seen : Managed). version_of seen.state seen.state.runner) c.self.view_is))
     (g.M.PhysMem.ram c.send.new.ram) c.send.new.pages c.send.new.self
     c.send.result c.send.new.news c.send.ensures.refusal c.send.ensures.kept c.send.ensures.kept_pages c.send.ensures.kept_ram c.send.ensures.handle c.send.ensures.sent)
     (kept-memory x c.send.result (g.M.PhysMem.ram c.send.new.ram) c.send.new.pages c.send.new.self
     c.send.ensures.kept_ram c.send.ensures.kept_pages c.send.ensures.kept)
     c.send.ensures.kept_past
-    (offer-unowned x machine c.runner-runner.result.0 c.runner-runner.ensures.runner c.args.kind (record { transfer = c.args.transfer; version = c.version-version.result }) (c.version-version.ensures ∙ sym (ap (λ (seen : Managed). version_of seen.state seen.state.runner) view))
+    (offer-unowned x c.self.invariant c.runner-runner.result.0 c.runner-runner.ensures.runner c.args.kind (record { transfer = c.args.transfer; version = c.version-version.result }) (c.version-version.ensures ∙ sym (ap (λ (seen : Managed). version_of seen.state seen.state.runner) c.self.view_is))
     (g.M.PhysMem.ram c.send.new.ram) c.send.new.pages c.send.new.self
     c.send.result c.send.new.news c.send.ensures.refusal c.send.ensures.kept c.send.ensures.kept_pages c.send.ensures.kept_ram c.send.ensures.handle c.send.ensures.sent)
-    (moments-of x machine (g.M.PhysMem.ram c.send.new.ram) _ _ (g.met.M.PhysMem.in_turn c.send.new.ram) c.send.ensures.steps c.send.ensures.ended)
-    (offer-changes x machine c.runner-runner.result.0 c.runner-runner.ensures.runner c.args.kind (record { transfer = c.args.transfer; version = c.version-version.result }) (c.version-version.ensures ∙ sym (ap (λ (seen : Managed). version_of seen.state seen.state.runner) view))
+    (moments-of x c.self.invariant (g.M.PhysMem.ram c.send.new.ram) _ _ (g.met.M.PhysMem.in_turn c.send.new.ram) c.send.ensures.steps c.send.ensures.ended)
+    (offer-changes x c.self.invariant c.runner-runner.result.0 c.runner-runner.ensures.runner c.args.kind (record { transfer = c.args.transfer; version = c.version-version.result }) (c.version-version.ensures ∙ sym (ap (λ (seen : Managed). version_of seen.state seen.state.runner) c.self.view_is))
     (g.M.PhysMem.ram c.send.new.ram) c.send.new.pages c.send.new.self
     c.send.result c.send.new.news c.send.ensures.refusal c.send.ensures.kept c.send.ensures.kept_pages c.send.ensures.kept_ram c.send.ensures.handle c.send.ensures.sent))
 

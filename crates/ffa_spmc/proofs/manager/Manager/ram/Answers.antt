@@ -8,6 +8,6 @@ use Rattle.ffa_spmc.proofs.manager.Manager.ram.Goals as goal
 
 pub returns-clause-agrees : goal.returns-clause-agrees
 returns-clause-agrees g c =
-    let x = parts_of g.M.PhysMem.ram g.S.Records.Home.value c.self.inside in
+    let x = parts_of g.M.PhysMem.ram c.self.inside in
     subst (λ (seen : Managed). Agrees x.ram seen.state) c.self.view_is
     (agrees x c.self.invariant)

@@ -12,36 +12,26 @@ use Rattle.ffa_model.specs.State.{Buffers, State}
 use Rattle.ffa_spmc.proofs.Answered.{refused-so}
 use Rattle.ffa_spmc.proofs.Replied.{refused-done, replied-beside}
 use Rattle.ffa_spmc.specs.Meaning.{Parts}
-use Rattle.ffa_spmc.proofs.Inside.{machine-alike, parts_of, replied-alike, view-alike, with_records}
+use Rattle.ffa_spmc.proofs.Inside.{parts_of}
 use Rattle.ffa_spmc.proofs.manager.Manager.rxtx_map.Goals as goal
 
 pub map-requires-clause-known : goal.map-requires-clause-known
 map-requires-clause-known g c =
-    let old = parts_of g.M.PhysMem.ram g.S.Records.Home.value c.self.inside in
-    let x = with_records old c.get.result.now in
-    let machine = machine-alike old (sym c.get.ensures) c.self.invariant in
-    known-buffered x machine c.runner-runner.result.0 (runner-there x machine c.runner-runner.result.0 c.runner-runner.ensures.runner)
+    let x = parts_of g.M.PhysMem.ram c.self.inside in
+    known-buffered x c.self.invariant c.runner-runner.result.0 (runner-there x c.self.invariant c.runner-runner.result.0 c.runner-runner.ensures.runner)
 
 pub invariant_of-self : goal.invariant_of-self
 invariant_of-self g c =
-    let old = parts_of g.M.PhysMem.ram g.S.Records.Home.value c.self.inside in
-    let x = with_records old c.get.result.now in
-    let machine = machine-alike old (sym c.get.ensures) c.self.invariant in
-    let y : Parts = record x { kept = record x.kept { buffers = c.map.new.self } } in
-    machine-alike y c.get.ensures
-    (machine-called x x.ram c.map.new.self x.kept.chain machine machine.tables (RxtxMap c.args.tx c.args.rx c.args.pages)
-    (ap (λ (st : Stepped). st.state) (mapped x machine c.runner-runner.result.0 c.runner-runner.ensures.runner c.map.result c.map.new.self c.map.ensures.kept c.args.tx c.args.rx c.args.pages c.map.ensures.refusal c.map.ensures.mapped)))
+    let x = parts_of g.M.PhysMem.ram c.self.inside in
+    (machine-called x x.ram c.map.new.self x.kept.chain c.self.invariant c.self.invariant.tables (RxtxMap c.args.tx c.args.rx c.args.pages)
+    (ap (λ (st : Stepped). st.state) (mapped x c.self.invariant c.runner-runner.result.0 c.runner-runner.ensures.runner c.map.result c.map.new.self c.map.ensures.kept c.args.tx c.args.rx c.args.pages c.map.ensures.refusal c.map.ensures.mapped)))
 
 pub returns : goal.returns
 returns g c =
-    let old = parts_of g.M.PhysMem.ram g.S.Records.Home.value c.self.inside in
-    let x = with_records old c.get.result.now in
-    let machine = machine-alike old (sym c.get.ensures) c.self.invariant in
-    let view = view-alike old (sym c.get.ensures) c.self.view_is in
+    let x = parts_of g.M.PhysMem.ram c.self.inside in
     let y : Parts = record x { kept = record x.kept { buffers = c.map.new.self } } in
-    replied-alike y c.get.ensures
-    (replied-beside x y c.args.self.now view (λ (s : State). rxtx_map s c.args.tx c.args.rx c.args.pages) c.done_or_error.result
-    (ap (λ (reply : Reply). replied (with_list x machine c.runner-runner.result.0 c.runner-runner.ensures.runner c.map.result c.map.new.self c.map.ensures.kept c.map.new.self) reply) c.done_or_error.ensures
-    ∙ mapped x machine c.runner-runner.result.0 c.runner-runner.ensures.runner c.map.result c.map.new.self c.map.ensures.kept c.args.tx c.args.rx c.args.pages c.map.ensures.refusal c.map.ensures.mapped)
+    (replied-beside x y c.args.self.now c.self.view_is (λ (s : State). rxtx_map s c.args.tx c.args.rx c.args.pages) c.done_or_error.result
+    (ap (λ (reply : Reply). replied (with_list x c.self.invariant c.runner-runner.result.0 c.runner-runner.ensures.runner c.map.result c.map.new.self c.map.ensures.kept c.map.new.self) reply) c.done_or_error.ensures
+    ∙ mapped x c.self.invariant c.runner-runner.result.0 c.runner-runner.ensures.runner c.map.result c.map.new.self c.map.ensures.kept c.args.tx c.args.rx c.args.pages c.map.ensures.refusal c.map.ensures.mapped)
     (refused-done c.map.result c.done_or_error.result c.done_or_error.ensures (refused-so c.map.result (ap (λ (buffers : List (Option Buffers)). record x { kept = record x.kept { buffers = buffers } })) c.map.ensures.kept))
     refl)

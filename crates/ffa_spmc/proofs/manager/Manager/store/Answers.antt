@@ -7,24 +7,24 @@ use Rattle.ffa_spmc.proofs.manager.Manager.store.Goals.{in-Ok, in-Err}
 
 pub store_at-requires : goal.store_at-requires
 store_at-requires g c =
-    let x = parts_of g.M.PhysMem.ram g.S.Records.Home.value c.self.inside in
+    let x = parts_of g.M.PhysMem.ram c.self.inside in
     record { offset = offset-kept x c.self.invariant c.args.self.now c.self.view_is c.args.addr c.args.walked c.requires }
 
 pub invariant_of-self : goal.invariant_of-self
 invariant_of-self g c =
-    let x = parts_of g.M.PhysMem.ram g.S.Records.Home.value c.self.inside in
+    let x = parts_of g.M.PhysMem.ram c.self.inside in
     machine-stored x c.self.invariant c.args.self.now c.self.view_is c.args.addr c.args.walked c.requires
     c.args.size c.args.value (g.M.PhysMem.ram c.store_at.new.memory) c.store_at.ensures.stored
 
 pub returns-clause-state : goal.returns-clause-state
 returns-clause-state g c =
-    let x = parts_of g.M.PhysMem.ram g.S.Records.Home.value c.self.inside in
+    let x = parts_of g.M.PhysMem.ram c.self.inside in
     state-stored x c.self.invariant c.args.self.now c.self.view_is c.args.addr c.args.walked c.requires
     c.args.size c.args.value (g.M.PhysMem.ram c.store_at.new.memory) c.store_at.ensures.stored
 
 pub returns-clause-outcome : goal.returns-clause-outcome
 returns-clause-outcome g c =
-    let x = parts_of g.M.PhysMem.ram g.S.Records.Home.value c.self.inside in
+    let x = parts_of g.M.PhysMem.ram c.self.inside in
     elim c.match-store_at.branch [
       | in-Ok w ↦ w.result-is
           ∙ answer-stored x c.self.invariant c.args.self.now c.self.view_is c.args.addr c.args.walked c.requires
@@ -36,12 +36,12 @@ returns-clause-outcome g c =
 
 pub returns-clause-unowned : goal.returns-clause-unowned
 returns-clause-unowned g c =
-    let x = parts_of g.M.PhysMem.ram g.S.Records.Home.value c.self.inside in
+    let x = parts_of g.M.PhysMem.ram c.self.inside in
     unowned-stored x c.self.invariant c.args.self.now c.self.view_is c.args.addr c.args.walked c.requires
     c.args.size c.args.value (g.M.PhysMem.ram c.store_at.new.memory) c.store_at.ensures.stored
 
 pub returns-clause-moments : goal.returns-clause-moments
 returns-clause-moments g c =
-    let x = parts_of g.M.PhysMem.ram g.S.Records.Home.value c.self.inside in
+    let x = parts_of g.M.PhysMem.ram c.self.inside in
     moments-stored x c.self.invariant c.args.self.now c.self.view_is c.args.addr c.args.walked c.requires
     c.args.size c.args.value (g.M.PhysMem.ram c.store_at.new.memory) c.store_at.ensures.stored (g.M.PhysMem.past c.store_at.new.memory) (g.met.M.PhysMem.in_turn c.store_at.new.memory) c.store_at.ensures.steps

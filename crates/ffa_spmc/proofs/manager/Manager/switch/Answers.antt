@@ -15,12 +15,12 @@ switch-requires g c = record {
 
 pub invariant_of-self : goal.invariant_of-self
 invariant_of-self g c =
-    let x = parts_of g.M.PhysMem.ram g.S.Records.Home.value c.self.inside in
+    let x = parts_of g.M.PhysMem.ram c.self.inside in
     machine-switched x c.args.status c.args.endpoint.0 c.switch.new.self c.switch.ensures.changed c.self.invariant
     (subst (λ (seen : Managed). MayStop (schedule_of seen.state) c.args.status) (sym c.self.view_is) c.requires.stops)
     (subst (λ (seen : Managed). MayGoOn (schedule_of seen.state) c.args.endpoint.0) (sym c.self.view_is) c.requires.goes)
 
 pub returns : goal.returns
 returns g c =
-    let x = parts_of g.M.PhysMem.ram g.S.Records.Home.value c.self.inside in
+    let x = parts_of g.M.PhysMem.ram c.self.inside in
     view-switched x c.args.status c.args.endpoint.0 c.switch.new.self c.switch.ensures.changed (g.M.PhysMem.past c.self.inside.ram) c.args.self.now c.self.view_is

@@ -12,7 +12,7 @@ use Rattle.ffa_spmc.proofs.manager.Manager.translate.Goals as goal
 
 pub root_at-requires : goal.root_at-requires
 root_at-requires g c =
-    let s = state_of (parts_of g.M.PhysMem.ram g.S.Records.Home.value c.self.inside) in
+    let s = state_of (parts_of g.M.PhysMem.ram c.self.inside) in
     subst (λ (i : ℕ). i < length c.args.self.now.state.parties) (sym (c.place.ensures ∙ ap place c.runner.ensures))
     (subst (λ (seen : Managed). place seen.state.runner < length seen.state.parties) c.self.view_is
     (known-place (length s.parties) s.runner c.self.invariant.sound.sized.some (runner-known s c.self.invariant.sound)))

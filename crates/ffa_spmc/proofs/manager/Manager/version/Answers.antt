@@ -4,19 +4,15 @@ use Rattle.ffa_model.specs.State.{is_known_among}
 use Rattle.ffa_spmc.proofs.Fills.{runner-there}
 use Rattle.ffa_spmc.proofs.Held.{parties_are}
 use Rattle.ffa_spmc.proofs.Information.{version-seen}
-use Rattle.ffa_spmc.proofs.Inside.{machine-alike, parts_of, view-alike, with_records}
+use Rattle.ffa_spmc.proofs.Inside.{parts_of}
 use Rattle.ffa_spmc.proofs.manager.Manager.version.Goals as goal
 
 pub version_of-requires : goal.version_of-requires
 version_of-requires g c =
-    let old = parts_of g.M.PhysMem.ram g.S.Records.Home.value c.self.inside in
-    let x = with_records old c.get-records.result.now in
-    let machine = machine-alike old (sym c.get-records.ensures) c.self.invariant in
-    subst (λ (n : ℕ). is_known_among n c.runner.result.0 ≡ true) (parties_are x) (runner-there x machine c.runner.result.0 c.runner.ensures.runner)
+    let x = parts_of g.M.PhysMem.ram c.self.inside in
+    subst (λ (n : ℕ). is_known_among n c.runner.result.0 ≡ true) (parties_are x) (runner-there x c.self.invariant c.runner.result.0 c.runner.ensures.runner)
 
 pub returns : goal.returns
 returns g c =
-    let old = parts_of g.M.PhysMem.ram g.S.Records.Home.value c.self.inside in
-    let x = with_records old c.get-records.result.now in
-    let view = view-alike old (sym c.get-records.ensures) c.self.view_is in
-    c.version_of.ensures ∙ version-seen x c.args.self.now view c.runner.result.0 c.runner.ensures.runner
+    let x = parts_of g.M.PhysMem.ram c.self.inside in
+    c.version_of.ensures ∙ version-seen x c.args.self.now c.self.view_is c.runner.result.0 c.runner.ensures.runner

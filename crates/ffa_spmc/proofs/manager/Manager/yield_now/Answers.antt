@@ -6,9 +6,8 @@ use Rattle.ffa_model.specs.Calls.{Stepped, replied}
 use Rattle.ffa_spmc.specs.Meaning.{state_of}
 use Rattle.ffa_spmc.proofs.Machines.{machine-called}
 use Rattle.ffa_model.specs.declared.schedule.Status.TheVariants.{Yielded}
-use Rattle.ffa_model.specs.RunStates.{switched, yield_now}
+use Rattle.ffa_model.specs.RunStates.{switched, yield_now, Schedule}
 use Rattle.ffa_spmc.proofs.Schedules.{scheduled, with_chain}
-use Rattle.ffa_model.specs.RunStates.{Schedule}
 use Rattle.ffa_model.specs.State.{State}
 use Rattle.ffa_spmc.proofs.Answered.{refused-so}
 use Rattle.ffa_spmc.proofs.Replied.{refused-replied, replied-beside}
@@ -17,13 +16,13 @@ use Rattle.ffa_spmc.proofs.manager.Manager.yield_now.Goals as goal
 
 pub invariant_of-self : goal.invariant_of-self
 invariant_of-self g c =
-    let x = parts_of g.M.PhysMem.ram g.S.Records.Home.value c.self.inside in
+    let x = parts_of g.M.PhysMem.ram c.self.inside in
     machine-called x x.ram x.kept.buffers c.yield_now.new.self c.self.invariant c.self.invariant.tables Yield
     (ap (λ (st : Stepped). st.state) (scheduled x (yield_now (state_of x)) (switched x.kept.chain Yielded 0) c.yield_now.new.self c.yield_now.result refl c.yield_now.ensures.refusal c.yield_now.ensures.kept c.yield_now.ensures.changed c.yield_now.ensures.reply))
 
 pub returns : goal.returns
 returns g c =
-    let x = parts_of g.M.PhysMem.ram g.S.Records.Home.value c.self.inside in
+    let x = parts_of g.M.PhysMem.ram c.self.inside in
     replied-beside x (record x { kept = record x.kept { chain = c.yield_now.new.self } }) c.args.self.now c.self.view_is (λ (s : State). yield_now s) c.reply_or_error.result
     (ap (λ (reply : Reply). replied (with_chain x c.yield_now.new.self) reply) c.reply_or_error.ensures
     ∙ scheduled x (yield_now (state_of x)) (switched x.kept.chain Yielded 0) c.yield_now.new.self c.yield_now.result refl c.yield_now.ensures.refusal c.yield_now.ensures.kept c.yield_now.ensures.changed c.yield_now.ensures.reply)
