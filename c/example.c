@@ -19,7 +19,7 @@ int main(void) {
     struct gorseplumb_outcome told = GORSEPLUMB_CALL(&machine, GORSEPLUMB_FFA_RUN, gorseplumb_pair(0x8001, 0));
     printf("runner %04" PRIX32 " sees %s\n", told.runner, gorseplumb_call_name(gorseplumb_function_of(told)));
     struct gorseplumb_registers other = GORSEPLUMB_REGISTERS(GORSEPLUMB_FFA_RUN, gorseplumb_pair(0x8002, 0));
-    char reason[256];
+    char reason[320];
     if (gorseplumb_explain_call(&machine, &other, reason, sizeof reason) != 0) printf("refused: %s\n", reason);
     return gorseplumb_end_heap(&machine) == GORSEPLUMB_OK ? 0 : 1;
 }

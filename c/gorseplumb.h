@@ -45,7 +45,7 @@ extern "C" {
 
 /* The number of these declarations, raised by each change that a caller has to know of. Who loads the library while a
  * program runs compares it with gorseplumb_declarations, which answers the number that the library was built by. */
-#define GORSEPLUMB_DECLARATIONS 9
+#define GORSEPLUMB_DECLARATIONS 10
 
 uint32_t gorseplumb_declarations(void);
 
@@ -618,8 +618,54 @@ enum gorseplumb_obstacle {
     GORSEPLUMB_OBSTACLE_IN_TRANSACTION = 4 /* the page is in the open transaction with the handle `transaction` */
 };
 
+/* What to change after a refusal, in a hint: what numbers[0], numbers[1] and numbers[2] of the hint are. A right is
+ * GORSEPLUMB_READ or GORSEPLUMB_WRITE, with or without GORSEPLUMB_EXECUTE. An endpoint is its identifier. A kind is 0 for
+ * a share, 1 for a lend and 2 for a donate. */
+enum gorseplumb_hint_kind {
+    GORSEPLUMB_HINT_NONE = 0,                      /* the reason has no hint */
+    GORSEPLUMB_HINT_TX_PAGE = 1,                   /* the page is in TX of the endpoint numbers[0] */
+    GORSEPLUMB_HINT_RX_PAGE = 2,                   /* the page is in RX of the endpoint numbers[0] */
+    GORSEPLUMB_HINT_OWN_RIGHT = 3,                 /* the owner's own right is numbers[0] */
+    GORSEPLUMB_HINT_GRANTED = 4,                   /* to read and write is granted, but the owner's own right is numbers[0] */
+    GORSEPLUMB_HINT_ACCESS = 5,                    /* the endpoint numbers[0] has the right numbers[1] at the address */
+    GORSEPLUMB_HINT_CALLER = 6,                    /* the caller is numbers[0] */
+    GORSEPLUMB_HINT_SENDER = 7,                    /* the transaction's sender is numbers[0] */
+    GORSEPLUMB_HINT_TAG = 8,                       /* the descriptor has the tag numbers[0], and the transaction has the tag numbers[1] */
+    GORSEPLUMB_HINT_KIND = 9,                      /* the descriptor has the kind numbers[0], and the transaction has the kind numbers[1] */
+    GORSEPLUMB_HINT_RIGHT = 10,                    /* the right numbers[0] is requested, and numbers[1] is the most allowed */
+    GORSEPLUMB_HINT_HELD = 11,                     /* the caller holds the transaction with the right numbers[0] */
+    GORSEPLUMB_HINT_ROOM = 12,                     /* the buffer has numbers[0] bytes */
+    GORSEPLUMB_HINT_VALUE = 13,                    /* the register must be numbers[0] */
+    GORSEPLUMB_HINT_FORM = 14,                     /* the field must be numbers[1] in the version that the caller numbers[0] uses */
+    GORSEPLUMB_HINT_WORD = 15,                     /* in the message header, the 4 bytes from the offset numbers[0] on are numbers[1] */
+    GORSEPLUMB_HINT_MESSAGE = 16,                  /* the message begins at numbers[0] and has numbers[1] bytes, and the buffer has numbers[2] bytes */
+    GORSEPLUMB_HINT_OUTSIDE = 17,                  /* the first page that is not in RAM is at the address numbers[0] */
+    GORSEPLUMB_HINT_HOLDER = 18,                   /* the receiver numbers[0] holds the transaction */
+    GORSEPLUMB_HINT_RUN = 19,                      /* the caller is processing an FFA_RUN */
+    GORSEPLUMB_HINT_REQUEST = 20,                  /* the caller is processing a direct request from numbers[0] */
+    GORSEPLUMB_HINT_PENDING = 21,                  /* the lowest pending bit is numbers[0] */
+    GORSEPLUMB_HINT_BUFFERS_MISSING = 22,          /* the caller has no RX and TX */
+    GORSEPLUMB_HINT_RX_NOT_FULL = 23,              /* the caller's RX is not full */
+    GORSEPLUMB_HINT_BIT_PENDING = 24,              /* the bit is pending */
+    GORSEPLUMB_HINT_BIT_TAKEN = 25,                /* the bit is bound to another sender */
+    GORSEPLUMB_HINT_BIT_UNBOUND = 26,              /* the bit is not bound to the sender */
+    GORSEPLUMB_HINT_HANDLE_UNKNOWN = 27,           /* no open transaction has the handle */
+    GORSEPLUMB_HINT_NOT_RECEIVER = 28,             /* the transaction is open, but not offered to the caller */
+    GORSEPLUMB_HINT_NOT_LENT = 29,                 /* the transaction is not a lend */
+    GORSEPLUMB_HINT_BITMAPS_UNCREATED = 30,        /* FFA_NOTIFICATION_BITMAP_CREATE creates the bitmaps */
+    GORSEPLUMB_HINT_NOTIFICATIONS_UNRECEIVED = 31, /* bit 3 of the partition's properties is not set */
+    GORSEPLUMB_HINT_SECURE_TO_NORMAL = 32,         /* the page is secure and is sent to the normal world */
+    GORSEPLUMB_HINT_PAGES_OF_BOTH_WORLDS = 33      /* the page is secure, but another page is not */
+};
+
+/* What to change after a refusal. A number that the kind does not name is zero. */
+struct gorseplumb_hint {
+    uint32_t kind; /* an enum gorseplumb_hint_kind */
+    uint64_t numbers[3];
+};
+
 /* Why an operation is refused. A call has a `check`, and an access a `fault`. A field that the tags do not name is zero.
- * The struct has no padding. */
+ * Only the hint has padding, 4 bytes after its kind. */
 struct gorseplumb_reason {
     uint32_t fault;       /* of an access: an enum gorseplumb_fault */
     uint32_t check;       /* of a call: an enum gorseplumb_check */
@@ -643,6 +689,7 @@ struct gorseplumb_reason {
     uint64_t least;       /* if step is not 0: the least number that the register or the field may have instead */
     uint64_t most;        /* if step is not 0: the greatest such number, which may be the same */
     uint64_t step;        /* the distance from one such number to the next; 0 if the reason does not say which are allowed */
+    struct gorseplumb_hint hint; /* what to change, if that is known */
 };
 
 /* These four functions return true, and write to `reason`, if an operation of the runner would be refused now. They
@@ -713,9 +760,9 @@ enum gorseplumb_answer gorseplumb_end(struct gorseplumb_machine *machine, struct
  * nothing has changed: GORSEPLUMB_NO_MACHINE, or GORSEPLUMB_LENT, where RAM was lent and gorseplumb_end ends it. */
 enum gorseplumb_answer gorseplumb_end_heap(struct gorseplumb_machine *machine);
 
-/* Makes an empty list with room for so many pages, in seven pieces of memory: the list, its pages' addresses, and of
- * the machine that is booted in it its place, its records, four bytes for each page, 78 KiB of slots for open
- * transactions and 16 KiB for copies of a TX. GORSEPLUMB_OCCUPIED where there is a list; else GORSEPLUMB_OK or
+/* Makes an empty list with room for so many pages, in six pieces of memory: the list, its pages' addresses, and of
+ * the machine that is booted in it its place, four bytes for each page, 78 KiB of slots for open transactions and
+ * 16 KiB for copies of a TX. GORSEPLUMB_OCCUPIED where there is a list; else GORSEPLUMB_OK or
  * GORSEPLUMB_NO_MEMORY. Where it isn't GORSEPLUMB_OK nothing has changed. docs/EMBEDDING.md says which function takes how
  * much stack. */
 enum gorseplumb_answer gorseplumb_begin_lending(struct gorseplumb_lent *lent, uint32_t pages);

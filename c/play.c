@@ -1,8 +1,8 @@
 /* SPDX-License-Identifier: MIT OR Apache-2.0 */
 /* Plays a trace through the border, and prints what the program prints with --processors 8: play heap|lent|explain|worlds MANIFEST TRACE.
  * With `lent` the machine stands in pages of this program, and with `explain` a reason follows each operation that is refused; with `worlds`
- * too, of a machine that tells non-secure memory from secure memory. Whether the tables agree with gorseplumb_access is found by a walk of
- * their bytes. */
+ * too, of a machine that tells non-secure memory from secure memory. The kinds of the reasons' hints are then added to the file HINTS, if that
+ * is set. Whether the tables agree with gorseplumb_access is found by a walk of their bytes. */
 #include <inttypes.h>
 #include <stdio.h>
 #include <stdlib.h>
@@ -51,12 +51,17 @@ static void print_value(uint64_t value, unsigned size) {
 
 /* Whether reasons are printed, and the one of the operation that comes next: empty where it would be done. */
 static bool explains;
-static char reason[256];
+static char reason[320];
 
-/* Asks for the reason by one of the four that tell it: EXPLAIN(kind, words) */
-#define EXPLAIN(kind, ...) \
+/* Where the kinds of hints go, or NULL. */
+static FILE *hints;
+
+/* Asks for the reason by one of the four that tell it: EXPLAIN(operation, words) */
+#define EXPLAIN(operation, ...) \
     do { \
-        if (explains && gorseplumb_explain_##kind(&machine, __VA_ARGS__, reason, sizeof reason) >= sizeof reason) stop("a long reason"); \
+        struct gorseplumb_reason why; \
+        if (explains && gorseplumb_explain_##operation(&machine, __VA_ARGS__, reason, sizeof reason) >= sizeof reason) stop("a long reason"); \
+        if (hints != NULL && gorseplumb_why_##operation(&machine, __VA_ARGS__, &why)) fprintf(hints, "%" PRIu32 "\n", why.hint.kind); \
     } while (0)
 
 static void print_outcome(struct gorseplumb_outcome told, unsigned size) {
@@ -252,6 +257,7 @@ int main(int count, char **words) {
     bool tells_worlds = strcmp(words[1], "worlds") == 0;
     explains = tells_worlds || strcmp(words[1], "explain") == 0;
     bool is_lent = strcmp(words[1], "lent") == 0;
+    if (explains && getenv("HINTS") != NULL && (hints = fopen(getenv("HINTS"), "a")) == NULL) stop(getenv("HINTS"));
     size_t size, trace_size;
     uint32_t lent_pages = 0;
     char *text = text_of(words[2], &size), *trace = text_of(words[3], &trace_size);

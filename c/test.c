@@ -604,7 +604,7 @@ static void two_machines(void) {
         CHECK(answer == GORSEPLUMB_OK ||
               (answer == GORSEPLUMB_NO_MEMORY && !machine.live && gorseplumb_lent_pages(&list) == 512 && pages[512].bytes[0] == 0xA5));
     }
-    CHECK(turn == 5 && gorseplumb_lent_pages(&list) == 0);
+    CHECK(turn == 4 && gorseplumb_lent_pages(&list) == 0);
     loads(0x40010000, 1, 0);
     CHECK(gorseplumb_end(&machine, &list) == GORSEPLUMB_OK && gorseplumb_end(&first, &list) == GORSEPLUMB_HAS_PAGES);
     asked = 0;
@@ -634,7 +634,7 @@ static void refusals(void) {
             refused = 0;
             CHECK(answer == GORSEPLUMB_OK || (answer == GORSEPLUMB_NO_MEMORY && !machine.live && pieces == 0));
         }
-        CHECK(as_text ? turn > 6 : turn == 6);
+        CHECK(as_text ? turn > 5 : turn == 5);
         CHECK(gorseplumb_end(&machine, &untouched) == GORSEPLUMB_OK);
     }
     CHECK(gorseplumb_lend_all(&list, pages, 512) == GORSEPLUMB_OK);

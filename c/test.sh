@@ -217,16 +217,16 @@ plays() {
     echo "$name: five traces and $(wc -l <"$to/generated") generated lines, in RAM of the heap and in lent pages: as the program prints them"
 }
 
-# Plays the generated lines, of which some are each of another processor, with interrupts: turns NAME COMMAND..
+# Plays the generated lines, of which some are each of another processor, with interrupts and reasons: turns NAME COMMAND..
 turns() {
     local name=$1 machine=$top/examples/partitions.toml
     shift
     awk 'NR % 29 == 0 { printf "on %d\n", NR / 29 % 8 } NR % 13 == 0 { print "interrupt" } { print }' "$to/generated" >"$to/trace"
-    "$player" run --processors 8 "$machine" "$to/trace" >"$to/expected"
-    "$@" heap "$machine" "$to/trace" >"$to/played"
+    "$player" run --processors 8 --explain "$machine" "$to/trace" >"$to/expected"
+    "$@" explain "$machine" "$to/trace" >"$to/played"
     cmp "$to/expected" "$to/played" || { echo "$name: outcomes on eight processors differ from the program's" >&2; exit 1; }
     echo "$name: these lines on eight processors, with $(grep -c '^interrupt' "$to/trace") interrupts after which $(grep -c '^resumed' "$to/played")" \
-        "partitions resumed: as the program prints them"
+        "partitions resumed, and $(grep -c '^# refused: ' "$to/played") reasons: as the program prints them"
 }
 
 # Plays what the normal world is told of a notification of a partition that waits, once, and contexts that it names, by two processors and by
@@ -246,14 +246,17 @@ told() {
     echo "$name: the library reports a notification to the normal world as the program does"
 }
 
-# Whether play tells each reason of the generated lines, and those of each check that a table of tests has, as the program does: explains
-# NAME PLAY
+# Whether play tells each reason of the generated lines, and those of each check that a table of tests has, as the program does, and whether
+# these have each kind of hint: explains NAME PLAY
 explains() {
-    local name=$1
-    export PLAYER PLAY=$2
+    local name=$1 untold
+    export PLAYER PLAY=$2 HINTS=$to/hints
     PLAYER=$(realpath "$player")
+    rm -f "$HINTS"
     "$here/explained" run --explain "$top/examples/partitions.toml" "$to/generated" >"$to/explained"
     FFAPLAY=$here/explained "$top/tests/tables" "$top/tests/tables.d/explained.table" >"$to/tables" || { cat "$to/tables" >&2; exit 1; }
+    untold=$(sed -n 's/^    GORSEPLUMB_HINT_[A-Z_]* = \([0-9]*\).*/\1/p' "$here/gorseplumb.h" | grep -vxFf "$HINTS" | tr '\n' ' ' || true)
+    if [[ $untold || ! -s $HINTS ]]; then echo "$name: no reason has a hint of the kinds $untold, and the table must have one of each" >&2; exit 1; fi
     echo "$name: $(grep -c '^# refused: ' "$to/explained") reasons in generated lines are the program's;" \
         "reasons in a table: $(tail -n 1 "$to/tables")"
 }

@@ -14,8 +14,8 @@
 
 #define PAGES 512
 
-/* Of a machine on the heap: RAM, its place, its records, owners of pages and transactions. */
-#define HEAP_PIECES 5
+/* Of a machine on the heap: RAM, its place, owners of pages and transactions. */
+#define HEAP_PIECES 4
 
 static struct gorseplumb_page here[PAGES], there[PAGES], kept[PAGES];
 static struct gorseplumb_lent none;

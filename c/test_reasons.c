@@ -59,14 +59,20 @@ static struct gorseplumb_reason marked(void) {
     return reason;
 }
 
-static bool is_marked(const struct gorseplumb_reason *reason) {
-    struct gorseplumb_reason other = marked();
-    return memcmp(reason, &other, sizeof other) == 0;
+/* Two reasons are the same. Only the padding behind a hint's kind is not compared. */
+static bool same(const struct gorseplumb_reason *one, const struct gorseplumb_reason *other) {
+    return memcmp(one, other, offsetof(struct gorseplumb_reason, hint)) == 0 && one->hint.kind == other->hint.kind &&
+           memcmp(one->hint.numbers, other->hint.numbers, sizeof one->hint.numbers) == 0;
 }
 
-/* An answer and what it wrote are those of this reason. All its bytes are its fields'. */
+static bool is_marked(const struct gorseplumb_reason *reason) {
+    struct gorseplumb_reason other = marked();
+    return same(reason, &other);
+}
+
+/* An answer and what it wrote are those of this reason. */
 static void tells(bool answer, const struct gorseplumb_reason *told, struct gorseplumb_reason wanted) {
-    CHECK(answer && memcmp(told, &wanted, sizeof wanted) == 0);
+    CHECK(answer && same(told, &wanted));
 }
 
 /* A call is refused for this reason, before it is made and again behind it, and its code is what it answers. */
@@ -100,7 +106,10 @@ static void refuses_fetch(uint64_t address, struct gorseplumb_reason wanted) {
 }
 
 #define TRANSLATION(...) ((struct gorseplumb_reason){.fault = GORSEPLUMB_FAULT_TRANSLATION, __VA_ARGS__})
-#define FAULT(kind) ((struct gorseplumb_reason){.fault = GORSEPLUMB_FAULT_##kind})
+#define FAULT(kind, ...) ((struct gorseplumb_reason){.fault = GORSEPLUMB_FAULT_##kind, __VA_ARGS__})
+
+/* A hint of a reason, and its numbers. */
+#define HINT(kind_, ...) .hint = {.kind = GORSEPLUMB_HINT_##kind_, .numbers = {__VA_ARGS__}}
 
 static void accesses(void) {
     struct gorseplumb_reason reason = marked();
@@ -117,9 +126,9 @@ static void accesses(void) {
     refuses_load(0x40000000, 8, TRANSLATION(.obstacle = GORSEPLUMB_OBSTACLE_MANAGERS_PAGE));
     refuses_fetch(0x3FFFFFFC, TRANSLATION(.obstacle = GORSEPLUMB_OBSTACLE_OUTSIDE_RAM));
     refuses_load(0x100000000, 1, TRANSLATION(.obstacle = GORSEPLUMB_OBSTACLE_NONE));
-    refuses_load(0x40010001, 2, FAULT(ALIGNMENT));
-    refuses_store(0x40020004, 8, FAULT(ALIGNMENT));
-    refuses_fetch(0x40010000, FAULT(PERMISSION));
+    refuses_load(0x40010001, 2, FAULT(ALIGNMENT, HINT(NONE, 0)));
+    refuses_store(0x40020004, 8, FAULT(ALIGNMENT, HINT(NONE, 0)));
+    refuses_fetch(0x40010000, FAULT(PERMISSION, HINT(ACCESS, 0, GORSEPLUMB_WRITE)));
 }
 
 /* Where the normal world may read its pages alone, a store is refused that a load isn't. */
@@ -136,7 +145,7 @@ static void reads_alone(void) {
     CHECK(gorseplumb_boot_manifest(&machine, &manifest) == GORSEPLUMB_OK);
     boots = false;
     CHECK(!gorseplumb_why_load(shown(&machine), 0x40010000, 1, &reason) && is_marked(&reason));
-    refuses_store(0x40010000, 1, FAULT(PERMISSION));
+    refuses_store(0x40010000, 1, FAULT(PERMISSION, HINT(ACCESS, 0, GORSEPLUMB_READ)));
     CHECK(gorseplumb_end(&machine, &untouched) == GORSEPLUMB_OK);
 }
 
@@ -149,7 +158,7 @@ static void calls(void) {
     CHECK(!gorseplumb_why_call(shown(&machine), &CALL(FFA_ID_GET), &reason) && is_marked(&reason));
     refuses(CALL(0x84000099),
             REASON(FUNCTION_UNKNOWN, -1, .about = GORSEPLUMB_ABOUT_REGISTER, .value = 0x84000099, .has_value = 1));
-    refuses(CALL(FFA_RX_RELEASE), REASON(RX_EMPTY, -6, .about = GORSEPLUMB_ABOUT_NOTHING));
+    refuses(CALL(FFA_RX_RELEASE), REASON(RX_EMPTY, -6, HINT(BUFFERS_MISSING, 0)));
     refuses(CALL(FFA_RUN, 0x80030000),
             REASON(TARGET_UNKNOWN, -2, .about = GORSEPLUMB_ABOUT_ENDPOINT, .endpoint = 0x8003));
     refuses(CALL(FFA_RXTX_MAP, 0x4001E000, 0x4001F000, 5),
@@ -159,7 +168,7 @@ static void calls(void) {
             REASON(TX_UNUSABLE, -6, .about = GORSEPLUMB_ABOUT_PAGE, .page = 32,
                    .obstacle = GORSEPLUMB_OBSTACLE_OWNED_BY, .owner = 0x8001));
     refuses(CALL(FFA_MEM_RECLAIM, 7, 0x8001),
-            REASON(NOT_THE_SENDERS, -2, .about = GORSEPLUMB_ABOUT_HANDLE, .handle = 0x0000800100000007));
+            REASON(NOT_THE_SENDERS, -2, .about = GORSEPLUMB_ABOUT_HANDLE, .handle = 0x0000800100000007, HINT(HANDLE_UNKNOWN, 0)));
     refuses(CALL(FFA_NOTIFICATION_SET, 0x00008001, 0, 0x28),
             REASON(BITS_NOT_THE_CALLERS, -6, .about = GORSEPLUMB_ABOUT_BIT, .number = 3));
     /* It is what the runner would be told: of 8001 the normal world's call is another's. */
@@ -171,7 +180,7 @@ static void calls(void) {
 /* A line has this text, and so has its beginning where there is less room, of which no byte behind is written. */
 #define LINE(wanted, kind, ...) \
     do { \
-        char text[256]; \
+        char text[320]; \
         const size_t size = sizeof(wanted) - 1; \
         for (size_t room = 0; room < sizeof text; room++) { \
             memset(text, 0x5A, sizeof text); \
@@ -188,7 +197,7 @@ static void descriptors(void) {
     /* TX is zeros, where the size of an access descriptor has 4 bytes from 24 on. */
     refuses(CALL(FFA_MEM_LEND, 0x60, 0x60),
             REASON(DESCRIPTOR_MALFORMED, -2, .about = GORSEPLUMB_ABOUT_FIELD,
-                   .flaw = GORSEPLUMB_FLAW_HEADER_ACCESS_SIZE, .first = 24, .size = 4, .has_value = 1));
+                   .flaw = GORSEPLUMB_FLAW_HEADER_ACCESS_SIZE, .first = 24, .size = 4, .has_value = 1, HINT(FORM, 0, 16)));
     /* To two receivers, of which the second would have permissions that are none: its descriptor begins at 64. */
     stores(0x4001E000, 0x002F0000);
     stores(0x4001E018, 0x0000000200000010);
@@ -220,6 +229,21 @@ static void descriptors(void) {
     refuses(CALL(FFA_MEM_LEND, 0x70, 0x70), REASON(PAGE_UNSENDABLE, -6, .about = GORSEPLUMB_ABOUT_PAGE, .page = 16,
                                                    .obstacle = GORSEPLUMB_OBSTACLE_IN_TRANSACTION, .transaction = 1));
     done(FFA_SUCCESS, CALL(FFA_MEM_RECLAIM, 1));
+}
+
+/* The longest line is of a donate in buffers of four pages. */
+static void longest(void) {
+    done(FFA_SUCCESS, CALL(FFA_RXTX_UNMAP));
+    done(FFA_SUCCESS, CALL(FFA_RXTX_MAP, 0x40010000, 0x40014000, 4));
+    stores(0x40010018, 0x0000000100000010);
+    stores(0x40010020, 0x3F00);
+    stores(0x40013F00, 0xFFFFFFF000008001);
+    LINE("FFA_MEM_DONATE check 6: the bytes in TX are not a descriptor of this call: "
+         "the composite ends outside the descriptor, even without its ranges: bytes 3F04 to 3F07 are FFFFFFF0 "
+         "(the composite ends at 0000000100000000, but the descriptor has 4000 bytes), "
+         "and must be 00003F10 to 00003FE0 in steps of 00000010",
+         call, &CALL(FFA_MEM_DONATE, 0x4000, 0x4000));
+    done(FFA_SUCCESS, CALL(FFA_RXTX_UNMAP));
 }
 
 /* 8001 yields to the normal world, which asks it, and then it asks 8002, which asks it. */
@@ -258,15 +282,20 @@ static void lines(void) {
     LINE("", load, 0x40010000, 8);
     LINE("", load, 0x40020000, 3); /* no size */
     LINE("check 1: the function is not supported: w0 is 84000099", call, &CALL(0x1234567884000099));
-    LINE("FFA_RX_RELEASE check 1: the caller has no RX and TX, or its RX is not full", call, &CALL(FFA_RX_RELEASE));
+    LINE("check 1: the function is not supported: w0 is C4000064, and FFA_FEATURES has no 64-bit form", call,
+         &CALL(FFA_FEATURES | WITH_64_BITS));
+    LINE("FFA_PARTITION_INFO_GET check 1: no partition has the UUID: w1 to w4 hold 00112233445566778899aabbccddee1f", call,
+         &CALL(FFA_PARTITION_INFO_GET, 0x33221100, 0x77665544, 0xBBAA9988, 0x1FEEDDCC));
+    LINE("FFA_RX_RELEASE check 1: the caller has no RX and TX, or its RX is not full: it has no RX and TX", call, &CALL(FFA_RX_RELEASE));
     LINE("FFA_RUN check 2: no partition has the target's identifier: endpoint 8003", call, &CALL(FFA_RUN, 0x80030000));
-    LINE("FFA_RXTX_MAP check 3: TX is not page-aligned, or not entirely in RAM: x1 is 000000014001E000, and the buffer is not entirely in RAM",
+    LINE("FFA_RXTX_MAP check 3: TX is not page-aligned, or not entirely in RAM: x1 is 000000014001E000, and the buffer is not entirely in RAM: "
+         "000000014001E000 is above FFFFFFFF",
          call,
          &CALL(FFA_RXTX_MAP | WITH_64_BITS, 0x14001E000, 0x4001F000, 1));
     LINE("FFA_RXTX_MAP check 6: a page of TX does not belong to the caller, is not writable, or is in an open transaction: "
          "40020000 belongs to 8001",
          call, &CALL(FFA_RXTX_MAP, 0x40020000, 0x4001F000, 1));
-    LINE("FFA_MEM_RECLAIM check 2: no open transaction from the caller has the handle: handle 0000800100000007", call,
+    LINE("FFA_MEM_RECLAIM check 2: no open transaction from the caller has the handle: handle 0000800100000007, which no open transaction has", call,
          &CALL(FFA_MEM_RECLAIM, 7, 0x8001));
     LINE("FFA_NOTIFICATION_SET check 6: one of the bits is not bound to the caller: bit 23", call,
          &CALL(FFA_NOTIFICATION_SET, 0x00008001, 0, 0, 0x28));
@@ -275,7 +304,7 @@ static void lines(void) {
     LINE("3FFFFFFC is outside RAM", fetch, 0x3FFFFFFC);
     LINE("0000000100000000 is above FFFFFFFF", load, 0x100000000, 1);
     LINE("40010001 is not a multiple of 2", load, 0x40010001, 2);
-    LINE("40010000 may not be executed", fetch, 0x40010000);
+    LINE("40010000 may not be executed: 0000 has rw-", fetch, 0x40010000);
 }
 
 static void names(void) {
@@ -332,7 +361,8 @@ static void check_numbers(void) {
 
 int main(void) {
     struct gorseplumb_lent untouched = {0};
-    CHECK(sizeof(struct gorseplumb_reason) == 14 * sizeof(uint32_t) + 8 * sizeof(uint64_t));
+    CHECK(sizeof(struct gorseplumb_hint) == 4 * sizeof(uint64_t));
+    CHECK(sizeof(struct gorseplumb_reason) == 14 * sizeof(uint32_t) + 8 * sizeof(uint64_t) + sizeof(struct gorseplumb_hint));
     without_a_machine();
     reads_alone();
     boots = true;
@@ -342,6 +372,7 @@ int main(void) {
     lines();
     calls();
     descriptors();
+    longest();
     run_states();
     CHECK(gorseplumb_end(&machine, &untouched) == GORSEPLUMB_OK);
     names();

@@ -10,8 +10,8 @@ from .access import AccessMap, Cell, Run
 from .batch import Batch, Outcomes
 from .checks import Check, Flaw
 from .codes import MANAGER, NORMAL_WORLD, PAGE_SIZE
-from .codes import About, Cause, ErrorCode, Fault, Form, Function, GrantKind, Kind, Obstacle, Properties, Right
-from .codes import RunState
+from .codes import About, Cause, ErrorCode, Fault, Form, Function, GrantKind, HintKind, Kind, Obstacle, Properties
+from .codes import Right, RunState
 from .descriptors import DataAccess, InstructionAccess, Offer, PageRange, Receiver
 from .descriptors import Relinquish, Retrieve, RetrieveResponse
 from .errors import (
@@ -46,6 +46,7 @@ from .errors import (
     TranslationFault,
     WrongRamSize,
 )
+from .hints import Hint
 from .machine import Machine, Watcher
 from .manifest import Endpoint, Manifest, Region
 from .messages import IndirectMessage, PartitionInfo, read_partitions
@@ -95,6 +96,8 @@ __all__ = [
     "GrantKind",
     "GuardUnmet",
     "Hindrance",
+    "Hint",
+    "HintKind",
     "IndirectMessage",
     "InstructionAccess",
     "Interrupt",

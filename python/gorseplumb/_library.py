@@ -13,7 +13,7 @@ from typing import Any, Callable
 
 from .errors import LibraryError
 
-DECLARATIONS = 9
+DECLARATIONS = 10
 """The number of the declarations that this file has."""
 
 MOST_REGIONS = 16
@@ -108,6 +108,10 @@ class CertRun(Structure):
     ]
 
 
+class Hint(Structure):
+    _fields_ = [("kind", c_uint32), ("numbers", c_uint64 * 3)]
+
+
 class Reason(Structure):
     _fields_ = [
         ("fault", c_uint32),
@@ -132,6 +136,7 @@ class Reason(Structure):
         ("least", c_uint64),
         ("most", c_uint64),
         ("step", c_uint64),
+        ("hint", Hint),
     ]
 
 

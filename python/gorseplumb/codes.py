@@ -256,6 +256,45 @@ class Obstacle(Named):
     IN_TRANSACTION = 4
 
 
+class HintKind(Named):
+    """What a hint says: the page is in a buffer, or which right, which endpoint or which number is there. The last ones, from
+    BUFFERS_MISSING on, say which of two causes a check has."""
+
+    TX_PAGE = 1
+    RX_PAGE = 2
+    OWN_RIGHT = 3
+    GRANTED = 4
+    ACCESS = 5
+    CALLER = 6
+    SENDER = 7
+    TAG = 8
+    KIND = 9
+    RIGHT = 10
+    HELD = 11
+    ROOM = 12
+    VALUE = 13
+    FORM = 14
+    WORD = 15
+    MESSAGE = 16
+    OUTSIDE = 17
+    HOLDER = 18
+    RUN = 19
+    REQUEST = 20
+    PENDING = 21
+    BUFFERS_MISSING = 22
+    RX_NOT_FULL = 23
+    BIT_PENDING = 24
+    BIT_TAKEN = 25
+    BIT_UNBOUND = 26
+    HANDLE_UNKNOWN = 27
+    NOT_RECEIVER = 28
+    NOT_LENT = 29
+    BITMAPS_UNCREATED = 30
+    NOTIFICATIONS_UNRECEIVED = 31
+    SECURE_TO_NORMAL = 32
+    PAGES_OF_BOTH_WORLDS = 33
+
+
 class Answer(Named):
     """What the library's boots and lists answer, but for the causes of a manifest."""
 

@@ -14,6 +14,7 @@ from .codes import BLOCK_SIZE, MANAGER, PAGE_SIZE, PAGES_OF_BLOCK
 from .codes import About, Answer, ErrorCode, Fault, GrantKind, Obstacle, Right, RunState
 from .errors import MachineEnded, NoSuchEndpoint, NoSuchPage, NoSuchProcessor, OutOfMemory
 from .hexadecimal import by_fields
+from .hints import hint_of_raw
 from .misuse import check_number, refuse
 from .outcomes import KINDS, Call, Fetch, Load, Operation, Store
 from .reasons import Hindrance, Reason, Subject
@@ -226,6 +227,7 @@ class Questions:
             ErrorCode(raw.error) if raw.error else None,
             self._subject(raw),
             _hindrance(raw),
+            hint_of_raw(raw.hint),
         )
 
     def _subject(self, raw: c.Reason) -> Subject:

@@ -5,9 +5,11 @@ from __future__ import annotations
 from dataclasses import dataclass, field
 
 from .checks import Check, Flaw
-from .codes import MANAGER, PAGE_SIZE, About, ErrorCode, Fault, Function, Obstacle, RunState
+from .closer import closer_text
+from .codes import MANAGER, About, ErrorCode, Fault, Function, Obstacle, RunState
 from .errors import call_name, flaw_text
 from .hexadecimal import DECIMAL, address_text, by_fields, short_text
+from .hints import Hint
 from .outcomes import Call, Fetch, Load, Operation, Store
 from .registers import is_read_whole
 
@@ -60,8 +62,7 @@ class Subject:
 
 @dataclass(frozen=True, slots=True)
 class Reason:
-    """Why an operation is refused. `str` is the line that the program prints with `--explain`, without the hints that the
-    library does not give."""
+    """Why an operation is refused. `str` is the line that the program prints with `--explain`."""
 
     operation: Operation
     fault: Fault | None
@@ -71,6 +72,8 @@ class Reason:
     code: ErrorCode | None
     subject: Subject
     hindrance: Hindrance
+    hint: Hint | None = None
+    """What to change, if that is known"""
 
     __repr__ = by_fields
 
@@ -83,16 +86,18 @@ class Reason:
     @property
     def words(self) -> str:
         """The text of `str` without the name of the call, or without the address, at its start."""
+        hint = str(self.hint) if self.hint is not None else ""
         if isinstance(self.operation, Call):
-            return _call_words(self.operation, self)
-        return _access_words(self.operation, self)
+            return _call_words(self.operation, self) + hint
+        return _access_words(self.operation, self) + hint
 
 
 def _call_words(call: Call, reason: Reason) -> str:
     number = f"check {reason.check_number}: " if reason.check_number else ""
     words = reason.check.words if reason.check is not None else ""
     told = _subject_text(call, reason)
-    return f"{number}{words}" + (f": {told}" if told else "")
+    closer = closer_text(call, reason.check, reason.subject)
+    return f"{number}{words}" + (f": {told}" if told else "") + closer + _detail_text(reason.subject)
 
 
 def _subject_text(call: Call, reason: Reason) -> str:
@@ -100,16 +105,21 @@ def _subject_text(call: Call, reason: Reason) -> str:
     if it.about is About.PAGE:
         return f"{address_text(it.address)} {reason.hindrance}".rstrip()
     if it.about is About.ENDPOINT:
-        return f"endpoint {it.endpoint:04X}{_state_text(it)}"
+        return f"endpoint {it.endpoint:04X}"
     if it.about is About.HANDLE:
         return f"handle {it.handle:016X}"
     if it.about is About.REGISTER:
         letter = "x" if is_read_whole(call.x[0], it.number) else "w"
-        told = f"{letter}{it.number} is {address_text(it.value or 0)}"
-        return told + _misplaced_text(reason.check, it.value or 0) + _allowed_text(it.allowed, 8)
+        return f"{letter}{it.number} is {address_text(it.value or 0)}"
     if it.about is About.BIT:
         return f"bit {short_text(it.number)}"
     return _field_text(it) if it.about is About.FIELD else ""
+
+
+def _detail_text(it: Subject) -> str:
+    """The run state of the endpoint, or the numbers that may be in the register or the field."""
+    digits = 2 * min(it.size, 8) if it.about is About.FIELD else 8
+    return _state_text(it) + _allowed_text(it.allowed, digits)
 
 
 def _state_text(it: Subject) -> str:
@@ -123,12 +133,6 @@ def _state_text(it: Subject) -> str:
         RunState.RUNS_ELSEWHERE: ", which is running on another processor",
     }[it.state]
     return words + (f" by its direct request to {it.awaits:04X}" if it.awaits else "")
-
-
-def _misplaced_text(check: Check | None, value: int) -> str:
-    if check not in (Check.TX_MISPLACED, Check.RX_MISPLACED):
-        return ""
-    return ", which is not page-aligned" if value % PAGE_SIZE else ", and the buffer is not entirely in RAM"
 
 
 def _allowed_text(allowed: range | None, digits: int) -> str:
@@ -154,7 +158,7 @@ def _field_text(it: Subject) -> str:
     else:
         place, verb = f"bytes {short_text(it.first)} to {short_text(it.first + size - 1)}", "are"
     value = f" {verb} {number:0{2 * size}X}" if number is not None else ""
-    return f"{words}: {place}{value}{_allowed_text(it.allowed, 2 * size)}"
+    return f"{words}: {place}{value}"
 
 
 def _access_words(operation: Load | Store | Fetch, reason: Reason) -> str:

@@ -28,6 +28,7 @@ STRUCTS: dict[str, type[ctypes.Structure]] = {
     "change": c.Change,
     "grant": c.Grant,
     "cert_run": c.CertRun,
+    "hint": c.Hint,
     "reason": c.Reason,
 }
 PACKED = {"outcome": c.OUTCOME, "operation": c.OPERATION}

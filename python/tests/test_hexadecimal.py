@@ -14,8 +14,8 @@ from conftest import BUILT_IN
 
 import gorseplumb
 from gorseplumb import About, Call, Cell, Change, Check, Data, DataAccess, Done, Fault, Faulted, Fetch, Function
-from gorseplumb import Grant, GrantKind, Hindrance, IndirectMessage, InstructionAccess, Kind, Load, Machine, Manifest
-from gorseplumb import NamedRegisters, Obstacle, Offer, PageRange, PartitionInfo, Properties, Reason, Receiver, Region
+from gorseplumb import Grant, GrantKind, Hindrance, Hint, HintKind, IndirectMessage, InstructionAccess, Kind, Load, Machine
+from gorseplumb import Manifest, NamedRegisters, Obstacle, Offer, PageRange, PartitionInfo, Properties, Reason, Receiver, Region
 from gorseplumb import Registers, Relinquish, Retrieve, RetrieveResponse, Right, Run, Store, Subject, decode
 from gorseplumb.hexadecimal import shown
 
@@ -54,6 +54,11 @@ RANGES = (PageRange(0x40028000, 16),)
         (
             IndirectMessage(0x8001, 0x8002, b"\xff"),
             "IndirectMessage(sender=0x8001, receiver=0x8002, payload=b'\\xff', offset=0x14)",
+        ),
+        (
+            Hint(HintKind.KIND, found=Kind.SHARE, wanted=Kind.LEND),
+            "Hint(kind=HintKind.KIND, endpoint=0, right=Right.NONE, most=Right.NONE, found=Kind.SHARE, wanted=Kind.LEND, "
+            "value=0, form=None, offset=0, size=0, room=0, address=0, bit=0)",
         ),
         (
             Hindrance(Obstacle.OWNED_BY, 0x8001),

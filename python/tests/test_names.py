@@ -11,7 +11,8 @@ from enum import IntEnum
 from conftest import TOP
 
 import gorseplumb
-from gorseplumb import About, Cause, Check, ErrorCode, Fault, Flaw, Form, Function, GrantKind, Obstacle, Right, RunState
+from gorseplumb import About, Cause, Check, ErrorCode, Fault, Flaw, Form, Function, GrantKind, HintKind, Obstacle, Right
+from gorseplumb import RunState
 from gorseplumb import _library as c
 from gorseplumb._library import library
 from gorseplumb.codes import Answer
@@ -57,6 +58,7 @@ def test_words_of_faults_rights_and_versions_are_those_of_the_manual() -> None:
 def test_numbers_are_those_of_the_header() -> None:
     told = {name: int(number) for name, number in re.findall(r"GORSEPLUMB_(\w+) = (\d+)", HEADER)}
     assert {it.name: told[it.name] for it in Answer} == {it.name: int(it) for it in Answer}
+    assert told.pop("HINT_NONE") == 0  # for which Reason.hint is None
     groups: dict[str, type[IntEnum]] = {
         "MANIFEST_": Cause,
         "FAULT_": Fault,
@@ -64,6 +66,7 @@ def test_numbers_are_those_of_the_header() -> None:
         "STATE_": RunState,
         "OBSTACLE_": Obstacle,
         "GRANT_": GrantKind,
+        "HINT_": HintKind,
     }
     for start, members in groups.items():
         of_header = {name: number for name, number in told.items() if name.startswith(start)}

@@ -49,7 +49,8 @@ def test_does_operations_and_calls_by_name(session: Session) -> None:
     hyphenated = known.replace("00112233445566778899aabbccddeeff", "00112233-4455-6677-8899-AABBCCDDEEFF")
     for line in (seen, hyphenated):
         assert session.line(f"why {line}") == ["it would be done"]
-    assert session.line(seen.replace("uuid=00", "uuid=ff"))[2] == "# refused: FFA_PARTITION_INFO_GET check 1: no partition has the UUID"
+    unknown = "# refused: FFA_PARTITION_INFO_GET check 1: no partition has the UUID: w1 to w4 hold ff112233445566778899aabbccddeeff"
+    assert session.line(seen.replace("uuid=00", "uuid=ff"))[2] == unknown
     assert session.line("FFA_FEATURES feature=FFA_RXTX_MAP") == session.line("call 84000064 84000066")
     assert session.line("help FFA_RXTX_MAP_64") == ["FFA_RXTX_MAP_64 tx=.. rx=.. pages=.."]
     assert session.line("") == session.line("# a comment") == []

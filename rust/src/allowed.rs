@@ -47,7 +47,7 @@ impl Allowed {
     /// Writes the allowed numbers as the program does, after what a check is about.
     pub(crate) fn put(&self, to: &mut fmt::Formatter<'_>, about: Option<About>) -> fmt::Result {
         let digits = match about {
-            Some(About::Field { size, .. }) => 2 * size as usize,
+            Some(About::Field { size, .. }) => 2 * size.min(8) as usize,
             _ => 8,
         };
         let Allowed { least, most, step } = self;

@@ -3,12 +3,11 @@
 use crate::refusal::Refusal;
 use core::fmt;
 
-/// An enum whose variants have the library's numbers, each with its words.
+/// An enum whose variants have the library's numbers, each with its words. It has no `repr`: so errors stay small.
 macro_rules! codes {
     ($(#[$about:meta])* pub enum $name:ident: $number:ty { $($code:literal $variant:ident $words:literal,)* }) => {
         $(#[$about])*
         #[derive(Clone, Copy, Debug, PartialEq, Eq, Hash)]
-        #[repr($number)]
         pub enum $name {
             $(#[doc = $words] $variant = $code,)*
         }

@@ -34,7 +34,7 @@ pub enum Kind {
 }
 
 impl Kind {
-    const fn of(number: u32) -> Option<Kind> {
+    pub(crate) const fn of(number: u32) -> Option<Kind> {
         match number {
             1 => Some(Kind::Share),
             2 => Some(Kind::Lend),

@@ -54,7 +54,7 @@ impl<R: Ram> Machine<R> {
     /// assert_eq!(
     ///     error.to_string(),
     ///     "FFA_MEM_RECLAIM is refused: INVALID_PARAMETERS: check 2: no open transaction from the caller has the handle: \
-    ///      handle 0000000000000001",
+    ///      handle 0000000000000001, which no open transaction has",
     /// );
     /// # Ok::<(), BootError>(())
     /// ```
@@ -107,5 +107,5 @@ impl<R: Ram> Machine<R> {
 
 /// What a machine says of a fault just behind it.
 fn told(address: u64, fault: Fault, reason: Option<AccessReason>) -> AccessReason {
-    reason.unwrap_or(AccessReason { address, fault, obstacle: None })
+    reason.unwrap_or(AccessReason { address, fault, obstacle: None, hint: None })
 }

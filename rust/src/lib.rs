@@ -131,6 +131,7 @@ mod functions;
 #[cfg(feature = "heap")]
 mod heap;
 mod hexadecimal;
+mod hints;
 mod layout;
 mod lists;
 mod machine;
@@ -157,6 +158,7 @@ pub use descriptors::{
 };
 pub use explaining::CallError;
 pub use functions::Function;
+pub use hints::{CheckCause, Hint, Part, Side};
 pub use layout::DescriptorBytes;
 pub use lists::{Operation, Outcome, Told};
 pub use machine::{Change, Description, Machine, Range};

@@ -8,7 +8,7 @@
 use core::ffi::c_void;
 
 /// The number of the declarations that stand here.
-pub const DECLARATIONS: u32 = 9;
+pub const DECLARATIONS: u32 = 10;
 
 /// What a question answers where there is nothing to tell.
 pub const NOTHING: u32 = u32::MAX;
@@ -200,6 +200,37 @@ pub const OBSTACLE_MANAGERS_PAGE: u32 = 2;
 pub const OBSTACLE_OWNED_BY: u32 = 3;
 pub const OBSTACLE_IN_TRANSACTION: u32 = 4;
 
+pub const HINT_NONE: u32 = 0;
+pub const HINT_TX_PAGE: u32 = 1;
+pub const HINT_RX_PAGE: u32 = 2;
+pub const HINT_OWN_RIGHT: u32 = 3;
+pub const HINT_GRANTED: u32 = 4;
+pub const HINT_ACCESS: u32 = 5;
+pub const HINT_CALLER: u32 = 6;
+pub const HINT_SENDER: u32 = 7;
+pub const HINT_TAG: u32 = 8;
+pub const HINT_KIND: u32 = 9;
+pub const HINT_RIGHT: u32 = 10;
+pub const HINT_HELD: u32 = 11;
+pub const HINT_ROOM: u32 = 12;
+pub const HINT_VALUE: u32 = 13;
+pub const HINT_FORM: u32 = 14;
+pub const HINT_WORD: u32 = 15;
+pub const HINT_MESSAGE: u32 = 16;
+pub const HINT_OUTSIDE: u32 = 17;
+pub const HINT_HOLDER: u32 = 18;
+pub const HINT_RUN: u32 = 19;
+pub const HINT_REQUEST: u32 = 20;
+pub const HINT_PENDING: u32 = 21;
+pub const HINT_BUFFERS_MISSING: u32 = 22;
+
+#[derive(Clone, Copy, Debug, Default, PartialEq, Eq)]
+#[repr(C)]
+pub struct Hint {
+    pub kind: u32,
+    pub numbers: [u64; 3],
+}
+
 #[derive(Clone, Copy, Debug, Default, PartialEq, Eq)]
 #[repr(C)]
 pub struct Reason {
@@ -225,6 +256,7 @@ pub struct Reason {
     pub least: u64,
     pub most: u64,
     pub step: u64,
+    pub hint: Hint,
 }
 
 #[derive(Clone, Copy, Debug, PartialEq, Eq)]

@@ -4,6 +4,7 @@ use crate::allowed::Allowed;
 use crate::checks::{Check, Flaw};
 use crate::codes::{ErrorCode, Fault};
 use crate::hexadecimal::{shown, Hexadecimal, Long, Short};
+use crate::hints::Hint;
 use crate::machine::{of, Machine};
 use crate::named::is_read_whole;
 use crate::operation::{known, Registers, Size};
@@ -26,6 +27,8 @@ pub struct CallReason {
     pub state: Option<RunState>,
     /// The numbers that the register or the field may have instead, if they are known.
     pub allowed: Option<Allowed>,
+    /// What to change, if that is known.
+    pub hint: Option<Hint>,
 }
 
 /// The run state of an endpoint (DEN0077A, 8.2).
@@ -57,6 +60,8 @@ pub struct AccessReason {
     pub fault: Fault,
     /// Why the tables do not map the address, for a translation fault. None there: the address has more than 32 bits.
     pub obstacle: Option<Obstacle>,
+    /// The right that the runner has at the address, for a permission fault.
+    pub hint: Option<Hint>,
 }
 
 /// The subject of a check that fails.
@@ -114,7 +119,7 @@ pub enum Obstacle {
     InTransaction(Handle),
 }
 
-shown! { AccessReason { address: hexadecimal, fault, obstacle } }
+shown! { AccessReason { address: hexadecimal, fault, obstacle, hint } }
 
 impl fmt::Debug for Obstacle {
     fn fmt(&self, to: &mut fmt::Formatter<'_>) -> fmt::Result {
@@ -203,7 +208,13 @@ impl fmt::Display for About {
                     write!(to, "{element} {}: ", Short(index.into()))?;
                 }
                 write!(to, "{flaw}: ")?;
-                put_bytes(to, first, size, value)
+                match flaw {
+                    // Only their number is printed: the first four bytes.
+                    Flaw::HeaderArrayOutside => {
+                        put_bytes(to, first, size.min(4), value.map(|value| value & 0xFFFF_FFFF))
+                    }
+                    _ => put_bytes(to, first, size, value),
+                }
             }
         }
     }
@@ -232,18 +243,21 @@ fn put_bytes(to: &mut fmt::Formatter<'_>, first: u64, size: u64, value: Option<u
     value.map_or(Ok(()), |value| write!(to, " {verb} {value:0digits$X}"))
 }
 
-/// The number and the words of the check, its subject, and the run state or the allowed numbers.
+/// The line of the program behind the name of the call: the number and the words of the check, its subject, and the hint,
+/// the run state or the allowed numbers.
 impl fmt::Display for CallReason {
     fn fmt(&self, to: &mut fmt::Formatter<'_>) -> fmt::Result {
         self.number.map_or(Ok(()), |number| write!(to, "check {number}: "))?;
         self.check.fmt(to)?;
         self.about.map_or(Ok(()), |about| write!(to, ": {about}"))?;
+        self.put_misplaced(to)?;
+        self.hint.map_or(Ok(()), |hint| hint.fmt(to))?;
         self.state.map_or(Ok(()), |state| write!(to, ", which {state}"))?;
         self.allowed.map_or(Ok(()), |allowed| allowed.put(to, self.about))
     }
 }
 
-/// The fault, the address, and why the tables do not map the address.
+/// The fault, the address, and why the tables do not map the address, or the hint.
 impl fmt::Display for AccessReason {
     fn fmt(&self, to: &mut fmt::Formatter<'_>) -> fmt::Result {
         write!(to, "{} at {}", self.fault, Long(self.address))?;
@@ -251,7 +265,8 @@ impl fmt::Display for AccessReason {
             (_, Some(obstacle)) => write!(to, ": the page {obstacle}"),
             (Fault::Translation, None) => to.write_str(": the address has more than 32 bits"),
             _ => Ok(()),
-        }
+        }?;
+        self.hint.map_or(Ok(()), |hint| hint.fmt(to))
     }
 }
 
@@ -270,23 +285,39 @@ impl std::error::Error for AccessReason {
 }
 
 impl CallReason {
-    /// The reason of a call of this function, on a machine whose RAM begins at this address.
-    fn of(told: &raw::Reason, function: u32, ram: u32) -> CallReason {
-        let check: Check = known(Check::of(told.check));
+    /// The reason of a call with these registers, on a machine whose RAM begins at this address.
+    fn of(told: &raw::Reason, registers: &Registers, ram: u32) -> CallReason {
+        let (check, function): (Check, u32) = (known(Check::of(told.check)), registers[0] as u32);
+        let about = About::of(told, function, ram);
         CallReason {
             check,
             number: check.number_in(function),
             error: known(ErrorCode::of(told.error)),
-            about: About::of(told, function, ram),
+            about,
             state: RunState::of(told),
             allowed: Allowed::of(told),
+            hint: Hint::of(told).or_else(|| Hint::of_registers(check, about, registers)),
+        }
+    }
+
+    /// Writes why no buffer can begin at the address in a register, if the check says that.
+    fn put_misplaced(&self, to: &mut fmt::Formatter<'_>) -> fmt::Result {
+        match (self.check, self.about) {
+            (Check::TxMisplaced | Check::RxMisplaced, Some(About::Register { value, .. })) => {
+                let is_aligned = value % PAGE_SIZE as u64 == 0;
+                let why =
+                    if is_aligned { "and the buffer is not entirely in RAM" } else { "which is not page-aligned" };
+                write!(to, ", {why}")
+            }
+            _ => Ok(()),
         }
     }
 }
 
 impl AccessReason {
     fn of(address: u64, told: &raw::Reason) -> AccessReason {
-        AccessReason { address, fault: known(Fault::of(told.fault)), obstacle: Obstacle::of(told) }
+        let (fault, obstacle, hint) = (known(Fault::of(told.fault)), Obstacle::of(told), Hint::of(told));
+        AccessReason { address, fault, obstacle, hint }
     }
 }
 
@@ -359,7 +390,7 @@ impl<R: Ram> Machine<R> {
     pub fn why_call(&self, registers: &Registers) -> Option<CallReason> {
         let mut told = raw::Reason::default();
         unsafe { raw::gorseplumb_why_call(self.asked(), of(registers), &mut told) }
-            .then(|| CallReason::of(&told, registers[0] as u32, self.ram_base()))
+            .then(|| CallReason::of(&told, registers, self.ram_base()))
     }
 
     /// Returns why this load of the runner would be refused now, or was refused just before. None: it would be done.

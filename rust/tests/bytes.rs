@@ -48,7 +48,7 @@ fn refused(machine: &mut Machine, address: u64, count: usize) -> [AccessReason; 
 fn all_or_nothing() {
     let mut machine = Machine::boot(&MACHINE).unwrap();
     let taken = Some(Obstacle::OwnedBy(Id(0x8001)));
-    let reason = AccessReason { address: BEHIND, fault: Fault::Translation, obstacle: taken };
+    let reason = AccessReason { address: BEHIND, fault: Fault::Translation, obstacle: taken, hint: None };
     assert_eq!(refused(&mut machine, BEHIND - 5000, 5001), [reason; 2]);
     assert_eq!(reason.to_string(), "translation fault at 40020000: the page belongs to 8001");
     let mut bytes = vec![1; 5000];
@@ -66,7 +66,7 @@ fn where_there_is_nothing() {
         machine.load_bytes(address, &mut []).unwrap();
     }
     for address in [0x1_0000_0000, u64::MAX - 1, u64::MAX] {
-        let reason = AccessReason { address, fault: Fault::Translation, obstacle: None };
+        let reason = AccessReason { address, fault: Fault::Translation, obstacle: None, hint: None };
         assert_eq!(refused(&mut machine, address, 9000), [reason; 2]);
     }
     let [stored, _] = refused(&mut machine, 0x1_0000_0000, 1);
@@ -78,7 +78,7 @@ fn what_may_only_be_read() {
     let mut machine = Machine::boot(&PARTITIONS).unwrap();
     machine.call(&registers([0x8400_006D, 0x8001_0000])).done().unwrap();
     let stored = machine.store_bytes(0x4002_0001, &[1, 2, 3]).unwrap_err();
-    assert_eq!(stored.to_string(), "permission fault at 40020001");
+    assert_eq!(stored.to_string(), "permission fault at 40020001: 8001 has r-x");
     let mut bytes = [7; 3];
     machine.load_bytes(0x4002_0001, &mut bytes).unwrap();
     assert_eq!(bytes, [0; 3]);

@@ -2,7 +2,7 @@
 //! What a machine's tables give, and whether runs say it.
 mod common;
 
-use common::explained::{briefly, explain};
+use common::explained::explain;
 use common::machines::{MACHINE, PARTITIONS};
 use common::{example, play, ram, run, top, RAM};
 use gorseplumb::{AuditError, Grant, Handle, Id, Lent, Machine, PageRun, Rights};
@@ -33,7 +33,7 @@ fn certificates_are_what_the_program_prints() {
         let expected = run(&["run", "--processors", "1", "--explain", file.to_str().unwrap(), path.to_str().unwrap()]);
         fs::remove_file(&path).unwrap();
         let told = explain(&mut Machine::boot(&PARTITIONS).unwrap(), &trace);
-        assert!(briefly(&told) == briefly(&expected), "{name}");
+        assert!(told == expected, "{name}");
     }
 }
 

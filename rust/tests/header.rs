@@ -63,9 +63,9 @@ fn questions() -> Vec<(String, i64)> {
     let mut rows = fields!(Grant, "grant", kind handle);
     rows.extend(fields!(CertRun, "cert_run", first last owner has_handle handle access));
     rows.extend(fields!(Reason, "reason", fault check error about obstacle page endpoint owner number flaw));
-    rows.extend(
-        fields!(Reason, "reason", index has_value state awaits handle transaction value first size least most step),
-    );
+    rows.extend(fields!(Reason, "reason", index has_value state awaits handle transaction value first size));
+    rows.extend(fields!(Reason, "reason", least most step hint));
+    rows.extend(fields!(Hint, "hint", kind numbers));
     rows.extend(fields!(Operation, "operation", kind size address value x));
     rows.extend(numbers!(NOT_CERTIFIED LENT BAD_BASE BAD_ROOTS DECLARATIONS));
     rows.extend(numbers!(GRANT_NONE GRANT_OWN GRANT_SHARED GRANT_HELD));
@@ -74,12 +74,17 @@ fn questions() -> Vec<(String, i64)> {
     rows.extend(numbers!(STATE_RUNS_ELSEWHERE OBSTACLE_NONE OBSTACLE_OUTSIDE_RAM OBSTACLE_MANAGERS_PAGE));
     rows.extend(numbers!(OBSTACLE_OWNED_BY OBSTACLE_IN_TRANSACTION));
     rows.extend(numbers!(OPERATION_CALL OPERATION_LOAD OPERATION_STORE OPERATION_FETCH));
+    rows.extend(numbers!(HINT_NONE HINT_TX_PAGE HINT_RX_PAGE HINT_OWN_RIGHT HINT_GRANTED HINT_ACCESS HINT_CALLER));
+    rows.extend(numbers!(HINT_SENDER HINT_TAG HINT_KIND HINT_RIGHT HINT_HELD HINT_ROOM HINT_VALUE HINT_FORM HINT_WORD));
+    rows.extend(numbers!(HINT_MESSAGE HINT_OUTSIDE HINT_HOLDER HINT_RUN HINT_REQUEST HINT_PENDING));
+    rows.extend(numbers!(HINT_BUFFERS_MISSING));
     let name = |prefix: &str, variant: &str| {
         variant.chars().fold(format!("GORSEPLUMB_{prefix}"), |name, letter| {
             name + if letter.is_uppercase() { "_" } else { "" } + &letter.to_uppercase().to_string()
         })
     };
     rows.extend(gorseplumb::Check::ALL.iter().map(|it| (name("CHECK", &format!("{it:?}")), it.number().into())));
+    rows.extend(gorseplumb::CheckCause::ALL.iter().map(|it| (name("HINT", &format!("{it:?}")), it.number().into())));
     rows.extend(gorseplumb::Flaw::ALL.iter().map(|it| (name("FLAW", &format!("{it:?}")), it.number().into())));
     rows
 }

@@ -2,23 +2,23 @@
 //! Why operations are refused: the manual's reasons, and the check of each call that fails. By what pages are reached.
 mod common;
 
-use common::explained::{briefly, explain};
+use common::explained::explain;
 use common::machines::{MACHINE, PARTITIONS};
 use common::refusals::{rows, Row};
 use common::{example, generated, play, play_line, ram, refusals, top};
 use gorseplumb::{
-    call_name, raw, registers, About, Allowed, CallError, Check, ErrorCode, Fault, Flaw, Function, Grant, Handle, Id,
-    Machine, Obstacle, RunState, Size,
+    call_name, raw, registers, About, Allowed, CallError, Check, CheckCause, ErrorCode, Fault, Flaw, Function, Grant,
+    Handle, Hint, Id, Machine, Obstacle, Rights, RunState, Side, Size, Version,
 };
 use std::ffi::CStr;
 
 #[test]
 fn the_manuals_reasons() {
-    let expected = briefly(&example("refused.out"));
+    let expected = example("refused.out");
     let trace = example("refused.trace");
     let mut pages = ram(2);
-    assert_eq!(briefly(&explain(&mut Machine::boot(&PARTITIONS).unwrap(), &trace)), expected);
-    assert_eq!(briefly(&explain(&mut Machine::boot_lent(&PARTITIONS, &mut pages).unwrap(), &trace)), expected);
+    assert_eq!(explain(&mut Machine::boot(&PARTITIONS).unwrap(), &trace), expected);
+    assert_eq!(explain(&mut Machine::boot_lent(&PARTITIONS, &mut pages).unwrap(), &trace), expected);
 }
 
 /// 100,000 operations, with what the program says of each that is refused.
@@ -30,7 +30,7 @@ fn generated_operations_are_refused_by_what_the_program_says() {
         let (trace, expected) = generated(file.to_str().unwrap(), seed, &["--explain"]);
         let refused = expected.lines().filter(|line| line.starts_with("# refused: ")).count();
         println!("{machine}: {refused} are refused");
-        let (told, expected) = (briefly(&explain(&mut Machine::boot(manifest).unwrap(), &trace)), briefly(&expected));
+        let told = explain(&mut Machine::boot(manifest).unwrap(), &trace);
         let differs = told.lines().zip(expected.lines()).find(|(told, expected)| told != expected);
         assert!(told == expected, "{machine}: {differs:?}");
     }
@@ -101,29 +101,40 @@ fn what_checks_are_about() {
     assert_eq!(about("", "call 8400006B"), None);
 }
 
-/// Reasons in words, as docs/COMMANDS.md has them, up to what is to be mended.
+/// Reasons in words, as docs/COMMANDS.md has them.
 #[test]
 fn reasons_are_told_as_the_program_tells_them() {
     let machine = machine_after(&[DESCRIBED]);
     let told = |line: &str| machine.why_call(&given(line)).unwrap().to_string();
     let unmapped = Machine::boot(&MACHINE).unwrap();
     let said = |line: &str| unmapped.why_call(&given(line)).unwrap().to_string();
-    let count = "check 2: a buffer has no pages, or too many: w3 is 00000005";
-    assert!(said("call 84000066 4001E000 4001F000 5").starts_with(count));
-    let wide = "check 3: TX is not page-aligned, or not entirely in RAM: x1 is 000000014001E000";
-    assert!(said("call C4000066 14001E000 4001F000 1").starts_with(wide));
+    let count = "check 2: a buffer has no pages, or too many: w3 is 00000005, and must be 00000001 to 00000004";
+    assert_eq!(said("call 84000066 4001E000 4001F000 5"), count);
+    let wide = "check 3: TX is not page-aligned, or not entirely in RAM: x1 is 000000014001E000, \
+                and the buffer is not entirely in RAM: 000000014001E000 is above FFFFFFFF";
+    assert_eq!(said("call C4000066 14001E000 4001F000 1"), wide);
     let taken = "check 6: a page of TX does not belong to the caller, is not writable, or is in an open transaction: \
                  40020000 belongs to 8001";
     assert_eq!(said("call 84000066 40020000 4001F000 1"), taken);
     assert_eq!(told("call 84000081 8001 0 1000"), "check 6: one of the bits is not bound to the caller: bit 0C");
+    assert_eq!(
+        told("call C4000085"),
+        "check 1: the function is not supported: w0 is C4000085, and FFA_SPM_ID_GET has no 64-bit form"
+    );
+    let uuid = "check 1: no partition has the UUID: w1 to w4 hold 01000000020000000300000004000000";
+    assert_eq!(told("call 84000068 1 2 3 4"), uuid);
+    let short =
+        "check 6: the bytes in TX are not a descriptor of this call: the descriptor is shorter than its header: \
+                 bytes 00 to 2F (the header ends at 30, but the descriptor has 2F bytes)";
+    assert_eq!(told("call 84000072 2F 2F"), short);
     let mut empty = machine_after(&[DESCRIBED, "store 40010058 0000000000000000"]);
     let range = "check 6: the bytes in TX are not a descriptor of this call: range 00: the range has no pages: \
                  bytes 58 to 5B are 00000000";
-    assert!(empty.why_call(&given("call 84000072 60 60")).unwrap().to_string().starts_with(range));
+    assert_eq!(empty.why_call(&given("call 84000072 60 60")).unwrap().to_string(), range);
     play(&mut empty, "store 40010032 FF");
     let access = "check 6: the bytes in TX are not a descriptor of this call: access descriptor 00: \
-                  this call does not allow these permissions: byte 32 is FF";
-    assert!(empty.why_call(&given("call 84000072 60 60")).unwrap().to_string().starts_with(access));
+                  this call does not allow these permissions: byte 32 is FF, and must be 01 to 02";
+    assert_eq!(empty.why_call(&given("call 84000072 60 60")).unwrap().to_string(), access);
 }
 
 /// Which numbers may be in the register or the field that a check is about (docs/CALLS.md and docs/MEMORY.md).
@@ -159,6 +170,28 @@ fn numbers_that_may_be() {
     ends(&words, ", and must be 00000040 to 00000060 in steps of 00000010");
 }
 
+/// What to change.
+#[test]
+fn hints() {
+    let mut machine = Machine::boot(&MACHINE).unwrap();
+    let mut hint = |before: &str, line: &str| {
+        play(&mut machine, before);
+        machine.why_call(&given(line)).unwrap().hint
+    };
+    assert_eq!(hint("", "call 84000066 4001E000 4001F000 5"), None);
+    assert_eq!(hint("", "call 84000065"), Some(Hint::Cause(CheckCause::BuffersMissing)));
+    let outside = Some(Hint::Outside(0x4020_0000));
+    assert_eq!(hint("", "call 84000066 4001E000 40200000 1"), outside);
+    assert_eq!(hint("", "call 84000077 1 8001"), Some(Hint::Cause(CheckCause::HandleUnknown)));
+    assert_eq!(hint("", "call 8400006F 80018002"), Some(Hint::Caller(Id(0))));
+    assert_eq!(hint(DESCRIBED, "call 84000072 2000 2000"), Some(Hint::Room(0x1000)));
+    let buffer = Hint::Buffer { endpoint: Id(0), side: Side::Rx };
+    assert_eq!(hint("store 40010050 0000000040011000\n", "call 84000072 60 60"), Some(buffer));
+    let form = Hint::Form { caller: Id(0), form: Version::V1_1 };
+    assert_eq!(hint("store 40010018 00000000\n", "call 84000072 60 60"), Some(form));
+    assert_eq!(hint("call 8400006D 80010000\n", "call 84000070 80010000"), Some(Hint::Run));
+}
+
 /// What an endpoint does that is to wait.
 #[test]
 fn run_states() {
@@ -190,7 +223,9 @@ fn why_accesses_fault() {
     assert_eq!(told(machine.why_fetch(0x4001_0000)), Some((Fault::Permission, None)));
     assert_eq!(told(machine.why_fetch(0x4001_0002)), Some((Fault::Alignment, None)));
     machine.call(&registers([0x8400_006D, 0x8001_0000])).done().unwrap();
-    assert_eq!(told(machine.why_store(0x4002_0000, Size::B1)), Some((Fault::Permission, None)));
+    let stored = machine.why_store(0x4002_0000, Size::B1);
+    assert_eq!(told(stored), Some((Fault::Permission, None)));
+    assert_eq!(stored.unwrap().hint, Some(Hint::Access { endpoint: Id(0x8001), right: Rights::Rox }));
     let reason = machine.why_load(0x4020_0000, Size::B1).unwrap();
     assert_eq!(reason.address, 0x4020_0000);
     assert_eq!(reason.to_string(), "translation fault at 40200000: the page belongs to 8002");
@@ -332,7 +367,8 @@ fn operations_that_say_why() {
     let check = "check 1: the function is not supported: w0 is 8400008F";
     assert_eq!(words(&refused), format!("call 8400008F is refused: NOT_SUPPORTED: {check}"));
     let refused = machine.call_or_why(&Function::MemReclaim.with([1, 0x8001])).unwrap_err();
-    let check = "check 2: no open transaction from the caller has the handle: handle 0000800100000001";
+    let check = "check 2: no open transaction from the caller has the handle: handle 0000800100000001, \
+                 which no open transaction has";
     assert_eq!(words(&refused), format!("FFA_MEM_RECLAIM is refused: INVALID_PARAMETERS: {check}"));
     let answer = machine.call_or_why(&Function::Run.with([0x8001_0000])).unwrap();
     assert_eq!(answer.runner(), Id(0x8001));

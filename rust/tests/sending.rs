@@ -260,7 +260,7 @@ fn errors_have_sources() {
     assert_eq!(why.to_string(), "range 3: the range has no pages");
     assert_eq!(SendError::from(why).source().unwrap().to_string(), why.to_string());
     assert_eq!(why.source().unwrap().to_string(), "the range has no pages");
-    let reason = AccessReason { address: 0, fault: Fault::Translation, obstacle: None };
+    let reason = AccessReason { address: 0, fault: Fault::Translation, obstacle: None, hint: None };
     assert_eq!(SendError::from(reason).source().unwrap().to_string(), reason.to_string());
     let refused = CallError { function: Function::MemLend.number(), error: ErrorCode::Busy, reason: None };
     assert_eq!(SendError::from(refused).source().unwrap().to_string(), "FFA_MEM_LEND is refused: BUSY");

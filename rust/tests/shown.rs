@@ -5,7 +5,8 @@ mod common;
 use common::machines::MACHINE;
 use common::play;
 use gorseplumb::{
-    registers, About, Check, ErrorCode, Flaw, Grant, Handle, Id, Machine, Obstacle, Operation, Outcome, Range,
+    registers, About, Check, CheckCause, ErrorCode, Flaw, Function, Grant, Handle, Hint, Id, Machine, Obstacle,
+    Operation, Outcome, Part, Range, Side,
 };
 use gorseplumb::{
     AccessReason, CallReason, Endpoint, Fault, Manifest, Properties, Region, Rights, RunState, Settling, Size, Version,
@@ -92,15 +93,20 @@ fn reasons() {
             about: Some(about),
             state: None,
             allowed: None,
+            hint: None,
         },
         "CallReason { check: BuffersOverlap, number: Some(5), error: InvalidParameters, \
-         about: Some(Register { number: 2, value: 0x40010000, is_whole: false }), state: None, allowed: None }",
+         about: Some(Register { number: 2, value: 0x40010000, is_whole: false }), state: None, allowed: None, \
+         hint: None }",
     );
     shows(RunState::Blocked { awaits: Some(Id(0x8002)) }, "Blocked { awaits: Some(Id(0x8002)) }");
+    hints();
     let obstacle = Some(Obstacle::InTransaction(Handle(0x1_0000)));
-    let reason = AccessReason { address: 0x4001_0000, fault: Fault::Translation, obstacle };
+    let reason = AccessReason { address: 0x4001_0000, fault: Fault::Translation, obstacle, hint: None };
     let held = "InTransaction(Handle(0x10000))";
-    shows(reason, &format!("AccessReason {{ address: 0x40010000, fault: Translation, obstacle: Some({held}) }}"));
+    let shown =
+        format!("AccessReason {{ address: 0x40010000, fault: Translation, obstacle: Some({held}), hint: None }}");
+    shows(reason, &shown);
     shows(
         About::Page { page: 16, address: 0x4001_0000, obstacle },
         "Page { page: 16, address: 0x40010000, obstacle: Some(InTransaction(Handle(0x10000))) }",
@@ -113,6 +119,28 @@ fn reasons() {
         About::Field { flaw: Flaw::AccessPermissions, index: 0, first: 50, size: 1, value: Some(0xF) },
         "Field { flaw: AccessPermissions, index: 0, first: 50, size: 1, value: Some(0xF) }",
     );
+}
+
+fn hints() {
+    let (endpoint, right) = (Id(0x8001), Rights::Rox);
+    shows(Hint::Buffer { endpoint, side: Side::Tx }, "Buffer { endpoint: Id(0x8001), side: Tx }");
+    shows([Hint::OwnRight(right), Hint::Granted(right), Hint::Held(right)], "[OwnRight(Rox), Granted(Rox), Held(Rox)]");
+    shows(Hint::Access { endpoint, right }, "Access { endpoint: Id(0x8001), right: Rox }");
+    shows([Hint::Caller(endpoint), Hint::Sender(endpoint)], "[Caller(Id(0x8001)), Sender(Id(0x8001))]");
+    shows(Hint::Tag { found: 1, wanted: 0xAB }, "Tag { found: 0x1, wanted: 0xAB }");
+    shows(Hint::Kind { found: Kind::Lend, wanted: Kind::Donate }, "Kind { found: Lend, wanted: Donate }");
+    shows(Hint::Asked { asked: Rights::Rw, most: Rights::Ro }, "Asked { asked: Rw, most: Ro }");
+    shows([Hint::Room(4096), Hint::Wanted(0xAB), Hint::Outside(0xAB)], "[Room(4096), Wanted(0xAB), Outside(0xAB)]");
+    shows(Hint::Form { caller: endpoint, form: Version::Compact }, "Form { caller: Id(0x8001), form: Compact }");
+    shows(Hint::Word { place: 12, value: 0xAB }, "Word { place: 12, value: 0xAB }");
+    shows(Hint::Message { offset: 20, size: 1, room: 4096 }, "Message { offset: 20, size: 1, room: 4096 }");
+    shows([Hint::Holder(endpoint), Hint::Request(endpoint)], "[Holder(Id(0x8001)), Request(Id(0x8001))]");
+    shows([Hint::Run, Hint::Pending(12)], "[Run, Pending(12)]");
+    shows(Hint::Cause(CheckCause::BitTaken), "Cause(BitTaken)");
+    shows(Hint::End { part: Part::Header, end: 48, size: 47 }, "End { part: Header, end: 48, size: 47 }");
+    let mut uuid = [0; 16];
+    uuid[15] = 0xAB;
+    shows([Hint::Uuid(uuid), Hint::NarrowOnly(Function::Run)], "[Uuid(0xAB), NarrowOnly(Run)]");
 }
 
 #[test]

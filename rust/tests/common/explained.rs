@@ -5,23 +5,7 @@ use super::play_line;
 use gorseplumb::{call_name, registers, AccessReason, Fault, Machine, Ram, Registers, Size};
 use std::fmt::Write;
 
-/// A text in which reasons end behind the words of the check, or behind the fault: what is to be mended, for the most part, the program alone tells.
-#[allow(dead_code)]
-pub fn briefly(text: &str) -> String {
-    text.lines().map(|line| brief_line(line) + "\n").collect()
-}
-
-#[allow(dead_code)]
-fn brief_line(line: &str) -> String {
-    if !line.starts_with("# refused: ") {
-        return line.to_owned();
-    }
-    let parts = if line.contains("check ") { 3 } else { 2 };
-    let brief = line.split(": ").take(parts).collect::<Vec<_>>().join(": ");
-    brief.split(", and the caller is ").next().unwrap().to_owned()
-}
-
-/// What the program prints of a trace, with reasons, but for what is to be mended.
+/// What the program prints of a trace, with reasons.
 pub fn explain<R: Ram>(machine: &mut Machine<R>, trace: &str) -> String {
     trace.lines().map(|line| explain_line(machine, line)).collect()
 }
@@ -89,7 +73,8 @@ fn access_reason(reason: AccessReason, address: u64, bytes: u64, done: &str) -> 
         (Fault::Alignment, None) => format!("is not a multiple of {bytes}"),
         other => panic!("{other:?} doesn't come"),
     };
-    digits(address) + " " + &what
+    let hint = reason.hint.map_or_else(String::new, |hint| hint.to_string());
+    digits(address) + " " + &what + &hint
 }
 
 /// What the program prints of `audit`.
