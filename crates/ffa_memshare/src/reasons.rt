@@ -5,5 +5,3 @@
 mod about;
 mod failing;
 mod offered;
-
-pub use about::explain_send;

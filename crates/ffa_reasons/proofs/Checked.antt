@@ -1,39 +1,27 @@
 -- SPDX-License-Identifier: MIT OR Apache-2.0
 -- Why an operation is refused: the checks see of the machine's parts what the guards of each call see of its state.
-use Rattle.std.proofs.Common.{◌≡◌, ◌∙◌, ℕ, List, length, map, take, Option, ap}
+use Rattle.std.proofs.Common.{◌≡◌, ◌∙◌, ℕ, List, length, map, Option, ap}
 use Rattle.std.specs.Prelude.{◌||◌, is_some}
 use Rattle.std.specs.FinMap as finite
-use Rattle.ffa_memshare.specs.declared.descriptor_call.DescriptorCall.{DescriptorCall}
-use Rattle.ffa_memshare.specs.Scenes.{descriptor_in, scene_in}
-use Rattle.ffa_memshare.specs.Stored.{map_in, open_in}
+use Rattle.ffa_memshare.specs.Stored.{map_in}
 use Rattle.ffa_messages.specs.Parts.{sent_in}
 use Rattle.ffa_model.specs.declared.refusal.Refusal.{Refusal}
-use Rattle.ffa_model.specs.declared.rights.Kind.{Kind}
 use Rattle.ffa_model.specs.declared.call.NotificationBits.{NotificationBits}
 use Rattle.ffa_model.specs.Buffers.{buffers_in, is_full, map_guards, release_guards, rx_release, rxtx_map, rxtx_unmap, unmap_guards}
 use Rattle.ffa_model.specs.Calls.{Service, first_refusal}
-use Rattle.ffa_model.specs.DescriptorPlaces.{in_version}
 use Rattle.ffa_model.specs.First.{first, party_of}
 use Rattle.ffa_model.specs.Manifest.{is_nil}
-use Rattle.ffa_model.specs.MemoryRetrieve.{memory_retrieve, retrieve_guards}
-use Rattle.ffa_model.specs.MemoryReturn.{memory_reclaim, memory_relinquish, reclaim_guards, relinquish_guards}
-use Rattle.ffa_model.specs.MemorySend.{memory_send, send_guards}
+use Rattle.ffa_model.specs.MemoryReturn.{memory_reclaim, reclaim_guards}
 use Rattle.ffa_model.specs.Messages.{header_in, msg_send2, send2_guards}
 use Rattle.ffa_model.specs.Notifications.{bind_guards, bitmap_create, bitmap_destroy, create_guards, destroy_guards, get_guards, notification_bind, notification_get, notification_set, notification_unbind, set_guards, unbind_guards}
-use Rattle.ffa_model.specs.RelinquishDescriptor.{relinquish_of}
-use Rattle.ffa_model.specs.RetrieveDescriptor.{retrieve_of}
-use Rattle.ffa_model.specs.SendDescriptor.{send_of}
 use Rattle.ffa_model.specs.Setup.{info_guards, is_any, is_count_alone, selected}
-use Rattle.ffa_model.specs.State.{State, transaction_of, version_of}
-use Rattle.ffa_model.specs.Transactions.{open_of}
-use Rattle.ffa_rxtx.specs.Parts.{tx_in, ownership_in}
+use Rattle.ffa_model.specs.State.{State, transaction_of}
+use Rattle.ffa_rxtx.specs.Parts.{ownership_in}
 use Rattle.ffa_spmc.specs.Meaning.{IsManager, Parts, state_of}
 use Rattle.ffa_spmc.proofs.Information.{decided}
 use Rattle.ffa_spmc.proofs.Notified.{each-bitmap}
 use Rattle.ffa_spmc.proofs.Pools.{ownership-is}
-use Rattle.ffa_spmc.proofs.Retrieves.{scene-is}
 use Rattle.ffa_spmc.proofs.Sends.{sent-is}
-use Rattle.ffa_spmc.proofs.MemoryParts.{memory_parts_in}
 
 -- what is so of the parts is so of what contracts see
 pub seen-refusal : (x : Parts) (now : State) → state_of x ≡ now → (c : State → Service) (o : Option Refusal)
@@ -72,29 +60,10 @@ module _ (x : Parts) (machine : IsManager x) (e : ℕ) (at : e ≡ x.kept.chain.
   unfolding first
   send-checked = λ i. first_refusal (send2_guards (map party_of x.manifest.endpoints.items) x.kept.buffers (at i) (header_in (sent-is x machine e at i)))
 
-  pub relinquish-checked : first_refusal (relinquish_guards (buffers_in x.kept.buffers e) (open_in x.kept.pool) e (relinquish_of (tx_in x.ram (buffers_in x.kept.buffers e))))
-      ≡ first_refusal (memory_relinquish s).guards
-  relinquish-checked =
-      λ i. first_refusal (relinquish_guards (buffers_in x.kept.buffers (at i)) (open_of s) (at i) (relinquish_of (sent-is x machine e at i)))
-
   pub reclaim-checked : (h flags : ℕ)
       → first_refusal (reclaim_guards (ownership_in x.kept.pages x.kept.layout.base.0) e flags (finite.get (map_in x.kept.pool.slots) h)) ≡ first_refusal (memory_reclaim s h flags).guards
   reclaim-checked h flags =
       λ i. first_refusal (reclaim_guards ((ap (ownership_in x.kept.pages) machine.layout.base ∙ ownership-is x machine) i) (at i) flags (transaction_of s h))
-
-  -- a call whose descriptor stands in TX
-  module _ (call : DescriptorCall) (spoken : call.version ≡ version_of (state_of x) (state_of x).runner) where
-    pub offer-checked : (kind : Kind)
-        → first_refusal (send_guards (scene_in (memory_parts_in x)) e call.transfer (send_of kind (descriptor_in x.ram x.kept.buffers e call)))
-        ≡ first_refusal (memory_send s kind call.transfer).guards
-    offer-checked kind =
-        λ i. first_refusal (send_guards (scene-is x machine i) (at i) call.transfer (send_of kind (in_version (spoken i) (take call.transfer.total (sent-is x machine e at i)))))
-
-    pub retrieve-checked :
-        first_refusal (retrieve_guards (scene_in (memory_parts_in x)) e call.transfer (retrieve_of e (descriptor_in x.ram x.kept.buffers e call)))
-        ≡ first_refusal (memory_retrieve s call.transfer).guards
-    retrieve-checked =
-        λ i. first_refusal (retrieve_guards (scene-is x machine i) (at i) call.transfer (retrieve_of (at i) (in_version (spoken i) (take call.transfer.total (sent-is x machine e at i)))))
 
   pub create-checked : (endpoint contexts : ℕ) → first_refusal (create_guards x.kept.bitmaps e endpoint contexts) ≡ first_refusal (bitmap_create s endpoint contexts).guards
   create-checked endpoint contexts = ap (λ (f : ℕ). first_refusal (create_guards x.kept.bitmaps f endpoint contexts)) at

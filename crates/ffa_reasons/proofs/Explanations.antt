@@ -25,6 +25,11 @@ details : {X : Type 0} (f : X → Explanation) (d : Why → Option Detail) → (
 details f d same None = tt
 details f d same (Some x) = same x
 
+-- the check that fails is the one of which is told
+pub firsts : {X Y : Type 0} (f : X → Y) (o : Option X) → option_map (λ (its : X × Y). its.0) (option_map (λ x. (x, f x)) o) ≡ o
+firsts f None = refl
+firsts f (Some x) = refl
+
 pub some-reason : (o : Option Explanation) → is_some o ≡ is_some (option_map (λ (its : Explanation). its.why) o)
 some-reason None = refl
 some-reason (Some its) = refl

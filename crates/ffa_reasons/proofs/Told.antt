@@ -1,44 +1,50 @@
 -- SPDX-License-Identifier: MIT OR Apache-2.0
 -- What is told of a check that fails: the code sees of the machine's parts what the definition sees of its state.
-use Rattle.std.proofs.Common.{◌≡◌, ◌∙◌, ℕ, List, None, Option, length, take, ap}
+use Rattle.std.proofs.Common.{◌≡◌, ◌∙◌, ℕ, None, length, take, ap}
+use Rattle.std.specs.Option.{option_map}
 use Rattle.std.specs.FinMap as finite
 use Rattle.ffa_memshare.specs.declared.descriptor_call.DescriptorCall.{DescriptorCall}
-use Rattle.ffa_memshare.specs.Scenes.{descriptor_in}
-use Rattle.ffa_memshare.specs.Stored.{map_in}
-use Rattle.ffa_mend.specs.Allowed.{receivers_told, told_receivers}
+use Rattle.ffa_memshare.specs.Found.{sent_told}
+use Rattle.ffa_memshare.specs.Scenes.{descriptor_in, scene_in}
+use Rattle.ffa_memshare.specs.Stored.{map_in, open_in}
 use Rattle.ffa_mend.specs.Explained.{explained}
-use Rattle.ffa_mend.specs.Mend.{mend_asked, mend_bits, mend_given_back, mend_map, mend_message, mend_noticed, mend_offered_by, mend_pending, mend_relinquished, mend_retrieved, mend_return, mend_send}
+use Rattle.ffa_mend.specs.Mend.{mend_asked, mend_bits, mend_given_back, mend_map, mend_message, mend_noticed, mend_pending, mend_return}
 use Rattle.ffa_messages.specs.Parts.{sent_in}
 use Rattle.ffa_model.specs.declared.call.Call.{Call}
-use Rattle.ffa_model.specs.declared.endpoint.Region.{Region}
+use Rattle.ffa_model.specs.declared.call.Call.TheVariants.{MemRelinquish, MemRetrieve}
 use Rattle.ffa_model.specs.declared.refusal.Refusal.{Refusal}
 use Rattle.ffa_model.specs.declared.rights.Kind.{Kind}
-use Rattle.ffa_model.specs.Access.{Ownership, ownership_of}
-use Rattle.ffa_model.specs.About.{failing_map, failing_reclaim, failing_send, failing_sent}
-use Rattle.ffa_model.specs.AboutContents.{about_bits, about_message, about_relinquish, about_relinquished, about_retrieve, about_retrieved, about_send, about_sent, where_mapped, where_whole}
+use Rattle.ffa_model.specs.Access.{ownership_of}
+use Rattle.ffa_model.specs.About.{failing_map, failing_reclaim}
+use Rattle.ffa_model.specs.AboutContents.{about_bits, about_message, about_relinquish, about_retrieve, where_mapped, where_whole}
 use Rattle.ffa_model.specs.Buffers.{buffers_in}
-use Rattle.ffa_model.specs.DescriptorPlaces.{Versioned, in_version}
+use Rattle.ffa_model.specs.Calls.{first_refusal}
+use Rattle.ffa_model.specs.DescriptorPlaces.{in_version}
 use Rattle.ffa_model.specs.First.{first}
+use Rattle.ffa_model.specs.MemoryRetrieve.{memory_retrieve, retrieve_guards}
+use Rattle.ffa_model.specs.MemoryReturn.{memory_relinquish, relinquish_guards}
 use Rattle.ffa_model.specs.MemorySend as sends
 use Rattle.ffa_model.specs.Messages.{header_in, tx_bytes}
 use Rattle.ffa_model.specs.Notifications.{notifications_of}
+use Rattle.ffa_model.specs.RelinquishDescriptor.{relinquish_of}
+use Rattle.ffa_model.specs.RetrieveDescriptor.{retrieve_of}
 use Rattle.ffa_model.specs.SendDescriptor.{send_of}
 use Rattle.ffa_model.specs.State.{State, buffers_of, transaction_of, version_of}
+use Rattle.ffa_model.specs.Transactions.{open_of, scene_of}
 use Rattle.ffa_rxtx.specs.Parts.{tx_in, ownership_in}
 use Rattle.ffa_spmc.specs.Meaning.{IsManager, Parts, state_of}
 use Rattle.ffa_spmc.proofs.Notified.{each-bitmap}
+use Rattle.ffa_spmc.proofs.MemoryParts.{memory_parts_in}
 use Rattle.ffa_spmc.proofs.Pools.{ownership-is}
+use Rattle.ffa_spmc.proofs.Retrieves.{scene-is}
 use Rattle.ffa_spmc.proofs.Sends.{sent-is}
+use Rattle.ffa_reasons.specs.Explanation.{with_told}
 
 -- what is so of the parts is so of what contracts see
 pub seen-in : {X : Type 0} (x : Parts) (now : State) → state_of x ≡ now → (c : State → X) (o : X) → o ≡ c (state_of x) → o ≡ c now
 seen-in x now view c o is = is ∙ ap c view
 
 module _ (x : Parts) (machine : IsManager x) where
-  -- owners by where the layout begins are owners by where RAM does
-  laid : ownership_in x.kept.pages x.kept.layout.base.0 ≡ ownership_of (state_of x)
-  laid = ap (ownership_in x.kept.pages) machine.layout.base ∙ ownership-is x machine
-
   pub map-mended : (refusal : Refusal) (tx rx pages : ℕ) → mend_map (ownership_in x.kept.pages x.manifest.ram_base.0) tx rx pages refusal ≡ mend_map (ownership_of (state_of x)) tx rx pages refusal
   map-mended refusal tx rx pages = λ i. mend_map (ownership-is x machine i) tx rx pages refusal
 
@@ -50,6 +56,52 @@ module _ (x : Parts) (machine : IsManager x) where
     pub pending-mended : mend_pending x.kept.bitmaps e ≡ mend_pending (notifications_of s) s.runner
     unfolding first
     pending-mended = λ i. mend_pending x.kept.bitmaps (at i)
+
+    pub relinquish-told : option_map (λ (refusal : Refusal). (
+      refusal,
+      explained (where_mapped (buffers_in x.kept.buffers e) (about_relinquish (tx_in x.ram (buffers_in x.kept.buffers e)) refusal)) None
+          (mend_given_back (finite.get (map_in x.kept.pool.slots)) e (buffers_in x.kept.buffers e) (tx_in x.ram (buffers_in x.kept.buffers e)) refusal),
+    ))
+        (first_refusal (relinquish_guards (buffers_in x.kept.buffers e) (open_in x.kept.pool) e (relinquish_of (tx_in x.ram (buffers_in x.kept.buffers e)))))
+        ≡ with_told s MemRelinquish (first_refusal (memory_relinquish s).guards)
+    unfolding first
+    relinquish-told =
+        λ i. option_map (λ (refusal : Refusal). (
+          refusal,
+          explained (where_mapped (buffers_in x.kept.buffers (at i)) (about_relinquish (sent-is x machine e at i) refusal)) None
+              (mend_given_back (transaction_of s) (at i) (buffers_in x.kept.buffers (at i)) (sent-is x machine e at i) refusal),
+        ))
+        (first_refusal (relinquish_guards (buffers_in x.kept.buffers (at i)) (open_of s) (at i) (relinquish_of (sent-is x machine e at i))))
+
+    -- a call whose descriptor stands in TX
+    module _ (call : DescriptorCall) (spoken : call.version ≡ version_of (state_of x) (state_of x).runner) where
+      whole : descriptor_in x.ram x.kept.buffers e call ≡ sends.descriptor_in s call.transfer.total
+      unfolding first
+      whole = λ i. in_version (spoken i) (take call.transfer.total (sent-is x machine e at i))
+
+      pub retrieve-told : option_map (λ (refusal : Refusal). (
+        refusal,
+        explained (where_whole x.kept.buffers e call.transfer (about_retrieve e (descriptor_in x.ram x.kept.buffers e call) refusal)) None
+            (mend_asked x.kept.buffers (ownership_in x.kept.pages x.kept.layout.base.0) (finite.get (map_in x.kept.pool.slots)) e call.transfer (descriptor_in x.ram x.kept.buffers e call) refusal),
+      ))
+          (first_refusal (retrieve_guards (scene_in (memory_parts_in x)) e call.transfer (retrieve_of e (descriptor_in x.ram x.kept.buffers e call))))
+          ≡ with_told s (MemRetrieve call.transfer) (first_refusal (memory_retrieve s call.transfer).guards)
+      unfolding first
+      retrieve-told =
+          λ i. option_map (λ (refusal : Refusal). (
+            refusal,
+            explained (where_whole x.kept.buffers (at i) call.transfer (about_retrieve (at i) (whole i) refusal)) None
+                (mend_asked x.kept.buffers (scene-is x machine i).ram (transaction_of s) (at i) call.transfer (whole i) refusal),
+          ))
+          (first_refusal (retrieve_guards (scene-is x machine i) (at i) call.transfer (retrieve_of (at i) (whole i))))
+
+      pub sent-told : (kind : Kind)
+          → option_map (sent_told (scene_in (memory_parts_in x)) e kind call.transfer (descriptor_in x.ram x.kept.buffers e call))
+          (first_refusal (sends.send_guards (scene_in (memory_parts_in x)) e call.transfer (send_of kind (descriptor_in x.ram x.kept.buffers e call))))
+          ≡ option_map (sent_told (scene_of s) s.runner kind call.transfer (sends.descriptor_in s call.transfer.total)) (first_refusal (sends.memory_send s kind call.transfer).guards)
+      unfolding first
+      sent-told kind =
+          λ i. option_map (sent_told (scene-is x machine i) (at i) kind call.transfer (whole i)) (first_refusal (sends.send_guards (scene-is x machine i) (at i) call.transfer (send_of kind (whole i))))
 
     module _ (refusal : Refusal) where
       pub map-failing : (tx rx pages : ℕ) → failing_map e (ownership_in x.kept.pages x.manifest.ram_base.0) tx rx pages refusal ≡ failing_map s.runner (ownership_of s) tx rx pages refusal
@@ -68,51 +120,9 @@ module _ (x : Parts) (machine : IsManager x) where
       message-told =
           λ i. explained (about_message (buffers_in x.kept.buffers (at i)) (header_in (sent-is x machine e at i)) refusal) None (mend_message (buffers_in x.kept.buffers (at i)) (header_in (sent-is x machine e at i)) refusal)
 
-      pub relinquish-told : explained (where_mapped (buffers_in x.kept.buffers e) (about_relinquish (tx_in x.ram (buffers_in x.kept.buffers e)) refusal)) None
-          (mend_given_back (finite.get (map_in x.kept.pool.slots)) e (buffers_in x.kept.buffers e) (tx_in x.ram (buffers_in x.kept.buffers e)) refusal)
-          ≡ explained (about_relinquished s refusal) None (mend_relinquished s refusal)
-      unfolding first
-      relinquish-told =
-          λ i. explained (where_mapped (buffers_in x.kept.buffers (at i)) (about_relinquish (sent-is x machine e at i) refusal)) None
-          (mend_given_back (transaction_of s) (at i) (buffers_in x.kept.buffers (at i)) (sent-is x machine e at i) refusal)
-
       pub bits-told : (call : Call)
           → explained (about_bits (length x.kept.bitmaps.bitmaps) x.kept.bitmaps e call refusal) None (mend_bits x.kept.bitmaps e call (about_bits (length x.kept.bitmaps.bitmaps) x.kept.bitmaps e call refusal))
           ≡ explained (about_bits (length s.parties) (notifications_of s) s.runner call refusal) None (mend_noticed s call refusal)
       unfolding first
       bits-told call =
           λ i. explained (about_bits (each-bitmap x machine i) x.kept.bitmaps (at i) call refusal) None (mend_bits x.kept.bitmaps (at i) call (about_bits (each-bitmap x machine i) x.kept.bitmaps (at i) call refusal))
-
-      -- a call whose descriptor stands in TX
-      module _ (call : DescriptorCall) (spoken : call.version ≡ version_of (state_of x) (state_of x).runner) where
-        whole : descriptor_in x.ram x.kept.buffers e call ≡ sends.descriptor_in s call.transfer.total
-        unfolding first
-        whole = λ i. in_version (spoken i) (take call.transfer.total (sent-is x machine e at i))
-
-        pub retrieve-told : explained (where_whole x.kept.buffers e call.transfer (about_retrieve e (descriptor_in x.ram x.kept.buffers e call) refusal)) None
-            (mend_asked x.kept.buffers (ownership_in x.kept.pages x.kept.layout.base.0) (finite.get (map_in x.kept.pool.slots)) e call.transfer (descriptor_in x.ram x.kept.buffers e call) refusal)
-            ≡ explained (about_retrieved s call.transfer refusal) None (mend_retrieved s call.transfer refusal)
-        unfolding first
-        retrieve-told =
-            λ i. explained (where_whole x.kept.buffers (at i) call.transfer (about_retrieve (at i) (whole i) refusal)) None
-            (mend_asked x.kept.buffers (laid i) (transaction_of s) (at i) call.transfer (whole i) refusal)
-
-        pub sent-told : (kind : Kind) (endpoints : ℕ) → endpoints ≡ length (state_of x).parties
-            → where_whole x.kept.buffers e call.transfer (about_send kind endpoints (descriptor_in x.ram x.kept.buffers e call) refusal) ≡ about_sent s kind call.transfer refusal
-        unfolding first
-        sent-told kind endpoints number = λ i. where_whole x.kept.buffers (at i) call.transfer (about_send kind (number i) (whole i) refusal)
-
-        pub sent-counted : told_receivers x.kept.buffers e call.transfer (descriptor_in x.ram x.kept.buffers e call) ≡ receivers_told s call.transfer
-        unfolding first
-        sent-counted = λ i. told_receivers x.kept.buffers (at i) call.transfer (whole i)
-
-        module _ (kind : Kind) (normal : Option (List Region)) (worlds : normal ≡ (state_of x).normal) where
-          pub sent-failing : failing_send e (ownership_in x.kept.pages x.kept.layout.base.0) x.kept.buffers normal call.transfer (send_of kind (descriptor_in x.ram x.kept.buffers e call)) refusal
-              ≡ failing_sent s kind call.transfer refusal
-          unfolding first
-          sent-failing = λ i. failing_send (at i) (laid i) x.kept.buffers (worlds i) call.transfer (send_of kind (whole i)) refusal
-
-          pub sent-mended : mend_send x.kept.buffers (ownership_in x.kept.pages x.kept.layout.base.0) normal e call.transfer (send_of kind (descriptor_in x.ram x.kept.buffers e call)) refusal
-              ≡ mend_offered_by s kind call.transfer refusal
-          unfolding first
-          sent-mended = λ i. mend_send x.kept.buffers (laid i) (worlds i) (at i) call.transfer (send_of kind (whole i)) refusal

@@ -2,17 +2,21 @@
 //! Explains a check that refuses a call by what the call names: a message, a descriptor, pages, a transaction or bits. Each is
 //! read once. Nothing is changed, and no memory is taken.
 ghost use Rattle.std.specs.Prelude.{◌≡◌, None, length};
-ghost use Rattle.ffa_model.specs.Access.{ownership_of};
-ghost use Rattle.ffa_model.specs.About.{failing_map, failing_page, failing_reclaim, failing_sent};
-ghost use Rattle.ffa_model.specs.AboutContents.{about_bits, about_contents, about_message, about_relinquished, about_retrieved, about_sent};
-ghost use Rattle.ffa_model.specs.MemorySend.{is_inside};
-ghost use Rattle.ffa_model.specs.Messages.{header_in, tx_bytes};
+ghost use Rattle.std.specs.Option.{option_map};
+ghost use Rattle.ffa_model.specs.AboutContents.{about_bits};
+ghost use Rattle.ffa_model.specs.Buffers.{rxtx_map};
+ghost use Rattle.ffa_model.specs.Calls.{first_refusal};
+ghost use Rattle.ffa_model.specs.MemoryRetrieve.{memory_retrieve};
+ghost use Rattle.ffa_model.specs.MemoryReturn.{memory_reclaim, memory_relinquish};
+ghost use Rattle.ffa_model.specs.MemorySend.{descriptor_in, is_inside, memory_send};
+ghost use Rattle.ffa_model.specs.Messages.{msg_send2};
 ghost use Rattle.ffa_model.specs.Notifications.{notifications_of};
-ghost use Rattle.ffa_model.specs.State.{buffers_of, transaction_of};
-ghost use Rattle.ffa_mend.specs.Allowed.{receivers_of, receivers_told};
+ghost use Rattle.ffa_model.specs.Transactions.{scene_of};
 ghost use Rattle.ffa_mend.specs.Explained.{explained};
-ghost use Rattle.ffa_mend.specs.Mend.{mend_buffer, mend_contents, mend_map, mend_message, mend_noticed, mend_offered_by, mend_relinquished, mend_retrieved, mend_return, outside_of};
+ghost use Rattle.ffa_mend.specs.Mend.{mend_buffer, mend_map, mend_noticed, outside_of};
 ghost use Rattle.ffa_rxtx.specs.Parts.{ownership_in};
+ghost use Rattle.ffa_memshare.specs.Found.{sent_told};
+ghost use Rattle.ffa_reasons.specs.Explanation.{with_told};
 
 use crate::reasons::Reasons;
 use ffa_memshare::DescriptorCall;
@@ -24,120 +28,101 @@ use ffa_spmc::Store;
 use ffa_tlb::Translations;
 
 impl<M: PhysMem + Drop, T: Translations + Drop, S: Store> Reasons<'_, M, T, S> {
-    // Explains a check of a call that fails.
-    pub(crate) fn explain_contents(&self, call: Call, refusal: Refusal) -> Explained
-        ensures about { result.about ≡ about_contents self.now call refusal }
-        ensures page { result.page ≡ failing_page self.now call refusal }
-        ensures mend { result.mend ≡ mend_contents self.now call refusal }
-        ensures receivers { result.receivers ≡ receivers_of self.now call }
-    {
-        match call {
-            Call::RxtxMap { tx, rx, pages } => self.explain_map(tx, rx, pages, refusal),
-            Call::MsgSend2 => self.explain_message(refusal),
-            Call::MemDonate(transfer) => self.explain_send(Kind::Donate, transfer, refusal),
-            Call::MemLend(transfer) => self.explain_send(Kind::Lend, transfer, refusal),
-            Call::MemShare(transfer) => self.explain_send(Kind::Share, transfer, refusal),
-            Call::MemRetrieve(transfer) => self.explain_retrieve(transfer, refusal),
-            Call::MemRelinquish => self.explain_relinquish(refusal),
-            Call::MemReclaim { handle, .. } => self.explain_reclaim(handle, refusal),
-            Call::NotificationBind(_) => self.explain_bits(&call, refusal),
-            Call::NotificationUnbind(_) => self.explain_bits(&call, refusal),
-            Call::NotificationSet(_) => self.explain_bits(&call, refusal),
-            _ => Explained::of(None, None),
-        }
-    }
-
     // Of FFA_RXTX_MAP.
-    fn explain_map(&self, tx: u64, rx: u64, pages: u32, refusal: Refusal) -> Explained
-        ensures { let page = failing_map self.now.runner (ownership_of self.now) tx rx pages refusal in
-            result ≡ explained None page (mend_map (ownership_of self.now) tx rx pages refusal) }
+    pub(crate) fn why_map(&self, tx: u64, rx: u64, pages: u32) -> Option<(Refusal, Explained)>
+        ensures { result ≡ with_told self.now (Call.RxtxMap tx rx pages) (first_refusal (rxtx_map self.now tx rx pages).guards) }
     {
+        let refusal = self.rxtx_map_refusal(tx, rx, pages)?;
         let base = self.parts.manifest.ram_base;
         let runner = self.parts.chain.runner();
         let owners = self.parts.pages;
-        Explained {
+        let told = Explained {
             about: None,
             page: ffa_rxtx::failing_map(owners, base, runner, tx, rx, pages, refusal),
             mend: mend_map(owners, base, tx, rx, pages, refusal),
             receivers: None,
-        }
+        };
+        Some((refusal, told))
     }
 
     // Of FFA_MSG_SEND2.
-    fn explain_message(&self, refusal: Refusal) -> Explained
-        ensures { let own = buffers_of self.now self.now.runner in
-            let header = header_in (tx_bytes self.now self.now.runner) in
-            result ≡ explained (about_message own header refusal) None (mend_message own header refusal) }
+    pub(crate) fn why_message(&self) -> Option<(Refusal, Explained)>
+        ensures { result ≡ with_told self.now Call.MsgSend2 (first_refusal (msg_send2 self.now).guards) }
     {
+        let refusal = self.msg_send2_refusal()?;
         let runner = self.parts.chain.runner();
-        ffa_messages::explain_message(self.parts.ram, self.parts.buffers, runner, refusal)
+        let (ram, buffers) = (self.parts.ram, self.parts.buffers);
+        let told = ffa_messages::explain_message(ram, buffers, runner, refusal);
+        Some((refusal, told))
     }
 
     // Of FFA_MEM_DONATE, FFA_MEM_LEND or FFA_MEM_SHARE.
-    fn explain_send(&self, kind: Kind, transfer: Transfer, refusal: Refusal) -> Explained
-        ensures about { result.about ≡ about_sent self.now kind transfer refusal }
-        ensures page { result.page ≡ failing_sent self.now kind transfer refusal }
-        ensures mend { result.mend ≡ mend_offered_by self.now kind transfer refusal }
-        ensures receivers { result.receivers ≡ receivers_told self.now transfer }
+    pub(crate) fn why_send(&self, kind: Kind, transfer: Transfer) -> Option<(Refusal, Explained)>
+        ensures { let told = sent_told (scene_of self.now) self.now.runner kind transfer (descriptor_in self.now transfer.total) in
+            result ≡ option_map told (first_refusal (memory_send self.now kind transfer).guards) }
     {
         let version = self.version();
         let call = DescriptorCall { transfer, version };
-        let runner = self.parts.chain.runner();
-        let endpoints = self.machine.endpoints();
-        let layout = self.parts.layout;
-        let (ram, pages, buffers) = (self.parts.ram, self.parts.pages, self.parts.buffers);
-        ffa_memshare::explain_send(
-            ram, layout, pages, buffers, runner, endpoints, kind, &call, refusal,
-        )
+        let parts = &self.parts;
+        let runner = parts.chain.runner();
+        let (layout, pages) = (parts.layout, parts.pages);
+        let (ram, buffers) = (parts.ram, parts.buffers);
+        parts
+            .pool
+            .why_send(ram, layout, pages, buffers, runner, kind, &call)
     }
 
     // Of FFA_MEM_RETRIEVE_REQ.
-    fn explain_retrieve(&self, transfer: Transfer, refusal: Refusal) -> Explained
-        ensures { let about = about_retrieved self.now transfer refusal in
-            result ≡ explained about None (mend_retrieved self.now transfer refusal) }
+    pub(crate) fn why_retrieve(&self, transfer: Transfer) -> Option<(Refusal, Explained)>
+        ensures { result ≡ with_told self.now (Call.MemRetrieve transfer) (first_refusal (memory_retrieve self.now transfer).guards) }
     {
         let version = self.version();
         let call = DescriptorCall { transfer, version };
-        let runner = self.parts.chain.runner();
-        let base = self.parts.layout.base;
-        let (ram, pages, buffers) = (self.parts.ram, self.parts.pages, self.parts.buffers);
-        self.parts
+        let parts = &self.parts;
+        let runner = parts.chain.runner();
+        let (layout, pages) = (parts.layout, parts.pages);
+        parts
             .pool
-            .explain_retrieve(ram, base, pages, buffers, runner, &call, refusal)
+            .why_retrieve(parts.ram, layout, pages, parts.buffers, runner, &call)
     }
 
     // Of FFA_MEM_RELINQUISH.
-    fn explain_relinquish(&self, refusal: Refusal) -> Explained
-        ensures { result ≡ explained (about_relinquished self.now refusal) None (mend_relinquished self.now refusal) }
+    pub(crate) fn why_relinquish(&self) -> Option<(Refusal, Explained)>
+        ensures { result ≡ with_told self.now Call.MemRelinquish (first_refusal (memory_relinquish self.now).guards) }
     {
-        let runner = self.parts.chain.runner();
-        let (ram, buffers) = (self.parts.ram, self.parts.buffers);
-        self.parts
-            .pool
-            .explain_relinquish(ram, buffers, runner, refusal)
+        let parts = &self.parts;
+        let runner = parts.chain.runner();
+        parts.pool.why_relinquish(parts.ram, parts.buffers, runner)
     }
 
     // Of FFA_MEM_RECLAIM.
-    fn explain_reclaim(&self, handle: Handle, refusal: Refusal) -> Explained
-        ensures { let named = transaction_of self.now handle.0 in
-            let page = failing_reclaim (ownership_of self.now) named refusal in
-            result ≡ explained None page (mend_return self.now.runner refusal named) }
+    pub(crate) fn why_reclaim(&self, handle: Handle, flags: u32) -> Option<(Refusal, Explained)>
+        ensures { let refusal = first_refusal (memory_reclaim self.now handle.0 flags).guards in
+            result ≡ with_told self.now (Call.MemReclaim handle flags) refusal }
     {
-        let base = self.parts.manifest.ram_base;
-        let runner = self.parts.chain.runner();
-        self.parts
+        let refusal = self.mem_reclaim_refusal(handle, flags)?;
+        let parts = &self.parts;
+        let base = parts.manifest.ram_base;
+        let runner = parts.chain.runner();
+        let told = parts
             .pool
-            .explain_reclaim(self.parts.pages, base, runner, handle, refusal)
+            .explain_reclaim(parts.pages, base, runner, handle, refusal);
+        Some((refusal, told))
     }
 
     // Of FFA_NOTIFICATION_BIND, FFA_NOTIFICATION_UNBIND or FFA_NOTIFICATION_SET.
-    fn explain_bits(&self, call: &Call, refusal: Refusal) -> Explained
-        ensures { let bit = about_bits (length self.now.parties) (notifications_of self.now) self.now.runner call.now refusal in
-            result ≡ explained bit None (mend_noticed self.now call.now refusal) }
+    pub(crate) fn why_bits(
+        &self,
+        call: &Call,
+        refusal: Option<Refusal>,
+    ) -> Option<(Refusal, Explained)>
+        ensures { let bits = about_bits (length self.now.parties) (notifications_of self.now) self.now.runner call.now in
+            result ≡ option_map (λ refusal. (refusal, explained (bits refusal) None (mend_noticed self.now call.now refusal))) refusal }
     {
+        let refusal = refusal?;
         let runner = self.parts.chain.runner();
-        let bitmaps = self.parts.bitmaps;
-        bitmaps.explain_bits(runner, call, refusal)
+        let told = self.parts.bitmaps.explain_bits(runner, call, refusal);
+        Some((refusal, told))
     }
 }
 

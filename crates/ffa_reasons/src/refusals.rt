@@ -1,66 +1,65 @@
 // SPDX-License-Identifier: MIT OR Apache-2.0
 //! The first check of a call of the runner that fails: each call is asked by the check that it makes itself.
-ghost use Rattle.std.specs.Prelude.{◌≡◌, ◌∷◌, [], ◌||◌, not};
+ghost use Rattle.std.specs.Prelude.{◌≡◌, ◌∷◌, [], ◌||◌, None, not};
+ghost use Rattle.std.specs.Option.{option_map};
+ghost use Rattle.ffa_mend.specs.Explained.{explained};
 ghost use Rattle.ffa_model.specs.Buffers.{rx_release, rxtx_map, rxtx_unmap};
 ghost use Rattle.ffa_model.specs.Calls.{first_refusal};
-ghost use Rattle.ffa_model.specs.MemoryRetrieve.{memory_retrieve};
-ghost use Rattle.ffa_model.specs.MemoryReturn.{memory_reclaim, memory_relinquish};
-ghost use Rattle.ffa_model.specs.MemorySend.{memory_send};
+ghost use Rattle.ffa_model.specs.MemoryReturn.{memory_reclaim};
 ghost use Rattle.ffa_model.specs.Messages.{msg_send2};
 ghost use Rattle.ffa_model.specs.Notifications.{bitmap_create, bitmap_destroy, notification_bind, notification_get, notification_set, notification_unbind};
 ghost use Rattle.ffa_model.specs.RunStates.{direct_request, direct_response, msg_wait, run_partition, yield_now};
 ghost use Rattle.ffa_model.specs.Setup.{info_guards, is_count_alone, uuid_bytes};
 ghost use Rattle.ffa_model.specs.Step.{service};
+ghost use Rattle.ffa_reasons.specs.Explanation.{with_told};
 
 use crate::reasons::Reasons;
-use ffa_memshare::{DescriptorCall, Draft};
+use ffa_mend::Explained;
 use ffa_messages::{check_direct_req, check_direct_resp, check_send2};
-use ffa_model::{
-    Call, DirectMessage, EndpointId, Handle, Kind, NotificationBits, Refusal, Transfer,
-};
+use ffa_model::{Call, DirectMessage, EndpointId, Handle, Kind, NotificationBits, Refusal};
 use ffa_physmem::PhysMem;
 use ffa_spmc::Store;
 use ffa_tlb::Translations;
 
 impl<M: PhysMem + Drop, T: Translations + Drop, S: Store> Reasons<'_, M, T, S> {
-    // The first check of a call that fails. Each arm asks the check of its call.
-    pub(crate) fn refusal(&self, call: Call) -> Option<Refusal>
-        ensures { result ≡ first_refusal (service self.now call).guards }
+    // The first check of a call that fails, with what the call names. Each arm asks the check of its call.
+    pub(crate) fn refusal(&self, call: Call) -> Option<(Refusal, Explained)>
+        ensures { result ≡ with_told self.now call (first_refusal (service self.now call).guards) }
     {
         match call {
             Call::Version { version: _ } => None,
-            Call::Features { function } => ffa_setup::check_features(function).err(),
-            Call::RxRelease => self.rx_release_refusal(),
-            Call::RxtxMap { tx, rx, pages } => self.rxtx_map_refusal(tx, rx, pages),
-            Call::RxtxUnmap { endpoint } => self.rxtx_unmap_refusal(endpoint),
-            Call::PartitionInfoGet { uuid, flags } => self.info_refusal(uuid, flags),
+            Call::Features { function } => bare(ffa_setup::check_features(function).err()),
+            Call::RxRelease => bare(self.rx_release_refusal()),
+            Call::RxtxMap { tx, rx, pages } => self.why_map(tx, rx, pages),
+            Call::RxtxUnmap { endpoint } => bare(self.rxtx_unmap_refusal(endpoint)),
+            Call::PartitionInfoGet { uuid, flags } => bare(self.info_refusal(uuid, flags)),
             Call::IdGet => None,
             Call::SpmIdGet => None,
-            Call::MsgWait => self.msg_wait_refusal(),
-            Call::Yield => self.yield_refusal(),
-            Call::Run { target, context } => self.run_refusal(target, context),
-            Call::DirectRequest(message) => self.direct_request_refusal(&message),
-            Call::DirectResponse(message) => self.direct_response_refusal(&message),
-            Call::MsgSend2 => self.msg_send2_refusal(),
-            Call::MemDonate(transfer) => self.mem_send_refusal(Kind::Donate, transfer),
-            Call::MemLend(transfer) => self.mem_send_refusal(Kind::Lend, transfer),
-            Call::MemShare(transfer) => self.mem_send_refusal(Kind::Share, transfer),
-            Call::MemRetrieve(transfer) => self.mem_retrieve_refusal(transfer),
-            Call::MemRelinquish => self.mem_relinquish_refusal(),
-            Call::MemReclaim { handle, flags } => self.mem_reclaim_refusal(handle, flags),
-            Call::BitmapCreate { endpoint, contexts } => self.bitmap_create_refusal(
+            Call::MsgWait => bare(self.msg_wait_refusal()),
+            Call::Yield => bare(self.yield_refusal()),
+            Call::Run { target, context } => bare(self.run_refusal(target, context)),
+            Call::DirectRequest(message) => bare(self.direct_request_refusal(&message)),
+            Call::DirectResponse(message) => bare(self.direct_response_refusal(&message)),
+            Call::MsgSend2 => self.why_message(),
+            Call::MemDonate(transfer) => self.why_send(Kind::Donate, transfer),
+            Call::MemLend(transfer) => self.why_send(Kind::Lend, transfer),
+            Call::MemShare(transfer) => self.why_send(Kind::Share, transfer),
+            Call::MemRetrieve(transfer) => self.why_retrieve(transfer),
+            Call::MemRelinquish => self.why_relinquish(),
+            Call::MemReclaim { handle, flags } => self.why_reclaim(handle, flags),
+            Call::BitmapCreate { endpoint, contexts } => bare(self.bitmap_create_refusal(
                 endpoint, contexts,
-            ),
-            Call::BitmapDestroy { endpoint } => self.bitmap_destroy_refusal(endpoint),
-            Call::NotificationBind(bits) => self.notification_bind_refusal(&bits),
-            Call::NotificationUnbind(bits) => self.notification_unbind_refusal(&bits),
-            Call::NotificationSet(bits) => self.notification_set_refusal(&bits),
+            )),
+            Call::BitmapDestroy { endpoint } => bare(self.bitmap_destroy_refusal(endpoint)),
+            Call::NotificationBind(bits) => self.why_bits(&call, self.bind_refusal(&bits)),
+            Call::NotificationUnbind(bits) => self.why_bits(&call, self.unbind_refusal(&bits)),
+            Call::NotificationSet(bits) => self.why_bits(&call, self.set_refusal(&bits)),
             Call::NotificationGet {
                 receiver,
                 context,
                 flags,
-            } => self.notification_get_refusal(receiver, context, flags),
-            Call::Unknown => Some(Refusal::FunctionUnknown),
+            } => bare(self.notification_get_refusal(receiver, context, flags)),
+            Call::Unknown => bare(Some(Refusal::FunctionUnknown)),
         }
     }
 
@@ -73,7 +72,7 @@ impl<M: PhysMem + Drop, T: Translations + Drop, S: Store> Reasons<'_, M, T, S> {
     }
 
     // Of FFA_RXTX_MAP.
-    fn rxtx_map_refusal(&self, tx: u64, rx: u64, pages: u32) -> Option<Refusal>
+    pub(crate) fn rxtx_map_refusal(&self, tx: u64, rx: u64, pages: u32) -> Option<Refusal>
         ensures { result ≡ first_refusal (rxtx_map self.now tx rx pages).guards }
     {
         let parts = &self.parts;
@@ -144,7 +143,7 @@ impl<M: PhysMem + Drop, T: Translations + Drop, S: Store> Reasons<'_, M, T, S> {
     }
 
     // Of FFA_MSG_SEND2.
-    fn msg_send2_refusal(&self) -> Option<Refusal>
+    pub(crate) fn msg_send2_refusal(&self) -> Option<Refusal>
         ensures { result ≡ first_refusal (msg_send2 self.now).guards }
     {
         let parts = &self.parts;
@@ -152,52 +151,8 @@ impl<M: PhysMem + Drop, T: Translations + Drop, S: Store> Reasons<'_, M, T, S> {
         check_send2(parts.ram, parts.buffers, parts.manifest, runner).err()
     }
 
-    // Of FFA_MEM_DONATE, FFA_MEM_LEND or FFA_MEM_SHARE.
-    fn mem_send_refusal(&self, kind: Kind, transfer: Transfer) -> Option<Refusal>
-        ensures { result ≡ first_refusal (memory_send self.now kind transfer).guards }
-    {
-        let version = self.version();
-        let call = DescriptorCall { transfer, version };
-        let parts = &self.parts;
-        let runner = parts.chain.runner();
-        let (ram, layout) = (parts.ram, parts.layout);
-        let (pages, buffers) = (parts.pages, parts.buffers);
-        let mut draft = Draft::none();
-        let found = parts.pool.check_send(
-            ram, layout, pages, buffers, runner, kind, &call, &mut draft,
-        );
-        found.err()
-    }
-
-    // Of FFA_MEM_RETRIEVE_REQ.
-    fn mem_retrieve_refusal(&self, transfer: Transfer) -> Option<Refusal>
-        ensures { result ≡ first_refusal (memory_retrieve self.now transfer).guards }
-    {
-        let version = self.version();
-        let call = DescriptorCall { transfer, version };
-        let parts = &self.parts;
-        let runner = parts.chain.runner();
-        let (layout, pages) = (parts.layout, parts.pages);
-        let found = parts
-            .pool
-            .check_retrieve(parts.ram, layout, pages, parts.buffers, runner, &call);
-        found.err()
-    }
-
-    // Of FFA_MEM_RELINQUISH.
-    fn mem_relinquish_refusal(&self) -> Option<Refusal>
-        ensures { result ≡ first_refusal (memory_relinquish self.now).guards }
-    {
-        let parts = &self.parts;
-        let runner = parts.chain.runner();
-        let found = parts
-            .pool
-            .check_relinquish(parts.ram, parts.buffers, runner);
-        found.err()
-    }
-
     // Of FFA_MEM_RECLAIM.
-    fn mem_reclaim_refusal(&self, handle: Handle, flags: u32) -> Option<Refusal>
+    pub(crate) fn mem_reclaim_refusal(&self, handle: Handle, flags: u32) -> Option<Refusal>
         ensures { result ≡ first_refusal (memory_reclaim self.now handle.0 flags).guards }
     {
         let parts = &self.parts;
@@ -227,7 +182,7 @@ impl<M: PhysMem + Drop, T: Translations + Drop, S: Store> Reasons<'_, M, T, S> {
     }
 
     // Of FFA_NOTIFICATION_BIND.
-    fn notification_bind_refusal(&self, bits: &NotificationBits) -> Option<Refusal>
+    fn bind_refusal(&self, bits: &NotificationBits) -> Option<Refusal>
         ensures { result ≡ first_refusal (notification_bind self.now bits.now).guards }
     {
         let runner = self.parts.chain.runner();
@@ -235,7 +190,7 @@ impl<M: PhysMem + Drop, T: Translations + Drop, S: Store> Reasons<'_, M, T, S> {
     }
 
     // Of FFA_NOTIFICATION_UNBIND.
-    fn notification_unbind_refusal(&self, bits: &NotificationBits) -> Option<Refusal>
+    fn unbind_refusal(&self, bits: &NotificationBits) -> Option<Refusal>
         ensures { result ≡ first_refusal (notification_unbind self.now bits.now).guards }
     {
         let runner = self.parts.chain.runner();
@@ -243,7 +198,7 @@ impl<M: PhysMem + Drop, T: Translations + Drop, S: Store> Reasons<'_, M, T, S> {
     }
 
     // Of FFA_NOTIFICATION_SET.
-    fn notification_set_refusal(&self, bits: &NotificationBits) -> Option<Refusal>
+    fn set_refusal(&self, bits: &NotificationBits) -> Option<Refusal>
         ensures { result ≡ first_refusal (notification_set self.now bits.now).guards }
     {
         let runner = self.parts.chain.runner();
@@ -263,6 +218,13 @@ impl<M: PhysMem + Drop, T: Translations + Drop, S: Store> Reasons<'_, M, T, S> {
         let bitmaps = self.parts.bitmaps;
         bitmaps.check_get(runner, receiver, context, flags).err()
     }
+}
+
+// A check that fails of a call that names nothing more.
+fn bare(refusal: Option<Refusal>) -> Option<(Refusal, Explained)>
+    ensures { result ≡ option_map (λ refusal. (refusal, explained None None None)) refusal }
+{
+    Some((refusal?, Explained::of(None, None)))
 }
 
 // The first check of FFA_PARTITION_INFO_GET that fails, by whether its UUID is recognized, the count alone is asked for, and

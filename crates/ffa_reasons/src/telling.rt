@@ -11,12 +11,12 @@ ghost use Rattle.ffa_model.specs.Why.{granted, outcome_of, why};
 ghost use Rattle.ffa_mend.specs.Offered.{offered};
 ghost use Rattle.ffa_playable.specs.Bench.{is_refused};
 ghost use Rattle.ffa_playable.specs.Standing.{detail, detail_by};
-ghost use Rattle.ffa_reasons.specs.Explanation.{check_explanation, explanation, fault_explanation};
+ghost use Rattle.ffa_reasons.specs.Explanation.{call_told, check_explanation, explanation, fault_explanation};
 
 use crate::reasons::Reasons;
 use crate::registers::about_registers;
 use crate::values::allowed_check;
-use ffa_mend::{Allowed, Mend};
+use ffa_mend::{Allowed, Explained, Mend};
 use ffa_model::{Call, Effect, EndpointId, FaultKind, Grant, Op, PageNo, Refusal, Rights, Why};
 use ffa_physmem::PhysMem;
 use ffa_playable::{Detail, Explanation, Standing};
@@ -133,25 +133,30 @@ impl<M: PhysMem + Drop, T: Translations + Drop, S: Store> Reasons<'_, M, T, S> {
         ensures { result ≡ explanation contexts self.now (Op.Call x) }
     {
         let call = ffa_abi::decode(x);
-        match self.refusal(call) {
-            Some(refusal) => Some(self.explain(contexts, ffa_abi::low(x[0]), call, refusal)),
-            None => None,
-        }
+        let (refusal, told) = self.refusal(call)?;
+        Some(self.explain(contexts, ffa_abi::low(x[0]), call, refusal, told))
     }
 
-    // Of a check of a call that fails. The number is that of the function, in w0.
-    fn explain(&self, contexts: u32, number: u32, call: Call, refusal: Refusal) -> Explanation
+    // Of a check of a call that fails, with what the call names. The number is that of the function, in w0.
+    fn explain(
+        &self,
+        contexts: u32,
+        number: u32,
+        call: Call,
+        refusal: Refusal,
+        told: Explained,
+    ) -> Explanation
+        requires { told ≡ call_told self.now call refusal }
         ensures { result ≡ check_explanation contexts self.now number call refusal }
     {
-        let contents = self.explain_contents(call, refusal);
-        let named = contents.about.or(self.about_page(contents.page));
+        let named = told.about.or(self.about_page(told.page));
         let about = about_registers(number, &call, refusal).or(named);
         Explanation {
             why: Why::Refused { refusal, about },
             detail: detail_by(
                 self.standing_of_check(refusal, about),
-                contents.mend.or(self.mend_about(refusal, about)),
-                allowed_check(contexts, contents.receivers, call, refusal, about),
+                told.mend.or(self.mend_about(refusal, about)),
+                allowed_check(contexts, told.receivers, call, refusal, about),
             ),
         }
     }

@@ -1,6 +1,7 @@
 // SPDX-License-Identifier: MIT OR Apache-2.0
 //! The checks of FFA_MEM_RELINQUISH: whether an endpoint may give up what it asks to.
-ghost use Rattle.std.specs.Prelude.{◌≡◌, length, Some, IfOk};
+ghost use Rattle.std.specs.Prelude.{◌≡◌, ℕ, List, length, Some, IfOk};
+ghost use Rattle.std.specs.FinMap as finite;
 ghost use Rattle.std.specs.Result.{result_err};
 ghost use Rattle.ffa_model.specs.Buffers.{buffers_in};
 ghost use Rattle.ffa_model.specs.Calls.{first_refusal};
@@ -9,7 +10,7 @@ ghost use Rattle.ffa_model.specs.RelinquishDescriptor.{relinquish_of};
 ghost use Rattle.ffa_model.specs.State.{Buffers as Own};
 ghost use Rattle.ffa_rxtx.specs.Parts.{IsInRam, tx_in};
 ghost use Rattle.ffa_memshare.specs.Found.{IsGivenUp};
-ghost use Rattle.ffa_memshare.specs.Stored.{open_in};
+ghost use Rattle.ffa_memshare.specs.Stored.{map_in, open_in};
 
 use crate::found::FoundReturn;
 use crate::open_slot::OpenSlot;
@@ -47,6 +48,19 @@ impl<O: Room<OpenSlot> + Drop> Pool<O> {
         let Ok(asked) = read_relinquish(&bytes) else {
             return Err(Refusal::DescriptorMalformed);
         };
+        self.check_given_up(caller, &asked)
+    }
+
+    // Whether an endpoint may give up what it asks to.
+    pub(crate) fn check_given_up(
+        &self,
+        caller: EndpointId,
+        asked: &RelinquishDesc,
+    ) -> Result<FoundReturn, Refusal>
+        ensures refusal { let named = finite.get (map_in self.now.slots) asked.now.handle in
+            result_err result ≡ first_refusal (holder_guards caller.0 asked.now named) }
+        ensures found { (bytes : List ℕ) → relinquish_of bytes ≡ Some asked.now → IfOk result (IsGivenUp self.now.slots bytes) }
+    {
         if asked.endpoint != caller {
             return Err(Refusal::EndpointIsAnother);
         }
@@ -54,7 +68,7 @@ impl<O: Room<OpenSlot> + Drop> Pool<O> {
             return Err(Refusal::NotOffered);
         };
         let open = self.at(slot);
-        open.check_relinquish(caller, &asked)?;
+        open.check_relinquish(caller, asked)?;
         Ok(FoundReturn {
             slot,
             zero: asked.zero,

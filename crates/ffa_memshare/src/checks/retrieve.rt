@@ -2,10 +2,12 @@
 //! The checks of FFA_MEM_RETRIEVE_REQ: what a receiver asks for, and the most that it may hold.
 ghost use Rattle.ffa_rxtx.specs.Parts.{ownership_in};
 ghost use Rattle.std.specs.Prelude.{◌≡◌, ℕ, length, true, is_some, OnOk, IfOk, IfSome, Some};
+ghost use Rattle.std.specs.FinMap as finite;
 ghost use Rattle.std.specs.Result.{result_err};
 ghost use Rattle.ffa_model.specs.Access.{is_receiver};
 ghost use Rattle.ffa_model.specs.Buffers.{buffers_in};
 ghost use Rattle.ffa_model.specs.Calls.{first_refusal};
+ghost use Rattle.ffa_model.specs.DescriptorPlaces.{Versioned};
 ghost use Rattle.ffa_model.specs.MemoryRetrieve.{asked_right, holding_guards, is_kind_right, retrieve_guards, right_for};
 ghost use Rattle.ffa_model.specs.RetrieveDescriptor.{retrieve_of};
 ghost use Rattle.ffa_model.specs.Rights.{is_at_most};
@@ -17,6 +19,7 @@ ghost use Rattle.ffa_memshare.specs.Memory.{memory_of, memory_parts};
 ghost use Rattle.ffa_memshare.specs.Ranges.{ArePlaced};
 ghost use Rattle.ffa_memshare.specs.Scenes.{descriptor_in, scene_in};
 ghost use Rattle.ffa_memshare.specs.Shared.{AreRangesInRam};
+ghost use Rattle.ffa_memshare.specs.Stored.{map_in};
 
 use crate::descriptor_call::DescriptorCall;
 use crate::found::FoundRight;
@@ -27,7 +30,7 @@ use crate::transaction::OpenTransaction;
 use ffa_model::{Address, Data, EndpointId, Kind, Refusal, RetrieveDesc, Rights, Room};
 use ffa_pages::{KeptPage, PageTable};
 use ffa_physmem::PhysMem;
-use ffa_rxtx::Buffers;
+use ffa_rxtx::{Buffers, Mapped};
 use ffa_stage2::Layout;
 
 impl<O: Room<OpenSlot> + Drop> Pool<O> {
@@ -60,12 +63,31 @@ impl<O: Room<OpenSlot> + Drop> Pool<O> {
         let Ok(asked) = read_retrieve(&found.bytes, call.version, caller) else {
             return Err(Refusal::DescriptorMalformed);
         };
+        self.check_asked(pages, layout.base, found.own, caller, &asked)
+    }
+
+    // Whether an endpoint with these buffers may take what it asks for.
+    pub(crate) fn check_asked<P: Room<KeptPage> + Drop>(
+        &self,
+        pages: &PageTable<P>,
+        base: Address,
+        own: Mapped,
+        caller: EndpointId,
+        asked: &RetrieveDesc,
+    ) -> Result<FoundRight, Refusal>
+        requires placed { AreRangesInRam self.now.slots base.0 (length pages.now) }
+        ensures refusal { let owners = ownership_in pages.now base.0 in
+            let named = finite.get (map_in self.now.slots) asked.now.handle in
+            result_err result ≡ first_refusal (holding_guards owners own.is_full caller.0 asked.now named) }
+        ensures own { IfOk result (λ found. found.own ≡ own) }
+        ensures found { (bytes : Versioned) → retrieve_of caller.0 bytes ≡ Some asked.now
+            → IfOk result (IsAskedFor self.now.slots (ownership_in pages.now base.0) caller.0 bytes) }
+    {
         let Some(slot) = self.find(asked.handle) else {
             return Err(Refusal::HandleUnknown);
         };
         let open = self.at(slot);
-        let own = found.own;
-        let right = open.check_retrieve(pages, layout.base, own.is_full, caller, &asked)?;
+        let right = open.check_retrieve(pages, base, own.is_full, caller, asked)?;
         Ok(FoundRight { slot, right, own })
     }
 }

@@ -1,16 +1,17 @@
 // SPDX-License-Identifier: MIT OR Apache-2.0
 //! The checks of FFA_MEM_DONATE, FFA_MEM_LEND and FFA_MEM_SHARE: whether an endpoint may send what it offers.
 ghost use Rattle.ffa_model.specs.Buffers.{is_own};
-ghost use Rattle.std.specs.Prelude.{◌≡◌, ◌<◌, ℕ, length, [], OnOk, IfOk, ◌||◌};
+ghost use Rattle.std.specs.Prelude.{◌≡◌, ◌<◌, ◌++◌, ℕ, length, false, Some, [], OnOk, IfOk, ◌||◌};
 ghost use Rattle.std.specs.List.{list_all};
 ghost use Rattle.std.specs.Result.{result_err};
 ghost use Rattle.arrayvec.specs.ArrayVec.{array_vec_len};
 ghost use Rattle.ffa_model.specs.declared.limits.TheConstants.{MOST_SENDS};
 ghost use Rattle.ffa_memshare.specs.declared.pool.TheConstants.{MOST_SLOTS};
 ghost use Rattle.ffa_model.specs.Calls.{first_refusal};
-ghost use Rattle.ffa_model.specs.Identifiers.{place};
-ghost use Rattle.ffa_model.specs.MemorySend.{are_known, is_inside, is_sendable, send_guards, record_guards};
-ghost use Rattle.ffa_model.specs.SendDescriptor.{send_of, send_record};
+ghost use Rattle.ffa_model.specs.DescriptorPlaces.{Versioned};
+ghost use Rattle.ffa_model.specs.Identifiers.{identifier, place};
+ghost use Rattle.ffa_model.specs.MemorySend.{are_known, is_inside, is_sendable, record_guards, room_guards, send_guards, world_guards};
+ghost use Rattle.ffa_model.specs.SendDescriptor.{is_named, send_of, send_record};
 ghost use Rattle.ffa_model.specs.Transactions.{next_handle, sends_of};
 ghost use Rattle.ffa_rxtx.specs.Parts.{ownership_in};
 ghost use Rattle.ffa_stage2.specs.Layout.{normal_in};
@@ -32,6 +33,7 @@ use crate::open_slot::OpenSlot;
 use crate::page_ranges::PageRanges;
 use crate::page_run::read_send;
 use crate::pool::Pool;
+use crate::transaction::OpenTransaction;
 use ffa_model::{
     Address, Data, EndpointId, Kind, PageNo, Range, Receiver, Refusal, Room, SendDesc,
 };
@@ -76,19 +78,50 @@ impl<O: Room<OpenSlot> + Drop> Pool<O> {
         let Ok(()) = read_send(&found.bytes, call.version, kind, &mut draft.offer) else {
             return Err(Refusal::DescriptorMalformed);
         };
-        let transaction = &mut draft.transaction;
-        check_offer(
-            &draft.offer,
+        self.check_offered(
             layout,
             pages,
             buffers,
             caller,
-            &mut transaction.ranges,
-        )?;
-        let receivers = draft.offer.receivers.as_slice();
+            kind,
+            &draft.offer,
+            &mut draft.transaction,
+        )
+    }
+
+    // Whether an endpoint may send an offer that a descriptor made: the free slot for the transaction, which stands in place of
+    // another then.
+    pub(crate) fn check_offered<P: Room<KeptPage> + Drop>(
+        &self,
+        layout: &Layout,
+        pages: &PageTable<P>,
+        buffers: &Buffers,
+        caller: EndpointId,
+        kind: Kind,
+        offer: &SendDesc,
+        transaction: &mut OpenTransaction,
+    ) -> Result<usize, Refusal>
+        requires known { identifier (place caller.0) ≡ caller.0 }
+        requires place { place caller.0 < length self.now.sent }
+        requires aligned { AreAligned offer.now.ranges.items }
+        ensures refusal { let owners = ownership_in pages.now layout.now.base.0 in
+            let send = send_record offer.now in
+            result_err result ≡ first_refusal (record_guards (array_vec_len layout.now.regions) owners buffers.now caller.0 send
+            ++ (world_guards owners (normal_in layout.now) send ++ room_guards (open_in self.now) caller.0)) }
+        ensures handle { OnOk result (transaction.new.handle ≡ next_handle (open_in self.now) caller.0) }
+        ensures offered { let send = send_record offer.now in
+            (bytes : Versioned) → send_of kind bytes ≡ Some send → is_named send.sender send.receivers ≡ false
+            → OnOk result (DescribesOffer pages.now layout.now.base.0 (normal_in layout.now) caller.0 kind bytes (view_of transaction.new)) }
+        ensures free { IfOk result (IsFree self.now.slots (place caller.0)) }
+        ensures few { OnOk result (sends_of (open_in self.now) caller.0 < MOST_SENDS) }
+        ensures fits { IfOk result (λ slot. slot < MOST_SLOTS) }
+    {
+        let ranges = &mut transaction.ranges;
+        check_offer(offer, layout, pages, buffers, caller, ranges)?;
+        let receivers = offer.receivers.as_slice();
         let normal = check_worlds(layout, pages, receivers, &transaction.ranges)?;
         let slot = self.room(caller)?;
-        transaction.offer(self.next_handle(caller), kind, normal, &draft.offer);
+        transaction.offer(self.next_handle(caller), kind, normal, offer);
         Ok(slot)
     }
 }

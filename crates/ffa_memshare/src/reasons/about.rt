@@ -3,28 +3,36 @@
 ghost use Rattle.std.specs.Prelude.{◌≡◌, Some, None, find, is_some, length, not, if◌then◌else◌};
 ghost use Rattle.std.specs.Option.{option_and_then, option_map};
 ghost use Rattle.std.specs.FinMap as finite;
+ghost use Rattle.arrayvec.specs.ArrayVec.{array_vec_len};
 ghost use Rattle.ffa_model.specs.declared.transaction.Receiver.{Receiver as Named};
-ghost use Rattle.ffa_model.specs.About.{failing_reclaim, failing_send};
-ghost use Rattle.ffa_model.specs.AboutContents.{about_field, about_relinquish, about_retrieve, about_send, if_malformed, is_known_receiver, named_by_relinquish, named_by_retrieve, named_by_send, unknown_receiver, where_mapped, where_whole};
+ghost use Rattle.ffa_model.specs.About.{failing_reclaim};
+ghost use Rattle.ffa_model.specs.AboutContents.{about_field, about_relinquish, about_retrieve, is_known_receiver, named_by_relinquish, named_by_retrieve, named_by_send, unknown_receiver, where_mapped, where_whole};
 ghost use Rattle.ffa_model.specs.Access.{held_by, is_receiver};
 ghost use Rattle.ffa_model.specs.Buffers.{buffers_in};
+ghost use Rattle.ffa_model.specs.Calls.{first_refusal};
 ghost use Rattle.ffa_model.specs.DescriptorPlaces.{in_version};
-ghost use Rattle.ffa_model.specs.MemoryRetrieve.{right_for};
+ghost use Rattle.ffa_model.specs.MemoryRetrieve.{retrieve_guards, right_for};
+ghost use Rattle.ffa_model.specs.MemorySend.{send_guards};
+ghost use Rattle.ffa_model.specs.MemoryReturn.{relinquish_guards};
+ghost use Rattle.ffa_model.specs.RelinquishDescriptor.{relinquish_of};
+ghost use Rattle.ffa_model.specs.RetrieveDescriptor.{retrieve_of};
 ghost use Rattle.ffa_model.specs.SendDescriptor.{send_of, send_record};
 ghost use Rattle.ffa_model.specs.State.{Buffers as Own};
 ghost use Rattle.ffa_model.specs.Transactions.{ceiling};
-ghost use Rattle.ffa_mend.specs.Allowed.{told_receivers};
 ghost use Rattle.ffa_mend.specs.Explained.{explained};
-ghost use Rattle.ffa_mend.specs.Mend.{mend_asked, mend_given_back, mend_held, mend_offered, mend_retrieve, mend_return, mend_send, mend_sent, mend_zeros};
+ghost use Rattle.ffa_mend.specs.Mend.{mend_asked, mend_given_back, mend_held, mend_offered, mend_retrieve, mend_return, mend_sent, mend_zeros};
 ghost use Rattle.ffa_rxtx.specs.Parts.{IsInRam, ownership_in, tx_in};
-ghost use Rattle.ffa_stage2.specs.Layout.{normal_in};
+ghost use Rattle.ffa_memshare.specs.Callers.{IsCaller};
+ghost use Rattle.ffa_memshare.specs.Found.{sent_told};
+ghost use Rattle.ffa_memshare.specs.Memory.{memory_of, memory_parts};
 ghost use Rattle.ffa_memshare.specs.Ranges.{ArePlaced};
-ghost use Rattle.ffa_memshare.specs.Scenes.{descriptor_in};
+ghost use Rattle.ffa_memshare.specs.Scenes.{descriptor_in, scene_in};
 ghost use Rattle.ffa_memshare.specs.Shared.{AreRangesInRam};
-ghost use Rattle.ffa_memshare.specs.Stored.{map_in, view_of};
+ghost use Rattle.ffa_memshare.specs.Stored.{map_in, open_in, view_of};
 
 use crate::checks::retrieve::asked_right;
 use crate::descriptor_call::DescriptorCall;
+use crate::draft::Draft;
 use crate::open_slot::OpenSlot;
 use crate::page_run::{PageRun, read_relinquish, read_retrieve, read_send};
 use crate::pool::Pool;
@@ -44,115 +52,135 @@ use ffa_stage2::Layout;
 // The field of a header with the number of receivers.
 const COUNT: FieldPlace = FieldPlace { first: 28, size: 4 };
 
-/// Explains a check that refuses FFA_MEM_DONATE, FFA_MEM_LEND or FFA_MEM_SHARE of an endpoint, one of this many: the field of
-/// which a condition is broken, or an endpoint that the descriptor names, or the first page that it names and that fails the check.
-/// Of ranges outside RAM the first page outside, and of pages of both worlds whether all are secure.
-pub fn explain_send<M: PhysMem, P: Room<KeptPage> + Drop>(
-    ram: &M,
-    layout: &Layout,
-    pages: &PageTable<P>,
-    buffers: &Buffers,
-    caller: EndpointId,
-    endpoints: usize,
-    kind: Kind,
-    call: &DescriptorCall,
-    refusal: Refusal,
-) -> Explained
-    requires tx { (b : Own) → buffers_in buffers.now caller.0 ≡ Some b → IsInRam (length (M.ram ram.now).pages) b }
-    ensures about { let bytes = descriptor_in (M.ram ram.now) buffers.now caller.0 call.now in
-        result.about ≡ where_whole buffers.now caller.0 call.now.transfer (about_send kind endpoints bytes refusal) }
-    ensures page { let owners = ownership_in pages.now layout.now.base.0 in
-        let offer = send_of kind (descriptor_in (M.ram ram.now) buffers.now caller.0 call.now) in
-        result.page ≡ failing_send caller.0 owners buffers.now (normal_in layout.now) call.now.transfer offer refusal }
-    ensures mend { let owners = ownership_in pages.now layout.now.base.0 in
-        let offer = send_of kind (descriptor_in (M.ram ram.now) buffers.now caller.0 call.now) in
-        result.mend ≡ mend_send buffers.now owners (normal_in layout.now) caller.0 call.now.transfer offer refusal }
-    ensures receivers { let bytes = descriptor_in (M.ram ram.now) buffers.now caller.0 call.now in
-        result.receivers ≡ told_receivers buffers.now caller.0 call.now.transfer bytes }
-{
-    let Ok(found) = call.descriptor(ram, buffers, caller) else {
-        return Explained::of(None, None);
-    };
-    let receivers = field_value(&found.bytes, &COUNT);
-    let mut offer = SendDesc::none();
-    match read_send(&found.bytes, call.version, kind, &mut offer) {
-        Ok(()) => Explained {
-            about: named_by_send(&offer, endpoints, refusal),
-            page: failing_offer(&offer, pages, layout, buffers, caller, refusal),
-            mend: mend_offer(&offer, pages, layout, refusal),
-            receivers,
-        },
-        Err(flaw) => Explained {
-            about: about_flaw(&found.bytes, call.version, flaw, refusal),
-            page: None,
-            mend: None,
-            receivers,
-        },
-    }
-}
-
 impl<O: Room<OpenSlot> + Drop> Pool<O> {
-    /// Explains a check that refuses FFA_MEM_RETRIEVE_REQ of an endpoint: the field of which a condition is broken, or an endpoint or
-    /// a handle that the descriptor names, with what the transaction has instead.
-    pub fn explain_retrieve<M: PhysMem, P: Room<KeptPage> + Drop>(
+    /// The first check of FFA_MEM_DONATE, FFA_MEM_LEND or FFA_MEM_SHARE of an endpoint that fails. With it the field of which a
+    /// condition is broken, or an endpoint that the descriptor names, or the first page that it names and that fails the check.
+    /// Of ranges outside RAM the first page outside, and of pages of both worlds whether all are secure.
+    pub fn why_send<M: PhysMem, P: Room<KeptPage> + Drop>(
         &self,
         ram: &M,
-        base: Address,
+        layout: &Layout,
+        pages: &PageTable<P>,
+        buffers: &Buffers,
+        caller: EndpointId,
+        kind: Kind,
+        call: &DescriptorCall,
+    ) -> Option<(Refusal, Explained)>
+        requires caller { IsCaller (memory_of (M.ram ram.now) layout.now pages.now) buffers.now caller.0 }
+        requires endpoints { length self.now.sent ≡ array_vec_len layout.now.regions }
+        ensures { let scene = scene_in (memory_parts (M.ram ram.now) layout.now pages.now buffers.now self.now) in
+            let bytes = descriptor_in (M.ram ram.now) buffers.now caller.0 call.now in
+            let told = sent_told scene caller.0 kind call.now.transfer bytes in
+            result ≡ option_map told (first_refusal (send_guards scene caller.0 call.now.transfer (send_of kind bytes))) }
+    {
+        let found = match call.descriptor(ram, buffers, caller) {
+            Ok(found) => found,
+            Err(refusal) => return Some((refusal, Explained::of(None, None))),
+        };
+        let receivers = field_value(&found.bytes, &COUNT);
+        let mut draft = Draft::none();
+        let offer = &mut draft.offer;
+        if let Err(flaw) = read_send(&found.bytes, call.version, kind, offer) {
+            let told = Explained {
+                about: Some(about_field(&found.bytes, call.version, flaw)),
+                page: None,
+                mend: None,
+                receivers,
+            };
+            return Some((Refusal::DescriptorMalformed, told));
+        }
+        let offer = &draft.offer;
+        let opened = &mut draft.transaction;
+        let checked = self.check_offered(layout, pages, buffers, caller, kind, offer, opened);
+        let refusal = checked.err()?;
+        let told = Explained {
+            about: named_by_send(offer, layout.regions.len(), refusal),
+            page: failing_offer(offer, pages, layout, buffers, caller, refusal),
+            mend: mend_offer(offer, pages, layout, refusal),
+            receivers,
+        };
+        Some((refusal, told))
+    }
+
+    /// The first check of FFA_MEM_RETRIEVE_REQ of an endpoint that fails. With it the field of which a condition is broken, or an
+    /// endpoint or a handle that the descriptor names, and what the transaction has instead.
+    pub fn why_retrieve<M: PhysMem, P: Room<KeptPage> + Drop>(
+        &self,
+        ram: &M,
+        layout: &Layout,
         pages: &PageTable<P>,
         buffers: &Buffers,
         caller: EndpointId,
         call: &DescriptorCall,
-        refusal: Refusal,
-    ) -> Explained
-        requires placed { AreRangesInRam self.now.slots base.0 (length pages.now) }
-        requires tx { (b : Own) → buffers_in buffers.now caller.0 ≡ Some b → IsInRam (length (M.ram ram.now).pages) b }
-        ensures { let owners = ownership_in pages.now base.0 in
+    ) -> Option<(Refusal, Explained)>
+        requires placed { AreRangesInRam self.now.slots layout.now.base.0 (length pages.now) }
+        requires caller { IsCaller (memory_of (M.ram ram.now) layout.now pages.now) buffers.now caller.0 }
+        ensures { let scene = scene_in (memory_parts (M.ram ram.now) layout.now pages.now buffers.now self.now) in
             let named = finite.get (map_in self.now.slots) in
+            let x = call.now.transfer in
             let bytes = descriptor_in (M.ram ram.now) buffers.now caller.0 call.now in
-            let about = where_whole buffers.now caller.0 call.now.transfer (about_retrieve caller.0 bytes refusal) in
-            result ≡ explained about None (mend_asked buffers.now owners named caller.0 call.now.transfer bytes refusal) }
+            result ≡ option_map (λ refusal. (
+              refusal,
+              explained (where_whole buffers.now caller.0 x (about_retrieve caller.0 bytes refusal)) None
+                  (mend_asked buffers.now scene.ram named caller.0 x bytes refusal),
+            ))
+            (first_refusal (retrieve_guards scene caller.0 x (retrieve_of caller.0 bytes))) }
     {
-        let Ok(found) = call.descriptor(ram, buffers, caller) else {
-            return Explained::of(None, None);
+        let found = match call.descriptor(ram, buffers, caller) {
+            Ok(found) => found,
+            Err(refusal) => return Some((refusal, Explained::of(None, None))),
         };
         match read_retrieve(&found.bytes, call.version, caller) {
-            Ok(asked) => Explained::of(
-                named_by_retrieve(&asked, refusal),
-                self.mend_asked(pages, base, caller, &asked, refusal),
-            ),
+            Ok(asked) => {
+                let checked = self.check_asked(pages, layout.base, found.own, caller, &asked);
+                let refusal = checked.err()?;
+                let mend = self.mend_asked(pages, layout.base, caller, &asked, refusal);
+                let told = Explained::of(named_by_retrieve(&asked, refusal), mend);
+                Some((refusal, told))
+            }
             Err(flaw) => {
-                let about = about_flaw(&found.bytes, call.version, flaw, refusal);
-                Explained::of(about, None)
+                let about = about_field(&found.bytes, call.version, flaw);
+                let told = Explained::of(Some(about), None);
+                Some((Refusal::DescriptorMalformed, told))
             }
         }
     }
 
-    /// Explains a check that refuses FFA_MEM_RELINQUISH of an endpoint in the same way.
-    pub fn explain_relinquish<M: PhysMem>(
+    /// The first check of FFA_MEM_RELINQUISH of an endpoint that fails, explained in the same way.
+    pub fn why_relinquish<M: PhysMem>(
         &self,
         ram: &M,
         buffers: &Buffers,
         caller: EndpointId,
-        refusal: Refusal,
-    ) -> Explained
+    ) -> Option<(Refusal, Explained)>
         requires tx { (b : Own) → buffers_in buffers.now caller.0 ≡ Some b → IsInRam (length (M.ram ram.now).pages) b }
         ensures { let own = buffers_in buffers.now caller.0 in
             let named = finite.get (map_in self.now.slots) in
             let bytes = tx_in (M.ram ram.now) own in
-            let about = where_mapped own (about_relinquish bytes refusal) in
-            result ≡ explained about None (mend_given_back named caller.0 own bytes refusal) }
+            result ≡ option_map (λ refusal. (
+              refusal,
+              explained (where_mapped own (about_relinquish bytes refusal)) None
+                  (mend_given_back named caller.0 own bytes refusal),
+            ))
+            (first_refusal (relinquish_guards own (open_in self.now) caller.0 (relinquish_of bytes))) }
     {
         let Some(mapped) = buffers.of(caller) else {
-            return Explained::of(None, None);
+            return Some((Refusal::BuffersMissing, Explained::of(None, None)));
         };
         let bytes = PageRun::new(ram, mapped.tx, mapped.pages, mapped.room());
         match read_relinquish(&bytes) {
-            Ok(asked) => Explained::of(
-                named_by_relinquish(&asked, refusal),
-                self.mend_return(asked.handle, caller, refusal),
-            ),
+            Ok(asked) => {
+                let refusal = self.check_given_up(caller, &asked).err()?;
+                let mend = self.mend_return(asked.handle, caller, refusal);
+                let told = Explained::of(named_by_relinquish(&asked, refusal), mend);
+                Some((refusal, told))
+            }
             // A relinquish has one form in both versions.
-            Err(flaw) => Explained::of(about_flaw(&bytes, Version::V1_1, flaw, refusal), None),
+            Err(flaw) => {
+                let about = about_field(&bytes, Version::V1_1, flaw);
+                let told = Explained::of(Some(about), None);
+                Some((Refusal::DescriptorMalformed, told))
+            }
         }
     }
 
@@ -340,21 +368,7 @@ fn mend_held(its: Option<&OpenTransaction>) -> Option<Mend>
     }
 }
 
-// A condition that bytes break, with its field, where the check is that they are a descriptor.
-fn about_flaw<M: PhysMem>(
-    bytes: &PageRun<M>,
-    version: Version,
-    flaw: Flaw,
-    refusal: Refusal,
-) -> Option<About>
-    ensures { result ≡ if_malformed refusal (about_field (in_version version bytes.now) flaw) }
-{
-    match refusal {
-        Refusal::DescriptorMalformed => Some(about_field(bytes, version, flaw)),
-        _ => None,
-    }
-}
-
+// A condition that bytes break, with its field.
 fn about_field<M: PhysMem>(bytes: &PageRun<M>, version: Version, flaw: Flaw) -> About
     ensures { result ≡ about_field (in_version version bytes.now) flaw }
 {

@@ -5,7 +5,7 @@ use Rattle.ffa_spmc.specs.Lent.{lent_parts}
 use Rattle.ffa_model.specs.Notifications.{notification_set}
 use Rattle.ffa_reasons.proofs.Checked.{seen-refusal, set-checked}
 use Rattle.ffa_spmc.proofs.Notified.{runner-notified}
-use Rattle.ffa_reasons.proofs.reasons.Reasons.notification_set_refusal.Goals as goal
+use Rattle.ffa_reasons.proofs.reasons.Reasons.set_refusal.Goals as goal
 
 pub returns : goal.returns
 returns g c =
