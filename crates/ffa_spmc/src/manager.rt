@@ -82,8 +82,8 @@ impl<M: PhysMem + Drop, S: Store> Model for Manager<M, S> {
 
 impl<M: PhysMem + Drop, S: Store> Manager<M, S> {
     // The manager of a manifest in its first state, in RAM of which all is zeros but what the manifest's regions hold, with this
-    // room: it builds the tables. It is inlined where a machine boots, since a call would hand what it keeps on through a copy more.
-    #[inline(always)]
+    // room: it builds the tables. It is not inlined where a machine boots, so that what it keeps is copied less often.
+    #[inline(never)]
     pub(crate) fn first(manifest: &Manifest, ram: M, storage: Storage<S>) -> Manager<M, S>
         requires ram { IsReadyFor manifest.now (M.ram ram) }
         requires storage { IsRoomFor manifest.now storage }
