@@ -66,7 +66,7 @@ pub record IsRead (run : Run) (begins : Bool) (old new : Snapshot) : Type 0 wher
   pub sound : IsSoundState new.state
   pub walks : AreWalks new
 
--- so are pages, if there are any; else the machine stays as it is
+-- Pages of a run are read so, if there is a run. Else the machine stays as it is.
 abbrev pub AreRead : Option Run → Bool → Snapshot → Snapshot → Type 0
 AreRead None begins old new = new ≡ old
 AreRead (Some run) begins old new = IsRead run begins old new

@@ -67,7 +67,7 @@ impl<S: Store> Kept<S> {
     }
 
     /// The same once more, in this room.
-    // Not inlined, alike.
+    // Not inlined, so that the stack of its copies is free again when the copy is handed on.
     #[inline(never)]
     pub fn copy_in<R: Store>(&self, storage: Storage<R>) -> Kept<R>
         requires pages { length storage.pages ≡ length self.now.pages }

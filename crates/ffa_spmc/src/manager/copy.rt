@@ -11,8 +11,7 @@ use ffa_stage2::settle_tables;
 
 impl<M: PhysMem + Drop, S: Store> Manager<M, S> {
     // The same manager in this RAM, of which it writes every byte, and in this room. The tables are settled, as behind a boot.
-    // Not inlined, as `first` isn't.
-    #[inline(never)]
+    #[inline(always)]
     pub(crate) fn copy_in<N: PhysMem + Drop, R: Store>(
         &self,
         storage: Storage<R>,
