@@ -2,12 +2,11 @@
 -- What the standard calls the functions and the error codes that registers hold (DEN0077A, 11 to 16).
 use Rattle.std.specs.Prelude.{ℕ, ◌==◌, List, [], ◌∷◌, ◌++◌, Option, None, codes, find, slice_index, if◌then◌else◌}
 use Rattle.std.specs.Option.{option_map, option_or}
-use Rattle.ffa_model.specs.declared.function.TheConstants.{FFA_ERROR, FFA_INTERRUPT, FFA_SUCCESS, FFA_MEM_RETRIEVE_RESP, FFA_SUCCESS_64}
+use Rattle.ffa_model.specs.declared.function.TheConstants.{FFA_ERROR, FFA_INTERRUPT, FFA_NOTIFICATION_INFO_GET, FFA_NOTIFICATION_INFO_GET_64, FFA_SUCCESS, FFA_MEM_RETRIEVE_RESP, FFA_SUCCESS_64}
 use Rattle.ffa_model.specs.declared.operation.ErrorCode.TheVariants.{NotSupported, InvalidParameters, NoMemory, Busy, Denied}
 use Rattle.ffa_model.specs.Calls.{code_number}
 use Rattle.ffa_model.specs.Registers.{low}
 use Rattle.ffa_model.specs.Rows.{row_of}
-use Rattle.ffa_abi.specs.declared.names.TheConstants.{FFA_NOTIFICATION_INFO_GET, FFA_NOTIFICATION_INFO_GET_64}
 
 -- a number, and its name
 abbrev pub Row : Type 0
@@ -33,6 +32,10 @@ notice_names =
 abbrev pub other_names : List Row
 other_names = answer_names ++ notice_names
 
+-- there is nothing to tell, as 32 bits of two's complement
+abbrev pub no_data : ℕ
+no_data = 0xFFFFFFF7
+
 -- why a call is refused, by the number that stands in w2, which is 32 bits of two's complement (DEN0077A, 11.2)
 abbrev pub error_names : List Row
 error_names =
@@ -44,7 +47,7 @@ error_names =
     ∷ (code_number Denied, codes "DENIED")
     ∷ (0xFFFFFFF9, codes "RETRY")
     ∷ (0xFFFFFFF8, codes "ABORTED")
-    ∷ (0xFFFFFFF7, codes "NO_DATA")
+    ∷ (no_data, codes "NO_DATA")
     ∷ []
 
 -- the name in the first row that has the number

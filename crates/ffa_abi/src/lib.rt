@@ -9,8 +9,5 @@ mod reply;
 
 pub use call::{decode, decode_into, is_function, is_read_whole, low};
 pub use ffa_model::{Call, CallRow, Reply};
-pub use names::{
-    FFA_NOTIFICATION_INFO_GET, FFA_NOTIFICATION_INFO_GET_64, call_name, call_place, call_row,
-    error_name,
-};
+pub use names::{call_name, call_place, call_row, error_name};
 pub use reply::{encode, encode_into};

@@ -7,16 +7,10 @@ ghost use Rattle.ffa_abi.specs.Names.{call_name_of, error_name_of, error_names, 
 
 use crate::call::low;
 use ffa_model::function::{
-    FFA_ERROR, FFA_INTERRUPT, FFA_MEM_RETRIEVE_RESP, FFA_SUCCESS, FFA_SUCCESS_64, WIDE,
+    FFA_ERROR, FFA_INTERRUPT, FFA_MEM_RETRIEVE_RESP, FFA_NOTIFICATION_INFO_GET,
+    FFA_NOTIFICATION_INFO_GET_64, FFA_SUCCESS, FFA_SUCCESS_64, WIDE,
 };
 use ffa_model::{CALLS, CallRow};
-
-/// Which endpoints are to run since notifications of theirs are pending. Only a machine of several processors serves it; any
-/// other supports it as little as a number that is no call (DEN0077A, 16).
-pub const FFA_NOTIFICATION_INFO_GET: u32 = 0x8400_0083;
-
-/// The same in its form of 64 bits.
-pub const FFA_NOTIFICATION_INFO_GET_64: u32 = FFA_NOTIFICATION_INFO_GET + WIDE;
 
 /// The row of the call of which a number is the identifier, in either form that the call has (DEN0077A, 11 to 16).
 #[tactic(auto, unfolding(ffa_model::specs::Rows::row_of))]

@@ -60,6 +60,7 @@ pub mod Services
 pub mod Laws
 pub mod Shows
 pub mod SoundOperations
+pub mod OwnTx
 pub mod Clean
 pub mod Readings
 pub mod ReadRuns
@@ -71,6 +72,8 @@ pub mod Waiting
 pub mod ElsewhereLaws
 pub mod ElsewhereRunLaws
 pub mod Stores
+pub mod Simple
+pub mod Worlds
 pub mod ProcessorLaws
 pub mod ProcessorRights
 pub mod ProcessorRunLaws

@@ -1,26 +1,46 @@
 -- SPDX-License-Identifier: MIT OR Apache-2.0
--- The laws of a list of operations and interrupts of several processors, by induction.
-use Rattle.std.proofs.Common.{◌≡◌, ◌≢◌, ◌∙◌, ℕ, ◌<◌, true, false, cond, List, [], ◌∷◌, ◌++◌, length, Option, Some, None, refl, sym, ap, subst, length-set, ◌==◌, nat_lt}
-use Rattle.std.specs.List.{list_all}
-use Rattle.std.proofs.lemmas.Bool.{and_parts, eq-eqb, eqb-true, ltb-true, true≢false}
+-- The laws of a list of operations and interrupts of several processors, and of stores meanwhile, by induction.
+use Rattle.std.proofs.Common.{◌≡◌, ◌≢◌, ◌∙◌, ℕ, ◌<◌, Bool, true, false, cond, List, [], ◌∷◌, ◌++◌, length, set, Option, Some, None, refl, sym, ap, subst, length-set, ◌==◌, ◌&&◌, ◌%◌, nat_lt, inl, inr}
+use Rattle.byteorder.specs.Endian.{little_bytes}
+use Rattle.std.proofs.lemmas.Bool.{and_from, and_parts, cases_eq, eq-eqb, eqb-true, false≢true, ltb-true, true≢false}
 use Rattle.std.proofs.lemmas.List.{append_assoc, map-append}
+use Rattle.std.proofs.lemmas.List.Folds.{list_all-append}
+use Rattle.ffa_model.specs.declared.call.Call as calls
+use Rattle.ffa_model.specs.declared.call.Call.TheVariants.{Run}
 use Rattle.ffa_model.specs.declared.operation.Act.{Act}
 use Rattle.ffa_model.specs.declared.operation.Act.TheVariants.{Operate, Interrupt}
 use Rattle.ffa_model.specs.declared.operation.Effect.{Effect}
 use Rattle.ffa_model.specs.declared.operation.Effect.TheVariants as effects
+use Rattle.ffa_model.specs.declared.operation.FaultKind.{FaultKind}
 use Rattle.ffa_model.specs.declared.operation.Op.{Op}
+use Rattle.ffa_model.specs.declared.operation.Size.{Size}
+use Rattle.ffa_model.specs.declared.operation.Op.TheVariants.{Call, Load, Store, Fetch}
 use Rattle.ffa_model.specs.declared.operation.Outcome.{Outcome}
+use Rattle.ffa_model.specs.declared.operation.Outcome.TheVariants.{Done}
+use Rattle.ffa_model.specs.Elsewhere.{as_run_by, state_after_as, step_as, step_elsewhere}
+use Rattle.ffa_model.specs.Memory.{access_at, accessed, fault_of, size_of, store_fault, stored}
+use Rattle.ffa_model.specs.Registers.{decode}
+use Rattle.ffa_model.specs.Rights.{may_store}
+use Rattle.ffa_model.specs.RunStates.{Schedule, schedule_of}
+use Rattle.ffa_model.specs.Step.{step}
 use Rattle.ffa_model.specs.SoundState.{IsSoundState}
 use Rattle.ffa_model.specs.State.{State, Party, is_known, is_known_among}
 use Rattle.ffa_model.specs.Calls.{Stepped}
-use Rattle.ffa_model.specs.Processors.{Effected, Processors, Shared, acted, are_there, effected, interrupt, moved_to, noted, on, resumed_by, runner_on, shared_after, shared_after_all, state_on, step_resuming, turned}
+use Rattle.ffa_model.specs.Processors.{Effected, Processors, SameElsewhere, Shared, acted, are_there, effected, interrupt, moved_to, noted, may_resume, on, resumed_by, resumed_by_call, runner_on, shared_after, shared_after_all, state_on, step_resuming, turned}
 use Rattle.ffa_laws.specs.Events.{Event, Item, Own, Told, apply, apply_all, message, messages, public_change}
+use Rattle.ffa_laws.specs.Elsewhere.{events_as}
 use Rattle.ffa_laws.specs.Processors.{events_resuming, interrupt_events}
-use Rattle.ffa_laws.specs.ProcessorRuns.{IsSoundShared, IsolatedOn, items_of, items_on, outcomes_of, seen_of, seen_on, told}
+use Rattle.ffa_laws.specs.ProcessorRuns.{Acts, IsSoundShared, IsolatedOn, Turn, Writes, are_possible, as_turns, as_writes, is_possible, is_store, items_in, items_of, items_on, outcomes_of, seen_in, seen_of, seen_on, told, turn_after, turns_after}
+use Rattle.ffa_laws.specs.ElsewhereRuns.{are_known}
 use Rattle.ffa_laws.specs.Steady.{IsSteady}
+use Rattle.ffa_laws.specs.Stores.{AreStores}
 use Rattle.ffa_laws.specs.View.{view}
 use Rattle.ffa_laws.specs.Isolation.{NeverGrow}
+use Rattle.ffa_model.proofs.Processors.{placed-still}
+use Rattle.ffa_laws.proofs.ElsewhereLaws.{fixed-step_as, never_grows_as, one_step_as, own-step_as, sound-step_as, step_as-rests, step_as-runs}
 use Rattle.ffa_laws.proofs.ElsewhereRunLaws.{grows-through}
+use Rattle.ffa_laws.proofs.Form.{accessed-kept, viewed}
+use Rattle.ffa_laws.proofs.SoundLaws.{same-elsewhere}
 use Rattle.ffa_laws.proofs.Growth.{never_grow}
 use Rattle.ffa_laws.proofs.Kept.{step-fixed}
 use Rattle.ffa_laws.proofs.Laws.{own-step}
@@ -36,14 +56,34 @@ record Lived : Type 0 where
 abbrev seeing : List Effect → Lived → Lived
 seeing os later = record { seen = os ++ later.seen; view = later.view }
 
+-- an operation of e, whoever runs where it is a store
+as_effect : Stepped → Effected
+as_effect done = record { state = done.state; effect = effects.Outcome done.outcome }
+
+own_done : ℕ → State → Op → Effected
+own_done e v (Store address size value) = as_effect (step_as v e (Store address size value))
+own_done e v op = step_resuming v op
+
+own-store : (e : ℕ) (v : State) (op : Op) → is_store op ≡ true → own_done e v op ≡ as_effect (step_as v e op)
+unfolding own_done
+own-store e v (Store address size value) is = refl
+own-store e v op is = absurd (false≢true is)
+
+own-runs : (e : ℕ) (v : State) (op : Op) → v.runner ≡ e → own_done e v op ≡ step_resuming v op
+unfolding own_done as_effect
+own-runs e v (Store address size value) runs = ap (λ (done : Stepped). let x : Effected = record { state = done.state; effect = effects.Outcome done.outcome } in x) (step_as-runs v e (Store address size value) runs)
+own-runs e v (Load address size) runs = refl
+own-runs e v (Fetch address) runs = refl
+own-runs e v (Call x) runs = refl
+
 -- items done on a view in turn
 replay : ℕ → State → List Item → Lived
 replay e v [] = record { seen = []; view = v }
-replay e v (Own op ∷ rest) = seeing ((step_resuming v op).effect ∷ []) (replay e (step_resuming v op).state rest)
+replay e v (Own op ∷ rest) = seeing ((own_done e v op).effect ∷ []) (replay e (own_done e v op).state rest)
 replay e v (Told event ∷ rest) = seeing (outcomes_of (message e event)) (replay e (apply e v event) rest)
 
-lived : ℕ → Shared → List (ℕ × Act) → Lived
-lived e m xs = record { seen = seen_on e m xs; view = view e (shared_after_all m xs).state }
+lived : ℕ → Shared → List Turn → Lived
+lived e m xs = record { seen = seen_on e m xs; view = view e (turns_after m xs).state }
 
 told-on : (e : ℕ) (v : State) (es : List Event) (rest : List Item) → replay e v (told es ++ rest) ≡ seeing (outcomes_of (messages e es)) (replay e (apply_all e v es) rest)
 unfolding replay
@@ -76,8 +116,9 @@ module _ (e : ℕ) (s : State) (steady : IsSteady s) (known : is_known s e ≡ t
       elim (s.runner == e) as (λ b. (s.runner == e) ≡ b → replay e (view e s) (cond b (Own op ∷ []) (told (events_resuming e s op)) ++ rest)
       ≡ seeing (cond b ((step_resuming s op).effect ∷ []) (outcomes_of (messages e (events_resuming e s op)))) (replay e (view e (step_resuming s op).state) rest)) [
         | true ↦ λ mine.
-            let acts : step_resuming (view e s) op ≡ viewed_effect e (step_resuming s op) =
-            subst (λ f. step_resuming (view f s) op ≡ viewed_effect f (step_resuming s op)) (eqb-true s.runner e mine) (own-effect s op steady) in
+            let acts : own_done e (view e s) op ≡ viewed_effect e (step_resuming s op) =
+            own-runs e (view e s) op (eqb-true s.runner e mine)
+            ∙ subst (λ f. step_resuming (view f s) op ≡ viewed_effect f (step_resuming s op)) (eqb-true s.runner e mine) (own-effect s op steady) in
             ap (λ (done : Effected). seeing (done.effect ∷ []) (replay e done.state rest)) acts
         | false ↦ λ differ.
             told-on e (view e s) (events_resuming e s op) rest
@@ -106,7 +147,7 @@ module _ (m : Shared) (sound : IsSoundShared m) (p : ℕ) (within : p < length m
   }
 
 -- the endpoints stay, and the processors
-on-parties : (processors : Processors) (p : ℕ) (s : State) → (on processors p s).parties ≡ s.parties
+pub on-parties : (processors : Processors) (p : ℕ) (s : State) → (on processors p s).parties ≡ s.parties
 on-parties processors p s = elim (processors.current == p) as (λ b. (cond b s (moved_to s (runner_on processors p))).parties ≡ s.parties) [ true ↦ refl | false ↦ refl ]
 
 act-parties : (s : State) (act : Act) → (acted s act).state.parties ≡ s.parties
@@ -123,54 +164,216 @@ turned-size processors p s = elim (processors.current == p) as (λ b. length (co
   | false ↦ length-set processors.runners processors.current s.runner
 ]
 
-known-behind : (m : Shared) (x : ℕ × Act) (e : ℕ) → is_known m.state e ≡ true → is_known (shared_after m x).state e ≡ true
-known-behind m x e known =
-    subst (λ (parties : List Party). is_known_among (length parties) e ≡ true) (sym (act-parties (state_on m x.0) x.1 ∙ on-parties m.processors x.0 m.state)) known
+-- ---- behind a turn
+-- a store changes no run state
+same-schedule : (s : State) (e : ℕ) (op : Op) → is_store op ≡ true → schedule_of (step_as s e op).state ≡ schedule_of s
+same-schedule s e (Store address size value) is = elim (s.runner == e) as (λ b. schedule_of (cond b (step s (Store address size value)) (step_elsewhere s e (Store address size value))).state ≡ schedule_of s) [
+  | true ↦ accessed-kept (λ t. schedule_of t ≡ schedule_of s) s (stored s address (little_bytes (size_of size) value)) Done (store_fault s address (size_of size)) refl (λ none. refl)
+  | false ↦
+      accessed-kept (λ t. schedule_of (as_run_by s.runner t) ≡ schedule_of s) (as_run_by e s) (stored (as_run_by e s) address (little_bytes (size_of size) value)) Done
+      (store_fault (as_run_by e s) address (size_of size)) refl (λ none. refl)
+]
+same-schedule s e op is = absurd (false≢true is)
 
-there-behind : (m : Shared) (x : ℕ × Act) (xs : List (ℕ × Act)) → are_there m xs ≡ true → are_there (shared_after m x) xs ≡ true
-there-behind m x xs all = subst (λ n. list_all (λ (y : ℕ × Act). nat_lt y.0 n) xs ≡ true) (sym (turned-size m.processors x.0 m.state)) all
+turn-sound : (m : Shared) → IsSoundShared m → (x : Turn) → is_possible m x ≡ true → IsSoundShared (turn_after m x)
+turn-sound m sound (Acts p act) there = sound-behind m sound p (ltb-true p (length m.processors.runners) there) act
+turn-sound m sound (Writes e op) there =
+    let (known, is) = and_parts (is_known m.state e) (is_store op) there in
+    record {
+      state = sound-step_as m.state e op sound.state;
+      placed = placed-still m.processors m.state (step_as m.state e op).state
+          (subst (SameElsewhere (schedule_of m.state)) (sym (same-schedule m.state e op is)) (same-elsewhere (schedule_of m.state))) sound.placed;
+    }
 
-lived-is : (e : ℕ) (xs : List (ℕ × Act)) (m : Shared) → IsSoundShared m → is_known m.state e ≡ true → are_there m xs ≡ true → lived e m xs ≡ replay e (view e m.state) (items_on e m xs)
+-- the same endpoints and processors are there
+turn-parties : (m : Shared) (x : Turn) → (turn_after m x).state.parties ≡ m.state.parties
+turn-parties m (Acts p act) = act-parties (state_on m p) act ∙ on-parties m.processors p m.state
+turn-parties m (Writes e op) = ap (λ (parts : List Party × (ℕ × ℕ)). parts.0) (fixed-step_as m.state e op)
+
+known-behind : (m : Shared) (x : Turn) (e : ℕ) → is_known (turn_after m x).state e ≡ is_known m.state e
+known-behind m x e = ap (λ (parties : List Party). is_known_among (length parties) e) (turn-parties m x)
+
+processors-behind : (m : Shared) (x : Turn) → length (turn_after m x).processors.runners ≡ length m.processors.runners
+processors-behind m (Acts p act) = turned-size m.processors p m.state
+processors-behind m (Writes e op) = refl
+
+possible-behind : (m : Shared) (x y : Turn) → is_possible (turn_after m x) y ≡ is_possible m y
+possible-behind m x (Acts p act) = ap (nat_lt p) (processors-behind m x)
+possible-behind m x (Writes e op) = ap (λ (b : Bool). b && is_store op) (known-behind m x e)
+
+all-behind : (m : Shared) (x : Turn) (xs : List Turn) → are_possible (turn_after m x) xs ≡ are_possible m xs
+all-behind m x [] = refl
+all-behind m x (y ∷ ys) = λ i. possible-behind m x y i && all-behind m x ys i
+
+-- ---- lists of turns
+module _ (e : ℕ) (m : Shared) (sound : IsSoundShared m) (known : is_known m.state e ≡ true) where
+  turn-replayed : (x : Turn) → is_possible m x ≡ true → (rest : List Item)
+      → replay e (view e m.state) (items_in e m x ++ rest) ≡ seeing (seen_in e m x) (replay e (view e (turn_after m x).state) rest)
+  unfolding replay own_done as_effect
+  turn-replayed (Acts p act) there rest =
+      let within : p < length m.processors.runners = ltb-true p (length m.processors.runners) there in
+      let t = state_on m p in
+      let known_t : is_known t e ≡ true = subst (λ (parties : List Party). is_known_among (length parties) e ≡ true) (sym (on-parties m.processors p m.state)) known in
+      let steady = sound-steady t (sound-there m sound p within) in
+      ap (replay e (view e m.state)) (append_assoc (told (public_change m.state t)) (items_of e t act) rest)
+      ∙ told-on e (view e m.state) (public_change m.state t) (items_of e t act ++ rest)
+      ∙ ap (λ os. seeing (outcomes_of os) (replay e (apply_all e (view e m.state) (public_change m.state t)) (items_of e t act ++ rest))) (messages-public e m.state t)
+      ∙ ap (λ v. replay e v (items_of e t act ++ rest)) (sym (on-told m.processors p e m.state))
+      ∙ act-replayed e t steady known_t act rest
+  turn-replayed (Writes f op) there rest =
+      let s = m.state in
+      let (known_f, is) = and_parts (is_known s f) (is_store op) there in
+      let steady = sound-steady s sound.state in
+      elim (f == e) as (λ b. (f == e) ≡ b → replay e (view e s) (cond b (Own op ∷ []) (told (events_as e s f op)) ++ rest)
+      ≡ seeing (outcomes_of (cond b ((step_as s f op).outcome ∷ []) (messages e (events_as e s f op)))) (replay e (view e (step_as s f op).state) rest)) [
+        | true ↦ λ mine.
+            let acts : step_as (view e s) e op ≡ viewed e (step_as s f op) =
+            own-step_as s e op steady known ∙ ap (λ (g : ℕ). viewed e (step_as s g op)) (sym (eqb-true f e mine)) in
+            ap (λ (done : Effected). seeing (done.effect ∷ []) (replay e done.state rest)) (own-store e (view e s) op is ∙ ap as_effect acts)
+        | false ↦ λ differ.
+            told-on e (view e s) (events_as e s f op) rest
+            ∙ ap (λ v. seeing (outcomes_of (messages e (events_as e s f op))) (replay e v rest)) (sym ((one_step_as s f op steady known_f).others e known (apart differ)))
+      ] refl
+    where
+      apart : (f == e) ≡ false → f ≢ e
+      apart differ same = true≢false (sym (eq-eqb f e same) ∙ differ)
+
+lived-is : (e : ℕ) (xs : List Turn) (m : Shared) → IsSoundShared m → is_known m.state e ≡ true → are_possible m xs ≡ true → lived e m xs ≡ replay e (view e m.state) (items_on e m xs)
 unfolding replay lived
 lived-is e [] m sound known all = refl
 lived-is e (x ∷ xs) m sound known all =
-    let (here, rest) = and_parts (nat_lt x.0 (length m.processors.runners)) (are_there m xs) all in
-    let within : x.0 < length m.processors.runners = ltb-true x.0 (length m.processors.runners) here in
-    let t = state_on m x.0 in
-    let known_t : is_known t e ≡ true = subst (λ (parties : List Party). is_known_among (length parties) e ≡ true) (sym (on-parties m.processors x.0 m.state)) known in
-    let steady = sound-steady t (sound-there m sound x.0 within) in
-    let later = lived-is e xs (shared_after m x) (sound-behind m sound x.0 within x.1) (known-behind m x e known) (there-behind m x xs rest) in
-    let later_items = items_on e (shared_after m x) xs in
-    ap (seeing (seen_of e t x.1)) later
-    ∙ sym (act-replayed e t steady known_t x.1 later_items)
-    ∙ ap (λ v. replay e v (items_of e t x.1 ++ later_items)) (on-told m.processors x.0 e m.state)
-    ∙ ap (λ os. seeing (outcomes_of os) (replay e (apply_all e (view e m.state) (public_change m.state t)) (items_of e t x.1 ++ later_items))) (sym (messages-public e m.state t))
-    ∙ sym (told-on e (view e m.state) (public_change m.state t) (items_of e t x.1 ++ later_items))
+    let (here, rest) = and_parts (is_possible m x) (are_possible m xs) all in
+    let later = lived-is e xs (turn_after m x) (turn-sound m sound x here) (known-behind m x e ∙ known) (all-behind m x xs ∙ rest) in
+    ap (seeing (seen_in e m x)) later ∙ sym (turn-replayed e m sound known x here (items_on e (turn_after m x) xs))
 
-pub isolated_on : (m : Shared) (xs : List (ℕ × Act)) → IsSoundShared m → are_there m xs ≡ true → IsolatedOn m xs
+pub isolated_on : (m : Shared) (xs : List Turn) → IsSoundShared m → are_possible m xs ≡ true → IsolatedOn m xs
 unfolding lived
 isolated_on m xs sound all e t others known sound_t all_t same same_items =
     let alike : lived e t others ≡ lived e m xs =
     lived-is e others t sound_t (ap (λ (v : State). is_known v e) same ∙ known) all_t ∙ (λ i. replay e (same i) (same_items i)) ∙ sym (lived-is e xs m sound known all) in
     (ap (λ (l : Lived). l.seen) alike, ap (λ (l : Lived). l.view) alike)
 
--- what holds of each act holds of a list of them
-pub sound_after_all : (m : Shared) (xs : List (ℕ × Act)) → IsSoundShared m → are_there m xs ≡ true → IsSoundShared (shared_after_all m xs)
+-- what holds of each turn holds of a list of them
+pub sound_after_all : (m : Shared) (xs : List Turn) → IsSoundShared m → are_possible m xs ≡ true → IsSoundShared (turns_after m xs)
 sound_after_all m [] sound all = sound
 sound_after_all m (x ∷ xs) sound all =
-    let (here, rest) = and_parts (nat_lt x.0 (length m.processors.runners)) (are_there m xs) all in
-    sound_after_all (shared_after m x) xs (sound-behind m sound x.0 (ltb-true x.0 (length m.processors.runners) here) x.1) (there-behind m x xs rest)
+    let (here, rest) = and_parts (is_possible m x) (are_possible m xs) all in
+    sound_after_all (turn_after m x) xs (turn-sound m sound x here) (all-behind m x xs ∙ rest)
 
-act_never_grows : (m : Shared) → IsSoundShared m → (p : ℕ) → p < length m.processors.runners → (act : Act) → NeverGrow m.state (shared_after m (p, act)).state
-act_never_grows m sound p within (Operate op) =
+turn_never_grows : (m : Shared) → IsSoundShared m → (x : Turn) → is_possible m x ≡ true → NeverGrow m.state (turn_after m x).state
+turn_never_grows m sound (Acts p (Operate op)) there =
+    let within : p < length m.processors.runners = ltb-true p (length m.processors.runners) there in
     operation_never_grows m.processors p op m.state (sound-steady m.state sound.state) (has-runner m.processors p m.state within sound.placed sound.state)
-act_never_grows m sound p within Interrupt =
+turn_never_grows m sound (Acts p Interrupt) there =
+    let within : p < length m.processors.runners = ltb-true p (length m.processors.runners) there in
     on-grows m.processors p m.state (interrupt (state_on m p)).state (interrupt_never_grows (state_on m p) (sound-steady (state_on m p) (sound-there m sound p within)))
+turn_never_grows m sound (Writes e op) there =
+    never_grows_as m.state e op (sound-steady m.state sound.state) (and_parts (is_known m.state e) (is_store op) there).0
 
-pub shared_never_grows : (m : Shared) (xs : List (ℕ × Act)) → IsSoundShared m → are_there m xs ≡ true → NeverGrow m.state (shared_after_all m xs).state
+pub shared_never_grows : (m : Shared) (xs : List Turn) → IsSoundShared m → are_possible m xs ≡ true → NeverGrow m.state (turns_after m xs).state
 shared_never_grows m [] sound all = never_grow m.state [] (sound-steady m.state sound.state)
 shared_never_grows m (x ∷ xs) sound all =
-    let (here, rest) = and_parts (nat_lt x.0 (length m.processors.runners)) (are_there m xs) all in
-    let within : x.0 < length m.processors.runners = ltb-true x.0 (length m.processors.runners) here in
-    grows-through m.state (shared_after m x).state (shared_after_all (shared_after m x) xs).state (act_never_grows m sound x.0 within x.1)
-    (shared_never_grows (shared_after m x) xs (sound-behind m sound x.0 within x.1) (there-behind m x xs rest))
+    let (here, rest) = and_parts (is_possible m x) (are_possible m xs) all in
+    grows-through m.state (turn_after m x).state (turns_after (turn_after m x) xs).state (turn_never_grows m sound x here)
+    (shared_never_grows (turn_after m x) xs (turn-sound m sound x here) (all-behind m x xs ∙ rest))
+
+-- acts alone, as the definitions have them
+pub acts-after : (m : Shared) (xs : List (ℕ × Act)) → turns_after m (as_turns xs) ≡ shared_after_all m xs
+acts-after m [] = refl
+acts-after m (x ∷ xs) = acts-after (shared_after m x) xs
+
+pub acts-there : (m : Shared) (xs : List (ℕ × Act)) → are_possible m (as_turns xs) ≡ are_there m xs
+acts-there m [] = refl
+acts-there m (x ∷ xs) = ap (λ (b : Bool). nat_lt x.0 (length m.processors.runners) && b) (acts-there m xs)
+
+-- stores alone, as they are of the state
+pub writes-after : (xs : List (ℕ × Op)) (m : Shared) → turns_after m (as_writes xs) ≡ record m { state = state_after_as m.state xs }
+writes-after [] m = refl
+writes-after (x ∷ xs) m = writes-after xs (turn_after m (Writes x.0 x.1))
+
+-- one list and then another
+pub turns-both : (xs ys : List Turn) (m : Shared) → turns_after m (xs ++ ys) ≡ turns_after (turns_after m xs) ys
+turns-both [] ys m = refl
+turns-both (x ∷ xs) ys m = turns-both xs ys (turn_after m x)
+
+pub possible-both : (m : Shared) (xs ys : List Turn) → are_possible m xs ≡ true → are_possible m ys ≡ true → are_possible m (xs ++ ys) ≡ true
+possible-both m xs ys front back = list_all-append (is_possible m) xs ys ∙ and_from (are_possible m xs) (are_possible m ys) front back
+
+pub possible-after : (xs ys : List Turn) (m : Shared) → are_possible (turns_after m xs) ys ≡ are_possible m ys
+possible-after [] ys m = refl
+possible-after (x ∷ xs) ys m = possible-after xs ys (turn_after m x) ∙ all-behind m x ys
+
+-- ---- stores before a processor's turn are as in its turn
+-- a store changes bytes alone, whoever runs
+stored-by : (s : State) (e address : ℕ) (size : Size) (value : ℕ)
+    → (step_as s e (Store address size value)).state ≡ (accessed (store_fault (as_run_by e s) address (size_of size)) s (stored s address (little_bytes (size_of size) value)) Done).state
+stored-by s e address size value = elim (cases_eq s.runner e) [
+  | inl runs ↦
+      ap (λ (done : Stepped). done.state) (step_as-runs s e (Store address size value) runs)
+      ∙ ap (λ (r : ℕ). (accessed (fault_of (address % size_of size == 0) (access_at s r address) may_store) s (stored s address (little_bytes (size_of size) value)) Done).state) runs
+  | inr rests ↦
+      ap (λ (done : Stepped). done.state) (step_as-rests s e (Store address size value) rests) ∙ of (store_fault (as_run_by e s) address (size_of size))
+]
+  where
+    of : (o : Option FaultKind)
+        → as_run_by s.runner (accessed o (as_run_by e s) (stored (as_run_by e s) address (little_bytes (size_of size) value)) Done).state
+        ≡ (accessed o s (stored s address (little_bytes (size_of size) value)) Done).state
+    of None = refl
+    of (Some fault) = refl
+
+moved-stored : (s : State) (f e address : ℕ) (size : Size) (value : ℕ)
+    → moved_to (step_as s e (Store address size value)).state f ≡ (step_as (moved_to s f) e (Store address size value)).state
+moved-stored s f e address size value =
+    ap (λ (t : State). moved_to t f) (stored-by s e address size value) ∙ of (store_fault (as_run_by e s) address (size_of size))
+    ∙ sym (stored-by (moved_to s f) e address size value)
+  where
+    of : (o : Option FaultKind)
+        → moved_to (accessed o s (stored s address (little_bytes (size_of size) value)) Done).state f
+        ≡ (accessed o (moved_to s f) (stored (moved_to s f) address (little_bytes (size_of size) value)) Done).state
+    of None = refl
+    of (Some fault) = refl
+
+module _ (processors : Processors) (p : ℕ) where
+  on-stored : (s : State) (e : ℕ) (op : Op) → is_store op ≡ true → on processors p (step_as s e op).state ≡ (step_as (on processors p s) e op).state
+  on-stored s e (Store address size value) is = of (processors.current == p)
+    where
+      of : (b : Bool)
+          → cond b (step_as s e (Store address size value)).state (moved_to (step_as s e (Store address size value)).state (runner_on processors p))
+          ≡ (step_as (cond b s (moved_to s (runner_on processors p))) e (Store address size value)).state
+      of true = refl
+      of false = moved-stored s (runner_on processors p) e address size value
+  on-stored s e op is = absurd (false≢true is)
+
+  pub on-stores : (xs : List (ℕ × Op)) (s : State) → AreStores xs → on processors p (state_after_as s xs) ≡ state_after_as (on processors p s) xs
+  on-stores [] s are = refl
+  on-stores (x ∷ xs) s ((address, byte, is), are) =
+      on-stores xs (step_as s x.0 x.1).state are
+      ∙ ap (λ (t : State). state_after_as t xs) (on-stored s x.0 x.1 (ap is_store is))
+
+-- and leave the run states
+pub schedule-after : (xs : List (ℕ × Op)) (s : State) → AreStores xs → schedule_of (state_after_as s xs) ≡ schedule_of s
+schedule-after [] s are = refl
+schedule-after (x ∷ xs) s ((address, byte, is), are) = schedule-after xs (step_as s x.0 x.1).state are ∙ same-schedule s x.0 x.1 (ap is_store is)
+
+-- who is noted for the processor that did the act before
+pub turned-after : (processors : Processors) (p : ℕ) (xs : List (ℕ × Op)) (s : State) → AreStores xs → turned processors p (state_after_as s xs) ≡ turned processors p s
+turned-after processors p xs s are =
+    ap (λ (c : Schedule). cond (processors.current == p) processors (let next : Processors = record { current = p; runners = set processors.runners processors.current c.runner } in next)) (schedule-after xs s are)
+
+-- so who goes on by a call is the same
+pub resumed-same : (s t : State) → length t.parties ≡ length s.parties → schedule_of t ≡ schedule_of s → (op : Op) → resumed_by t op ≡ resumed_by s op
+resumed-same s t parties schedule (Call x) = of (decode x)
+  where
+    of : (call : calls.Call) → resumed_by_call t call ≡ resumed_by_call s call
+    of (Run target context) = λ i. cond (may_resume (parties i) (schedule i) target.0 context) (Some target.0) None
+    of call = refl
+resumed-same s t parties schedule (Load address size) = refl
+resumed-same s t parties schedule (Store address size value) = refl
+resumed-same s t parties schedule (Fetch address) = refl
+
+-- stores of endpoints that there are
+pub writes-there : (xs : List (ℕ × Op)) (m : Shared) → AreStores xs → are_known m.state xs ≡ true → are_possible m (as_writes xs) ≡ true
+writes-there [] m are known = refl
+writes-there (x ∷ xs) m ((address, byte, is), are) known =
+    let (here, rest) = and_parts (is_known m.state x.0) (are_known m.state xs) known in
+    and_from (is_possible m (Writes x.0 x.1)) (are_possible m (as_writes xs)) (and_from (is_known m.state x.0) (is_store x.1) here (ap is_store is)) (writes-there xs m are rest)

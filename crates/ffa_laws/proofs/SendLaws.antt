@@ -62,6 +62,7 @@ pub record IsOffer (s : State) (r : SendRecord) : Type 0 where
   pub free : list_all (is_sendable s.runner (ownership_of s) s.buffers) (pages_in (ownership_of s) r.ranges) ≡ true
   pub grants : list_all (are_grants_within (ownership_of s) r.receivers) (pages_in (ownership_of s) r.ranges) ≡ true
   pub zeroed : r.zero ≡ true → are_writable (ownership_of s) r.ranges ≡ true
+  pub one_world : is_of_one_world (ownership_of s) s.normal r ≡ true
   pub few : open_count (open_of s) s.runner < MOST_OPEN
   pub sent : sent_by s s.runner < MOST_SENDS
 
@@ -74,6 +75,7 @@ offer s x r none =
       free = guard-passes (send_guards (scene_of s) s.runner x (Some r)) 8 (sym none);
       grants = guard-passes (send_guards (scene_of s) s.runner x (Some r)) 9 (sym none);
       zeroed = zeroes r.zero (guard-passes (send_guards (scene_of s) s.runner x (Some r)) 10 (sym none));
+      one_world = guard-passes (send_guards (scene_of s) s.runner x (Some r)) 11 (sym none);
       few = ltb-true (open_count (open_of s) s.runner) MOST_OPEN (guard-passes (send_guards (scene_of s) s.runner x (Some r)) 12 (sym none));
       sent = ltb-true (sent_by s s.runner) MOST_SENDS (guard-passes (send_guards (scene_of s) s.runner x (Some r)) 13 (sym none));
     }

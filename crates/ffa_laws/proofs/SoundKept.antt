@@ -9,7 +9,7 @@ use Rattle.ffa_model.specs.RunStates.{Schedule, schedule_of, with_schedule}
 use Rattle.ffa_model.specs.Notifications.{Notifications, with_notifications}
 use Rattle.ffa_model.specs.Sound.{IsSound}
 use Rattle.ffa_model.specs.SoundState.{IsKnown, IsSoundBinding, IsSoundBuffers, IsSoundPage, IsSoundPending, IsSoundState}
-use Rattle.ffa_model.proofs.Kept.{same-transaction, same-usable}
+use Rattle.ffa_model.proofs.Kept.{same-secure, same-transaction, same-usable}
 use Rattle.ffa_laws.proofs.Changes.{AreRewritten, same_own_right, same_owner, unwritten, with_parts}
 use Rattle.ffa_model.proofs.Own.{with_rights_of}
 
@@ -52,7 +52,8 @@ module _ (s : State) (sound : IsSoundState s) where
               };
           parties = sound.parties;
           pages = λ p page is. let good = pages p page is in record { owner = good.owner; size = good.size; bytes = good.bytes };
-          transactions = λ h t is. same-transaction s z h t same-own-rights same-owners refl (omega arith) (sound.transactions h t is);
+          worlds = λ p secure owner. sound.worlds p (sym (same-secure s z p same-own-rights refl) ∙ secure) (sym (same-owners p) ∙ owner);
+          transactions = λ h t is. same-transaction s z h t same-own-rights refl same-owners refl (omega arith) (sound.transactions h t is);
           one = λ p h k lt at_h at_k. sound.one p h k (subst (λ n. p < n) rewritten.each lt) at_h at_k;
           few = sound.few;
           sent = sound.sent;
@@ -90,7 +91,8 @@ module _ (s : State) (sound : IsSoundState s) where
         sized = record { some = sized.some; few = sized.few; base = sized.base; within = sized.within; one_table = sized.one_table; blocks = sized.blocks; sent = sized.sent; buffers = sized.buffers; works = sized.works; bitmaps = bitmaps };
         parties = sound.parties;
         pages = λ p page is. let good = sound.pages p page is in record { owner = good.owner; size = good.size; bytes = good.bytes };
-        transactions = λ h t is. same-transaction s (with_notifications s n) h t refl (λ p. refl) refl (omega arith) (sound.transactions h t is);
+        worlds = sound.worlds;
+        transactions = λ h t is. same-transaction s (with_notifications s n) h t refl refl (λ p. refl) refl (omega arith) (sound.transactions h t is);
         one = sound.one;
         few = sound.few;
         sent = sound.sent;

@@ -1,6 +1,6 @@
 -- SPDX-License-Identifier: MIT OR Apache-2.0
 -- Bytes of a page are stored one by one, by who may write there.
-use Rattle.std.proofs.Common.{◌≡◌, ◌∙◌, ℕ, zero, suc, ◌+◌, ◌-◌, ◌*◌, ◌/◌, ◌%◌, ◌^◌, ◌<◌, ◌≤◌, Bool, true, cond, List, [], ◌∷◌, ◌++◌, length, get_or, set, Option, Some, None, refl, sym, ap, subst, arith, inl, inr, length-set, get_or-set_other, get_or-set_same, set-set, ◌==◌, ◌||◌, nat_le, nat_lt}
+use Rattle.std.proofs.Common.{◌≡◌, ◌∙◌, ℕ, zero, suc, ◌+◌, ◌-◌, ◌*◌, ◌/◌, ◌%◌, ◌^◌, ◌<◌, ◌≤◌, Bool, true, false, cond, List, [], ◌∷◌, ◌++◌, length, get_or, set, Option, Some, None, refl, sym, ap, subst, arith, inl, inr, length-set, get_or-set_other, get_or-set_same, set-set, ◌==◌, ◌||◌, nat_le, nat_lt}
 use Rattle.std.specs.Option.{option_and_then, option_map, option_map_or}
 use Rattle.std.proofs.lemmas.Bool.{and_from, and_parts, cases_eq, cases_lt, eq-eqb, eqb-true, ne_eqb, false≢true, le-leb, lt-ltb, ltb-true}
 use Rattle.std.proofs.lemmas.Option.{none-some, same_Some}
@@ -24,6 +24,7 @@ use Rattle.ffa_model.specs.State.{State, Page, Transaction, page_at}
 use Rattle.ffa_model.proofs.Accesses.{length-map_at}
 use Rattle.ffa_model.proofs.CallAccesses.{access-written}
 use Rattle.ffa_laws.specs.Readable.{blank, blank_where}
+use Rattle.ffa_laws.specs.Reads.{AreBeside}
 use Rattle.ffa_laws.specs.Stores.{AreWritten, MayAllStore, all_stores, is_among, stores, with_bytes_of}
 use Rattle.ffa_laws.proofs.Blanks.{at-blanked}
 use Rattle.ffa_laws.proofs.ByteLists.{length-with_bytes}
@@ -214,6 +215,30 @@ page-sound t p sound (Some q) at some = let good = sound.pages p q at in (good.s
 page-alike : (hides : ℕ → Bool) (s t : State) → blank hides s ≡ blank hides t → (p : ℕ) → blank_where (hides p) (page_at s p) ≡ blank_where (hides p) (page_at t p)
 page-alike hides s t same p =
     sym (at-blanked hides s.pages p) ∙ ap (λ (x : State). page_at x p) same ∙ at-blanked hides t.pages p
+
+own-given : (o : Option Page) → given (option_map_or (λ (x : Page). x.bytes) o []) o ≡ o
+own-given None = refl
+own-given (Some q) = refl
+
+-- who differs in bytes of some pages alone, and in none of them, is the same
+pub same-beside : (s t : State) (named : ℕ → Bool) → AreBeside s t named → ((p : ℕ) → named p ≡ true → page_bytes t p ≡ page_bytes s p) → t ≡ s
+same-beside s t named beside bytes = sym (λ i. record (beside.same i) { pages = pages i })
+  where
+    each : (p : ℕ) → page_at s p ≡ page_at t p
+    each p = of (named p) refl
+      where
+        of : (b : Bool) → named p ≡ b → page_at s p ≡ page_at t p
+        of false is = subst (λ (b : Bool). blank_where b (page_at s p) ≡ blank_where b (page_at t p)) is (page-alike named s t beside.same p)
+        of true is =
+            sym (own-given (page_at s p)) ∙ ap (λ (x : List ℕ). given x (page_at s p)) (sym (bytes p is))
+            ∙ given-alike (page_at s p) (page_at t p) (subst (λ (b : Bool). blank_where b (page_at s p) ≡ blank_where b (page_at t p)) is (page-alike named s t beside.same p))
+
+    pages : s.pages ≡ t.pages
+    pages =
+        sym (map_at-id (λ p page. page) s.pages None (λ p. refl))
+        ∙ map_at-alike (λ p page. page) (λ p page. page) s.pages t.pages None None
+        (sym (length-map_at _ s.pages) ∙ ap (λ (x : State). length x.pages) beside.same ∙ length-map_at _ t.pages) each
+        ∙ map_at-id (λ p page. page) t.pages None (λ p. refl)
 
 none-none : (o : Option Page) → None ≡ blank_where true o → o ≡ None
 none-none None is = refl

@@ -1,6 +1,6 @@
 -- SPDX-License-Identifier: MIT OR Apache-2.0
 -- A page's bytes change only where the runner may write, or where a message fills RX.
-use Rattle.std.proofs.Common.{◌≡◌, ◌≢◌, ◌∙◌, ℕ, ◌-◌, ◌/◌, ◌%◌, ◌^◌, Bool, true, false, cond, not, List, [], length, get_or, Option, Some, None, is_some, refl, sym, ap, inl, inr, ◌==◌, ◌&&◌, ◌||◌, is_none, nat_le, nat_lt}
+use Rattle.std.proofs.Common.{◌≡◌, ◌≢◌, ◌∙◌, ℕ, ◌-◌, ◌/◌, ◌%◌, ◌^◌, Bool, true, false, cond, not, List, length, get_or, Option, Some, None, is_some, refl, sym, ap, inl, inr, ◌==◌, ◌&&◌, ◌||◌, is_none, nat_le, nat_lt}
 use Rattle.std.specs.Option.{option_and_then, option_map, option_map_or}
 use Rattle.std.proofs.lemmas.Bool.{and_from, and_parts, cases_lt, eq-eqb, eqb-true, false≢true, true≢false}
 use Rattle.std.proofs.lemmas.List.{get_or_past}
@@ -51,10 +51,10 @@ use Rattle.ffa_laws.proofs.Taken.{Taken, state-taken, taken}
 use Rattle.ffa_laws.proofs.Written.{elsewhere, elsewhere-run}
 use Rattle.ffa_laws.proofs.Integrities.{bytes_of}
 
-abbrev bytes_in : List (Option Page) → ℕ → List ℕ
+abbrev pub bytes_in : List (Option Page) → ℕ → List ℕ
 bytes_in ps p = bytes_of (get_or ps p None)
 
-elsewhere-filled : (ps : List (Option Page)) (p : ℕ) (bytes : List ℕ) (o : Option Buffers) → ((b : Buffers) → o ≡ Some b → (q : ℕ) → is_in_run b.rx b.pages q ≡ true → p ≢ q) → bytes_in (filled_pages ps bytes o) p ≡ bytes_in ps p
+pub elsewhere-filled : (ps : List (Option Page)) (p : ℕ) (bytes : List ℕ) (o : Option Buffers) → ((b : Buffers) → o ≡ Some b → (q : ℕ) → is_in_run b.rx b.pages q ≡ true → p ≢ q) → bytes_in (filled_pages ps bytes o) p ≡ bytes_in ps p
 elsewhere-filled ps p bytes None differ = refl
 elsewhere-filled ps p bytes (Some b) differ = ap bytes_of (elsewhere-run b.pages ps b.rx p bytes (differ b refl))
 

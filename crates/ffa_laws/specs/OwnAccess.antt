@@ -10,6 +10,7 @@ use Rattle.ffa_model.specs.declared.rights.Rights.{Rights}
 use Rattle.ffa_model.specs.State.{State, Transaction, transaction_of}
 use Rattle.ffa_model.specs.Access.{access, is_receiver}
 use Rattle.ffa_model.specs.Registers.{decode}
+use Rattle.ffa_model.specs.SoundState.{is_secure}
 use Rattle.ffa_model.specs.Step.{step}
 
 -- the calls by which a caller may get a right to a page, and those by which it may lose one
@@ -44,6 +45,10 @@ is_call test (Fetch addr) = false
 -- Nobody is offered what it has sent itself. So it is at first and after each operation, but not in every sound state.
 abbrev pub AreApart : State → Type 0
 AreApart s = (h : ℕ) (t : Transaction) → transaction_of s h ≡ Some t → is_receiver t.sender t ≡ false
+
+-- where worlds are told apart, the normal world reaches no page that is not of non-secure memory
+abbrev pub AreWorldsApart : State → Type 0
+AreWorldsApart s = (p : ℕ) → is_secure s p ≡ true → access s 0 p ≡ None
 
 -- nothing behind, or nothing before, or the same right
 abbrev pub IsSameOrNone : Option Rights → Option Rights → Type 0

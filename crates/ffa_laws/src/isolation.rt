@@ -1,7 +1,7 @@
 // SPDX-License-Identifier: MIT OR Apache-2.0
 //! Isolation: what an endpoint sees comes from its view, from its own operations, and from the events towards it.
 
-ghost use Rattle.std.specs.Prelude.{ℕ, ◌≡◌, ◌≢◌, ◌*◌, ◌<◌, true, List, length, Some, slice_get};
+ghost use Rattle.std.specs.Prelude.{ℕ, ◌≡◌, ◌≢◌, ◌*◌, ◌<◌, Bool, true, List, length, Some, slice_get};
 ghost use Rattle.ffa_model.specs.declared.endpoint.Endpoint.{Endpoint};
 ghost use Rattle.ffa_model.specs.declared.manifest.Worlds.{Worlds};
 ghost use Rattle.ffa_model.specs.First.{first, first_held};
@@ -9,19 +9,21 @@ ghost use Rattle.ffa_model.specs.declared.call.Call.{Call};
 ghost use Rattle.ffa_model.specs.declared.operation.Op.{Op};
 ghost use Rattle.ffa_model.specs.Identifiers.{manager};
 ghost use Rattle.ffa_model.specs.Manifest.{is_accepted};
+ghost use Rattle.ffa_model.specs.Memory.{page_bytes};
+ghost use Rattle.ffa_model.specs.Numbers.{PageIndex};
 ghost use Rattle.ffa_model.specs.Regions.{owner_in};
 ghost use Rattle.ffa_model.specs.SoundState.{IsSoundState, are_bytes};
 ghost use Rattle.ffa_model.specs.State.{State};
 ghost use Rattle.ffa_model.specs.Step.{serve, state_after, step};
 ghost use Rattle.ffa_laws.specs.Steady.{IsSteady};
-ghost use Rattle.ffa_laws.specs.OwnAccess.{AreApart, OwnAccess};
+ghost use Rattle.ffa_laws.specs.OwnAccess.{AreApart, AreWorldsApart, OwnAccess};
 ghost use Rattle.ffa_laws.specs.Loans.{OfferSaysNothing, ZeroedIsForgotten};
 ghost use Rattle.ffa_laws.specs.Readable.{Confidential, RunConfidential};
-ghost use Rattle.ffa_laws.specs.Reads.{ReadsNoMore};
+ghost use Rattle.ffa_laws.specs.Reads.{AreBeside, ReadsNoMore};
 ghost use Rattle.ffa_laws.specs.Replay.{Replays};
 ghost use Rattle.ffa_laws.specs.RunIntegrity.{RunIntegrity};
 ghost use Rattle.ffa_laws.specs.Silence.{Silence};
-ghost use Rattle.ffa_laws.specs.Writers.{OnlyWriters};
+ghost use Rattle.ffa_laws.specs.Writers.{LeavesTx, OnlyWriters};
 ghost use Rattle.ffa_laws.specs.Isolation.{Integrity, Isolated, LeavesBytes, NeverGrow, OneCall, OneStep, Shown, is_send2};
 
 /// One call: another endpoint's view changes by the events that the call tells it, and the outcome and the runner's
@@ -94,9 +96,13 @@ pub fn confidential()
 
 /// An operation reads no bytes but those that it is said to read: a call the first ones of TX, a load and a fetch those at the
 /// address. From another sound state in which these are the same it has the same outcome, and what it leaves differs in bytes
-/// of the pages that differed before alone.
+/// of the pages that differed before alone. A call changes no byte of its caller's TX. And states that differ in bytes of some
+/// pages alone, and in no byte of these, are the same.
 pub fn reads_no_more()
-    ensures { (s : State) (op : Op) → IsSoundState s → ReadsNoMore s op }
+    ensures reads { (s : State) (op : Op) → IsSoundState s → ReadsNoMore s op }
+    ensures leaves { (s : State) (call : Call) → IsSoundState s → LeavesTx s call }
+    ensures same { (s t : State) (named : PageIndex → Bool) → AreBeside s t named
+        → ((p : ℕ) → named p ≡ true → page_bytes t p ≡ page_bytes s p) → t ≡ s }
 {}
 
 /// What a borrower stores into a loan is forgotten where its next call gives the loan up with zeros: nothing that comes later
@@ -116,9 +122,11 @@ pub fn silence()
     ensures { (s : State) (op : Op) → IsSteady s → Silence s op }
 {}
 
-/// What isolation asks of a state holds of every sound state.
+/// What isolation asks of a state holds of every sound state. Where worlds are told apart, the normal world has no access there
+/// to a page that is not of non-secure memory.
 pub fn sound_is_steady()
-    ensures { (s : State) → IsSoundState s → IsSteady s }
+    ensures steady { (s : State) → IsSoundState s → IsSteady s }
+    ensures worlds { (s : State) → IsSoundState s → AreWorldsApart s }
 {}
 
 /// The state in which the machine of an accepted manifest starts, whose UUIDs have 16 bytes each, is sound: with zeros, and with

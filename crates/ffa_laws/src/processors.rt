@@ -2,18 +2,22 @@
 //! Interrupts, and operations of several processors: who runs is public, and all else is as it is of a step.
 
 ghost use Rattle.std.specs.Prelude.{ℕ, ◌≡◌, ◌<◌, true, List, length, None};
+ghost use Rattle.ffa_model.specs.declared.endpoint.Endpoint.{Endpoint};
+ghost use Rattle.ffa_model.specs.declared.manifest.Worlds.{Worlds};
 ghost use Rattle.ffa_model.specs.declared.operation.Act.{Act};
 ghost use Rattle.ffa_model.specs.declared.operation.Op.{Op};
+ghost use Rattle.ffa_model.specs.First.{first, first_held};
 ghost use Rattle.ffa_model.specs.OneChain.{IsOneChain, IsSimple};
 ghost use Rattle.ffa_model.specs.Processors.{ArePlaced, Processors, Shared, are_there, effected, interrupt, shared_after_all, step_on, step_resuming, turned};
 ghost use Rattle.ffa_model.specs.RunStates.{Schedule, schedule_of};
 ghost use Rattle.ffa_model.specs.Sound.{IsSound};
 ghost use Rattle.ffa_model.specs.SoundState.{IsSoundState};
 ghost use Rattle.ffa_model.specs.State.{State};
+ghost use Rattle.ffa_model.specs.Step.{step};
 ghost use Rattle.ffa_laws.specs.Isolation.{NeverGrow};
 ghost use Rattle.ffa_laws.specs.OwnAccess.{AreApart};
 ghost use Rattle.ffa_laws.specs.Processors.{ConfidentialInterrupt, ConfidentialOn, HasRunner, IntegrityOn, OneEffect, OneInterrupt, OneOperation, OnlyWritersOn, OwnAccessOn, SilenceOn};
-ghost use Rattle.ffa_laws.specs.ProcessorRuns.{IsSoundShared, IsolatedOn};
+ghost use Rattle.ffa_laws.specs.ProcessorRuns.{IsSoundShared, IsolatedOn, Turn, are_possible, as_turns, turns_after};
 ghost use Rattle.ffa_laws.specs.Steady.{IsSteady};
 
 /// An interrupt: what others learn is in its events, and rights, tables and bytes stay. A sound state stays so.
@@ -59,23 +63,32 @@ pub fn rights_on()
     ensures interrupt { (processors : Processors) (p : ℕ) (s : State) → ConfidentialInterrupt processors p s }
 {}
 
-/// Where no partition was preempted or runs elsewhere, as where interrupts and other processors are not used, sound run states
-/// are one chain from the normal world to the runner, through each blocked endpoint once; and an operation is a step.
+/// Where no partition was preempted or runs elsewhere, sound run states are one chain from the normal world to the runner,
+/// through each blocked endpoint once. So it is at first, with zeros or other bytes, and each step keeps it so: where one
+/// processor does operations and takes no interrupt, there is always one chain. And an operation is a step then.
 pub fn one_chain()
     ensures chain { (c : Schedule) → IsSound c → IsSimple c → IsOneChain c }
+    ensures first { (worlds : Worlds) (base tables blocks : ℕ) (es : List Endpoint)
+        → IsSimple (schedule_of (first worlds base tables blocks es)) }
+    ensures held { (worlds : Worlds) (base tables blocks : ℕ) (es : List Endpoint) (held : ℕ → List ℕ)
+        → IsSimple (schedule_of (first_held worlds base tables blocks es held)) }
+    ensures stays { (s : State) (op : Op) → IsSimple (schedule_of s) → IsSimple (schedule_of (step s op).state) }
     ensures effect { (s : State) (op : Op) → length s.works ≡ length s.parties → IsSimple (schedule_of s)
         → step_resuming s op ≡ effected s op None }
     ensures operation { (processors : Processors) (s : State) (op : Op)
         → step_on processors processors.current s op ≡ step_resuming s op }
 {}
 
-/// A list of operations and interrupts of several processors: what an endpoint sees of it, and its view after it, depend on its
-/// view at the start, on its own operations and on the events towards it. Rights never grow, a sound state stays so, and
-/// who runs where fits together.
+/// A list of operations and interrupts of several processors, and of stores of endpoints meanwhile, whoever runs: what an endpoint
+/// sees of it, and its view after it, depend on its view at the start, on its own operations and on the events towards it.
+/// Rights never grow, a sound state stays so, and who runs where fits together. A list without such stores leads where the
+/// definitions say.
 pub fn whole_run_on()
-    ensures isolated { (m : Shared) (xs : List (ℕ × Act)) → IsSoundShared m → are_there m xs ≡ true → IsolatedOn m xs }
-    ensures sound { (m : Shared) (xs : List (ℕ × Act)) → IsSoundShared m → are_there m xs ≡ true
-        → IsSoundShared (shared_after_all m xs) }
-    ensures never_grow { (m : Shared) (xs : List (ℕ × Act)) → IsSoundShared m → are_there m xs ≡ true
-        → NeverGrow m.state (shared_after_all m xs).state }
+    ensures isolated { (m : Shared) (xs : List Turn) → IsSoundShared m → are_possible m xs ≡ true → IsolatedOn m xs }
+    ensures sound { (m : Shared) (xs : List Turn) → IsSoundShared m → are_possible m xs ≡ true
+        → IsSoundShared (turns_after m xs) }
+    ensures never_grow { (m : Shared) (xs : List Turn) → IsSoundShared m → are_possible m xs ≡ true
+        → NeverGrow m.state (turns_after m xs).state }
+    ensures acts { (m : Shared) (xs : List (ℕ × Act)) → turns_after m (as_turns xs) ≡ shared_after_all m xs }
+    ensures there { (m : Shared) (xs : List (ℕ × Act)) → are_possible m (as_turns xs) ≡ are_there m xs }
 {}

@@ -1,6 +1,6 @@
 -- SPDX-License-Identifier: MIT OR Apache-2.0
 -- The first state of an accepted manifest is sound, whatever bytes the pages of its regions have.
-use Rattle.std.proofs.Common.{◌≡◌, ◌≢◌, ◌∙◌, ℕ, zero, suc, ◌+◌, ◌*◌, ◌<◌, ◌≤◌, Bool, true, false, cond, List, [], ◌∷◌, length, get_or, map, replicate, Option, Some, None, refl, sym, ap, subst, arith, inl, inr, ◌==◌, find, filter, slice_get}
+use Rattle.std.proofs.Common.{◌≡◌, ◌≢◌, ◌∙◌, ℕ, zero, suc, ◌+◌, ◌*◌, ◌<◌, ◌≤◌, Bool, true, false, cond, List, [], ◌∷◌, length, get_or, map, replicate, Option, Some, None, refl, sym, ap, subst, arith, inl, inr, ◌==◌, find, filter, slice_get, is_some, not, ◌&&◌}
 use Rattle.std.specs.List.{enumerate_from, list_all}
 use Rattle.std.specs.Option.{option_map}
 use Rattle.std.specs.Ordering.{nat_cmp}
@@ -17,19 +17,21 @@ use Rattle.ffa_model.specs.declared.limits.TheConstants.{MOST_ENDPOINTS, MOST_OP
 use Rattle.ffa_model.specs.declared.endpoint.Endpoint.{Endpoint}
 use Rattle.ffa_model.specs.declared.endpoint.Region.{Region}
 use Rattle.ffa_model.specs.declared.manifest.Worlds.{Worlds}
+use Rattle.ffa_model.specs.declared.manifest.Worlds.TheVariants.{One, Two}
 use Rattle.ffa_model.specs.declared.schedule.Work.{Work}
 use Rattle.ffa_model.specs.Identifiers.{identifier, manager, place}
 use Rattle.ffa_model.specs.Manifest.{has_tables, is_accepted, is_ram_base}
-use Rattle.ffa_model.specs.Regions.{has_page, owned_regions, owner_in}
+use Rattle.ffa_model.specs.Regions.{has_page, is_normal, normal_of, owned_regions, owner_in, regions_at, right_in}
 use Rattle.ffa_model.specs.First.{first, first_held, has_first_bitmaps, page_with_bytes, party_of}
-use Rattle.ffa_model.specs.State.{State, Page, Party, Transaction, Buffers, is_known_among, page_at, transaction_of}
+use Rattle.ffa_model.specs.State.{State, Page, Party, Transaction, Buffers, is_known_among, owner_of, page_at, transaction_of}
 use Rattle.ffa_model.specs.RunStates.{first_schedule}
 use Rattle.ffa_model.specs.Sound.{IsSound}
 use Rattle.ffa_model.specs.Access.{is_naming}
-use Rattle.ffa_model.specs.SoundState.{IsSized, IsSoundPage, IsSoundParty, IsSoundState, are_bytes}
+use Rattle.ffa_model.specs.SoundState.{IsSized, IsSoundPage, IsSoundParty, IsSoundState, are_bytes, is_secure}
 use Rattle.ffa_model.proofs.Accepted.{Accepted, accepted}
 use Rattle.ffa_model.proofs.Listed.{get_or-listed, get_or-listed_past, length-listed}
-use Rattle.ffa_model.proofs.Owners.{found-owner, owned_from}
+use Rattle.ffa_model.proofs.Own.{owned_by}
+use Rattle.ffa_model.proofs.Owners.{found-owner, found-right, owned_from}
 
 -- each owner is an endpoint
 pub identifier-known : (n k : ℕ) → k < n → is_known_among n (identifier k) ≡ true
@@ -130,6 +132,31 @@ module _ (worlds : Worlds) (base tables blocks : ℕ) (es : List Endpoint) (held
             bytes = bytes;
           })
 
+  -- what the normal world owns at first is non-secure, where worlds are told apart
+  worlds-first : (p : ℕ) → is_secure s p ≡ true → owner_of s p ≢ 0
+  unfolding first
+  worlds-first p secure first = at worlds secure
+    where
+      normal-page : is_some (right_in base (regions_at es 0) p) ≡ true
+      normal-page = elim (cases_lt p (512 * blocks)) [
+        | inl lt ↦ of (find (λ (x : ℕ × Region). has_page base p x.1) (owned_regions es)) refl (sym (ap owned_by (get_or-listed (512 * blocks) (λ q. page_with_bytes base es q (held q)) p None lt)) ∙ first)
+        | inr past ↦ absurd (managers-page (sym (ap owned_by (get_or-listed_past (512 * blocks) (λ q. page_with_bytes base es q (held q)) p None past)) ∙ first))
+      ]
+        where
+          managers-page : manager ≡ 0 → ⊥
+          managers-page is = omega (arith, is)
+
+          of : (o : Option (ℕ × Region)) → find (λ (x : ℕ × Region). has_page base p x.1) (owned_regions es) ≡ o
+              → owned_by (option_map (λ (x : ℕ × Region). let q : Page = record { owner = x.0; own_right = x.1.rights; bytes = held p } in q) o) ≡ 0
+              → is_some (right_in base (regions_at es 0) p) ≡ true
+          of None found is = absurd (managers-page is)
+          of (Some x) found is =
+              ap (λ i. is_some (right_in base (regions_at es (place i)) p)) (sym is) ∙ ap is_some (found-right base p es x facts.apart found)
+
+      at : (w : Worlds) → (is_some (normal_of w (regions_at es 0)) && not (is_normal base (normal_of w (regions_at es 0)) p)) ≡ true → ⊥
+      at One none = false≢true none
+      at Two some = false≢true (sym (ap not normal-page) ∙ some)
+
   none-at : (h : ℕ) (t : Transaction) → transaction_of s h ≡ Some t → ⊥
   unfolding first
   none-at h t is = none-some t (sym (finite.get-empty nat_cmp h) ∙ is)
@@ -142,6 +169,7 @@ module _ (worlds : Worlds) (base tables blocks : ℕ) (es : List Endpoint) (held
         sized = first-sized;
         parties = parties;
         pages = λ p page is. let (inside, found) = page-first p page is in sound-page p page inside found;
+        worlds = worlds-first;
         transactions = λ h t is. absurd (none-at h t is);
         one = λ p h k lt at_h at_k. absurd (false≢true (sym (ap (λ o. is_naming (first_held worlds base tables blocks es held) p o) (finite.get-empty nat_cmp h)) ∙ at_h));
         few = λ e known. none-counted (λ (t : Transaction). t.sender == e) _ none-open;

@@ -1,6 +1,6 @@
 -- SPDX-License-Identifier: MIT OR Apache-2.0
 -- The state stays sound through the changes that calls on memory make to the open transactions.
-use Rattle.std.proofs.Common.{◌≡◌, ◌∙◌, ℕ, ◌+◌, ◌*◌, ◌%◌, ◌^◌, ◌<◌, ◌≤◌, Bool, true, false, cond, not, List, length, Option, Some, None, refl, sym, ap, subst, arith, inl, inr, ◌==◌, is_some, if◌then◌else◌}
+use Rattle.std.proofs.Common.{◌≡◌, ◌∙◌, ℕ, ◌+◌, ◌*◌, ◌%◌, ◌^◌, ◌<◌, ◌≤◌, Bool, true, false, cond, not, List, length, Option, Some, None, refl, sym, ap, subst, arith, inl, inr, ◌==◌, is_some, if◌then◌else◌, ◌&&◌}
 use Rattle.std.specs.List.{list_all}
 use Rattle.std.specs.Option.{option_map, option_map_or}
 use Rattle.std.specs.Ordering.{nat_cmp}
@@ -13,24 +13,32 @@ use Rattle.ffa_model.specs.declared.rights.Rights.{Rights}
 use Rattle.ffa_model.specs.declared.rights.Kind.{Kind}
 use Rattle.ffa_model.specs.declared.rights.Kind.TheVariants.{Share, Lend, Donate}
 use Rattle.ffa_model.specs.declared.transaction.Range.{Range}
+use Rattle.ffa_model.specs.declared.endpoint.Region.{Region}
 use Rattle.ffa_model.specs.Identifiers.{manager}
+use Rattle.ffa_model.specs.Regions.{is_normal}
 use Rattle.ffa_model.specs.Rights.{may_store, is_at_most, is_donate}
 use Rattle.ffa_model.specs.State.{State, Page, Transaction, is_known_among, owner_of, page_at, sent_by, transaction_of, own_right_of}
 use Rattle.ffa_model.specs.Access.{covers, handle_at, held_by, is_naming, is_receiver, names, ownership_of, Ownership}
 use Rattle.ffa_model.specs.Memory.{with_pages, zeroed_page}
 use Rattle.ffa_model.specs.Buffers.{is_usable}
 use Rattle.ffa_model.specs.Transactions.{are_executable, are_writable, ceiling, ceiling_in, closed, holding, not_holding, open_of, open_count, pages_in, with_open, with_transaction}
-use Rattle.ffa_model.specs.MemorySend.{are_grants_within, are_known, is_inside}
-use Rattle.ffa_model.specs.SoundState.{IsKnown, IsSoundPage, IsSoundState, IsSoundTransaction}
+use Rattle.ffa_model.specs.MemorySend.{are_grants_within, are_known, is_inside, is_told_normal}
+use Rattle.ffa_model.specs.SoundState.{IsKnown, IsSoundPage, IsSoundState, IsSoundTransaction, is_secure}
 use Rattle.ffa_model.proofs.Accesses.{held-beside, held-itself, length-map_at, page-changed, released-beside, released-itself}
 use Rattle.ffa_model.proofs.Counts.{open-changed, open-closed}
 use Rattle.ffa_model.proofs.Handles.{get-beside, get-left, get-put, get-taken, none-passes, unpassed-none}
 use Rattle.ffa_model.proofs.Own.{none-there, with_rights_of}
 
+-- a page is of the same world in the same RAM
+pub same-secure : (s z : State) (p : ℕ) → ownership_of z ≡ with_rights_of s z → z.normal ≡ s.normal → is_secure z p ≡ is_secure s p
+same-secure s z p own_rights normal =
+    ap (λ (n : Option (List Region)). is_some n && not (is_normal z.ram_base n p)) normal
+    ∙ ap (λ (b : Ownership). is_some s.normal && not (is_normal b.base s.normal p)) own_rights
+
 -- a transaction stays sound where RAM, its owners and their rights are the same, and no send is taken back
-pub same-transaction : (s z : State) (h : ℕ) (t : Transaction) → ownership_of z ≡ with_rights_of s z → ((p : ℕ) → owner_of z p ≡ owner_of s p)
+pub same-transaction : (s z : State) (h : ℕ) (t : Transaction) → ownership_of z ≡ with_rights_of s z → z.normal ≡ s.normal → ((p : ℕ) → owner_of z p ≡ owner_of s p)
     → length z.parties ≡ length s.parties → sent_by s t.sender ≤ sent_by z t.sender → IsSoundTransaction s h t → IsSoundTransaction z h t
-same-transaction s z h t own_rights owners parties sent good =
+same-transaction s z h t own_rights normal owners parties sent good =
     let number = good.number in
     record {
       sender = subst (λ n. is_known_among n t.sender ≡ true) (sym parties) good.sender;
@@ -48,6 +56,12 @@ same-transaction s z h t own_rights owners parties sent good =
       some_ranges = good.some_ranges;
       few_ranges = good.few_ranges;
       tag = good.tag;
+      worlds = λ p lt named secure.
+          good.worlds p (subst (λ (b : Ownership). p < b.count) own_rights lt) (subst (λ (b : Ownership). covers t.ranges (b.base + 4096 * p) ≡ true) own_rights named)
+          (sym (same-secure s z p own_rights normal) ∙ secure);
+      told =
+          good.told ∙ sym (ap (λ (n : Option (List Region)). is_told_normal (ownership_of z) n t.ranges) normal
+          ∙ ap (λ (b : Ownership). is_told_normal b s.normal t.ranges) own_rights);
     }
 
 -- a page may be a buffer where its owner and right are the same and no transaction has come to name it
@@ -121,7 +135,8 @@ module _ (s : State) (ranges : List Range) where
             };
         parties = sound.parties;
         pages = λ p page is. zeros-page p page sound is;
-        transactions = λ h t is. same-transaction s zeros h t zeros-own_rights zeros-owner refl (omega arith) (sound.transactions h t is);
+        worlds = λ p secure owner. sound.worlds p (sym (same-secure s zeros p zeros-own_rights refl) ∙ secure) (sym (zeros-owner p) ∙ owner);
+        transactions = λ h t is. same-transaction s zeros h t zeros-own_rights refl zeros-owner refl (omega arith) (sound.transactions h t is);
         one = λ p h k lt at_h at_k. sound.one p h k (subst (λ n. p < n) zeros-size lt) at_h at_k;
         few = sound.few;
         sent = sound.sent;
@@ -176,7 +191,8 @@ module _ (s : State) (sound : IsSoundState s) (h : ℕ) (t : Transaction) (was :
         sized = record { some = sound.sized.some; few = sound.sized.few; base = sound.sized.base; within = sound.sized.within; one_table = sound.sized.one_table; blocks = sound.sized.blocks; sent = sound.sized.sent; buffers = sound.sized.buffers; works = sound.sized.works; bitmaps = sound.sized.bitmaps };
         parties = sound.parties;
         pages = λ p page is. let good = sound.pages p page is in record { owner = good.owner; size = good.size; bytes = good.bytes };
-        transactions = λ k u is. same-transaction s after k u refl (λ p. refl) refl (omega arith) (sound.transactions k u (still k u is));
+        worlds = sound.worlds;
+        transactions = λ k u is. same-transaction s after k u refl refl (λ p. refl) refl (omega arith) (sound.transactions k u (still k u is));
         one = λ p k j lt at_k at_j. sound.one p k j lt (naming p k at_k) (naming p j at_j);
         few = fewer;
         sent = sound.sent;
@@ -231,6 +247,8 @@ module _ (s : State) (sound : IsSoundState s) (h : ℕ) (t : Transaction) (was :
         some_ranges = good.some_ranges;
         few_ranges = good.few_ranges;
         tag = good.tag;
+        worlds = good.worlds;
+        told = good.told;
       }
 
   each-sound : (k : ℕ) (u : Transaction) → transaction_of after_change k ≡ Some u → IsSoundTransaction after_change k u
@@ -238,7 +256,7 @@ module _ (s : State) (sound : IsSoundState s) (h : ℕ) (t : Transaction) (was :
     | inl same ↦
         subst (λ (v : Transaction). IsSoundTransaction after_change k v) (same_Some changed u (sym (ap (transaction_of after_change) same ∙ get-put s.transactions h changed) ∙ is))
         (subst (λ j. IsSoundTransaction after_change j changed) (sym same) itself)
-    | inr apart ↦ same-transaction s after_change k u refl (λ p. refl) refl (omega arith) (sound.transactions k u (sym (get-beside s.transactions h changed k apart) ∙ is))
+    | inr apart ↦ same-transaction s after_change k u refl refl (λ p. refl) refl (omega arith) (sound.transactions k u (sym (get-beside s.transactions h changed k apart) ∙ is))
   ]
 
   naming-before : (p k : ℕ) → is_naming s p (transaction_of after_change k) ≡ is_naming s p (transaction_of s k)
@@ -259,6 +277,7 @@ module _ (s : State) (sound : IsSoundState s) (h : ℕ) (t : Transaction) (was :
         sized = record { some = sound.sized.some; few = sound.sized.few; base = sound.sized.base; within = sound.sized.within; one_table = sound.sized.one_table; blocks = sound.sized.blocks; sent = sound.sized.sent; buffers = sound.sized.buffers; works = sound.sized.works; bitmaps = sound.sized.bitmaps };
         parties = sound.parties;
         pages = λ p page is. let good = sound.pages p page is in record { owner = good.owner; size = good.size; bytes = good.bytes };
+        worlds = sound.worlds;
         transactions = each-sound;
         one = λ p k j lt at_k at_j. sound.one p k j lt (sym (naming-before p k) ∙ at_k) (sym (naming-before p j) ∙ at_j);
         few = λ e known. subst (λ n. n ≤ MOST_OPEN) (sym (open-changed (open_of s) h e t changed was refl)) (sound.few e known);

@@ -60,10 +60,11 @@ module _ (s : State) (sound : IsSoundState s) where
     unbuffered : (p : ℕ) (e : ℕ) → is_usable e (ownership_of s) p ≡ true → names s t.ranges p ≡ false
     unbuffered p e usable = sym (ap (is_naming s p) was) ∙ none-passes (is_naming s p) refl s.transactions h (usable-unnamed s e p usable)
 
-    donated-sound : (e : ℕ) (right : Rights) → IsKnown s e → IsSoundState (with_open (donated_if true s t.ranges e right) (closed (open_of s) h))
-    donated-sound e right known =
+    donated-sound : (e : ℕ) (right : Rights) → IsKnown s e → is_receiver e t ≡ true → IsSoundState (with_open (donated_if true s t.ranges e right) (closed (open_of s) h))
+    donated-sound e right known receiver =
         given-sound (with_open s (closed (open_of s) h)) (closed-sound s sound h t was) t.ranges e right known
         (λ p lt named. handle-none (with_open s (closed (open_of s) h)) p (in-closed s h t was p (λ k j at_k at_j. sound.one p k j lt at_k at_j) named))
+        (λ p lt named secure first. true≢false (sym (ap (λ f. is_receiver f t) (sym first) ∙ receiver) ∙ (sound.transactions h t was).worlds p lt named secure))
         (λ f b is_known is. let its = sound.buffers f b is_known is in (λ p in_tx. unbuffered p f (its.tx p in_tx), λ p in_rx. unbuffered p f (its.rx p in_rx)))
 
     pub taken-sound : (e : ℕ) (right : Rights) → IsKnown s e → is_receiver e t ≡ true → is_at_most right (ceiling (ownership_of s) t e) ≡ true
@@ -73,4 +74,4 @@ module _ (s : State) (sound : IsSoundState s) where
         of : (kind : Kind) → t.kind ≡ kind → IsSoundState (with_open (donated_if (is_donate kind) s t.ranges e right) (taken_in kind (open_of s) h t e right))
         of Share is = holding-sound s sound h t was e right receiver within (ap is_donate is)
         of Lend is = holding-sound s sound h t was e right receiver within (ap is_donate is)
-        of Donate is = donated-sound e right known
+        of Donate is = donated-sound e right known receiver

@@ -1,8 +1,10 @@
 -- SPDX-License-Identifier: MIT OR Apache-2.0
 -- The state stays sound when pages that stand in no transaction and no buffer are given to another endpoint.
-use Rattle.std.proofs.Common.{◌≡◌, ◌∙◌, ℕ, zero, suc, ◌+◌, ◌*◌, ◌%◌, ◌^◌, ◌≤◌, ◌<◌, Bool, true, false, cond, List, ◌∷◌, length, Option, Some, None, refl, sym, ap, subst, arith, ◌&&◌, filter, if◌then◌else◌, true≢false}
+use Rattle.std.proofs.Common.{◌≡◌, ◌≢◌, ◌∙◌, ℕ, zero, suc, ◌+◌, ◌*◌, ◌%◌, ◌^◌, ◌≤◌, ◌<◌, Bool, true, false, cond, List, ◌∷◌, length, Option, Some, None, refl, sym, ap, subst, arith, ◌&&◌, filter, if◌then◌else◌, true≢false, inl, inr}
 use Rattle.std.specs.List.{list_all}
 use Rattle.std.specs.Option.{option_map, option_map_or}
+use Rattle.std.proofs.lemmas.Bool.{cases_lt}
+use Rattle.std.proofs.lemmas.List.{get_or_past}
 use Rattle.std.proofs.lemmas.Option.{none-some, same_Some}
 use Rattle.ffa_model.specs.declared.rights.Rights.{Rights}
 use Rattle.ffa_model.specs.declared.transaction.Range.{Range}
@@ -14,12 +16,13 @@ use Rattle.ffa_model.specs.State.{State, Page, Transaction, Buffers, buffers_of,
 use Rattle.ffa_model.specs.Access.{handle_at, is_naming, names, Ownership, ownership_of}
 use Rattle.ffa_model.specs.Memory.{with_pages}
 use Rattle.ffa_model.specs.Transactions.{are_writable, ceiling, ceiling_in, pages_in}
-use Rattle.ffa_model.specs.MemorySend.{are_grants_within, is_grantable, is_inside}
+use Rattle.ffa_model.specs.MemorySend.{are_grants_within, is_grantable, is_inside, is_told_normal}
 use Rattle.ffa_model.specs.MemoryRetrieve.{donated_page}
-use Rattle.ffa_model.specs.SoundState.{IsKnown, IsSoundPage, IsSoundState, IsSoundTransaction}
+use Rattle.ffa_model.specs.SoundState.{IsKnown, IsSoundPage, IsSoundState, IsSoundTransaction, is_secure}
 use Rattle.ffa_model.proofs.Accesses.{length-map_at, page-changed}
 use Rattle.ffa_model.proofs.Handles.{none-passes}
 use Rattle.ffa_model.proofs.Kept.{same-usable}
+use Rattle.ffa_model.proofs.Own.{owned_by}
 
 -- two tests that agree wherever they are asked
 pub same-tests : (test also keep : ℕ → Bool) (n : ℕ) (f : ℕ → ℕ) → ((i : ℕ) → i < n → keep (f i) ≡ true → test (f i) ≡ also (f i))
@@ -36,6 +39,7 @@ same-tests test also keep (suc n) f same = of (keep (f 0)) refl (same-tests test
 
 module _ (s : State) (sound : IsSoundState s) (ranges : List Range) (e : ℕ) (right : Rights) (known : IsKnown s e)
     (free : (p : ℕ) → p < length s.pages → names s ranges p ≡ true → handle_at s p ≡ None)
+    (worlds : (p : ℕ) → p < length s.pages → names s ranges p ≡ true → is_secure s p ≡ true → e ≢ 0)
     (unbuffered : (f : ℕ) (b : Buffers) → IsKnown s f → buffers_of s f ≡ Some b
     → ((p : ℕ) → is_in_run b.tx b.pages p ≡ true → names s ranges p ≡ false) × ((p : ℕ) → is_in_run b.rx b.pages p ≡ true → names s ranges p ≡ false)) where
   abbrev pub after_giving : State
@@ -101,6 +105,8 @@ module _ (s : State) (sound : IsSoundState s) (ranges : List Range) (e : ℕ) (r
           some_ranges = good.some_ranges;
           few_ranges = good.few_ranges;
           tag = good.tag;
+          worlds = λ p lt named secure. good.worlds p (subst (λ n. p < n) size lt) named secure;
+          told = good.told ∙ sym (ap (λ (b : Ownership). is_told_normal b s.normal t.ranges) given_own_rights-are);
         }
 
   given-pages : (p : ℕ) (page : Page) → page_at after_giving p ≡ Some page → IsSoundPage after_giving page
@@ -116,6 +122,21 @@ module _ (s : State) (sound : IsSoundState s) (ranges : List Range) (e : ℕ) (r
           let before = sound.pages p q there in
           subst (λ (r : Page). IsSoundPage after_giving r) (same_Some q page some) (record { owner = before.owner; size = before.size; bytes = before.bytes })
 
+  -- no secure page is given to the normal world
+  given-worlds : (p : ℕ) → is_secure after_giving p ≡ true → owner_of after_giving p ≢ 0
+  given-worlds p secure first = of (names s ranges p) (page_at s p) refl refl (sym (ap owned_by (page-changed s ranges (donated_page e right) p refl)) ∙ first)
+    where
+      within : (q : Page) → page_at s p ≡ Some q → p < length s.pages
+      within q there = elim (cases_lt p (length s.pages)) [
+        | inl lt ↦ lt
+        | inr past ↦ absurd (none-some q (sym (get_or_past s.pages p None past) ∙ there))
+      ]
+
+      of : (b : Bool) (o : Option Page) → names s ranges p ≡ b → page_at s p ≡ o → owned_by (cond b (donated_page e right o) o) ≡ 0 → ⊥
+      of true None named there is = omega (arith, is)
+      of true (Some q) named there is = worlds p (within q there) named secure is
+      of false o named there is = sound.worlds p secure (ap owned_by there ∙ is)
+
   pub given-sound : IsSoundState after_giving
   given-sound =
       let blocks = sound.sized.blocks in
@@ -123,6 +144,7 @@ module _ (s : State) (sound : IsSoundState s) (ranges : List Range) (e : ℕ) (r
         sized = record { some = sound.sized.some; few = sound.sized.few; base = sound.sized.base; within = subst (λ n. s.ram_base + 4096 * n ≤ 2 ^ 32) (sym size) sound.sized.within; one_table = subst (λ n. s.ram_base % 2 ^ 30 + 4096 * n ≤ 2 ^ 30) (sym size) sound.sized.one_table; blocks = (blocks.0, size ∙ blocks.1, blocks.2, blocks.3, blocks.4); sent = sound.sized.sent; buffers = sound.sized.buffers; works = sound.sized.works; bitmaps = sound.sized.bitmaps };
         parties = sound.parties;
         pages = given-pages;
+        worlds = given-worlds;
         transactions = given-transaction;
         one = λ p h k lt at_h at_k. sound.one p h k (subst (λ n. p < n) size lt) at_h at_k;
         few = sound.few;

@@ -11,12 +11,12 @@ use Rattle.ffa_model.specs.declared.limits.TheConstants.{MOST_OPEN, MOST_RANGES,
 use Rattle.ffa_model.specs.Lists.{is_in_run}
 use Rattle.ffa_model.specs.Identifiers.{place}
 use Rattle.ffa_model.specs.State.{State, Page, Transaction, Buffers, owner_of, sent_by, transaction_of, buffers_of}
-use Rattle.ffa_model.specs.Access.{handle_at, held_by, is_naming, names, ownership_of}
+use Rattle.ffa_model.specs.Access.{handle_at, held_by, is_naming, is_receiver, names, ownership_of}
 use Rattle.ffa_model.specs.Buffers.{is_usable}
 use Rattle.ffa_model.specs.SendDescriptor.{most_receivers}
 use Rattle.ffa_model.specs.Transactions.{are_writable, next_handle, open_of, open_count, opened, with_open, pages_in}
-use Rattle.ffa_model.specs.MemorySend.{are_grants_within, are_known, is_buffer, is_inside, is_sendable}
-use Rattle.ffa_model.specs.SoundState.{IsKnown, IsSoundState, IsSoundTransaction}
+use Rattle.ffa_model.specs.MemorySend.{are_grants_within, are_known, is_buffer, is_inside, is_sendable, is_told_normal}
+use Rattle.ffa_model.specs.SoundState.{IsKnown, IsSoundState, IsSoundTransaction, is_secure}
 use Rattle.ffa_model.proofs.Accesses.{once-beside, once-opened}
 use Rattle.ffa_model.proofs.CallAccesses.{handle-new, sendable-unnamed}
 use Rattle.ffa_model.proofs.Counts.{open-opened}
@@ -52,6 +52,8 @@ pub record IsSendable (s : State) (t : Transaction) : Type 0 where
   pub some_ranges : 1 ≤ length t.ranges
   pub few_ranges : length t.ranges ≤ MOST_RANGES
   pub tag : t.tag < 2 ^ 64
+  pub worlds : (p : ℕ) → p < length s.pages → names s t.ranges p ≡ true → is_secure s p ≡ true → is_receiver 0 t ≡ false
+  pub told : t.normal ≡ is_told_normal (ownership_of s) s.normal t.ranges
 
 module _ (s : State) (sound : IsSoundState s) (t : Transaction) (good : IsSendable s t) where
   abbrev h : ℕ
@@ -110,6 +112,8 @@ module _ (s : State) (sound : IsSoundState s) (t : Transaction) (good : IsSendab
         some_ranges = good.some_ranges;
         few_ranges = good.few_ranges;
         tag = good.tag;
+        worlds = good.worlds;
+        told = good.told;
       }
 
   each-sound : (k : ℕ) (u : Transaction) → transaction_of after_send k ≡ Some u → IsSoundTransaction after_send k u
@@ -117,7 +121,7 @@ module _ (s : State) (sound : IsSoundState s) (t : Transaction) (good : IsSendab
     | inl same ↦
         subst (λ (v : Transaction). IsSoundTransaction after_send k v) (same_Some t u (sym (ap (transaction_of after_send) same ∙ get-put s.transactions h t) ∙ is))
         (subst (λ j. IsSoundTransaction after_send j t) (sym same) opened-itself)
-    | inr apart ↦ same-transaction s after_send k u refl (λ p. refl) refl (sent-grows u.sender) (sound.transactions k u (sym (get-beside s.transactions h t k apart) ∙ is))
+    | inr apart ↦ same-transaction s after_send k u refl refl (λ p. refl) refl (sent-grows u.sender) (sound.transactions k u (sym (get-beside s.transactions h t k apart) ∙ is))
   ]
 
   -- no page that it names is a buffer
@@ -178,6 +182,7 @@ module _ (s : State) (sound : IsSoundState s) (t : Transaction) (good : IsSendab
         sized = record { some = sound.sized.some; few = sound.sized.few; base = sound.sized.base; within = sound.sized.within; one_table = sound.sized.one_table; blocks = sound.sized.blocks; sent = length-set s.sent (place t.sender) (sent_by s t.sender + 1) ∙ sound.sized.sent; buffers = sound.sized.buffers; works = sound.sized.works; bitmaps = sound.sized.bitmaps };
         parties = sound.parties;
         pages = λ p page is. let good = sound.pages p page is in record { owner = good.owner; size = good.size; bytes = good.bytes };
+        worlds = sound.worlds;
         transactions = each-sound;
         one = one-named;
         few = few-open;

@@ -1,10 +1,16 @@
 -- SPDX-License-Identifier: MIT OR Apache-2.0
 -- What the checks of pages say of a state.
 use Rattle.std.proofs.Common.{◌≡◌, ℕ, true, Option, Some, None, is_some, refl, not}
-use Rattle.ffa_model.specs.State.{State, owner_of}
+use Rattle.std.specs.Option.{option_map_or}
+use Rattle.ffa_model.specs.Identifiers.{manager}
+use Rattle.ffa_model.specs.State.{State, Page, owner_of}
 use Rattle.ffa_model.specs.Access.{Ownership, handle_at, ownership_of}
 use Rattle.ffa_model.specs.Buffers.{is_own, is_usable}
 use Rattle.std.proofs.lemmas.Bool.{and_parts, eqb-true, false≢true}
+
+-- the owner of a page, which is the manager where no endpoint owns it
+abbrev pub owned_by : Option Page → ℕ
+owned_by o = option_map_or (λ (page : Page). page.owner) o manager
 
 pub none-there : {X : Type 0} (o : Option X) → not (is_some o) ≡ true → o ≡ None
 none-there None h = refl

@@ -1,14 +1,15 @@
 -- SPDX-License-Identifier: MIT OR Apache-2.0
 -- What a sound state is: the first state is one, and each operation keeps it so.
-use Rattle.std.specs.Prelude.{◌≡◌, ◌<◌, ◌≤◌, ℕ, ◌+◌, ◌*◌, ◌%◌, ◌^◌, true, nat_lt, List, length, Some, None, slice_get}
+use Rattle.std.specs.Prelude.{◌≡◌, ◌≢◌, ◌<◌, ◌≤◌, ℕ, ◌+◌, ◌*◌, ◌%◌, ◌^◌, Bool, true, false, not, ◌&&◌, is_some, nat_lt, List, length, Some, None, slice_get}
 use Rattle.std.specs.List.{list_all}
 use Rattle.std.specs.FinSet as finite_set
 use Rattle.ffa_model.specs.declared.limits.TheConstants.{MOST_BLOCKS, MOST_BUFFER_PAGES, MOST_ENDPOINTS, MOST_OPEN, MOST_RANGES, MOST_SENDS}
 use Rattle.ffa_model.specs.declared.rights.Rights.{Rights}
 use Rattle.ffa_model.specs.declared.rights.Kind.TheVariants.{Donate}
-use Rattle.ffa_model.specs.Numbers.{Identifier}
+use Rattle.ffa_model.specs.Numbers.{Identifier, PageIndex}
 use Rattle.ffa_model.specs.Lists.{is_in_run}
 use Rattle.ffa_model.specs.Manifest.{has_tables, is_from_to, is_ram_base}
+use Rattle.ffa_model.specs.Regions.{is_normal}
 use Rattle.ffa_model.specs.Rights.{is_at_most}
 use Rattle.ffa_model.specs.State.{State, Page, Party, Transaction, Buffers, buffers_of, is_known, owner_of, page_at, sent_by, transaction_of}
 use Rattle.ffa_model.specs.Access.{ownership_of, held_by, is_naming, is_receiver, names}
@@ -17,7 +18,7 @@ use Rattle.ffa_model.specs.SendDescriptor.{most_receivers}
 use Rattle.ffa_model.specs.RunStates.{schedule_of}
 use Rattle.ffa_model.specs.Sound.{IsSound}
 use Rattle.ffa_model.specs.Transactions.{are_writable, ceiling, handle_of, open_of, open_count, pages_in}
-use Rattle.ffa_model.specs.MemorySend.{are_grants_within, are_known, is_inside}
+use Rattle.ffa_model.specs.MemorySend.{are_grants_within, are_known, is_inside, is_told_normal}
 use Rattle.ffa_model.specs.Notifications.{binding, class_of, has_bitmaps_in, is_bound, manager_class, notifications_of, receiver_bit}
 
 -- numbers that are bytes
@@ -26,6 +27,10 @@ are_bytes numbers = list_all (λ b. nat_lt b 256) numbers ≡ true
 
 abbrev pub IsKnown : State → Identifier → Type 0
 IsKnown s e = is_known s e ≡ true
+
+-- a page that is not of non-secure memory, where worlds are told apart
+abbrev pub is_secure : State → PageIndex → Bool
+is_secure s p = is_some s.normal && not (is_normal s.ram_base s.normal p)
 
 -- what the manifest says of an endpoint
 pub record IsSoundParty (party : Party) : Type 0 where
@@ -62,6 +67,9 @@ pub record IsSoundTransaction (s : State) (h : ℕ) (t : Transaction) : Type 0 w
   pub some_ranges : 1 ≤ length t.ranges
   pub few_ranges : length t.ranges ≤ MOST_RANGES
   pub tag : t.tag < 2 ^ 64
+  -- it offers no secure page to the normal world, and its memory is told to be what it is
+  pub worlds : (p : ℕ) → p < length s.pages → names s t.ranges p ≡ true → is_secure s p ≡ true → is_receiver 0 t ≡ false
+  pub told : t.normal ≡ is_told_normal (ownership_of s) s.normal t.ranges
 
 -- two runs of pages of the endpoint alone, in no open transaction, with own right rw
 pub record IsSoundBuffers (s : State) (e : ℕ) (buffers : Buffers) : Type 0 where
@@ -115,6 +123,8 @@ pub record IsSoundState (s : State) : Type 0 where
   pub parties : (i : ℕ) (party : Party) → slice_get s.parties i ≡ Some party → IsSoundParty party
   pub pages : (p : ℕ) (page : Page) → page_at s p ≡ Some page → IsSoundPage s page
   pub transactions : (h : ℕ) (t : Transaction) → transaction_of s h ≡ Some t → IsSoundTransaction s h t
+  -- the normal world owns no secure page
+  pub worlds : (p : ℕ) → is_secure s p ≡ true → owner_of s p ≢ 0
   -- a page stands in at most one open transaction
   pub one :
       (p h k : ℕ) → p < length s.pages → is_naming s p (transaction_of s h) ≡ true

@@ -3,14 +3,13 @@
 -- contexts, as many as there are processors.
 use Rattle.std.specs.List.{list_any}
 use Rattle.std.specs.Prelude.{ℕ, Bool, false, [], ◌∷◌, not, ◌==◌, ◌&&◌, ◌||◌, nat_le, nat_lt, List, Option, Some, None, slice_index, slice_set, if◌then◌else◌}
-use Rattle.ffa_model.specs.declared.function.TheConstants.{FFA_FEATURES, FFA_NOTIFICATION_BITMAP_CREATE, FFA_NOTIFICATION_GET}
+use Rattle.ffa_model.specs.declared.function.TheConstants.{FFA_FEATURES, FFA_NOTIFICATION_BITMAP_CREATE, FFA_NOTIFICATION_GET, FFA_NOTIFICATION_INFO_GET}
 use Rattle.ffa_model.specs.declared.limits.TheConstants.{MOST_PROCESSORS}
 use Rattle.ffa_model.specs.declared.operation.Effect.{Effect}
 use Rattle.ffa_model.specs.declared.operation.Effect.TheVariants as effects
 use Rattle.ffa_model.specs.declared.operation.Op.{Op}
 use Rattle.ffa_model.specs.declared.operation.Op.TheVariants.{Call, Load, Store, Fetch}
 use Rattle.ffa_model.specs.declared.operation.Outcome.TheVariants.{Regs}
-use Rattle.ffa_abi.specs.declared.names.TheConstants.{FFA_NOTIFICATION_INFO_GET}
 use Rattle.ffa_model.specs.Bits.{high_half, low_half}
 use Rattle.ffa_model.specs.Calls.{encode, success}
 use Rattle.ffa_model.specs.Notifications.{Notifications}

@@ -6,13 +6,13 @@ use Rattle.std.specs.Ordering.{nat_cmp}
 use Rattle.std.specs.Cmp.Lexicographic.{slice_cmp}
 use Rattle.std.specs.List.{list_any}
 use Rattle.std.specs.FinSet as finite_set
+use Rattle.ffa_abi.specs.Names.{no_data}
 use Rattle.ffa_model.specs.declared.function.TheConstants.{FFA_ERROR, FFA_SUCCESS}
 use Rattle.ffa_model.specs.Identifiers.{identifier}
 use Rattle.ffa_model.specs.Lists.{listed}
 use Rattle.ffa_model.specs.Notifications.{Notifications, has_pending}
 use Rattle.ffa_model.specs.Numbers.{Identifier}
 use Rattle.ffa_model.specs.Registers.{wide_of}
-use Rattle.ffa_notify.specs.declared.told.TheConstants.{NO_DATA}
 
 -- the bits of receivers that it has been told of, listed as those that are pending
 abbrev pub Told : Type 0
@@ -52,5 +52,5 @@ lists false ids = FFA_SUCCESS ∷ 0 ∷ 128 * length ids ∷ listed 5 (λ i. two
 lists true ids = wide_of FFA_SUCCESS ∷ 0 ∷ 128 * length ids ∷ listed 5 (λ i. four_from ids (4 * i))
 
 abbrev pub info : Bool → List Identifier → List ℕ
-info is_wide [] = FFA_ERROR ∷ 0 ∷ NO_DATA ∷ replicate 5 0
+info is_wide [] = FFA_ERROR ∷ 0 ∷ no_data ∷ replicate 5 0
 info is_wide (e ∷ es) = lists is_wide (e ∷ es)

@@ -9,8 +9,11 @@ ghost use Rattle.ffa_notify.specs.Noticed.{in_one_context, is_about_notices, is_
 
 use crate::bitmaps::Bitmaps;
 use crate::told::{Told, info_registers};
-use ffa_abi::{FFA_NOTIFICATION_INFO_GET, FFA_NOTIFICATION_INFO_GET_64, low};
-use ffa_model::function::{FFA_FEATURES, FFA_NOTIFICATION_BITMAP_CREATE, FFA_NOTIFICATION_GET};
+use ffa_abi::low;
+use ffa_model::function::{
+    FFA_FEATURES, FFA_NOTIFICATION_BITMAP_CREATE, FFA_NOTIFICATION_GET, FFA_NOTIFICATION_INFO_GET,
+    FFA_NOTIFICATION_INFO_GET_64,
+};
 use ffa_model::{Effect, EndpointId, MOST_PROCESSORS, Op, Outcome, Reply};
 
 /// What the normal world asks about notices.

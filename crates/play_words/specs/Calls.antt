@@ -3,7 +3,7 @@
 -- the number of each stands in the registers (DEN0077A, 11 to 16).
 use Rattle.std.specs.Prelude.{ℕ, ◌-◌, ◌%◌, ◌^◌, ◌==◌, Bool, false, true, List, [], codes, drop, find, length, map, take, Option, None, Some, option_map, option_and_then, if◌then◌else◌, bytes_eq}
 use Rattle.std.specs.Option.{option_or}
-use Rattle.ffa_abi.specs.declared.names.TheConstants.{FFA_NOTIFICATION_INFO_GET, FFA_NOTIFICATION_INFO_GET_64}
+use Rattle.ffa_model.specs.declared.function.TheConstants.{FFA_NOTIFICATION_INFO_GET, FFA_NOTIFICATION_INFO_GET_64}
 use Rattle.ffa_model.specs.Registers.{wide_of}
 use Rattle.ffa_model.specs.Rows.{Row, rows}
 use Rattle.play_words.specs.declared.arguments.TheConstants.{ARGUMENTS}

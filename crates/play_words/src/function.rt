@@ -5,8 +5,7 @@ ghost use Rattle.ffa_model.specs.Rows.{told};
 ghost use Rattle.play_words.specs.Calls.{arguments_of, form_of, front_of, function_named, in_form, listed_named, notice_in_form, notice_named, row_named};
 
 use crate::arguments::{ARGUMENTS, Argument};
-use ffa_abi::{FFA_NOTIFICATION_INFO_GET, FFA_NOTIFICATION_INFO_GET_64};
-use ffa_model::function::WIDE;
+use ffa_model::function::{FFA_NOTIFICATION_INFO_GET, FFA_NOTIFICATION_INFO_GET_64, WIDE};
 use ffa_model::{CALLS, CallRow};
 
 /// A call in one of its forms.
