@@ -1,5 +1,5 @@
 -- SPDX-License-Identifier: MIT OR Apache-2.0
-pub mod Copies
+pub mod Codes
 pub mod FrameRam
 pub mod Levels
 pub mod Moments

@@ -1,6 +1,7 @@
 -- SPDX-License-Identifier: MIT OR Apache-2.0
 -- What was written to RAM, step by step.
-use Rattle.std.specs.Prelude.{◌≡◌, ⊤, ◌⊎◌, ◌-◌, ◌*◌, ◌<◌, ◌≤◌, ℕ, Bool, true, false, List, [], ◌∷◌, length, take, Option, Some, None}
+use Rattle.std.specs.Prelude.{◌≡◌, ⊤, ◌⊎◌, ◌-◌, ◌*◌, ◌<◌, ◌≤◌, ℕ, suc, Bool, true, false, List, [], ◌∷◌, length, take, Option, Some, None}
+use denote.RawPtr.{Ptr}
 use Rattle.ffa_model.specs.Lists.{is_in_run}
 use Rattle.ffa_model.specs.Ram.{Ram, page_of, with_page, with_word}
 
@@ -26,6 +27,39 @@ pub record Step : Type 0 where
   pub after : Ram
   pub settled : Option Settled
   pub reading : Option Reading
+
+-- pages that are read and written in copies, from one on, by the bytes that memory has there beneath them
+pub record Copies : Type 0 where
+  pub first : ℕ
+  pub beneath : List (List ℕ)
+
+-- what no step changes: where the memory of each page lies, in order, where that was told; and the pages that are in copies since they
+-- were read at once
+pub record Site : Type 0 where
+  pub places : List Ptr
+  pub copies : Copies
+
+-- what a RAM has been through: the steps so far, the last first, where a record of them is kept; and what no step changes
+pub record Past : Type 0 where
+  pub steps : Option (List Step)
+  pub site : Site
+
+-- RAM with these bytes in its pages, from one on
+abbrev pub with_beneath : Ram → ℕ → List (List ℕ) → Ram
+with_beneath ram first [] = ram
+with_beneath ram first (bytes ∷ others) = with_beneath (with_page ram first bytes) (suc first) others
+
+-- memory itself: RAM as it is seen, but with what stands beneath each copy
+abbrev pub memory_of : Ram → Past → Ram
+memory_of ram past = with_beneath ram past.site.copies.first past.site.copies.beneath
+
+-- no page is in a copy, so memory is RAM as it is seen
+abbrev pub HasNoCopies : Past → Type 0
+HasNoCopies past = past.site.copies.beneath ≡ []
+
+-- whether a page is in a copy
+abbrev pub is_copied : Past → ℕ → Bool
+is_copied past p = is_in_run past.site.copies.first (length past.site.copies.beneath) p
 
 -- one store of a word: its 8 bytes change at once
 pub record IsStore (old : Ram) (page index value : ℕ) (s : Step) : Type 0 where
@@ -92,15 +126,26 @@ abbrev pub Adds : Option (List Step) → (List Step → Step → Type 0) → Lis
 Adds old P [] = old ≡ Some []
 Adds old P (s ∷ earlier) = (old ≡ Some (s ∷ earlier)) ⊎ (P earlier s × Adds old P earlier)
 
--- from one history to a later one each step has P
-pub record Only (old new : Option (List Step)) (P : List Step → Step → Type 0) : Type 0 where
-  pub each : (h : List Step) → new ≡ Some h → Adds old P h
-
 -- from one history to the next there is exactly one step, which has P
-pub record One (old new : Option (List Step)) (P : Step → Type 0) : Type 0 where
-  pub each :
-      (h : List Step) → new ≡ Some h
-      → (s : Step) × (earlier : List Step) × (h ≡ s ∷ earlier) × (old ≡ Some earlier) × P s
+abbrev pub OneMore : Option (List Step) → Option (List Step) → (Step → Type 0) → Type 0
+OneMore old new P =
+    (h : List Step) → new ≡ Some h
+    → (s : Step) × (earlier : List Step) × (h ≡ s ∷ earlier) × (old ≡ Some earlier) × P s
+
+-- from one past to a later one each step has P; each page stays where it lies, and the same pages stay in copies, with the same bytes
+-- beneath them
+pub record Only (old new : Past) (P : List Step → Step → Type 0) : Type 0 where
+  pub each : (h : List Step) → new.steps ≡ Some h → Adds old.steps P h
+  pub site : new.site ≡ old.site
+
+-- from one past to the next there is exactly one step, which has P, and the rest stays so
+pub record One (old new : Past) (P : Step → Type 0) : Type 0 where
+  pub each : OneMore old.steps new.steps P
+  pub site : new.site ≡ old.site
+
+-- a later past, with the site of an earlier one: what is promised of the steps between them says nothing of copies then
+abbrev pub on_site_of : Past → Past → Past
+on_site_of past later = record later { site = past.site }
 
 -- a step leaves RAM where it stands, with as many pages
 pub record StaysPlaced (s : Step) : Type 0 where
@@ -113,5 +158,5 @@ AreInTurn [] ram = ⊤
 AreInTurn (s ∷ earlier) ram = (s.after ≡ ram) × StaysPlaced s × AreInTurn earlier s.before
 
 -- so it is of a history, where there is one
-abbrev pub TurnsIn : Ram → Option (List Step) → Type 0
-TurnsIn ram past = (h : List Step) → past ≡ Some h → AreInTurn h ram
+abbrev pub TurnsIn : Ram → Past → Type 0
+TurnsIn ram past = (h : List Step) → past.steps ≡ Some h → AreInTurn h ram

@@ -1,13 +1,21 @@
 -- SPDX-License-Identifier: MIT OR Apache-2.0
 -- FOR PROOFS ALONE
 -- Where no record is kept, nothing is said of steps.
-use Rattle.std.proofs.Common.{List, Option, None}
+use Rattle.std.proofs.Common.{◌≡◌, List, [], None}
 use Rattle.std.proofs.lemmas.Option.{none-some}
 use Rattle.ffa_model.specs.Ram.{Ram}
-use Rattle.ffa_physmem.specs.Moments.{Step, Only, TurnsIn}
+use Rattle.ffa_physmem.specs.Moments.{Site, Step, Past, Only, TurnsIn}
 
-pub unrecorded : {old : Option (List Step)} {P : List Step → Step → Type 0} → Only old None P
-unrecorded = record { each = λ h none. absurd (none-some h none) }
+-- such a past
+abbrev pub unrecorded : Site → Past
+unrecorded site = record { steps = None; site = site }
 
-pub unrecorded_turn : (ram : Ram) → TurnsIn ram None
-unrecorded_turn ram h none = absurd (none-some h none)
+-- nobody told where pages lie, and none is in a copy
+abbrev pub no_site : Site
+no_site = record { places = []; copies = record { first = 0; beneath = [] } }
+
+pub no_steps : {old : Past} {site : Site} {P : List Step → Step → Type 0} → site ≡ old.site → Only old (unrecorded site) P
+no_steps same = record { each = λ h none. absurd (none-some h none); site = same }
+
+pub no_turn : (ram : Ram) (site : Site) → TurnsIn ram (unrecorded site)
+no_turn ram site h none = absurd (none-some h none)

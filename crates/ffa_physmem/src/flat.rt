@@ -80,23 +80,26 @@ fn zero_pages<A: Allocator>(alloc: A, count: u32) -> Result<Vec<[u8; 4096], A>, 
 }
 
 impl<A: Allocator> PhysMem for FlatRam<A> {
-    ghost use Rattle.std.specs.Prelude.{None};
-    ghost use Rattle.ffa_physmem.specs.Unrecorded.{unrecorded, unrecorded_turn};
+    ghost use Rattle.ffa_physmem.specs.Unrecorded.{no_site, no_steps, no_turn, unrecorded};
     ghost use Rattle.std.specs.Prelude.{refl};
     ghost use Rattle.std.specs.Vec.{with_item};
 
     ghost ram = { λ m. record { base = m.base.0; pages = m.pages.items } };
 
+    ghost memory = { λ m. record { base = m.base.0; pages = m.pages.items } };
+
     ghost with_bytes = { λ m page bytes. record m { pages = with_item m.pages page bytes } };
 
-    // No record is kept.
-    ghost past = { λ _. None };
+    // No record is kept, and no page is ever in a copy.
+    ghost past = { λ _. unrecorded no_site };
+
+    ghost beneath = { λ _. refl };
 
     ghost one_page = { λ m page bytes. refl };
 
-    ghost in_loan = { λ _ _ _. unrecorded };
+    ghost in_loan = { λ _ _ _. no_steps refl };
 
-    ghost in_turn = { λ _. unrecorded_turn _ };
+    ghost in_turn = { λ _. no_turn _ no_site };
 
     fn base(&self) -> Address {
         self.base
@@ -127,27 +130,17 @@ impl<A: Allocator> PhysMem for FlatRam<A> {
 // Nobody else writes to it, so each page is always what one reading gives.
 impl<A: Allocator> Observed for FlatRam<A> {
     ghost use Rattle.std.specs.Prelude.{true, false};
-    ghost use Rattle.ffa_model.specs.Ram.{page_of};
-    ghost use Rattle.ffa_physmem.specs.Copies.{no_copy};
-
-    ghost beneath = { λ m p. page_of (⟦<FlatRam<A> as PhysMem>⟧.ram m) p };
-
-    ghost is_held = { λ _ _. true };
 
     ghost is_alone = { true };
 
-    ghost is_copied = { false };
+    ghost is_copying = { false };
 
     ghost is_shared = { false };
-
-    ghost beneath_kept = { λ _ _ _ _. no_copy };
 
     #[inline(always)]
     fn is_shared(&self) -> bool {
         false
     }
-
-    fn rest(&mut self) {}
 
     fn observe(&mut self, _first: PageNo, _count: u32, _bytes: usize) {}
 
@@ -158,4 +151,6 @@ impl<A: Allocator> Unshared for FlatRam<A> {
     ghost use Rattle.std.specs.Prelude.{refl};
 
     ghost unshared = { refl };
+
+    ghost free = { λ _. refl };
 }

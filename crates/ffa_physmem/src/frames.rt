@@ -50,20 +50,22 @@ impl<A: Allocator + Copy> FrameRam<A> {
 }
 
 impl<A: Allocator, L: Allocator> FrameRam<A, L> {
-    ghost use Rattle.ffa_physmem.specs.FrameRam.{ram_of};
+    ghost use Rattle.ffa_physmem.specs.FrameRam.{frames_of, ram_of};
 
     /// RAM at this address, whose pages are these frames, with the bytes that are in them.
     pub fn of(base: Address, frames: Vec<Box<[u8; 4096], A>, L>) -> FrameRam<A, L>
         requires aligned { base.0 % 4096 ≡ 0 }
         requires fits { base.0 + 4096 * vec_len frames ≤ 2 ^ 32 }
-        ensures { ram_of result ≡ record { base = base.0; pages = map (λ b. b.value) frames.items } }
+        ensures ram { ram_of result ≡ record { base = base.0; pages = map (λ b. b.value) frames.items } }
+        ensures frames { frames_of result ≡ frames.items }
     {
         FrameRam { base, frames }
     }
 
     /// The frames once more, with the bytes that RAM has.
     pub fn into_frames(self) -> Vec<Box<[u8; 4096], A>, L>
-        ensures { map (λ b. b.value) result.items ≡ (ram_of self).pages }
+        ensures bytes { map (λ b. b.value) result.items ≡ (ram_of self).pages }
+        ensures frames { result.items ≡ frames_of self }
     {
         self.frames
     }
@@ -84,22 +86,26 @@ pub fn zero_frames<A: Allocator + Copy>(
 }
 
 impl<A: Allocator, L: Allocator> PhysMem for FrameRam<A, L> {
-    ghost use Rattle.std.specs.Prelude.{None};
-    ghost use Rattle.ffa_physmem.specs.Unrecorded.{unrecorded, unrecorded_turn};
+    ghost use Rattle.ffa_physmem.specs.Unrecorded.{no_site, no_steps, no_turn, unrecorded};
+    ghost use Rattle.std.specs.Prelude.{refl};
     ghost use Rattle.ffa_physmem.specs.FrameRam.{ram_of, with_frame, ram_of-with_frame};
 
     ghost ram = { ram_of };
 
+    ghost memory = { ram_of };
+
     ghost with_bytes = { with_frame };
 
-    // No record is kept.
-    ghost past = { λ _. None };
+    // No record is kept, and no page is ever in a copy.
+    ghost past = { λ _. unrecorded no_site };
+
+    ghost beneath = { λ _. refl };
 
     ghost one_page = { ram_of-with_frame };
 
-    ghost in_loan = { λ _ _ _. unrecorded };
+    ghost in_loan = { λ _ _ _. no_steps refl };
 
-    ghost in_turn = { λ _. unrecorded_turn _ };
+    ghost in_turn = { λ _. no_turn _ no_site };
 
     fn base(&self) -> Address {
         self.base
@@ -130,28 +136,17 @@ impl<A: Allocator, L: Allocator> PhysMem for FrameRam<A, L> {
 // Nobody else writes to it, so each page is always what one reading gives.
 impl<A: Allocator, L: Allocator> Observed for FrameRam<A, L> {
     ghost use Rattle.std.specs.Prelude.{true, false};
-    ghost use Rattle.ffa_model.specs.Ram.{page_of};
-    ghost use Rattle.ffa_physmem.specs.Copies.{no_copy};
-    ghost use Rattle.ffa_physmem.specs.FrameRam.{ram_of};
-
-    ghost beneath = { λ m p. page_of (ram_of m) p };
-
-    ghost is_held = { λ _ _. true };
 
     ghost is_alone = { true };
 
-    ghost is_copied = { false };
+    ghost is_copying = { false };
 
     ghost is_shared = { false };
-
-    ghost beneath_kept = { λ _ _ _ _. no_copy };
 
     #[inline(always)]
     fn is_shared(&self) -> bool {
         false
     }
-
-    fn rest(&mut self) {}
 
     fn observe(&mut self, _first: PageNo, _count: u32, _bytes: usize) {}
 
@@ -162,4 +157,6 @@ impl<A: Allocator, L: Allocator> Unshared for FrameRam<A, L> {
     ghost use Rattle.std.specs.Prelude.{refl};
 
     ghost unshared = { refl };
+
+    ghost free = { λ _. refl };
 }

@@ -1,9 +1,9 @@
 // SPDX-License-Identifier: MIT OR Apache-2.0
 //! What the manager needs of RAM.
-ghost use Rattle.std.specs.Prelude.{◌≡◌, ℕ, ◌+◌, ◌*◌, ◌%◌, ◌^◌, ◌<◌, ◌≤◌, List, ◌++◌, length, take, drop, replicate, Option};
+ghost use Rattle.std.specs.Prelude.{◌≡◌, ℕ, ◌+◌, ◌*◌, ◌%◌, ◌^◌, ◌<◌, ◌≤◌, List, ◌++◌, length, take, drop, replicate};
 ghost use Rattle.std.specs.Borrow.{sem, Lends, Array, u8 as byte};
 ghost use Rattle.ffa_model.specs.Ram.{Ram, page_of, with_page, word_of, with_word};
-ghost use Rattle.ffa_physmem.specs.Moments.{Step, IsStore, IsSettling, IsInLoan, One, Only, TurnsIn};
+ghost use Rattle.ffa_physmem.specs.Moments.{Past, IsStore, IsSettling, IsInLoan, One, Only, TurnsIn, memory_of};
 
 use byteorder::{ByteOrder, LittleEndian};
 use ffa_model::{Address, PageNo};
@@ -16,15 +16,19 @@ pub const PAGE_SIZE: usize = 4096;
 /// Others may read this memory beside us at any moment, above all the processor's walk of the tables. So what `write_word`
 /// writes has to come out as one store of 64 bits, which no contract can say.
 pub trait PhysMem {
-    /// Where the RAM begins, and the bytes of each page.
+    /// Where the RAM begins, and the bytes of each page as they are read and written here.
     ghost ram: { Self → Ram };
+
+    /// The bytes of memory itself, which the processor's walk and everybody else reads and writes.
+    ghost memory: { Self → Ram };
 
     /// The same RAM with other bytes in one page.
     ghost with_bytes: { Self → ℕ → List ℕ → Self };
 
     /// What was written to it so far: the steps, the last first; or nothing, where it keeps no record of them. What is
-    /// promised of steps is promised for every kind, so also for one that does.
-    ghost past: { Self → Option (List Step) };
+    /// promised of steps is promised for every kind, so also for one that does. And what no step changes: where the memory of
+    /// its pages lies, and which pages are in copies.
+    ghost past: { Self → Past };
 
     /// The address of the first byte.
     fn base(&self) -> Address
@@ -93,6 +97,9 @@ pub trait PhysMem {
         buffer.copy_from_slice(self.page(from));
         put_front(self.page_mut(to), &buffer[..count]);
     }
+
+    /// Memory is what is read and written here, except beneath copies.
+    ghost beneath: { (m : Self) → memory m ≡ memory_of (ram m) (past m) };
 
     /// Only that page changes.
     ghost one_page: { (m : Self) (page : ℕ) (bytes : List ℕ)

@@ -8,7 +8,7 @@ use Rattle.std.proofs.lemmas.Bool.{ltb-true}
 use Rattle.std.proofs.lemmas.List.{take_more_set}
 use Rattle.ffa_model.specs.Ram.{Ram, page_of, with_page}
 use Rattle.ffa_physmem.specs.Moments.{IsInLoan, Only}
-use Rattle.ffa_physmem.specs.Unrecorded.{unrecorded}
+use Rattle.ffa_physmem.specs.Unrecorded.{no_steps}
 use Rattle.ffa_physmem.proofs.Moments.{Only-one}
 use Rattle.ffa_recorded.specs.Records.{history}
 use Rattle.ffa_recorded.specs.Steps.{loan-step}
@@ -59,7 +59,7 @@ in_loan m page bytes = of (has_room m) (λ is. ltb-true _ _ is)
         (take (if c then m.noted + 1 else m.noted)
         (if c then with_item m.places m.noted (held_in m page) else m.places).items))
         (λ _ s. IsInLoan (ram_of m) page s)
-    of false room = unrecorded
+    of false room = no_steps refl
     of true room =
         Only-one (loan-step (ram_of m) (with_page (ram_of m) page bytes) (noted_in m) _ (record { 0 = page }) _ bytes refl refl
         m.is_kept m.is_kept (λ is. is) (λ _. take_more_set m.places.items m.noted (held_in m page) (omega (arith, room refl, m.places.ok.0))))

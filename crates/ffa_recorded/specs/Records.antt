@@ -3,7 +3,8 @@
 -- The steps that lead to a RAM, by what was noted of each.
 use Rattle.std.specs.Prelude.{Bool, true, false, List, [], ◌∷◌, Option, Some, None, reverse}
 use Rattle.ffa_model.specs.Ram.{Ram, with_page}
-use Rattle.ffa_physmem.specs.Moments.{Step}
+use Rattle.ffa_physmem.specs.Moments.{Past, Step}
+use Rattle.ffa_physmem.specs.Unrecorded.{no_site}
 use Rattle.ffa_recorded.specs.declared.recorded.Noted.{Noted}
 use Rattle.ffa_recorded.specs.declared.recorded.Noted.TheVariants.{Written, Settled, Read}
 
@@ -33,6 +34,11 @@ abbrev pub steps_to : Ram → List Noted → List Step
 steps_to ram [] = []
 steps_to ram (noted ∷ earlier) = step_to ram noted ∷ steps_to (step_to ram noted).before earlier
 
-abbrev pub history : Bool → Ram → List Noted → Option (List Step)
-history true ram noted = Some (steps_to ram (reverse noted))
-history false ram noted = None
+-- all steps, where the record was kept
+abbrev pub kept_steps : Bool → Ram → List Noted → Option (List Step)
+kept_steps true ram noted = Some (steps_to ram (reverse noted))
+kept_steps false ram noted = None
+
+-- with no page in a copy
+abbrev pub history : Bool → Ram → List Noted → Past
+history kept ram noted = record { steps = kept_steps kept ram noted; site = no_site }

@@ -39,6 +39,7 @@ kept_of (Some h) = h
 module _ (old new : Ram) (before after : List Noted) (noted : Noted) (P : Step → Type 0) (from : (step_to new noted).before ≡ old) (its : P (step_to new noted)) where
   kept-step : after ≡ before ++ noted ∷ [] → One (history true old before) (history true new after) P
   kept-step more = record {
+    site = refl;
     each = λ h there. (
       step_to new noted,
       steps_to old (reverse before),
@@ -50,7 +51,7 @@ module _ (old new : Ram) (before after : List Noted) (noted : Noted) (P : Step �
   }
 
   pub recorded-step : (was is : Bool) → (is ≡ true → was ≡ true) → (is ≡ true → after ≡ before ++ noted ∷ []) → One (history was old before) (history is new after) P
-  recorded-step was false kept more = record { each = λ h none. absurd (none-some h none) }
+  recorded-step was false kept more = record { each = λ h none. absurd (none-some h none); site = refl }
   recorded-step true true kept more = kept-step (more refl)
   recorded-step false true kept more = absurd (false≢true (kept refl))
 

@@ -131,9 +131,14 @@ impl PhysMem for Recorded {
 
     ghost ram = { ram_of };
 
+    ghost memory = { ram_of };
+
     ghost with_bytes = { with_bytes };
 
+    // No page is ever in a copy.
     ghost past = { λ m. history m.is_kept (ram_of m) (noted_in m) };
+
+    ghost beneath = { λ _. refl };
 
     ghost one_page = { λ m page bytes. refl };
 
@@ -189,27 +194,17 @@ impl PhysMem for Recorded {
 // Nobody else writes to this RAM, so each page is always what one reading gives.
 impl Observed for Recorded {
     ghost use Rattle.std.specs.Prelude.{true, false};
-    ghost use Rattle.ffa_model.specs.Ram.{page_of};
-    ghost use Rattle.ffa_physmem.specs.Copies.{no_copy};
-
-    ghost beneath = { λ m p. page_of (⟦<FlatRam as PhysMem>⟧.ram m.ram) p };
-
-    ghost is_held = { λ _ _. true };
 
     ghost is_alone = { true };
 
-    ghost is_copied = { false };
+    ghost is_copying = { false };
 
     ghost is_shared = { true };
-
-    ghost beneath_kept = { λ _ _ _ _. no_copy };
 
     #[inline(always)]
     fn is_shared(&self) -> bool {
         true
     }
-
-    fn rest(&mut self) {}
 
     fn observe(&mut self, first: PageNo, count: u32, _bytes: usize) {
         self.note(Noted::Read(Reading {

@@ -72,8 +72,6 @@ impl Shifting {
     // Writes the next word, where its page is one of these.
     fn shift(&mut self, first: PageNo, count: u32)
         requires { first.0 + count ≤ length (⟦<FlatRam as PhysMem>⟧.ram self.old.ram).pages }
-        ensures shown { (p : ℕ) → is_in_run first.0 count p ≡ true
-            → page_of (⟦<FlatRam as PhysMem>⟧.ram self.new.ram) p ≡ ⟦<Shifting as Observed>⟧.beneath self.old p }
         ensures beside { IsBeside (⟦<FlatRam as PhysMem>⟧.ram self.old.ram) (⟦<FlatRam as PhysMem>⟧.ram self.new.ram)
             (is_in_run first.0 count) }
         ensures whole { (p : ℕ) → length (page_of (⟦<FlatRam as PhysMem>⟧.ram self.new.ram) p)
@@ -89,21 +87,25 @@ impl Shifting {
 }
 
 impl PhysMem for Shifting {
-    ghost use Rattle.std.specs.Prelude.{refl, None};
-    ghost use Rattle.ffa_physmem.specs.Unrecorded.{unrecorded, unrecorded_turn};
+    ghost use Rattle.std.specs.Prelude.{refl};
+    ghost use Rattle.ffa_physmem.specs.Unrecorded.{no_site, no_steps, no_turn, unrecorded};
 
     ghost ram = { λ m. ⟦<FlatRam as PhysMem>⟧.ram m.ram };
+
+    ghost memory = { λ m. ⟦<FlatRam as PhysMem>⟧.ram m.ram };
 
     ghost with_bytes = { λ m page bytes. record m { ram = ⟦<FlatRam as PhysMem>⟧.with_bytes m.ram page bytes } };
 
     // No record is kept.
-    ghost past = { λ _. None };
+    ghost past = { λ _. unrecorded no_site };
+
+    ghost beneath = { λ _. refl };
 
     ghost one_page = { λ m page bytes. refl };
 
-    ghost in_loan = { λ _ _ _. unrecorded };
+    ghost in_loan = { λ _ _ _. no_steps refl };
 
-    ghost in_turn = { λ _. unrecorded_turn _ };
+    ghost in_turn = { λ _. no_turn _ no_site };
 
     fn base(&self) -> Address {
         self.ram.base()
@@ -129,32 +131,19 @@ impl PhysMem for Shifting {
 }
 
 impl Observed for Shifting {
-    ghost use Rattle.std.specs.Prelude.{◌==◌, true, false, if◌then◌else◌};
-    ghost use Rattle.ffa_model.specs.Ram.{page_of, with_word};
-    ghost use Rattle.ffa_physmem.specs.Copies.{no_copy};
-
-    // What others wrote to the page of TX, and of any other page what stands in RAM.
-    ghost beneath = { λ m p.
-        if p == 0x2E then with_word (page_of (⟦<FlatRam as PhysMem>⟧.ram m.ram) 0x2E) m.word m.next
-        else page_of (⟦<FlatRam as PhysMem>⟧.ram m.ram) p };
+    ghost use Rattle.std.specs.Prelude.{true, false};
 
     // A word changes at a reading's ends alone.
-    ghost is_held = { λ _ _. true };
-
     ghost is_alone = { false };
 
-    ghost is_copied = { false };
+    ghost is_copying = { false };
 
     ghost is_shared = { true };
-
-    ghost beneath_kept = { λ _ _ _ _. no_copy };
 
     #[inline(always)]
     fn is_shared(&self) -> bool {
         true
     }
-
-    fn rest(&mut self) {}
 
     fn observe(&mut self, first: PageNo, count: u32, _bytes: usize) {
         self.shift(first, count);

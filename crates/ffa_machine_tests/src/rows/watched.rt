@@ -183,21 +183,25 @@ const NOTHING: Writes = Writes {
 };
 
 impl PhysMem for Watched {
-    ghost use Rattle.std.specs.Prelude.{refl, None};
-    ghost use Rattle.ffa_physmem.specs.Unrecorded.{unrecorded, unrecorded_turn};
+    ghost use Rattle.std.specs.Prelude.{refl};
+    ghost use Rattle.ffa_physmem.specs.Unrecorded.{no_site, no_steps, no_turn, unrecorded};
 
     ghost ram = { λ m. ⟦<FlatRam as PhysMem>⟧.ram m.ram };
+
+    ghost memory = { λ m. ⟦<FlatRam as PhysMem>⟧.ram m.ram };
 
     ghost with_bytes = { λ m page bytes. record m { ram = ⟦<FlatRam as PhysMem>⟧.with_bytes m.ram page bytes } };
 
     // No record is kept.
-    ghost past = { λ _. None };
+    ghost past = { λ _. unrecorded no_site };
+
+    ghost beneath = { λ _. refl };
 
     ghost one_page = { λ m page bytes. refl };
 
-    ghost in_loan = { λ _ _ _. unrecorded };
+    ghost in_loan = { λ _ _ _. no_steps refl };
 
-    ghost in_turn = { λ _. unrecorded_turn _ };
+    ghost in_turn = { λ _. no_turn _ no_site };
 
     fn base(&self) -> Address {
         self.ram.base()

@@ -2,12 +2,12 @@
 use Rattle.std.proofs.Common.{rules, ◌≡◌, ◌∙◌, ℕ, ◌-◌, ◌/◌, List, Option, ap, ◌==◌, eq-eqb}
 use Rattle.ffa_model.specs.Ram.{Ram}
 use Rattle.ffa_model.specs.Reach.{page_index}
-use Rattle.ffa_physmem.specs.Moments.{IsInLoan, IsWriting, Only, Step}
+use Rattle.ffa_physmem.specs.Moments.{IsInLoan, IsWriting, Only, Past, Step}
 use Rattle.ffa_physmem.proofs.Moments.{Only-map, loan-writing}
 use Rattle.ffa_walker.proofs.access.write_number.Goals as goal
 
 -- a page that is lent is written
-written : {before after : Option (List Step)} (ram : Ram) (base physical : ℕ) → base ≡ ram.base
+written : {before after : Past} (ram : Ram) (base physical : ℕ) → base ≡ ram.base
     → Only before after (λ _ s. IsInLoan ram ((physical - base) / 4096) s) → Only before after (λ _ s. IsWriting ram (λ p. p == page_index ram physical) s)
 written ram base physical is lent =
     Only-map lent (λ _ s. loan-writing ram ((physical - base) / 4096) s (λ p. p == page_index ram physical) (eq-eqb _ _ (ap (λ b. (physical - b) / 4096) is)))

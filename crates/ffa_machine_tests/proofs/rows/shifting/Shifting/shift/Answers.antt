@@ -1,6 +1,6 @@
 -- SPDX-License-Identifier: MIT OR Apache-2.0
-use Rattle.std.proofs.Common.{◌≡◌, ◌≢◌, ◌∙◌, ℕ, ◌<◌, [], List, cond, false, length, refl, subst, sym, true, ap, arith, inl, inr, ◌==◌, get_or-set_other, get_or-set_same, length-set}
-use Rattle.std.proofs.lemmas.Bool.{cases_eq, false≢true, ne_eqb}
+use Rattle.std.proofs.Common.{◌≡◌, ◌≢◌, ◌∙◌, ℕ, ◌<◌, [], List, false, length, refl, subst, sym, true, ap, arith, inl, inr, get_or-set_other, get_or-set_same, length-set}
+use Rattle.std.proofs.lemmas.Bool.{cases_eq, false≢true}
 use Rattle.ffa_model.proofs.Runs.{in-run}
 use Rattle.ffa_model.specs.Lists.{is_in_run}
 use Rattle.ffa_model.specs.Ram.{Ram, page_of, with_page, with_word}
@@ -18,21 +18,6 @@ whole ram page index value inside size within p = elim (cases_eq p page) [
       ∙ length-with_word (page_of ram page) index value (omega (arith, size, within))
       ∙ ap (λ n. length (page_of ram n)) (sym here)
   | inr other ↦ ap length (get_or-set_other ram.pages page p (with_word (page_of ram page) index value) [] other)
-]
-
--- the bytes of a page, or others of page 46
-abbrev shown : Ram → List ℕ → ℕ → List ℕ
-shown ram bytes p = cond (p == 46) bytes (page_of ram p)
-
-of-another : (ram : Ram) (bytes : List ℕ) (p : ℕ) → p ≢ 46 → page_of ram p ≡ shown ram bytes p
-of-another ram bytes p other = sym (ap (λ c. cond c bytes (page_of ram p)) (ne_eqb p 46 other))
-
-of-written : (ram : Ram) (bytes : List ℕ) → 46 < length ram.pages → (p : ℕ) → page_of (with_page ram 46 bytes) p ≡ shown ram bytes p
-of-written ram bytes inside p = elim (cases_eq p 46) [
-  | inl here ↦
-      ap (λ (n : ℕ). page_of (with_page ram 46 bytes) n) here ∙ get_or-set_same ram.pages 46 bytes [] inside
-      ∙ sym (ap (λ (n : ℕ). shown ram bytes n) here)
-  | inr other ↦ get_or-set_other ram.pages 46 p bytes [] other ∙ of-another ram bytes p other
 ]
 
 pub returns-then-has_tx-clause-beside : goal.returns-then-has_tx-clause-beside
@@ -55,17 +40,3 @@ returns-then-has_tx-clause-whole c = λ p.
     let (low, high) = in-run c.args.first.0 c.args.count 46 (sym c.has_tx.ensures ∙ c.if-has_tx.true) in
     let inside : 46 < length old.pages = omega (arith, c.requires, low, high) in
     ap (λ (r : Ram). length (page_of r p)) c.write_word.ensures.ram ∙ whole old 46 c.args.self.now.word _ inside c.page.ensures.whole c.args.self.now.place p
-
-pub returns-then-has_tx-clause-shown : goal.returns-then-has_tx-clause-shown
-returns-then-has_tx-clause-shown c = λ p its.
-    let old : Ram = record { base = c.args.self.now.ram.base.0; pages = c.args.self.now.ram.pages.items } in
-    let (low, high) = in-run c.args.first.0 c.args.count 46 (sym c.has_tx.ensures ∙ c.if-has_tx.true) in
-    let inside : 46 < length old.pages = omega (arith, c.requires, low, high) in
-    ap (λ (r : Ram). page_of r p) c.write_word.ensures.ram ∙ of-written old (with_word (page_of old 46) c.args.self.now.word c.args.self.now.next) inside p
-
-pub returns-else-has_tx-clause-shown : goal.returns-else-has_tx-clause-shown
-returns-else-has_tx-clause-shown c = λ p its.
-    let old : Ram = record { base = c.args.self.now.ram.base.0; pages = c.args.self.now.ram.pages.items } in
-    let off : is_in_run c.args.first.0 c.args.count 46 ≡ false = sym c.has_tx.ensures ∙ c.if-has_tx.false in
-    of-another old (with_word (page_of old 46) c.args.self.now.word c.args.self.now.next) p
-    (λ here. false≢true (sym off ∙ ap (is_in_run c.args.first.0 c.args.count) (sym here) ∙ its))
