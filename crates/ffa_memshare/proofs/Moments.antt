@@ -1,6 +1,6 @@
 -- SPDX-License-Identifier: MIT OR Apache-2.0
 -- On the way of a call: rights and zeros between two writes.
-use Rattle.std.proofs.Common.{◌≡◌, ◌∙◌, ℕ, zero, suc, ◌+◌, ◌≤◌, ◌<◌, Bool, true, false, List, [], ◌∷◌, length, take, replicate, Option, Some, None, cond, refl, sym, ap, subst, arith, inl, inr, ◌⊎◌}
+use Rattle.std.proofs.Common.{◌≡◌, ◌∙◌, ℕ, zero, suc, ◌+◌, ◌*◌, ◌≤◌, ◌<◌, Bool, true, false, List, [], ◌∷◌, length, take, replicate, Option, Some, None, cond, refl, sym, ap, subst, arith, inl, inr, ◌⊎◌}
 use Rattle.std.specs.Prelude.{◌==◌, ◌&&◌, ◌||◌, is_some}
 use Rattle.std.proofs.Math.Bool.{or-true}
 use Rattle.std.proofs.lemmas.Bool.{cases_Bool, cases_eq, false≢true, false_from_ne_true, true≢false}
@@ -11,17 +11,17 @@ use Rattle.ffa_model.specs.declared.rights.Rights.{Rights}
 use Rattle.ffa_model.specs.declared.transaction.Range.{Range}
 use Rattle.ffa_model.specs.Lists.{is_in_run}
 use Rattle.ffa_model.specs.State.{Buffers}
-use Rattle.ffa_physmem.specs.Moments.{IsBeside, IsSettledBy, IsWriting, KeepsPages, Only, Step}
+use Rattle.ffa_physmem.specs.Moments.{IsBeside, IsSettledBy, IsWriting, KeepsPages, Only, Past, Step}
 use Rattle.ffa_physmem.proofs.Moments.{Only-map, Only-then, writing-aside, writing-keeps}
 use Rattle.ffa_rxtx.specs.Parts.{IsBesideRx, IsRxWriting}
 use Rattle.ffa_stage2.specs.Moments.{EndsSettled, IsBetween, IsMoment, IsOutOrStays, IsUnchanged}
 use Rattle.ffa_stage2.specs.Orders.{IsOrdered}
-use Rattle.ffa_stage2.specs.Tables.{IsBuilt, table_page}
+use Rattle.ffa_stage2.specs.Tables.{IsBuilt, IsSameIn, table_page}
 use Rattle.ffa_stage2.specs.Blocks.{IsEither}
 use Rattle.ffa_stage2.proofs.Kept.{built-kept, built_by-kept}
 use Rattle.ffa_stage2.proofs.Places.{not-both}
 use Rattle.ffa_stage2.proofs.Walks.{standing-of_built}
-use Rattle.ffa_stage2.proofs.Moments.{between-beside, between-last as between-behind, between-then, ends-of-rights, no-right-ends, ordered-aside}
+use Rattle.ffa_stage2.proofs.Moments.{between-beside, between-last as between-behind, between-then, ends-of-rights, no-right-ends, ordered-aside, ordered-kept, ordered-more}
 use Rattle.ffa_memshare.specs.Callers.{IsRxApart}
 use Rattle.ffa_memshare.specs.Memory.{Memory}
 use Rattle.ffa_memshare.specs.Changes.{AreAside, IsCleared}
@@ -65,6 +65,21 @@ between-part ram n tables b access index named more all right g first second is 
     between-then ram n tables b access (with_rights access index named right) g (with_rights access index all right) between
     (rights-part access index named all right first (with_rights access index named right) (λ e p. refl))
     (rights-part access index more all right second g is)
+
+-- and a block to whose pages no right changes in the end is one where none changes on the way
+pub ordered-part : (old middle : Ram) (tables b : ℕ) (access : ℕ → ℕ → Option Rights) (index : ℕ) (named more all : ℕ → Bool) (right : ℕ → Option Rights) (g : ℕ → ℕ → Option Rights)
+    → ((p : ℕ) → named p ≡ true → all p ≡ true) → ((p : ℕ) → more p ≡ true → all p ≡ true) → ((e p : ℕ) → g e p ≡ with_rights access index more right e p)
+    → (h : List Step) (s : Step) → middle.base ≡ old.base → IsOrdered middle tables b (IsSameIn (with_rights access index named right) g index) index h s
+    → IsOrdered old tables b (IsSameIn access (with_rights access index all right) index) index h s
+ordered-part old middle tables b access index named more all right g first second is h s base its =
+    let Same = IsSameIn access (with_rights access index all right) index in
+    ordered-kept middle old tables b index Same h s (sym base)
+    (ordered-more middle tables b index (IsSameIn (with_rights access index named right) g index) Same h s
+    (λ k _ same j hj. kept g more second is k same j hj ∙ sym (kept (with_rights access index named right) named first (λ e p. refl) k same j hj)) its)
+  where
+    kept : (f : ℕ → ℕ → Option Rights) (part : ℕ → Bool) → ((p : ℕ) → part p ≡ true → all p ≡ true) → ((e p : ℕ) → f e p ≡ with_rights access index part right e p)
+        → (k : ℕ) → IsSameIn access (with_rights access index all right) index k → (j : ℕ) → j < 512 → f index (512 * k + j) ≡ access index (512 * k + j)
+    kept f part some at k same j hj = elim (rights-part access index part all right some f at (512 * k + j)) [ inl a ↦ a index | inr a ↦ a index ∙ same j hj ]
 
 -- zeros change no other page
 pub cleared-beside : (old new : Ram) (named : ℕ → Bool) → IsCleared old new named → IsBeside old new named
@@ -114,7 +129,8 @@ other-right access index named right e p other = let off : (e == index && named 
 
 module _ (old new : Ram) (n tables b : ℕ) (access after : ℕ → ℕ → Option Rights) (built : IsBuilt old n tables b access) (is : IsBuilt new n tables b after) (stays : new.base ≡ old.base) where
   -- a word of an endpoint's tables
-  pub granted-moment : (index : ℕ) → index < n → (past : Option (List Step)) (h : List Step) (s : Step) → IsBetween s.after n tables b access after → s.after.base ≡ old.base → IsOrdered old tables b index h s
+  pub granted-moment : (index : ℕ) → index < n → (past : Past) (h : List Step) (s : Step) → IsBetween s.after n tables b access after → s.after.base ≡ old.base
+      → IsOrdered old tables b (IsSameIn access after index) index h s
       → IsMoment old new n tables b past h s
   granted-moment index lt past h s between base ordered = record {
     access = access;
@@ -123,13 +139,13 @@ module _ (old new : Ram) (n tables b : ℕ) (access after : ℕ → ℕ → Opti
     is = is;
     between = between;
     order = inr (index, lt, ordered);
-    unreached = inl (ordered-aside old tables b index n h s ordered lt);
+    unreached = inl (ordered-aside old tables b index n (IsSameIn access after index) h s ordered lt);
     place = base;
     stays = stays;
   }
 
   -- nothing, while the tables give the rights in the end
-  pub settled-moment : (middle : Ram) → IsBuilt middle n tables b after → middle.base ≡ old.base → (past : Option (List Step)) (h : List Step) (s : Step) → s.after ≡ s.before → s.after ≡ middle → IsMoment old new n tables b past h s
+  pub settled-moment : (middle : Ram) → IsBuilt middle n tables b after → middle.base ≡ old.base → (past : Past) (h : List Step) (s : Step) → s.after ≡ s.before → s.after ≡ middle → IsMoment old new n tables b past h s
   settled-moment middle done base past h s same at = record {
     access = access;
     after = after;
@@ -144,7 +160,7 @@ module _ (old new : Ram) (n tables b : ℕ) (access after : ℕ → ℕ → Opti
 
   -- pages aside from the tables, while these give one of the two
   pub written-moment : (middle : Ram) (named : ℕ → Bool) (rights : ℕ → ℕ → Option Rights) → AreAside n tables b named → IsBuilt middle n tables b rights → IsBetween middle n tables b access after → middle.base ≡ old.base
-      → (past : Option (List Step)) (h : List Step) (s : Step) → IsWriting middle named s
+      → (past : Past) (h : List Step) (s : Step) → IsWriting middle named s
       → ((p : ℕ) → named p ≡ true → (e : ℕ) → e < n
       → IsOutOrStays (rights e p) (access e p) (after e p) (IsSettledBy tables (table_page tables b n 0) e p h) (IsUnchanged tables (table_page tables b n 0) past h))
       → IsMoment old new n tables b past h s
@@ -190,7 +206,7 @@ given-each access index named right e p settled unchanged at some begins = elim 
 ]
 
 -- no table changes while other pages are written
-pub unchanged-first : (first end : ℕ) (past : Option (List Step)) (h : List Step) → past ≡ Some h → IsUnchanged first end past h
+pub unchanged-first : (first end : ℕ) (past : Past) (h : List Step) → past.steps ≡ Some h → IsUnchanged first end past h
 unchanged-first first end past [] there = there
 unchanged-first first end past (s ∷ h) there = inl there
 
@@ -199,7 +215,7 @@ tables-keep ram named n tables b aside s writing =
     writing-aside ram s named tables (table_page tables b n 0)
     (λ q from below. false_from_ne_true (named q) (λ at. not-both n tables b q (from, below) (aside q at))) writing
 
-pub unchanged-along : (ram : Ram) (named : ℕ → Bool) (n tables b : ℕ) (past : Option (List Step)) → AreAside n tables b named → (h : List Step) (s : Step) → IsWriting ram named s
+pub unchanged-along : (ram : Ram) (named : ℕ → Bool) (n tables b : ℕ) (past : Past) → AreAside n tables b named → (h : List Step) (s : Step) → IsWriting ram named s
     → IsUnchanged tables (table_page tables b n 0) past h → IsUnchanged tables (table_page tables b n 0) past (s ∷ h)
 unchanged-along ram named n tables b past aside h s writing so_far = inr (tables-keep ram named n tables b aside s writing, so_far)
 
@@ -210,8 +226,8 @@ settled-along ram named n tables b e p aside h s writing so_far = inr (tables-ke
 
 -- nobody's rights end but those of one endpoint, to pages that are settled
 pub taken-ends : (old new : Ram) (n tables b index : ℕ) (access : ℕ → ℕ → Option Rights) (named : ℕ → Bool) (right : ℕ → Option Rights)
-    → IsBuilt old n tables b access → IsBuilt new n tables b (with_rights access index named right) → (past : Option (List Step))
-    → ((h : List Step) → past ≡ Some h → (p : ℕ) → named p ≡ true → IsSettledBy tables (table_page tables b n 0) index p h) → EndsSettled old new n tables b past
+    → IsBuilt old n tables b access → IsBuilt new n tables b (with_rights access index named right) → (past : Past)
+    → ((h : List Step) → past.steps ≡ Some h → (p : ℕ) → named p ≡ true → IsSettledBy tables (table_page tables b n 0) index p h) → EndsSettled old new n tables b past
 taken-ends old new n tables b index access named right built is past settled =
     ends-of-rights old new n tables b access (with_rights access index named right) built is past
     (λ h there e p he was gone. elim (cases_Bool (e == index && named p)) [
@@ -255,7 +271,7 @@ module _ (memory : Memory) (granted new : Ram) (index : ℕ) (named : ℕ → Bo
       built-kept granted ram n tables b after is its.beside.base its.beside.size
       (λ p from below. its.beside.pages p (false_from_ne_true (is_in_run x.rx x.pages p) (λ at. not-both n tables b p (from, below) (rx.aside x its.are p at))))
 
-  pub then-responded : (past middle last : Option (List Step)) → Only past middle (λ h s. IsMoment old granted n tables b past h s) → Only middle last (λ _ s. IsRxWriting granted own s)
+  pub then-responded : (past middle last : Past) → Only past middle (λ h s. IsMoment old granted n tables b past h s) → Only middle last (λ _ s. IsRxWriting granted own s)
       → Only past last (λ h s. IsMoment old new n tables b past h s)
   then-responded past middle last first second =
       let after : ℕ → ℕ → Option Rights = with_rights access index named right in
@@ -279,7 +295,7 @@ module _ (memory : Memory) (granted new : Ram) (index : ℕ) (named : ℕ → Bo
       (λ p at e he. let same : after e p ≡ access e p = sym (no-rights access index named right e p (rx.apart x its.are p at)) in stays-same (after e p) (access e p) (after e p) _ _ same same))
 
   -- and nobody's rights end
-  pub responded-ends : ((p : ℕ) → named p ≡ true → is_some (right p) ≡ true) → (last : Option (List Step)) → EndsSettled old new n tables b last
+  pub responded-ends : ((p : ℕ) → named p ≡ true → is_some (right p) ≡ true) → (last : Past) → EndsSettled old new n tables b last
   responded-ends some last =
       let after : ℕ → ℕ → Option Rights = with_rights access index named right in
       no-right-ends old new n tables b access after built (kept new beside after (done access built)) last (given-stays access index named right some)

@@ -15,7 +15,7 @@ pub fn settle<M: PhysMem>(ram: &mut M, ranges: &PageRanges, index: usize)
     ensures ram { M.ram ram.new ≡ M.ram ram.old }
     ensures steps { Only (M.past ram.old) (M.past ram.new) (λ _ s. (s.after ≡ s.before) × (s.after ≡ M.ram ram.old)) }
     ensures settled { (begin end p : ℕ) (h : List Step)
-        → M.past ram.new ≡ Some h
+        → (M.past ram.new).steps ≡ Some h
         → in_ranges (M.ram ram.old).base ranges.now p ≡ true
         → IsSettledBy begin end index p h }
 {

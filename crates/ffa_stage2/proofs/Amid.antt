@@ -15,7 +15,7 @@ use Rattle.ffa_model.specs.Walk.{Answer, entry, from_level1, from_level2, from_l
 use Rattle.ffa_physmem.specs.Moments.{Adds, AreInTurn, IsBeside, Settles, Step}
 use Rattle.ffa_stage2.specs.Amid.{Amid, AreTheirs, Begun, CouldWrite, IsAmong, IsOthers, IsPage, MayWrite, Moment, Others, Own, before, behind, is_one_of}
 use Rattle.ffa_stage2.specs.Blocks.{block_word}
-use Rattle.ffa_stage2.specs.Held.{IsMixedAnswer, MayHold}
+use Rattle.ffa_stage2.specs.Held.{MayHold}
 use Rattle.ffa_stage2.specs.Mixtures.{IsMixture, MayRead, MixedBetween, MixturesBetween, page_at}
 use Rattle.ffa_stage2.specs.Moments.{walk_at}
 use Rattle.ffa_stage2.specs.Rest.{AreAtRest, IsAsIn, Reads}
@@ -25,6 +25,7 @@ use Rattle.ffa_stage2.proofs.Kept.{HasRoom-kept}
 use Rattle.ffa_stage2.proofs.Mixtures.{IsAsInEither, may-now, mixed-between}
 use Rattle.ffa_stage2.proofs.Places.{IsTablePage, not-both, table_page-address, table_page-below_end, table_page-there}
 use Rattle.ffa_stage2.proofs.Rest.{held-mixed, reads-more}
+use Rattle.ffa_stage2.proofs.Unshaken.{hold-now}
 
 -- a walk that leads through the tables, where other RAM has the same tables
 module _ (m o : Ram) (n tables b e a : ℕ) (h : List Step) (fits : HasRoom m n tables b) (keeps : KeepsTables m o n tables b) (he : e < n) (ha : a < 2 ^ 32) (reads : Reads m.base n tables b h m (IsAsIn m tables b)) where
@@ -199,10 +200,6 @@ module _ (old new : Ram) (n tables b : ℕ) (g : List Step) (begun : (s : Step) 
     words = λ t i ht hi. reads e p (table_page tables b e t) i _ (table_page-there n tables b e t he ht) (mix.words t i ht hi);
   }
 
-  hold-now : (e p a : ℕ) (h : List Step) (ram : Ram) (answer : Answer) → IsMixedAnswer tables b e p a h ram answer → MayHold tables b e p a h ram answer
-  hold-now e p a [] ram answer now = now
-  hold-now e p a (s ∷ h) ram answer now = inl now
-
   at-first : Along origin origin []
   at-first = record {
     place = refl;
@@ -286,7 +283,7 @@ module _ (old new : Ram) (n tables b : ℕ) (g : List Step) (begun : (s : Step) 
 
     others-holds : (e q a : ℕ) (answer : Answer) → e < n → MayHold tables b e q a (x ∷ memory) x.after answer → MayHold tables b e q a alone.history alone.ram answer
     others-holds e q a answer he (inl (mixed, mix, is)) =
-        hold-now e q a alone.history alone.ram answer
+        hold-now tables b e q a alone.history alone.ram answer
         (mixed, mixture-alone alone (behind x memory) e q mixed he (others.placed.base ∙ along.beside.base) (others.placed.size ∙ along.beside.size) others-reads mix, is)
     others-holds e q a answer he (inr (off, held)) = along.holds e q a answer he held
 

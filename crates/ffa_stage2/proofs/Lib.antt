@@ -15,5 +15,6 @@ pub mod PageRuns
 pub mod RunChanges
 pub mod Moments
 pub mod Mixtures
+pub mod Unshaken
 pub mod Rest
 pub mod Amid

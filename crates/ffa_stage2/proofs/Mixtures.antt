@@ -48,7 +48,7 @@ may-settled e p f earlier h ram page i v is settles read = elim (subst (λ (g : 
 
 -- ---- pages of tables
 
-table-apart : (tables b e e' t t' : ℕ) → t < table_pages b → t' < table_pages b → (e ≡ e' → ⊥) → table_page tables b e t ≢ table_page tables b e' t'
+pub table-apart : (tables b e e' t t' : ℕ) → t < table_pages b → t' < table_pages b → (e ≡ e' → ⊥) → table_page tables b e t ≢ table_page tables b e' t'
 table-apart tables b e e' t t' ht ht' far same = elim (cases_lt e e') [
   | inl less ↦
       let rows : (e + 1) * (2 + b) ≤ e' * (2 + b) = mul-le-mul_right (2 + b) (omega (arith, less)) in
@@ -73,6 +73,13 @@ pages-named word link page address rights (inr (inl table)) is typed = table.pag
 pages-named word link page address rights (inr (inr gap)) is typed = absurd (omega (arith, typed, ap (λ (w : ℕ). w % 4) (sym is ∙ gap.is)))
 
 -- ---- one step
+
+-- pages of another endpoint's tables stay
+pub other-page : (old : Ram) (tables b e e' t : ℕ) (Stays : ℕ → Type 0) (h : List Step) (s : Step) → t < table_pages b → (e ≡ e' → ⊥) → IsOrdered old tables b Stays e' h s
+    → page_of s.after (table_page tables b e t) ≡ page_of s.before (table_page tables b e t)
+other-page old tables b e e' t Stays h s ht far (inl same) = ap (λ (r : Ram). page_of r (table_page tables b e t)) same
+other-page old tables b e e' t Stays h s ht far (inr (k, hk, _, inl leaf)) = leaf.write.pages (table_page tables b e t) (table-apart tables b e e' t (2 + k) ht (omega (arith, hk)) far)
+other-page old tables b e e' t Stays h s ht far (inr (k, hk, _, inr block)) = block.write.pages (table_page tables b e t) (table-apart tables b e e' t 1 ht (omega arith) far)
 
 -- at a page whose words stay
 each-kept : (base tables b e k j : ℕ) (h : List Step) (s : Step) (Is : Option Rights → Type 0)
@@ -197,22 +204,16 @@ module _ (old : Ram) (n tables b : ℕ) (h : List Step) (s : Step) (Is : ℕ →
     ]
   ]
 
-  -- pages of another endpoint's tables stay
-  other-page : (e e' t : ℕ) → t < table_pages b → (e ≡ e' → ⊥) → IsOrdered old tables b e' h s → page_of s.after (table_page tables b e t) ≡ page_of s.before (table_page tables b e t)
-  other-page e e' t ht far (inl same) = ap (λ (r : Ram). page_of r (table_page tables b e t)) same
-  other-page e e' t ht far (inr (k, hk, inl leaf)) = leaf.write.pages (table_page tables b e t) (table-apart tables b e e' t (2 + k) ht (omega (arith, hk)) far)
-  other-page e e' t ht far (inr (k, hk, inr block)) = block.write.pages (table_page tables b e t) (table-apart tables b e e' t 1 ht (omega arith) far)
-
   by-pages : (e k j : ℕ) → page_of s.after (table_page tables b e 1) ≡ page_of s.before (table_page tables b e 1)
       → page_of s.after (table_page tables b e (2 + k)) ≡ page_of s.before (table_page tables b e (2 + k)) → Before e k j → After e k j
   by-pages e k j middle leaf before =
       each-kept origin tables b e k j h s (Is e (512 * k + j)) (ap (λ (bytes : List ℕ). word_of bytes (level2_place origin + k)) middle) (ap (λ (bytes : List ℕ). word_of bytes j) leaf) before
 
   -- a step in the endpoint's own tables
-  own : (e k j : ℕ) → e < n → k < b → j < 512 → IsOrdered old tables b e h s → Before e k j → After e k j
-  own e k j he hk hj (inl same) before =
+  own : (Stays : ℕ → Type 0) (e k j : ℕ) → e < n → k < b → j < 512 → IsOrdered old tables b Stays e h s → Before e k j → After e k j
+  own Stays e k j he hk hj (inl same) before =
       by-pages e k j (ap (λ (r : Ram). page_of r (table_page tables b e 1)) same) (ap (λ (r : Ram). page_of r (table_page tables b e (2 + k))) same) before
-  own e k j he hk hj (inr (k', hk', inl leaf)) before =
+  own Stays e k j he hk hj (inr (k', hk', _, inl leaf)) before =
       let middle : page_of s.after (table_page tables b e 1) ≡ page_of s.before (table_page tables b e 1) =
       leaf.write.pages (table_page tables b e 1) (λ same. absurd (omega (arith, same)))
       in
@@ -223,7 +224,7 @@ module _ (old : Ram) (n tables b : ℕ) (h : List Step) (s : Step) (Is : ℕ →
             (subst (λ (i : ℕ). IsLeafWrite (table_page tables b e 1) (level2_place origin + i) (table_link origin tables b e (2 + i)) (table_page tables b e (2 + i)) (origin + 0x200000 * i) s) (sym here) leaf)
             word before
       ]
-  own e k j he hk hj (inr (k', hk', inr block)) before =
+  own Stays e k j he hk hj (inr (k', hk', _, inr block)) before =
       let leaf : page_of s.after (table_page tables b e (2 + k)) ≡ page_of s.before (table_page tables b e (2 + k)) =
       block.write.pages (table_page tables b e (2 + k)) (λ same. absurd (omega (arith, same)))
       in
@@ -236,8 +237,8 @@ module _ (old : Ram) (n tables b : ℕ) (h : List Step) (s : Step) (Is : ℕ →
       ]
 
   -- whatever might be read before, what may be read behind the step is right
-  pub reads-behind : IsInOrder old n tables b h s → Reads origin n tables b h s.before Is → Reads origin n tables b (s ∷ h) s.after Is
-  reads-behind order reads = record {
+  pub reads-behind : (Stays : ℕ → ℕ → Type 0) → IsInOrder old n tables b Stays h s → Reads origin n tables b h s.before Is → Reads origin n tables b (s ∷ h) s.after Is
+  reads-behind Stays order reads = record {
     level1 = λ e p i v he hp hi read. elim read [
       | inr (off, was) ↦ reads.level1 e p i v he hp hi was
       | inl now ↦
@@ -255,9 +256,9 @@ module _ (old : Ram) (n tables b : ℕ) (h : List Step) (s : Step) (Is : ℕ →
               let third = table_page-there n tables b e (2 + k) he (omega (arith, hk)) in
               by-pages e k j (kept (table_page tables b e 1) second.0 second.1) (kept (table_page tables b e (2 + k)) third.0 third.1) before
           | inr (e', he', ordered) ↦ elim (cases_eq e e') [
-            | inl same ↦ own e k j he hk hj (subst (λ (x : ℕ). IsOrdered old tables b x h s) (sym same) ordered) before
+            | inl same ↦ own (Stays e') e k j he hk hj (subst (λ (x : ℕ). IsOrdered old tables b (Stays e') x h s) (sym same) ordered) before
             | inr far ↦
-                by-pages e k j (other-page e e' 1 (omega arith) far ordered) (other-page e e' (2 + k) (omega (arith, hk)) far ordered) before
+                by-pages e k j (other-page old tables b e e' 1 (Stays e') h s (omega arith) far ordered) (other-page old tables b e e' (2 + k) (Stays e') h s (omega (arith, hk)) far ordered) before
           ]
         ];
   }

@@ -1,20 +1,23 @@
 -- SPDX-License-Identifier: MIT OR Apache-2.0
 -- On the way to other rights: what stands between two writes.
-use Rattle.std.proofs.Common.{◌≡◌, ◌≢◌, ◌∙◌, ℕ, ◌+◌, ◌-◌, ◌*◌, ◌/◌, ◌%◌, ◌^◌, ◌<◌, ◌≤◌, true, false, refl, ap, sym, subst, arith, List, length, Option, Some, None, Err, inl, inr, ◌⊎◌, ◌==◌, ◌&&◌, nat_le, nat_lt, if◌then◌else◌, Bool, is_some, is_ok}
-use Rattle.std.proofs.lemmas.Bool.{cases_lt, cases_eq, cases_Bool, false_from_ne_true, true≢false}
+use Rattle.std.proofs.Common.{◌≡◌, ◌≢◌, ◌∙◌, ℕ, ◌+◌, ◌-◌, ◌*◌, ◌/◌, ◌%◌, ◌^◌, ◌<◌, ◌≤◌, true, false, refl, ap, sym, subst, arith, List, length, Option, Some, None, Ok, Err, inl, inr, ◌⊎◌, ◌==◌, ◌&&◌, nat_le, nat_lt, if◌then◌else◌, Bool, is_some, is_ok}
+use Rattle.std.proofs.lemmas.Bool.{cases_lt, cases_eq, cases_Bool, false_from_ne_true, false≢true, true≢false}
 use Rattle.std.proofs.lemmas.Bool.Decides.{nat_tests}
 use Rattle.ffa_model.specs.Ram.{Ram, page_of, with_page, word_of, with_word}
-use Rattle.ffa_model.specs.Walk.{is_in_ram, mapped_answer}
+use Rattle.ffa_model.specs.Rights.{may_write}
+use Rattle.ffa_model.specs.Walk.{Answer, is_in_ram, mapped_answer}
 use Rattle.ffa_model.specs.Descriptor.{page_word}
 use Rattle.ffa_model.specs.declared.operation.FaultKind.TheVariants.{Translation}
+use Rattle.ffa_model.specs.declared.rights.Data.{Data}
+use Rattle.ffa_model.specs.declared.rights.Data.TheVariants.{Ro, Rw}
 use Rattle.ffa_model.specs.declared.rights.Rights.{Rights}
 use Rattle.ffa_stage2.specs.declared.blocks.BlockPlace.{BlockPlace}
-use Rattle.ffa_physmem.specs.Moments.{IsBeside, IsSettledBy, Step}
+use Rattle.ffa_physmem.specs.Moments.{IsBeside, IsSettledBy, Past, Step}
 use Rattle.ffa_stage2.specs.Blocks.{IsBlock, IsEither, block_word}
-use Rattle.ffa_stage2.specs.Moments.{EndsSettled, IsBetween, IsMoment, IsNoMore, KeepsAside, WalksBetween, WritesUnreached, walk_at}
-use Rattle.ffa_stage2.specs.Tables.{IsAside, IsBuilt, IsStanding, rights_of_block, table_page, with_pages}
-use Rattle.ffa_stage2.specs.Orders.{IsBlockWrite, IsLeafWrite, IsLinkOrBlock, IsOrdered, IsSettledLast, IsWritten}
-use Rattle.ffa_stage2.specs.Places.{IsPlace, IsPlaceOf, Maps, Names, KeepsBeside, IsCut, IsOneOf, IsOrderly, IsFilled, IsFilling, IsOnTheWay, with_run, word_at}
+use Rattle.ffa_stage2.specs.Moments.{EndsSettled, IsBetween, IsInOrder, IsMoment, IsNoMore, KeepsAside, WalksBetween, WalksSameIn, WritesUnreached, walk_at}
+use Rattle.ffa_stage2.specs.Tables.{IsAside, IsBuilt, IsSameIn, IsStanding, rights_of_block, table_page, with_pages}
+use Rattle.ffa_stage2.specs.Orders.{IsBlockWrite, IsLeafWrite, IsLinkOrBlock, IsOrdered, IsSettledLast, IsWritten, KeepsWords}
+use Rattle.ffa_stage2.specs.Places.{IsPlace, IsPlaceOf, Maps, Names, KeepsBeside, IsCut, IsOneOf, IsOrderly, IsFilled, IsFilling, IsOnTheWay, IsSameRun, with_run, word_at}
 use Rattle.ffa_stage2.proofs.Changes.{standing-beside}
 use Rattle.ffa_stage2.proofs.Kept.{built_by-kept}
 use Rattle.ffa_stage2.proofs.OneBlock.{IsPlace-kept, IsEither-rights, KeepsBeside-of_middle, KeepsBeside-then, stands-of_maps, written, written-middle}
@@ -67,23 +70,27 @@ pub way-filling : (old middle ram : Ram) (x : BlockPlace) (rights : ℕ → Opti
 way-filling old middle ram x rights from to right low high word place block apart (next, _, _, filled) =
     way-apart old ram x rights from to right block (apart-filled old middle ram x low next word place apart filled)
 
+-- a table some of whose words were written
+pub names-filled : (old ram : Ram) (x : BlockPlace) (rights : ℕ → Option Rights) (from next : ℕ) (right : Option Rights) → IsPlace old x → Names old x rights
+    → IsFilled old ram x.table.0 from next (λ j. page_word (x.address + 4096 * j) right) → Names ram x (with_run rights from next right)
+names-filled old ram x rights from next right place names filled = record {
+  is = ap (λ (bytes : List ℕ). word_of bytes x.entry) (filled.pages x.middle.0 place.apart) ∙ names.is;
+  pages = λ j hj. elim (cases_lt j from) [
+    | inl under ↦ rw (with_run-low rights from next right j under) (filled.beside j (inl under) ∙ names.pages j hj)
+    | inr above ↦ elim (cases_lt j next) [
+      | inl inside ↦ rw (with_run-here rights from next right j (omega (arith, above)) inside) (filled.here j (omega (arith, above)) inside)
+      | inr over ↦ rw (with_run-high rights from next right j (omega (arith, over))) (filled.beside j (inr (omega (arith, over))) ∙ names.pages j hj)
+    ]
+  ];
+}
+
 -- while a table stands its words are written one by one
 pub way-table : (old ram : Ram) (x : BlockPlace) (rights : ℕ → Option Rights) (from to : ℕ) (right : Option Rights) → IsPlace old x → Names old x rights → to ≤ 512
     → IsFilling old ram x.table.0 from to (λ j. page_word (x.address + 4096 * j) right) → IsOnTheWay old ram x rights from to right
 way-table old ram x rights from to right place names few (next, low, high, filled) =
-    let middle : page_of ram x.middle.0 ≡ page_of old x.middle.0 = filled.pages x.middle.0 place.apart in
     record {
       now = with_run rights from next right;
-      stands = inr (inl (record {
-        is = ap (λ (bytes : List ℕ). word_of bytes x.entry) middle ∙ names.is;
-        pages = λ j hj. elim (cases_lt j from) [
-          | inl under ↦ rw (with_run-low rights from next right j under) (filled.beside j (inl under) ∙ names.pages j hj)
-          | inr above ↦ elim (cases_lt j next) [
-            | inl inside ↦ rw (with_run-here rights from next right j (omega (arith, above)) inside) (filled.here j (omega (arith, above)) inside)
-            | inr over ↦ rw (with_run-high rights from next right j (omega (arith, over))) (filled.beside j (inr (omega (arith, over))) ∙ names.pages j hj)
-          ]
-        ];
-      }));
+      stands = inr (inl (names-filled old ram x rights from next right place names filled));
       each = λ j. elim (run-part rights from next to right j high) [ inl kept ↦ inl kept | inr changed ↦ inr (inl changed) ];
       beside = KeepsBeside-of_filled old ram x from next _ place filled;
     }
@@ -176,50 +183,75 @@ one-same old page from to word other s few one same = record {
   others = one.others;
 }
 
+-- what is stored was there already
+keeps-of-written : (s : Step) (page place value : ℕ) → IsWritten s.before s.after page place value → value ≡ word_of (page_of s.before page) place → KeepsWords s
+keeps-of-written s page place value write same p i = elim (cases_eq p page) [
+  | inr far ↦ ap (λ (bytes : List ℕ). word_of bytes i) (write.pages p far)
+  | inl here ↦ elim (cases_eq i place) [ inl at ↦ rw (here, at) (write.here ∙ same) | inr other ↦ rw here (write.words i other) ]
+]
+
+-- a step is orderly where fewer places stay
+pub orderly-more : (x : BlockPlace) (h : List Step) (s : Step) (P Q : Type 0) → (Q → P) → IsOrderly x P h s → IsOrderly x Q h s
+orderly-more x h s P Q fewer (inl same) = inl same
+orderly-more x h s P Q fewer (inr (keeps, write)) = inr ((λ stays. keeps (fewer stays)), write)
+
 -- of the level 3 page while a block stands, which doesn't name it
-pub orderly-apart : (x : BlockPlace) (h : List Step) (s : Step) (old ram : Ram) (to from : ℕ) (word : ℕ → ℕ) → IsPlace old x → IsApart old ram x → word_at old x % 4 ≡ 1 → to ≤ 512
-    → IsOneOf ram x.table.0 from to word s → IsOrderly x h s
-orderly-apart x h s old ram to from word place apart typed few one = inr (inl (record {
-  place = one.place;
-  value = word one.place;
-  few = omega (arith, one.high, few);
-  write = one.write;
-  stands = λ none.
-      let here : word_at s.before x ≡ word_at old x =
-      ap (λ (bytes : List ℕ). word_of bytes x.entry) (one.others x.middle.0 place.apart ∙ apart.middle) in
-      omega (arith, typed, ap (λ (w : ℕ). w % 4) (sym here ∙ none));
-  alike = λ named.
-      let here : word_at s.before x ≡ word_at old x =
-      ap (λ (bytes : List ℕ). word_of bytes x.entry) (one.others x.middle.0 place.apart ∙ apart.middle) in
-      absurd (omega (arith, place.link, typed, ap (λ (w : ℕ). w % 4) (sym here ∙ named)));
-}))
+pub orderly-apart : (x : BlockPlace) (h : List Step) (s : Step) (old ram : Ram) (to from : ℕ) (word : ℕ → ℕ) (Stays : Type 0) → IsPlace old x → IsApart old ram x → word_at old x % 4 ≡ 1 → to ≤ 512
+    → (Stays → ⊥) → IsOneOf ram x.table.0 from to word s → IsOrderly x Stays h s
+orderly-apart x h s old ram to from word Stays place apart typed few moves one = inr (
+  (λ stays. absurd (moves stays)),
+  inl (record {
+    place = one.place;
+    value = word one.place;
+    few = omega (arith, one.high, few);
+    write = one.write;
+    stands = λ none.
+        let here : word_at s.before x ≡ word_at old x =
+        ap (λ (bytes : List ℕ). word_of bytes x.entry) (one.others x.middle.0 place.apart ∙ apart.middle) in
+        omega (arith, typed, ap (λ (w : ℕ). w % 4) (sym here ∙ none));
+    alike = λ named.
+        let here : word_at s.before x ≡ word_at old x =
+        ap (λ (bytes : List ℕ). word_of bytes x.entry) (one.others x.middle.0 place.apart ∙ apart.middle) in
+        absurd (omega (arith, place.link, typed, ap (λ (w : ℕ). w % 4) (sym here ∙ named)));
+  }),
+)
 
 -- of the table that stands
 pub orderly-table : (x : BlockPlace) (h : List Step) (s : Step) (old : Ram) (to from : ℕ) (right : Option Rights) (rights : ℕ → Option Rights) → IsPlace old x → Names old x rights → to ≤ 512
-    → IsOneOf old x.table.0 from to (λ j. page_word (x.address + 4096 * j) right) s → IsOrderly x h s
-orderly-table x h s old to from right rights place names few one = inr (inl (record {
-  place = one.place;
-  value = page_word (x.address + 4096 * one.place) right;
-  few = omega (arith, one.high, few);
-  write = one.write;
-  stands = λ none.
-      let here : word_at s.before x ≡ word_at old x =
-      ap (λ (bytes : List ℕ). word_of bytes x.entry) (one.others x.middle.0 place.apart) in
-      omega (arith, place.link, ap (λ (w : ℕ). w % 4) (sym names.is ∙ sym here ∙ none));
-  alike = λ _. (rights one.place, right, one.was ∙ names.pages one.place (omega (arith, one.high, few)), refl);
-}))
+    → IsOneOf old x.table.0 from to (λ j. page_word (x.address + 4096 * j) right) s → IsOrderly x (IsSameRun rights from to right) h s
+orderly-table x h s old to from right rights place names few one = inr (
+  (λ same.
+      let hj : one.place < 512 = omega (arith, one.high, few) in
+      keeps-of-written s x.table.0 one.place (page_word (x.address + 4096 * one.place) right) one.write
+      (ap (λ (q : Option Rights). page_word (x.address + 4096 * one.place) q) (sym (with_run-here rights from to right one.place one.low one.high) ∙ same one.place hj)
+      ∙ sym (one.was ∙ names.pages one.place hj))),
+  inl (record {
+    place = one.place;
+    value = page_word (x.address + 4096 * one.place) right;
+    few = omega (arith, one.high, few);
+    write = one.write;
+    stands = λ none.
+        let here : word_at s.before x ≡ word_at old x =
+        ap (λ (bytes : List ℕ). word_of bytes x.entry) (one.others x.middle.0 place.apart) in
+        omega (arith, place.link, ap (λ (w : ℕ). w % 4) (sym names.is ∙ sym here ∙ none));
+    alike = λ _. (rights one.place, right, one.was ∙ names.pages one.place (omega (arith, one.high, few)), refl);
+  }),
+)
 
 -- a write of the level 2 word, as the code does it
-pub orderly-write : (x : BlockPlace) (h : List Step) (s : Step) (old : Ram) (value : ℕ) → IsPlace old x → value < 2 ^ 64 → s.before ≡ old
+pub orderly-write : (x : BlockPlace) (h : List Step) (s : Step) (old : Ram) (value : ℕ) (Stays : Type 0) → (Stays → ⊥) → IsPlace old x → value < 2 ^ 64 → s.before ≡ old
     → s.after ≡ with_page old x.middle.0 (with_word (page_of old x.middle.0) x.entry value)
     → ((value ≡ 0) ⊎ (((word_at s.before x ≡ 0) × IsSettledLast x.endpoint x.first.0 h × IsLinkOrBlock x.link x.address value)
     ⊎ ((r : Rights) × (q : Rights) × (word_at s.before x ≡ block_word x.address r) × (value ≡ block_word x.address q))))
-    → IsOrderly x h s
-orderly-write x h s old value place fits before after order = inr (inr (record {
-  value = value;
-  write = subst (λ r. IsWritten r s.after x.middle.0 x.entry value) (sym before) (written-middle old s.after x value place fits after);
-  order = order;
-}))
+    → IsOrderly x Stays h s
+orderly-write x h s old value Stays moves place fits before after order = inr (
+  (λ stays. absurd (moves stays)),
+  inr (record {
+    value = value;
+    write = subst (λ r. IsWritten r s.after x.middle.0 x.entry value) (sym before) (written-middle old s.after x value place fits after);
+    order = order;
+  }),
+)
 
 -- a place is the same in RAM that stands alike
 pub place-of-kept : (old new : Ram) (tables b e k : ℕ) (x : BlockPlace) → new.base ≡ old.base → IsPlaceOf old tables b e k x → IsPlaceOf new tables b e k x
@@ -357,7 +389,7 @@ walks-between old new ram n tables b access after built built' between base size
       ])
     ]
 
-pub moment-walks : (old new : Ram) (n tables b : ℕ) (past : Option (List Step)) (h : List Step) (s : Step) → IsMoment old new n tables b past h s → WalksBetween old new n tables b s.after
+pub moment-walks : (old new : Ram) (n tables b : ℕ) (past : Past) (h : List Step) (s : Step) → IsMoment old new n tables b past h s → WalksBetween old new n tables b s.after
 moment-walks old new n tables b past h s m =
     walks-between old new s.after n tables b m.access m.after m.was m.is m.between m.place (m.between.stands.fits.size ∙ sym m.was.fits.size) m.stays (m.is.fits.size ∙ sym m.was.fits.size)
 
@@ -384,7 +416,7 @@ unfolding mapped_answer
 answer-some None a = refl
 answer-some (Some r) a = refl
 
-pub moment-unreached : (old new : Ram) (n tables b : ℕ) (past : Option (List Step)) (h : List Step) (s : Step) → IsMoment old new n tables b past h s → WritesUnreached old new n tables b h s
+pub moment-unreached : (old new : Ram) (n tables b : ℕ) (past : Past) (h : List Step) (s : Step) → IsMoment old new n tables b past h s → WritesUnreached old new n tables b h s
 moment-unreached old new n tables b past h s m p aside hp = elim m.unreached [
   | inl kept ↦ inl (kept p aside)
   | inr free ↦ elim (free.each p aside) [
@@ -405,8 +437,8 @@ moment-unreached old new n tables b past h s m p aside hp = elim m.unreached [
 ]
 
 -- rights that end, as walks tell it
-pub ends-of-rights : (old new : Ram) (n tables b : ℕ) (access after : ℕ → ℕ → Option Rights) → IsBuilt old n tables b access → IsBuilt new n tables b after → (past : Option (List Step))
-    → ((h : List Step) → past ≡ Some h → (e p : ℕ) → e < n → is_some (access e p) ≡ true → is_some (after e p) ≡ false → IsSettledBy tables (table_page tables b n 0) e p h)
+pub ends-of-rights : (old new : Ram) (n tables b : ℕ) (access after : ℕ → ℕ → Option Rights) → IsBuilt old n tables b access → IsBuilt new n tables b after → (past : Past)
+    → ((h : List Step) → past.steps ≡ Some h → (e p : ℕ) → e < n → is_some (access e p) ≡ true → is_some (after e p) ≡ false → IsSettledBy tables (table_page tables b n 0) e p h)
     → EndsSettled old new n tables b past
 ends-of-rights old new n tables b access after built is past each h there e p he hp was gone =
     each h there e p he (some old access built ∙ was) (some new after is ∙ gone)
@@ -417,41 +449,104 @@ ends-of-rights old new n tables b access after built is past each h there e p he
         ∙ sym (ap is_ok (walk-page ram n tables b rights e p ram.base (standing-of_built ram n tables b rights its) refl he hp))
 
 -- where none end
-pub no-right-ends : (old new : Ram) (n tables b : ℕ) (access after : ℕ → ℕ → Option Rights) → IsBuilt old n tables b access → IsBuilt new n tables b after → (past : Option (List Step))
+pub no-right-ends : (old new : Ram) (n tables b : ℕ) (access after : ℕ → ℕ → Option Rights) → IsBuilt old n tables b access → IsBuilt new n tables b after → (past : Past)
     → ((e p : ℕ) → is_some (access e p) ≡ true → is_some (after e p) ≡ true) → EndsSettled old new n tables b past
 no-right-ends old new n tables b access after built is past stays =
     ends-of-rights old new n tables b access after built is past (λ h there e p he was gone. absurd (true≢false (sym (stays e p was) ∙ gone)))
 
 -- where RAM is the same
-pub nothing-ends : (old new : Ram) (n tables b : ℕ) (past : Option (List Step)) → new ≡ old → EndsSettled old new n tables b past
+pub nothing-ends : (old new : Ram) (n tables b : ℕ) (past : Past) → new ≡ old → EndsSettled old new n tables b past
 nothing-ends old new n tables b past same h there e p he hp was gone =
     absurd (true≢false (sym was ∙ ap (λ (r : Ram). is_ok (walk_at r tables b e (r.base + 4096 * p))) (sym same) ∙ gone))
 
 -- at the place of a block
-pub ordered-of : (old : Ram) (tables b e k : ℕ) (x : BlockPlace) → k < b → IsPlaceOf old tables b e k x → (h : List Step) (s : Step) → IsOrderly x h s → IsOrdered old tables b e h s
-ordered-of old tables b e k x hk at h s (inl same) = inl same
-ordered-of old tables b e k x hk at h s (inr (inl leaf)) = inr (k, hk, inl (leaf-at at.middle at.entry at.link at.table at.address leaf))
+pub ordered-of : (old : Ram) (tables b e k : ℕ) (x : BlockPlace) (Stays : ℕ → Type 0) → k < b → IsPlaceOf old tables b e k x → (h : List Step) (s : Step) → IsOrderly x (Stays k) h s
+    → IsOrdered old tables b Stays e h s
+ordered-of old tables b e k x Stays hk at h s (inl same) = inl same
+ordered-of old tables b e k x Stays hk at h s (inr (keeps, inl leaf)) = inr (k, hk, keeps, inl (leaf-at at.middle at.entry at.link at.table at.address leaf))
   where
     leaf-at : {m m' n n' l l' t t' a a' : ℕ} → m ≡ m' → n ≡ n' → l ≡ l' → t ≡ t' → a ≡ a' → IsLeafWrite m n l t a s → IsLeafWrite m' n' l' t' a' s
     leaf-at p q r u v = subst (λ z. z) (λ i. IsLeafWrite (p i) (q i) (r i) (u i) (v i) s)
-ordered-of old tables b e k x hk at h s (inr (inr block)) = inr (k, hk, inr (block-at at.middle at.entry at.link at.address at.endpoint at.first block))
+ordered-of old tables b e k x Stays hk at h s (inr (keeps, inr block)) = inr (k, hk, keeps, inr (block-at at.middle at.entry at.link at.address at.endpoint at.first block))
   where
     block-at : {m m' n n' l l' a a' d d' f f' : ℕ} → m ≡ m' → n ≡ n' → l ≡ l' → a ≡ a' → d ≡ d' → f ≡ f' → IsBlockWrite m n l a d f h s → IsBlockWrite m' n' l' a' d' f' h s
     block-at p q r t u v = subst (λ z. z) (λ i. IsBlockWrite (p i) (q i) (r i) (t i) (u i) (v i) h s)
 
+-- it is one where fewer blocks stay
+pub ordered-more : (old : Ram) (tables b e : ℕ) (P Q : ℕ → Type 0) (h : List Step) (s : Step) → ((k : ℕ) → k < b → Q k → P k) → IsOrdered old tables b P e h s → IsOrdered old tables b Q e h s
+ordered-more old tables b e P Q h s fewer (inl same) = inl same
+ordered-more old tables b e P Q h s fewer (inr (k, hk, keeps, write)) = inr (k, hk, (λ stays. keeps (fewer k hk stays)), write)
+
 -- a step in an endpoint's tables changes no other page
-pub ordered-aside : (old : Ram) (tables b e n : ℕ) (h : List Step) (s : Step) → IsOrdered old tables b e h s → e < n → KeepsAside n tables b s
-ordered-aside old tables b e n h s (inl same) he p aside = ap (λ (r : Ram). page_of r p) same
-ordered-aside old tables b e n h s (inr (k, hk, inl leaf)) he p aside =
+pub ordered-aside : (old : Ram) (tables b e n : ℕ) (Stays : ℕ → Type 0) (h : List Step) (s : Step) → IsOrdered old tables b Stays e h s → e < n → KeepsAside n tables b s
+ordered-aside old tables b e n Stays h s (inl same) he p aside = ap (λ (r : Ram). page_of r p) same
+ordered-aside old tables b e n Stays h s (inr (k, hk, keeps, inl leaf)) he p aside =
     leaf.write.pages p (λ same. not-both n tables b p (subst (IsTablePage n tables b) (sym same) (table_page-there n tables b e (2 + k) he (omega (arith, hk)))) aside)
-ordered-aside old tables b e n h s (inr (k, hk, inr block)) he p aside =
+ordered-aside old tables b e n Stays h s (inr (k, hk, keeps, inr block)) he p aside =
     block.write.pages p (λ same. not-both n tables b p (subst (IsTablePage n tables b) (sym same) (table_page-there n tables b e 1 he (omega arith))) aside)
 
 -- it is one in RAM that stands alike
-pub ordered-kept : (old new : Ram) (tables b e : ℕ) (h : List Step) (s : Step) → new.base ≡ old.base → IsOrdered old tables b e h s → IsOrdered new tables b e h s
-ordered-kept old new tables b e h s base (inl same) = inl same
-ordered-kept old new tables b e h s base (inr (k, hk, inl leaf)) = inr (k, hk, inl (rw base leaf))
-ordered-kept old new tables b e h s base (inr (k, hk, inr block)) = inr (k, hk, inr (rw base block))
+pub ordered-kept : (old new : Ram) (tables b e : ℕ) (Stays : ℕ → Type 0) (h : List Step) (s : Step) → new.base ≡ old.base → IsOrdered old tables b Stays e h s → IsOrdered new tables b Stays e h s
+ordered-kept old new tables b e Stays h s base (inl same) = inl same
+ordered-kept old new tables b e Stays h s base (inr (k, hk, keeps, inl leaf)) = inr (k, hk, keeps, inl (rw base leaf))
+ordered-kept old new tables b e Stays h s base (inr (k, hk, keeps, inr block)) = inr (k, hk, keeps, inr (rw base block))
+
+-- where no right to a block's pages changes in the end, none changes in a run
+pub same-run : (access : ℕ → ℕ → Option Rights) (e k first next until end from to : ℕ) (right : Option Rights) → first ≤ next → next ≤ until → until ≤ end → 512 * k + from ≡ next → 512 * k + to ≡ until
+    → IsSameIn access (with_pages access e first end right) e k → IsSameRun (rights_of_block (with_pages access e first next right e) k) from to right
+same-run access e k first next until end from to right low high all start stop same j hj =
+    with_pages-block (with_pages access e first next right) e k from to right j
+    ∙ rw (start, stop) (with_pages-more access e first next until right e (512 * k + j) low high)
+    ∙ kept until all ∙ sym (kept next (omega (arith, high, all)))
+  where
+    kept : (m : ℕ) → m ≤ end → with_pages access e first m right e (512 * k + j) ≡ access e (512 * k + j)
+    kept m hm = elim (pages-part access e first m end right e (512 * k + j) hm) [ inl a ↦ a | inr a ↦ a ∙ same j hj ]
+
+-- ---- what walks tell of rights
+
+abbrev lets-write : Answer → Bool
+lets-write (Ok leaf) = leaf.write
+lets-write (Err fault) = false
+
+abbrev lets-run : Answer → Bool
+lets-run (Ok leaf) = leaf.exec
+lets-run (Err fault) = false
+
+same-fields : (l m : Data) (x y : Bool) → may_write l ≡ may_write m → x ≡ y
+    → ◌≡◌ {A = Option Rights} (Some (record { level = l; exec = x })) (Some (record { level = m; exec = y }))
+same-fields Ro Ro x y write run = ap (λ (z : Bool). Some (record { level = Ro; exec = z })) run
+same-fields Rw Rw x y write run = ap (λ (z : Bool). Some (record { level = Rw; exec = z })) run
+same-fields Ro Rw x y write run = absurd (false≢true write)
+same-fields Rw Ro x y write run = absurd (true≢false write)
+
+right-of : (r q : Option Rights) (a : ℕ) → mapped_answer r a ≡ mapped_answer q a → r ≡ q
+unfolding mapped_answer
+right-of None None a same = refl
+right-of None (Some q) a same = absurd (false≢true (ap (λ (x : Answer). is_ok x) same))
+right-of (Some r) None a same = absurd (true≢false (ap (λ (x : Answer). is_ok x) same))
+right-of (Some r) (Some q) a same = same-fields r.level q.level r.exec q.exec (ap lets-write same) (ap lets-run same)
+
+walks-rights : (old new : Ram) (n tables b : ℕ) (access after : ℕ → ℕ → Option Rights) → IsBuilt old n tables b access → IsBuilt new n tables b after → new.base ≡ old.base
+    → (e k : ℕ) → e < n → k < b → WalksSameIn old new tables b e k → IsSameIn access after e k
+walks-rights old new n tables b access after was is stays e k he hk same j hj =
+    let p : ℕ = 512 * k + j in
+    let hp : p < 512 * b = omega (arith, hk, hj) in
+    right-of (after e p) (access e p) (old.base + 4096 * p)
+    (sym (walk-page new n tables b after e p old.base (standing-of_built new n tables b after is) (sym stays) he hp)
+    ∙ same j hj
+    ∙ walk-page old n tables b access e p old.base (standing-of_built old n tables b access was) refl he hp)
+
+-- where an endpoint's walks into a block are the same before and behind, each word of it stays
+pub moment-order : (old new : Ram) (n tables b : ℕ) (past : Past) (h : List Step) (s : Step) → IsMoment old new n tables b past h s → IsInOrder old n tables b (WalksSameIn old new tables b) h s
+moment-order old new n tables b past h s m = elim m.order [
+  | inl kept ↦ inl kept
+  | inr (e, he, ordered) ↦ inr (
+    e,
+    he,
+    ordered-more old tables b e (IsSameIn m.access m.after e) (WalksSameIn old new tables b e) h s
+        (λ k hk. walks-rights old new n tables b m.access m.after m.was m.is m.stays e k he hk) ordered,
+  )
+]
 
 -- a moment of fewer changes is one of more
 pub between-then : (ram : Ram) (n tables b : ℕ) (access f g after : ℕ → ℕ → Option Rights) → IsBetween ram n tables b f g

@@ -7,7 +7,7 @@ use Rattle.ffa_model.specs.Descriptor.{page_word}
 use Rattle.ffa_model.specs.declared.rights.Rights.{Rights}
 use Rattle.ffa_physmem.proofs.Words.{word_of-with_word_same, word_of-with_word_other, length-with_word}
 use Rattle.ffa_stage2.specs.declared.blocks.BlockPlace.{BlockPlace}
-use Rattle.ffa_stage2.specs.Blocks.{block_word, IsOne, IsBlock, IsMapped, IsEither, IsBlockWhereOne, IsUniform}
+use Rattle.ffa_stage2.specs.Blocks.{block_word, IsOne, IsBlock, IsMapped, IsMixed, IsEither, IsBlockWhereOne, IsUniform}
 use Rattle.ffa_stage2.specs.Orders.{IsWritten}
 use Rattle.ffa_stage2.specs.Places.{word_at, IsPlace, Maps, Names, Stands, KeepsBeside}
 use Rattle.ffa_stage2.proofs.Descriptors.{page_word-of_block, block_word-type, block_word-fits, same_right}
@@ -200,9 +200,9 @@ block-here ram x rights place (inl block) h = block
 block-here ram x rights place (inr (table, mixed)) h = absurd (omega (arith, h, table.is, place.link))
 
 pub table-here : (ram : Ram) (x : BlockPlace) (rights : ℕ → Option Rights) → IsPlace ram x → Maps ram x rights → word_at ram x % 4 ≢ 1
-    → Names ram x rights
+    → Names ram x rights × IsMixed rights
 table-here ram x rights place (inl block) h = absurd (h (ap (λ (w : ℕ). w % 4) block.is ∙ block_word-type block.right x.address))
-table-here ram x rights place (inr (table, mixed)) h = table
+table-here ram x rights place (inr named) h = named
 
 -- the type, of the word that was read
 pub typed : (ram : Ram) (x : BlockPlace) (word : ℕ) → word ≡ word_at ram x → word % 4 ≡ 1 → word_at ram x % 4 ≡ 1

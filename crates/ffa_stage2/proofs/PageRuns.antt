@@ -7,11 +7,11 @@ use Rattle.ffa_model.specs.Ram.{Ram, page_of, with_page, word_of, with_word}
 use Rattle.ffa_model.specs.Descriptor.{page_word}
 use Rattle.ffa_model.specs.declared.rights.Rights.{Rights}
 use Rattle.ffa_stage2.specs.declared.blocks.BlockPlace.{BlockPlace}
-use Rattle.ffa_stage2.specs.Blocks.{IsOne, IsBlock, IsMixed}
+use Rattle.ffa_stage2.specs.Blocks.{IsOne, IsBlock, IsMixed, block_word}
 use Rattle.ffa_stage2.specs.Orders.{IsWritten}
-use Rattle.ffa_stage2.specs.Places.{IsFilled, IsFilling, IsPlace, KeepsBeside, Maps, Names, with_run, word_at}
+use Rattle.ffa_stage2.specs.Places.{IsFilled, IsFilling, IsPlace, IsSameRun, KeepsBeside, Maps, Names, with_run, word_at}
 use Rattle.ffa_stage2.proofs.Descriptors.{block_word-fits, same_right}
-use Rattle.ffa_stage2.proofs.OneBlock.{written, IsPlace-kept, KeepsBeside-of_table, KeepsBeside-then, IsMapped-rights, block-first, block-page, block-word}
+use Rattle.ffa_stage2.proofs.OneBlock.{written, IsBlockWhereOne-of, IsPlace-kept, KeepsBeside-of_table, KeepsBeside-then, IsMapped-rights, block-first, block-page, block-word}
 
 -- ---- words of one page of RAM
 
@@ -184,6 +184,20 @@ split-maps old low high full new x rights from to right word first place block i
       split-names old low high full new x rights from to right word place block is some few before behind run write,
       split-mixed rights from to right block.right block.one some few part (λ same. other ((block-right old x rights right word first place block is leaf).1 same)),
     )
+
+-- so some right changes where a block of another right is split
+pub split-changes : (ram : Ram) (x : BlockPlace) (rights : ℕ → Option Rights) (from to : ℕ) (right : Option Rights) (word first : ℕ) → IsPlace ram x → IsBlock (word_at ram x) x.address rights
+    → word ≡ word_at ram x → first ≡ page_word x.address right → (first ≡ word + 2 → ⊥) → from < to → to ≤ 512 → IsSameRun rights from to right → ⊥
+split-changes ram x rights from to right word first place block is leaf other some few same =
+    other ((block-right ram x rights right word first place block is leaf).1
+    (sym (with_run-here rights from to right from (omega arith) some) ∙ same from (omega (arith, some, few)) ∙ block.one from (omega (arith, some, few))))
+
+-- and where another word is written for a whole block
+pub whole-changes : (ram : Ram) (x : BlockPlace) (rights : ℕ → Option Rights) (right : Option Rights) (r : Rights) (now word : ℕ) → IsPlace ram x → Maps ram x rights → right ≡ Some r
+    → now ≡ word_at ram x → word ≡ block_word x.address r → (now ≡ word → ⊥) → IsSameRun rights 0 512 right → ⊥
+whole-changes ram x rights right r now word place maps some is block other same =
+    let law = IsBlockWhereOne-of (word_at ram x) x.link (page_of ram x.table.0) x.address rights place.link place.aligned place.within maps in
+    other (is ∙ (law.block r).1 (λ j hj. sym (same j hj) ∙ with_run-here rights 0 512 right j (omega arith) hj ∙ some) ∙ sym block)
 
 -- three runs written
 pub three-filled : (old low high full : Ram) (x : BlockPlace) (a b c d e f : ℕ) (p q r : ℕ → ℕ) → IsPlace old x → IsFilled old low x.table.0 a b p → IsFilled low high x.table.0 c d q

@@ -8,17 +8,18 @@ use Rattle.ffa_model.specs.Ram.{Ram, page_of, word_of}
 use Rattle.ffa_model.specs.Walk.{Answer, is_in_ram, mapped_answer}
 use Rattle.ffa_model.specs.declared.rights.Rights.{Rights}
 use Rattle.ffa_model.specs.declared.operation.FaultKind.TheVariants.{Translation}
-use Rattle.ffa_physmem.specs.Moments.{Adds, AreInTurn, IsSettledBy, KeepsPages, Only, Settles, StaysPlaced, Step, TurnsIn}
+use Rattle.ffa_physmem.specs.Moments.{Adds, AreInTurn, IsSettledBy, KeepsPages, Only, Past, Settles, StaysPlaced, Step, TurnsIn}
 use Rattle.ffa_physmem.proofs.Moments.{Only-along, Only-behind-all, Only-map, Only-none}
-use Rattle.ffa_stage2.specs.Held.{MayHold, WritesUnheld}
+use Rattle.ffa_stage2.specs.Held.{IsUnshaken, MayHold, WritesUnheld}
 use Rattle.ffa_stage2.specs.Mixtures.{IsMixture, MayRead, MixedBetween, page_at}
 use Rattle.ffa_stage2.specs.Moments.{EndsSettled, IsBetween, IsMoment, IsUnchanged, walk_at}
 use Rattle.ffa_stage2.specs.Orders.{IsOrdered}
 use Rattle.ffa_stage2.specs.Rest.{AllSettled, AreAtRest, AreMixed, IsAsIn, IsWalked, Reads, ReadsBlock, ReadsTable, RestIn, WalksSameOrNone}
-use Rattle.ffa_stage2.specs.Tables.{HasRoom, IsBuilt, IsStanding, WalksChange, is_in_pages, level2_place, table_page}
+use Rattle.ffa_stage2.specs.Tables.{HasRoom, IsBuilt, IsSameIn, IsStanding, WalksChange, is_in_pages, level2_place, table_page}
 use Rattle.ffa_stage2.proofs.Mixtures.{IsAsInEither, OneDiffers, may-kept, mixed-between, reads-behind, walk-mixed, walk-words}
 use Rattle.ffa_stage2.proofs.Moments.{ordered-aside, answer-none, answer-some}
 use Rattle.ffa_stage2.proofs.Places.{IsTablePage, table_page-there}
+use Rattle.ffa_stage2.proofs.Unshaken.{moment-unshaken}
 use Rattle.ffa_stage2.proofs.Walks.{walk-built}
 
 -- ---- many steps
@@ -41,7 +42,7 @@ walked-of ram n tables b rights e p r built he hp is i hi =
     ap (λ (q : Option Rights). mapped_answer q (ram.base + 4096 * p + i)) is ∙ sym (walk-byte ram n tables b rights e p i built he hp hi)
 
 -- the rights at a moment are those before all steps, or behind all, or none
-moment-either : (old new : Ram) (n tables b : ℕ) (past : Option (List Step)) (h : List Step) (s : Step) (m : IsMoment old new n tables b past h s) (e p : ℕ) → e < n → p < 512 * b → IsAsInEither old new tables b e p (m.between.rights e p)
+moment-either : (old new : Ram) (n tables b : ℕ) (past : Past) (h : List Step) (s : Step) (m : IsMoment old new n tables b past h s) (e p : ℕ) → e < n → p < 512 * b → IsAsInEither old new tables b e p (m.between.rights e p)
 moment-either old new n tables b past h s m e p he hp = elim (m.between.each p) [
   | inl kept ↦ elim (kept e) [ inl is ↦ inl (inr (walked-of old n tables b m.access e p (m.between.rights e p) m.was he hp is)) | inr none ↦ inl (inl none) ]
   | inr changed ↦ elim (changed e) [ inl is ↦ inr (inr (walked-of new n tables b m.after e p (m.between.rights e p) m.is he hp is)) | inr none ↦ inl (inl none) ]
@@ -77,8 +78,8 @@ Adds-turn past P [] ram turn there = there
 Adds-turn past P (s ∷ h) ram turn (inl there) = inl there
 Adds-turn past P (s ∷ h) ram (at, placed, turn) (inr (its, rest)) = inr (((refl, placed, turn), its), Adds-turn past P h s.before turn rest)
 
-pub Only-turn : {past later : Option (List Step)} {P : List Step → Step → Type 0} (new : Ram) → TurnsIn new later → Only past later P → Only past later (λ h s. AreInTurn (s ∷ h) s.after × P h s)
-Only-turn {past} {later} {P} new turns only = record { each = λ h there. Adds-turn past P h new (turns h there) (only.each h there) }
+pub Only-turn : {past later : Past} {P : List Step → Step → Type 0} (new : Ram) → TurnsIn new later → Only past later P → Only past later (λ h s. AreInTurn (s ∷ h) s.after × P h s)
+Only-turn {past} {later} {P} new turns only = record { each = λ h there. Adds-turn past.steps P h new (turns h there) (only.each h there); site = only.site }
 
 -- ---- what is read as it stands
 
@@ -171,12 +172,12 @@ mixture-before n tables b e p s h ram m he at placed kept mix = record {
 }
 
 -- where no table has changed since all were at rest
-unchanged-none : (old m : Ram) (n tables b e p i : ℕ) (access : ℕ → ℕ → Option Rights) (past : Option (List Step)) → RestIn old n tables b past → IsBuilt old n tables b access → is_some (access e p) ≡ false
+unchanged-none : (old m : Ram) (n tables b e p i : ℕ) (access : ℕ → ℕ → Option Rights) (past : Past) → RestIn old n tables b past → IsBuilt old n tables b access → is_some (access e p) ≡ false
     → e < n → p < 512 * b → i < 4096 → (h : List Step) (ram : Ram) → AreInTurn h ram → IsUnchanged tables (table_page tables b n 0) past h → IsMixture tables b e p h ram m
     → walk_at m tables b e (old.base + 4096 * p + i) ≡ Err Translation
 unchanged-none old m n tables b e p i access past rest built gone he hp hi = along
   where
-    first : (h : List Step) (ram : Ram) → AreInTurn h ram → past ≡ Some h → IsMixture tables b e p h ram m → walk_at m tables b e (old.base + 4096 * p + i) ≡ Err Translation
+    first : (h : List Step) (ram : Ram) → AreInTurn h ram → past.steps ≡ Some h → IsMixture tables b e p h ram m → walk_at m tables b e (old.base + 4096 * p + i) ≡ Err Translation
     first h ram turn there mix =
         let at_rest = rest h there in
         let (s, earlier, is) = at_rest.begun in
@@ -190,7 +191,7 @@ unchanged-none old m n tables b e p i access past rest built gone he hp hi = alo
     along (s ∷ h) ram (at, placed, turn) (inr (kept, more)) mix = along h s.before turn more (mixture-before n tables b e p s h ram m he at placed kept mix)
 
 -- so a page is written only while nothing is held that leads there
-moment-unheld : (old new : Ram) (n tables b : ℕ) (past : Option (List Step)) → RestIn old n tables b past → (h : List Step) (s : Step) → AreInTurn h s.before
+moment-unheld : (old new : Ram) (n tables b : ℕ) (past : Past) → RestIn old n tables b past → (h : List Step) (s : Step) → AreInTurn h s.before
     → Reads old.base n tables b h s.before (IsAsInEither old new tables b) → IsMoment old new n tables b past h s → WritesUnheld old new n tables b h s
 moment-unheld old new n tables b past rest h s turn reads m p aside hp = elim m.unreached [
   | inl kept ↦ inl (kept p aside)
@@ -223,11 +224,11 @@ moment-unheld old new n tables b past rest h s turn reads m p aside hp = elim m.
 
 -- ---- all steps of a history
 
-module _ (old new : Ram) (n tables b : ℕ) (past later : Option (List Step)) (rest : RestIn old n tables b past) (turns : TurnsIn new later) (only : Only past later (λ h s. IsMoment old new n tables b past h s)) where
+module _ (old new : Ram) (n tables b : ℕ) (past later : Past) (rest : RestIn old n tables b past) (turns : TurnsIn new later) (only : Only past later (λ h s. IsMoment old new n tables b past h s)) where
   abbrev AllRead : List Step → Type 0
   AllRead h = (ram : Ram) → AreInTurn h ram → Reads old.base n tables b h ram (IsAsInEither old new tables b)
 
-  first-read : (h : List Step) → past ≡ Some h → AllRead h
+  first-read : (h : List Step) → past.steps ≡ Some h → AllRead h
   first-read h there ram turn =
       let its = rest h there in
       let (s, earlier, is) = its.begun in
@@ -237,7 +238,7 @@ module _ (old new : Ram) (n tables b : ℕ) (past later : Option (List Step)) (r
   next-read : (h : List Step) (s : Step) → AreInTurn (s ∷ h) s.after × IsMoment old new n tables b past h s → AllRead h → AllRead (s ∷ h)
   next-read h s ((_, _, turn), m) reads ram (at, _, _) =
       subst (λ (r : Ram). Reads old.base n tables b (s ∷ h) r (IsAsInEither old new tables b)) at
-      (reads-behind old n tables b h s (IsAsInEither old new tables b) m.between.rights m.between.stands m.place (moment-either old new n tables b past h s m) m.order (reads s.before turn))
+      (reads-behind old n tables b h s (IsAsInEither old new tables b) m.between.rights m.between.stands m.place (moment-either old new n tables b past h s m) (IsSameIn m.access m.after) m.order (reads s.before turn))
 
   pub reads-at : Only past later (λ h s. Reads old.base n tables b (s ∷ h) s.after (IsAsInEither old new tables b) × IsMoment old new n tables b past h s)
   reads-at = Only-map (Only-along AllRead first-read next-read (Only-turn new turns only)) (λ h s its.
@@ -256,7 +257,13 @@ module _ (old new : Ram) (n tables b : ℕ) (past later : Option (List Step)) (r
       let (reads, ((_, _, turn), m)) = its in
       moment-unheld old new n tables b past rest h s turn (reads s.before turn) m)
 
-  pub reads-last : (h : List Step) → later ≡ Some h → Reads old.base n tables b h new (IsAsInEither old new tables b)
+  -- nobody is disturbed who keeps its accesses to a block
+  pub unshaken-along : Only past later (λ h s. IsUnshaken old new n tables b h s)
+  unshaken-along = Only-map (Only-along AllRead first-read next-read (Only-turn new turns only)) (λ h s its.
+      let (reads, ((_, placed, turn), m)) = its in
+      moment-unshaken old new n tables b past h s (IsAsInEither old new tables b) placed (reads s.before turn) m)
+
+  pub reads-last : (h : List Step) → later.steps ≡ Some h → Reads old.base n tables b h new (IsAsInEither old new tables b)
   reads-last h there = Only-behind-all AllRead first-read next-read (Only-turn new turns only) h there new (turns h there)
 
 -- ---- at rest again
@@ -343,15 +350,15 @@ module _ (old new : Ram) (n tables b : ℕ) (access after : ℕ → ℕ → Opti
       })
 
 -- all of it, of steps that are moments on the way from one RAM to another, where what ended is settled
-module _ (old new : Ram) (n tables b : ℕ) (past later : Option (List Step)) (turns : TurnsIn new later) (only : Only past later (λ h s. IsMoment old new n tables b past h s))
+module _ (old new : Ram) (n tables b : ℕ) (past later : Past) (turns : TurnsIn new later) (only : Only past later (λ h s. IsMoment old new n tables b past h s))
     (ended : EndsSettled old new n tables b later) where
-  still-at-rest : RestIn old n tables b past → (h : List Step) → later ≡ Some h → past ≡ Some h → AreAtRest new n tables b h
+  still-at-rest : RestIn old n tables b past → (h : List Step) → later.steps ≡ Some h → past.steps ≡ Some h → AreAtRest new n tables b h
   still-at-rest rest h there was =
       let its = rest h was in
       let (s, earlier, is) = its.begun in
       subst (λ (r : Ram). AreAtRest r n tables b h) (same-turn s earlier h old new is its.turn (turns h there)) its
 
-  at-rest : RestIn old n tables b past → WalksSameOrNone old new n tables b → (h : List Step) → later ≡ Some h → Adds past (λ h s. IsMoment old new n tables b past h s) h → AreAtRest new n tables b h
+  at-rest : RestIn old n tables b past → WalksSameOrNone old new n tables b → (h : List Step) → later.steps ≡ Some h → Adds past.steps (λ h s. IsMoment old new n tables b past h s) h → AreAtRest new n tables b h
   at-rest rest steady [] there was = still-at-rest rest [] there was
   at-rest rest steady (s ∷ h) there (inl was) = still-at-rest rest (s ∷ h) there was
   at-rest rest steady (s ∷ h) there (inr (m, more)) = record {
@@ -365,21 +372,23 @@ module _ (old new : Ram) (n tables b : ℕ) (past later : Option (List Step)) (t
   mixed-of = record {
     each = λ rest. mixed-along old new n tables b past later rest turns only;
     unheld = λ rest. unheld-along old new n tables b past later rest turns only;
+    unshaken = λ rest. unshaken-along old new n tables b past later rest turns only;
     rest = λ rest steady h there. at-rest rest steady h there (only.each h there);
   }
 
 -- where nothing was written
-pub mixed-still : (old new : Ram) (n tables b : ℕ) (past later : Option (List Step)) → new ≡ old → later ≡ past → AreMixed old new n tables b past later
+pub mixed-still : (old new : Ram) (n tables b : ℕ) (past later : Past) → new ≡ old → later ≡ past → AreMixed old new n tables b past later
 mixed-still old new n tables b past later same same_past = record {
-  each = λ _. subst (λ (l : Option (List Step)). Only past l (λ h s. MixedBetween old new n tables b (s ∷ h) s.after)) (sym same_past) Only-none;
-  unheld = λ _. subst (λ (l : Option (List Step)). Only past l (λ h s. WritesUnheld old new n tables b h s)) (sym same_past) Only-none;
-  rest = λ rest _ h there. subst (λ (r : Ram). AreAtRest r n tables b h) (sym same) (rest h (sym same_past ∙ there));
+  each = λ _. subst (λ (l : Past). Only past l (λ h s. MixedBetween old new n tables b (s ∷ h) s.after)) (sym same_past) Only-none;
+  unheld = λ _. subst (λ (l : Past). Only past l (λ h s. WritesUnheld old new n tables b h s)) (sym same_past) Only-none;
+  unshaken = λ _. subst (λ (l : Past). Only past l (λ h s. IsUnshaken old new n tables b h s)) (sym same_past) Only-none;
+  rest = λ rest _ h there. subst (λ (r : Ram). AreAtRest r n tables b h) (sym same) (rest h (ap (λ (x : Past). x.steps) (sym same_past) ∙ there));
 }
 
 -- ---- of pages that follow one another
 
 pub pages-moment : (old new : Ram) (n tables b : ℕ) (access after : ℕ → ℕ → Option Rights) → IsBuilt old n tables b access → IsBuilt new n tables b after → new.base ≡ old.base → (e : ℕ) → e < n
-    → (past : Option (List Step)) (h : List Step) (s : Step) → IsBetween s.after n tables b access after → s.after.base ≡ old.base → IsOrdered old tables b e h s → IsMoment old new n tables b past h s
+    → (past : Past) (h : List Step) (s : Step) → IsBetween s.after n tables b access after → s.after.base ≡ old.base → IsOrdered old tables b (IsSameIn access after e) e h s → IsMoment old new n tables b past h s
 pages-moment old new n tables b access after was is stays e he past h s between place ordered = record {
   access = access;
   after = after;
@@ -387,7 +396,7 @@ pages-moment old new n tables b access after was is stays e he past h s between 
   is = is;
   between = between;
   order = inr (e, he, ordered);
-  unreached = inl (ordered-aside old tables b e n h s ordered he);
+  unreached = inl (ordered-aside old tables b e n (IsSameIn access after e) h s ordered he);
   place = place;
   stays = stays;
 }
@@ -423,7 +432,7 @@ begun-of : (first end e p : ℕ) (h : List Step) → IsSettledBy first end e p h
 begun-of first end e p [] none = absurd none
 begun-of first end e p (s ∷ h) settled = (s, h, refl)
 
-pub rest-settled : (ram : Ram) (n tables b : ℕ) (access : ℕ → ℕ → Option Rights) (past : Option (List Step)) → IsBuilt ram n tables b access → 0 < n → TurnsIn ram past
+pub rest-settled : (ram : Ram) (n tables b : ℕ) (access : ℕ → ℕ → Option Rights) (past : Past) → IsBuilt ram n tables b access → 0 < n → TurnsIn ram past
     → AllSettled n tables b past → RestIn ram n tables b past
 rest-settled ram n tables b access past built some turns settled h there =
     rest-of-settled ram n tables b access h built (turns h there) (begun-of tables (table_page tables b n 0) 0 0 h (settled h there 0 0 some (omega arith))) (settled h there)

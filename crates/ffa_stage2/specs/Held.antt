@@ -7,7 +7,7 @@ use Rattle.ffa_model.specs.Walk.{Answer}
 use Rattle.ffa_model.specs.declared.operation.FaultKind.TheVariants.{Translation}
 use Rattle.ffa_physmem.specs.Moments.{Settles, Step}
 use Rattle.ffa_stage2.specs.Mixtures.{IsMixture, page_at}
-use Rattle.ffa_stage2.specs.Moments.{walk_at}
+use Rattle.ffa_stage2.specs.Moments.{WalksSameIn, walk_at}
 use Rattle.ffa_stage2.specs.Tables.{IsAside}
 
 -- the answer of a walk in a mixture now
@@ -39,6 +39,19 @@ WritesUnheld old new endpoints tables blocks h s =
     → HoldsNothing old.base tables blocks e p h s.before
     ⊎ ((is_ok (walk_at old tables blocks e (old.base + 4096 * p)) ≡ true)
     × (is_ok (walk_at new tables blocks e (old.base + 4096 * p)) ≡ true)))
+
+-- Who is undisturbed at a step of an operation: an endpoint whose walks to the pages of a block give the same before the operation and
+-- behind it. The step changes no walk of it into the block. What a translation unit may hold for it there behind the step, it might
+-- hold before the step; so it is of what a walk in a mixture gives.
+pub record IsUnshaken (old new : Ram) (endpoints tables blocks : ℕ) (h : List Step) (s : Step) : Type 0 where
+  pub walks :
+      (e k j i : ℕ) → e < endpoints → k < blocks → j < 512 → i < 4096 → WalksSameIn old new tables blocks e k
+      → walk_at s.after tables blocks e (old.base + 4096 * (512 * k + j) + i)
+      ≡ walk_at s.before tables blocks e (old.base + 4096 * (512 * k + j) + i)
+  pub held :
+      (e k j i : ℕ) (answer : Answer) → e < endpoints → k < blocks → j < 512 → i < 4096 → WalksSameIn old new tables blocks e k
+      → MayHold tables blocks e (512 * k + j) (old.base + 4096 * (512 * k + j) + i) (s ∷ h) s.after answer
+      → MayHold tables blocks e (512 * k + j) (old.base + 4096 * (512 * k + j) + i) h s.before answer
 
 -- each endpoint is answered what its walk gives in a RAM, or a translation fault
 abbrev pub AnswersAlike : (ℕ → Answer) → Ram → ℕ → ℕ → ℕ → ℕ → Type 0

@@ -8,9 +8,9 @@ use Rattle.ffa_model.specs.Walk.{Answer, walk}
 use Rattle.ffa_model.specs.declared.operation.FaultKind.TheVariants.{Translation}
 use Rattle.ffa_model.specs.declared.rights.Rights.{Rights}
 use Rattle.ffa_stage2.specs.declared.layout.Layout.{Layout}
-use Rattle.ffa_physmem.specs.Moments.{Adds, IsSettledBy, KeepsPages, Step}
+use Rattle.ffa_physmem.specs.Moments.{Adds, IsSettledBy, KeepsPages, Past, Step}
 use Rattle.ffa_stage2.specs.Orders.{IsOrdered}
-use Rattle.ffa_stage2.specs.Tables.{IsAside, IsBuilt, IsStanding, table_page}
+use Rattle.ffa_stage2.specs.Tables.{IsAside, IsBuilt, IsSameIn, IsStanding, table_page}
 
 -- this right or nothing
 abbrev pub IsNoMore : Option Rights → Option Rights → Type 0
@@ -34,8 +34,8 @@ IsOutOrStays now before behind settled unchanged =
     ⊎ ((is_some before ≡ true) × (is_some behind ≡ true))
 
 -- from a history to a later one no step changes a page from one up to another
-abbrev pub IsUnchanged : ℕ → ℕ → Option (List Step) → List Step → Type 0
-IsUnchanged first end past h = Adds past (λ _ s. KeepsPages first end s) h
+abbrev pub IsUnchanged : ℕ → ℕ → Past → List Step → Type 0
+IsUnchanged first end past h = Adds past.steps (λ _ s. KeepsPages first end s) h
 
 -- a step that leaves all pages but those of tables as they are
 abbrev pub KeepsAside : ℕ → ℕ → ℕ → Step → Type 0
@@ -45,7 +45,7 @@ KeepsAside endpoints tables blocks s = (p : ℕ) → IsAside endpoints tables bl
 -- no right then: if it had one before the operation, the page was settled since that ended, and if it has one behind it, no
 -- table has changed since the operation began. Or the endpoint has a right to it both before the operation and behind it.
 pub record IsUnreached (old : Ram) (endpoints tables blocks : ℕ) (access after : ℕ → ℕ → Option Rights)
-    (past : Option (List Step)) (h : List Step) (s : Step) : Type 0 where
+    (past : Past) (h : List Step) (s : Step) : Type 0 where
   pub rights : ℕ → ℕ → Option Rights
   pub stands : IsStanding s.before endpoints tables blocks rights
   pub place : s.before.base ≡ old.base
@@ -56,19 +56,21 @@ pub record IsUnreached (old : Ram) (endpoints tables blocks : ℕ) (access after
       → IsOutOrStays (rights e p) (access e p) (after e p) (IsSettledBy tables (table_page tables blocks endpoints 0) e p h)
       (IsUnchanged tables (table_page tables blocks endpoints 0) past h))
 
--- a step that leaves all tables as they are, or is one in the tables of an endpoint, by way of nothing where it has to be
-abbrev pub IsInOrder : Ram → ℕ → ℕ → ℕ → List Step → Step → Type 0
-IsInOrder old endpoints tables blocks h s =
-    KeepsPages tables (table_page tables blocks endpoints 0) s ⊎ ((e : ℕ) × (e < endpoints) × IsOrdered old tables blocks e h s)
+-- A step that leaves all tables as they are, or is one in the tables of an endpoint, by way of nothing where it has to be. In each
+-- block k of an endpoint e with `Stays e k` the step stores what the word is already.
+abbrev pub IsInOrder : Ram → ℕ → ℕ → ℕ → (ℕ → ℕ → Type 0) → List Step → Step → Type 0
+IsInOrder old endpoints tables blocks Stays h s =
+    KeepsPages tables (table_page tables blocks endpoints 0) s
+    ⊎ ((e : ℕ) × (e < endpoints) × IsOrdered old tables blocks (Stays e) e h s)
 
 -- a step on the way from one RAM where tables are built to another, which began at the end of a history
-pub record IsMoment (old new : Ram) (endpoints tables blocks : ℕ) (past : Option (List Step)) (h : List Step) (s : Step) : Type 0 where
+pub record IsMoment (old new : Ram) (endpoints tables blocks : ℕ) (past : Past) (h : List Step) (s : Step) : Type 0 where
   pub access : ℕ → ℕ → Option Rights
   pub after : ℕ → ℕ → Option Rights
   pub was : IsBuilt old endpoints tables blocks access
   pub is : IsBuilt new endpoints tables blocks after
   pub between : IsBetween s.after endpoints tables blocks access after
-  pub order : IsInOrder old endpoints tables blocks h s
+  pub order : IsInOrder old endpoints tables blocks (IsSameIn access after) h s
   pub unreached :
       KeepsAside endpoints tables blocks s ⊎ IsUnreached old endpoints tables blocks access after past h s
   pub place : s.after.base ≡ old.base
@@ -92,6 +94,12 @@ WalksBetween old new endpoints tables blocks ram =
 abbrev pub walk_at : Ram → ℕ → ℕ → ℕ → ℕ → Answer
 walk_at ram tables blocks e address = walk ram (root_of ram.base tables blocks e) address
 
+-- an endpoint's walks to the 512 pages of block k give the same in two RAMs
+abbrev pub WalksSameIn : Ram → Ram → ℕ → ℕ → ℕ → ℕ → Type 0
+WalksSameIn old new tables blocks e k =
+    (j : ℕ) → j < 512
+    → walk_at new tables blocks e (old.base + 4096 * (512 * k + j)) ≡ walk_at old tables blocks e (old.base + 4096 * (512 * k + j))
+
 -- A page that is none of a table's changes at a step only while the walk of no endpoint leads there but of one whose walk leads there both
 -- before the operation and behind it; and where an endpoint's walk led there before the operation and doesn't now, the page
 -- was settled since then.
@@ -107,9 +115,9 @@ WritesUnreached old new endpoints tables blocks h s =
 
 -- At the end of a history, of what led from one RAM to another: where an endpoint's walk led to a page and leads there no more,
 -- the page was settled in the endpoint's tables, and no table has changed since then.
-abbrev pub EndsSettled : Ram → Ram → ℕ → ℕ → ℕ → Option (List Step) → Type 0
+abbrev pub EndsSettled : Ram → Ram → ℕ → ℕ → ℕ → Past → Type 0
 EndsSettled old new endpoints tables blocks past =
-    (h : List Step) → past ≡ Some h
+    (h : List Step) → past.steps ≡ Some h
     → (e p : ℕ) → e < endpoints → p < 512 * blocks
     → is_ok (walk_at old tables blocks e (old.base + 4096 * p)) ≡ true
     → is_ok (walk_at new tables blocks e (new.base + 4096 * p)) ≡ false

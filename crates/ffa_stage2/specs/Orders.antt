@@ -55,11 +55,16 @@ pub record IsBlockWrite (middle entry link address endpoint first : ℕ) (h : Li
       ⊎ ((r : Rights) × (q : Rights)
       × (word_of (page_of s.before middle) entry ≡ block_word address r) × (value ≡ block_word address q)))
 
--- a step in the tables of endpoint e: it leaves RAM as it is, or is such a write for one of the blocks
-abbrev pub IsOrdered : Ram → ℕ → ℕ → ℕ → List Step → Step → Type 0
-IsOrdered old tables blocks e h s =
+-- a step that leaves every word of RAM as it is
+abbrev pub KeepsWords : Step → Type 0
+KeepsWords s = (p i : ℕ) → word_of (page_of s.after p) i ≡ word_of (page_of s.before p) i
+
+-- A step in the tables of endpoint e: it leaves RAM as it is, or is such a write for one of the blocks. In each block k with
+-- `Stays k` the step stores what the word is already.
+abbrev pub IsOrdered : Ram → ℕ → ℕ → (ℕ → Type 0) → ℕ → List Step → Step → Type 0
+IsOrdered old tables blocks Stays e h s =
     (s.after ≡ s.before)
-    ⊎ ((k : ℕ) × (k < blocks)
+    ⊎ ((k : ℕ) × (k < blocks) × (Stays k → KeepsWords s)
     × (IsLeafWrite (table_page tables blocks e 1) (level2_place old.base + k) (table_link old.base tables blocks e (2 + k))
     (table_page tables blocks e (2 + k)) (block_address old k) s
     ⊎ IsBlockWrite (table_page tables blocks e 1) (level2_place old.base + k) (table_link old.base tables blocks e (2 + k))

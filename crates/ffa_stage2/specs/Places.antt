@@ -7,7 +7,7 @@ use Rattle.ffa_physmem.specs.Moments.{Step}
 use Rattle.ffa_model.specs.declared.rights.Rights.{Rights}
 use Rattle.ffa_stage2.specs.declared.blocks.BlockPlace.{BlockPlace}
 use Rattle.ffa_stage2.specs.Blocks.{IsTable, IsMapped, IsEither}
-use Rattle.ffa_stage2.specs.Orders.{IsBlockWrite, IsLeafWrite, IsSettledLast, IsWritten}
+use Rattle.ffa_stage2.specs.Orders.{IsBlockWrite, IsLeafWrite, IsSettledLast, IsWritten, KeepsWords}
 use Rattle.ffa_stage2.specs.Tables.{table_page, table_link, level2_place, block_address}
 
 -- where endpoint e's tables speak of block k
@@ -108,9 +108,15 @@ abbrev pub IsReplacing : Ram → Ram → BlockPlace → List Step → Step → T
 IsReplacing old new x h s =
     (IsCut old s.after x) ⊎ ((word_at s.before x ≡ 0) × (s.after ≡ new) × IsSettledLast x.endpoint x.first.0 h)
 
--- what one step does at a place: nothing, or it writes a word of the level 3 page, or that of level 2
-abbrev pub IsOrderly : BlockPlace → List Step → Step → Type 0
-IsOrderly x h s =
+-- What one step does at a place: nothing, or it writes a word of the level 3 page, or that of level 2. With `Stays` it stores what
+-- the word is already.
+abbrev pub IsOrderly : BlockPlace → Type 0 → List Step → Step → Type 0
+IsOrderly x Stays h s =
     (s.after ≡ s.before)
-    ⊎ (IsLeafWrite x.middle.0 x.entry x.link x.table.0 x.address s
-    ⊎ IsBlockWrite x.middle.0 x.entry x.link x.address x.endpoint x.first.0 h s)
+    ⊎ ((Stays → KeepsWords s)
+    × (IsLeafWrite x.middle.0 x.entry x.link x.table.0 x.address s
+    ⊎ IsBlockWrite x.middle.0 x.entry x.link x.address x.endpoint x.first.0 h s))
+
+-- the rights to the 512 pages are the same with those from one up to another changed
+abbrev pub IsSameRun : (ℕ → Option Rights) → ℕ → ℕ → Option Rights → Type 0
+IsSameRun rights from to right = (j : ℕ) → j < 512 → with_run rights from to right j ≡ rights j

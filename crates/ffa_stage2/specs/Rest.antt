@@ -6,9 +6,9 @@ use Rattle.ffa_model.specs.Descriptor.{page_word}
 use Rattle.ffa_model.specs.Ram.{Ram}
 use Rattle.ffa_model.specs.Walk.{mapped_answer}
 use Rattle.ffa_model.specs.declared.rights.Rights.{Rights}
-use Rattle.ffa_physmem.specs.Moments.{AreInTurn, IsSettledBy, Only, Step}
+use Rattle.ffa_physmem.specs.Moments.{AreInTurn, IsSettledBy, Only, Past, Step}
 use Rattle.ffa_stage2.specs.Blocks.{block_word}
-use Rattle.ffa_stage2.specs.Held.{WritesUnheld}
+use Rattle.ffa_stage2.specs.Held.{IsUnshaken, WritesUnheld}
 use Rattle.ffa_stage2.specs.Mixtures.{MayRead, MixedBetween, MixturesBetween}
 use Rattle.ffa_stage2.specs.Moments.{walk_at}
 use Rattle.ffa_stage2.specs.Tables.{level1_place, level2_place, table_link, table_page}
@@ -60,18 +60,18 @@ pub record AreAtRest (ram : Ram) (endpoints tables blocks : ℕ) (h : List Step)
   pub reads : Reads ram.base endpoints tables blocks h ram (IsAsIn ram tables blocks)
 
 -- at the end of a history, where there is one
-abbrev pub RestIn : Ram → ℕ → ℕ → ℕ → Option (List Step) → Type 0
-RestIn ram endpoints tables blocks past = (h : List Step) → past ≡ Some h → AreAtRest ram endpoints tables blocks h
+abbrev pub RestIn : Ram → ℕ → ℕ → ℕ → Past → Type 0
+RestIn ram endpoints tables blocks past = (h : List Step) → past.steps ≡ Some h → AreAtRest ram endpoints tables blocks h
 
 -- each page below 2^20 was settled for each endpoint, and no table has changed since then
-abbrev pub AllSettled : ℕ → ℕ → ℕ → Option (List Step) → Type 0
+abbrev pub AllSettled : ℕ → ℕ → ℕ → Past → Type 0
 AllSettled endpoints tables blocks past =
-    (h : List Step) → past ≡ Some h
+    (h : List Step) → past.steps ≡ Some h
     → (e p : ℕ) → e < endpoints → p < 2 ^ 20 → IsSettledBy tables (table_page tables blocks endpoints 0) e p h
 
 -- where the tables were at rest: at each step, the walks of all endpoints in mixtures give what they gave before all steps, or
 -- what they give behind all, or a translation fault
-abbrev pub WalksMixed : Ram → Ram → ℕ → ℕ → ℕ → Option (List Step) → Option (List Step) → Type 0
+abbrev pub WalksMixed : Ram → Ram → ℕ → ℕ → ℕ → Past → Past → Type 0
 WalksMixed old new endpoints tables blocks past later =
     RestIn old endpoints tables blocks past → Only past later (λ h s. MixturesBetween old new endpoints tables blocks (s ∷ h) s.after)
 
@@ -82,12 +82,15 @@ WalksSameOrNone old new endpoints tables blocks =
     → is_ok (walk_at new tables blocks e address) ≡ true
     → walk_at new tables blocks e address ≡ walk_at old tables blocks e address
 
--- The same of each endpoint for itself; and pages but those of tables change only while no translation unit may hold a way there;
--- and the tables are at rest again, where nobody got another right in the place of one.
-pub record AreMixed (old new : Ram) (endpoints tables blocks : ℕ) (past later : Option (List Step)) : Type 0 where
+-- The same of each endpoint for itself. No step disturbs an endpoint in a block to which its accesses stay. Pages but those of tables
+-- change only while no translation unit may hold a way there. And the tables are at rest again, where nobody got another right in the
+-- place of one.
+pub record AreMixed (old new : Ram) (endpoints tables blocks : ℕ) (past later : Past) : Type 0 where
   pub each :
       RestIn old endpoints tables blocks past → Only past later (λ h s. MixedBetween old new endpoints tables blocks (s ∷ h) s.after)
   pub unheld :
       RestIn old endpoints tables blocks past → Only past later (λ h s. WritesUnheld old new endpoints tables blocks h s)
+  pub unshaken :
+      RestIn old endpoints tables blocks past → Only past later (λ h s. IsUnshaken old new endpoints tables blocks h s)
   pub rest :
       RestIn old endpoints tables blocks past → WalksSameOrNone old new endpoints tables blocks → RestIn new endpoints tables blocks later

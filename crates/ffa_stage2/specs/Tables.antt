@@ -91,6 +91,10 @@ abbrev pub with_pages : (ℕ → ℕ → Option Rights) → ℕ → ℕ → ℕ 
 with_pages access endpoint first end right e p =
     if e == endpoint && (nat_le first p && nat_lt p end) then right else access e p
 
+-- an endpoint's rights to the 512 pages of block k are the same in two accesses
+abbrev pub IsSameIn : (ℕ → ℕ → Option Rights) → (ℕ → ℕ → Option Rights) → ℕ → ℕ → Type 0
+IsSameIn access after e k = (j : ℕ) → j < 512 → after e (512 * k + j) ≡ access e (512 * k + j)
+
 -- what the walk of endpoint e's table answers at an address: what its access gives in RAM, and nothing elsewhere
 abbrev pub answer : Ram → (ℕ → ℕ → Option Rights) → ℕ → ℕ → Answer
 answer ram access e address =

@@ -6,11 +6,11 @@ ghost use Rattle.arrayvec.specs.ArrayVec.{array_vec_len};
 ghost use Rattle.ffa_model.specs.Ram.{page_of};
 ghost use Rattle.ffa_model.specs.Descriptor.{page_word};
 ghost use Rattle.ffa_model.specs.declared.rights.Rights.{Rights};
-ghost use Rattle.ffa_stage2.specs.Blocks.{IsOne};
+ghost use Rattle.ffa_stage2.specs.Blocks.{IsMixed, IsOne};
 ghost use Rattle.ffa_stage2.specs.Tables.{HasRoom};
 ghost use Rattle.ffa_physmem.specs.Moments.{Only};
 ghost use Rattle.ffa_stage2.specs.Orders.{IsLinkOrBlock, IsWritten};
-ghost use Rattle.ffa_stage2.specs.Places.{IsPlace, IsCut, IsFilled, IsFilling, IsOnTheWay, IsOrderly, IsReplacing, IsOneOf, Maps, Names, KeepsBeside, with_run, word_at, IsPlaceOf};
+ghost use Rattle.ffa_stage2.specs.Places.{IsPlace, IsCut, IsFilled, IsFilling, IsOnTheWay, IsOrderly, IsReplacing, IsOneOf, IsSameRun, Maps, Names, KeepsBeside, with_run, word_at, IsPlaceOf};
 
 use crate::layout::Layout;
 use crate::runs::is_uniform;
@@ -113,7 +113,7 @@ fn replace<M: PhysMem>(memory: &mut M, place: &BlockPlace, word: u64)
     ensures written { IsWritten (M.ram memory.old) (M.ram memory.new) place.now.middle.0 place.now.entry word }
     ensures steps { Only (M.past memory.old) (M.past memory.new)
         (λ h s. IsReplacing (M.ram memory.old) (M.ram memory.new) place.now h s) }
-    ensures orders { Only (M.past memory.old) (M.past memory.new) (λ h s. IsOrderly place.now h s) }
+    ensures orders { Only (M.past memory.old) (M.past memory.new) (λ h s. IsOrderly place.now ⊥ h s) }
 {
     memory.write_word(place.middle, place.entry, 0);
     memory.settle(place.endpoint, place.first, 512);
@@ -131,7 +131,10 @@ fn join<M: PhysMem>(memory: &mut M, place: &BlockPlace, within: u32, right: Opti
     ensures beside { KeepsBeside (M.ram memory.old) (M.ram memory.new) place.now }
     ensures steps { Only (M.past memory.old) (M.past memory.new)
         (λ _ s. IsCut (M.ram memory.old) s.after place.now ⊎ (s.after ≡ M.ram memory.new)) }
-    ensures orders { Only (M.past memory.old) (M.past memory.new) (λ h s. IsOrderly place.now h s) }
+    ensures orders { (rights : ℕ → Option Rights)
+        → Names (M.ram memory.old) place.now rights
+        → rights within ≡ right
+        → Only (M.past memory.old) (M.past memory.new) (λ h s. IsOrderly place.now (IsMixed rights) h s) }
 {
     if is_one(memory, place, within, right) {
         let word = leaf(place.address, right) - PAGE;
@@ -210,7 +213,9 @@ fn put_block<M: PhysMem>(memory: &mut M, place: &BlockPlace, right: Option<Right
     ensures beside { KeepsBeside (M.ram memory.old) (M.ram memory.new) place.now }
     ensures steps { Only (M.past memory.old) (M.past memory.new)
         (λ _ s. IsCut (M.ram memory.old) s.after place.now ⊎ (s.after ≡ M.ram memory.new)) }
-    ensures orders { Only (M.past memory.old) (M.past memory.new) (λ h s. IsOrderly place.now h s) }
+    ensures orders { (rights : ℕ → Option Rights)
+        → Maps (M.ram memory.old) place.now rights
+        → Only (M.past memory.old) (M.past memory.new) (λ h s. IsOrderly place.now (IsSameRun rights 0 512 right) h s) }
 {
     let word = leaf(place.address, right) - PAGE;
     let now = place.word(memory);
@@ -248,7 +253,9 @@ fn split<M: PhysMem>(
         → Maps (M.ram memory.old) place.now rights
         → Only (M.past memory.old) (M.past memory.new)
         (λ _ s. IsOnTheWay (M.ram memory.old) s.after place.now rights from to right) }
-    ensures orders { Only (M.past memory.old) (M.past memory.new) (λ h s. IsOrderly place.now h s) }
+    ensures orders { (rights : ℕ → Option Rights)
+        → Maps (M.ram memory.old) place.now rights
+        → Only (M.past memory.old) (M.past memory.new) (λ h s. IsOrderly place.now (IsSameRun rights from to right) h s) }
 {
     if leaf(place.address, right) == word + PAGE {
         return;
@@ -280,7 +287,8 @@ fn change_table<M: PhysMem>(
         (λ _ s. IsOnTheWay (M.ram memory.old) s.after place.now rights from to right) }
     ensures orders { (rights : ℕ → Option Rights)
         → Names (M.ram memory.old) place.now rights
-        → Only (M.past memory.old) (M.past memory.new) (λ h s. IsOrderly place.now h s) }
+        → IsMixed rights
+        → Only (M.past memory.old) (M.past memory.new) (λ h s. IsOrderly place.now (IsSameRun rights from to right) h s) }
 {
     fill(memory, place, from, to, right);
     join(memory, place, to - 1, right);
@@ -315,7 +323,9 @@ pub(crate) fn change<M: PhysMem>(
         → Maps (M.ram memory.old) place.now rights
         → Only (M.past memory.old) (M.past memory.new)
         (λ _ s. IsOnTheWay (M.ram memory.old) s.after place.now rights from to right) }
-    ensures orders { Only (M.past memory.old) (M.past memory.new) (λ h s. IsOrderly place.now h s) }
+    ensures orders { (rights : ℕ → Option Rights)
+        → Maps (M.ram memory.old) place.now rights
+        → Only (M.past memory.old) (M.past memory.new) (λ h s. IsOrderly place.now (IsSameRun rights from to right) h s) }
 {
     if is_whole(from, to) && right.is_some() {
         put_block(memory, place, right);

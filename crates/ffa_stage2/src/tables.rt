@@ -9,7 +9,7 @@ ghost use Rattle.ffa_physmem.specs.Moments.{Only};
 ghost use Rattle.ffa_stage2.specs.Moments.{IsBetweenFor, WalksBetween};
 ghost use Rattle.ffa_stage2.specs.Rest.{AllSettled, RestIn, WalksMixed};
 ghost use Rattle.ffa_stage2.specs.Layout.{layout_right, IsBuiltFor, BlocksWhereOneFor, WalksToFor, TablesAreFor, KeepsRestFor};
-ghost use Rattle.ffa_stage2.specs.Tables.{with_pages, with_right, WalkChanges, WalksChange, KeepsOthers, TableLaws};
+ghost use Rattle.ffa_stage2.specs.Tables.{IsSameIn, with_pages, with_right, WalkChanges, WalksChange, KeepsOthers, TableLaws};
 ghost use Rattle.ffa_stage2.specs.Orders.{IsOrdered};
 ghost use Rattle.ffa_stage2.specs.Words.{linked, rights_until};
 
@@ -62,6 +62,11 @@ pub fn set_page<M: PhysMem>(
     ensures walks { WalkChanges (M.ram memory.old) (M.ram memory.new)
         (array_vec_len layout.now.regions) layout.now.tables.0 layout.now.blocks index page.0 right }
     ensures others { KeepsOthers (M.ram memory.old) (M.ram memory.new) layout.now.tables.0 layout.now.blocks index }
+    ensures orders { (access : ℕ → ℕ → Option Rights)
+        → IsBuiltFor layout.now (M.ram memory.old) access
+        → let after = with_right access index page.0 right in
+        Only (M.past memory.old) (M.past memory.new)
+        (λ h s. IsOrdered (M.ram memory.old) layout.now.tables.0 layout.now.blocks (IsSameIn access after index) index h s) }
     ensures blocks { (access : ℕ → ℕ → Option Rights)
         → IsBuiltFor layout.now (M.ram memory.old) access
         → BlocksWhereOneFor layout.now (M.ram memory.new) (with_right access index page.0 right) }
@@ -105,9 +110,12 @@ pub fn set_pages<M: PhysMem>(
 
     // Break before make: each step is one at the place of a block in the endpoint's tables, and there a level 2 word that is
     // valid gives way to one of another size only by way of an invalid one, behind which every translation unit has
-    // forgotten the block.
-    ensures orders { Only (M.past memory.old) (M.past memory.new)
-        (λ h s. IsOrdered (M.ram memory.old) layout.now.tables.0 layout.now.blocks index h s) }
+    // forgotten the block. Where no right to a block's pages changes, each word there stays.
+    ensures orders { (access : ℕ → ℕ → Option Rights)
+        → IsBuiltFor layout.now (M.ram memory.old) access
+        → let after = with_pages access index first.0 (first.0 + count) right in
+        Only (M.past memory.old) (M.past memory.new)
+        (λ h s. IsOrdered (M.ram memory.old) layout.now.tables.0 layout.now.blocks (IsSameIn access after index) index h s) }
     ensures others_stay { Only (M.past memory.old) (M.past memory.new)
         (λ _ s. KeepsOthers (M.ram memory.old) s.after layout.now.tables.0 layout.now.blocks index) }
     ensures blocks { (access : ℕ → ℕ → Option Rights)
@@ -131,6 +139,7 @@ fn clear_tables<M: PhysMem>(memory: &mut M, layout: &Layout)
     requires size { length (M.ram memory.old).pages ≡ 512 * layout.now.blocks }
     ensures tables { TablesAreFor layout.now (M.ram memory.new) (linked layout.now.base.0 layout.now.tables.0 layout.now.blocks 0) }
     ensures rest { KeepsRestFor layout.now (M.ram memory.old) (M.ram memory.new) }
+    ensures site { (M.past memory.new).site ≡ (M.past memory.old).site }
 {
     let first = layout.tables.0;
     for page in first..first + layout.regions.len() as u32 * (2 + layout.blocks) {
@@ -146,6 +155,7 @@ fn link<M: PhysMem>(memory: &mut M, layout: &Layout, index: usize)
     ensures tables { let linked_to = linked layout.now.base.0 layout.now.tables.0 layout.now.blocks in
         TablesAreFor layout.now (M.ram memory.new) (linked_to (index + 1)) }
     ensures rest { KeepsRestFor layout.now (M.ram memory.old) (M.ram memory.new) }
+    ensures site { (M.past memory.new).site ≡ (M.past memory.old).site }
 {
     let top = layout.table_page(index, 0);
     let middle = layout.table_page(index, 1);
@@ -167,6 +177,7 @@ fn grant<M: PhysMem>(memory: &mut M, layout: &Layout, index: usize)
     requires built { IsBuiltFor layout.now (M.ram memory.old) (rights_until (layout_right layout.now) index 0) }
     ensures built { IsBuiltFor layout.now (M.ram memory.new) (rights_until (layout_right layout.now) (index + 1) 0) }
     ensures rest { KeepsRestFor layout.now (M.ram memory.old) (M.ram memory.new) }
+    ensures site { (M.past memory.new).site ≡ (M.past memory.old).site }
 {
     let end = 512 * layout.blocks;
     let mut next = 0;
@@ -186,6 +197,7 @@ fn link_all<M: PhysMem>(memory: &mut M, layout: &Layout)
     requires size { length (M.ram memory.old).pages ≡ 512 * layout.now.blocks }
     ensures built { IsBuiltFor layout.now (M.ram memory.new) (rights_until (layout_right layout.now) 0 0) }
     ensures rest { KeepsRestFor layout.now (M.ram memory.old) (M.ram memory.new) }
+    ensures site { (M.past memory.new).site ≡ (M.past memory.old).site }
 {
     clear_tables(memory, layout);
     for index in 0..layout.regions.len() {
@@ -196,6 +208,7 @@ fn link_all<M: PhysMem>(memory: &mut M, layout: &Layout)
 // Has all pages settled in the tables of each endpoint.
 fn settle_all<M: PhysMem>(memory: &mut M, layout: &Layout)
     ensures ram { M.ram memory.new ≡ M.ram memory.old }
+    ensures site { (M.past memory.new).site ≡ (M.past memory.old).site }
     ensures settled { AllSettled (array_vec_len layout.now.regions) layout.now.tables.0 layout.now.blocks (M.past memory.new) }
 {
     for index in 0..layout.regions.len() {
@@ -208,6 +221,7 @@ fn settle_all<M: PhysMem>(memory: &mut M, layout: &Layout)
 pub fn settle_tables<M: PhysMem>(memory: &mut M, layout: &Layout)
     requires { (access : ℕ → ℕ → Option Rights) × IsBuiltFor layout.now (M.ram memory.old) access }
     ensures ram { M.ram memory.new ≡ M.ram memory.old }
+    ensures site { (M.past memory.new).site ≡ (M.past memory.old).site }
     ensures at_rest { 0 < array_vec_len layout.now.regions
         → RestIn (M.ram memory.new) (array_vec_len layout.now.regions) layout.now.tables.0 layout.now.blocks (M.past memory.new) }
 {
@@ -222,6 +236,7 @@ pub fn build<M: PhysMem>(memory: &mut M, layout: &Layout)
     requires size { length (M.ram memory.old).pages ≡ 512 * layout.now.blocks }
     ensures built { IsBuiltFor layout.now (M.ram memory.new) (layout_right layout.now) }
     ensures rest { KeepsRestFor layout.now (M.ram memory.old) (M.ram memory.new) }
+    ensures site { (M.past memory.new).site ≡ (M.past memory.old).site }
     ensures walks { WalksToFor layout.now (M.ram memory.new) (layout_right layout.now) }
     ensures blocks { BlocksWhereOneFor layout.now (M.ram memory.new) (layout_right layout.now) }
     ensures at_rest { 0 < array_vec_len layout.now.regions

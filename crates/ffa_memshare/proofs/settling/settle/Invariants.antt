@@ -10,7 +10,7 @@ invariant-loop-place g l = record {
   same : g.M.PhysMem.ram l.ram ≡ g.M.PhysMem.ram l.fn.ram;
   steps : Only (g.M.PhysMem.past l.fn.ram) (g.M.PhysMem.past l.ram) (λ _ s. (s.after ≡ s.before) × (s.after ≡ g.M.PhysMem.ram l.fn.ram));
   settled : (begin end p : ℕ) (h : List Step)
-      → g.M.PhysMem.past l.ram ≡ Some h
+      → (g.M.PhysMem.past l.ram).steps ≡ Some h
       → in_ranges (g.M.PhysMem.ram l.fn.ram).base (take l.place l.ranges) p ≡ true
       → IsSettledBy begin end l.index p h;
 }

@@ -1,8 +1,8 @@
 -- SPDX-License-Identifier: MIT OR Apache-2.0
-use Rattle.std.proofs.Common.{◌≡◌, ◌+◌, sym, arith}
-use Rattle.ffa_stage2.specs.Places.{with_run}
+use Rattle.std.proofs.Common.{◌≡◌, ◌∙◌, ◌+◌, sym, arith}
+use Rattle.ffa_stage2.specs.Places.{IsSameRun, with_run}
 use Rattle.ffa_physmem.proofs.Moments.{Only-map}
-use Rattle.ffa_stage2.proofs.Moments.{way-replaced}
+use Rattle.ffa_stage2.proofs.Moments.{orderly-more, way-replaced}
 use Rattle.ffa_stage2.proofs.OneBlock.{IsMapped-rights, table-here, typed-other}
 use Rattle.ffa_stage2.proofs.PageRuns.{with_run-here}
 use Rattle.ffa_stage2.proofs.blocks.change.Goals as goal
@@ -21,7 +21,7 @@ pub returns-else-word-eq-BLOCK-clause-mapped : goal.returns-else-word-eq-BLOCK-c
 returns-else-word-eq-BLOCK-clause-mapped g c rights maps =
     let ram = g.M.PhysMem.ram c.args.memory.now in
     let x = c.args.place.now in
-    c.change_table.ensures.mapped rights (table-here ram x rights c.requires.place maps (typed-other ram x _ c.word-word.ensures c.if-word-eq-BLOCK.false))
+    c.change_table.ensures.mapped rights (table-here ram x rights c.requires.place maps (typed-other ram x _ c.word-word.ensures c.if-word-eq-BLOCK.false)).0
 
 pub returns-then-is_some-clause-steps : goal.returns-then-is_some-clause-steps
 returns-then-is_some-clause-steps g c rights maps =
@@ -34,11 +34,23 @@ pub returns-else-word-eq-BLOCK-clause-steps : goal.returns-else-word-eq-BLOCK-cl
 returns-else-word-eq-BLOCK-clause-steps g c rights maps =
     let ram = g.M.PhysMem.ram c.args.memory.now in
     let x = c.args.place.now in
-    c.change_table.ensures.steps rights (table-here ram x rights c.requires.place maps (typed-other ram x _ c.word-word.ensures c.if-word-eq-BLOCK.false))
+    c.change_table.ensures.steps rights (table-here ram x rights c.requires.place maps (typed-other ram x _ c.word-word.ensures c.if-word-eq-BLOCK.false)).0
+
+pub returns-then-is_some-clause-orders : goal.returns-then-is_some-clause-orders
+returns-then-is_some-clause-orders g c rights maps =
+    let from = c.args.from in
+    let to = c.args.to in
+    let right = c.args.right in
+    let whole : to ≡ from + 512 = c.is_whole.ensures.0 c.if-is_whole.true in
+    Only-map (c.put_block.ensures.orders rights maps) (λ h s its. orderly-more c.args.place.now h s (IsSameRun rights 0 512 right) (IsSameRun rights from to right)
+    (λ same j hj.
+    with_run-here rights 0 512 right j (omega arith) hj
+    ∙ sym (with_run-here rights from to right j (omega (arith, whole, c.requires.to)) (omega (arith, hj, whole)))
+    ∙ same j hj) its)
 
 pub returns-else-word-eq-BLOCK-clause-orders : goal.returns-else-word-eq-BLOCK-clause-orders
-returns-else-word-eq-BLOCK-clause-orders g c =
+returns-else-word-eq-BLOCK-clause-orders g c rights maps =
     let ram = g.M.PhysMem.ram c.args.memory.now in
     let x = c.args.place.now in
-    let (rights, maps) = c.requires.mapped in
-    c.change_table.ensures.orders rights (table-here ram x rights c.requires.place maps (typed-other ram x _ c.word-word.ensures c.if-word-eq-BLOCK.false))
+    let (names, mixed) = table-here ram x rights c.requires.place maps (typed-other ram x _ c.word-word.ensures c.if-word-eq-BLOCK.false) in
+    c.change_table.ensures.orders rights names mixed

@@ -4,6 +4,8 @@ use Rattle.std.proofs.lemmas.Bool.{both_ways}
 use Rattle.ffa_model.specs.Descriptor.{page_word}
 use Rattle.ffa_model.specs.declared.rights.Rights.{Rights}
 use Rattle.ffa_physmem.proofs.Moments.{Only-map, Only-none}
+use Rattle.ffa_stage2.specs.Blocks.{IsMixed}
+use Rattle.ffa_stage2.proofs.Moments.{orderly-more}
 use Rattle.ffa_stage2.proofs.OneBlock.{block-first, join-maps, KeepsBeside-of_middle}
 use Rattle.ffa_stage2.proofs.blocks.join.Goals as goal
 
@@ -49,7 +51,9 @@ pub returns-else-is_one-clause-steps : goal.returns-else-is_one-clause-steps
 returns-else-is_one-clause-steps g c = Only-none
 
 pub returns-then-is_one-clause-orders : goal.returns-then-is_one-clause-orders
-returns-then-is_one-clause-orders g c = c.replace.ensures.orders
+returns-then-is_one-clause-orders g c rights names is =
+    let (r, one) = (c.is_one.ensures.one rights names is).0 c.if-is_one.true in
+    Only-map c.replace.ensures.orders (λ h s its. orderly-more c.args.place.now h s ⊥ (IsMixed rights) (λ mixed. mixed r one) its)
 
 pub returns-else-is_one-clause-orders : goal.returns-else-is_one-clause-orders
-returns-else-is_one-clause-orders g c = Only-none
+returns-else-is_one-clause-orders g c rights names is = Only-none

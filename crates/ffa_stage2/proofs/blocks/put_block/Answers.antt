@@ -4,9 +4,10 @@ use Rattle.ffa_model.specs.Descriptor.{page_word}
 use Rattle.ffa_model.specs.declared.rights.Rights.{Rights}
 use Rattle.ffa_physmem.proofs.Moments.{Only-map, Only-none, Only-one}
 use Rattle.ffa_model.specs.Ram.{Ram}
-use Rattle.ffa_stage2.specs.Places.{word_at}
-use Rattle.ffa_stage2.proofs.Moments.{orderly-write}
+use Rattle.ffa_stage2.specs.Places.{IsSameRun, word_at}
+use Rattle.ffa_stage2.proofs.Moments.{orderly-more, orderly-write}
 use Rattle.ffa_stage2.proofs.OneBlock.{block-first, block-here, typed, join-maps, some_of, written-middle, KeepsBeside-of_middle}
+use Rattle.ffa_stage2.proofs.PageRuns.{whole-changes}
 use Rattle.ffa_stage2.proofs.blocks.put_block.Goals as goal
 
 pub overflow_sub-word : goal.overflow_sub-word
@@ -73,18 +74,18 @@ pub returns-else-now-eq-BLOCK-clause-steps : goal.returns-else-now-eq-BLOCK-clau
 returns-else-now-eq-BLOCK-clause-steps g c = Only-map c.replace.ensures.steps (λ h s its. elim its [ inl cut ↦ inl cut | inr (_, is, _) ↦ inr is ])
 
 pub returns-then-now-word-clause-orders : goal.returns-then-now-word-clause-orders
-returns-then-now-word-clause-orders g c = Only-none
+returns-then-now-word-clause-orders g c rights maps = Only-none
 
 pub returns-then-now-eq-BLOCK-clause-orders : goal.returns-then-now-eq-BLOCK-clause-orders
-returns-then-now-eq-BLOCK-clause-orders g c =
+returns-then-now-eq-BLOCK-clause-orders g c rights maps =
     let old = g.M.PhysMem.ram c.args.memory.now in
     let x = c.args.place.now in
     let place = c.requires.place in
-    let (rights, maps) = c.requires.stands in
     let (r, is) = some_of c.args.right c.requires.some in
     let block = block-here old x rights place maps (typed old x _ c.word-now.ensures c.if-now-eq-BLOCK.true) in
     let word = c.leaf-word.ensures ∙ ap (λ (q : Option Rights). page_word x.address q) is ∙ block-first x.address r place.aligned place.within in
-    Only-map (Only-one c.write_word.ensures.steps) (λ h s wrote. orderly-write x h s old _ place (omega (arith, c.leaf-word.type_inv)) wrote.before wrote.after
+    Only-map (Only-one c.write_word.ensures.steps) (λ h s wrote. orderly-write x h s old _ (IsSameRun rights 0 512 c.args.right)
+    (whole-changes old x rights c.args.right r c.word-now.result (c.leaf-word.result - 2) place maps is c.word-now.ensures (omega (arith, word)) c.if-now-word.false) place (omega (arith, c.leaf-word.type_inv)) wrote.before wrote.after
     (inr (inr (
       block.right,
       r,
@@ -93,4 +94,11 @@ returns-then-now-eq-BLOCK-clause-orders g c =
     ))))
 
 pub returns-else-now-eq-BLOCK-clause-orders : goal.returns-else-now-eq-BLOCK-clause-orders
-returns-else-now-eq-BLOCK-clause-orders g c = c.replace.ensures.orders
+returns-else-now-eq-BLOCK-clause-orders g c rights maps =
+    let old = g.M.PhysMem.ram c.args.memory.now in
+    let x = c.args.place.now in
+    let place = c.requires.place in
+    let (r, is) = some_of c.args.right c.requires.some in
+    let word = c.leaf-word.ensures ∙ ap (λ (q : Option Rights). page_word x.address q) is ∙ block-first x.address r place.aligned place.within in
+    Only-map c.replace.ensures.orders (λ h s its. orderly-more x h s ⊥ (IsSameRun rights 0 512 c.args.right)
+    (whole-changes old x rights c.args.right r c.word-now.result (c.leaf-word.result - 2) place maps is c.word-now.ensures (omega (arith, word)) c.if-now-word.false) its)

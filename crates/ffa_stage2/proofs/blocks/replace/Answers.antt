@@ -47,10 +47,10 @@ returns-clause-orders g c =
     let two : IsWritten old seen x.middle.0 x.entry 0 = subst (λ r. IsWritten old r x.middle.0 x.entry 0) (sym c.settle.ensures.ram) one in
     let place = IsPlace-kept old seen x c.requires.place (KeepsBeside-of_middle old seen x 0 c.requires.place two) in
     Only-then (Only-then
-    (Only-map (Only-one c.write_word.ensures.steps) (λ h s is. orderly-write x h s old 0 c.requires.place (omega arith) is.before is.after
+    (Only-map (Only-one c.write_word.ensures.steps) (λ h s is. orderly-write x h s old 0 ⊥ (λ none. none) c.requires.place (omega arith) is.before is.after
     (inl refl)))
     (Only-one c.settle.ensures.steps)
     (λ h s is. inl (is.after ∙ sym is.before)))
     (Only-behind c.settle.ensures.steps c.write_word-2.ensures.steps)
-    (λ h s (is, (f, earlier, at, forgot)). orderly-write x h s seen c.args.word place (omega (arith, c.ranges.word.fits)) is.before is.after
+    (λ h s (is, (f, earlier, at, forgot)). orderly-write x h s seen c.args.word ⊥ (λ none. none) place (omega (arith, c.ranges.word.fits)) is.before is.after
     (inr (inl (ap (λ (r : Ram). word_at r x) (is.before ∙ c.settle.ensures.ram) ∙ one.here, (f, earlier, at, forgot.settled), c.requires.word))))

@@ -2,9 +2,9 @@
 use Rattle.std.proofs.Common.{◌≡◌, ◌∙◌, ℕ, ◌%◌, refl, ap, sym, arith, inl, inr}
 use Rattle.ffa_physmem.proofs.Moments.{Only-map, Only-none, Only-then}
 use Rattle.ffa_stage2.proofs.OneBlock.{block-here, block-fits, typed, KeepsBeside-of_middle, KeepsBeside-then, IsPlace-kept}
-use Rattle.ffa_stage2.proofs.Moments.{apart-same, apart-filled, cut-then, orderly-apart, way-filling, way-replaced}
-use Rattle.ffa_stage2.specs.Places.{word_at}
-use Rattle.ffa_stage2.proofs.PageRuns.{split-kept, split-maps, three-filled}
+use Rattle.ffa_stage2.proofs.Moments.{apart-same, apart-filled, cut-then, orderly-apart, orderly-more, way-filling, way-replaced}
+use Rattle.ffa_stage2.specs.Places.{IsSameRun, word_at}
+use Rattle.ffa_stage2.proofs.PageRuns.{split-changes, split-kept, split-maps, three-filled}
 use Rattle.ffa_stage2.proofs.blocks.split.Goals as goal
 
 pub returns-then-leaf-word-clause-mapped : goal.returns-then-leaf-word-clause-mapped
@@ -83,10 +83,10 @@ returns-clause-steps g c rights maps =
     (elim its [ inl cut ↦ inl (cut-then old _ s.after x (apart-filled old high _ x _ _ _ place third c.fill.ensures.filled).beside cut) | inr (_, is, _) ↦ inr is ]))
 
 pub returns-then-leaf-word-clause-orders : goal.returns-then-leaf-word-clause-orders
-returns-then-leaf-word-clause-orders g c = Only-none
+returns-then-leaf-word-clause-orders g c rights maps = Only-none
 
 pub returns-clause-orders : goal.returns-clause-orders
-returns-clause-orders g c =
+returns-clause-orders g c rights maps =
     let old = g.M.PhysMem.ram c.args.memory.now in
     let low = g.M.PhysMem.ram c.keep.new.memory in
     let high = g.M.PhysMem.ram c.keep-2.new.memory in
@@ -95,9 +95,14 @@ returns-clause-orders g c =
     let first = apart-same old x place in
     let second = apart-filled old old low x _ _ _ place first c.keep.ensures.filled in
     let third = apart-filled old low high x _ _ _ place second c.keep-2.ensures.filled in
-    let typed : word_at old x % 4 ≡ 1 = ap (λ (w : ℕ). w % 4) (sym c.requires.word) ∙ c.requires.block in
+    let its : word_at old x % 4 ≡ 1 = ap (λ (w : ℕ). w % 4) (sym c.requires.word) ∙ c.requires.block in
+    let Same = IsSameRun rights c.args.from c.args.to c.args.right in
+    let changes : Same → ⊥ =
+    split-changes old x rights c.args.from c.args.to c.args.right c.args.word _ place (block-here old x rights place maps its) c.requires.word c.leaf.ensures c.if-leaf-word.false
+    c.requires.from c.requires.to
+    in
     Only-then (Only-then (Only-then
-    (Only-map c.keep.ensures.orders (λ h s one. orderly-apart x h s old old c.args.from 0 _ place first typed (omega (arith, c.requires.from, c.requires.to)) one))
-    c.keep-2.ensures.orders (λ h s one. orderly-apart x h s old low 512 c.args.to _ place second typed (omega arith) one))
-    c.fill.ensures.orders (λ h s one. orderly-apart x h s old high c.args.to c.args.from _ place third typed c.requires.to one))
-    c.replace.ensures.orders (λ h s is. is)
+    (Only-map c.keep.ensures.orders (λ h s one. orderly-apart x h s old old c.args.from 0 _ Same place first its (omega (arith, c.requires.from, c.requires.to)) changes one))
+    c.keep-2.ensures.orders (λ h s one. orderly-apart x h s old low 512 c.args.to _ Same place second its (omega arith) changes one))
+    c.fill.ensures.orders (λ h s one. orderly-apart x h s old high c.args.to c.args.from _ Same place third its c.requires.to changes one))
+    c.replace.ensures.orders (λ h s is. orderly-more x h s ⊥ Same changes is)

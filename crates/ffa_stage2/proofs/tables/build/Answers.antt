@@ -24,7 +24,7 @@ returns-clause-rest g c =
 pub returns-clause-at_rest : goal.returns-clause-at_rest
 returns-clause-at_rest g c some =
     let l = c.args.layout.now in
-    rest-settled (g.M.PhysMem.ram c.settle_all.new.memory) (array_vec_len l.regions) l.tables.0 l.blocks (layout_right l) _ (returns-clause-built g c) some (g.met.M.PhysMem.in_turn c.settle_all.new.memory) c.settle_all.ensures.settled
+    rest-settled (g.M.PhysMem.ram c.settle_all.new.memory) (array_vec_len l.regions) l.tables.0 l.blocks (layout_right l) (g.M.PhysMem.past c.settle_all.new.memory) (returns-clause-built g c) some (g.met.M.PhysMem.in_turn c.settle_all.new.memory) c.settle_all.ensures.settled
 
 pub returns-clause-walks : goal.returns-clause-walks
 returns-clause-walks g c e a he ha = walk-built (g.M.PhysMem.ram c.settle_all.new.memory) _ _ _ _ e a (returns-clause-built g c) he ha

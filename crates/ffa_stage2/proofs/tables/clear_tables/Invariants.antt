@@ -10,4 +10,5 @@ invariant-loop-page g l = record {
   size : length (g.M.PhysMem.ram l.memory).pages ≡ length (g.M.PhysMem.ram l.fn.memory).pages;
   zeros : (q : ℕ) → l.layout.tables.0 ≤ q → q < l.page → page_of (g.M.PhysMem.ram l.memory) q ≡ replicate 4096 0;
   rest : (q : ℕ) → ((q < l.layout.tables.0) ⊎ (l.page ≤ q)) → page_of (g.M.PhysMem.ram l.memory) q ≡ page_of (g.M.PhysMem.ram l.fn.memory) q;
+  site : (g.M.PhysMem.past l.memory).site ≡ (g.M.PhysMem.past l.fn.memory).site;
 }

@@ -27,6 +27,7 @@ loop-next-preserved-then-is_some g c =
           (λ q low high. c.right_until-until.ensures.same q low high ∙ sym c.right-right.ensures) e p);
       rest = KeepsRest-then (g.M.PhysMem.ram c.args.memory.now) (g.M.PhysMem.ram c.loop-next.memory) (g.M.PhysMem.ram c.set_pages.new.memory) (array_vec_len l.regions) l.tables.0 l.blocks
           i.rest (KeepsRest-of_others _ _ _ _ _ c.args.index c.set_pages.ensures.others c.requires.index);
+      site = c.set_pages.ensures.others_stay.site ∙ i.site;
     }
 
 pub loop-next-preserved : goal.loop-next-preserved
@@ -42,6 +43,7 @@ loop-next-preserved g c =
           (λ e p _ _. rights_until-skip (layout_right l) c.args.index c.loop-next.next c.right_until-until.result le
           (λ q low high. until.same q low high ∙ sym c.right-right.ensures ∙ none) e p);
       rest = i.rest;
+      site = i.site;
     }
 
 pub returns-clause-built : goal.returns-clause-built

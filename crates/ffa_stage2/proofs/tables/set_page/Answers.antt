@@ -1,9 +1,11 @@
 -- SPDX-License-Identifier: MIT OR Apache-2.0
+use Rattle.std.proofs.Common.{◌∙◌, ◌+◌, ◌*◌}
 use Rattle.arrayvec.specs.ArrayVec.{array_vec_len}
 use Rattle.ffa_physmem.proofs.Moments.{Only-map}
-use Rattle.ffa_stage2.proofs.Moments.{between-same}
+use Rattle.ffa_stage2.proofs.Moments.{between-same, ordered-more}
 use Rattle.ffa_stage2.proofs.Rights.{built-same, with_pages-one}
 use Rattle.ffa_stage2.proofs.Changes.{blocks-built}
+use Rattle.ffa_stage2.specs.Tables.{IsSameIn, with_pages, with_right}
 use Rattle.ffa_stage2.proofs.tables.set_page.Goals as goal
 
 pub returns-clause-built : goal.returns-clause-built
@@ -19,3 +21,14 @@ pub returns-clause-steps : goal.returns-clause-steps
 returns-clause-steps g c access built =
     Only-map (c.set_pages.ensures.steps access built)
     (λ h s between. between-same s.after _ _ _ access _ _ between (λ e p. with_pages-one access c.args.index c.args.page.0 c.args.right e p))
+
+pub returns-clause-orders : goal.returns-clause-orders
+returns-clause-orders g c access built =
+    let l = c.args.layout.now in
+    let e = c.args.index in
+    let page = c.args.page.0 in
+    let right = c.args.right in
+    Only-map (c.set_pages.ensures.orders access built)
+    (λ h s ordered. ordered-more (g.M.PhysMem.ram c.args.memory.now) l.tables.0 l.blocks e
+    (IsSameIn access (with_pages access e page (page + 1) right) e) (IsSameIn access (with_right access e page right) e) h s
+    (λ k _ same j hj. with_pages-one access e page right e (512 * k + j) ∙ same j hj) ordered)

@@ -1,11 +1,12 @@
 -- SPDX-License-Identifier: MIT OR Apache-2.0
 use Rattle.std.proofs.Common.{◌≡◌, ◌∷◌, ◌+◌, ◌*◌, ◌/◌, ◌%◌, ◌-◌, ◌<◌, arith, subst, sym}
 use Rattle.arrayvec.specs.ArrayVec.{array_vec_len}
-use Rattle.ffa_stage2.specs.Tables.{IsBuilt, rights_of_block, with_pages}
+use Rattle.ffa_stage2.specs.Tables.{IsBuilt, IsSameIn, rights_of_block, with_pages}
+use Rattle.ffa_stage2.specs.Places.{IsSameRun}
 use Rattle.ffa_stage2.proofs.Rights.{built-same, with_pages-none}
 use Rattle.ffa_stage2.proofs.Changes.{place-of, maps-of, others-beside, blocks-built}
 use Rattle.ffa_physmem.proofs.Moments.{Only-both, Only-map, Only-none, Only-then}
-use Rattle.ffa_stage2.proofs.Moments.{between-block, ordered-of, place-of-kept, walks-between}
+use Rattle.ffa_stage2.proofs.Moments.{between-block, ordered-of, orderly-more, place-of-kept, same-run, walks-between}
 use Rattle.ffa_stage2.proofs.Mixtures.{mixtures-between}
 use Rattle.ffa_stage2.proofs.Rest.{mixed-along, one-changes, pages-moment}
 use Rattle.ffa_stage2.proofs.RunChanges.{KeepsOthers-same, KeepsOthers-then, runs-built, runs-walk}
@@ -20,7 +21,7 @@ loop-next-init g c =
       built = λ access h. built-same (g.M.PhysMem.ram c.args.memory.now) (array_vec_len l.regions) l.tables.0 l.blocks access _ h (λ e p _ _. with_pages-none access c.args.index c.args.first.0 c.args.right e p);
       others = KeepsOthers-same _ _ _ _;
       steps = λ access h. Only-none;
-      orders = Only-none;
+      orders = λ access h. Only-none;
       others_stay = Only-none;
     }
 
@@ -71,10 +72,21 @@ loop-next-preserved g c =
           (λ hist s way. between-block (g.M.PhysMem.ram c.loop-next.memory) s.after _ _ _ c.args.index k c.args.first.0 c.loop-next.next c.min-to.result (c.args.first.0 + c.args.count)
           (c.loop-next.next % 512) (c.min-to.result - 512 * k) access c.args.right _ built c.requires.index hk c.of-place.ensures way
           i.from (omega (arith, c.min-to.ensures, c.loop-next-test.true)) (omega (arith, c.min-to.ensures)) (omega arith) (omega (arith, c.min-to.ensures, c.loop-next-test.true)) (omega (arith, c.min-to.ensures)));
-      orders = Only-then i.orders c.change.ensures.orders
-          (λ h s its. ordered-of (g.M.PhysMem.ram c.args.memory.now) c.args.layout.now.tables.0 c.args.layout.now.blocks c.args.index k c.of-place.result hk
+      orders = λ access h.
+          let built = i.built access h in
+          let end = c.args.first.0 + c.args.count in
+          let rights = with_pages access c.args.index c.args.first.0 c.loop-next.next c.args.right c.args.index in
+          let Same = IsSameIn access (with_pages access c.args.index c.args.first.0 end c.args.right) c.args.index in
+          Only-then (i.orders access h)
+          (c.change.ensures.orders (rights_of_block rights k)
+          (maps-of (g.M.PhysMem.ram c.loop-next.memory) _ _ c.args.index k _ rights c.of-place.ensures (built.each c.args.index k c.requires.index hk)))
+          (λ hist s its. ordered-of (g.M.PhysMem.ram c.args.memory.now) c.args.layout.now.tables.0 c.args.layout.now.blocks c.args.index k c.of-place.result Same hk
           (place-of-kept (g.M.PhysMem.ram c.loop-next.memory) (g.M.PhysMem.ram c.args.memory.now) c.args.layout.now.tables.0 c.args.layout.now.blocks c.args.index k c.of-place.result (sym i.others.base) c.of-place.ensures)
-          h s its);
+          hist s
+          (orderly-more c.of-place.result hist s (IsSameRun (rights_of_block rights k) (c.loop-next.next % 512) (c.min-to.result - 512 * k) c.args.right) (Same k)
+          (same-run access c.args.index k c.args.first.0 c.loop-next.next c.min-to.result end (c.loop-next.next % 512) (c.min-to.result - 512 * k) c.args.right
+          i.from (omega (arith, c.min-to.ensures, c.loop-next-test.true)) (omega (arith, c.min-to.ensures)) (omega arith) (omega (arith, c.min-to.ensures, c.loop-next-test.true)))
+          its));
       others_stay =
           let (access, h) = c.requires.built in
           let built = i.built access h in
@@ -126,7 +138,7 @@ returns-clause-each_walk g c =
     (λ hist s (between, others). walks-between old new s.after _ _ _ access _ h (returns-clause-built g c access h) between others.base others.size i.others.base i.others.size)
 
 pub returns-clause-orders : goal.returns-clause-orders
-returns-clause-orders g c = c.loop-next.invariant.orders
+returns-clause-orders g c access h = c.loop-next.invariant.orders access h
 
 pub returns-clause-mixtures : goal.returns-clause-mixtures
 returns-clause-mixtures g c rest =
@@ -137,6 +149,6 @@ returns-clause-mixtures g c rest =
     let new = g.M.PhysMem.ram c.loop-next.memory in
     let is = returns-clause-built g c access h in
     Only-map
-    (mixed-along old new _ _ _ _ _ rest (g.met.M.PhysMem.in_turn c.loop-next.memory) (Only-map (Only-both (Only-both (i.steps access h) i.others_stay) i.orders)
+    (mixed-along old new _ _ _ _ _ rest (g.met.M.PhysMem.in_turn c.loop-next.memory) (Only-map (Only-both (Only-both (i.steps access h) i.others_stay) (i.orders access h))
     (λ hist s ((between, others), ordered). pages-moment old new _ _ _ access _ h is i.others.base c.args.index c.requires.index _ hist s between others.base ordered)))
     (λ hist s its. mixtures-between old new s.after _ _ _ (s ∷ hist) (one-changes old new _ _ _ c.args.index _ _ c.args.right (returns-clause-walks g c)) its)

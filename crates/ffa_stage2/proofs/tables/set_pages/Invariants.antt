@@ -5,7 +5,7 @@ use Rattle.arrayvec.specs.ArrayVec.{array_vec_len}
 use Rattle.ffa_physmem.specs.Moments.{Only}
 use Rattle.ffa_stage2.specs.Moments.{IsBetween}
 use Rattle.ffa_stage2.specs.Orders.{IsOrdered}
-use Rattle.ffa_stage2.specs.Tables.{IsBuilt, KeepsOthers, with_pages}
+use Rattle.ffa_stage2.specs.Tables.{IsBuilt, IsSameIn, KeepsOthers, with_pages}
 use Rattle.ffa_stage2.proofs.tables.set_pages.Given as goal
 
 -- the pages so far
@@ -20,7 +20,10 @@ invariant-loop-next g l = record {
   steps : (access : ℕ → ℕ → Option Rights)
       → IsBuilt (g.M.PhysMem.ram l.fn.memory) (array_vec_len l.layout.regions) l.layout.tables.0 l.layout.blocks access
       → Only (g.M.PhysMem.past l.fn.memory) (g.M.PhysMem.past l.memory) (λ _ s. IsBetween s.after (array_vec_len l.layout.regions) l.layout.tables.0 l.layout.blocks access (with_pages access l.index l.fn.first.0 l.end l.right));
-  orders : Only (g.M.PhysMem.past l.fn.memory) (g.M.PhysMem.past l.memory) (λ h s. IsOrdered (g.M.PhysMem.ram l.fn.memory) l.layout.tables.0 l.layout.blocks l.index h s);
+  orders : (access : ℕ → ℕ → Option Rights)
+      → IsBuilt (g.M.PhysMem.ram l.fn.memory) (array_vec_len l.layout.regions) l.layout.tables.0 l.layout.blocks access
+      → Only (g.M.PhysMem.past l.fn.memory) (g.M.PhysMem.past l.memory) (λ h s. IsOrdered (g.M.PhysMem.ram l.fn.memory) l.layout.tables.0 l.layout.blocks
+      (IsSameIn access (with_pages access l.index l.fn.first.0 l.end l.right) l.index) l.index h s);
   others_stay : Only (g.M.PhysMem.past l.fn.memory) (g.M.PhysMem.past l.memory) (λ _ s. KeepsOthers (g.M.PhysMem.ram l.fn.memory) s.after l.layout.tables.0 l.layout.blocks l.index);
 }
 

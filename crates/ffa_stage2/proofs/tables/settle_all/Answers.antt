@@ -23,4 +23,5 @@ loop-index-preserved g c =
             | inl same ↦ subst (λ f. IsSettledBy begin end f p (s ∷ earlier)) (sym same) (settled-here ram begin end index 0 (2 ^ 20) p s earlier its (to-run 0 (2 ^ 20) p (omega arith) (omega (arith, hp))))
             | inr other ↦ settled-still ram begin end e index 0 (2 ^ 20) p s earlier its (i.settled earlier was e p (omega (arith, he, other)) hp)
           ]);
+      site = c.settle.ensures.steps.site ∙ i.site;
     }

@@ -9,6 +9,6 @@ pub returns-clause-at_rest : goal.returns-clause-at_rest
 returns-clause-at_rest g c some =
     let l = c.args.layout.now in
     let (access, built) = c.requires in
-    rest-settled (g.M.PhysMem.ram c.settle_all.new.memory) (array_vec_len l.regions) l.tables.0 l.blocks access _
+    rest-settled (g.M.PhysMem.ram c.settle_all.new.memory) (array_vec_len l.regions) l.tables.0 l.blocks access (g.M.PhysMem.past c.settle_all.new.memory)
     (subst (λ ram. IsBuiltFor l ram access) (sym c.settle_all.ensures.ram) built)
     some (g.met.M.PhysMem.in_turn c.settle_all.new.memory) c.settle_all.ensures.settled

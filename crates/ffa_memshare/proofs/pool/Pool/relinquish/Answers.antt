@@ -56,7 +56,7 @@ pub returns-in_err-found-clause-steps : goal.returns-in_err-found-clause-steps
 returns-in_err-found-clause-steps g c = Only-none
 
 pub returns-in_err-found-clause-ended : goal.returns-in_err-found-clause-ended
-returns-in_err-found-clause-ended g c = nothing-ends _ _ _ _ _ _ refl
+returns-in_err-found-clause-ended g c = nothing-ends _ _ _ _ _ (g.M.PhysMem.past c.args.ram.now) refl
 
 pub change_pages-requires-clause-placed : goal.change_pages-requires-clause-placed
 change_pages-requires-clause-placed g c =

@@ -88,4 +88,4 @@ returns-clause-ended g c rx_apart =
     c.hand_over-size.ensures.ended (rx_apart c.in_ok-found.found.slot it.handle (view_of it) c.at-open.ensures.value)
 
 pub returns-in_err-found-clause-ended : goal.returns-in_err-found-clause-ended
-returns-in_err-found-clause-ended g c rx_apart = nothing-ends _ _ _ _ _ _ refl
+returns-in_err-found-clause-ended g c rx_apart = nothing-ends _ _ _ _ _ (g.M.PhysMem.past c.args.ram.now) refl

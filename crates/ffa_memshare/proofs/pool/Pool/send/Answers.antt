@@ -38,4 +38,4 @@ pub returns-in_err-slot-clause-steps : goal.returns-in_err-slot-clause-steps
 returns-in_err-slot-clause-steps g c = Only-none
 
 pub returns-in_err-slot-clause-ended : goal.returns-in_err-slot-clause-ended
-returns-in_err-slot-clause-ended g c = nothing-ends _ _ _ _ _ _ refl
+returns-in_err-slot-clause-ended g c = nothing-ends _ _ _ _ _ (g.M.PhysMem.past c.args.ram.now) refl

@@ -64,4 +64,4 @@ returns-clause-ended g c rx_apart =
     let (access, built) = c.requires.held.room.built in
     responded-ends (memory_of (g.M.PhysMem.ram c.args.ram.now) l c.args.pages.now) (g.M.PhysMem.ram c.change_pages.new.ram) (g.M.PhysMem.ram c.deliver.new.ram)
     c.place-index.result (in_ranges l.base.0 c.args.self.now.ranges) (λ p. Some c.args.found.now.right) _ rx_apart access built moved.built moved.base c.deliver.ensures.beside
-    (λ p at. refl) _
+    (λ p at. refl) (g.M.PhysMem.past c.deliver.new.ram)
