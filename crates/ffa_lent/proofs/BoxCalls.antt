@@ -60,13 +60,13 @@ module _ (Y : RattleType) (A : Al) {M : Type 1} {𝓤 : Ura M} {𝓛 : Logic �
       join t $ use1 𝓛 (raw pre) (id⊢ 𝓤 pre) $ s)
 
   pub joins_out : K → Soaks G → (a : A.row.Denot) (p : Ptr) (x : Y.Denot) (hand : List Val) (v : Val)
-      → let B = Joined Y A 𝓛 memory run in ((r : B.Denot) → r.value ≡ x → Seq K 𝓛 (‵ (B.own_val r (v ∷ [])) ∷ Γ) G)
+      → let B = Joined Y A 𝓛 memory run in ((r : B.Denot) → r.value ≡ x → r.alloc ≡ a → Seq K 𝓛 (‵ (B.own_val r (v ∷ [])) ∷ Γ) G)
       → Seq K 𝓛 (raw ((Joins Y A 𝓛 memory run).post (at_joins Y A 𝓛 memory run a p x hand) v) ∷ Γ) G
   joins_out t soaks a p x hand v k =
       let B = Joined Y A 𝓛 memory run in let T = joins.ended Y A.row A.g A.d A.drops in let args : Args T.signature ([], ([], tt)) = (a, (p, tt)) in
       use1 𝓛 (later (some (λ (r : B.Denot). (Tokens 𝓛 ⊛ ‵ (B.own_val r (v ∷ [])))
       ⊛ some (λ (ws : Lasts T ([], ([], tt)) args). ‵ (lasts T ([], ([], tt)) args ws) ⊛ raw (fact 𝓤 (r.value ≡ x)) ⊛ raw (fact 𝓤 (box_allocator r ≡ a)))))) (id⊢ 𝓤 _) $
-      await t soaks $ pick t (λ r. split t $ split t $ drop t $ move t (1 ∷ []) $ pick t (λ ws. split t $ drop t $ split t $ heard t _ (λ same. drop t $ k r same)))
+      await t soaks $ pick t (λ r. split t $ split t $ drop t $ move t (1 ∷ []) $ pick t (λ ws. split t $ drop t $ split t $ heard t _ (λ same. heard t _ (λ from. k r same from))))
 
   pub parts_in : K → [] ⊑ Y.lives → [] ⊑ A.row.lives → (d : Dict) → let B = Boxed Y A 𝓛 memory run in (owner : B.Denot) (word : List Val)
       → Step K 𝓛 (raw ((Parts Y A 𝓛 memory run d).pre (at_parts Y A 𝓛 memory run d owner word)) ∷ Γ) G (‵ (B.own_val owner word) ∷ Γ) G

@@ -2,7 +2,7 @@
 -- The functions of a struct that is a pointer to a box, or null, meet their contracts, whatever is in the box.
 -- Beside the pointer stands the handle of the box's allocator. A function's code is written here as the compiler makes it, so a proof by
 -- computation finds it to be the same. Assumes `Logic`.
-use Rattle.ffa_lent.proofs.Steps.{◌≡◌, ◌⊑◌, ℕ, List, [], ◌∷◌, ◌++◌, Option, None, Some, IsSome, refl, sym, ap, ◌∙◌, lit<, ftrue, Val, vptr, vstruct, of_list, fact, tables, WpFn, proved, proved_at, ‵, raw, ◌⊛◌, prop, at_ret, ◌$◌, ◌∵◌, !, qed, done, move, keep, use1, drop, split, fsplit, fjoin, join, rewrite, regoal, suffices, group, enter, of_opd, lit, stop, fld, no_more, and_then, first, blocks, exec, returns, alloc_all, pass_all, free_all, look_at, get, get_in, sets, lands_as, lands_last, env, agg, sub, whole, yes, Ptr, RawPtr, block_ptr, null_ptr, ptr_val, RattleType, owns, plain, nothing, owned, makes, peeks, heard, Is, shows, calls_at, calls_at_last, framed, Stays, walk_of, says, stay_dropped, Goes-blank, ends_at, handle_tells, sem, Al, flft, full_share, id⊢, bare, lone, named, later, some, await, pick, Fml, GName, fsep, SProp, ent, sep, MachineTables, Running, Last, left, no, cell_at, mem, part_at, arg, layout, param, Laws, arg_laws, MutRef, mut_vals, mut_Tells, mut_ref_to, opens, RawPtr-plain, field_plain, Plains, Shape, Struct, Struct-Makes, as_fields, Meets, Goes-spent_ref, Body, Callee, Dict, Fn, Sym, Ty, addr_of, aggregate, assign, block, call, copy, deref, erased, field, int, local, mut, place, return, rv_opd, seq, tcons, tnil, ty_ptr, ty_ref, ty_struct, value_local, w64, WT, has_ty, Closed, Ura, through, sets_last, Goal, Item, Step, fpack, frame, fsplit3, step, Logic, look_in, addr, load}
+use Rattle.ffa_lent.proofs.Steps.{◌≡◌, ◌⊑◌, ℕ, List, [], ◌∷◌, ◌++◌, Option, None, Some, IsSome, refl, sym, ap, ◌∙◌, lit<, ftrue, Val, vptr, vstruct, of_list, fact, tables, WpFn, proved, proved_at, ‵, raw, ◌⊛◌, prop, at_ret, ◌$◌, ◌∵◌, !, qed, done, move, keep, use1, drop, split, fsplit, fjoin, join, rewrite, regoal, suffices, group, enter, of_opd, lit, stop, fld, no_more, and_then, first, blocks, exec, returns, alloc_all, pass_all, free_all, look_at, get, get_in, sets, lands_as, lands_last, env, agg, sub, whole, yes, Ptr, RawPtr, block_ptr, null_ptr, ptr_val, RattleType, owns, plain, nothing, owned, peeks, heard, Is, shows, calls_at, calls_at_last, framed, Stays, walk_of, says, stay_dropped, Goes-blank, ends_at, handle_tells, sem, Al, flft, full_share, id⊢, bare, lone, named, later, some, await, pick, Fml, GName, fsep, SProp, ent, sep, MachineTables, Running, Last, left, no, cell_at, mem, part_at, arg, layout, param, Laws, arg_laws, MutRef, mut_vals, mut_Tells, mut_ref_to, opens, RawPtr-plain, Shape, Struct, Struct-Makes, as_fields, Seq, fact_use, given, learn, guard_i, Pure, shadow, shows_shadow, makes_shadow, Meets, Goes-spent_ref, Body, Callee, Dict, Fn, Sym, Ty, addr_of, aggregate, assign, block, call, copy, deref, erased, field, int, local, mut, place, return, rv_opd, seq, tcons, tnil, ty_ptr, ty_ref, ty_struct, value_local, w64, WT, has_ty, Closed, Ura, through, sets_last, Goal, Item, Step, fpack, frame, fsplit3, step, Logic, look_in, addr, load}
 use Rattle.std.specs.declared.alloc.Allocator.{Ghosts}
 use Rattle.ffa_lent.proofs.BoxCalls.{Parts, at_parts, parts_in, parts_out, Joins, at_joins, joins_in, joins_out}
 use Rattle.ffa_lent.proofs.Owners.{as_handle, slot_out}
@@ -14,8 +14,6 @@ use Rattle.std.specs.contracts.boxed.Box.{the_row as Box}
 use denote.Memory.{part_of}
 use denote.Follow.{Part, follows, lends_Part}
 use denote.Param.Mute.{blank}
-use denote.Struct.Declared.{Declared, fields}
-use denote.Struct.Declared as Declared
 use denote.Struct.Field.{Field, RawPtr-field, rows}
 use denote.Struct.Tuple.{tuple_type}
 use denote.Struct.Values.{intos}
@@ -40,33 +38,40 @@ Unseen R = (x : R.Denot) → Last (R.exit yes) x × ((w : Last (R.exit yes) x) �
 
 -- an allocator whose handle is one machine value
 pub record Handle : Type 2 where
-  pub D : Declared
-  pub plains : Plains (fields D)
-  pub laws : Laws (Declared.row D)
-  pub lasts : [] ⊑ (Declared.row D).lives
-  pub ghosts : Ghosts D.D
+  pub A : RattleType
+  pub laws : Laws A
+  pub lasts : [] ⊑ A.lives
+  pub pure : (a : A.Denot) (vs : List Val) → Pure (A.own_val a vs)
+  -- as a field of a struct
+  pub R : RattleType
+  pub into : A.Denot → R.Denot
+  pub into_one : (a b : A.Denot) → into a ≡ into b → a ≡ b
+  pub plain : (a : R.Denot) (vs : List Val) → Pure (R.own_val a vs)
+  pub ghosts : Ghosts A.Denot
   pub dict : Dict
   pub drops : Dict
   pub hand : Val
-  pub fits : Good (layout (Declared.row D)) hand
-  pub is : (a : D.D) → Is (Declared.row D) a (hand ∷ [])
-  pub tells : (a : D.D) (vs : List Val) → Is (Declared.row D) a vs → vs ≡ hand ∷ []
-  pub unseen : Unseen (Declared.row D)
+  pub fits : Good (layout A) hand
+  pub is : (a : A.Denot) → Is A a (hand ∷ [])
+  pub is_field : (a : A.Denot) → Is R (into a) (hand ∷ [])
+  pub tells : (a : A.Denot) (vs : List Val) → Is A a vs → vs ≡ hand ∷ []
+  pub unseen : Unseen A
 
 module _ (N : Handle) where
-  abbrev pub A : RattleType
-  A = Declared.row N.D
-
   abbrev pub allocator : Al
-  allocator = record { row = argument A; laws = arg_laws (bare (layout A)) no A N.laws (raw-raw (layout A)); g = N.ghosts; d = N.dict; drops = N.drops }
+  allocator = record { row = argument N.A; laws = arg_laws (bare (layout N.A)) no N.A N.laws (raw-raw (layout N.A)); g = N.ghosts; d = N.dict; drops = N.drops }
 
   abbrev pub parts : List Field
-  parts = RawPtr-field ∷ Declared.field N.D ∷ []
+  parts = RawPtr-field ∷ record { row = N.R; Value = N.A.Denot; into = N.into; into_one = N.into_one } ∷ []
+
+  -- what the right to give memory back says
+  abbrev pub Says : N.A.Denot → RattleType → Ptr → Type 0
+  Says a Y p = shadow (N.ghosts.dealloc_token a (bare (lone Y.mir)) p)
 
   abbrev pub shape_of : Sym → Shape
   shape_of name = record { name = name; args = []; types = []; fields = rows parts }
 
-  abbrev pub fields_own : Sym → Ptr → N.D.D → List Val → Fml
+  abbrev pub fields_own : Sym → Ptr → N.A.Denot → List Val → Fml
   fields_own name p a = (Struct (shape_of name)).own_val (intos parts (p, (a, tt)))
 
   abbrev pub word : Ptr → Val
@@ -74,16 +79,16 @@ module _ (N : Handle) where
 
   -- such a struct of this name
   abbrev pub laid : Sym → Ty
-  laid name = ty_struct name (tcons ty_ptr (tcons (layout A) tnil))
+  laid name = ty_struct name (tcons ty_ptr (tcons (layout N.A) tnil))
 
 pub record Pointer (N : Handle) : Type 2 where
   -- the struct, and the fields of a value
   pub name : Sym
   pub S : RattleType
   pub V : Type 0
-  pub out : S.Denot → Ptr × (N.D.D × Option V)
-  pub into : Ptr × (N.D.D × Option V) → S.Denot
-  pub back : (x : Ptr × (N.D.D × Option V)) → out (into x) ≡ x
+  pub out : S.Denot → Ptr × (N.A.Denot × Option V)
+  pub into : Ptr × (N.A.Denot × Option V) → S.Denot
+  pub back : (x : Ptr × (N.A.Denot × Option V)) → out (into x) ≡ x
   -- what is in the box, and what the struct's value says of it
   pub Y : RattleType
   pub laws : Laws Y
@@ -93,20 +98,30 @@ pub record Pointer (N : Handle) : Type 2 where
   pub new : Y.Denot → Option V
   pub same : Option V → Y.Denot → Type 0
   pub has : (v : Option V) → IsSome v → IsSome (inner v)
+  -- what closing a box promises, and opening one
+  pub Shut : (Box Y N.A N.ghosts).Denot → S.Denot → Type 0
+  pub shut : (b : (Box Y N.A N.ghosts).Denot) (p : Ptr) → Says N b.alloc Y p → Shut b (into (p, (b.alloc, new b.value)))
+  pub Opened : S.Denot → (Box Y N.A N.ghosts).Denot → Type 0
+  pub opened : (d : S.Denot) (b : (Box Y N.A N.ghosts).Denot) (x : Y.Denot) → IsSome (out d).1.1 → inner (out d).1.1 ≡ Some x → Says N (out d).1.0 Y (out d).0 → b.value ≡ x → b.alloc ≡ (out d).1.0 → Opened d b
   pub right : (v : Option V) (x : Y.Denot) → IsSome v → inner v ≡ Some x → same v x
   pub again : {M : Type 1} {𝓤 : Ura M} (𝓛 : Logic 𝓤) (holds : Ty → Ptr → Fml) (p : Ptr) (x : Y.Denot) → ent 𝓤 (sem 𝓛 (box_owns holds Y p x)) (sem 𝓛 (slot_owns holds Y p (inner (new x))))
   -- what holds by computation
   pub mir : S.mir ≡ laid N name ∷ []
   pub tells : (d : S.Denot) (vs : List Val) → Is S d vs → vs ≡ word N (out d).0 ∷ []
   pub unseen : Unseen S
-  pub spent : Unseen (Box Y (A N) N.ghosts)
+  pub spent : Unseen (Box Y N.A N.ghosts)
   pub lasts : [] ⊑ Y.lives
   pub behind : (holds : Ty → Ptr → Fml) (p : Ptr) (x : Y.Denot) → box_owns holds (param 0 (argument Y)) p x ≡ box_owns holds Y p x
   pub own : (d : S.Denot) (vs : List Val) → S.own_val d vs ≡ fsep (fields_own N name (out d).0 (out d).1.0 vs) (slot_owns (N.ghosts.dealloc_token (out d).1.0) Y (out d).0 (inner (out d).1.1))
 
+-- what a formula says that is no resource
+module _ {M : Type 1} {𝓤 : Ura M} {𝓛 : Logic 𝓤} {K : Type 0} {Γ : List (Item 𝓤)} {G : Goal 𝓤 𝓛.H} where
+  shown : K → (φ : Fml) → (shadow φ → Seq K 𝓛 (‵ φ ∷ Γ) G) → Seq K 𝓛 (‵ φ ∷ Γ) G
+  shown t φ k = use1 𝓛 (given (shadow φ) (‵ φ)) (fact_use 𝓤 (shadow φ) (shows_shadow 𝓛 φ) (λ told. guard_i 𝓤 (shadow φ) (sem 𝓛 φ) told)) $ learn t k
+
 module _ (N : Handle) (P : Pointer N) where
   abbrev Fields : Type 0
-  Fields = Ptr × (N.D.D × Option P.V)
+  Fields = Ptr × (N.A.Denot × Option P.V)
 
   abbrev value : P.S.Denot → Option P.V
   value d = (P.out d).1.1
@@ -130,10 +145,10 @@ module _ (N : Handle) (P : Pointer N) where
   content_laws = arg_laws (bare (layout P.Y)) no P.Y P.laws (raw-raw (layout P.Y))
 
   abbrev owner : RattleType
-  owner = Box P.Y (A N) N.ghosts
+  owner = Box P.Y N.A N.ghosts
 
   abbrev owner_laws : Laws owner
-  owner_laws = boxes_laws P.Y (A N) N.ghosts P.laws N.laws
+  owner_laws = boxes_laws P.Y N.A N.ghosts P.laws N.laws
 
   -- a function of one parameter, which it uses up
   abbrev using : RattleType → RattleType → Ended
@@ -147,10 +162,10 @@ module _ (N : Handle) (P : Pointer N) where
       record { lifetimes = lifetimes; outlives = []; ty_params = []; givens = 0; params = 1; locals = map (λ τ. local τ value_local) types; body = body }
 
   abbrev none_fn : Fn
-  none_fn = function 0 (laid N P.name ∷ layout (A N) ∷ []) (seq (assign (place 0 []) (aggregate (int w64 0 ∷ copy (place 1 []) ∷ []))) return)
+  none_fn = function 0 (laid N P.name ∷ layout N.A ∷ []) (seq (assign (place 0 []) (aggregate (int w64 0 ∷ copy (place 1 []) ∷ []))) return)
 
   abbrev close_fn : Callee → Fn
-  close_fn taking = function 0 (laid N P.name ∷ layout owner ∷ ty_ptr ∷ layout (A N) ∷ laid N (tuple_type (RawPtr ∷ A N ∷ [])).name ∷ layout owner ∷ ty_ptr ∷ [])
+  close_fn taking = function 0 (laid N P.name ∷ layout owner ∷ ty_ptr ∷ layout N.A ∷ laid N (tuple_type (RawPtr ∷ N.A ∷ [])).name ∷ layout owner ∷ ty_ptr ∷ [])
       (seq (assign (place 5 []) (rv_opd (copy (place 1 [])))) (seq (call taking (copy (place 5 []) ∷ []) (place 4 []))
       (seq (assign (place 2 []) (rv_opd (copy (place 4 (field 0 ∷ []))))) (seq (assign (place 3 []) (rv_opd (copy (place 4 (field 1 ∷ [])))))
       (seq (assign (place 6 []) (rv_opd (copy (place 2 [])))) (seq (assign (place 0 []) (aggregate (copy (place 6 []) ∷ copy (place 3 []) ∷ []))) return))))))
@@ -159,7 +174,7 @@ module _ (N : Handle) (P : Pointer N) where
   last_of n = seq (assign (place 0 []) (rv_opd (copy (place n [])))) return
 
   abbrev open_fn : Callee → Fn
-  open_fn making = function 0 (layout owner ∷ laid N P.name ∷ ty_ptr ∷ layout (A N) ∷ layout owner ∷ ty_ptr ∷ [])
+  open_fn making = function 0 (layout owner ∷ laid N P.name ∷ ty_ptr ∷ layout N.A ∷ layout owner ∷ ty_ptr ∷ [])
       (seq (assign (place 2 []) (rv_opd (copy (place 1 (field 0 ∷ []))))) (seq (assign (place 3 []) (rv_opd (copy (place 1 (field 1 ∷ [])))))
       (seq (block (seq (assign (place 5 []) (rv_opd (copy (place 2 [])))) (call making (copy (place 3 []) ∷ copy (place 5 []) ∷ []) (place 4 [])))) (last_of 4))))
 
@@ -182,13 +197,13 @@ module _ (N : Handle) (P : Pointer N) where
     ensures = λ _ r _. sep 𝓤 (sem 𝓛 (Lends P.S P.Y a.0 r (put a.0.now))) (fact 𝓤 (P.same (value a.0.now) r.now));
   }
 
-  two : (p : Ptr) (v : Val) → Good ty_ptr (ptr_val p) → Good (layout (A N)) v → Good (laid N P.name) (vstruct (of_list (ptr_val p ∷ v ∷ [])))
-  two p v g h = as_fields (ty_ptr ∷ layout (A N) ∷ []) (ptr_val p ∷ v ∷ []) (g, (h, tt))
+  two : (p : Ptr) (v : Val) → Good ty_ptr (ptr_val p) → Good (layout N.A) v → Good (laid N P.name) (vstruct (of_list (ptr_val p ∷ v ∷ [])))
+  two p v g h = as_fields (ty_ptr ∷ layout N.A ∷ []) (ptr_val p ∷ v ∷ []) (g, (h, tt))
 
   module _ {M : Type 1} {𝓤 : Ura M} {𝓛 : Logic 𝓤} {K : Type 0} {Γ : List (Item 𝓤)} {G : Goal 𝓤 𝓛.H} where
     pub held_in : K → (x : Fields) → Step K 𝓛 (‵ (P.S.own_val (P.into x) (word N x.0 ∷ [])) ∷ Γ) G (‵ (heap x) ∷ Γ) G
     held_in t x = step (λ s.
-        owned t (Struct shape) (Is (Struct shape)) (Struct-Makes 𝓛 shape (RawPtr-plain, (field_plain N.D N.plains, tt))) (intos (parts N) (x.0, (x.1.0, tt))) (word N x.0 ∷ []) ((ptr_val x.0 ∷ [], (N.hand ∷ [], tt)), (refl, (refl, (N.is x.1.0, tt)))) $ fjoin t $
+        owned t (Struct shape) (Is (Struct shape)) (Struct-Makes 𝓛 shape (RawPtr-plain, (N.plain, tt))) (intos (parts N) (x.0, (x.1.0, tt))) (word N x.0 ∷ []) ((ptr_val x.0 ∷ [], (N.hand ∷ [], tt)), (refl, (refl, (N.is_field x.1.0, tt)))) $ fjoin t $
         rewrite t 0 (λ (φ : Fml). ‵ φ) (sym (P.own (P.into x) (word N x.0 ∷ []) ∙ ap (λ (y : Fields). all_of y (word N x.0 ∷ [])) (P.back x))) refl $ s)
 
   module _ {M : Type 1} (𝓤 : Ura M) (𝓛 : Logic 𝓤) (𝓜 : Model 𝓤 𝓛.H) (𝓡 : Running 𝓤 𝓛.H 𝓜) (k : Callee) where
@@ -201,14 +216,14 @@ module _ (N : Handle) (P : Pointer N) where
     abbrev Met : (X R : RattleType) → (X.Denot → SProp 𝓤) → (X.Denot → R.Denot → Type 0) → Type 1
     Met X R φ ψ = Meets 𝓛 (using X R).signature (𝓣.C k) (closing 𝓛 (using X R) (asks X R φ ψ))
 
-    pub none_met : Does none_fn → Met (A N) P.S (λ _. sem 𝓛 ftrue) (λ _ r. value r ≡ None)
+    pub none_met : Does none_fn → Met N.A P.S (λ _. sem 𝓛 ftrue) (λ _ r. value r ≡ None)
     none_met closed =
-        let E = using (A N) P.S in let hs : Stays E.signature.params E.kept = (stay_dropped _ yes, tt) in
-        let c = asks (A N) P.S (λ _. sem 𝓛 ftrue) (λ _ r. value r ≡ None) in let W = walk_of 𝓛 E hs c in
-        proved 𝓛 E hs c 𝓜 𝓡 (Goes-blank 𝓛 0 (plain (λ _. A N)) yes (λ κs x. (N.unseen x).1), tt) k none_fn closed
+        let E = using N.A P.S in let hs : Stays E.signature.params E.kept = (stay_dropped _ yes, tt) in
+        let c = asks N.A P.S (λ _. sem 𝓛 ftrue) (λ _ r. value r ≡ None) in let W = walk_of 𝓛 E hs c in
+        proved 𝓛 E hs c 𝓜 𝓡 (Goes-blank 𝓛 0 (plain (λ _. N.A)) yes (λ κs x. (N.unseen x).1), tt) k none_fn closed
         (λ κs. ((λ a. N.hand ∷ []), tt)) (λ κs. (N.tells, tt)) (λ κs qs bounds a _ are.
         let y : W.Ghost = ((κs, qs, bounds, a, (N.hand ∷ [], tt)), tt) in let x : Fields = (null_ptr, (a.0, None)) in
-        qed 𝓛 ((‵ ftrue ⊛ ‵ (owns (A N ∷ []) a y.0.4)) ∷ ‵ ftrue ∷ []) ∵ drop ! $
+        qed 𝓛 ((‵ ftrue ⊛ ‵ (owns (N.A ∷ []) a y.0.4)) ∷ ‵ ftrue ∷ []) ∵ drop ! $
         enter ! _ _ _ _ _ $ alloc_all ! (λ l. pass_all ! refl (N.fits, tt) $
         sets ! (agg ! (and_then ! (lit ! tt) (and_then ! (get ! refl) (no_more !)))) refl (two null_ptr N.hand (tt, record { fits = lit< tt }) N.fits) $
         returns ! (look_at ! 0 refl) $ free_all ! refl $
@@ -217,10 +232,10 @@ module _ (N : Handle) (P : Pointer N) where
         nothing ! $ nothing ! $ join ! $ nothing ! $ group ! 3 $ done !))
 
     pub close_met : (asked : P.Y.Denot → SProp 𝓤) (taking : Callee) → Does (close_fn taking) → Triple 𝓤 (𝓣.C taking) (Parts content (allocator N) 𝓛 𝓜.mem 𝓡.returns P.drops)
-        → Met owner P.S (λ b. asked b.value) (λ b r. value r ≡ P.new b.value)
+        → Met owner P.S (λ b. asked b.value) P.Shut
     close_met asked taking closed m =
         let E = using owner P.S in let hs : Stays E.signature.params E.kept = (stay_dropped _ yes, tt) in
-        let c = asks owner P.S (λ b. asked b.value) (λ b r. value r ≡ P.new b.value) in let W = walk_of 𝓛 E hs c in let M' = 𝓜.mem in let R = 𝓡.returns in
+        let c = asks owner P.S (λ b. asked b.value) P.Shut in let W = walk_of 𝓛 E hs c in let M' = 𝓜.mem in let R = 𝓡.returns in
         proved_at 𝓛 E hs c 𝓜 𝓡 (Goes-blank 𝓛 0 (plain (λ _. owner)) yes (λ κs x. (P.spent x).1), tt) k (close_fn taking) closed (λ y are.
         let b = y.0.3.0 in
         qed 𝓛 ((‵ ftrue ⊛ ‵ (owns (owner ∷ []) y.0.3 y.0.4)) ∷ raw (asked b.value) ∷ []) ∵ split ! $ drop ! $ fsplit ! $
@@ -232,7 +247,7 @@ module _ (N : Handle) (P : Pointer N) where
         parts_in content (allocator N) M' R ! P.lasts N.lasts P.drops b (v ∷ []) $
         calls_at ! (framed 𝓤 𝓛.H 𝓜 𝓣) (Parts content (allocator N) 𝓛 M' R P.drops) m (at_parts content (allocator N) 𝓛 M' R P.drops b (v ∷ [])) (and_then ! (get ! refl) (no_more !)) (λ pair.
         parts_out content (allocator N) M' R ! tt P.drops b (v ∷ []) pair (λ n o hand words _.
-        move ! (1 ∷ []) $ peeks ! (A N) (Is (A N)) (shows 𝓛 (A N)) b.alloc (hand ∷ []) (λ is. drop ! $
+        move ! (1 ∷ []) $ peeks ! N.A (Is N.A) (shows 𝓛 N.A) b.alloc (hand ∷ []) (λ is. drop ! $
         let both = two (block_ptr n o) N.hand (tt, tt) N.fits in
         lands_as ! (words ∙ ap (λ (hs : List Val). vstruct (of_list (vptr n o ∷ hs))) (N.tells b.alloc (hand ∷ []) is)) refl both $
         sets ! (of_opd ! (get_in ! (fld ! refl (stop !)) (sub ! 0 refl (whole !)))) refl (tt, tt) $
@@ -241,40 +256,41 @@ module _ (N : Handle) (P : Pointer N) where
         sets ! (agg ! (and_then ! (get ! refl) (and_then ! (get ! refl) (no_more !)))) refl both $
         returns ! (look_at ! 0 refl) $ free_all ! refl $
         let x : Fields = (block_ptr n o, (b.alloc, P.new b.value)) in let holds = N.ghosts.dealloc_token b.alloc in
-        suffices ! _ (ends_at 𝓛 E hs c y (word N x.0) (P.into x) ((P.spent b).0, tt) (tt, tt)) $ says ! (ap (λ (z : Fields). z.1.1) (P.back x)) $
-        rewrite ! 0 (λ (φ : Fml). ‵ φ) (P.behind holds x.0 b.value) refl $ use1 𝓛 (‵ (heap x)) (P.again 𝓛 holds x.0 b.value) $ held_in ! x $
-        nothing ! $ nothing ! $ join ! $ nothing ! $ group ! 3 $ done !))))))
+        rewrite ! 0 (λ (φ : Fml). ‵ φ) (P.behind holds x.0 b.value) refl $ shown ! (box_owns holds P.Y x.0 b.value) (λ told.
+        suffices ! _ (ends_at 𝓛 E hs c y (word N x.0) (P.into x) ((P.spent b).0, tt) (tt, tt)) $ says ! (P.shut b x.0 told.1) $
+        use1 𝓛 (‵ (heap x)) (P.again 𝓛 holds x.0 b.value) $ held_in ! x $
+        nothing ! $ nothing ! $ join ! $ nothing ! $ group ! 3 $ done !)))))))
 
     pub open_met : (making : Callee) → Does (open_fn making) → Triple 𝓤 (𝓣.C making) (Joins content (allocator N) 𝓛 𝓜.mem 𝓡.returns)
-        → Met P.S owner (λ d. fact 𝓤 (IsSome (value d))) (λ d r. P.same (value d) r.value)
+        → Met P.S owner (λ d. fact 𝓤 (IsSome (value d))) P.Opened
     open_met making closed m =
         let E = using P.S owner in let hs : Stays E.signature.params E.kept = (stay_dropped _ yes, tt) in
-        let c = asks P.S owner (λ d. fact 𝓤 (IsSome (value d))) (λ d r. P.same (value d) r.value) in let W = walk_of 𝓛 E hs c in let M' = 𝓜.mem in let R = 𝓡.returns in
+        let c = asks P.S owner (λ d. fact 𝓤 (IsSome (value d))) P.Opened in let W = walk_of 𝓛 E hs c in let M' = 𝓜.mem in let R = 𝓡.returns in
         proved 𝓛 E hs c 𝓜 𝓡 (Goes-blank 𝓛 0 (plain (λ _. P.S)) yes (λ κs x. (P.unseen x).1), tt) k (open_fn making) closed
         (λ κs. (vals, tt)) (λ κs. (P.tells, tt)) (λ κs qs bounds a _ are.
         let d = a.0 in let x = P.out d in let holds = N.ghosts.dealloc_token x.1.0 in let y : W.Ghost = ((κs, qs, bounds, a, (vals d, tt)), tt) in
         qed 𝓛 ((‵ ftrue ⊛ ‵ (owns (P.S ∷ []) a y.0.4)) ∷ raw (fact 𝓤 (IsSome x.1.1)) ∷ []) ∵
         move ! (1 ∷ []) $ heard ! _ (λ there. split ! $ drop ! $ fsplit ! $
         rewrite ! 0 (λ (φ : Fml). ‵ φ) (P.own d (vals d)) refl $ fsplit ! $ drop ! $
-        slot_out ! holds P.Y x.0 (P.inner x.1.1) (P.has x.1.1 there) (λ z held b o at.
+        slot_out ! holds P.Y x.0 (P.inner x.1.1) (P.has x.1.1 there) (λ z held b o at. shown ! (box_owns holds P.Y (block_ptr b o) z) (λ told.
         regoal ! (λ (p : Ptr). prop (WpFn 𝓤 𝓛.H 𝓣.C 𝓣.Λ (open_fn making) (word N p ∷ []) (W.post y))) at refl $
         enter ! _ _ _ _ _ $ alloc_all ! (λ l. pass_all ! refl (two (block_ptr b o) N.hand (tt, tt) N.fits, tt) $
         sets ! (of_opd ! (get_in ! (fld ! refl (stop !)) (sub ! 0 refl (whole !)))) refl (tt, tt) $
         sets ! (of_opd ! (get_in ! (fld ! refl (stop !)) (sub ! 1 refl (whole !)))) refl N.fits $
         first ! $ blocks ! $
         sets ! (of_opd ! (get ! refl)) refl (tt, tt) $
-        owned ! (A N) (Is (A N)) (makes N.D N.plains 𝓛) x.1.0 (N.hand ∷ []) (N.is x.1.0) $ move ! (1 ∷ 0 ∷ []) $
+        owned ! N.A (Is N.A) (λ h vs. makes_shadow 𝓛 (N.A.own_val h vs) (N.pure h vs)) x.1.0 (N.hand ∷ []) (N.is x.1.0) $ move ! (1 ∷ 0 ∷ []) $
         rewrite ! 0 (λ (φ : Fml). ‵ φ) (sym (P.behind holds (block_ptr b o) z)) refl $
         joins_in content (allocator N) M' R ! P.lasts N.lasts x.1.0 (block_ptr b o) z (N.hand ∷ []) $
         calls_at_last ! (framed 𝓤 𝓛.H 𝓜 𝓣) (Joins content (allocator N) 𝓛 M' R) m (at_joins content (allocator N) 𝓛 M' R x.1.0 (block_ptr b o) z (N.hand ∷ [])) (and_then ! (get ! refl) (and_then ! (get ! refl) (no_more !))) (λ v.
-        joins_out content (allocator N) M' R ! tt x.1.0 (block_ptr b o) z (N.hand ∷ []) v (λ r is.
+        joins_out content (allocator N) M' R ! tt x.1.0 (block_ptr b o) z (N.hand ∷ []) v (λ r is from.
         fsplit ! $ move ! (1 ∷ []) $ rewrite ! 0 (λ (φ : Fml). ‵ φ) (P.behind (N.ghosts.dealloc_token r.alloc) r.ptr r.value) refl $ move ! (1 ∷ 0 ∷ []) $ fjoin ! $
         peeks ! owner (Is owner) (shows 𝓛 owner) r (v ∷ []) (λ of. let fits = ((owner_laws.lawful 𝓛).typed r (v ∷ []) of).0 in
         lands_last ! refl fits $ exec ! 𝓣.C 𝓣.Λ (env (open_fn making).locals l) (last_of 4) (at_ret _ (W.post y)) $
         sets ! (of_opd ! (get ! refl)) refl fits $
         returns ! (look_at ! 0 refl) $ free_all ! refl $ keep ! (0 ∷ []) $
-        suffices ! _ (ends_at 𝓛 E hs c y v r ((P.unseen d).0, tt) (tt, tt)) $ says ! (subst (P.same x.1.1) (sym is) (P.right x.1.1 z there held)) $
-        nothing ! $ nothing ! $ join ! $ nothing ! $ group ! 3 $ done !)))))))
+        suffices ! _ (ends_at 𝓛 E hs c y v r ((P.unseen d).0, tt) (tt, tt)) $ says ! (P.opened d r z there held (subst (Says N x.1.0 P.Y) (sym at) told.1) is from) $
+        nothing ! $ nothing ! $ join ! $ nothing ! $ group ! 3 $ done !))))))))
 
     module _ (d : P.S.Denot) (us : List Val) (rb ro b o : ℕ) (at : (P.out d).0 ≡ block_ptr b o) where
       abbrev holds : Ty → Ptr → Fml

@@ -2,6 +2,11 @@
 pub mod Listed
 pub mod Strips
 pub mod Slots
-pub mod CopiedRam
-pub mod Effects
+pub mod Beneath
+pub mod Places
+pub mod History
+pub mod Settling
+pub mod Doings
+pub mod Turns
+pub mod Memory
 pub mod LentRam

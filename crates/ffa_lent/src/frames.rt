@@ -11,7 +11,7 @@ use std::alloc::{AllocError, Global};
 use std::marker::Model;
 
 /// Pages that are lent, in the order in which they came, and beside them room for the copies that RAM over them keeps. Contracts
-/// see the bytes of each page, for how many there is room, and whether the room for copies is there.
+/// see the bytes of each page, where it lies, for how many there is room, and whether the room for copies is there.
 // A list has a box for each page. RAM cannot be one slice, because no `&mut` may outlive a call of C, and no `Vec` can
 // be made of memory that the library did not request.
 #[derive(Drop)]
@@ -23,6 +23,7 @@ pub struct Frames {
 impl Model for Frames {
     ghost use Rattle.std.specs.Prelude.{◌≡◌, IfSome, is_some, map, vec_capacity, vec_len};
     ghost use Rattle.ffa_lent.specs.Listed.{Listed, coded_listed};
+    ghost use Rattle.ffa_lent.specs.Places.{place_of};
     ghost use Rattle.ffa_model.specs.declared.limits.TheConstants.{MOST_BUFFER_PAGES};
 
     ghost Value = { Listed };
@@ -31,6 +32,7 @@ impl Model for Frames {
 
     ghost view = { λ f. record {
       pages = map (λ b. b.value) f.list.items;
+      places = map place_of f.list.items;
       room = vec_capacity f.list;
       is_ready = is_some f.copies;
     } };
@@ -40,6 +42,8 @@ impl Model for Frames {
 }
 
 impl Frames {
+    ghost use Rattle.ffa_lent.specs.Places.{place_of};
+
     /// No pages, for which the list takes no memory, and no room for copies.
     pub fn none(alloc: Global) -> Frames
         ensures { result ≡ nothing_listed }
@@ -67,6 +71,7 @@ impl Frames {
     /// Makes room for so many pages more, and for no others. Where there is no memory for that, nothing changes.
     pub fn reserve(&mut self, more: usize) -> Result<(), AllocError>
         ensures pages { self.new.pages ≡ self.old.pages }
+        ensures places { self.new.places ≡ self.old.places }
         ensures made { IfOk result (λ _. self.new.room ≡ max self.old.room (length self.old.pages + more)) }
         ensures ready { self.new.is_ready ≡ self.old.is_ready }
         ensures unchanged { IfErr result (λ _. self.new ≡ self.old) }
@@ -78,7 +83,8 @@ impl Frames {
     /// Adds a page behind the others. Where there is no room and no memory for that, the page comes back.
     pub fn lend(&mut self, page: Box<[u8; 4096], Lent>) -> Result<(), Box<[u8; 4096], Lent>>
         ensures pages { self.new.pages ≡ (if is_ok result then self.old.pages ++ page.value ∷ [] else self.old.pages) }
-        ensures returned { IfErr result (λ b. b.value ≡ page.value) }
+        ensures places { self.new.places ≡ (if is_ok result then self.old.places ++ place_of page ∷ [] else self.old.places) }
+        ensures returned { IfErr result (λ b. b ≡ page) }
         ensures full { IfErr result (λ _. self.old.room ≤ length self.old.pages) }
         ensures room { self.old.room ≤ self.new.room }
         ensures ready { self.new.is_ready ≡ self.old.is_ready }
@@ -92,6 +98,7 @@ impl Frames {
     /// Takes the last page out, if there is one.
     pub fn take_back(&mut self) -> Option<Box<[u8; 4096], Lent>>
         ensures last { self.old.pages ≡ self.new.pages ++ option_to_list (option_map (λ b. b.value) result) }
+        ensures places { self.old.places ≡ self.new.places ++ option_to_list (option_map place_of result) }
         ensures none { result ≡ None → self.old.pages ≡ [] }
         ensures room { self.new.room ≡ self.old.room }
         ensures ready { self.new.is_ready ≡ self.old.is_ready }

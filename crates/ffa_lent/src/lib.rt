@@ -2,17 +2,16 @@
 //! Makes RAM of pages that the caller lends, one by one or several that follow each other in memory.
 #![tactic(auto)]
 
-pub mod copied;
-pub mod effects;
+mod copying;
 pub mod frames;
+mod history;
 pub mod lent;
+mod memory;
 pub mod ram;
 mod settling;
 pub mod slot;
 pub mod span;
 
-pub use copied::CopiedRam;
-pub use effects::{Effects, Unrecorded};
 pub use frames::Frames;
 pub use lent::Lent;
 pub use ram::LentRam;

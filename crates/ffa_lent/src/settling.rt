@@ -1,7 +1,7 @@
 // SPDX-License-Identifier: MIT OR Apache-2.0
 //! What firmware is asked, and where it hears that.
 ghost use Rattle.std.specs.Prelude.{◌≡◌};
-ghost use Rattle.ffa_lent.specs.Effects.{request_of};
+ghost use Rattle.ffa_lent.specs.Settling.{request_of};
 
 use byteorder::{ByteOrder, LittleEndian};
 use ffa_model::{Address, EndpointId, PageNo};
@@ -10,9 +10,18 @@ use ffa_physmem::PAGE_SIZE;
 /// A descriptor that no file has: firmware knows by it what is asked, and `write` of a C library does nothing.
 const SETTLES: i32 = -0xFFA;
 
+/// A request that the library has written for firmware. Only `ask` makes an `Asked`.
+#[derive(Clone, Copy, Drop)]
+pub(crate) struct Asked<'a> {
+    request: &'a [u8; 24],
+}
+
 /// Writes a request where firmware hears it.
-pub(crate) fn ask(request: &[u8; 24]) {
+pub(crate) fn ask(request: &[u8; 24]) -> Asked<'_>
+    ensures { result.request.now ≡ request.now }
+{
     let _ = io::write_all(SETTLES, request);
+    Asked { request }
 }
 
 /// A request that pages of RAM at this address, from one on, are to be settled in the tables of the endpoint at a place: the

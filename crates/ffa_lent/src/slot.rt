@@ -1,6 +1,6 @@
 // SPDX-License-Identifier: MIT OR Apache-2.0
 //! A page's memory as its pointer, or none.
-ghost use Rattle.std.specs.Prelude.{◌≡◌, ℕ, List, Option, Some, None, IsSome};
+ghost use Rattle.std.specs.Prelude.{◌≡◌, ℕ, List, Option, None, IsSome};
 ghost use Rattle.std.specs.Coded.{coded_list, coded_ℕ, coded_option};
 
 use crate::lent::Lent;
@@ -25,19 +25,21 @@ impl Model for Slot {
 }
 
 impl Slot {
+    ghost use Rattle.ffa_lent.specs.Places.{slot_of};
+
     /// A null pointer, which owns nothing.
-    pub fn none(lent: Lent) -> Slot
+    pub fn none() -> Slot
         ensures { result.bytes ≡ None }
     {
         Slot {
             at: std::ptr::null_mut(),
-            lent,
+            lent: Lent {},
         }
     }
 
     /// The page behind this pointer.
     pub fn close(page: Box<[u8; 4096], Lent>) -> Slot
-        ensures { result.bytes ≡ Some page.value }
+        ensures { result ≡ slot_of page }
     {
         let (at, lent) = Box::into_raw_with_allocator(page);
         Slot {
@@ -49,7 +51,7 @@ impl Slot {
     /// The page that is held, as its box.
     pub fn open(self) -> Box<[u8; 4096], Lent>
         requires { IsSome self.bytes }
-        ensures { self.bytes ≡ Some result.value }
+        ensures { self ≡ slot_of result }
     {
         let Slot { at, lent } = self;
         unsafe { Box::from_raw(lent, at as *mut [u8; 4096]) }

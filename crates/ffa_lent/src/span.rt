@@ -24,6 +24,8 @@ impl Model for Strip {
 }
 
 impl Strip {
+    ghost use Rattle.ffa_lent.specs.Places.{places_in};
+
     // A null pointer, which owns nothing.
     fn none() -> Strip
         ensures { result.pages ≡ [] }
@@ -36,12 +38,13 @@ impl Strip {
     // The first page, and those behind it.
     fn split(self) -> (Slot, Strip)
         requires { 0 < length self.pages }
-        ensures { option_map (λ page. page ∷ result.1.pages) result.0.bytes ≡ Some self.pages }
+        ensures pages { option_map (λ page. page ∷ result.1.pages) result.0.bytes ≡ Some self.pages }
+        ensures places { result.0.at ∷ places_in result.1 ≡ places_in self }
     {
         let Strip { at } = self;
         let rest = unsafe { at.add(1) };
         let at = at as *mut u8;
-        (Slot { at, lent: Lent }, Strip { at: rest })
+        (Slot { at, lent: Lent {} }, Strip { at: rest })
     }
 
     // Lets a pointer go that owns nothing.
@@ -63,6 +66,8 @@ pub struct Span {
 }
 
 impl Span {
+    ghost use Rattle.ffa_lent.specs.Places.{place_of, places_in};
+
     /// No pages.
     pub fn none() -> Span
         ensures { result.strip.pages ≡ [] }
@@ -83,7 +88,8 @@ impl Span {
     /// The first page, and a span of those behind it.
     pub fn split_first(self) -> (Box<[u8; 4096], Lent>, Span)
         requires { 0 < length self.strip.pages }
-        ensures { self.strip.pages ≡ result.0.value ∷ result.1.strip.pages }
+        ensures pages { self.strip.pages ≡ result.0.value ∷ result.1.strip.pages }
+        ensures places { places_in self.strip ≡ place_of result.0 ∷ places_in result.1.strip }
     {
         let Span { strip, count } = self;
         let (first, rest) = strip.split();
@@ -104,10 +110,13 @@ impl Span {
 }
 
 impl Frames {
+    ghost use Rattle.ffa_lent.specs.Places.{places_in};
+
     /// Adds the pages of a span behind the others, in order. Where there is no room and no memory for all of them, they come
     /// back, and nothing has changed.
     pub fn lend_span(&mut self, span: Span) -> Result<(), Span>
         ensures lent { IfOk result (λ _. self.new.pages ≡ self.old.pages ++ span.strip.pages) }
+        ensures places { IfOk result (λ _. self.new.places ≡ self.old.places ++ places_in span.strip) }
         ensures room { IfOk result (λ _. self.old.room ≤ self.new.room) }
         ensures ready { self.new.is_ready ≡ self.old.is_ready }
         ensures returned { IfErr result (λ s. s ≡ span) }

@@ -1,33 +1,38 @@
 -- SPDX-License-Identifier: MIT OR Apache-2.0
-use Rattle.std.proofs.Common.{◌∙◌, replicate, subst, sym}
-use Rattle.ffa_physmem.specs.Moments.{IsInLoan, One, Only}
+use Rattle.std.proofs.Common.{◌∙◌, ap, refl, sym, replicate}
 use Rattle.ffa_physmem.proofs.Moments.{Only-map, Only-one, Only-then}
-use Rattle.ffa_lent.specs.CopiedRam.{ram_of}
-use Rattle.ffa_lent.specs.Effects.{IsBarrier}
+use Rattle.ffa_lent.specs.LentRam.{in_loan, ram_of-with_bytes, with_bytes}
+use Rattle.ffa_lent.specs.Memory.{with_event}
+use Rattle.ffa_lent.specs.Settling.{request_of}
+use Rattle.ffa_lent.proofs.Doings.{noted-beside, noted-ram}
 use Rattle.ffa_lent.proofs.ram.LentRamPhysMem.clear_page.Goals as goal
 
+pub doing-done-requires : goal.doing-done-requires
+doing-done-requires c = c.ask.ensures ∙ c.request-request.ensures ∙ ap (λ base. request_of 0 base c.args.page.0 0) c.base.ensures.value
+
+pub returns-clause-ram : goal.returns-clause-ram
+returns-clause-ram c =
+    let zeroed = with_bytes c.args.self.now c.args.page.0 (replicate 4096 0) in
+    noted-ram zeroed c.note.new.self c.note.ensures ∙ ram_of-with_bytes c.args.self.now c.args.page.0 (replicate 4096 0)
+
+pub returns-clause-shown : goal.returns-clause-shown
+returns-clause-shown c =
+    let zeroed = with_bytes c.args.self.now c.args.page.0 (replicate 4096 0) in
+    let stays = noted-ram zeroed c.note.new.self c.note.ensures in
+    noted-beside zeroed c.note.new.self (c.note.ensures ∙ ap (with_event zeroed.memory) c.doing-done.ensures) refl
+    (record { before = sym stays; after = sym stays; none = refl; unread = refl })
+
 pub returns-clause-steps : goal.returns-clause-steps
-returns-clause-steps g c =
-    let past = g.E.Effects.past in
-    let m = c.args.self.now in
-    let ram = ram_of m.ram in
-    let page = c.args.page.0 in
-    let lent = g.E.Effects.with_loan m.effects ram page in
-    let loan = g.met.E.Effects.in_loan m.effects ram page (replicate 4096 0) in
+returns-clause-steps c =
+    let zeros = returns-clause-ram c in
     Only-then
-    (subst (λ effects. Only (past m.effects ram) (past effects (ram_of c.clear_page.new.self)) (λ _ s. IsInLoan ram page s)) (sym c.lend.ensures)
-    (subst (λ new. Only (past m.effects ram) (past lent new) (λ _ s. IsInLoan ram page s)) (sym c.clear_page.ensures.ram) loan))
-    (Only-map (Only-one c.show_zeros.ensures) (λ _ s barrier. record {
+    (in_loan c.args.self.now c.args.page.0 (replicate 4096 0))
+    (Only-map (Only-one (returns-clause-shown c)) (λ _ s barrier. record {
       from = replicate 4096 0;
       to = replicate 4096 0;
-      before = barrier.before ∙ c.clear_page.ensures.ram;
-      after = barrier.after ∙ c.clear_page.ensures.ram;
+      before = barrier.before ∙ zeros;
+      after = barrier.after ∙ zeros;
       none = barrier.none;
       unread = barrier.unread;
     }))
     (λ _ s its. its)
-
-pub returns-clause-shown : goal.returns-clause-shown
-returns-clause-shown g c =
-    let new = ram_of c.clear_page.new.self in
-    subst (λ effects. One (g.E.Effects.past effects new) (g.E.Effects.past c.show_zeros.new.self new) (λ s. IsBarrier new s)) c.lend.ensures c.show_zeros.ensures

@@ -1,8 +1,10 @@
 -- SPDX-License-Identifier: MIT OR Apache-2.0
 -- `split` hands on what the strip owns: the first page's memory to a slot, and the rest to a strip.
-use Rattle.ffa_lent.proofs.Steps.{[], ◌∷◌, List, Some, refl, sym, ap, lit<, proved, ftrue, fact, Val, tables, WpFn, ‵, raw, ◌⊛◌, prop, at_ret, ◌$◌, ◌∵◌, !, qed, done, move, keep, drop, split, fsplit, join, fjoin, feq_i, regoal, suffices, group, enter, of_opd, stop, fld, no_more, and_then, first, blocks, exec, returns, alloc_all, pass_all, free_all, look_at, get, get_in, sets, env, agg, sub, whole, yes, block_ptr, ptr_val, owns, plain, nothing, heard, Stays, walk_of, says, stay_dropped, Goes-dropped, ends_at, vstruct, of_list, ◌+◌, ◌<◌, length, Valss, within, sets_last, fpack, bin}
+use Rattle.ffa_lent.proofs.Steps.{[], ◌∷◌, List, Some, refl, sym, ap, lit<, proved, ftrue, fact, Val, tables, WpFn, ‵, raw, ◌⊛◌, prop, at_ret, ◌$◌, ◌∵◌, !, qed, done, move, keep, drop, split, fsplit, join, fjoin, feq_i, regoal, suffices, group, enter, of_opd, stop, fld, no_more, and_then, first, blocks, exec, returns, alloc_all, pass_all, free_all, look_at, get, get_in, sets, env, agg, sub, whole, yes, Ptr, block_ptr, ptr_val, owns, plain, nothing, heard, Stays, walk_of, stay_dropped, Goes-dropped, ends_at, vstruct, of_list, ◌+◌, ◌<◌, length, Valss, within, sets_last, fpack, bin}
 use denote.Struct.Declared.{shape}
 use denote.Struct.Tuple.{tuple_type}
+use Rattle.std.proofs.mem.Facts.{says_two}
+use Rattle.ffa_lent.specs.Places.{places_from}
 use Rattle.ffa_lent.proofs.Pointers.{held_in}
 use Rattle.ffa_lent.proofs.Slots.{Page, lender, to_page}
 use Rattle.ffa_lent.specs.contracts.slot.Slot.{the_row as Slot}
@@ -38,13 +40,13 @@ split_spec 𝓤 𝓛 𝓜 𝓡 wired =
     sets ! (agg ! (and_then ! (get ! refl) (no_more !))) refl (tt, (tt, tt)) $
     sets ! (agg ! (and_then ! (get ! refl) (and_then ! (get ! refl) (no_more !)))) refl (tt, ((tt, (tt, tt)), ((tt, tt), tt))) $
     returns ! (look_at ! 0 refl) $ free_all ! refl $ keep ! (1 ∷ 0 ∷ []) $
-    let slot : Slot.Denot = record { at = block_ptr b o; lent = record {}; bytes = Some x } in
+    let slot : Slot.Denot = record { at = block_ptr b o; lent = record { at = block_ptr b o }; bytes = Some x } in
     let behind : Strip.Denot = record { at = block_ptr b (4096 + o); pages = rest } in
     let pair : Val = vstruct (of_list (slot_lowers.lowered slot ∷ lowers.lowered behind ∷ [])) in
-    suffices ! _ (ends_at 𝓛 f.ended stayed c y pair (slot, behind) (tt, tt) (tt, tt)) $ says ! (ap Some (sym held)) $
+    suffices ! _ (ends_at 𝓛 f.ended stayed c y pair (slot, behind) (tt, tt) (tt, tt)) $ says_two ! (ap Some (sym held), λ j. places_from (sym at j) (length (sym held j))) $
     -- [the strip behind; the first page]
     strip_in ! (block_ptr b (4096 + o)) rest $
-    nothing ! $ move ! (2 ∷ 0 ∷ []) $ fjoin ! $ held_in lender to_page ! (block_ptr b o, (record {}, Some x)) $
+    feq_i ! Ptr (block_ptr b o) (block_ptr b o) refl $ move ! (2 ∷ 0 ∷ []) $ fjoin ! $ held_in lender to_page ! (block_ptr b o, (record { at = block_ptr b o }, Some x)) $
     -- [the slot; the strip]
     nothing ! $ move ! (2 ∷ 0 ∷ []) $ fjoin ! $ move ! (1 ∷ 0 ∷ []) $ fjoin ! $ feq_i ! (List Val) (pair ∷ []) (pair ∷ []) refl $ fjoin ! $
     fpack ! (Valss (Slot ∷ Strip ∷ [])) (within (shape (tuple_type (Slot ∷ Strip ∷ []))) (slot, (behind, tt)) (pair ∷ [])) ((slot_lowers.lowered slot ∷ []), ((lowers.lowered behind ∷ []), tt)) $
