@@ -29,7 +29,7 @@ use Rattle.ffa_laws.proofs.SoundOperations.{step-sound}
 use Rattle.ffa_laws.proofs.SoundSteady.{runner-known}
 use Rattle.ffa_walker.specs.Offset.{KeepsOffset}
 use Rattle.ffa_walker.proofs.Offsets.{KeepsOffset-walk}
-use Rattle.ffa_physmem.specs.Moments.{IsWriting, Only, Step, TurnsIn}
+use Rattle.ffa_physmem.specs.Moments.{IsWriting, Only, Past, Step, TurnsIn}
 use Rattle.ffa_stage2.specs.Tables.{IsAside}
 use Rattle.ffa_spmc.specs.Moments.{AreMoments}
 use Rattle.ffa_spmc.specs.Meaning.{HasTables, IsManager, Parts, access_by_place, state_of}
@@ -174,7 +174,7 @@ module _ (x : Parts) (machine : IsManager x) where
 
   -- The same as callers see it: `now` is what a contract sees of the manager, and this is what the walk of the address
   -- answered.
-  module _ {past : Option (List Step)} (now : Managed) (view : record { state = s; ram = x.ram; past = past } ≡ now) (address : ℕ) (walked : Answer) (is : walked ≡ walk_of now.ram now.state now.state.runner address) where
+  module _ {past : Past} (now : Managed) (view : record { state = s; ram = x.ram; past = past } ≡ now) (address : ℕ) (walked : Answer) (is : walked ≡ walk_of now.ram now.state now.state.runner address) where
     walked-is : walked ≡ walk x.ram own_root address
     walked-is = is ∙ ap (λ (seen : Managed). walk_of seen.ram seen.state seen.state.runner address) (sym view)
 
@@ -226,7 +226,7 @@ module _ (x : Parts) (machine : IsManager x) where
         unowned-stored = subst (λ (seen : Managed). KeepsUnowned seen.state seen.ram new) view left.unowned
 
         -- between its writes
-        pub moments-stored : (later : Option (List Step)) → TurnsIn new later
+        pub moments-stored : (later : Past) → TurnsIn new later
             → Only past later (λ _ st. (physical : ℕ) × (reach_by x.ram walked address (size_of size) may_store_to ≡ Ok physical) × IsWriting x.ram (λ p. p == page_index x.ram physical) st)
             → AreMoments now.state now.ram new now.past later
         moments-stored later turns only =

@@ -16,7 +16,7 @@ use Rattle.ffa_model.specs.Ram.{Ram}
 use Rattle.ffa_model.specs.SoundState.{IsSoundState}
 use Rattle.ffa_model.specs.State.{State, Page, page_at as page_of_state}
 use Rattle.ffa_model.specs.Walk.{Answer, mapped_answer, walk}
-use Rattle.ffa_physmem.specs.Moments.{Adds, AreInTurn, Only, Step, TurnsIn}
+use Rattle.ffa_physmem.specs.Moments.{Adds, AreInTurn, Only, Past, Step, TurnsIn}
 use Rattle.ffa_physmem.proofs.Moments.{Adds-none, Only-both, Only-each, Only-map}
 use Rattle.ffa_stage2.specs.Amid.{Amid, Moment, behind}
 use Rattle.ffa_stage2.specs.Held.{HeldBetween}
@@ -102,7 +102,7 @@ leaf-aside x ram e a leaf agrees none he ha leads =
     of q some = by q (page_of_state x q) refl some
 
 module _ (s t : State) (old new : Ram) (was : Agrees old s) (is : Agrees new t) (parties : length t.parties ≡ length s.parties) (placed : placement t ≡ placement s)
-    (size : length t.pages ≡ length s.pages) (sound : IsSoundState s) (none : OwnsNoTables s) (none' : OwnsNoTables t) (past later : Option (List Step)) (turns : TurnsIn new later)
+    (size : length t.pages ≡ length s.pages) (sound : IsSoundState s) (none : OwnsNoTables s) (none' : OwnsNoTables t) (past later : Past) (turns : TurnsIn new later)
     (rest : RestIn old (length s.parties) s.tables (blocks_of s) past) (rest' : RestIn new (length s.parties) s.tables (blocks_of s) later)
     (mixed : Only past later (λ h step. MixedBetween old new (length s.parties) s.tables (blocks_of s) (step ∷ h) step.after))
     (between : Only past later (λ h step. MixturesBetween old new (length s.parties) s.tables (blocks_of s) (step ∷ h) step.after)) where
@@ -145,22 +145,22 @@ module _ (s t : State) (old new : Ram) (was : Agrees old s) (is : Agrees new t) 
       let (turn, both) = its in
       (turn, leads-mixed old new step.after n tables b (step ∷ h) turn both.0, both.1))
 
-  module _ (g : List Step) (there : past ≡ Some g) (alone memory : Moment) (written : List ℕ) (amid : Amid n tables b (record { history = g; ram = old }) alone memory written) where
+  module _ (g : List Step) (there : past.steps ≡ Some g) (alone memory : Moment) (written : List ℕ) (amid : Amid n tables b (record { history = g; ram = old }) alone memory written) where
     first-leads : Leads old new n tables b g old
     first-leads = leads-mixed old new old n tables b g (rest g there).turn (mixed-rest old new n tables b g room stays (rest g there))
 
     first-between : MixturesBetween old new n tables b g old
     first-between = mixtures-rest old new n tables b g room (rest g there)
 
-    along : Adds past Leading alone.history → Along old new n tables b g (rest g there).begun (rest g there).turn first-leads first-between far alone memory written
+    along : Adds past.steps Leading alone.history → Along old new n tables b g (rest g there).begun (rest g there).turn first-leads first-between far alone memory written
     along adds =
         along-amid old new n tables b g (rest g there).begun (rest g there).turn first-leads first-between far alone memory written amid
         (subst (λ (o : Option (List Step)). Adds o Leading alone.history) there adds)
 
-    walks-now : Adds past Leading alone.history → MixturesBetween old new n tables b memory.history memory.ram
+    walks-now : Adds past.steps Leading alone.history → MixturesBetween old new n tables b memory.history memory.ram
     walks-now adds = between-amid old new n tables b g (rest g there).begun (rest g there).turn first-leads first-between far alone memory written (along adds)
 
-    stands-now : Adds past Leading alone.history → StandsAmid old new n tables b alone memory written
+    stands-now : Adds past.steps Leading alone.history → StandsAmid old new n tables b alone memory written
     stands-now adds = record {
       theirs = (along adds).theirs;
       beside = (along adds).beside;
@@ -169,7 +169,7 @@ module _ (s t : State) (old new : Ram) (was : Agrees old s) (is : Agrees new t) 
       held = held-between old new memory.ram n tables b memory.history (along adds).follow (walks-now adds);
     }
 
-  module _ (g h : List Step) (there : past ≡ Some g) (last : later ≡ Some h) (memory : Moment) (written : List ℕ)
+  module _ (g h : List Step) (there : past.steps ≡ Some g) (last : later.steps ≡ Some h) (memory : Moment) (written : List ℕ)
       (amid : Amid n tables b (record { history = g; ram = old }) (record { history = h; ram = new }) memory written) where
     ends-now : EndsAmid new n tables b memory
     ends-now =
@@ -183,7 +183,7 @@ module _ (s t : State) (old new : Ram) (was : Agrees old s) (is : Agrees new t) 
 
   pub stays-amid : StaysAmid s old new past later
   stays-amid = record {
-    first = λ h there g is memory written amid. stands-now g is (record { history = h; ram = old }) memory written amid (Adds-none past Leading h there);
+    first = λ h there g is memory written amid. stands-now g is (record { history = h; ram = old }) memory written amid (Adds-none past.steps Leading h there);
     steps = Only-map (Only-each leading) (λ h step adds g is memory written amid. stands-now g is (behind step h) memory written amid adds);
     ended = λ h last g is memory written amid. (
       stands-now g is (record { history = h; ram = new }) memory written amid (leading.each h last),

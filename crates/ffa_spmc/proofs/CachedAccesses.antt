@@ -20,7 +20,7 @@ use Rattle.ffa_model.specs.Step.{step}
 use Rattle.ffa_model.proofs.CallAccesses.{access-written}
 use Rattle.ffa_laws.proofs.Form.{accessed-kept}
 use Rattle.ffa_laws.proofs.SoundSteady.{runner-known}
-use Rattle.ffa_physmem.specs.Moments.{Step}
+use Rattle.ffa_physmem.specs.Moments.{Past, Step}
 use Rattle.ffa_tlb.specs.Lookups.{lookup}
 use Rattle.ffa_tlb.specs.declared.translations.Entry.{Entry}
 use Rattle.ffa_spmc.specs.Cached.{AreKept, AreSameOrGone, AreWalks, address_in, is_accessed, is_miss, is_runners, missed_page}
@@ -57,7 +57,7 @@ access-kept P s (Store a size value) address _ same other =
 access-kept P s (Fetch a) address _ same other = accessed-kept P s s (Data (number_at s a 4)) (fetch_fault s a) same (λ _. same)
 
 -- AN ACCESS, which left this state, RAM and history
-module _ (old : Snapshot) (s : State) (ram : Ram) (past : Option (List Step)) (op : Op) (address : ℕ) (accesses : address_in op ≡ Some address)
+module _ (old : Snapshot) (s : State) (ram : Ram) (past : Past) (op : Op) (address : ℕ) (accesses : address_in op ≡ Some address)
     (was : IsMachine old) (state : s ≡ (step old.state op).state) where
   abbrev pub left : Snapshot
   left = record old { state = s; ram = ram; past = past }

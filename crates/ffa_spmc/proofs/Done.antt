@@ -23,6 +23,7 @@ use Rattle.ffa_spmc.specs.Moments.{AreMoments}
 use Rattle.ffa_spmc.specs.Operated.{HasLaws, IsDone}
 use Rattle.ffa_spmc.specs.Snapshot.{Snapshot}
 use Rattle.ffa_spmc.specs.Unowned.{KeepsUnowned}
+use Rattle.ffa_physmem.proofs.Moments.{Only-map}
 use Rattle.ffa_spmc.proofs.Forgotten.{gone, gone-or-held, same-held, still-held}
 use Rattle.ffa_spmc.proofs.HeldWalks.{walks-after}
 use Rattle.ffa_spmc.proofs.Laws.{has-laws}
@@ -60,7 +61,7 @@ module _ (old new : Snapshot) (op : Op) (was : IsMachine old) (is : IsManaged (m
       agrees = is.agrees;
       refused = λ its. refused (ap is_refusal outcome ∙ its);
       unowned = unowned;
-      moments = moments;
+      order = Only-map moments.steps (λ h s its. its.order);
       mixtures = mixed.0;
       walks = walks;
       forgotten = forgotten;

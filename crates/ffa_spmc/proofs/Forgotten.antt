@@ -12,6 +12,7 @@ use Rattle.ffa_model.specs.State.{State}
 use Rattle.ffa_memshare.specs.declared.changed.Changed.{Changed}
 use Rattle.ffa_tlb.specs.declared.translations.Entry.{Entry}
 use Rattle.ffa_tlb.specs.Lookups.{lookup}
+use Rattle.ffa_physmem.specs.Unrecorded.{no_site, unrecorded}
 use Rattle.ffa_spmc.specs.AccessChange.{IsAccessChange, is_of}
 use Rattle.ffa_spmc.specs.Cached.{AreWalks}
 use Rattle.ffa_spmc.proofs.HeldWalks.{held-right}
@@ -40,7 +41,7 @@ module _ (s t : State) (changed : Option Changed) (change : IsAccessChange s t c
   gone-or-held e p = by_change e p ((lookup new e p ≡ None) ⊎ (lookup new e p ≡ lookup old e p)) (λ _ none. inl none) (λ _ held. inr held)
 
   -- where access changed there was none, or there is none, so nothing was held where it is as before
-  pub same-held : (ram : Ram) → Agrees ram s → IsSoundState s → AreWalks (record { state = s; ram = ram; held = old; past = None; told = None })
+  pub same-held : (ram : Ram) → Agrees ram s → IsSoundState s → AreWalks (record { state = s; ram = ram; held = old; past = unrecorded no_site; told = None })
       → (e p : ℕ) → access t e p ≡ access s e p → lookup new e p ≡ lookup old e p
   same-held ram agrees sound walks e p same =
       by_change e p (lookup new e p ≡ lookup old e p)

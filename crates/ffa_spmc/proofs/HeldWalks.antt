@@ -24,6 +24,7 @@ use Rattle.ffa_model.proofs.Places.{known-named, known-place}
 use Rattle.ffa_laws.proofs.SoundSteady.{runner-known}
 use Rattle.ffa_tlb.specs.declared.translations.Entry.{Entry}
 use Rattle.ffa_tlb.specs.Lookups.{IsFilled, is_pair, lookup}
+use Rattle.ffa_physmem.specs.Unrecorded.{no_site, unrecorded}
 use Rattle.ffa_spmc.specs.Cached.{AreWalks, IsWalk, missed_page}
 use Rattle.ffa_spmc.specs.Caching.{moved_back, moved_to}
 use Rattle.ffa_spmc.specs.Snapshot.{Snapshot}
@@ -194,7 +195,7 @@ module _ (ram : Ram) (s : State) (agrees : Agrees ram s) (sound : IsSoundState s
 -- FILLED
 -- what is held after a walk's answer was given is the walk's answer still
 pub walks-filled : (ram : Ram) (s : State) (old new : List Entry) (e p : ℕ) (leaf : Leaf)
-    → AreWalks (record { state = s; ram = ram; held = old; past = None; told = None }) → IsFilled old new e p leaf → IsWalk ram s e p leaf → AreWalks (record { state = s; ram = ram; held = new; past = None; told = None })
+    → AreWalks (record { state = s; ram = ram; held = old; past = unrecorded no_site; told = None }) → IsFilled old new e p leaf → IsWalk ram s e p leaf → AreWalks (record { state = s; ram = ram; held = new; past = unrecorded no_site; told = None })
 walks-filled ram s old new e p leaf walks filled walk f q l is = elim (filled f q) [
   | inl none ↦ absurd (none-some l (sym none ∙ is))
   | inr same ↦ at (is_pair f q e p) refl (sym same ∙ is)
@@ -236,7 +237,7 @@ module _ (ram ram' : Ram) (s t : State) (agrees : Agrees ram s) (agrees' : Agree
     (known : (e : ℕ) → is_known s e ≡ true → is_known t e ≡ true) where
   pub walks-after : (old new : List Entry)
       → ((e p : ℕ) (leaf : Leaf) → lookup new e p ≡ Some leaf → (lookup old e p ≡ Some leaf) × (access t e p ≡ access s e p))
-      → AreWalks (record { state = s; ram = ram; held = old; past = None; told = None }) → AreWalks (record { state = t; ram = ram'; held = new; past = None; told = None })
+      → AreWalks (record { state = s; ram = ram; held = old; past = unrecorded no_site; told = None }) → AreWalks (record { state = t; ram = ram'; held = new; past = unrecorded no_site; told = None })
   walks-after old new stays walks e p leaf is =
       let (was, same) = stays e p leaf is in
       let walk = walks e p leaf was in

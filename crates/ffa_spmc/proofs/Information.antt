@@ -14,7 +14,7 @@ use Rattle.ffa_model.specs.Setup.{info_bytes, info_get, info_guards, told_info_s
 use Rattle.ffa_model.specs.declared.call.Call.TheVariants.{PartitionInfoGet}
 use Rattle.ffa_model.specs.State.{Party, Buffers, version_among, version_of}
 use Rattle.ffa_model.proofs.Guards.{answers-pass}
-use Rattle.ffa_physmem.specs.Moments.{Step}
+use Rattle.ffa_physmem.specs.Moments.{Past, Step}
 use Rattle.ffa_spmc.specs.Meaning.{IsManager, Parts, state_of}
 use Rattle.ffa_spmc.specs.Managed.{Managed}
 use Rattle.ffa_spmc.proofs.Answered.{passed-state}
@@ -26,7 +26,7 @@ abbrev pub decided : Bool → Bool → Bool → Bool → Option Refusal
 decided recognized alone has full =
     cond recognized (cond (alone || has) (cond (alone || not full) None (Some RxFull)) (Some BuffersMissing)) (Some UuidUnknown)
 
-module _ (x : Parts) {past : Option (List Step)} (now : Managed) (view : record { state = state_of x; ram = x.ram; past = past } ≡ now) (e : ℕ) (at : e ≡ x.kept.chain.runner) where
+module _ (x : Parts) {past : Past} (now : Managed) (view : record { state = state_of x; ram = x.ram; past = past } ≡ now) (e : ℕ) (at : e ≡ x.kept.chain.runner) where
   abbrev own : Option Buffers
   own = buffers_in x.kept.buffers e
 

@@ -19,7 +19,7 @@ use Rattle.ffa_model.specs.declared.operation.Op.TheVariants.{Call, Load, Store,
 use Rattle.ffa_model.specs.declared.operation.Outcome.{Outcome}
 use Rattle.ffa_model.specs.declared.rights.Kind.{Kind}
 use Rattle.ffa_model.specs.declared.rights.Kind.TheVariants.{Share, Lend, Donate}
-use Rattle.ffa_model.specs.Access.{access}
+use Rattle.ffa_model.specs.Access.{access, right_of, transaction_at}
 use Rattle.ffa_model.specs.Buffers.{buffers_with_rx}
 use Rattle.ffa_model.specs.Calls.{Stepped}
 use Rattle.ffa_model.specs.Elsewhere.{state_after_as, step_as}
@@ -48,6 +48,7 @@ use Rattle.ffa_laws.proofs.ElsewhereLaws.{fixed-step_as, step_as-runner}
 use Rattle.ffa_laws.proofs.ElsewhereRunLaws.{isolated_as, known-as, never_grow_as, sound_after_as}
 use Rattle.ffa_laws.proofs.Form.{served-kept}
 use Rattle.ffa_laws.proofs.Kept.{fixed, step-fixed}
+use Rattle.ffa_laws.proofs.OwnTx.{leaves_tx}
 use Rattle.ffa_laws.proofs.SoundOperations.{step-sound}
 use Rattle.ffa_laws.proofs.SoundSteady.{runner-known, sound-steady}
 use Rattle.ffa_laws.proofs.Stores.{after-both, written-stored}
@@ -126,6 +127,7 @@ record IsOfTx (s : State) (op : Op) (run : Run) : Type 0 where
   first : run.first.0 ≡ buffers.tx
   few : run.count ≤ buffers.pages
   kept : tx_in (step s op).state.buffers s.runner ≡ tx_in s.buffers s.runner
+  leaves : IsSoundState s → (p : ℕ) → is_in_run buffers.tx buffers.pages p ≡ true → page_bytes (step s op).state p ≡ page_bytes s p
 
 reads-some : (call : calls.Call) (b : Buffers) (run : Run) → front_of b (pages_holding b.pages (bytes_read call (4096 * b.pages))) ≡ Some run → reads_tx call ≡ true
 reads-some (MemDonate x) b run is = refl
@@ -164,6 +166,7 @@ of-tx s (Call x) run is = of (buffers_of s s.runner) refl is
           kept =
               served-kept (λ t. tx_in t.buffers s.runner ≡ tx_in s.buffers s.runner) s (service s (decode x)) refl
               (λ none. tx-service s s.runner (decode x) (reads-some (decode x) b run some));
+          leaves = λ sound p. leaves_tx s (decode x) sound b p at;
         }
 
 -- what an operation reads is the same where its pages of TX have the same first bytes
@@ -207,6 +210,18 @@ module _ (s : State) (sound : IsSoundState s) (op : Op) (run : Run) (is : pages_
       let (c, has, first, pages) = tx-some (buffers_of next s.runner) tx.buffers (tx.kept ∙ ap (option_map tx_place) tx.has) in
       usable-writes next s.runner p
       (((step-sound s sound op).buffers s.runner c known has).tx p (within c (tx.first ∙ sym first) (omega (arith, tx.few, pages)) p its))
+
+  -- they are whole, and the operation changes no byte of them
+  pub front-whole : (p : ℕ) → is_in run p ≡ true → length (page_bytes s p) ≡ 4096
+  front-whole p its = of (page_at s p) refl (may-before p its)
+    where
+      of : (o : Option Page) → page_at s p ≡ o → may_store (right_of s.runner o (transaction_at s p)) ≡ true → length (option_map_or (λ (q : Page). q.bytes) o []) ≡ 4096
+      of None at may = absurd (false≢true may)
+      of (Some q) at may = (sound.pages p q at).size
+
+  pub front-kept : (p : ℕ) → is_in run p ≡ true → page_bytes (step s op).state p ≡ page_bytes s p
+  front-kept p its =
+      let tx = of-tx s op run is in tx.leaves sound p (within tx.buffers tx.first tx.few p its)
 
 -- ---- stores
 
@@ -279,21 +294,21 @@ run-into (suc n) e t sound first named each =
     (run-into n e t sound (first + 1) named (λ p its. each p (run-wider first n p its)))
 
 -- they are of an endpoint that there is
-stores-known : (e base : ℕ) (named : ℕ → Bool) (s : State) → is_known s e ≡ true → (xs : List (ℕ × Op)) → AreStoresInto e base named xs → are_known s xs ≡ true
+pub stores-known : (e base : ℕ) (named : ℕ → Bool) (s : State) → is_known s e ≡ true → (xs : List (ℕ × Op)) → AreStoresInto e base named xs → are_known s xs ≡ true
 stores-known e base named s known [] into = refl
 stores-known e base named s known (x ∷ xs) ((address, byte, is, at), into) =
     and_from (is_known s x.0) (are_known s xs) (subst (λ (y : ℕ × Op). is_known s y.0 ≡ true) (sym is) known) (stores-known e base named s known xs into)
 
 -- ---- one operation
 
-record IsOneAmong (s : State) (op : Op) (told : Outcome) (next : State) : Type 0 where
-  before : List (ℕ × Op)
-  behind : List (ℕ × Op)
-  front : AreStoresInto s.runner s.ram_base (are_in (pages_read s op)) before
-  back : AreStoresInto s.runner s.ram_base (are_in (pages_read s op)) behind
-  runner : (state_after_as s before).runner ≡ s.runner
-  outcome : told ≡ (step (state_after_as s before) op).outcome
-  state : state_after_as s (before ++ ((s.runner, op) ∷ behind)) ≡ next
+pub record IsOneAmong (s : State) (op : Op) (told : Outcome) (next : State) : Type 0 where
+  pub before : List (ℕ × Op)
+  pub behind : List (ℕ × Op)
+  pub front : AreStoresInto s.runner s.ram_base (are_in (pages_read s op)) before
+  pub back : AreStoresInto s.runner s.ram_base (are_in (pages_read s op)) behind
+  pub runner : (state_after_as s before).runner ≡ s.runner
+  pub outcome : told ≡ (step (state_after_as s before) op).outcome
+  pub state : state_after_as s (before ++ ((s.runner, op) ∷ behind)) ≡ next
 
 read-same : (s t : State) (hides : ℕ → Bool) (op : Op) → blank hides s ≡ blank hides t → pages_read t op ≡ pages_read s op
 read-same s t hides (Call x) same = ap (λ (u : State). pages_read u (Call x)) (sym same)
@@ -305,7 +320,7 @@ known-step : (s : State) (op : Op) → IsSoundState s → is_known (step s op).s
 known-step s op sound =
     subst (λ (t : Stepped). is_known t.state s.runner ≡ true) (step_as-runner s op) (known-as s s.runner op s.runner (runner-known s sound))
 
-one-among : (r : Option Run) (old : Snapshot) (op : Op) (told : Outcome) (new : Snapshot) → IsSoundState old.state → pages_read old.state op ≡ r
+pub one-among : (r : Option Run) (old : Snapshot) (op : Op) (told : Outcome) (new : Snapshot) → IsSoundState old.state → pages_read old.state op ≡ r
     → IsDoneReading r old op told new → IsOneAmong old.state op told new.state
 one-among None old op told new sound is done =
     record {
@@ -373,7 +388,7 @@ known-back : (s t : State) → fixed t ≡ fixed s → (xs : List (ℕ × Op)) �
 known-back s t same xs known =
     subst (λ (parts : List Party × (ℕ × ℕ)). list_all (λ (x : ℕ × Op). is_known_among (length parts.0) x.0) xs ≡ true) same known
 
-fixed-after : (xs : List (ℕ × Op)) (s : State) → fixed (state_after_as s xs) ≡ fixed s
+pub fixed-after : (xs : List (ℕ × Op)) (s : State) → fixed (state_after_as s xs) ≡ fixed s
 fixed-after [] s = refl
 fixed-after (x ∷ xs) s = fixed-after xs (step_as s x.0 x.1).state ∙ fixed-step_as s x.0 x.1
 
@@ -429,11 +444,11 @@ interleaved ops alone old new told sound done =
 -- ---- what is written between two operations
 
 -- stores of who may are stores, and of endpoints of the machine
-into-stores : (e base : ℕ) (named : ℕ → Bool) (xs : List (ℕ × Op)) → AreStoresInto e base named xs → AreStores xs
+pub into-stores : (e base : ℕ) (named : ℕ → Bool) (xs : List (ℕ × Op)) → AreStoresInto e base named xs → AreStores xs
 into-stores e base named [] into = tt
 into-stores e base named (x ∷ xs) ((address, byte, is, at), into) = ((address, byte, ap (λ (y : ℕ × Op). y.1) is), into-stores e base named xs into)
 
-both-stores : (xs ys : List (ℕ × Op)) → AreStores xs → AreStores ys → AreStores (xs ++ ys)
+pub both-stores : (xs ys : List (ℕ × Op)) → AreStores xs → AreStores ys → AreStores (xs ++ ys)
 both-stores [] ys front back = back
 both-stores (x ∷ xs) ys (one, front) back = (one, both-stores xs ys front back)
 
@@ -441,7 +456,7 @@ page-stores : (bytes : List ℕ) (e address : ℕ) → AreStores (stores e addre
 page-stores [] e address = tt
 page-stores (b ∷ bytes) e address = ((address, b, refl), page-stores bytes e (address + 1))
 
-are-stores : (t : State) (xs : List (ℕ × ℕ)) → AreStores (all_stores t xs)
+pub are-stores : (t : State) (xs : List (ℕ × ℕ)) → AreStores (all_stores t xs)
 are-stores t [] = tt
 are-stores t (x ∷ xs) = both-stores (stores x.0 (t.ram_base + 4096 * x.1) (page_bytes t x.1)) (all_stores t xs) (page-stores (page_bytes t x.1) x.0 (t.ram_base + 4096 * x.1)) (are-stores t xs)
 
@@ -449,7 +464,7 @@ page-known : (s : State) (e : ℕ) → is_known s e ≡ true → (bytes : List �
 page-known s e known [] address = refl
 page-known s e known (b ∷ bytes) address = and_from (is_known s e) (are_known s (stores e (address + 1) bytes)) known (page-known s e known bytes (address + 1))
 
-all-known : (s t : State) (xs : List (ℕ × ℕ)) → MayAllStore s xs → are_known s (all_stores t xs) ≡ true
+pub all-known : (s t : State) (xs : List (ℕ × ℕ)) → MayAllStore s xs → are_known s (all_stores t xs) ≡ true
 all-known s t [] may = refl
 all-known s t (x ∷ xs) (known, one, may) =
     known-both s (stores x.0 (t.ram_base + 4096 * x.1) (page_bytes t x.1)) (all_stores t xs)

@@ -191,9 +191,9 @@ module _ (old new : Snapshot) (was : Agrees old.ram old.state) (is : Agrees new.
   }
 
   abbrev left : Snapshot
-  left = record new { state = t; ram = memory.ram; past = Some memory.history }
+  left = record new { state = t; ram = memory.ram; past = record new.past { steps = Some memory.history } }
 
-  rest-left : TablesRest t memory.ram (Some memory.history)
+  rest-left : TablesRest t memory.ram left.past
   unfolding TablesRest
   rest-left = λ h there.
       subst (λ (g : List Step). AreAtRest memory.ram (length new.state.parties) t.tables (blocks_of t) g) (same_Some memory.history h there)
@@ -206,6 +206,7 @@ module _ (old new : Snapshot) (was : Agrees old.ram old.state) (is : Agrees new.
     theirs = λ p its. could p (stands.theirs.could p its);
     ram = refl;
     past = refl;
+    site = refl;
     held = refl;
     told = refl;
     agrees = agrees-left;

@@ -105,6 +105,7 @@ module _ (m n : Managed) (was : IsManaged m) (is : IsManaged n) (parties : lengt
               let (turn, between) = its in
               held-between m.ram n.ram step.after (length m.state.parties) m.state.tables (blocks_of m.state) (step ∷ h) turn between);
           unheld = moments.mixtures.unheld rest;
+          unshaken = moments.mixtures.unshaken rest;
           rest = still;
           amid =
               stays-amid m.state n.state m.ram n.ram was.agrees is.agrees parties placed size was.sound was.tables is.tables m.past n.past is.turn rest still

@@ -21,7 +21,7 @@ use Rattle.ffa_memshare.specs.declared.changed.Value.{Value}
 use Rattle.ffa_memshare.specs.declared.changed.Value.TheVariants.{Nothing, Handle, Size}
 use Rattle.ffa_memshare.specs.Stored.{Pooled}
 use Rattle.ffa_pages.specs.Entry.{Entry}
-use Rattle.ffa_physmem.specs.Moments.{Step}
+use Rattle.ffa_physmem.specs.Moments.{Past, Step}
 use Rattle.ffa_tlb.specs.declared.translations.Entry.{Entry as Held}
 use Rattle.ffa_spmc.specs.AccessChange.{IsAccessChange}
 use Rattle.ffa_spmc.specs.Managed.{Managed}
@@ -34,7 +34,7 @@ use Rattle.ffa_spmc.proofs.AccessChanges.{access-served, none-changed}
 use Rattle.ffa_spmc.proofs.Moments.{no-moments, still-moments}
 
 -- what contracts see of the parts
-abbrev pub managed_of : Parts → Option (List Step) → Managed
+abbrev pub managed_of : Parts → Past → Managed
 managed_of x past = record { state = state_of x; ram = x.ram; past = past }
 
 -- where what is done is told without an error, an error is a refusal
@@ -92,8 +92,8 @@ kept-buffers x (Err code) ram pages pool buffers same_ram same_pages same_pool s
     λ i. record x { ram = same_ram i; kept = record x.kept { pages = same_pages i; pool = same_pool i; buffers = same_buffers i } }
 
 -- what is so of the parts is so of what contracts see
-module _ (x y : Parts) {past : Option (List Step)} (now : Managed) (seen : managed_of x past ≡ now) (c : State → Service) (reply : Reply) where
-  pub replied-with : (later : Option (List Step)) → replied (state_of y) reply ≡ served (state_of x) (c (state_of x)) → (is_error reply ≡ true → y ≡ x) → (is_error reply ≡ true → later ≡ past)
+module _ (x y : Parts) {past : Past} (now : Managed) (seen : managed_of x past ≡ now) (c : State → Service) (reply : Reply) where
+  pub replied-with : (later : Past) → replied (state_of y) reply ≡ served (state_of x) (c (state_of x)) → (is_error reply ≡ true → y ≡ x) → (is_error reply ≡ true → later ≡ past)
       → KeepsUnowned (state_of x) x.ram y.ram → AreMoments (state_of x) x.ram y.ram past later → IsReplied now (managed_of y later) (c now.state) reply
   replied-with later is kept kept_past unowned moments =
       record {
@@ -110,8 +110,8 @@ module _ (x y : Parts) {past : Option (List Step)} (now : Managed) (seen : manag
       (still-moments (state_of x) x.ram y.ram past past same refl)
 
 -- and of a call on memory, after which these are the news
-module _ (x y : Parts) {past : Option (List Step)} (now : Managed) (seen : managed_of x past ≡ now) (c : State → Service) (r : Result Value ErrorCode) (news : Option Changed) where
-  pub told-with : (later : Option (List Step)) → replied (state_of y) (value_or_error r) ≡ served (state_of x) (c (state_of x)) → OnErr r (y ≡ x) → OnErr r (later ≡ past)
+module _ (x y : Parts) {past : Past} (now : Managed) (seen : managed_of x past ≡ now) (c : State → Service) (r : Result Value ErrorCode) (news : Option Changed) where
+  pub told-with : (later : Past) → replied (state_of y) (value_or_error r) ≡ served (state_of x) (c (state_of x)) → OnErr r (y ≡ x) → OnErr r (later ≡ past)
       → KeepsUnowned (state_of x) x.ram y.ram → AreMoments (state_of x) x.ram y.ram past later → IsAccessChange (state_of x) (state_of y) (change_told r news)
       → IsTold now (managed_of y later) (c now.state) r news
   told-with later is kept kept_past unowned moments change =

@@ -8,7 +8,7 @@ use Rattle.ffa_model.specs.Sound.{MayGoOn, MayStop}
 use Rattle.ffa_model.specs.SoundState.{IsSoundState}
 use Rattle.ffa_model.specs.State.{State}
 use Rattle.ffa_laws.proofs.ProcessorLaws.{sound-switched}
-use Rattle.ffa_physmem.specs.Moments.{Step}
+use Rattle.ffa_physmem.specs.Moments.{Past, Step}
 use Rattle.ffa_spmc.specs.Cached.{AreWalks}
 use Rattle.ffa_spmc.specs.Clustered.{in_state}
 use Rattle.ffa_spmc.specs.Managed.{Managed}
@@ -35,7 +35,7 @@ module _ (x : Parts) (status : Status) (e : ℕ) (new : Schedule) (is : new ≡ 
     sound = subst IsSoundState (sym state-switched) (sound-switched (state_of x) machine.sound status e stops goes);
   }
 
-  pub view-switched : (past : Option (List Step)) (now : Managed) → managed_of x past ≡ now → managed_of with_new past ≡ record now { state = with_switch now.state status e }
+  pub view-switched : (past : Past) (now : Managed) → managed_of x past ≡ now → managed_of with_new past ≡ record now { state = with_switch now.state status e }
   view-switched past now seen =
       ap (λ (s : State). let m : Managed = record { state = s; ram = x.ram; past = past } in m) state-switched
       ∙ ap (λ (m : Managed). let n : Managed = record m { state = with_switch m.state status e } in n) seen

@@ -5,7 +5,7 @@ use Rattle.std.specs.Prelude.{◌≡◌, ◌<◌, ◌^◌, true, ℕ, List, leng
 use Rattle.ffa_model.specs.Agreement.{blocks_of}
 use Rattle.ffa_model.specs.Ram.{Ram, page_of}
 use Rattle.ffa_model.specs.State.{State}
-use Rattle.ffa_physmem.specs.Moments.{IsBeside, Only, Step}
+use Rattle.ffa_physmem.specs.Moments.{IsBeside, Only, Past, Step}
 use Rattle.ffa_stage2.specs.Amid.{Amid, AreTheirs, IsPage, Moment, behind, is_one_of}
 use Rattle.ffa_stage2.specs.Held.{HeldBetween}
 use Rattle.ffa_stage2.specs.Mixtures.{MixturesBetween}
@@ -29,21 +29,21 @@ pub record EndsAmid (new : Ram) (endpoints tables blocks : ℕ) (memory : Moment
   pub rest : AreAtRest memory.ram endpoints tables blocks memory.history
 
 -- P holds of whatever memory others may have left at a moment, where an operation began with this RAM and history
-abbrev pub InEachMemory : State → Ram → Option (List Step) → Moment → (Moment → List ℕ → Type 0) → Type 0
+abbrev pub InEachMemory : State → Ram → Past → Moment → (Moment → List ℕ → Type 0) → Type 0
 InEachMemory s old past alone P =
-    (begun : List Step) → past ≡ Some begun → (memory : Moment) (written : List ℕ)
+    (begun : List Step) → past.steps ≡ Some begun → (memory : Moment) (written : List ℕ)
     → Amid (length s.parties) s.tables (blocks_of s) (record { history = begun; ram = old }) alone memory written → P memory written
 
-abbrev pub StandsAt : State → Ram → Ram → Option (List Step) → Moment → Type 0
+abbrev pub StandsAt : State → Ram → Ram → Past → Moment → Type 0
 StandsAt s old new past alone =
     InEachMemory s old past alone (λ memory written. StandsAmid old new (length s.parties) s.tables (blocks_of s) alone memory written)
 
 -- So it is where an operation begins, behind each of its steps, and at its end.
-pub record StaysAmid (s : State) (old new : Ram) (past later : Option (List Step)) : Type 0 where
-  pub first : (h : List Step) → past ≡ Some h → StandsAt s old new past (record { history = h; ram = old })
+pub record StaysAmid (s : State) (old new : Ram) (past later : Past) : Type 0 where
+  pub first : (h : List Step) → past.steps ≡ Some h → StandsAt s old new past (record { history = h; ram = old })
   pub steps : Only past later (λ h step. StandsAt s old new past (behind step h))
   pub ended :
-      (h : List Step) → later ≡ Some h
+      (h : List Step) → later.steps ≡ Some h
       → InEachMemory s old past (record { history = h; ram = new })
       (λ memory written. StandsAmid old new (length s.parties) s.tables (blocks_of s) (record { history = h; ram = new }) memory written
       × EndsAmid new (length s.parties) s.tables (blocks_of s) memory)

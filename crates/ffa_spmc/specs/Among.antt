@@ -16,7 +16,7 @@ use Rattle.ffa_model.specs.SoundState.{IsSoundState}
 use Rattle.ffa_model.specs.State.{State, Buffers, buffers_of}
 use Rattle.ffa_model.specs.Step.{step}
 use Rattle.ffa_laws.specs.Reads.{AreBeside, tx_bytes_read, tx_pages_read}
-use Rattle.ffa_physmem.specs.Moments.{AgreeInFirst, IsBeside, IsReading, One}
+use Rattle.ffa_physmem.specs.Moments.{AgreeInFirst, HasNoCopies, IsBeside, IsReading, OneMore, is_copied, on_site_of}
 use Rattle.ffa_spmc.specs.declared.run.Run.{Run}
 use Rattle.ffa_spmc.specs.Cached.{AreWalks}
 use Rattle.ffa_spmc.specs.Mixtures.{StayMixed}
@@ -54,12 +54,16 @@ HaveInFront run bytes s t =
     (p : ℕ) → is_in run p ≡ true → AgreeInFirst bytes run.first.0 p (page_bytes t p) (page_bytes s p)
 
 -- Pages are read at once, or are no longer as they were read. They alone may have other bytes then, in RAM and in the state
--- alike, and the cache holds what it held, which no walk contradicts. Walks in mixtures stay what they are.
+-- alike, and they alone are in copies, until they are no longer as they were read. The cache holds what it held, which no walk
+-- contradicts. Walks in mixtures stay what they are.
 pub record IsRead (run : Run) (begins : Bool) (old new : Snapshot) : Type 0 where
   pub state : AreBeside old.state new.state (is_in run)
   pub ram : IsBeside old.ram new.ram (is_in run)
-  pub step : One old.past new.past (λ s. IsReading old.ram new.ram run.first.0 run.count begins s)
-  pub mixtures : StayMixed old.state old.ram new.ram old.past new.past
+  pub step : OneMore old.past.steps new.past.steps (λ s. IsReading old.ram new.ram run.first.0 run.count begins s)
+  pub mixtures : StayMixed old.state old.ram new.ram old.past (on_site_of old.past new.past)
+  pub places : new.past.site.places ≡ old.past.site.places
+  pub only : (p : ℕ) → is_copied new.past p ≡ true → is_in run p ≡ true
+  pub free : begins ≡ false → HasNoCopies new.past
   pub held : new.held ≡ old.held
   pub told : new.told ≡ old.told
   pub agrees : Agrees new.ram new.state
@@ -89,14 +93,13 @@ abbrev pub are_in : Option Run → ℕ → Bool
 are_in None p = false
 are_in (Some run) p = is_in run p
 
--- So was one while nobody else wrote, by what stood in memory: with the outcome of the small machine from the state as it
--- was, and it left the state of the small machine, but for bytes of the pages that were read.
+-- An operation was done while nobody else wrote: it had the outcome of the small machine, and left exactly its state.
 pub record IsDoneAlone (old : State) (op : Op) (told : Outcome) (new : State) : Type 0 where
   pub outcome : told ≡ (step old op).outcome
-  pub state : AreBeside (step old op).state new (are_in (pages_read old op))
+  pub state : new ≡ (step old op).state
 
--- so were operations that were done one after another, each with one of the outcomes, and by what stood in memory where nobody
--- else wrote
+-- so were operations that were done one after another, each with one of the outcomes, and each left exactly the small machine's
+-- state where nobody else wrote
 abbrev pub AreDoneReading : Bool → Snapshot → List Op → List Outcome → Snapshot → Type 0
 AreDoneReading alone old [] told new = (told ≡ []) × (new ≡ old)
 AreDoneReading alone old (op ∷ ops) told new =

@@ -1,6 +1,6 @@
 -- SPDX-License-Identifier: MIT OR Apache-2.0
 -- What a contract sees of a machine that several processors run, and what an operation of one of them comes to.
-use Rattle.std.specs.Prelude.{◌≡◌, ℕ, Bool, true, false, nat_lt, List, [], ◌∷◌, Option, Some, None, refl, if◌then◌else◌}
+use Rattle.std.specs.Prelude.{◌≡◌, ℕ, Bool, true, false, nat_lt, List, [], ◌∷◌, ◌++◌, Option, Some, None, refl, if◌then◌else◌}
 use Rattle.std.specs.List.{list_all}
 use Rattle.std.specs.Coded.{Coded, code_by, coded×, coded_ℕ, coded_list}
 use Rattle.ffa_model.specs.declared.limits.TheConstants.{MOST_PROCESSORS}
@@ -10,10 +10,11 @@ use Rattle.ffa_model.specs.declared.operation.Effect.{Effect}
 use Rattle.ffa_model.specs.declared.operation.Effect.TheVariants.{Outcome, Resumed}
 use Rattle.ffa_model.specs.declared.operation.Op.{Op}
 use Rattle.ffa_model.specs.declared.schedule.Status.TheVariants.{Blocked}
-use Rattle.ffa_model.specs.Processors.{Processors, Shared, effects_on, interrupt, on, resumed_by, shared_after_all, turned, with_switch}
+use Rattle.ffa_model.specs.Processors.{Processors, Shared, acted_on, effects_on, interrupt, on, resumed_by, shared_after, shared_after_all, turned, with_switch}
 use Rattle.ffa_model.specs.State.{State}
 use Rattle.ffa_laws.specs.Isolation.{NeverGrow}
-use Rattle.ffa_laws.specs.ProcessorRuns.{IsolatedOn}
+use Rattle.ffa_laws.specs.ProcessorRuns.{Acts, IsolatedOn, Turn, as_turns, as_writes, turns_after}
+use Rattle.ffa_laws.specs.Stores.{AreStores, AreWritten}
 use Rattle.ffa_spmc.specs.Among.{IsDoneAlone, IsDoneReading, pages_read}
 use Rattle.ffa_spmc.specs.Snapshot.{Snapshot, coded_snapshot}
 use Rattle.ffa_spmc.specs.declared.run.Run.{Run}
@@ -49,29 +50,34 @@ IsEffected shared old op (Outcome outcome) new =
 IsEffected shared old op (Resumed e) new =
     (resumed_by old.state op ≡ Some e.0) × (new ≡ in_state old (with_switch old.state Blocked e.0))
 
--- while nobody else wrote: by what stood in memory
+-- while nobody else wrote, the state is exactly the one that the definitions give
 abbrev pub IsEffectedAlone : State → Op → Effect → State → Type 0
 IsEffectedAlone old op (Outcome outcome) new = IsDoneAlone old op outcome new
 IsEffectedAlone old op (Resumed e) new = new ≡ with_switch old Blocked e.0
 
--- An act in the machine as its processor sees it, where nobody else writes to TX: an operation is done so, and an interrupt changes
--- the run states alone.
-abbrev pub IsActed : Snapshot → Act → Effect → Snapshot → Type 0
-IsActed old (Operate op) effect new = IsEffected false old op effect new
-IsActed old Interrupt effect new =
+-- An act in the machine as its processor sees it: an operation is done so, and an interrupt changes the run states alone.
+abbrev pub IsActed : Bool → Snapshot → Act → Effect → Snapshot → Type 0
+IsActed shared old (Operate op) effect new = IsEffected shared old op effect new
+IsActed shared old Interrupt effect new =
     (effect ≡ Outcome (interrupt old.state).outcome) × (new ≡ in_state old (interrupt old.state).state)
 
 -- an act of processor p, which is selected first
-pub record IsActedOn (old : Clustered) (p : ℕ) (act : Act) (effect : Effect) (new : Clustered) : Type 0 where
-  pub acted : IsActed (seen_by p old) act effect new.machine
+pub record IsActedOn (shared : Bool) (old : Clustered) (p : ℕ) (act : Act) (effect : Effect) (new : Clustered) : Type 0 where
+  pub acted : IsActed shared (seen_by p old) act effect new.machine
   pub processors : new.processors ≡ turned old.processors p old.machine.state
 
--- acts that are done one after another, each of the processor beside it, and nothing between them
-abbrev pub AreActed : Clustered → List (ℕ × Act) → List Effect → Clustered → Type 0
-AreActed old [] told new = (told ≡ []) × (new ≡ old)
-AreActed old (x ∷ xs) told new =
-    (next : Clustered) × (effect : Effect) × (rest : List Effect)
-    × (told ≡ effect ∷ rest) × IsActedOn old x.0 x.1 effect next × AreActed next xs rest new
+-- between acts nobody writes, or others write into any pages to which they may
+abbrev pub IsBetween : Bool → Clustered → Clustered → Type 0
+IsBetween false old new = new ≡ old
+IsBetween true old new = (new.processors ≡ old.processors) × AreWritten old.machine.state new.machine.state
+
+-- acts that are done one after another, each of the processor beside it, and nothing else between them
+abbrev pub AreActed : Bool → Clustered → List (ℕ × Act) → List Effect → Clustered → Type 0
+AreActed shared old [] told new = (told ≡ []) × IsBetween shared old new
+AreActed shared old (x ∷ xs) told new =
+    (begun next : Clustered) × (effect : Effect) × (rest : List Effect)
+    × IsBetween shared old begun × (told ≡ effect ∷ rest)
+    × IsActedOn shared begun x.0 x.1 effect next × AreActed shared next xs rest new
 
 -- there are these processors
 abbrev pub are_processors : List (ℕ × Act) → Bool
@@ -86,5 +92,24 @@ shared_by c = record { processors = c.processors; state = c.machine.state }
 pub record IsRunOfActs (old : Clustered) (acts : List (ℕ × Act)) (told : List Effect) (new : Clustered) : Type 0 where
   pub effects : told ≡ effects_on (shared_by old) acts
   pub state : shared_by new ≡ shared_after_all (shared_by old) acts
-  pub isolated : IsolatedOn (shared_by old) acts
+  pub isolated : IsolatedOn (shared_by old) (as_turns acts)
+  pub never_grow : NeverGrow old.machine.state new.machine.state
+
+-- WHILE OTHERS WRITE
+
+-- acts one after another with these effects, between which anybody stores
+abbrev pub AreAmongWrites : Shared → List (ℕ × Act) → List Effect → List Turn → Type 0
+AreAmongWrites m [] told turns = (told ≡ []) × ((writes : List (ℕ × Op)) × AreStores writes × (turns ≡ as_writes writes))
+AreAmongWrites m (x ∷ xs) told turns =
+    (before : List (ℕ × Op)) × (rest : List Turn) × (later : List Effect)
+    × (turns ≡ as_writes before ++ (Acts x.0 x.1 ∷ rest)) × AreStores before
+    × (told ≡ (acted_on (turns_after m (as_writes before)) x).effect ∷ later)
+    × AreAmongWrites (shared_after (turns_after m (as_writes before)) x) xs later rest
+
+-- acts led from one machine to another as such a list does, of which each endpoint sees what isolation says, and no right grew
+pub record IsRunOfTurns (old : Clustered) (acts : List (ℕ × Act)) (told : List Effect) (new : Clustered) : Type 0 where
+  pub turns : List Turn
+  pub among : AreAmongWrites (shared_by old) acts told turns
+  pub state : turns_after (shared_by old) turns ≡ shared_by new
+  pub isolated : IsolatedOn (shared_by old) turns
   pub never_grow : NeverGrow old.machine.state new.machine.state

@@ -31,7 +31,8 @@ pub record IsLeft (old new left : Snapshot) (memory : Moment) (written : List �
   pub state : AreBeside new.state left.state (is_one_of written)
   pub theirs : (p : ℕ) → is_one_of written p ≡ true → MayStore old.state new.state p
   pub ram : left.ram ≡ memory.ram
-  pub past : left.past ≡ Some memory.history
+  pub past : left.past.steps ≡ Some memory.history
+  pub site : left.past.site ≡ new.past.site
   pub held : left.held ≡ new.held
   pub told : left.told ≡ new.told
   pub agrees : Agrees left.ram left.state
@@ -42,7 +43,7 @@ pub record IsLeft (old new left : Snapshot) (memory : Moment) (written : List �
 -- whatever memory others may leave, such a machine is left
 abbrev pub LeavesAmid : Snapshot → Snapshot → Type 0
 LeavesAmid old new =
-    (begun ended : List Step) → old.past ≡ Some begun → new.past ≡ Some ended → (memory : Moment) (written : List ℕ)
+    (begun ended : List Step) → old.past.steps ≡ Some begun → new.past.steps ≡ Some ended → (memory : Moment) (written : List ℕ)
     → Amid (length old.state.parties) old.state.tables (blocks_of old.state) (record { history = begun; ram = old.ram })
     (record { history = ended; ram = new.ram }) memory written
     → (left : Snapshot) × IsLeft old new left memory written

@@ -6,25 +6,27 @@ use Rattle.std.specs.Prelude.{◌∷◌, List, length, Option}
 use Rattle.ffa_model.specs.Agreement.{blocks_of}
 use Rattle.ffa_model.specs.Ram.{Ram}
 use Rattle.ffa_model.specs.State.{State}
-use Rattle.ffa_physmem.specs.Moments.{Only, Step}
-use Rattle.ffa_stage2.specs.Held.{HeldBetween, WritesUnheld}
+use Rattle.ffa_physmem.specs.Moments.{Only, Past, Step}
+use Rattle.ffa_stage2.specs.Held.{HeldBetween, IsUnshaken, WritesUnheld}
 use Rattle.ffa_stage2.specs.Mixtures.{MixturesBetween}
 use Rattle.ffa_stage2.specs.Rest.{RestIn}
 use Rattle.ffa_spmc.specs.Amid.{StaysAmid}
 
 -- the tables of all endpoints are at rest at the end of a history, where there is one
-unfoldable pub TablesRest : State → Ram → Option (List Step) → Type 0
+unfoldable pub TablesRest : State → Ram → Past → Type 0
 TablesRest s ram past = RestIn ram (length s.parties) s.tables (blocks_of s) past
 
 -- An operation led from one RAM and history to others: at each step, the walks of all endpoints in mixtures give what they gave
 -- before it, or give behind it, or a translation fault; so do translation units; a page that is none of the tables' changes only while no
--- unit may hold a way there; and behind it the tables are at rest. So it is of memory while others write to it.
-pub record DoStayMixed (s : State) (old new : Ram) (past later : Option (List Step)) : Type 0 where
+-- unit may hold a way there; and behind it the tables are at rest. No step disturbs an endpoint in a block to which its accesses stay.
+-- So it is of memory while others write to it.
+pub record DoStayMixed (s : State) (old new : Ram) (past later : Past) : Type 0 where
   pub walks : Only past later (λ h step. MixturesBetween old new (length s.parties) s.tables (blocks_of s) (step ∷ h) step.after)
   pub held : Only past later (λ h step. HeldBetween old new (length s.parties) s.tables (blocks_of s) (step ∷ h) step.after)
   pub unheld : Only past later (λ h step. WritesUnheld old new (length s.parties) s.tables (blocks_of s) h step)
+  pub unshaken : Only past later (λ h step. IsUnshaken old new (length s.parties) s.tables (blocks_of s) h step)
   pub rest : TablesRest s new later
   pub amid : StaysAmid s old new past later
 
-unfoldable pub StayMixed : State → Ram → Ram → Option (List Step) → Option (List Step) → Type 0
+unfoldable pub StayMixed : State → Ram → Ram → Past → Past → Type 0
 StayMixed s old new past later = DoStayMixed s old new past later

@@ -1,24 +1,27 @@
 -- SPDX-License-Identifier: MIT OR Apache-2.0
 -- What holds of each operation that a machine does, and what a list of operations leaves.
-use Rattle.std.specs.Prelude.{◌≡◌, true, false, List, [], ◌∷◌}
+use Rattle.std.specs.Prelude.{◌≡◌, true, false, List, [], ◌∷◌, length}
 use Rattle.ffa_model.specs.declared.operation.Op.{Op}
 use Rattle.ffa_model.specs.declared.operation.Outcome.{Outcome}
-use Rattle.ffa_model.specs.Agreement.{Agrees}
+use Rattle.ffa_model.specs.Agreement.{Agrees, blocks_of}
+use Rattle.ffa_model.specs.OneChain.{IsSimple}
 use Rattle.ffa_model.specs.Refusals.{is_refusal}
+use Rattle.ffa_model.specs.RunStates.{schedule_of}
 use Rattle.ffa_model.specs.SoundState.{IsSoundState}
 use Rattle.ffa_model.specs.State.{State}
 use Rattle.ffa_model.specs.Step.{step}
 use Rattle.ffa_laws.specs.Isolation.{Integrity, NeverGrow, OneStep}
 use Rattle.ffa_laws.specs.Loans.{OfferSaysNothing}
-use Rattle.ffa_laws.specs.OwnAccess.{OwnAccess}
+use Rattle.ffa_laws.specs.OwnAccess.{AreWorldsApart, OwnAccess}
 use Rattle.ffa_laws.specs.Readable.{Confidential}
 use Rattle.ffa_laws.specs.Reads.{ReadsNoMore}
 use Rattle.ffa_laws.specs.Silence.{Silence}
 use Rattle.ffa_laws.specs.Writers.{OnlyWriters}
+use Rattle.ffa_physmem.specs.Moments.{Only}
+use Rattle.ffa_stage2.specs.Moments.{IsInOrder, WalksSameIn}
 use Rattle.ffa_spmc.specs.AccessChange.{IsTelling}
 use Rattle.ffa_spmc.specs.Cached.{AreForgotten, AreKept, AreSameOrGone, AreWalks, is_accessed, is_miss}
 use Rattle.ffa_spmc.specs.Mixtures.{StayMixed}
-use Rattle.ffa_spmc.specs.Moments.{AreMoments}
 use Rattle.ffa_spmc.specs.Snapshot.{Snapshot}
 use Rattle.ffa_spmc.specs.Unowned.{KeepsUnowned}
 
@@ -31,12 +34,15 @@ pub record IsOperated (old : Snapshot) (op : Op) (new : Snapshot) : Type 0 where
   pub refused : is_refusal (step old.state op).outcome ≡ true → new ≡ old
   -- Pages behind the tables that nobody owns keep their bytes.
   pub unowned : KeepsUnowned old.state old.ram new.ram
-  -- At each step, and at every address, the walks of all endpoints give what they gave before it or nothing, or all give what
-  -- they give after it or nothing. A descriptor goes by way of nothing where it has to, and a page changes only while nobody
-  -- reaches it but who does both before and after.
-  pub moments : AreMoments old.state old.ram new.ram old.past new.past
-  -- So it is of walks in mixtures, whose words are of different moments, are kept until the page is settled, or are seen out of
-  -- order; and after it the tables are at rest.
+  -- A descriptor goes by way of nothing where it has to. Where an endpoint's walks to the pages of a block give the same before and
+  -- after, each word of its tables for that block stays.
+  pub order :
+      let stays = WalksSameIn old.ram new.ram old.state.tables (blocks_of old.state) in
+      Only old.past new.past (λ h s. IsInOrder old.ram (length old.state.parties) old.state.tables (blocks_of old.state) stays h s)
+  -- At each step, and at every address, the walks of all endpoints give what they gave before it or nothing, or all give what they
+  -- give after it or nothing, also where their words are of different moments, are kept until the page is settled, or are seen out
+  -- of order. So no step disturbs an endpoint in a block to which its accesses stay. A page changes only while nobody may reach it but
+  -- who does both before and after. After it the tables are at rest.
   pub mixtures : StayMixed old.state old.ram new.ram old.past new.past
   -- What the cache answers is the walk's answer over the bytes of the new RAM. It holds nothing for a page to which an endpoint's
   -- access has changed. All else stays, except for an access that misses: it may take the place of others, and only the runner's
@@ -69,12 +75,16 @@ pub record HasLaws (s : State) (op : Op) : Type 0 where
   pub never_grow : NeverGrow s (step s op).state
   pub own_access : OwnAccess s op
   pub only_writers : OnlyWriters s op
+  -- Where worlds are told apart, the normal world reaches no page after it that is not of non-secure memory.
+  pub worlds : AreWorldsApart (step s op).state
   -- Where it opens a transaction, the bytes of the pages make no difference to a receiver while the transaction is open and the
   -- receiver doesn't hold it.
   pub silent_offers : OfferSaysNothing s op
   -- From another sound state, with other bytes that it doesn't read, it has the same outcome, and leaves a state with other bytes in
   -- the same pages at most.
   pub reads_no_more : ReadsNoMore s op
+  -- Where no partition was preempted or runs elsewhere, none is so after it: the run states stay one chain.
+  pub one_chain : IsSimple (schedule_of s) → IsSimple (schedule_of (step s op).state)
 
 -- An operation was done, with this outcome, which is that of the small machine, and the state stays sound.
 pub record IsDone (old : Snapshot) (op : Op) (told : Outcome) (new : Snapshot) : Type 0 where

@@ -6,8 +6,10 @@ ghost use Rattle.ffa_model.specs.declared.limits.TheConstants.{MOST_PROCESSORS};
 ghost use Rattle.ffa_model.specs.Agreement.{Agrees};
 ghost use Rattle.ffa_model.specs.Processors.{ArePlaced, IsHere, first_processors, interrupt, left_status, turned};
 ghost use Rattle.ffa_model.specs.SoundState.{IsSoundState};
+ghost use Rattle.ffa_physmem.specs.Moments.{HasNoCopies};
 ghost use Rattle.ffa_spmc.specs.Cached.{AreWalks};
 ghost use Rattle.ffa_spmc.specs.Clustered.{IsEffected, IsEffectedAlone, in_state, seen_by};
+ghost use Rattle.ffa_spmc.specs.Snapshot.{memory_in};
 ghost use Rattle.ffa_spmc.specs.Unowned.{KeepsUnowned};
 
 mod copy;
@@ -42,20 +44,24 @@ impl<M: PhysMem + Drop, T: Translations + Drop, S: Store> Model for Cluster<M, T
     ghost coded = { coded_clustered };
 
     ghost use Rattle.ffa_model.specs.Processors.{ArePlaced};
+    ghost use Rattle.ffa_physmem.specs.Moments.{HasNoCopies};
 
     ghost view = { λ c. record {
       machine = c.machine;
       processors = record { current = c.current; runners = map (λ (e : EndpointId). e.0) c.runners.items };
     } };
 
+    // Between operations no page is in a copy, so memory is RAM.
     ghost invariant = { λ c. ArePlaced
-        (record { current = c.current; runners = map (λ (e : EndpointId). e.0) c.runners.items }) c.machine.state };
+        (record { current = c.current; runners = map (λ (e : EndpointId). e.0) c.runners.items }) c.machine.state
+        × HasNoCopies c.machine.past };
 }
 
 impl<M: PhysMem + Drop, T: Translations + Drop, S: Store> Cluster<M, T, S> {
     /// A machine of which the first processor did all operations so far: on all others the normal world runs.
     pub fn of(machine: Machine<M, T, S>) -> Cluster<M, T, S>
-        requires { IsHere machine.state }
+        requires here { IsHere machine.state }
+        requires free { HasNoCopies machine.past }
         ensures machine { result.machine ≡ machine }
         ensures processors { result.processors ≡ first_processors }
     {
@@ -70,9 +76,10 @@ impl<M: PhysMem + Drop, T: Translations + Drop, S: Store> Cluster<M, T, S> {
         }
     }
 
-    /// The machine as the processor of the last operation sees it.
+    /// The machine as the processor of the last operation sees it. Its RAM is memory itself.
     pub fn machine(&self) -> &Machine<M, T, S>
-        ensures { result.now ≡ self.now.machine }
+        ensures machine { result.now ≡ self.now.machine }
+        ensures memory { memory_in self.now.machine ≡ self.now.machine.ram }
     {
         &self.machine
     }
@@ -120,7 +127,8 @@ impl<M: PhysMem + Drop, T: Translations + Drop, S: Store> Cluster<M, T, S> {
 
     /// Gives back the machine, as the selected processor sees it.
     pub fn into_machine(self) -> Machine<M, T, S>
-        ensures { result ≡ self.machine }
+        ensures machine { result ≡ self.machine }
+        ensures free { HasNoCopies result.past }
     {
         self.machine
     }
@@ -129,6 +137,7 @@ impl<M: PhysMem + Drop, T: Translations + Drop, S: Store> Cluster<M, T, S> {
     #[inline(always)]
     fn holds(&self)
         ensures placed { ArePlaced self.now.processors self.now.machine.state }
+        ensures free { HasNoCopies self.now.machine.past }
         ensures agrees { Agrees self.now.machine.ram self.now.machine.state }
         ensures sound { IsSoundState self.now.machine.state }
         ensures walks { AreWalks self.now.machine }
@@ -146,9 +155,13 @@ impl<M: Observed + Drop, T: Translations + Drop, S: Store> Cluster<M, T, S> {
         // All that `Machine::op` promises of an operation holds of it, with pages of TX as they were observed; or a preempted
         // partition goes on, and all but the run states is as it was.
         ensures done { IsEffected M.is_shared self.old.machine op.now effect.new self.new.machine }
-        // Where nobody else writes, it is done by what stands in memory.
+        // Where nobody else writes, the outcome and the next state are exactly the small machine's.
         ensures alone { M.is_alone ≡ true → IsEffectedAlone self.old.machine.state op.now effect.new self.new.machine.state }
         ensures processors { self.new.processors ≡ self.old.processors }
+
+        // No page is in a copy any more, so memory is RAM, and each page lies where it lay.
+        ensures memory { memory_in self.new.machine ≡ self.new.machine.ram }
+        ensures places { self.new.machine.past.site.places ≡ self.old.machine.past.site.places }
 
         // Whatever others wrote: walks give the access of the state, which is sound, and nothing that the cache holds is stale.
         ensures agrees { Agrees self.new.machine.ram self.new.machine.state }

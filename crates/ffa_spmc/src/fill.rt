@@ -29,7 +29,8 @@ impl Fill {
         requires base { (M.ram ram.old).base ≡ manifest.now.ram_base.0 }
         requires size { length (M.ram ram.old).pages ≡ 512 * manifest.now.ram_blocks }
         requires zeros { self ≡ Fill.AlreadyZero → M.ram ram.old ≡ zero_ram manifest.now.ram_base.0 (512 * manifest.now.ram_blocks) }
-        ensures { IsFilled self manifest.now (M.ram ram.old) (M.ram ram.new) }
+        ensures filled { IsFilled self manifest.now (M.ram ram.old) (M.ram ram.new) }
+        ensures site { (M.past ram.new).site ≡ (M.past ram.old).site }
     {
         match self {
             Fill::Clear => clear(ram),
@@ -41,7 +42,8 @@ impl Fill {
 
 // Fills all pages with zeros.
 fn clear<M: PhysMem>(ram: &mut M)
-    ensures { M.ram ram.new ≡ zero_ram (M.ram ram.old).base (length (M.ram ram.old).pages) }
+    ensures zeros { M.ram ram.new ≡ zero_ram (M.ram ram.old).base (length (M.ram ram.old).pages) }
+    ensures site { (M.past ram.new).site ≡ (M.past ram.old).site }
 {
     for page in 0..ram.pages() {
         ram.clear_page(PageNo(page));
@@ -55,6 +57,7 @@ fn clear_rest<M: PhysMem>(ram: &mut M, manifest: &Manifest)
     ensures ready { IsReadyFor manifest.now (M.ram ram.new) }
     ensures kept { (p : ℕ) → first_owner manifest.now p ≢ manager
         → page_of (M.ram ram.new) p ≡ page_of (M.ram ram.old) p }
+    ensures site { (M.past ram.new).site ≡ (M.past ram.old).site }
 {
     for page in 0..ram.pages() {
         clear_unowned(ram, manifest, PageNo(page));
@@ -69,6 +72,7 @@ fn clear_unowned<M: PhysMem>(ram: &mut M, manifest: &Manifest, page: PageNo)
     ensures kept { first_owner manifest.now page.0 ≢ manager → M.ram ram.new ≡ M.ram ram.old }
     ensures whole { length (page_of (M.ram ram.new) page.0) ≡ 4096 }
     ensures bytes { are_bytes (page_of (M.ram ram.new) page.0) }
+    ensures site { (M.past ram.new).site ≡ (M.past ram.old).site }
 {
     if manifest.owner_of(page) == EndpointId::MANAGER {
         ram.clear_page(page);

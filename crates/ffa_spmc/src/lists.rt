@@ -1,7 +1,7 @@
 // SPDX-License-Identifier: MIT OR Apache-2.0
 //! Laws of operations one after another, and of operations while others write to memory.
 
-ghost use Rattle.std.specs.Prelude.{◌≡◌, ℕ, Bool, List, true};
+ghost use Rattle.std.specs.Prelude.{◌≡◌, ℕ, Bool, List, true, false};
 ghost use Rattle.ffa_model.specs.declared.operation.Act.{Act};
 ghost use Rattle.ffa_model.specs.declared.operation.Effect.{Effect};
 ghost use Rattle.ffa_model.specs.declared.operation.Op.{Op};
@@ -11,7 +11,7 @@ ghost use Rattle.ffa_model.specs.Processors.{ArePlaced};
 ghost use Rattle.ffa_model.specs.SoundState.{IsSoundState};
 ghost use Rattle.ffa_laws.specs.Isolation.{NeverGrow};
 ghost use Rattle.ffa_spmc.specs.Among.{AreDoneReading};
-ghost use Rattle.ffa_spmc.specs.Clustered.{AreActed, Clustered, IsRunOfActs, are_processors};
+ghost use Rattle.ffa_spmc.specs.Clustered.{AreActed, Clustered, IsRunOfActs, IsRunOfTurns, are_processors};
 ghost use Rattle.ffa_spmc.specs.Interleaved.{AreDoneBetween, IsInterleaved, IsRunOfAll};
 ghost use Rattle.ffa_spmc.specs.Meanwhile.{AreDoneAmid, LeavesAmid};
 ghost use Rattle.ffa_spmc.specs.Operated.{IsOperated};
@@ -38,11 +38,16 @@ pub fn left_among_others()
 {}
 
 /// Operations and interrupts of several processors are done one after another, each as `Cluster::select`, and then `Cluster::op` or
-/// `Cluster::interrupt` promise it, in RAM to which nobody else writes. They have the effects and leave the state that the definitions give for the list. What an endpoint sees, and its
-/// view afterwards, are the same from every state that it sees alike, with every list in which it does the same and learns the
-/// same. Rights never grow.
+/// `Cluster::interrupt` promise it. What an endpoint sees, and its view afterwards, are the same from every state that it sees
+/// alike, with every list in which it does the same and learns the same. Rights never grow.
 pub fn act_in_turn()
-    ensures { (old : Clustered) (acts : List (ℕ × Act)) (told : List Effect) (new : Clustered) → IsSoundState old.machine.state
-        → ArePlaced old.processors old.machine.state → are_processors acts ≡ true → AreActed old acts told new
-        → IsRunOfActs old acts told new }
+    // In RAM to which nobody else writes they have the effects and leave the state that the definitions give for the list.
+    ensures alone { (old : Clustered) (acts : List (ℕ × Act)) (told : List Effect) (new : Clustered)
+        → IsSoundState old.machine.state → ArePlaced old.processors old.machine.state → are_processors acts ≡ true
+        → AreActed false old acts told new → IsRunOfActs old acts told new }
+    // Where others write to the TX of whoever acts, and between acts into whatever they may, what they write are stores of endpoints
+    // between the acts.
+    ensures among { (shared : Bool) (old : Clustered) (acts : List (ℕ × Act)) (told : List Effect) (new : Clustered)
+        → IsSoundState old.machine.state → ArePlaced old.processors old.machine.state → are_processors acts ≡ true
+        → AreActed shared old acts told new → IsRunOfTurns old acts told new }
 {}

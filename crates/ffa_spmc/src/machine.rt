@@ -75,6 +75,7 @@ impl<M: PhysMem + Drop> Machine<M> {
         requires base { (M.ram ram).base ≡ manifest.now.ram_base.0 }
         requires size { length (M.ram ram).pages ≡ 512 * manifest.now.ram_blocks }
         ensures booted { IsBooted manifest.now result.state result.ram }
+        ensures site { result.past.site ≡ (M.past ram).site }
         ensures rest { TablesRest result.state result.ram result.past }
     {
         Machine::boot_with(manifest, ram, NoTlb)
@@ -87,6 +88,7 @@ impl<M: PhysMem + Drop, T: Translations + Drop> Machine<M, T> {
         requires base { (M.ram ram).base ≡ manifest.now.ram_base.0 }
         requires size { length (M.ram ram).pages ≡ 512 * manifest.now.ram_blocks }
         ensures booted { IsBooted manifest.now result.state result.ram }
+        ensures site { result.past.site ≡ (M.past ram).site }
         ensures held { result.held ≡ [] }
         ensures told { result.told ≡ None }
         ensures rest { TablesRest result.state result.ram result.past }
@@ -113,6 +115,7 @@ impl<M: PhysMem + Drop, T: Translations + Drop, S: Store> Machine<M, T, S> {
         requires size { length (M.ram ram).pages ≡ 512 * manifest.now.ram_blocks }
         requires zeros { fill ≡ Fill.AlreadyZero → M.ram ram ≡ zero_ram manifest.now.ram_base.0 (512 * manifest.now.ram_blocks) }
         ensures booted { IsBootedBy fill manifest.now (M.ram ram) result.state result.ram }
+        ensures site { result.past.site ≡ (M.past ram).site }
         ensures here { IsHere result.state }
         ensures held { result.held ≡ [] }
         ensures told { result.told ≡ None }
@@ -129,6 +132,7 @@ impl<M: PhysMem + Drop, T: Translations + Drop, S: Store> Machine<M, T, S> {
         requires ram { IsReadyFor manifest.now (M.ram ram) }
         requires storage { IsRoomFor manifest.now storage }
         ensures booted { IsBootedHeld manifest.now (M.ram ram) result.state result.ram }
+        ensures site { result.past.site ≡ (M.past ram).site }
         ensures held { result.held ≡ [] }
         ensures told { result.told ≡ None }
         ensures rest { TablesRest result.state result.ram result.past }
@@ -145,6 +149,7 @@ impl<M: PhysMem + Drop, T: Translations + Drop, S: Store> Machine<M, T, S> {
     /// The RAM, whose bytes are all that the machine keeps of tables and data.
     pub fn ram(&self) -> &M
         ensures ram { M.ram result.now ≡ self.now.ram }
+        ensures past { M.past result.now ≡ self.now.past }
         ensures agrees { Agrees (M.ram result.now) self.now.state }
     {
         self.manager.ram()
@@ -154,6 +159,7 @@ impl<M: PhysMem + Drop, T: Translations + Drop, S: Store> Machine<M, T, S> {
     /// as many pages.
     pub fn into_parts(self) -> (M, Storage<S>)
         ensures ram { M.ram result.0 ≡ self.ram }
+        ensures past { M.past result.0 ≡ self.past }
         ensures pages { length result.1.pages ≡ length self.ram.pages }
     {
         let Machine {

@@ -88,6 +88,7 @@ impl<M: PhysMem + Drop, S: Store> Manager<M, S> {
         requires ram { IsReadyFor manifest.now (M.ram ram) }
         requires storage { IsRoomFor manifest.now storage }
         ensures booted { IsBootedHeld manifest.now (M.ram ram) result.state result.ram }
+        ensures site { result.past.site ≡ (M.past ram).site }
         ensures rest { TablesRest result.state result.ram result.past }
     {
         let mut ram = ram;
@@ -101,6 +102,7 @@ impl<M: PhysMem + Drop, S: Store> Manager<M, S> {
     // The RAM, whose bytes are all that the machine keeps of tables and data.
     pub(crate) fn ram(&self) -> &M
         ensures ram { M.ram result.now ≡ self.now.ram }
+        ensures past { M.past result.now ≡ self.now.past }
         ensures agrees { Agrees (M.ram result.now) self.now.state }
     {
         &self.ram
@@ -110,6 +112,7 @@ impl<M: PhysMem + Drop, S: Store> Manager<M, S> {
     // for as many pages.
     pub(crate) fn into_parts(self) -> (M, Storage<S>)
         ensures ram { M.ram result.0 ≡ self.ram }
+        ensures past { M.past result.0 ≡ self.past }
         ensures pages { length result.1.pages ≡ length self.ram.pages }
     {
         let Manager { ram, kept } = self;

@@ -1,6 +1,7 @@
 // SPDX-License-Identifier: MIT OR Apache-2.0
 //! The same machine of several processors once more.
 ghost use Rattle.std.specs.Prelude.{◌≡◌, []};
+ghost use Rattle.ffa_physmem.specs.Moments.{HasNoCopies};
 ghost use Rattle.ffa_spmc.specs.Copies.{IsRamToCopy, IsRoomToCopy};
 ghost use Rattle.ffa_spmc.specs.Mixtures.{TablesRest};
 
@@ -22,8 +23,10 @@ impl<M: PhysMem + Drop, T: Translations + Drop, S: Store> Cluster<M, T, S> {
     ) -> Cluster<N, U, R>
         requires storage { IsRoomToCopy self.now.machine storage }
         requires ram { IsRamToCopy self.now.machine (N.ram ram) }
+        requires free { HasNoCopies (N.past ram) }
         ensures machine { result.machine ≡ record self.now.machine { held = []; past = result.machine.past } }
         ensures processors { result.processors ≡ self.now.processors }
+        ensures site { result.machine.past.site ≡ (N.past ram).site }
         ensures rest { TablesRest result.machine.state result.machine.ram result.machine.past }
     {
         Cluster {

@@ -24,6 +24,7 @@ impl<M: PhysMem + Drop, T: Translations + Drop, S: Store> Machine<M, T, S> {
         requires storage { IsRoomToCopy self.now storage }
         requires ram { IsRamToCopy self.now (N.ram ram) }
         ensures same { result ≡ record self.now { held = []; past = result.past } }
+        ensures site { result.past.site ≡ (N.past ram).site }
         ensures rest { TablesRest result.state result.ram result.past }
     {
         let mut cache = cache;

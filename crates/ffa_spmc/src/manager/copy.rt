@@ -23,6 +23,7 @@ impl<M: PhysMem + Drop, S: Store> Manager<M, S> {
         requires endpoints { length storage.pool.sent ≡ length self.now.state.parties }
         ensures state { result.state ≡ self.now.state }
         ensures ram { result.ram ≡ self.now.ram }
+        ensures site { result.past.site ≡ (N.past ram).site }
         ensures rest { TablesRest result.state result.ram result.past }
     {
         let mut ram = ram;
@@ -49,7 +50,8 @@ impl<M: PhysMem + Drop, S: Store> Manager<M, S> {
 fn copy_pages<M: PhysMem, N: PhysMem>(from: &M, to: &mut N)
     requires base { (N.ram to.old).base ≡ (M.ram from.now).base }
     requires size { length (N.ram to.old).pages ≡ length (M.ram from.now).pages }
-    ensures { N.ram to.new ≡ M.ram from.now }
+    ensures same { N.ram to.new ≡ M.ram from.now }
+    ensures site { (N.past to.new).site ≡ (N.past to.old).site }
 {
     for page in 0..from.pages() {
         *to.page_mut(PageNo(page)) = *from.page(PageNo(page));

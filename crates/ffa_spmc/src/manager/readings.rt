@@ -6,7 +6,7 @@ ghost use Rattle.ffa_model.specs.declared.limits.TheConstants.{MOST_BUFFER_PAGES
 ghost use Rattle.ffa_model.specs.Ram.{page_of};
 ghost use Rattle.ffa_model.specs.SoundState.{are_bytes};
 ghost use Rattle.ffa_model.specs.State.{page_at};
-ghost use Rattle.ffa_physmem.specs.Moments.{AgreeInFirst, IsBeside, IsReading, One};
+ghost use Rattle.ffa_physmem.specs.Moments.{AgreeInFirst, HasNoCopies, IsBeside, IsReading, OneMore, is_copied, memory_of, on_site_of};
 ghost use Rattle.ffa_laws.specs.Reads.{AreBeside, bytes_read, pages_holding};
 ghost use Rattle.ffa_spmc.specs.Among.{HaveInFront, bytes_read_by, is_in, pages_read, reads_tx};
 ghost use Rattle.ffa_spmc.specs.Moments.{AreMoments};
@@ -97,27 +97,33 @@ fn hold_bytes<M: PhysMem>(ram: &M, run: Run)
 fn observe_in<M: Observed>(ram: &mut M, front: Front)
     requires within { front.pages.first.0 + front.pages.count ≤ length (M.ram ram.old).pages }
     requires few { front.pages.count ≤ MOST_BUFFER_PAGES }
+    requires free { HasNoCopies (M.past ram.old) }
     ensures beside { IsBeside (M.ram ram.old) (M.ram ram.new) (is_in front.pages) }
     ensures whole { (p : ℕ) → length (page_of (M.ram ram.new) p) ≡ length (page_of (M.ram ram.old) p) }
-    ensures steps { One (M.past ram.old) (M.past ram.new) (λ s.
+    ensures steps { OneMore (M.past ram.old).steps (M.past ram.new).steps (λ s.
         IsReading (M.ram ram.old) (M.ram ram.new) front.pages.first.0 front.pages.count true s) }
     ensures bytes { (p : ℕ) → is_in front.pages p ≡ true → are_bytes (page_of (M.ram ram.new) p) }
-    ensures held { (p : ℕ) → is_in front.pages p ≡ true → M.is_held ram.new p ≡ true }
+    ensures places { (M.past ram.new).site.places ≡ (M.past ram.old).site.places }
+    ensures only { (p : ℕ) → is_copied (M.past ram.new) p ≡ true → is_in front.pages p ≡ true }
+    ensures memory { M.is_alone ≡ true → M.memory ram.new ≡ M.memory ram.old }
     // Where nobody else writes these bytes are what they were.
     ensures same { M.is_alone ≡ true → (p : ℕ) → is_in front.pages p ≡ true
         → AgreeInFirst front.bytes front.pages.first.0 p (page_of (M.ram ram.new) p) (page_of (M.ram ram.old) p) }
 {
-    ram.rest();
     ram.observe(front.pages.first, front.pages.count, front.bytes);
     hold_bytes(ram, front.pages);
 }
 
 // Ends that.
 fn release_in<M: Observed>(ram: &mut M, run: Run)
-    requires { run.first.0 + run.count ≤ length (M.ram ram.old).pages }
+    requires within { run.first.0 + run.count ≤ length (M.ram ram.old).pages }
+    requires only { (p : ℕ) → is_copied (M.past ram.old) p ≡ true → is_in run p ≡ true }
     ensures beside { IsBeside (M.ram ram.old) (M.ram ram.new) (is_in run) }
     ensures whole { (p : ℕ) → length (page_of (M.ram ram.new) p) ≡ length (page_of (M.ram ram.old) p) }
-    ensures steps { One (M.past ram.old) (M.past ram.new) (λ s.
+    ensures places { (M.past ram.new).site.places ≡ (M.past ram.old).site.places }
+    ensures free { HasNoCopies (M.past ram.new) }
+    ensures memory { M.is_alone ≡ true → M.memory ram.new ≡ M.memory ram.old }
+    ensures steps { OneMore (M.past ram.old).steps (M.past ram.new).steps (λ s.
         IsReading (M.ram ram.old) (M.ram ram.new) run.first.0 run.count false s) }
     ensures bytes { (p : ℕ) → is_in run p ≡ true → are_bytes (page_of (M.ram ram.new) p) }
 {
@@ -175,12 +181,18 @@ impl<M: Observed + Drop, S: Store> Manager<M, S> {
     pub(crate) fn begin_reading(&mut self, front: Front)
         requires within { front.pages.first.0 + front.pages.count ≤ length self.old.ram.pages }
         requires few { front.pages.count ≤ MOST_BUFFER_PAGES }
+        requires free { HasNoCopies self.old.past }
         requires aside { (p : ℕ) → is_in front.pages p ≡ true → IsNoTable self.old.state p }
         ensures state { AreBeside self.old.state self.new.state (is_in front.pages) }
         ensures ram { IsBeside self.old.ram self.new.ram (is_in front.pages) }
-        ensures step { One self.old.past self.new.past (λ s.
+        ensures places { self.new.past.site.places ≡ self.old.past.site.places }
+        ensures only { (p : ℕ) → is_copied self.new.past p ≡ true → is_in front.pages p ≡ true }
+        ensures memory { M.is_alone ≡ true
+            → memory_of self.new.ram self.new.past ≡ memory_of self.old.ram self.old.past }
+        ensures step { OneMore self.old.past.steps self.new.past.steps (λ s.
             IsReading self.old.ram self.new.ram front.pages.first.0 front.pages.count true s) }
-        ensures moments { AreMoments self.old.state self.old.ram self.new.ram self.old.past self.new.past }
+        ensures moments { AreMoments self.old.state self.old.ram self.new.ram self.old.past
+            (on_site_of self.old.past self.new.past) }
         ensures same { M.is_alone ≡ true → HaveInFront front.pages front.bytes self.old.state self.new.state }
     {
         observe_in(&mut self.ram, front);
@@ -190,11 +202,17 @@ impl<M: Observed + Drop, S: Store> Manager<M, S> {
     pub(crate) fn end_reading(&mut self, run: Run)
         requires within { run.first.0 + run.count ≤ length self.old.ram.pages }
         requires aside { (p : ℕ) → is_in run p ≡ true → IsNoTable self.old.state p }
+        requires only { (p : ℕ) → is_copied self.old.past p ≡ true → is_in run p ≡ true }
         ensures state { AreBeside self.old.state self.new.state (is_in run) }
         ensures ram { IsBeside self.old.ram self.new.ram (is_in run) }
-        ensures step { One self.old.past self.new.past (λ s.
+        ensures places { self.new.past.site.places ≡ self.old.past.site.places }
+        ensures free { HasNoCopies self.new.past }
+        ensures memory { M.is_alone ≡ true
+            → memory_of self.new.ram self.new.past ≡ memory_of self.old.ram self.old.past }
+        ensures step { OneMore self.old.past.steps self.new.past.steps (λ s.
             IsReading self.old.ram self.new.ram run.first.0 run.count false s) }
-        ensures moments { AreMoments self.old.state self.old.ram self.new.ram self.old.past self.new.past }
+        ensures moments { AreMoments self.old.state self.old.ram self.new.ram self.old.past
+            (on_site_of self.old.past self.new.past) }
     {
         release_in(&mut self.ram, run);
     }

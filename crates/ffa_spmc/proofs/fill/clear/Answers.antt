@@ -4,8 +4,8 @@ use Rattle.std.proofs.lemmas.List.{ext_get_or, get_or-replicate, length-replicat
 use Rattle.ffa_model.specs.Ram.{Ram}
 use Rattle.ffa_spmc.proofs.fill.clear.Goals as goal
 
-pub returns : goal.returns
-returns g c =
+pub returns-clause-zeros : goal.returns-clause-zeros
+returns-clause-zeros g c =
     let i = c.loop-page.invariant in
     let old : Ram = g.M.PhysMem.ram c.args.ram.now in
     let new : Ram = g.M.PhysMem.ram c.loop-page.ram in

@@ -9,4 +9,5 @@ invariant-loop-page g l = record {
   base : (g.M.PhysMem.ram l.ram).base ≡ (g.M.PhysMem.ram l.fn.ram).base;
   size : length (g.M.PhysMem.ram l.ram).pages ≡ length (g.M.PhysMem.ram l.fn.ram).pages;
   zeros : (p : ℕ) → p < l.page → page_of (g.M.PhysMem.ram l.ram) p ≡ replicate 4096 0;
+  site : (g.M.PhysMem.past l.ram).site ≡ (g.M.PhysMem.past l.fn.ram).site;
 }

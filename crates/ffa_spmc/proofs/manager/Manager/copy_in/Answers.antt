@@ -13,7 +13,7 @@ returns-clause-rest g c =
     let past = g.N.PhysMem.past c.settle_tables.new.memory in
     let within : Ram → Parts = λ r. record { ram = r; manifest = c.self.inside.kept.manifest; kept = kept_parts c.self.inside.kept } in
     let machine : IsManager (within ram) =
-    subst (λ (r : Ram). IsManager (within r)) (sym (c.settle_tables.ensures.ram ∙ c.copy_pages.ensures)) c.self.invariant in
+    subst (λ (r : Ram). IsManager (within r)) (sym (c.settle_tables.ensures.ram ∙ c.copy_pages.ensures.same)) c.self.invariant in
     let same = c.copy_in.ensures in
     let copied : within ram ≡ record { ram = ram; manifest = c.copy_in.result.manifest; kept = kept_parts c.copy_in.result } =
     λ i. record {

@@ -3,8 +3,8 @@ use Rattle.std.proofs.Common.{[], arith}
 use Rattle.std.proofs.lemmas.List.{ext_get_or}
 use Rattle.ffa_spmc.proofs.manager.copy.copy_pages.Goals as goal
 
-pub returns : goal.returns
-returns g c =
+pub returns-clause-same : goal.returns-clause-same
+returns-clause-same g c =
     let l = c.loop-page.invariant in
     let to = g.N.PhysMem.ram c.loop-page.to in
     let from = g.M.PhysMem.ram c.args.from.now in

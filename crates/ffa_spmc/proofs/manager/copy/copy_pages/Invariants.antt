@@ -9,4 +9,5 @@ invariant-loop-page g l = record {
   base : (g.N.PhysMem.ram l.to).base ≡ (g.M.PhysMem.ram l.from).base;
   size : length (g.N.PhysMem.ram l.to).pages ≡ length (g.M.PhysMem.ram l.from).pages;
   like : (p : ℕ) → p < l.page → page_of (g.N.PhysMem.ram l.to) p ≡ page_of (g.M.PhysMem.ram l.from) p;
+  site : (g.N.PhysMem.past l.to).site ≡ (g.N.PhysMem.past l.fn.to).site;
 }
