@@ -1,6 +1,8 @@
 -- SPDX-License-Identifier: MIT OR Apache-2.0
 -- The heap's handle as one machine value, and the drop of a value as a call asks for it. Assumes `Logic`.
-use Rattle.ffa_lent.proofs.Steps.{[], ◌∷◌, refl, raw, ◌$◌, ◌∵◌, !, qed, drop, join, RattleType, bare, ⊑_refl, sem, vunit, vstruct, ftrue, plain, nothing, unit, fsep, SProp, sep, emp, emp∗, ex_i, Running, layout, param, Signature, Res, Meets, Spec, run_framed, vcons, vnil, Dict, impl, tcons, tnil, dnil, method, no_args, Ura, by, Logic}
+use Rattle.ffa_lent.proofs.Steps.{[], ◌∷◌, refl, raw, ◌$◌, ◌∵◌, !, qed, drop, join, RattleType, Struct, bare, ⊑_refl, sem, vunit, vstruct, ftrue, plain, nothing, unit, fsep, SProp, sep, emp, emp∗, ex_i, Running, layout, param, Signature, Res, Meets, Spec, run_framed, vcons, vnil, Dict, impl, tcons, tnil, dnil, method, no_args, Ura, by, Logic}
+use denote.Struct.Declared.{shape}
+use denote.Struct.Laws.{field_plain}
 use denote.Param.Glue as glue
 use denote.Triple.Carry.{beside, spared}
 use Rattle.std.proofs.Handle.{heap_val, heap_Tells}
@@ -10,17 +12,25 @@ use Rattle.std.proofs.alloc.Global.TheLaws as heap_laws
 use Rattle.std.specs.contracts.alloc.Global as heap
 use Rattle.std.specs.contracts.impls.GlobalAllocator.TheImpl.{ghosts, dict}
 
+abbrev to : heap.the_row.Denot → (Struct (shape heap.the_type)).Denot
+to = heap.the_type.to
+
 abbrev pub keeper : Handle
 keeper = record {
-  D = heap.the_type;
-  plains = heap_laws.the_plain;
+  A = heap.the_row;
   laws = heap_laws.the_row_laws;
+  pure = λ a vs. field_plain heap.the_type heap_laws.the_plain (to a) vs;
+  R = Struct (shape heap.the_type);
+  into = to;
+  into_one = heap.the_type.to_one;
+  plain = field_plain heap.the_type heap_laws.the_plain;
   ghosts = ghosts;
   dict = dict;
   drops = impl ("ffa_c::Destruct++none::drop" ∷ []) (tcons (bare (layout heap.the_row)) tnil) dnil;
   hand = heap_val;
   fits = (tt, ((tt, tt), tt));
   tells = heap_Tells;
+  is_field = λ a. ((vstruct (vcons vunit vnil) ∷ [], tt), (refl, (((vunit ∷ [], tt), (refl, (refl, tt))), tt)));
   is = λ a. ((vstruct (vcons vunit vnil) ∷ [], tt), (refl, (((vunit ∷ [], tt), (refl, (refl, tt))), tt)));
   unseen = λ a. (tt, (λ w. tt));
   lasts = ⊑_refl [];

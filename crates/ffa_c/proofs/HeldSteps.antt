@@ -1,6 +1,6 @@
 -- SPDX-License-Identifier: MIT OR Apache-2.0
 -- `Held` and `HeldList` as pointers to boxes. Assumes `Logic`.
-use Rattle.ffa_lent.proofs.Steps.{◌≡◌, [], ◌∷◌, Option, None, Some, IsSome, refl, id⊢, sem, ⊑_refl, ‵, ◌$◌, ◌∵◌, !, qed, done, keep, nothing, Ptr, Fml, ent, Ty, impl, tnil, dnil, Ura, Logic}
+use Rattle.ffa_lent.proofs.Steps.{◌≡◌, ◌∙◌, sym, ap, [], ◌∷◌, Option, None, Some, IsSome, refl, id⊢, sem, ⊑_refl, ‵, ◌$◌, ◌∵◌, !, qed, done, keep, nothing, Ptr, Fml, ent, Ty, impl, tnil, dnil, Ura, Logic}
 use Rattle.std.proofs.lemmas.Bool.{false≢true}
 use Rattle.std.specs.Box.Ownership.{box_owns}
 use Rattle.ffa_lent.specs.Slots.{slot_owns}
@@ -39,6 +39,10 @@ to_list = record {
   same = λ v x. v ≡ Some x;
   has = λ v there. there;
   right = λ v x there is. is;
+  Shut = λ b d. d.value ≡ Some b.value;
+  shut = λ b p said. refl;
+  Opened = λ d b. d.value ≡ Some b.value;
+  opened = λ d b x there held said is from. held ∙ ap Some (sym is);
   again = λ {M} {𝓤} 𝓛 holds p x. id⊢ 𝓤 _;
   mir = refl;
   tells = list_lowers.val_is;
@@ -80,6 +84,10 @@ to_seat = record {
   same = λ v x. x ≡ v;
   has = has-seat;
   right = in-seat;
+  Shut = λ b d. d.value ≡ b.value;
+  shut = λ b p said. refl;
+  Opened = λ d b. b.value ≡ d.value;
+  opened = λ d b x there held said is from. is ∙ in-seat d.value x there held;
   again = owned-again;
   mir = refl;
   tells = held_lowers.val_is;

@@ -3,6 +3,7 @@
 -- other one, whether its RAM is lent, and which notifications the normal world has been told of.
 use Rattle.std.specs.Prelude.{Bool, true, false, List, ℕ, Option, Some, refl}
 use Rattle.std.specs.Option.{option_map}
+use Rattle.std.specs.Ptr.{Ptr}
 use Rattle.std.specs.Coded.{Coded, code_by, coded_bool, coded×}
 use Rattle.ffa_model.specs.Codes.{coded_bits}
 use Rattle.ffa_model.specs.Processors.{Processors}
@@ -45,3 +46,7 @@ lends held = option_map (λ b. b.is_lent) held
 
 abbrev pub ram_pages : Option Boarded → Option (List (List ℕ))
 ram_pages held = option_map (λ b. b.machine.ram.pages) held
+
+-- and where each of these pages lies
+abbrev pub ram_places : Option Boarded → Option (List Ptr)
+ram_places held = option_map (λ b. b.machine.past.site.places) held

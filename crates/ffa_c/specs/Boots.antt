@@ -3,8 +3,9 @@
 use Rattle.std.specs.Prelude.{◌≡◌, ◌≢◌, ℕ, true, false, [], None, Some}
 use Rattle.ffa_manifest.specs.Document.{Parts}
 use Rattle.ffa_manifest.specs.declared.error.ManifestError.{ManifestError}
+use Rattle.ffa_c.specs.Boarded.{ram_places}
 use Rattle.ffa_c.specs.Booting.{HasBegun, HasBooted, IsFirstBy, TellsCause, TellsWhy}
-use Rattle.ffa_c.specs.Lending.{bytes_of, pages_of}
+use Rattle.ffa_c.specs.Lending.{bytes_of, pages_of, places_of}
 use Rattle.ffa_c.specs.declared.board.FirstBytes.{FirstBytes}
 use Rattle.ffa_c.specs.declared.lending.CLent.{CLent}
 use Rattle.ffa_c.specs.declared.machine.CMachine.{CMachine}
@@ -24,6 +25,8 @@ pub record BootsLent (describes : Parts → Type 0) (is_cause : ManifestError �
   pub no_list : old.live ≡ false → before.live ≡ false → answer ≡ 16
   pub vacant : answer ≡ 0 → old.held.value ≡ None
   pub booted : answer ≡ 0 → HasBegun describes (IsFirstBy bytes (bytes_of before.held.value)) true new.held.value
+  -- each page lies where it was lent
+  pub placed : answer ≡ 0 → ram_places new.held.value ≡ places_of before.held.value
   pub emptied : answer ≡ 0 → pages_of after.held.value ≡ Some []
   pub machine : answer ≢ 0 → new ≡ old
   pub list : answer ≢ 0 → after.held.value ≡ before.held.value

@@ -22,7 +22,7 @@ use Rattle.ffa_notify.specs.Noticed.{in_one_context, notice_asked, noticed, told
 use Rattle.ffa_notify.specs.Notices.{Told, is_due}
 use Rattle.ffa_notify.specs.declared.notices.Notice.{Notice}
 use Rattle.ffa_spmc.specs.Clustered.{Clustered, IsEffected, IsEffectedAlone}
-use Rattle.ffa_spmc.specs.Snapshot.{Snapshot}
+use Rattle.ffa_spmc.specs.Snapshot.{Snapshot, memory_in}
 use Rattle.ffa_spmc.specs.Unowned.{KeepsUnowned}
 use Rattle.ffa_c.specs.declared.outcome.COutcome.{COutcome}
 use Rattle.ffa_c.specs.Boarded.{Boarded, boarded_by, cluster_of}
@@ -79,9 +79,12 @@ pub record HasDone (is_lent : Bool) (notices : Told) (old new : Clustered) (op :
   pub effect : Effect
   pub is_told : told ≡ packed_effect (noticed notices (notifications_of new.machine.state) (asked_by old op) effect)
   pub done : IsEffected is_lent old.machine (in_one_context op) effect new.machine
-  -- as far as contracts see nobody else wrote meanwhile, so it was done by what stood in memory
+  -- As far as contracts see, nobody else wrote at the same time. So the state is exactly the one that the definitions give.
   pub alone : IsEffectedAlone old.machine.state (in_one_context op) effect new.machine.state
   pub processors : new.processors ≡ old.processors
+  -- no page is in a copy any more, so memory is RAM, and each page lies where it lay
+  pub memory : memory_in new.machine ≡ new.machine.ram
+  pub places : new.machine.past.site.places ≡ old.machine.past.site.places
   pub agrees : Agrees new.machine.ram new.machine.state
   pub unowned : KeepsUnowned old.machine.state old.machine.ram new.machine.ram
   pub sound : IsSoundState new.machine.state

@@ -2,12 +2,17 @@
 -- What lending pages does to what C holds.
 use Rattle.std.specs.Prelude.{◌≡◌, ℕ, ◌≤◌, List, [], ◌∷◌, ◌++◌, length, Option, None, Some, if◌then◌else◌}
 use Rattle.std.specs.Option.{option_map}
+use Rattle.std.specs.Ptr.{Ptr}
 use Rattle.ffa_c.specs.LentPages.{LentPages}
 use Rattle.ffa_c.specs.Boarded.{Boarded}
 
 -- the pages of a list, where there is a list
 abbrev pub pages_of : Option LentPages → Option (List (List ℕ))
 pages_of list = option_map (λ l. l.pages) list
+
+-- and where each lies
+abbrev pub places_of : Option LentPages → Option (List Ptr)
+places_of list = option_map (λ l. l.places) list
 
 -- the bytes of its pages in order; nothing where there is no list
 abbrev pub bytes_of : Option LentPages → List (List ℕ)
@@ -24,10 +29,10 @@ abbrev pub ready_for : Option LentPages → ℕ
 ready_for None = 0
 ready_for (Some l) = l.ready_for
 
--- a page goes from a slot to the end of a list: it is there once, and the slot is empty
-pub record IsLent (old new : Option (List (List ℕ))) (slot slot_after : Option (List ℕ)) : Type 0 where
-  pub pages : List (List ℕ)
-  pub page : List ℕ
+-- a page goes from a slot to the end of a list: it is there once, and the slot is empty; by the bytes of pages, or by where they lie
+pub record IsLent {X : Type 0} (old new : Option (List X)) (slot slot_after : Option X) : Type 0 where
+  pub pages : List X
+  pub page : X
   pub list : old ≡ Some pages
   pub given : slot ≡ Some page
   pub added : new ≡ Some (pages ++ page ∷ [])
@@ -67,10 +72,10 @@ abbrev pub freed_answer : Option Boarded → Option (List (List ℕ)) → ℕ
 freed_answer None list = 19
 freed_answer (Some b) list = if b.is_lent then list_answer list else 0
 
--- the list afterwards: it has the pages of RAM that was lent, and else those of before
-abbrev pub given_back : Option Boarded → Option (List (List ℕ)) → Option (List (List ℕ))
-given_back None list = list
-given_back (Some b) list = if b.is_lent then Some b.machine.ram.pages else list
+-- the list afterwards: it has the pages of RAM that was lent, and else those of before; by what is seen of the pages of each
+abbrev pub given_back : {X : Type 0} → (Boarded → List X) → Option Boarded → Option (List X) → Option (List X)
+given_back pages None list = list
+given_back pages (Some b) list = if b.is_lent then Some (pages b) else list
 
 -- how many pages a list has
 abbrev pub page_count : Option (List (List ℕ)) → ℕ

@@ -1,6 +1,6 @@
 -- SPDX-License-Identifier: MIT OR Apache-2.0
 -- What C is told of a manifest that is refused: why, and where.
-use Rattle.std.specs.Prelude.{◌≡◌, ℕ, suc, ◌&&◌, nat_le, List, [], ◌∷◌, take, Option, Some, None, Result, Ok, Err, is_ok, is_some, IsOk, IsUtf8, if◌then◌else◌}
+use Rattle.std.specs.Prelude.{◌≡◌, ℕ, suc, ◌&&◌, nat_le, List, [], ◌∷◌, ◌++◌, drop, length, min, take, Option, Some, None, Result, Ok, Err, is_ok, is_some, IsOk, IsUtf8, if◌then◌else◌}
 use Rattle.ffa_model.specs.declared.endpoint.Endpoint.{Endpoint}
 use Rattle.ffa_model.specs.declared.endpoint.EndpointId.{EndpointId}
 use Rattle.ffa_model.specs.declared.limits.TheConstants.{MOST_ENDPOINTS, MOST_REGIONS}
@@ -47,6 +47,16 @@ pub record IsToldOf (text : List ℕ) (its : ManifestRefusal) (told : CRefusal) 
   pub region : told.region ≡ region_told its.place.region
   pub line : told.line ≡ line_told text its.byte
   pub column : told.column ≡ column_told text its.byte
+
+-- An array after these words are told in it: as many of them as fit before a NUL, then the NUL, and then the array as before. An
+-- empty array stays.
+abbrev pub told_in : List ℕ → List ℕ → List ℕ
+told_in [] said = []
+told_in (byte ∷ bytes) said = let n = min (length said) (length bytes) in take n said ++ 0 ∷ drop n bytes
+
+-- an array tells some words, and as many are counted as these words have
+abbrev pub TellsWords : CRefusal → List ℕ → List ℕ → Type 0
+TellsWords told old new = (said : List ℕ) × (told.words ≡ length said) × (new ≡ told_in old said)
 
 -- it is what the program's reader says of it
 abbrev pub TellsText : List ℕ → CRefusal → Type 0

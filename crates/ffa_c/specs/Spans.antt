@@ -3,9 +3,10 @@
 use Rattle.std.specs.Prelude.{◌≡◌, ℕ, ◌+◌, ◌<◌, List, [], ◌∷◌, ◌++◌, length, Option, None, Some}
 use Rattle.ffa_c.specs.LentPages.{LentPages}
 
--- pages go to the end of a list, in order: each is there once, and none is left where they were
-pub record AreLent (old new : Option (List (List ℕ))) (span span_after : List (List ℕ)) : Type 0 where
-  pub pages : List (List ℕ)
+-- pages go to the end of a list, in order: each is there once, and none is left where they were; by the bytes of pages, or by where
+-- they lie
+pub record AreLent {X : Type 0} (old new : Option (List X)) (span span_after : List X) : Type 0 where
+  pub pages : List X
   pub list : old ≡ Some pages
   pub added : new ≡ Some (pages ++ span)
   pub emptied : span_after ≡ []

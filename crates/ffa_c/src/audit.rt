@@ -8,7 +8,7 @@ ghost use Rattle.ffa_model.specs.Certificate.{certificate};
 ghost use Rattle.ffa_model.specs.Walk.{is_page_address};
 ghost use Rattle.ffa_c.specs.Audit.{Audited, Checked, IsChecked, Judged, access_given, all_given, are_roots, is_placed_ram, ram_at, run_given};
 ghost use Rattle.ffa_c.specs.CertRuns.{cert_told};
-ghost use Rattle.ffa_c.specs.Lending.{pages_of, ready_for};
+ghost use Rattle.ffa_c.specs.Lending.{pages_of, places_of, ready_for};
 
 use crate::board::Board;
 use crate::cert_run::CCertRun;
@@ -62,6 +62,7 @@ pub extern "C" fn gorseplumb_audit_tables(
 ) -> u32
     ensures told { Checked lent.old.held.value base roots.now runs.now result }
     ensures pages { pages_of lent.new.held.value ≡ pages_of lent.old.held.value }
+    ensures places { places_of lent.new.held.value ≡ places_of lent.old.held.value }
     ensures ready { ready_for lent.old.held.value ≤ ready_for lent.new.held.value }
     ensures unjudged { result ≢ 0 → result ≢ 21 → lent.new.held.value ≡ lent.old.held.value }
 {
@@ -81,6 +82,7 @@ fn audit_list(
 ) -> u32
     ensures told { IsChecked (ram_at base list.old.pages) roots.now given.now result }
     ensures pages { list.new.pages ≡ list.old.pages }
+    ensures places { list.new.places ≡ list.old.places }
     ensures ready { list.old.ready_for ≤ list.new.ready_for }
     ensures unjudged { result ≢ 0 → result ≢ 21 → list.new ≡ list.old }
 {

@@ -12,6 +12,7 @@ ghost use Rattle.ffa_model.specs.Processors.{first_processors};
 ghost use Rattle.ffa_model.specs.Ram.{page_of, zero_ram};
 ghost use Rattle.ffa_model.specs.Why.{granted};
 ghost use Rattle.ffa_manifest.specs.Document.{parts_of};
+ghost use Rattle.ffa_physmem.specs.Moments.{HasNoCopies};
 ghost use Rattle.ffa_spmc.specs.Booted.{IsBootedBy};
 ghost use Rattle.ffa_spmc.specs.Storages.{IsRoomFor};
 ghost use Rattle.ffa_notify.specs.Noticed.{in_one_context};
@@ -102,6 +103,8 @@ fn boot_cluster<M: PhysMem + Drop, S: Store>(
     requires base { (M.ram ram).base ≡ manifest.now.ram_base.0 }
     requires size { length (M.ram ram).pages ≡ 512 * manifest.now.ram_blocks }
     requires zeros { fill ≡ Fill.AlreadyZero → M.ram ram ≡ zero_ram manifest.now.ram_base.0 (512 * manifest.now.ram_blocks) }
+    requires free { HasNoCopies (M.past ram) }
+    ensures site { result.machine.past.site ≡ (M.past ram).site }
     ensures booted { IsBootedBy fill manifest.now (M.ram ram) result.machine.state result.machine.ram }
     ensures told { result.machine.told ≡ None }
     ensures processors { result.processors ≡ first_processors }
@@ -138,6 +141,8 @@ impl Board {
         requires storage { IsRoomFor manifest.now storage }
         requires base { (⟦<LentRam as PhysMem>⟧.ram ram).base ≡ manifest.now.ram_base.0 }
         requires size { length (⟦<LentRam as PhysMem>⟧.ram ram).pages ≡ 512 * manifest.now.ram_blocks }
+        requires free { HasNoCopies (⟦<LentRam as PhysMem>⟧.past ram) }
+        ensures site { result.machine.past.site ≡ (⟦<LentRam as PhysMem>⟧.past ram).site }
         ensures first { IsFirstBy bytes (⟦<LentRam as PhysMem>⟧.ram ram).pages (parts_of manifest.now) result.machine }
         ensures processors { result.processors ≡ first_processors }
         ensures notices { result.notices ≡ finite_set.empty }
@@ -165,6 +170,7 @@ impl Board {
     pub fn into_frames(self) -> (Frames, Storage<Given<Global>>)
         requires { self.is_lent ≡ true }
         ensures pages { result.0.pages ≡ self.machine.ram.pages }
+        ensures places { result.0.places ≡ self.machine.past.site.places }
         ensures ready { result.0.is_ready ≡ true }
         ensures room { length result.1.pages ≡ length result.0.pages }
     {

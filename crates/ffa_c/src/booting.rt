@@ -6,6 +6,7 @@ ghost use Rattle.ffa_manifest.specs.Document.{Parts, parts_of};
 ghost use Rattle.ffa_manifest.specs.declared.error.ManifestError.{ManifestError};
 ghost use Rattle.ffa_manifest.specs.declared.error.ManifestError.TheVariants as causes;
 ghost use Rattle.ffa_spmc.specs.Storages.{IsRoomFor};
+ghost use Rattle.ffa_c.specs.Boarded.{ram_places};
 ghost use Rattle.ffa_c.specs.Booting.{Describes, HasBegun, HasBooted, IsFirstBy, IsRefusedFor, cause_number};
 ghost use Rattle.ffa_c.specs.Boots.{Boots, BootsLent};
 ghost use Rattle.ffa_c.specs.declared.board.FirstBytes.TheVariants.{Cleared, Kept};
@@ -51,6 +52,7 @@ pub(crate) trait ManifestForm {
 
 impl ManifestForm for &[u8] {
     ghost use Rattle.std.specs.Prelude.{true};
+    ghost use Rattle.ffa_c.specs.Boarded.{ram_places};
     ghost use Rattle.ffa_c.specs.Booting.{Describes, IsRefusedFor};
 
     ghost describes = { λ text parts. Describes text.now parts };
@@ -290,6 +292,7 @@ fn boot_over(
     requires { machine.old.held.value ≡ None }
     ensures booted { result ≡ 0
         → HasBegun (λ p. p ≡ parts_of manifest.now) (IsFirstBy bytes list.old.pages) true machine.new.held.value }
+    ensures placed { result ≡ 0 → ram_places machine.new.held.value ≡ Some list.old.places }
     ensures emptied { result ≡ 0 → list.new.pages ≡ [] }
     ensures machine { result ≢ 0 → machine.new ≡ machine.old }
     ensures list { result ≢ 0 → list.new ≡ list.old }

@@ -2,7 +2,8 @@
 //! Copies machines for C: into RAM of the heap, and into RAM that is lent.
 ghost use Rattle.std.specs.Prelude.{◌≡◌, ◌≢◌, ◌<◌, [], length, true, false, None, Some, IfOk};
 ghost use Rattle.ffa_c.specs.Copying.{HasCopied, copied_answer, copied_lent_answer};
-ghost use Rattle.ffa_c.specs.Lending.{page_count, pages_of, ready_for};
+ghost use Rattle.ffa_c.specs.Boarded.{ram_places};
+ghost use Rattle.ffa_c.specs.Lending.{page_count, pages_of, places_of, ready_for};
 
 use crate::board::Board;
 use crate::booting::open_heap;
@@ -53,6 +54,7 @@ pub extern "C" fn gorseplumb_copy_lent(
         → copied_lent_answer machine.old.held.value (pages_of lent.old.held.value) original.old.held.value ≡ 0 }
     ensures unready { result ≡ NO_MEMORY → ready_for lent.old.held.value < page_count (pages_of lent.old.held.value) }
     ensures copied { result ≡ 0 → HasCopied true original.old.held.value machine.new.held.value }
+    ensures placed { result ≡ 0 → ram_places machine.new.held.value ≡ places_of lent.old.held.value }
     ensures emptied { result ≡ 0 → pages_of lent.new.held.value ≡ Some [] }
     ensures machine { result ≢ 0 → machine.new ≡ machine.old }
     ensures list { result ≢ 0 → lent.new.held.value ≡ lent.old.held.value }
@@ -101,6 +103,7 @@ fn copy_to_lent(alloc: Global, machine: &mut CMachine, list: &mut LentList, orig
     ensures wanting { result ≡ NO_MEMORY → copied_lent_answer None (Some list.old.pages) (Some original.now) ≡ 0 }
     ensures unready { result ≡ NO_MEMORY → list.old.ready_for < length list.old.pages }
     ensures copied { result ≡ 0 → HasCopied true (Some original.now) machine.new.held.value }
+    ensures placed { result ≡ 0 → ram_places machine.new.held.value ≡ Some list.old.places }
     ensures emptied { result ≡ 0 → list.new.pages ≡ [] }
     ensures machine { result ≢ 0 → machine.new ≡ machine.old }
     ensures list { result ≢ 0 → list.new ≡ list.old }

@@ -4,7 +4,7 @@ ghost use Rattle.std.specs.Prelude.{◌≡◌, ◌≢◌, None};
 ghost use Rattle.ffa_c.specs.Ending.{ended_answer};
 
 use crate::codes::{LENT, NO_MACHINE, OK};
-use crate::machine::{CMachine, take};
+use crate::machine::{CMachine, end};
 use std::alloc::Global;
 
 /// Ends a machine in RAM of the heap, to which that and the machine's memory go back. 0 is that the machine has ended.
@@ -21,6 +21,6 @@ pub extern "C" fn gorseplumb_end_heap(alloc: Global, machine: &mut CMachine) -> 
     if machine.held.board().is_lent() {
         return LENT;
     }
-    drop(take(machine, alloc));
+    end(machine, alloc);
     OK
 }

@@ -2,14 +2,15 @@
 //! Pages that C lends, and gets back.
 ghost use Rattle.std.specs.Prelude.{◌≡◌, ◌≢◌, ◌≤◌, true, false, Option, Some, None, IfSome, is_some};
 ghost use Rattle.std.specs.Option.{option_map};
+ghost use Rattle.ffa_lent.specs.Places.{place_held, slot_of};
 ghost use Rattle.ffa_c.specs.LentPages.{empty};
-ghost use Rattle.ffa_c.specs.Boarded.{lends, ram_pages};
-ghost use Rattle.ffa_c.specs.Lending.{IsFull, IsLent, begun_answer, freed_answer, given_back, lent_answer, list_answer, page_count, pages_of, ready_for, room_of, taken_answer};
+ghost use Rattle.ffa_c.specs.Boarded.{lends, ram_pages, ram_places};
+ghost use Rattle.ffa_c.specs.Lending.{IsFull, IsLent, begun_answer, freed_answer, given_back, lent_answer, list_answer, page_count, pages_of, places_of, ready_for, room_of, taken_answer};
 
 use crate::codes::{HAS_PAGES, NO_LIST, NO_MACHINE, NO_MEMORY, NO_PAGE, OCCUPIED, OK};
 use crate::held_list::HeldList;
 use crate::lent_list::LentList;
-use crate::machine::{CMachine, take};
+use crate::machine::{CMachine, end, take};
 use ffa_lent::{Lent, Slot};
 use std::alloc::Global;
 use std::mem;
@@ -61,10 +62,12 @@ fn put_list(lent: &mut CLent, list: Box<LentList>)
 #[inline]
 fn take_page(slot: &mut CSlot) -> Option<Box<[u8; 4096], Lent>>
     ensures taken { slot.old.page.bytes ≡ option_map (λ b. b.value) result }
+    ensures page { IfSome result (λ b. slot.old.page ≡ slot_of b) }
     ensures none_left { slot.new.page.bytes ≡ None }
+    ensures none { result ≡ None → slot.new ≡ slot.old }
 {
     if slot.live {
-        let page = mem::replace(&mut slot.page, Slot::none(Lent));
+        let page = mem::replace(&mut slot.page, Slot::none());
         slot.live = false;
         Some(page.open())
     } else {
@@ -76,7 +79,7 @@ fn take_page(slot: &mut CSlot) -> Option<Box<[u8; 4096], Lent>>
 #[inline]
 fn put_page(slot: &mut CSlot, page: Box<[u8; 4096], Lent>)
     requires { slot.old.page.bytes ≡ None }
-    ensures { slot.new.page.bytes ≡ Some page.value }
+    ensures { slot.new.page ≡ slot_of page }
 {
     mem::replace(&mut slot.page, Slot::close(page)).end();
     slot.live = true;
@@ -129,8 +132,11 @@ pub extern "C" fn gorseplumb_lend(lent: &mut CLent, slot: &mut CSlot) -> u32
     ensures full { result ≡ NO_MEMORY → IsFull lent.old.held.value }
     ensures lent { let old = pages_of lent.old.held.value in let new = pages_of lent.new.held.value in
         result ≡ 0 → IsLent old new slot.old.page.bytes slot.new.page.bytes }
+    ensures placed { let old = places_of lent.old.held.value in let new = places_of lent.new.held.value in
+        result ≡ 0 → IsLent old new (place_held slot.old.page) (place_held slot.new.page) }
     ensures list { result ≢ 0 → pages_of lent.new.held.value ≡ pages_of lent.old.held.value }
-    ensures page { result ≢ 0 → slot.new.page.bytes ≡ slot.old.page.bytes }
+    ensures places { result ≢ 0 → places_of lent.new.held.value ≡ places_of lent.old.held.value }
+    ensures page { result ≢ 0 → slot.new.page ≡ slot.old.page }
     ensures room { room_of lent.old.held.value ≤ room_of lent.new.held.value }
     ensures ready { ready_for lent.new.held.value ≡ ready_for lent.old.held.value }
 {
@@ -148,8 +154,11 @@ fn lend_to(list: &mut LentList, slot: &mut CSlot) -> u32
     ensures full { result ≡ NO_MEMORY → IsFull (Some list.old) }
     ensures lent { let old = Some list.old.pages in let new = Some list.new.pages in
         result ≡ 0 → IsLent old new slot.old.page.bytes slot.new.page.bytes }
+    ensures placed { let old = Some list.old.places in let new = Some list.new.places in
+        result ≡ 0 → IsLent old new (place_held slot.old.page) (place_held slot.new.page) }
     ensures list { result ≢ 0 → list.new.pages ≡ list.old.pages }
-    ensures page { result ≢ 0 → slot.new.page.bytes ≡ slot.old.page.bytes }
+    ensures places { result ≢ 0 → list.new.places ≡ list.old.places }
+    ensures page { result ≢ 0 → slot.new.page ≡ slot.old.page }
     ensures room { list.old.room ≤ list.new.room }
     ensures ready { list.new.ready_for ≡ list.old.ready_for }
 {
@@ -173,8 +182,11 @@ pub extern "C" fn gorseplumb_take_back(lent: &mut CLent, slot: &mut CSlot) -> u3
     ensures answer { result ≡ taken_answer (pages_of lent.old.held.value) slot.old.page.bytes }
     ensures taken { let old = pages_of lent.old.held.value in let new = pages_of lent.new.held.value in
         result ≡ 0 → IsLent new old slot.new.page.bytes slot.old.page.bytes }
+    ensures placed { let old = places_of lent.old.held.value in let new = places_of lent.new.held.value in
+        result ≡ 0 → IsLent new old (place_held slot.new.page) (place_held slot.old.page) }
     ensures list { result ≢ 0 → pages_of lent.new.held.value ≡ pages_of lent.old.held.value }
-    ensures page { result ≢ 0 → slot.new.page.bytes ≡ slot.old.page.bytes }
+    ensures places { result ≢ 0 → places_of lent.new.held.value ≡ places_of lent.old.held.value }
+    ensures page { result ≢ 0 → slot.new.page ≡ slot.old.page }
     ensures room { room_of lent.new.held.value ≡ room_of lent.old.held.value }
     ensures ready { ready_for lent.new.held.value ≡ ready_for lent.old.held.value }
 {
@@ -190,8 +202,11 @@ fn take_from(list: &mut LentList, slot: &mut CSlot) -> u32
     ensures answer { result ≡ taken_answer (Some list.old.pages) slot.old.page.bytes }
     ensures taken { let old = Some list.old.pages in let new = Some list.new.pages in
         result ≡ 0 → IsLent new old slot.new.page.bytes slot.old.page.bytes }
+    ensures placed { let old = Some list.old.places in let new = Some list.new.places in
+        result ≡ 0 → IsLent new old (place_held slot.new.page) (place_held slot.old.page) }
     ensures list { result ≢ 0 → list.new.pages ≡ list.old.pages }
-    ensures page { result ≢ 0 → slot.new.page.bytes ≡ slot.old.page.bytes }
+    ensures places { result ≢ 0 → list.new.places ≡ list.old.places }
+    ensures page { result ≢ 0 → slot.new.page ≡ slot.old.page }
     ensures room { list.new.room ≡ list.old.room }
     ensures ready { list.new.ready_for ≡ list.old.ready_for }
 {
@@ -257,7 +272,9 @@ pub extern "C" fn gorseplumb_end(alloc: Global, machine: &mut CMachine, lent: &m
     ensures answer { result ≡ freed_answer machine.old.held.value (pages_of lent.old.held.value) }
     ensures ended { result ≡ 0 → machine.new.held.value ≡ None }
     ensures given_back { let list = pages_of lent.old.held.value in
-        result ≡ 0 → pages_of lent.new.held.value ≡ given_back machine.old.held.value list }
+        result ≡ 0 → pages_of lent.new.held.value ≡ given_back (λ b. b.machine.ram.pages) machine.old.held.value list }
+    ensures placed { let list = places_of lent.old.held.value in
+        result ≡ 0 → places_of lent.new.held.value ≡ given_back (λ b. b.machine.past.site.places) machine.old.held.value list }
     ensures heap { IfSome machine.old.held.value (λ b. b.is_lent ≡ false → lent.new.held.value ≡ lent.old.held.value) }
     ensures machine { result ≢ 0 → machine.new.held.value ≡ machine.old.held.value }
     ensures list { result ≢ 0 → lent.new.held.value ≡ lent.old.held.value }
@@ -270,7 +287,7 @@ pub extern "C" fn gorseplumb_end(alloc: Global, machine: &mut CMachine, lent: &m
     if machine.held.board().is_lent() {
         return free_lent(alloc, machine, lent);
     }
-    drop(take(machine, alloc));
+    end(machine, alloc);
     OK
 }
 
@@ -280,6 +297,7 @@ fn free_lent(alloc: Global, machine: &mut CMachine, lent: &mut CLent) -> u32
     ensures answer { result ≡ list_answer (pages_of lent.old.held.value) }
     ensures ended { result ≡ 0 → machine.new.held.value ≡ None }
     ensures given_back { result ≡ 0 → pages_of lent.new.held.value ≡ ram_pages machine.old.held.value }
+    ensures placed { result ≡ 0 → places_of lent.new.held.value ≡ ram_places machine.old.held.value }
     ensures machine { result ≢ 0 → machine.new.held.value ≡ machine.old.held.value }
     ensures list { result ≢ 0 → lent.new.held.value ≡ lent.old.held.value }
     ensures ready { result ≡ 0 → ready_for lent.new.held.value ≡ page_count (pages_of lent.new.held.value) }

@@ -2,13 +2,13 @@
 //! The list of lent pages, with what a machine in them needs.
 ghost use Rattle.std.specs.Prelude.{◌≡◌, ◌↔◌, ◌+◌, ◌*◌, ◌%◌, ◌^◌, ◌<◌, ◌≤◌, ◌++◌, ◌∷◌, [], All, true, false, Some, None, IfOk, IfErr, IfSome, IsTrue, is_ok, length, if◌then◌else◌};
 ghost use Rattle.std.specs.Option.{option_map, option_to_list};
-ghost use Rattle.ffa_lent.specs.LentRam.{ram_of};
+ghost use Rattle.ffa_lent.specs.LentRam.{copies_of, places_of, ram_of};
 ghost use Rattle.ffa_manifest.specs.Document.{parts_of};
 ghost use Rattle.ffa_model.specs.Certified.{IsCertified};
 ghost use Rattle.ffa_model.specs.Walk.{is_page_address};
 ghost use Rattle.ffa_spmc.specs.Storages.{IsRoomFor};
 ghost use Rattle.ffa_c.specs.Audit.{ram_at};
-ghost use Rattle.ffa_c.specs.Boarded.{lends, ram_pages};
+ghost use Rattle.ffa_c.specs.Boarded.{lends, ram_pages, ram_places};
 ghost use Rattle.ffa_c.specs.Booting.{HasBegun, IsFirstBy};
 ghost use Rattle.ffa_c.specs.Copying.{HasCopied};
 ghost use Rattle.ffa_c.specs.LentPages.{empty};
@@ -24,8 +24,8 @@ use std::marker::Model;
 use std::mem;
 
 /// Pages that are lent, and beside them memory for the machine that is booted in them: its place, and room for what it
-/// keeps. Contracts see the bytes of each page, for how many there is room, and how many RAM may have so that a boot
-/// takes no memory.
+/// keeps. Contracts see the bytes of each page, where it lies, for how many there is room, and how many RAM may have so
+/// that a boot takes no memory.
 #[derive(Drop)]
 pub struct LentList {
     frames: Frames,
@@ -43,13 +43,15 @@ impl Model for LentList {
     ghost coded = { coded_lent_pages };
 
     ghost view = { λ l. let ready_for = ready_pages l.frames.is_ready (is_some l.seat) l.storage in
-        record { pages = l.frames.pages; room = l.frames.room; ready_for = ready_for } };
+        record { pages = l.frames.pages; places = l.frames.places; room = l.frames.room; ready_for = ready_for } };
 
     // No machine stands in the seat.
     ghost invariant = { λ l. IfSome l.seat (λ b. b.value ≡ None) };
 }
 
 impl LentList {
+    ghost use Rattle.ffa_lent.specs.Places.{place_of, places_in};
+
     /// No pages, room for so many, and memory for a machine in them.
     pub fn with_room(alloc: Global, pages: usize) -> Result<LentList, AllocError>
         ensures { IfOk result (λ l. l ≡ empty pages) }
@@ -74,7 +76,8 @@ impl LentList {
     /// Adds a page behind the others. Where there is no room and no memory for that, the page comes back.
     pub fn lend(&mut self, page: Box<[u8; 4096], Lent>) -> Result<(), Box<[u8; 4096], Lent>>
         ensures pages { self.new.pages ≡ (if is_ok result then self.old.pages ++ page.value ∷ [] else self.old.pages) }
-        ensures returned { IfErr result (λ b. b.value ≡ page.value) }
+        ensures places { self.new.places ≡ (if is_ok result then self.old.places ++ place_of page ∷ [] else self.old.places) }
+        ensures returned { IfErr result (λ b. b ≡ page) }
         ensures full { IfErr result (λ _. self.old.room ≤ length self.old.pages) }
         ensures room { self.old.room ≤ self.new.room }
         ensures ready { self.new.ready_for ≡ self.old.ready_for }
@@ -85,6 +88,7 @@ impl LentList {
     /// Takes the last page out, if there is one.
     pub fn take_back(&mut self) -> Option<Box<[u8; 4096], Lent>>
         ensures last { self.old.pages ≡ self.new.pages ++ option_to_list (option_map (λ b. b.value) result) }
+        ensures places { self.old.places ≡ self.new.places ++ option_to_list (option_map place_of result) }
         ensures none { result ≡ None → self.old.pages ≡ [] }
         ensures room { self.new.room ≡ self.old.room }
         ensures ready { self.new.ready_for ≡ self.old.ready_for }
@@ -96,6 +100,7 @@ impl LentList {
     /// come back, and nothing changes.
     pub fn lend_span(&mut self, span: Span) -> Result<(), Span>
         ensures lent { IfOk result (λ _. self.new.pages ≡ self.old.pages ++ span.strip.pages) }
+        ensures places { IfOk result (λ _. self.new.places ≡ self.old.places ++ places_in span.strip) }
         ensures room { IfOk result (λ _. self.old.room ≤ self.new.room) }
         ensures ready { IfOk result (λ _. self.new.ready_for ≡ self.old.ready_for) }
         ensures returned { IfErr result (λ s. s ≡ span) }
@@ -117,6 +122,7 @@ impl LentList {
         requires { length self.old.pages ≡ 512 * manifest.now.ram_blocks }
         ensures booted { IfOk result
             (λ b. HasBegun (λ p. p ≡ parts_of manifest.now) (IsFirstBy bytes self.old.pages) true b.value) }
+        ensures placed { IfOk result (λ b. ram_places b.value ≡ Some self.old.places) }
         ensures emptied { IfOk result (λ _. self.new.pages ≡ []) }
         ensures refused { IfErr result (λ _. self.new ≡ self.old) }
         ensures unready { IfErr result (λ _. self.old.ready_for < length self.old.pages) }
@@ -132,6 +138,7 @@ impl LentList {
     pub fn copy(&mut self, alloc: Global, original: &Board) -> Result<Box<Seat>, AllocError>
         requires { length self.old.pages ≡ length original.now.machine.ram.pages }
         ensures copied { IfOk result (λ b. HasCopied true (Some original.now) b.value) }
+        ensures placed { IfOk result (λ b. ram_places b.value ≡ Some self.old.places) }
         ensures emptied { IfOk result (λ _. self.new.pages ≡ []) }
         ensures refused { IfErr result (λ _. self.new ≡ self.old) }
         ensures unready { IfErr result (λ _. self.old.ready_for < length self.old.pages) }
@@ -152,6 +159,8 @@ impl LentList {
         requires { length self.old.pages ≡ 512 * manifest.now.ram_blocks }
         ensures seat { IfOk result (λ o. o.0.value ≡ None) }
         ensures ram { IfOk result (λ o. ram_of o.1 ≡ record { base = manifest.now.ram_base.0; pages = self.old.pages }) }
+        ensures places { IfOk result (λ o. places_of o.1 ≡ self.old.places) }
+        ensures free { IfOk result (λ o. (copies_of o.1).beneath ≡ []) }
         ensures storage { IfOk result (λ o. IsRoomFor manifest.now o.2) }
         ensures emptied { IfOk result (λ _. self.new.pages ≡ []) }
         ensures refused { IfErr result (λ _. self.new ≡ self.old) }
@@ -190,6 +199,7 @@ impl LentList {
         ensures certified { let ram = ram_at base.0 self.old.pages in
             IfOk result (λ is. IsTrue is ↔ IsCertified ram roots.now runs.now) }
         ensures pages { self.new.pages ≡ self.old.pages }
+        ensures places { self.new.places ≡ self.old.places }
         ensures ready { self.old.ready_for ≤ self.new.ready_for }
         ensures refused { IfErr result (λ _. self.new ≡ self.old) }
     {
@@ -212,6 +222,7 @@ impl LentList {
     pub fn take_in(&mut self, seat: Box<Seat>)
         requires { lends seat.value ≡ Some true }
         ensures pages { Some self.new.pages ≡ ram_pages seat.value }
+        ensures places { Some self.new.places ≡ ram_places seat.value }
         ensures ready { self.new.ready_for ≡ length self.new.pages }
     {
         let mut seat = seat;

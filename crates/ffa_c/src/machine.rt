@@ -33,6 +33,14 @@ pub fn take(machine: &mut CMachine, alloc: Global) -> Option<Box<Seat>>
     }
 }
 
+/// Ends the machine. All its memory goes back to where it came from: the seat has no other way out of this function.
+// No clause says so, since the logic may let memory go. `tests/docs` looks for code that keeps it.
+pub fn end(machine: &mut CMachine, alloc: Global)
+    ensures { machine.new.held.value ≡ None }
+{
+    drop(take(machine, alloc));
+}
+
 /// Puts a machine, in its seat, where there is none.
 pub fn put(machine: &mut CMachine, seat: Box<Seat>)
     requires none { machine.old.held.value ≡ None }

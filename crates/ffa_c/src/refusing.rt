@@ -3,7 +3,7 @@
 ghost use Rattle.std.specs.Prelude.{◌≡◌, ◌≢◌, ◌⊎◌, ◌≤◌, IfSome, length};
 ghost use Rattle.ffa_model.specs.declared.limits.TheConstants.{MOST_ENDPOINTS, MOST_REGIONS};
 ghost use Rattle.ffa_c.specs.Booting.{cause_number};
-ghost use Rattle.ffa_c.specs.Refusing.{IsText, IsToldOf, TellsText, endpoint_told, given_cause, given_place, given_told, region_from, region_told, untold_from, untold_place, untold_region};
+ghost use Rattle.ffa_c.specs.Refusing.{IsText, IsToldOf, TellsText, TellsWords, endpoint_told, given_cause, given_place, given_told, region_from, region_told, told_in, untold_from, untold_place, untold_region};
 
 use crate::booting::number_of;
 use crate::codes::{NO_MEMORY, NOTHING, OK};
@@ -29,13 +29,13 @@ pub struct CRefusal {
     pub line: u64,
     /// The character in that line, counted from 1; else 0.
     pub column: u64,
-    /// How many bytes the words have that say it; 0 of numbers.
+    /// How many bytes the words have that say it, of a text, without a NUL; 0 of numbers.
     pub words: u64,
 }
 
 /// Why a manifest's text is refused, and where, and in words: what the program says of it with `--verbose`. 0 is that it
 /// describes a machine, and then nothing is written. Else `NO_MEMORY`, or the cause, with `refusal` and as much of
-/// the words as there is room for, with a NUL behind it.
+/// the words as there is room for, with a NUL after it. The rest of `words` stays.
 #[unsafe(no_mangle)]
 pub extern "C" fn gorseplumb_why_text(
     alloc: Global,
@@ -45,6 +45,7 @@ pub extern "C" fn gorseplumb_why_text(
 ) -> u32
     ensures accepted { result ≡ 0 → IsText text.now }
     ensures told { result ≢ 0 → result ≢ NO_MEMORY → (result ≡ refusal.new.cause) × TellsText text.now refusal.new }
+    ensures words { result ≢ 0 → result ≢ NO_MEMORY → TellsWords refusal.new words.old words.new }
     ensures stays { (result ≡ 0) ⊎ (result ≡ NO_MEMORY) → (refusal.new ≡ refusal.old) × (words.new ≡ words.old) }
 {
     match ffa_manifest::explain(alloc, text) {
@@ -66,6 +67,7 @@ fn tell_text(
     ensures refused { result ≢ 0 }
     ensures cause { result ≢ NO_MEMORY → result ≡ refusal.new.cause }
     ensures told { result ≢ NO_MEMORY → IsToldOf text.now its.now refusal.new }
+    ensures said { result ≢ NO_MEMORY → TellsWords refusal.new words.old words.new }
     ensures refusal { result ≡ NO_MEMORY → refusal.new ≡ refusal.old }
     ensures words { result ≡ NO_MEMORY → words.new ≡ words.old }
 {
@@ -131,7 +133,8 @@ impl CRefusal {
 // What is told of a text, with so many words.
 fn told_of_text(text: &[u8], its: &ManifestRefusal, words: usize) -> CRefusal
     requires { IfSome its.now.byte (λ at. at ≤ length text.now) }
-    ensures { IsToldOf text.now its.now result }
+    ensures told { IsToldOf text.now its.now result }
+    ensures words { result.words ≡ words }
 {
     let mut told = CRefusal::at(its.cause, its.place.endpoint, its.place.region);
     if let Some(at) = its.byte {
@@ -143,8 +146,10 @@ fn told_of_text(text: &[u8], its: &ManifestRefusal, words: usize) -> CRefusal
     told
 }
 
-// Copies a text to the front of an array, as far as it has room for it and a NUL behind it.
-fn put_words(words: &mut [u8], said: &[u8]) {
+// Copies a text to the front of an array, as far as it has room for it and a NUL after it.
+fn put_words(words: &mut [u8], said: &[u8])
+    ensures { words.new ≡ told_in words.old said.now }
+{
     let Some(last) = words.len().checked_sub(1) else {
         return;
     };

@@ -4,7 +4,7 @@ ghost use Rattle.std.specs.Prelude.{◌≡◌, ◌<◌, true, Option, Some, None
 ghost use Rattle.std.specs.Option.{option_map};
 ghost use Rattle.std.specs.Coded.{coded_option};
 ghost use Rattle.ffa_model.specs.declared.limits.TheConstants.{MOST_PROCESSORS};
-ghost use Rattle.ffa_c.specs.Boarded.{Boarded, coded_boarded, lends, ram_pages};
+ghost use Rattle.ffa_c.specs.Boarded.{Boarded, coded_boarded, lends, ram_pages, ram_places};
 ghost use Rattle.ffa_c.specs.Border.{Operated};
 ghost use Rattle.ffa_c.specs.Changes.{told_by, with_all_told};
 ghost use Rattle.ffa_c.specs.Processors.{Interrupted, with_selected};
@@ -56,6 +56,7 @@ impl Seat {
     pub fn vacate(&mut self) -> (Frames, Storage<Given<Global>>)
         requires { lends self.old ≡ Some true }
         ensures pages { Some result.0.pages ≡ ram_pages self.old }
+        ensures places { Some result.0.places ≡ ram_places self.old }
         ensures ready { result.0.is_ready ≡ true }
         ensures room { length result.1.pages ≡ length result.0.pages }
         ensures emptied { self.new ≡ None }

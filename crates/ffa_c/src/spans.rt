@@ -1,7 +1,8 @@
 // SPDX-License-Identifier: MIT OR Apache-2.0
 //! Pages side by side that C lends at once.
 ghost use Rattle.std.specs.Prelude.{◌≡◌, ◌≢◌, ◌≤◌, Some, length};
-ghost use Rattle.ffa_c.specs.Lending.{pages_of, ready_for, room_of};
+ghost use Rattle.ffa_lent.specs.Places.{places_in};
+ghost use Rattle.ffa_c.specs.Lending.{pages_of, places_of, ready_for, room_of};
 ghost use Rattle.ffa_c.specs.Spans.{AreLent, LacksRoom, span_answer};
 
 use crate::codes::{NO_LIST, NO_MEMORY, NO_PAGE, OK};
@@ -19,6 +20,8 @@ pub extern "C" fn gorseplumb_lend_span(lent: &mut CLent, span: &mut Span) -> u32
     ensures full { result ≡ NO_MEMORY → LacksRoom (length span.old.strip.pages) lent.old.held.value }
     ensures lent { let old = pages_of lent.old.held.value in let new = pages_of lent.new.held.value in
         result ≡ 0 → AreLent old new span.old.strip.pages span.new.strip.pages }
+    ensures placed { let old = places_of lent.old.held.value in let new = places_of lent.new.held.value in
+        result ≡ 0 → AreLent old new (places_in span.old.strip) (places_in span.new.strip) }
     ensures list { result ≢ 0 → lent.new.held.value ≡ lent.old.held.value }
     ensures span { result ≢ 0 → span.new ≡ span.old }
     ensures room { room_of lent.old.held.value ≤ room_of lent.new.held.value }
@@ -38,6 +41,8 @@ fn lend_all(list: &mut LentList, span: &mut Span) -> u32
     ensures full { result ≡ NO_MEMORY → LacksRoom (length span.old.strip.pages) (Some list.old) }
     ensures lent { let old = Some list.old.pages in let new = Some list.new.pages in
         result ≡ 0 → AreLent old new span.old.strip.pages span.new.strip.pages }
+    ensures placed { let old = Some list.old.places in let new = Some list.new.places in
+        result ≡ 0 → AreLent old new (places_in span.old.strip) (places_in span.new.strip) }
     ensures list { result ≢ 0 → list.new ≡ list.old }
     ensures span { result ≢ 0 → span.new ≡ span.old }
     ensures room { list.old.room ≤ list.new.room }

@@ -2,6 +2,7 @@
 //! The same machine once more, in RAM of either kind, whichever its own is.
 ghost use Rattle.std.specs.Prelude.{◌≡◌, ◌*◌, true, false, length};
 ghost use Rattle.ffa_lent.specs.LentRam.{ram_of};
+ghost use Rattle.ffa_physmem.specs.Moments.{HasNoCopies};
 ghost use Rattle.ffa_spmc.specs.Copies.{IsRamToCopy, IsRoomToCopy};
 ghost use Rattle.ffa_c.specs.Copying.{IsCopy};
 
@@ -34,7 +35,9 @@ impl Board {
     pub fn copy_to_lent(&self, ram: LentRam, storage: Storage<Given<Global>>) -> Board
         requires storage { IsRoomToCopy self.now.machine storage }
         requires ram { IsRamToCopy self.now.machine (ram_of ram) }
-        ensures { IsCopy true self.now result }
+        requires free { HasNoCopies (⟦<LentRam as PhysMem>⟧.past ram) }
+        ensures copy { IsCopy true self.now result }
+        ensures site { result.machine.past.site ≡ (⟦<LentRam as PhysMem>⟧.past ram).site }
     {
         let kind = BoardMachine::Lent(
             either!(&self.kind, cluster => cluster.copy_in(storage, ram, NoTlb)),

@@ -1,5 +1,5 @@
 -- SPDX-License-Identifier: MIT OR Apache-2.0
-use Rattle.std.proofs.Common.{subst, sym}
+use Rattle.std.proofs.Common.{◌∙◌, ap, subst, sym}
 use Rattle.ffa_manifest.specs.Document.{parts_of}
 use Rattle.ffa_lent.specs.LentRam.{ram_of}
 use Rattle.ffa_spmc.specs.Clustered.{Clustered}
@@ -34,3 +34,9 @@ returns-clause-first c =
             told = w.boot_cluster-cluster-in-Kept.ensures.told;
           }))
     ]
+
+pub returns-clause-site : goal.returns-clause-site
+returns-clause-site c = elim c.match-bytes.branch [
+  | in-Cleared w ↦ ap (λ (x : Clustered). x.machine.past.site) w.cluster-is ∙ w.boot_cluster-cluster.ensures.site
+  | in-Kept w ↦ ap (λ (x : Clustered). x.machine.past.site) w.cluster-is ∙ w.boot_cluster-cluster-in-Kept.ensures.site
+]

@@ -37,5 +37,5 @@ returns-in_default-clause-refused c =
     ap (λ seat. ready_pages frames.is_ready (is_some seat) c.self.inside.storage) c.in_default.ensures.lacking
     ∙ ready-without-seat frames.is_ready c.self.inside.storage
     in
-    ap (λ (ready : ℕ). let list : LentPages = record { pages = frames.pages; room = frames.room; ready_for = ready } in list) (none ∙ sym before)
+    ap (λ (ready : ℕ). let list : LentPages = record { pages = frames.pages; places = frames.places; room = frames.room; ready_for = ready } in list) (none ∙ sym before)
     ∙ c.self.view_is
