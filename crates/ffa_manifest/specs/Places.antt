@@ -11,6 +11,8 @@ use Rattle.ffa_model.specs.Identifiers.{identifier}
 use Rattle.ffa_model.specs.Manifest.{is_placed, regions_of}
 use Rattle.ffa_manifest.specs.declared.error.ManifestError.{ManifestError}
 use Rattle.ffa_manifest.specs.declared.error.ManifestError.TheVariants.{Toml, WrongKind, RegionCount}
+use Rattle.ffa_manifest.specs.declared.refusal.Found.{Found}
+use Rattle.ffa_manifest.specs.declared.refusal.Found.TheVariants.{Control, NoToml}
 use Rattle.ffa_manifest.specs.declared.refusal.Location.{Location}
 use Rattle.ffa_manifest.specs.declared.refusal.ManifestRefusal.{ManifestRefusal}
 use Rattle.ffa_manifest.specs.Reading.{◌>>=◌, or_cause, item_count}
@@ -107,9 +109,18 @@ IsPlaceOf ms location =
 abbrev pub IsPlaceIn : List ℕ → Location → Type 0
 IsPlaceIn text location = MatchOption (parse_document text) (IsAtTop location) (λ ms. IsPlaceOf ms location)
 
--- a byte of a text is told, or its end, exactly where it is no document
-abbrev pub IsByteIn : List ℕ → Option ℕ → Type 0
-IsByteIn text byte = MatchOption (parse_document text) (IsSomeAnd byte (λ at. at ≤ length text)) (λ ms. byte ≡ None)
+-- the byte where the parser's error begins, of what is found where a text is no document
+abbrev pub error_start : Found → Option ℕ
+error_start (NoToml said start) = Some start.byte
+error_start (Control byte place start) = Some start.byte
+error_start other = None
+
+-- this byte of a text, or its end, is told exactly where the text is no document
+abbrev pub IsByteIn : List ℕ → ManifestRefusal → Type 0
+IsByteIn text r =
+    MatchOption (parse_document text)
+    (IsSomeAnd r.byte (λ at. at ≤ length text) × (r.byte ≡ error_start r.place.found))
+    (λ ms. r.byte ≡ None)
 
 -- bytes are no text in UTF-8, from the byte on that is told
 pub record IsGarbled (bytes : List ℕ) (r : ManifestRefusal) : Type 0 where
@@ -123,7 +134,7 @@ pub record IsUnread (bytes : List ℕ) (r : ManifestRefusal) : Type 0 where
   pub text : IsUtf8 bytes
   pub cause : machine_of bytes ≡ Err r.cause
   pub place : IsPlaceIn bytes r.place
-  pub byte : IsByteIn bytes r.byte
+  pub byte : IsByteIn bytes r
 
 -- why and where bytes are refused
 abbrev pub IsRefused : List ℕ → ManifestRefusal → Type 0

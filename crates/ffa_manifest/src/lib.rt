@@ -11,6 +11,7 @@ mod control;
 mod document;
 mod endpoints;
 pub mod error;
+mod error_start;
 mod identifier;
 mod keys;
 mod locate;
@@ -24,6 +25,7 @@ mod regions;
 mod text_place;
 
 pub use error::ManifestError;
+pub use error_start::ErrorStart;
 pub use ffa_model::Manifest;
 pub use near::nearest;
 pub use parts::of_parts;
@@ -55,7 +57,7 @@ pub fn read(alloc: Global, text: &str) -> Result<Manifest, ManifestError>
 /// The cause is the one that `read` answers; bytes that are no UTF-8 are no TOML. The place is where reading ends: the
 /// endpoint and the region before which all is read, and which is refused. With it come the key and the value that stand
 /// there, which tests show, or the region that another one meets, which does have a page of it. Of what is no TOML the byte
-/// is told.
+/// is told where the parser's error begins.
 ///
 /// # Errors
 ///
@@ -82,7 +84,7 @@ fn explain_text(alloc: Global, text: &str) -> Result<Result<Manifest, ManifestRe
     ensures accepted { IfOk result (λ read. IfOk read (λ m. machine_of text.now ≡ Ok (parts_of m))) }
     ensures cause { IfOk result (λ read. IfErr read (λ r. machine_of text.now ≡ Err r.cause)) }
     ensures place { IfOk result (λ read. IfErr read (λ r. IsPlaceIn text.now r.place)) }
-    ensures byte { IfOk result (λ read. IfErr read (λ r. IsByteIn text.now r.byte)) }
+    ensures byte { IfOk result (λ read. IfErr read (λ r. IsByteIn text.now r)) }
     ensures inside { IfOk result (λ read. IfErr read (λ r. IfSome r.byte (λ at. at ≤ length text.now))) }
     ensures met { IfOk result (λ read. IfErr read (λ r. SharesPage r.place.found)) }
 {
@@ -90,11 +92,11 @@ fn explain_text(alloc: Global, text: &str) -> Result<Result<Manifest, ManifestRe
         Ok(table) => table,
         Err(e) if e.is_memory() => return Err(AllocError),
         Err(e) => {
-            let at = locate::byte_of(&e);
+            let start = ErrorStart::of(&e);
             return Ok(Err(ManifestRefusal {
                 cause: ManifestError::Toml,
-                place: locate::in_text(alloc, text.as_bytes(), at, &e)?,
-                byte: Some(at),
+                place: locate::in_text(alloc, text.as_bytes(), start, &e)?,
+                byte: Some(start.byte()),
             }));
         }
     };

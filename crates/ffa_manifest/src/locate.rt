@@ -6,13 +6,12 @@
 //! which endpoint and in which of its regions the walk ends: what stands before is read, and this is refused. Which key
 //! and value is told there, and in which words, is shown by tests.
 ghost use Rattle.std.specs.Prelude.{◌≡◌, ◌≤◌, [], Some, IfOk, IsErr, length};
-ghost use Rattle.toml.specs.Errors.{IsMemory, span_start};
 ghost use Rattle.toml.specs.View.{view, table_view, items_view};
 ghost use Rattle.ffa_model.specs.Manifest.{regions_of};
 ghost use Rattle.ffa_manifest.specs.Document.{machine};
 ghost use Rattle.ffa_manifest.specs.Endpoints.{endpoints_from as endpoints_in, next_endpoint as next_endpoint_in, normal_world, partition};
 ghost use Rattle.ffa_manifest.specs.Meeting.{SharesPage};
-ghost use Rattle.ffa_manifest.specs.Places.{IsAtEndpoint, IsAtRegion, IsAtTop, IsPlaceOf, IsWithin, items_after, normal_world_items, partition_items, region_items as region_items_in};
+ghost use Rattle.ffa_manifest.specs.Places.{IsAtEndpoint, IsAtRegion, IsAtTop, IsPlaceOf, IsWithin, error_start, items_after, normal_world_items, partition_items, region_items as region_items_in};
 ghost use Rattle.ffa_manifest.specs.RegionSpace.{is_in};
 ghost use Rattle.ffa_manifest.specs.Regions.{regions_at, regions_from as regions_in};
 
@@ -22,6 +21,7 @@ use crate::endpoints::{
     NORMAL_WORLD_KEYS, PARTITION_KEYS, next_endpoint, normal_world_keys, normal_world_properties,
     partition_keys, properties_at, uuid_at, version_at,
 };
+use crate::error_start::ErrorStart;
 use crate::keys::is_among;
 use crate::met::met_region;
 use crate::near::nearest;
@@ -40,25 +40,27 @@ use toml::{Table, Value};
 // How many bytes of a key or a value are told.
 const SHOWN: usize = 60;
 
-/// Where a text is no TOML, from the byte at this place on: all that its parser says, on one line, or that a control
+/// Where a text is no TOML, from the start of this error on: all that its parser says, on one line, or that a control
 /// character stands there, which the parser calls a bad key, value or string.
 pub(crate) fn in_text(
     alloc: Global,
     text: &[u8],
-    at: usize,
+    start: ErrorStart,
     error: &toml::de::Error,
 ) -> Result<Location, AllocError>
-    requires { at ≤ length text.now }
+    requires { start.byte ≤ length text.now }
     ensures place { IfOk result IsAtTop }
+    ensures start { IfOk result (λ location. error_start location.found ≡ Some start.byte) }
     ensures met { IfOk result (λ location. SharesPage location.found) }
 {
+    let at = start.byte();
     if let Some(byte) = forbidden_control(text, at) {
         let place = TextPlace::of(text, at);
-        return Ok(in_no_endpoint(Found::Control { byte, place }));
+        return Ok(in_no_endpoint(Found::Control { byte, place, start }));
     }
     let said = error.to_string(alloc)?;
     let said = said.as_str().trim_end().replace(alloc, "\n", ": ")?;
-    Ok(in_no_endpoint(Found::NoToml(said)))
+    Ok(in_no_endpoint(Found::NoToml { said, start }))
 }
 
 pub(crate) fn in_no_endpoint(found: Found) -> Location
@@ -69,17 +71,6 @@ pub(crate) fn in_no_endpoint(found: Found) -> Location
         endpoint: None,
         region: None,
         found,
-    }
-}
-
-/// At which byte a text is no TOML.
-pub(crate) fn byte_of(error: &toml::de::Error) -> usize
-    requires { IsMemory error.now → ⊥ }
-    ensures { result ≡ span_start error.now }
-{
-    match error.span() {
-        Some(span) => span.start,
-        None => unreachable!(),
     }
 }
 

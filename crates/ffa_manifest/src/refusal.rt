@@ -5,6 +5,7 @@
 //! digits or more, and endpoints by their identifiers.
 
 use crate::error::ManifestError;
+use crate::error_start::ErrorStart;
 use crate::text_place::TextPlace;
 use ffa_model::{EndpointId, MOST_BLOCKS, MOST_RAM, Region};
 use std::fmt;
@@ -17,7 +18,7 @@ pub struct ManifestRefusal {
     pub cause: ManifestError,
     /// Where it applies.
     pub place: Location,
-    /// At which byte, from 0, the text is no UTF-8 or no TOML.
+    /// At which byte, from 0, the text is no UTF-8, or the parser's error of a text that is no TOML begins.
     pub byte: Option<usize>,
 }
 
@@ -38,12 +39,17 @@ pub struct Location {
 pub enum Found {
     /// The text is no UTF-8.
     NoText(Utf8Error),
-    /// The text is no TOML: what the parser says of it, with a line and a column that count from 1.
-    NoToml(String),
-    /// The text is no TOML, since a control character stands there.
+    /// The text is no TOML: what the parser says of it, with a line and a column that count from 1, and where its error
+    /// begins.
+    NoToml {
+        said: String,
+        start: ErrorStart,
+    },
+    /// The text is no TOML, since a control character stands there, where the parser's error begins.
     Control {
         byte: u8,
         place: TextPlace,
+        start: ErrorStart,
     },
     /// A key that isn't one of the table's, and the one of these that it is nearest to, where it is near to one.
     UnknownKey {
@@ -269,8 +275,12 @@ impl fmt::Display for Found {
     fn fmt<W: fmt::Write>(&self, f: &mut fmt::Formatter<W>) -> fmt::Result {
         match self {
             Found::NoText(error) => write!(f, "{error}"),
-            Found::NoToml(said) => write!(f, "{said}"),
-            Found::Control { byte, place } => {
+            Found::NoToml { said, start: _ } => write!(f, "{said}"),
+            Found::Control {
+                byte,
+                place,
+                start: _,
+            } => {
                 let TextPlace { line, column } = *place;
                 write!(f, "TOML parse error at line {line}, column {column}: ")?;
                 write!(

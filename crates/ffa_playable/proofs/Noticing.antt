@@ -14,7 +14,7 @@ use Rattle.ffa_model.specs.Registers.{called, decode, function_of, low, wide_of}
 use Rattle.ffa_model.specs.Setup.{features}
 use Rattle.ffa_model.specs.State.{State}
 use Rattle.ffa_model.specs.Step.{serve}
-use Rattle.ffa_abi.specs.declared.names.TheConstants.{FFA_NOTIFICATION_INFO_GET}
+use Rattle.ffa_model.specs.declared.function.TheConstants.{FFA_NOTIFICATION_INFO_GET}
 use Rattle.ffa_notify.specs.declared.notices.Notice.{Notice}
 use Rattle.ffa_notify.specs.declared.notices.Notice.TheVariants.{Info, Features}
 use Rattle.ffa_notify.specs.Noticed.{in_one_context, is_info_get, notice_asked, notice_in, with_one_context}

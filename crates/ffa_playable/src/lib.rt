@@ -3,7 +3,7 @@
 //! state say all of it, so a player needs neither RAM nor tables.
 #![tactic(auto)]
 
-ghost use Rattle.std.specs.Prelude.{◌≡◌, ℕ, ◌+◌, ◌*◌, ◌^◌, ◌<◌, ◌≤◌, IfSome, IsTrue, Some, is_some, length};
+ghost use Rattle.std.specs.Prelude.{◌≡◌, ℕ, ◌+◌, ◌*◌, ◌^◌, ◌<◌, ◌≤◌, ◌↔◌, IfSome, IsTrue, Some, is_some, length};
 ghost use Rattle.std.specs.Option.{option_map};
 ghost use Rattle.ffa_model.specs.declared.limits.TheConstants.{MOST_ENDPOINTS, MOST_PROCESSORS};
 ghost use Rattle.ffa_model.specs.Access.{access};
@@ -13,6 +13,7 @@ ghost use Rattle.ffa_model.specs.Ram.{word_of};
 ghost use Rattle.ffa_model.specs.State.{Page, owner_of, page_at};
 ghost use Rattle.ffa_model.specs.Why.{outcome_of};
 ghost use Rattle.ffa_mend.specs.Offered.{offered};
+ghost use Rattle.ffa_playable.specs.Audited.{GiveAccess};
 ghost use Rattle.ffa_playable.specs.Bench.{Bench, after_interrupt, after_op, effect_of, outcome_of_interrupt, processors_of, refuses, turned_to, why_of};
 ghost use Rattle.ffa_playable.specs.Standing.{detail_of};
 
@@ -104,10 +105,12 @@ pub trait Playable: Drop {
         ensures run { IsRun (bench self.now).state from.0 result }
         ensures computed { result ≡ run_from (bench self.now).state from.0 };
 
-    /// Whether runs of pages are a certificate that the machine's tables give. The runs of `cert_run` from page 0 on,
-    /// one behind the other, are such a certificate. It takes no memory.
+    /// Whether the machine's tables give what runs of pages say: exactly if the runs give the state's access. It says nothing
+    /// of owners and handles. The runs of `cert_run` from page 0 on, one after the other, give this access. It takes no
+    /// memory.
     fn audit(&self, runs: &[CertRun]) -> bool
-        ensures { runs.now ≡ certificate (bench self.now).state → IsTrue result };
+        ensures access { IsTrue result ↔ GiveAccess (bench self.now).state runs.now }
+        ensures own { runs.now ≡ certificate (bench self.now).state → IsTrue result };
 }
 
 /// Such a machine whose RAM can be read.

@@ -78,7 +78,7 @@ impl<M: PhysMem + Drop, T: Translations + Drop, S: Store> Playable for Explained
     }
 
     fn audit(&self, runs: &[CertRun]) -> bool {
-        self.0.audit(runs)
+        crate::telling::audit(&self.0, runs)
     }
 }
 

@@ -132,7 +132,7 @@ impl<M: Unshared + Drop, T: Translations + Drop, S: Store> Playable for Explaine
     }
 
     fn audit(&self, runs: &[CertRun]) -> bool {
-        self.cluster.machine().audit(runs)
+        crate::telling::audit(self.cluster.machine(), runs)
     }
 }
 

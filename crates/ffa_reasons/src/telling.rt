@@ -1,14 +1,16 @@
 // SPDX-License-Identifier: MIT OR Apache-2.0
 //! Why an operation of the runner would be refused now, by what an endpoint has its access to a page, and what it may still
 //! retrieve.
-ghost use Rattle.std.specs.Prelude.{◌≡◌, ◌<◌, IfSome, None, false, is_some, length, if◌then◌else◌};
+ghost use Rattle.std.specs.Prelude.{◌≡◌, ◌<◌, ◌↔◌, IfSome, IsTrue, None, false, is_some, length, if◌then◌else◌};
 ghost use Rattle.std.specs.Option.{option_map};
 ghost use Rattle.ffa_model.specs.Access.{access};
+ghost use Rattle.ffa_model.specs.Certificate.{certificate};
 ghost use Rattle.ffa_model.specs.Processors.{resumed_by, resumed_by_call, step_resuming};
 ghost use Rattle.ffa_model.specs.Refusals.{is_refusal};
 ghost use Rattle.ffa_model.specs.Step.{step};
 ghost use Rattle.ffa_model.specs.Why.{granted, outcome_of, why};
 ghost use Rattle.ffa_mend.specs.Offered.{offered};
+ghost use Rattle.ffa_playable.specs.Audited.{GiveAccess};
 ghost use Rattle.ffa_playable.specs.Bench.{is_refused};
 ghost use Rattle.ffa_playable.specs.Standing.{detail, detail_by};
 ghost use Rattle.ffa_reasons.specs.Explanation.{call_told, check_explanation, explanation, fault_explanation};
@@ -17,7 +19,9 @@ use crate::reasons::Reasons;
 use crate::registers::about_registers;
 use crate::values::allowed_check;
 use ffa_mend::{Allowed, Explained, Mend};
-use ffa_model::{Call, Effect, EndpointId, FaultKind, Grant, Op, PageNo, Refusal, Rights, Why};
+use ffa_model::{
+    Call, CertRun, Effect, EndpointId, FaultKind, Grant, Op, PageNo, Refusal, Rights, Why,
+};
 use ffa_physmem::PhysMem;
 use ffa_playable::{Detail, Explanation, Standing};
 use ffa_spmc::{Machine, Store};
@@ -89,6 +93,19 @@ pub fn offered<M: PhysMem + Drop, T: Translations + Drop, S: Store>(
     ensures { result ≡ offered machine.now.state endpoint.0 page.0 }
 {
     Reasons::of(machine).offered(endpoint, page)
+}
+
+/// Whether the tables give what runs of pages say: exactly if the runs give the state's access.
+pub(crate) fn audit<M: PhysMem + Drop, T: Translations + Drop, S: Store>(
+    machine: &Machine<M, T, S>,
+    runs: &[CertRun],
+) -> bool
+    ensures access { IsTrue result ↔ GiveAccess machine.now.state runs.now }
+    ensures own { runs.now ≡ certificate machine.now.state → IsTrue result }
+{
+    // Proof step: the tables agree with the state, and RAM ends before 2^32.
+    let _ = machine.ram().base();
+    machine.audit(runs)
 }
 
 impl<M: PhysMem + Drop, T: Translations + Drop, S: Store> Reasons<'_, M, T, S> {

@@ -1,6 +1,7 @@
 -- SPDX-License-Identifier: MIT OR Apache-2.0
 use Rattle.std.proofs.Common.{◌≡◌, ◌∙◌, ℕ, None, true, ap, refl, subst}
 use Rattle.ffa_model.specs.State.{State, is_known_among, version_of}
+use Rattle.ffa_physmem.specs.Unrecorded.{no_site, unrecorded}
 use Rattle.ffa_spmc.specs.Lent.{lent_parts}
 use Rattle.ffa_spmc.proofs.Fills.{runner-there}
 use Rattle.ffa_spmc.proofs.Held.{parties_are}
@@ -18,5 +19,5 @@ returns g c =
     let x = lent_parts g.M.PhysMem.ram c.self.inside.parts in
     let view = c.self.invariant.state ∙ c.self.view_is in
     c.version_of.ensures
-    ∙ version-seen x (managed_of x None) refl c.runner.result.0 c.runner.ensures.runner
+    ∙ version-seen x (managed_of x (unrecorded no_site)) refl c.runner.result.0 c.runner.ensures.runner
     ∙ ap (λ (s : State). version_of s s.runner) view

@@ -8,5 +8,5 @@ use Rattle.ffa_reasons.proofs.several.ExplainedClusterPlayable.access.Goals as g
 
 pub returns : goal.returns
 returns g c =
-    let state = ap (λ (m : Snapshot). m.state) c.machine.ensures ∙ ap (λ (b : Bench). b.state) c.self.view_is in
+    let state = ap (λ (m : Snapshot). m.state) c.machine.ensures.machine ∙ ap (λ (b : Bench). b.state) c.self.view_is in
     c.access.ensures ∙ ap (λ (s : State). access s c.args.endpoint.0 c.args.page.0) state

@@ -8,5 +8,5 @@ use Rattle.ffa_reasons.proofs.several.ExplainedClusterPlayable.offered.Goals as 
 
 pub returns : goal.returns
 returns g c =
-    let state = ap (λ (m : Snapshot). m.state) c.machine.ensures ∙ ap (λ (b : Bench). b.state) c.self.view_is in
+    let state = ap (λ (m : Snapshot). m.state) c.machine.ensures.machine ∙ ap (λ (b : Bench). b.state) c.self.view_is in
     c.offered.ensures ∙ ap (λ (s : State). offered s c.args.endpoint.0 c.args.page.0) state

@@ -13,8 +13,8 @@ returns-clause-effect g c =
     let own = c.self.inside.cluster.machine in
     let new = c.op.new.self.machine in
     let done = subst (λ (shared : Bool). IsEffected shared own c.in_one_context.result c.op.new.effect new) g.met.M.Unshared.unshared c.op.ensures.done in
-    let asks = c.notice_asked-asked.ensures ∙ ap (λ (e : ℕ). notice_asked e c.args.op.now) (c.runner.ensures ∙ ap (λ (m : Snapshot). m.state.runner) c.machine.ensures) in
-    let pending = c.bitmaps.ensures ∙ ap (λ (m : Snapshot). notifications_of m.state) c.machine-2.ensures in
+    let asks = c.notice_asked-asked.ensures ∙ ap (λ (e : ℕ). notice_asked e c.args.op.now) (c.runner.ensures ∙ ap (λ (m : Snapshot). m.state.runner) c.machine.ensures.machine) in
+    let pending = c.bitmaps.ensures ∙ ap (λ (m : Snapshot). notifications_of m.state) c.machine-2.ensures.machine in
     c.answer.ensures.effect
     ∙ effect-shown own new c.self.inside.told c.args.op.now c.in_one_context.result c.notice_asked-asked.result c.bitmaps.result.now c.op.new.effect c.in_one_context.ensures asks pending done
     ∙ ap (λ (b : Bench). effect_of b c.args.op.now) c.self.view_is
@@ -25,8 +25,8 @@ returns-clause-bench g c =
     let its = c.self.inside in
     let new = c.op.new.self.machine in
     let done = subst (λ (shared : Bool). IsEffected shared own c.in_one_context.result c.op.new.effect new) g.met.M.Unshared.unshared c.op.ensures.done in
-    let asks = c.notice_asked-asked.ensures ∙ ap (λ (e : ℕ). notice_asked e c.args.op.now) (c.runner.ensures ∙ ap (λ (m : Snapshot). m.state.runner) c.machine.ensures) in
-    let pending = c.bitmaps.ensures ∙ ap (λ (m : Snapshot). notifications_of m.state) c.machine-2.ensures in
+    let asks = c.notice_asked-asked.ensures ∙ ap (λ (e : ℕ). notice_asked e c.args.op.now) (c.runner.ensures ∙ ap (λ (m : Snapshot). m.state.runner) c.machine.ensures.machine) in
+    let pending = c.bitmaps.ensures ∙ ap (λ (m : Snapshot). notifications_of m.state) c.machine-2.ensures.machine in
     let state = state-left own new its.told c.args.op.now c.in_one_context.result c.notice_asked-asked.result c.bitmaps.result.now c.op.new.effect c.in_one_context.ensures asks pending done in
     let told = c.answer.ensures.told
     ∙ told-then own new its.told c.args.op.now c.in_one_context.result c.notice_asked-asked.result c.bitmaps.result.now c.op.new.effect c.in_one_context.ensures asks pending done in

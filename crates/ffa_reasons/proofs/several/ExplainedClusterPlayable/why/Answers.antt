@@ -12,7 +12,7 @@ use Rattle.ffa_reasons.proofs.several.ExplainedClusterPlayable.why.Goals as goal
 
 pub returns-else-is_some-clause-detail : goal.returns-else-is_some-clause-detail
 returns-else-is_some-clause-detail g c =
-    let state = ap (λ (m : Snapshot). m.state) c.machine-machine.ensures in
+    let state = ap (λ (m : Snapshot). m.state) c.machine-machine.ensures.machine in
     subst (λ (b : Bench). IfSome c.why_resuming.result (λ (its : Explanation). its.detail ≡ detail_of b c.args.op.now its.why)) c.self.view_is
     (subst (λ (op : Op). IfSome c.why_resuming.result (λ (its : Explanation). its.detail ≡ detail MOST_PROCESSORS c.self.inside.cluster.machine.state op its.why)) c.in_one_context.ensures
     (subst (λ (s : State). IfSome c.why_resuming.result (λ (its : Explanation). its.detail ≡ detail MOST_PROCESSORS s c.in_one_context.result its.why)) state c.why_resuming.ensures.detail))
