@@ -1,7 +1,8 @@
 -- SPDX-License-Identifier: MIT OR Apache-2.0
 -- Writers that grow by texts in which nothing is `<`.
 use denote.Ref.{Bor}
-use Rattle.std.proofs.Common.{◌≡◌, ℕ, zero, suc, ◌+◌, ◌-◌, ◌/◌, ◌%◌, ◌^◌, ◌<◌, Bool, true, false, List, [], ◌∷◌, ◌++◌, length, replicate, Option, Some, None, Result, inl, inr, sym, ap, ◌∙◌, subst, true≢false, arith, refl, ◌==◌, ◌||◌, not, IfSome, OnOk, decimal, find, slice_index, unwrap_or}
+use Rattle.std.proofs.Common.{◌≡◌, ℕ, zero, suc, ◌+◌, ◌-◌, ◌/◌, ◌%◌, ◌^◌, ◌*◌, ◌<◌, Bool, true, false, List, [], ◌∷◌, ◌++◌, length, replicate, Option, Some, None, Result, inl, inr, sym, ap, ◌∙◌, subst, true≢false, arith, refl, ◌==◌, ◌||◌, not, IfSome, OnOk, decimal, find, slice_index, unwrap_or, take, codes, is_none}
+use Rattle.std.specs.Prelude.{if◌then◌else◌}
 use Rattle.std.specs.Option.{option_map, option_or}
 use Rattle.std.specs.Fmt.{digits, digits_onto, digit_glyph, format_spec, number_padding, padded_integral, option_append}
 use Rattle.std.specs.Io.KnownBytes.{Appends}
@@ -14,8 +15,14 @@ use Rattle.ffa_abi.specs.Names.{Row, call_name_of, error_name_of, error_names, n
 use Rattle.ffa_model.specs.Registers.{low}
 use Rattle.ffa_model.specs.Rows.{Row as CallRow, is_row_of, row_of, rows}
 use Rattle.ffa_model.specs.declared.function.TheConstants.{FFA_ERROR}
+use Rattle.ffa_model.specs.declared.certificate.CertRun.{CertRun}
+use Rattle.ffa_model.specs.declared.rights.Data.{Data}
+use Rattle.ffa_model.specs.declared.rights.Data.TheVariants.{Ro, Rw}
+use Rattle.ffa_model.specs.declared.rights.Rights.{Rights}
+use Rattle.play_syntax.specs.TraceText.{handle_text, hex, rights_text, spaced}
+use Rattle.play_page.specs.Data.{comma_before, line_front, offers_words, rights_words, run_words}
 use Rattle.play_page.specs.Escapes.{escaped, has_meaning, is_bare}
-use Rattle.play_page.specs.Written.{Grows, WritesData, endpoints_key, is_inert}
+use Rattle.play_page.specs.Written.{Grows, WritesBehind, is_inert}
 use Rattle.play_page.proofs.Escaping.{escaped-bare}
 
 -- TEXTS
@@ -86,9 +93,82 @@ bare_inert : (text : List ℕ) → is_bare text ≡ true → is_inert text ≡ t
 bare_inert [] h = refl
 bare_inert (byte ∷ text) h = let parts = and_parts _ _ h in and_from _ _ (less_has_meaning byte parts.0) (bare_inert text parts.1)
 
+-- texts in a row
+flat_inert : {X : Type 0} (text : X → List ℕ) → ((x : X) → is_inert (text x) ≡ true) → (xs : List X) → is_inert (flat_map text xs) ≡ true
+flat_inert text each [] = refl
+flat_inert text each (x ∷ xs) = inert_append (text x) (flat_map text xs) (each x) (flat_inert text each xs)
+
 pub escaped_inert : (bytes : List ℕ) → is_inert (flat_map escaped bytes) ≡ true
-escaped_inert [] = refl
-escaped_inert (byte ∷ bytes) = inert_append (escaped byte) (flat_map escaped bytes) (bare_inert (escaped byte) (escaped-bare byte)) (escaped_inert bytes)
+escaped_inert bytes = flat_inert escaped (λ byte. bare_inert (escaped byte) (escaped-bare byte)) bytes
+
+-- RUNS AND LINES
+
+shown_inert : (n x : ℕ) → is_inert (hex n x) ≡ true
+shown_inert zero x = refl
+shown_inert (suc n) x = and_from _ _ (glyph_inert (x / 16 ^ n % 16) (omega arith)) (shown_inert n x)
+
+right_inert : (right : Option Rights) → is_inert (spaced (rights_text right)) ≡ true
+right_inert None = refl
+right_inert (Some r) = of r.level r.exec
+  where
+    of : (level : Data) (exec : Bool) → is_inert (spaced (rights_text (Some (record { level = level; exec = exec })))) ≡ true
+    of Ro true = refl
+    of Ro false = refl
+    of Rw true = refl
+    of Rw false = refl
+
+rights_inert : (endpoints : ℕ) (rights : List (Option Rights)) → is_inert (rights_words endpoints rights) ≡ true
+rights_inert endpoints rights = flat_inert (λ right. spaced (rights_text right)) right_inert (take endpoints rights)
+
+offers_inert : (endpoints : ℕ) (offers : Option (List (Option Rights))) → is_inert (offers_words endpoints offers) ≡ true
+offers_inert endpoints None = refl
+offers_inert endpoints (Some offers) =
+    elim (cases_Bool (list_all (λ right. is_none right) offers)) [
+      | inl nobody ↦ rw nobody refl
+      | inr somebody ↦ rw somebody (rights_inert endpoints offers)
+    ]
+
+handle_inert : (handle : Option ℕ) → is_inert (spaced (handle_text handle)) ≡ true
+handle_inert None = refl
+handle_inert (Some handle) = shown_inert 16 handle
+
+run_inert : (base endpoints : ℕ) (run : CertRun) (offers : Option (List (Option Rights))) → is_inert (run_words base endpoints run offers) ≡ true
+unfolding run_words
+run_inert base endpoints run offers =
+    let quote : List ℕ = codes ",\"" in
+    let from : List ℕ = hex 8 (base + 4096 * run.first.0) in
+    let to : List ℕ = spaced (hex 8 (base + 4096 * run.last.0 + 4095)) in
+    let owner : List ℕ = spaced (hex 4 run.owner.0) in
+    let handle : List ℕ = spaced (handle_text run.handle) in
+    let access : List ℕ = rights_words endpoints run.access in
+    let offered : List ℕ = offers_words endpoints offers in
+    inert_append (quote ++ from ++ to ++ owner ++ handle ++ access ++ offered) (codes "\"")
+    (inert_append (quote ++ from ++ to ++ owner ++ handle ++ access) offered
+    (inert_append (quote ++ from ++ to ++ owner ++ handle) access
+    (inert_append (quote ++ from ++ to ++ owner) handle
+    (inert_append (quote ++ from ++ to) owner
+    (inert_append (quote ++ from) to
+    (inert_append quote from refl (shown_inert 8 (base + 4096 * run.first.0)))
+    (shown_inert 8 (base + 4096 * run.last.0 + 4095)))
+    (shown_inert 4 run.owner.0))
+    (handle_inert run.handle))
+    (rights_inert endpoints run.access))
+    (offers_inert endpoints offers)) refl
+
+-- a run, or nothing
+pub new_inert : (stands : Bool) (base endpoints : ℕ) (run : CertRun) (offers : Option (List (Option Rights))) → is_inert (if stands then [] else run_words base endpoints run offers) ≡ true
+new_inert true base endpoints run offers = refl
+new_inert false base endpoints run offers = run_inert base endpoints run offers
+
+comma_inert : (place : ℕ) → is_inert (comma_before place) ≡ true
+comma_inert place = elim (cases_Bool (place == 0)) [ inl first ↦ rw first refl | inr other ↦ rw other refl ]
+
+pub front_inert : (place runner : ℕ) → is_inert (line_front place runner) ≡ true
+unfolding line_front
+front_inert place runner =
+    let comma : List ℕ = comma_before place in
+    inert_append (comma ++ codes "\n\"" ++ hex 4 runner) (codes "\\t")
+    (inert_append (comma ++ codes "\n\"") (hex 4 runner) (inert_append comma (codes "\n\"") (comma_inert place) refl) (shown_inert 4 runner)) refl
 
 -- NAMES
 
@@ -210,6 +290,9 @@ module _ {E : Type 0} (result : Result (Unit {0}) E) (held mid holds : Option (L
   pub last_by : (text : List ℕ) → is_inert text ≡ true → Grows held mid → OnOk result (Appends mid holds text) → OnOk result (Grows held holds)
   last_by text inert g = on_ok_weaker result (λ w. grows_then held mid holds g (grows_by mid holds text inert w))
 
-  -- the data, behind their key
-  pub last_data : Appends held mid endpoints_key → OnOk result (Grows mid holds) → OnOk result (WritesData held holds)
-  last_data key = on_ok_weaker result (λ g. record { rest = g.text; inert = g.inert; written = Appends-trans held mid holds endpoints_key g.text key g.written })
+  -- behind a known text
+  pub last_behind : (front : List ℕ) → Appends held mid front → OnOk result (Grows mid holds) → OnOk result (WritesBehind front held holds)
+  last_behind front begun = on_ok_weaker result (λ g. record { rest = g.text; inert = g.inert; written = Appends-trans held mid holds front g.text begun g.written })
+
+pub behind_grows : (held holds : Option (List ℕ)) (front : List ℕ) → is_inert front ≡ true → WritesBehind front held holds → Grows held holds
+behind_grows held holds front inert w = grows_by held holds (front ++ w.rest) (inert_append front w.rest inert w.inert) w.written

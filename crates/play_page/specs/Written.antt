@@ -28,11 +28,15 @@ behind_data = BEHIND_DATA.now ++ (SCRIPT.now ++ END.now)
 abbrev pub endpoints_key : List ℕ
 endpoints_key = codes "{\"endpoints\":["
 
--- data were written, in which nothing is `<`
-pub record WritesData (held holds : Option (List ℕ)) : Type 0 where
+-- a text was written, and after it another in which nothing is `<`
+pub record WritesBehind (front : List ℕ) (held holds : Option (List ℕ)) : Type 0 where
   pub rest : List ℕ
   pub inert : is_inert rest ≡ true
-  pub written : Appends held holds (endpoints_key ++ rest)
+  pub written : Appends held holds (front ++ rest)
+
+-- data were written, in which nothing is `<`
+abbrev pub WritesData : Option (List ℕ) → Option (List ℕ) → Type 0
+WritesData held holds = WritesBehind endpoints_key held holds
 
 -- a page was written, with data in which nothing is `<`
 pub record WritesPage (held holds : Option (List ℕ)) : Type 0 where

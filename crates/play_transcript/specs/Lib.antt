@@ -3,3 +3,4 @@ pub mod Attempts
 pub mod Counting
 pub mod Traces
 pub mod Turned
+pub mod Unreached

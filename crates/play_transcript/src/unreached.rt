@@ -1,6 +1,9 @@
 // SPDX-License-Identifier: MIT OR Apache-2.0
 //! Why traces don't reach a check.
-ghost use Rattle.std.specs.Prelude.{◌≡◌, ◌&&◌};
+ghost use Rattle.std.specs.Prelude.{◌≡◌, ◌==◌, ◌&&◌, bit_and, drop, is_none, is_some, true, if◌then◌else◌, None, Some};
+ghost use Rattle.std.specs.List.{list_all};
+ghost use Rattle.ffa_model.specs.Regions.{normal_of, regions_at};
+ghost use Rattle.play_transcript.specs.Unreached.{have_all, is_unreached};
 
 use bitflags::Flags;
 use ffa_model::function::{FFA_MEM_DONATE, FFA_MEM_SHARE, FFA_RUN};
@@ -28,9 +31,15 @@ impl Everyone {
     };
 
     /// On the machine of a manifest, which one processor runs alone.
-    pub fn of(manifest: &Manifest) -> Everyone {
+    pub fn of(manifest: &Manifest) -> Everyone
+        ensures sends { result.sends_requests ≡ have_all 1 manifest.now.endpoints.items }
+        ensures receives { result.receives_requests ≡ have_all 0 (drop 1 manifest.now.endpoints.items) }
+        ensures takes { result.takes_messages ≡ have_all 2 manifest.now.endpoints.items }
+        ensures worlds { result.tells_no_worlds ≡ is_none (normal_of manifest.now.worlds (regions_at manifest.now.endpoints.items 0)) }
+        ensures alone { result.runs_alone ≡ true }
+    {
         let all = manifest.endpoints.as_slice();
-        let partitions = all.get(1..).unwrap_or(&[]);
+        let partitions = &all[all.len().min(1)..];
         Everyone {
             sends_requests: all_have(all, Properties::SENDS_DIRECT_REQUESTS),
             receives_requests: all_have(partitions, Properties::RECEIVES_DIRECT_REQUESTS),
@@ -58,7 +67,9 @@ impl Everyone {
     }
 }
 
-fn all_have(endpoints: &[Endpoint], wanted: Properties) -> bool {
+fn all_have(endpoints: &[Endpoint], wanted: Properties) -> bool
+    ensures { result ≡ list_all (λ e. bit_and e.properties.0 wanted.0 == wanted.0) endpoints.now }
+{
     for endpoint in endpoints {
         if !endpoint.properties.contains(wanted) {
             return false;
@@ -69,7 +80,9 @@ fn all_have(endpoints: &[Endpoint], wanted: Properties) -> bool {
 
 /// Why no trace fails a check of a call, by the call's identifier, where a trace of any length, or one of fewer than 65,535
 /// sends, never does.
-pub fn why_unreached(everyone: Everyone, function: u32, refusal: Refusal) -> Option<&'static str> {
+pub fn why_unreached(everyone: Everyone, function: u32, refusal: Refusal) -> Option<&'static str>
+    ensures { is_some result ≡ is_unreached everyone function refusal }
+{
     match refusal {
         Refusal::TargetNotReady => of_call(
             function == FFA_RUN && everyone.runs_alone,
@@ -103,6 +116,8 @@ pub fn why_unreached(everyone: Everyone, function: u32, refusal: Refusal) -> Opt
 }
 
 // A reason, where it holds.
-fn of_call(holds: bool, reason: &'static str) -> Option<&'static str> {
+fn of_call(holds: bool, reason: &'static str) -> Option<&'static str>
+    ensures { result ≡ (if holds then Some reason.entry else None) }
+{
     if holds { Some(reason) } else { None }
 }

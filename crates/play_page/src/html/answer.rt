@@ -1,6 +1,6 @@
 // SPDX-License-Identifier: MIT OR Apache-2.0
 //! What a line says and what it answers, with names in the place of numbers.
-ghost use Rattle.std.specs.Prelude.{◌≡◌, true, OnOk};
+ghost use Rattle.std.specs.Prelude.{◌≡◌, true, OnOk, codes, if◌then◌else◌};
 ghost use Rattle.play_page.specs.Written.{Grows, is_inert};
 
 use super::json::Json;
@@ -123,7 +123,8 @@ fn write_register<W: Write>(
 }
 
 fn letter_of(is_whole: bool) -> &'static str
-    ensures { is_inert result.now ≡ true }
+    ensures letter { result.now ≡ (if is_whole then codes "x" else codes "w") }
+    ensures inert { is_inert result.now ≡ true }
 {
     if is_whole { "x" } else { "w" }
 }

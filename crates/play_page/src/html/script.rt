@@ -555,8 +555,8 @@ function onKey(event) {
 // THE BEGINNING
 
 function showLegend() {
-  const sample = (text, ground, band) => {
-    return make("span", "sample", [make("i", ground, band ? [make("span", `band e0 ${band}`)] : []), text]);
+  const sample = (text, site, band) => {
+    return make("span", "sample", [make("i", site, band ? [make("span", `band e0 ${band}`)] : []), text]);
   };
   const offered = make("span", "sample", [make("i", "", [make("span", "offer e0")]), "may still be retrieved"]);
   at("legend").replaceChildren(

@@ -6,7 +6,7 @@ use Rattle.play_page.proofs.html.data.write_members.Goals as goal
 
 pub loop-place-preserved : goal.loop-place-preserved
 loop-place-preserved g c =
-    grows_then (g.W.Write.contents c.args.writer.now) (g.W.Write.contents c.loop-place.writer) (g.W.Write.contents c.write.new.self) (c.loop-place.invariant) (grows_told _ _ _ (told_then _ _ (told c.comma_before-comma.result.now c.comma_before-comma.ensures) (told_then _ _ (told (codes "\"") refl) (told_then _ _ (told_at (styled_digits_output c.in_radix.result) _ _ c.laid_out.ensures (told_places 4 _ _ c.in_radix.ensures)) (told (codes "\"") refl)))) c.in_ok-write.ensures.bytes)
+    grows_then (g.W.Write.contents c.args.writer.now) (g.W.Write.contents c.loop-place.writer) (g.W.Write.contents c.write.new.self) (c.loop-place.invariant) (grows_told _ _ _ (told_then _ _ (told c.comma_before-comma.result.now c.comma_before-comma.ensures.inert) (told_then _ _ (told (codes "\"") refl) (told_then _ _ (told_at (styled_digits_output c.in_radix.result) _ _ c.laid_out.ensures (told_places 4 _ _ c.in_radix.ensures)) (told (codes "\"") refl)))) c.in_ok-write.ensures.bytes)
 
 pub returns : goal.returns
 returns g c =
