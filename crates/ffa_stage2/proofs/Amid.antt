@@ -215,10 +215,13 @@ module _ (old new : Ram) (n tables b : ℕ) (g : List Step) (begun : (s : Step) 
   }
 
   -- a step as it is done in memory
-  module _ (s : Step) (h : List Step) (x : Step) (memory : List Step) (written : List ℕ) (along : Along (before s h) (before x memory) written) (among : IsAmong written s x)
-      (here : LeadsBehind old new n tables b h s) where
+  module _ (s : Step) (h : List Step) (x : Step) (memory : List Step) (written kept : List ℕ) (along : Along (before s h) (before x memory) written)
+      (among : IsAmong written kept s x) (here : LeadsBehind old new n tables b h s) where
+    still-theirs : AreTheirs old new n tables b kept
+    still-theirs = record { aside = λ p is. along.theirs.aside p (among.fewer p is); could = λ p is. along.theirs.could p (among.fewer p is) }
+
     now-reads : (e p page i v : ℕ) → IsTablePage n tables b page → MayRead e p (x ∷ memory) x.after page i v → MayRead e p (s ∷ h) s.after page i v
-    now-reads e p page i v low (inl is) = inl (is ∙ ap (λ (bytes : List ℕ). word_of bytes i) (among.pages page (off-tables written along.theirs page low)))
+    now-reads e p page i v low (inl is) = inl (is ∙ ap (λ (bytes : List ℕ). word_of bytes i) (among.pages page (off-tables kept still-theirs page low)))
     now-reads e p page i v low (inr (off, read)) = inr ((λ settles. off (settles-too e p s x among.settled settles)), along.reads e p page i v low read)
 
     base-same : x.after.base ≡ s.after.base
@@ -231,7 +234,7 @@ module _ (old new : Ram) (n tables b : ℕ) (g : List Step) (begun : (s : Step) 
     now-holds e p a answer he (inl (mixed, mix, is)) = inl (mixed, mixture-alone (behind s h) (behind x memory) e p mixed he base-same size-same now-reads mix, is)
     now-holds e p a answer he (inr (off, held)) = inr ((λ settles. off (settles-too e p s x among.settled settles)), along.holds e p a answer he held)
 
-    own-step : Along (behind s h) (behind x memory) written
+    own-step : Along (behind s h) (behind x memory) kept
     own-step = record {
       place = among.placed.base ∙ along.place;
       some = (x, memory, refl);
@@ -240,7 +243,7 @@ module _ (old new : Ram) (n tables b : ℕ) (g : List Step) (begun : (s : Step) 
       between = here.2;
       reads = now-reads;
       holds = now-holds;
-      theirs = along.theirs;
+      theirs = still-theirs;
       beside = record { base = base-same; size = size-same; pages = among.pages };
       bytes = among.bytes;
     }
@@ -323,17 +326,17 @@ module _ (old new : Ram) (n tables b : ℕ) (g : List Step) (begun : (s : Step) 
   -- there are at least the steps that there were at first
   longer : (alone memory : Moment) (written : List ℕ) → Amid n tables b origin alone memory written → length g ≤ length alone.history
   longer alone memory written Begun = omega arith
-  longer alone memory written (Own s h x earlier pages amid among) = omega (arith, longer (before s h) (before x earlier) pages amid)
+  longer alone memory written (Own s h x earlier pages kept amid among) = omega (arith, longer (before s h) (before x earlier) pages amid)
   longer alone memory written (Others alone' p x earlier rest amid may others) = longer alone (before x earlier) rest amid
 
   -- so it is of memory amid others
   pub along-amid : (alone memory : Moment) (written : List ℕ) → Amid n tables b origin alone memory written → Adds (Some g) (λ h s. LeadsBehind old new n tables b h s) alone.history
       → Along alone memory written
   along-amid alone memory written Begun adds = at-first
-  along-amid alone memory written (Own s h x earlier pages amid among) (inl was) =
+  along-amid alone memory written (Own s h x earlier pages kept amid among) (inl was) =
       absurd (omega (arith, longer (before s h) (before x earlier) pages amid, ap (λ (l : List Step). length l) (same_Some g (s ∷ h) was)))
-  along-amid alone memory written (Own s h x earlier pages amid among) (inr (here, adds)) =
-      own-step s h x earlier pages (along-amid (before s h) (before x earlier) pages amid adds) among here
+  along-amid alone memory written (Own s h x earlier pages kept amid among) (inr (here, adds)) =
+      own-step s h x earlier pages kept (along-amid (before s h) (before x earlier) pages amid adds) among here
   along-amid alone memory written (Others alone' p x earlier rest amid may others) adds =
       others-step alone p x earlier rest (along-amid alone (before x earlier) rest amid adds) may others
 

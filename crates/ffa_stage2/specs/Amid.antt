@@ -54,25 +54,27 @@ pub record IsOthers (p : ℕ) (x : Step) : Type 0 where
   pub none : x.settled ≡ None
   pub unread : x.reading ≡ None
 
--- a step s as it is done in memory to which others write: behind it each page but those that they have written is as s leaves it,
--- and it settles, or reads at once, what s does
-pub record IsAmong (written : List ℕ) (s x : Step) : Type 0 where
+-- A step s as it is done in memory to which others write. After it each page is as s leaves it, except those that others wrote and
+-- that are still theirs (`kept`). A page may stop being theirs if memory then has what s leaves there, as after zeros. The step
+-- settles, or reads at once, what s does.
+pub record IsAmong (written kept : List ℕ) (s x : Step) : Type 0 where
   pub placed : StaysPlaced x
-  pub pages : (q : ℕ) → is_one_of written q ≡ false → page_of x.after q ≡ page_of s.after q
-  pub bytes : (q : ℕ) → is_one_of written q ≡ true → IsPage (page_of x.after q)
+  pub fewer : (q : ℕ) → is_one_of kept q ≡ true → is_one_of written q ≡ true
+  pub pages : (q : ℕ) → is_one_of kept q ≡ false → page_of x.after q ≡ page_of s.after q
+  pub bytes : (q : ℕ) → is_one_of kept q ≡ true → IsPage (page_of x.after q)
   pub settled : x.settled ≡ s.settled
   pub reading : x.reading ≡ s.reading
 
--- Where steps have led from one moment to another while nobody else wrote, memory may stand at this moment, and others have
--- written to these pages: at first it is as it was; a step of theirs leads on, or a step as it is done in that memory.
+-- Where steps have led from one moment to another while nobody else wrote, memory may stand at this moment, and these pages are
+-- theirs: others have written to them. At first it is as it was. A step of theirs leads on, or a step as it is done in that memory.
 -- It is a relation over the history. If pages of RAM changed by themselves, no clause of `page` would be true. If each
 -- read required that its page is steady, each reader of RAM would have to prove that.
 pub data Amid (endpoints tables blocks : ℕ) (begun : Moment) : Moment → Moment → List ℕ → Type 0 where
   Begun : Amid endpoints tables blocks begun begun begun []
   Own :
-      (s : Step) (h : List Step) (x : Step) (memory : List Step) (written : List ℕ)
-      → Amid endpoints tables blocks begun (before s h) (before x memory) written → IsAmong written s x
-      → Amid endpoints tables blocks begun (behind s h) (behind x memory) written
+      (s : Step) (h : List Step) (x : Step) (memory : List Step) (written kept : List ℕ)
+      → Amid endpoints tables blocks begun (before s h) (before x memory) written → IsAmong written kept s x
+      → Amid endpoints tables blocks begun (behind s h) (behind x memory) kept
   Others :
       (alone : Moment) (p : ℕ) (x : Step) (memory : List Step) (written : List ℕ)
       → Amid endpoints tables blocks begun alone (before x memory) written → MayWrite endpoints tables blocks p (before x memory) → IsOthers p x
